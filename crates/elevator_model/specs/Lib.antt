@@ -1,0 +1,10 @@
+pub mod Counting
+pub mod Travel
+pub mod Building
+pub mod Snapshot
+pub mod Faults
+pub mod Tours
+pub mod Costs
+pub mod Plans
+pub mod Partial
+pub mod Worked

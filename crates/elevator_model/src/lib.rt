@@ -1,0 +1,329 @@
+//! The plain values of elevator dispatching, and in `specs/` the definitions that the contracts of the
+//! other crates cite: travel times, buildings, snapshots, tours and their rules, times, costs, plans,
+//! partial tours.
+//!
+//! Lengths are in mm, moments and times in ms. Floors are numbered from 0. Cars and calls have ids in
+//! the texts; here they are named by their index, from 0, in the order of the text.
+#![tactic(auto)]
+
+ghost use Rattle.std.specs.Prelude.{◌≡◌, ℕ, List, [], ◌∷◌, ◌++◌, length, OnOk, OnErr, IfErr};
+
+use std::alloc::{AllocError, AllocFailed, Global};
+use std::marker::Model;
+
+/// A car as a building has it.
+#[derive(Clone, Copy, PartialEq, Eq, Debug)]
+pub struct CarSpec {
+    /// The car's id in the texts.
+    pub id: u32,
+    /// How many persons may be carried, 1 to 64.
+    pub capacity: u32,
+    /// Time from an arrival to open doors, in ms.
+    pub opening: u64,
+    /// Time to close the doors, in ms.
+    pub closing: u64,
+    /// Time for each person that gets on, in ms.
+    pub boarding: u64,
+    /// Time for each person that gets off, in ms.
+    pub alighting: u64,
+    /// The served floors: bit `f` stands for floor `f`.
+    pub serves: u64,
+}
+
+/// Where a car is.
+#[derive(Clone, Copy, PartialEq, Eq, Debug)]
+pub enum CarState {
+    /// It stands with closed doors, or will at the moment `free`, and leaves no earlier.
+    Idle { floor: u32, free: u64 },
+    /// It is on its way and stops at this floor next, at the moment `arrives`.
+    Coming { floor: u32, arrives: u64 },
+    /// It left the floor `from` at the moment `left`, and may still choose where it stops first.
+    Moving { from: u32, up: bool, left: u64 },
+}
+
+/// A group of passengers aboard a car.
+#[derive(Clone, Copy, PartialEq, Eq, Debug)]
+pub struct Aboard {
+    pub id: u32,
+    /// The index of its car.
+    pub car: u32,
+    pub destination: u32,
+    /// 1 to 8.
+    pub persons: u32,
+    /// The moment it boarded, in ms.
+    pub boarded: u64,
+}
+
+/// An open landing call.
+#[derive(Clone, Copy, PartialEq, Eq, Debug)]
+pub struct Call {
+    pub id: u32,
+    pub origin: u32,
+    pub destination: u32,
+    /// 1 to 8.
+    pub persons: u32,
+    /// The moment the call was placed, in ms.
+    pub released: u64,
+    /// The index of the one car that may serve it, where the call is pinned.
+    pub pin: Option<u32>,
+}
+
+/// What is wrong with a building, a snapshot or a square of travel times.
+#[derive(Clone, Copy, PartialEq, Eq, Debug)]
+pub enum Fault {
+    /// A number is outside its range, the travel times are of another number of floors, or there is no car.
+    OutOfRange,
+    /// Heights or served floors do not rise.
+    NotRising,
+    /// The id was used before.
+    IdUsedBefore,
+    /// A floor is not a floor of the building.
+    NoSuchFloor,
+    /// A call's origin is its destination.
+    OriginIsDestination,
+    /// A call without a pin has no possible car.
+    NoPossibleCar,
+    /// A call's pinned car cannot take it.
+    PinCannotTake,
+    /// The car cannot deliver this group without a turn with passengers.
+    WrongSide,
+    /// The persons aboard a car, up to this group, exceed its capacity.
+    OverCapacity,
+    /// A moment is too early or too late.
+    MomentOutOfRange,
+    /// There are too many calls.
+    TooManyCalls,
+    /// There are too many cars.
+    TooManyCars,
+    /// A floor is not served by the car, or a car serves fewer than two floors.
+    NotServed,
+    /// The persons of a call or group are not 1 to 8.
+    PersonsOutOfRange,
+    /// Times that are no travel square.
+    NoTravelSquare,
+    /// A moving car has no floor open at which it could stop first.
+    NoOpenFloor,
+    /// Accepted, but of a kind that is not solved yet.
+    NotYet,
+}
+
+/// A rule that a tour or a plan can break, in the order in which they are tested at one stop.
+#[derive(Clone, Copy, PartialEq, Eq, Debug)]
+pub enum Rule {
+    /// The first stop of a coming car is its floor, and that of a moving car is open; neither may have no stop.
+    FirstStop,
+    /// Two stops in a row at one floor.
+    SameFloorTwice,
+    /// A stop where nobody gets off and no call boards.
+    UselessStop,
+    /// A leg away from the destination of someone carried.
+    TurnWithPassengers,
+    /// More persons carried than the capacity.
+    Capacity,
+    /// A call boards although a later call of its queue boarded at an earlier stop.
+    QueueOrder,
+    /// A call boards that this car may not take, or an index that is no call.
+    Car,
+    /// A floor that the building lacks or the car does not serve.
+    Floor,
+    /// Someone is still carried after the last stop.
+    Delivery,
+    /// A call boards a second time.
+    CallTwice,
+    /// A call boards at a floor that is not its origin.
+    Place,
+    /// A call that no tour boards.
+    Unserved,
+}
+
+/// The first bad stop of a tour, counted from 1, and the lowest rule broken there.
+#[derive(Clone, Copy, PartialEq, Eq, Debug)]
+pub struct Broken {
+    pub stop: u32,
+    pub rule: Rule,
+}
+
+/// The first bad place of a plan. For `Rule::Unserved` the car is the number of cars, and the stop is
+/// the index of the call.
+#[derive(Clone, Copy, PartialEq, Eq, Debug)]
+pub struct BadPlan {
+    pub car: u32,
+    pub stop: u32,
+    pub rule: Rule,
+}
+
+/// One step of a partial tour.
+#[derive(Clone, Copy, PartialEq, Eq, Debug)]
+pub enum Move {
+    /// A call boards at the present stop.
+    Board(u32),
+    /// The car goes to a stop at this floor.
+    Leave(u32),
+    /// The tour ends.
+    End,
+}
+
+/// The moments of one stop, in ms.
+#[derive(Clone, Copy, PartialEq, Eq, Debug)]
+pub struct Times {
+    pub arrival: u64,
+    pub opened: u64,
+    pub leaves: u64,
+}
+
+/// The calls that board at a stop, by index. Their order has no meaning.
+#[derive(Debug, Drop)]
+pub struct Boards {
+    calls: Vec<u32>,
+}
+
+impl Model for Boards {
+    ghost Value = { List ℕ };
+
+    ghost view = { λ b. b.calls.items };
+}
+
+impl Boards {
+    /// No calls.
+    pub fn new(alloc: Global) -> Self
+        ensures { result ≡ [] }
+    {
+        Boards {
+            calls: Vec::new(alloc),
+        }
+    }
+
+    /// These calls, in this order.
+    pub fn from_vec(calls: Vec<u32>) -> Self
+        ensures { result ≡ calls.items }
+    {
+        Boards { calls }
+    }
+
+    /// The calls.
+    pub fn as_slice(&self) -> &[u32]
+        ensures { result.now ≡ self.now }
+    {
+        self.calls.as_slice()
+    }
+
+    /// Adds a call at the end. After an `Err` the calls are as before.
+    pub fn push(&mut self, call: u32) -> Result<(), AllocError>
+        ensures ok { OnOk result (self.new ≡ self.old ++ call ∷ []) }
+        ensures err { OnErr result (self.new ≡ self.old) }
+    {
+        self.calls.push(call)?;
+        Ok(())
+    }
+
+    /// The calls, as a vector.
+    pub fn into_vec(self) -> Vec<u32>
+        ensures { result.items ≡ self }
+    {
+        self.calls
+    }
+}
+
+/// A stop of a tour: a floor, and the calls that board there.
+#[derive(Debug, Drop)]
+pub struct Stop {
+    pub floor: u32,
+    pub boards: Boards,
+}
+
+/// The stops of one car, in order.
+#[derive(Debug, Drop)]
+pub struct Tour {
+    stops: Vec<Stop>,
+}
+
+impl Model for Tour {
+    ghost use Rattle.std.specs.Prelude.{List};
+    ghost use Rattle.elevator_model.specs.declared.Stop.{Stop};
+
+    ghost Value = { List Stop };
+
+    ghost view = { λ t. t.stops.items };
+}
+
+impl Tour {
+    /// No stop.
+    pub fn new(alloc: Global) -> Self
+        ensures { result ≡ [] }
+    {
+        Tour {
+            stops: Vec::new(alloc),
+        }
+    }
+
+    /// These stops, in this order.
+    pub fn from_vec(stops: Vec<Stop>) -> Self
+        ensures { result ≡ stops.items }
+    {
+        Tour { stops }
+    }
+
+    /// The stops.
+    pub fn stops(&self) -> &[Stop]
+        ensures { result.now ≡ self.now }
+    {
+        self.stops.as_slice()
+    }
+
+    /// Adds a stop at the end. After an `Err` the tour is as before.
+    pub fn push(&mut self, stop: Stop) -> Result<(), AllocFailed<Stop>>
+        ensures ok { OnOk result (self.new ≡ self.old ++ stop ∷ []) }
+        ensures err { OnErr result (self.new ≡ self.old) }
+        ensures returned { IfErr result (λ e. e.value ≡ stop) }
+    {
+        self.stops.push(stop)
+    }
+
+    /// The stops, as a vector.
+    pub fn into_vec(self) -> Vec<Stop>
+        ensures { result.items ≡ self }
+    {
+        self.stops
+    }
+}
+
+/// One tour per car, in the building's order.
+#[derive(Debug, Drop)]
+pub struct Plan {
+    tours: Vec<Tour>,
+}
+
+impl Model for Plan {
+    ghost use Rattle.std.specs.Prelude.{List};
+    ghost use Rattle.elevator_model.specs.declared.Stop.{Stop};
+
+    ghost Value = { List (List Stop) };
+
+    ghost view = { λ p. p.tours.items };
+}
+
+impl Plan {
+    /// These tours, in this order.
+    pub fn from_vec(tours: Vec<Tour>) -> Self
+        ensures { result ≡ tours.items }
+    {
+        Plan { tours }
+    }
+
+    /// The tours.
+    pub fn tours(&self) -> &[Tour]
+        ensures { result.now ≡ self.now }
+    {
+        self.tours.as_slice()
+    }
+
+    /// The tours, as a vector.
+    pub fn into_vec(self) -> Vec<Tour>
+        ensures { result.items ≡ self }
+    {
+        self.tours
+    }
+}
+
+#[cfg(test)]
+mod tests;
