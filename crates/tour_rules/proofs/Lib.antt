@@ -1,0 +1,5 @@
+pub mod Tests
+pub mod Stands
+pub mod Rising
+pub mod Reached
+pub mod Sound

@@ -1,0 +1,4 @@
+//! The rules of tours.
+#![tactic(auto)]
+
+pub use elevator_model::{Boards, Broken, Move, Rule, Stop, Tour};
