@@ -1,0 +1,3 @@
+pub mod BuildingParts
+pub mod SnapshotParts
+pub mod Possible
