@@ -3,3 +3,5 @@ pub mod Stands
 pub mod Rising
 pub mod Reached
 pub mod Sound
+pub mod Counts
+pub mod Measure
