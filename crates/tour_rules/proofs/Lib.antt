@@ -5,3 +5,4 @@ pub mod Reached
 pub mod Sound
 pub mod Counts
 pub mod Measure
+pub mod Riders
