@@ -3,6 +3,7 @@
 #![tactic(auto)]
 
 mod places;
+mod rules;
 mod sets;
 
 pub use elevator_model::{Boards, Broken, Move, Rule, Stop, Tour};
