@@ -6,3 +6,4 @@ pub mod Sound
 pub mod Counts
 pub mod Measure
 pub mod Riders
+pub mod RuleLemmas

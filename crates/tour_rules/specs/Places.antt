@@ -2,7 +2,8 @@
 use Rattle.std.specs.Prelude.{◌≡◌, ℕ, ◌-◌, ◌<◌, ◌≤◌, ◌==◌, ◌&&◌, not, Bool, true, false, nat_lt, List, slice_index_or, if◌then◌else◌}
 use Rattle.elevator_model.specs.declared.Call.{Call}
 use Rattle.elevator_model.specs.declared.Aboard.{Aboard}
-use Rattle.elevator_model.specs.Counting.{has}
+use Rattle.elevator_model.specs.declared.Stop.{Stop}
+use Rattle.elevator_model.specs.Counting.{has, is_among}
 use Rattle.elevator_model.specs.Snapshot.{Snapshot, call_count, no_call, no_group}
 use Rattle.elevator_model.specs.Tours.{Progress, rider_count, destination_of, is_aboard}
 use Rattle.tour_rules.specs.declared.places.Place.{Place}
@@ -52,3 +53,7 @@ pub record Tracks (s : Snapshot) (c : ℕ) (place : Place) (p : Progress) : Type
 pub record IsBoardSet (s : Snapshot) (set : ℕ) (boards : ℕ → Bool) : Type 0 where
   pub calls : (j : ℕ) → j < call_count s → has set j ≡ boards j
   pub only : (j : ℕ) → call_count s ≤ j → boards j ≡ false
+
+-- the set has the calls that board at the stop
+abbrev pub HasBoards : Snapshot → ℕ → Stop → Type 0
+HasBoards s set stop = (j : ℕ) → j < call_count s → has set j ≡ is_among j stop.boards

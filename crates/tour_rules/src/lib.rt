@@ -2,6 +2,7 @@
 //! with the moves that may follow.
 #![tactic(auto)]
 
+mod judge;
 mod places;
 mod rules;
 mod sets;

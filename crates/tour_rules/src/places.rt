@@ -54,7 +54,7 @@ pub(crate) struct Place {
 }
 
 /// Whether a call of the set has such a destination.
-fn any_call_heads(calls: &[Call], set: u128, heading: Heading) -> bool
+pub(crate) fn any_call_heads(calls: &[Call], set: u128, heading: Heading) -> bool
     requires { length calls.now ≤ 128 }
     ensures { result ≡ any_below (length calls.now) (call_heads calls.now set heading) }
 {

@@ -1,15 +1,18 @@
 //! The rules of tours, tested at one stop.
 
-ghost use Rattle.std.specs.Prelude.{◌≡◌, ◌≢◌, ◌<◌, ◌≤◌, ◌+◌, ◌*◌, ◌&&◌, ◌||◌, not, ℕ, ◌==◌, length, count_by, nat_le};
+ghost use Rattle.std.specs.Prelude.{◌≡◌, ◌≢◌, ◌<◌, ◌≤◌, ◌+◌, ◌*◌, ◌&&◌, ◌||◌, not, ℕ, ◌==◌, length, count_by, nat_le, nat_lt};
 ghost use Rattle.std.specs.List.{list_any};
 ghost use Rattle.elevator_model.specs.Counting.{has, any_below, is_among};
+ghost use Rattle.elevator_model.specs.declared.Stop.{Stop};
 ghost use Rattle.elevator_model.specs.Building.{floor_count};
 ghost use Rattle.elevator_model.specs.Travel.{can_stop as can_stop_lem};
-ghost use Rattle.elevator_model.specs.Snapshot.{car_count, call_count, state_of, serves, is_open as is_open_lem, may_stop_first as may_stop_first_lem};
-ghost use Rattle.elevator_model.specs.Tours.{Progress, breaks as breaks_lem, is_later_in_queue as is_later_in_queue_lem, is_call_for};
-ghost use Rattle.tour_rules.specs.Places.{call_in, Tracks};
+ghost use Rattle.elevator_model.specs.Snapshot.{car_count, state_of, is_idle, is_coming, serves, is_open as is_open_lem, may_stop_first as may_stop_first_lem};
+ghost use Rattle.elevator_model.specs.Tours.{Progress, breaks as breaks_lem, has_leg as has_leg_lem, turns_with, none_taken, is_later_in_queue as is_later_in_queue_lem, is_call_for};
+ghost use Rattle.tour_rules.specs.Places.{call_in, Tracks, HasBoards};
 
-use crate::places::{Heading, Place, any_carried, persons_boarding, persons_carried};
+use crate::places::{
+    Heading, Place, any_call_heads, any_carried, persons_boarding, persons_carried,
+};
 use crate::sets::{contains, with_call};
 use call_state::{Building, Call, CarState, Snapshot};
 use elevator_model::{Rule, Stop};
@@ -82,7 +85,7 @@ pub(crate) fn overtakes(calls: &[Call], boarded: u128, call: &Call) -> bool
 }
 
 /// Whether a call that boards is overtaken by one that boarded before.
-fn any_overtakes(calls: &[Call], boards: u128, boarded: u128) -> bool
+pub(crate) fn any_overtakes(calls: &[Call], boards: u128, boarded: u128) -> bool
     requires { length calls.now ≤ 128 }
     ensures { result ≡ any_below (length calls.now) (λ j. has boards j && any_below (length calls.now) (λ k. has boarded k && is_later_in_queue_lem (call_in calls.now k) (call_in calls.now j))) }
 {
@@ -95,7 +98,7 @@ fn any_overtakes(calls: &[Call], boards: u128, boarded: u128) -> bool
 }
 
 /// Whether a call that boards waits at another floor.
-fn any_elsewhere(calls: &[Call], boards: u128, floor: u32) -> bool
+pub(crate) fn any_elsewhere(calls: &[Call], boards: u128, floor: u32) -> bool
     requires { length calls.now ≤ 128 }
     ensures { result ≡ any_below (length calls.now) (λ j. has boards j && not ((call_in calls.now j).origin == floor)) }
 {
@@ -123,7 +126,7 @@ fn is_again(call: u32, boarded: u128, taken: u128, boards: &[u32]) -> bool
 }
 
 /// Whether a call boards that boarded before, that another car took, or that stands in the list twice.
-fn any_twice(calls: usize, set: u128, boarded: u128, taken: u128, boards: &[u32]) -> bool
+pub(crate) fn any_twice(calls: usize, set: u128, boarded: u128, taken: u128, boards: &[u32]) -> bool
     requires { calls ≤ 128 }
     ensures { result ≡ any_below calls (λ j. has set j && ((has boarded j || has taken j) || nat_le 2 (count_by (λ x. x == j) boards.now))) }
 {
@@ -136,7 +139,7 @@ fn any_twice(calls: usize, set: u128, boarded: u128, taken: u128, boards: &[u32]
 }
 
 /// Whether the list has a call that the car may not take, or an index that is no call.
-fn any_foreign(snapshot: &Snapshot, car: u32, boards: &[u32]) -> bool
+pub(crate) fn any_foreign(snapshot: &Snapshot, car: u32, boards: &[u32]) -> bool
     requires { car < car_count snapshot.now }
     ensures { result ≡ list_any (λ j. not (is_call_for snapshot.now car j)) boards.now }
 {
@@ -171,7 +174,7 @@ fn is_open(snapshot: &Snapshot, car: u32, from: u32, up: bool, left: u64, floor:
 }
 
 /// Whether the car may make its first stop at this floor.
-fn may_stop_first(snapshot: &Snapshot, car: u32, floor: u32) -> bool
+pub(crate) fn may_stop_first(snapshot: &Snapshot, car: u32, floor: u32) -> bool
     requires { car < car_count snapshot.now }
     ensures { result ≡ may_stop_first_lem snapshot.now.building car snapshot.now.moment (state_of snapshot.now car) floor }
 {
@@ -183,4 +186,84 @@ fn may_stop_first(snapshot: &Snapshot, car: u32, floor: u32) -> bool
         } => floor == next,
         CarState::Moving { from, up, left } => is_open(snapshot, car, from, up, left, floor),
     }
+}
+
+/// Whether a stop has to be of use: not so the first stop of a coming or moving car.
+pub(crate) fn needs_use(snapshot: &Snapshot, car: u32, place: &Place) -> bool
+    requires { car < car_count snapshot.now }
+    ensures { result ≡ (place.now.begun || is_idle (state_of snapshot.now car)) }
+{
+    place.begun || matches!(snapshot.car(car), CarState::Idle { floor: _, free: _ })
+}
+
+/// Whether a leg leads to the next stop.
+fn has_leg(snapshot: &Snapshot, car: u32, place: &Place) -> bool
+    requires { car < car_count snapshot.now }
+    ensures { result ≡ (place.now.begun || not (is_coming (state_of snapshot.now car))) }
+{
+    place.begun
+        || !matches!(
+            snapshot.car(car),
+            CarState::Coming {
+                floor: _,
+                arrives: _
+            }
+        )
+}
+
+/// Whether nobody gets off and no call boards where the stop has to be of use.
+pub(crate) fn is_useless(
+    snapshot: &Snapshot,
+    car: u32,
+    place: &Place,
+    floor: u32,
+    boards: u128,
+) -> bool
+    requires { car < car_count snapshot.now }
+    ensures { (p : Progress) (stop : Stop) → Tracks snapshot.now car place.now p → stop.floor ≡ floor → HasBoards snapshot.now boards stop → result ≡ breaks_lem snapshot.now car none_taken p stop Rule.UselessStop }
+{
+    let needs_use = needs_use(snapshot, car, place);
+    let anyone_off = any_carried(snapshot, car, place, Heading::To(floor));
+    let anyone_on = any_call_heads(snapshot.calls(), boards, Heading::Anywhere);
+    lacks_use(needs_use, anyone_off, anyone_on)
+}
+
+fn lacks_use(needs_use: bool, anyone_off: bool, anyone_on: bool) -> bool
+    ensures { result ≡ ((needs_use && not anyone_off) && not anyone_on) }
+{
+    needs_use && !anyone_off && !anyone_on
+}
+
+/// Whether someone carried would ride away from the destination on the leg to this floor.
+pub(crate) fn turns_away(snapshot: &Snapshot, car: u32, place: &Place, floor: u32) -> bool
+    requires { car < car_count snapshot.now }
+    ensures { (p : Progress) → Tracks snapshot.now car place.now p → result ≡ (has_leg_lem snapshot.now car p && turns_with snapshot.now p p.floor floor) }
+{
+    let has_leg = has_leg(snapshot, car, place);
+    let any_below = any_carried(snapshot, car, place, Heading::Below(place.floor));
+    let any_above = any_carried(snapshot, car, place, Heading::Above(place.floor));
+    is_turn(has_leg, place.floor, floor, any_below, any_above)
+}
+
+/// Whether a leg leads upwards with someone for a floor below, or downwards with someone for one above.
+fn is_turn(has_leg: bool, from: u32, to: u32, any_below: bool, any_above: bool) -> bool
+    ensures { result ≡ (has_leg && ((nat_lt from to && any_below) || (nat_lt to from && any_above))) }
+{
+    has_leg && (from < to && any_below || to < from && any_above)
+}
+
+/// Whether more persons than the capacity are carried after the stop.
+pub(crate) fn is_overfull(
+    snapshot: &Snapshot,
+    car: u32,
+    place: &Place,
+    floor: u32,
+    boards: u128,
+) -> bool
+    requires { car < car_count snapshot.now }
+    ensures { (p : Progress) (stop : Stop) → Tracks snapshot.now car place.now p → stop.floor ≡ floor → HasBoards snapshot.now boards stop → result ≡ breaks_lem snapshot.now car none_taken p stop Rule.Capacity }
+{
+    let staying = persons_carried(snapshot, car, place, Heading::Elsewhere(floor));
+    let boarding = persons_boarding(snapshot, boards);
+    staying + boarding > snapshot.building().cars()[car as usize].capacity
 }
