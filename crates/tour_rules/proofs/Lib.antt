@@ -7,3 +7,4 @@ pub mod Counts
 pub mod Measure
 pub mod Riders
 pub mod RuleLemmas
+pub mod Stops

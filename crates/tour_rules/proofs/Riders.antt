@@ -60,7 +60,7 @@ pub tracked_persons : (s : Snapshot) (c : ℕ) (place : Place) (p : Progress) (h
 tracked_persons s c place p h t =
     sum_below-same (rider_count s) _ _ (λ r lt. ap (λ (b : Bool). cond (b && heads h (destination_of s r)) (persons_of s r) 0) (sym (t.carried r lt)))
 
-zero_has : (j : ℕ) → has 0 j ≡ false
+pub zero_has : (j : ℕ) → has 0 j ≡ false
 zero_has j = ap (λ (x : ℕ). eqb x 1) (bit_at-zero j)
 
 start_carries : (s : Snapshot) (c r : ℕ) → r < rider_count s → carries s c 0 0 r ≡ is_aboard s c r

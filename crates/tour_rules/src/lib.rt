@@ -2,9 +2,10 @@
 //! with the moves that may follow.
 #![tactic(auto)]
 
-mod judge;
+mod judging;
 mod places;
 mod rules;
 mod sets;
 
 pub use elevator_model::{Boards, Broken, Move, Rule, Stop, Tour};
+pub use judging::judge;

@@ -2,7 +2,7 @@ use Rattle.std.proofs.Common.{◌≡◌, ◌∙◌, sym, ap, not, cond, Bool, Op
 use Rattle.elevator_model.specs.declared.Rule.{Rule}
 use Rattle.elevator_model.specs.declared.Rule.TheVariants.{FirstStop, Delivery}
 use Rattle.tour_rules.proofs.RuleLemmas.{end_same}
-use Rattle.tour_rules.proofs.judge.broken_at_end.Goals as goal
+use Rattle.tour_rules.proofs.judging.broken_at_end.Goals as goal
 
 pub returns-then-any_carried : goal.returns-then-any_carried
 returns-then-any_carried c = λ p t.

@@ -2,7 +2,7 @@ use Rattle.std.proofs.Common.{◌≡◌, drop}
 use Rattle.elevator_model.specs.Counting.{has}
 use Rattle.elevator_model.specs.Tours.{Progress, breaks, first_rule, broken_at}
 use Rattle.tour_rules.specs.Places.{Tracks}
-use Rattle.tour_rules.proofs.judge.broken_at.Given as goal
+use Rattle.tour_rules.proofs.judging.broken_at.Given as goal
 
 abbrev pub invariant-loop-rule : goal.invariant-loop-rule
 invariant-loop-rule l =

@@ -2,7 +2,7 @@ use Rattle.std.proofs.Common.{◌≡◌, ◌<◌, ◌∙◌, sym, length, arith}
 use Rattle.elevator_model.specs.Counting.{has}
 use Rattle.elevator_model.specs.Tours.{breaks, rules_of_stop}
 use Rattle.tour_rules.proofs.RuleLemmas.{first_rule_more, first_rule_here}
-use Rattle.tour_rules.proofs.judge.broken_at.Goals as goal
+use Rattle.tour_rules.proofs.judging.broken_at.Goals as goal
 
 pub returns-then-breaks : goal.returns-then-breaks
 returns-then-breaks c = λ p t.

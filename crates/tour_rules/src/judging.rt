@@ -99,3 +99,27 @@ fn broken_at_end(snapshot: &Snapshot, car: u32, place: &Place) -> Option<Rule>
     }
     None
 }
+
+/// Whether the tour is feasible, and else its first bad stop and the lowest rule broken there. Stops are
+/// counted from 1; where someone is carried at the end, the stop is the number of stops plus 1.
+pub fn judge(snapshot: &Snapshot, car: u32, tour: &Tour) -> Result<(), Broken>
+    requires { car < car_count snapshot.now }
+    ensures { MatchResult result (λ _. first_broken snapshot.now car tour.now ≡ None) (λ b. first_broken snapshot.now car tour.now ≡ Some b) }
+{
+    let calls = snapshot.calls();
+    let mut place = at_start(snapshot, car);
+    let mut number = 1;
+    for stop in tour.stops() {
+        let boards = board_set(stop.boards.as_slice(), calls.len());
+        match broken_at(snapshot, car, 0, &place, stop, boards) {
+            Some(rule) => return Err(Broken { stop: number, rule }),
+            None => {}
+        }
+        place = after_stop(snapshot, &place, stop.floor, boards);
+        number += 1;
+    }
+    match broken_at_end(snapshot, car, &place) {
+        Some(rule) => Err(Broken { stop: number, rule }),
+        None => Ok(()),
+    }
+}

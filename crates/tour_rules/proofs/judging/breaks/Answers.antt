@@ -2,7 +2,7 @@ use Rattle.std.proofs.Common.{◌≡◌, ◌∙◌, sym, ap}
 use Rattle.elevator_model.specs.Counting.{has}
 use Rattle.elevator_model.specs.Tours.{breaks}
 use Rattle.tour_rules.proofs.RuleLemmas.{queue_same, twice_same, place_same}
-use Rattle.tour_rules.proofs.judge.breaks.Goals as goal
+use Rattle.tour_rules.proofs.judging.breaks.Goals as goal
 
 pub returns-in-QueueOrder : goal.returns-in-QueueOrder
 returns-in-QueueOrder c = λ p t.
