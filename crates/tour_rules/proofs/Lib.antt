@@ -8,3 +8,4 @@ pub mod Measure
 pub mod Riders
 pub mod RuleLemmas
 pub mod Stops
+pub mod Next

@@ -113,17 +113,17 @@ end_falls s c x (Some p) y h =
 
 -- ---- a board
 
-among_last : (bs : List ℕ) (j : ℕ) → is_among j (bs ++ j ∷ []) ≡ true
+pub among_last : (bs : List ℕ) (j : ℕ) → is_among j (bs ++ j ∷ []) ≡ true
 among_last bs j = list_any-append (λ x. eqb x j) bs (j ∷ []) ∙ or_right (is_among j bs) (eqb j j || false) (or_left (eqb j j) false (eq-eqb j j refl))
 
-among_other : (bs : List ℕ) (j k : ℕ) → (k ≡ j → ⊥) → is_among k (bs ++ j ∷ []) ≡ is_among k bs
+pub among_other : (bs : List ℕ) (j k : ℕ) → (k ≡ j → ⊥) → is_among k (bs ++ j ∷ []) ≡ is_among k bs
 among_other bs j k ne = list_any-append (λ x. eqb x k) bs (j ∷ []) ∙ ap (λ (b : Bool). is_among k bs || (b || false)) (ne_eqb j k (λ e. ne (sym e))) ∙ or_none (is_among k bs)
   where
     or_none : (b : Bool) → (b || (false || false)) ≡ b
     or_none true = refl
     or_none false = refl
 
-not_among_below : (bs : List ℕ) (j : ℕ) → list_all (λ i. ltb i j) bs ≡ true → is_among j bs ≡ false
+pub not_among_below : (bs : List ℕ) (j : ℕ) → list_all (λ i. ltb i j) bs ≡ true → is_among j bs ≡ false
 not_among_below [] j h = refl
 not_among_below (b ∷ bs) j h =
     let parts = and_parts (ltb b j) (list_all (λ i. ltb i j) bs) h in

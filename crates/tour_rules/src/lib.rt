@@ -3,6 +3,7 @@
 #![tactic(auto)]
 
 mod judging;
+mod partial;
 mod places;
 mod rules;
 mod sets;
