@@ -1,6 +1,20 @@
 //! Partial tours: the beginning of a tour as a list of moves, and the moves that may follow.
 
+ghost use Rattle.std.specs.Prelude.{◌≡◌, ◌<◌, ◌≤◌, ◌+◌, ◌&&◌, not, ℕ, None, Some, length, nat_lt};
+ghost use Rattle.std.specs.List.{list_all};
+ghost use Rattle.elevator_model.specs.declared.Stop.{Stop};
+ghost use Rattle.elevator_model.specs.Snapshot.{Snapshot, car_count, call_count};
+ghost use Rattle.elevator_model.specs.Tours.{Progress};
+ghost use Rattle.elevator_model.specs.Partial.{Course, may_stand as may_stand_lem};
+ghost use Rattle.tour_rules.specs.Places.{Tracks};
+ghost use Rattle.tour_rules.specs.Courses.{IsBegun, TracksCourse, is_after as is_after_lem, empty_stop, may_leave as may_leave_lem, progress_after, board_test};
+
 use crate::places::Place;
+use crate::rules::{
+    is_overfull, is_useless, may_take, overtakes, serves_floor, starts_wrong, stays_put, turns_away,
+};
+use crate::sets::contains;
+use call_state::Snapshot;
 
 /// The stop begun: who boarded there so far.
 #[derive(Clone, Copy)]
@@ -9,6 +23,8 @@ pub(crate) struct Begun {
     boards: u128,
     /// The highest index that boarded there.
     last: Option<u32>,
+    /// The persons carried when the car leaves it.
+    load: u32,
     /// The car once it leaves the stop.
     after: Place,
 }
@@ -20,4 +36,87 @@ pub(crate) struct Point {
     before: Place,
     stop: Option<Begun>,
     ended: bool,
+}
+
+/// Whether the car may go to this floor.
+fn may_stand(snapshot: &Snapshot, car: u32, place: &Place, floor: u32) -> bool
+    requires { car < car_count snapshot.now }
+    ensures { (p : Progress) → Tracks snapshot.now car place.now p → result ≡ may_stand_lem snapshot.now car p (empty_stop floor) }
+{
+    if stays_put(place, floor) {
+        return false;
+    }
+    if !serves_floor(snapshot.building(), car, floor) {
+        return false;
+    }
+    if starts_wrong(snapshot, car, place, floor) {
+        return false;
+    }
+    if turns_away(snapshot, car, place, floor) {
+        return false;
+    }
+    !is_overfull(snapshot, car, place, floor, 0)
+}
+
+/// Whether the index comes after the last one.
+fn is_after(last: Option<u32>, call: u32) -> bool
+    ensures { result ≡ is_after_lem last call }
+{
+    match last {
+        None => true,
+        Some(last) => last < call,
+    }
+}
+
+/// Whether the call may board at the stop begun.
+fn may_board(snapshot: &Snapshot, car: u32, before: &Place, begun: &Begun, call: u32) -> bool
+    requires car { car < car_count snapshot.now }
+    requires call { call < call_count snapshot.now }
+    requires few { begun.now.load ≤ 64 }
+    ensures { (q : Progress) (stop : Stop) → Tracks snapshot.now car before.now q → IsBegun snapshot.now car q begun.now stop → result ≡ (list_all (λ i. nat_lt i call) stop.boards && board_test snapshot.now car q stop call) }
+{
+    let calls = snapshot.calls();
+    let boarding = &calls[call as usize];
+    let is_next = is_after(begun.last, call);
+    let is_for_car = may_take(snapshot, car, call);
+    let is_again = contains(before.boarded, call);
+    let is_here = boarding.origin == begun.floor;
+    let is_overtaken = overtakes(calls, before.boarded, boarding);
+    let fits = begun.load + boarding.persons <= snapshot.building().cars()[car as usize].capacity;
+    passes(is_next, is_for_car, is_again, is_here, is_overtaken, fits)
+}
+
+/// Whether a call passes each test of a board.
+fn passes(
+    is_next: bool,
+    is_for_car: bool,
+    is_again: bool,
+    is_here: bool,
+    is_overtaken: bool,
+    fits: bool,
+) -> bool
+    ensures { result ≡ (is_next && ((((is_for_car && not is_again) && is_here) && not is_overtaken) && fits)) }
+{
+    is_next && is_for_car && !is_again && is_here && !is_overtaken && fits
+}
+
+/// Whether the present stop may be left: somebody got off or boards there, or it needs no use.
+fn may_leave(snapshot: &Snapshot, car: u32, point: &Point) -> bool
+    requires { car < car_count snapshot.now }
+    ensures { (x : Course) → TracksCourse snapshot.now car point.now x → result ≡ may_leave_lem snapshot.now car x.before x.present }
+{
+    match point.stop {
+        None => true,
+        Some(begun) => !is_useless(snapshot, car, &point.before, begun.floor, begun.boards),
+    }
+}
+
+/// Where the car is once it leaves the present stop.
+fn place_after(point: &Point) -> Place
+    ensures { (s : Snapshot) (c : ℕ) (x : Course) → TracksCourse s c point.now x → Tracks s c result (progress_after s c x.before x.present) }
+{
+    match point.stop {
+        None => point.before,
+        Some(begun) => begun.after,
+    }
 }
