@@ -6,8 +6,8 @@ use Rattle.elevator_model.specs.Building.{floor_count}
 use Rattle.elevator_model.specs.Snapshot.{Snapshot, call_of, spec_of}
 use Rattle.elevator_model.specs.Tours.{Progress, make_stop, persons_where, stays_on, boards_at, is_call_for, overtakes, persons_of}
 use Rattle.elevator_model.specs.Partial.{Course, may_stand, may_be_left}
-use Rattle.tour_rules.specs.declared.partial.Point.{Point}
-use Rattle.tour_rules.specs.declared.partial.Begun.{Begun}
+use Rattle.tour_rules.specs.declared.points.Point.{Point}
+use Rattle.tour_rules.specs.declared.points.Begun.{Begun}
 use Rattle.tour_rules.specs.Places.{Tracks, HasBoards}
 
 -- the index comes after the last one
@@ -24,7 +24,6 @@ pub record IsBegun (s : Snapshot) (c : ℕ) (before : Progress) (begun : Begun) 
   pub after : Tracks s c begun.after (make_stop s c before stop)
   pub stands : may_stand s c before stop ≡ true
   pub load : begun.load ≡ persons_where s (stays_on s before stop.floor) + persons_where s (boards_at s stop)
-  pub few : begun.load ≤ 64
 
 abbrev pub StopTracked : Snapshot → ℕ → Progress → Option Begun → Option Stop → Type 0
 StopTracked s c before None None = Unit {0}

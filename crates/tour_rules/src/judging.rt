@@ -87,7 +87,7 @@ fn broken_at(
 }
 
 /// The rule that is broken where the tour ends here.
-fn broken_at_end(snapshot: &Snapshot, car: u32, place: &Place) -> Option<Rule>
+pub(crate) fn broken_at_end(snapshot: &Snapshot, car: u32, place: &Place) -> Option<Rule>
     requires { car < car_count snapshot.now }
     ensures { (p : Progress) → Tracks snapshot.now car place.now p → result ≡ broken_at_end_lem snapshot.now car p }
 {

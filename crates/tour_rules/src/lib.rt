@@ -5,6 +5,7 @@
 mod judging;
 mod partial;
 mod places;
+mod points;
 mod rules;
 mod sets;
 

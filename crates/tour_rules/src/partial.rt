@@ -1,42 +1,23 @@
 //! Partial tours: the beginning of a tour as a list of moves, and the moves that may follow.
 
-ghost use Rattle.std.specs.Prelude.{◌≡◌, ◌<◌, ◌≤◌, ◌+◌, ◌&&◌, not, ℕ, None, Some, length, nat_lt};
+ghost use Rattle.std.specs.Prelude.{◌≡◌, ◌<◌, ◌≤◌, ◌+◌, ◌&&◌, not, ℕ, None, Some, is_some, length, nat_lt, false};
 ghost use Rattle.std.specs.List.{list_all};
 ghost use Rattle.elevator_model.specs.declared.Stop.{Stop};
 ghost use Rattle.elevator_model.specs.Snapshot.{Snapshot, car_count, call_count};
 ghost use Rattle.elevator_model.specs.Tours.{Progress};
-ghost use Rattle.elevator_model.specs.Partial.{Course, may_stand as may_stand_lem};
+ghost use Rattle.elevator_model.specs.Partial.{Course, move_on, may_stand as may_stand_lem};
 ghost use Rattle.tour_rules.specs.Places.{Tracks};
 ghost use Rattle.tour_rules.specs.Courses.{IsBegun, TracksCourse, is_after as is_after_lem, empty_stop, may_leave as may_leave_lem, progress_after, board_test};
 
+use crate::judging::broken_at_end;
 use crate::places::Place;
+use crate::points::{Begun, Point};
 use crate::rules::{
     is_overfull, is_useless, may_take, overtakes, serves_floor, starts_wrong, stays_put, turns_away,
 };
 use crate::sets::contains;
 use call_state::Snapshot;
-
-/// The stop begun: who boarded there so far.
-#[derive(Clone, Copy)]
-pub(crate) struct Begun {
-    floor: u32,
-    boards: u128,
-    /// The highest index that boarded there.
-    last: Option<u32>,
-    /// The persons carried when the car leaves it.
-    load: u32,
-    /// The car once it leaves the stop.
-    after: Place,
-}
-
-/// Where a partial tour is.
-#[derive(Clone, Copy)]
-pub(crate) struct Point {
-    /// The car after the stops that it left.
-    before: Place,
-    stop: Option<Begun>,
-    ended: bool,
-}
+use elevator_model::Move;
 
 /// Whether the car may go to this floor.
 fn may_stand(snapshot: &Snapshot, car: u32, place: &Place, floor: u32) -> bool
@@ -70,12 +51,13 @@ fn is_after(last: Option<u32>, call: u32) -> bool
 
 /// Whether the call may board at the stop begun.
 fn may_board(snapshot: &Snapshot, car: u32, before: &Place, begun: &Begun, call: u32) -> bool
-    requires car { car < car_count snapshot.now }
-    requires call { call < call_count snapshot.now }
-    requires few { begun.now.load ≤ 64 }
+    requires { car < car_count snapshot.now }
     ensures { (q : Progress) (stop : Stop) → Tracks snapshot.now car before.now q → IsBegun snapshot.now car q begun.now stop → result ≡ (list_all (λ i. nat_lt i call) stop.boards && board_test snapshot.now car q stop call) }
 {
     let calls = snapshot.calls();
+    if call as usize >= calls.len() {
+        return false;
+    }
     let boarding = &calls[call as usize];
     let is_next = is_after(begun.last, call);
     let is_for_car = may_take(snapshot, car, call);
@@ -118,5 +100,39 @@ fn place_after(point: &Point) -> Place
     match point.stop {
         None => point.before,
         Some(begun) => begun.after,
+    }
+}
+
+/// Whether the move may follow, where it is known whether the present stop may be left, and where the
+/// car is then.
+fn may_follow(
+    snapshot: &Snapshot,
+    car: u32,
+    point: &Point,
+    leaves: bool,
+    after: &Place,
+    next: Move,
+) -> bool
+    requires { car < car_count snapshot.now }
+    ensures { (x : Course) → TracksCourse snapshot.now car point.now x → leaves ≡ may_leave_lem snapshot.now car x.before x.present → Tracks snapshot.now car after.now (progress_after snapshot.now car x.before x.present) → result ≡ is_some (move_on snapshot.now car x next) }
+{
+    if point.ended {
+        return false;
+    }
+    match next {
+        Move::Board(call) => may_board_now(snapshot, car, point, call),
+        Move::Leave(floor) => leaves && may_stand(snapshot, car, after, floor),
+        Move::End => leaves && broken_at_end(snapshot, car, after).is_none(),
+    }
+}
+
+/// Whether the call may board now.
+fn may_board_now(snapshot: &Snapshot, car: u32, point: &Point, call: u32) -> bool
+    requires { car < car_count snapshot.now }
+    ensures { (x : Course) → TracksCourse snapshot.now car point.now x → x.ended ≡ false → result ≡ is_some (move_on snapshot.now car x (Move.Board call)) }
+{
+    match point.stop {
+        None => false,
+        Some(begun) => may_board(snapshot, car, &point.before, &begun, call),
     }
 }

@@ -1,0 +1,130 @@
+-- Moves that follow a partial tour, and where they lead.
+use Rattle.std.proofs.Common.{◌==◌, ◌≡◌, ℕ, zero, suc, ◌+◌, ◌-◌, ◌*◌, ◌<◌, ◌≤◌, Bool, true, false, cond, not, ◌&&◌, ◌||◌, eqb, ltb, leb, List, [], ◌∷◌, ◌++◌, map, length, refl, sym, ap, ◌∙◌, subst, inl, inr, arith, rules, Option, Some, None}
+use Rattle.std.specs.List.{list_any, list_all, filter, range_with_len}
+use Rattle.std.specs.Option.{is_none, is_some, IsSome}
+use Rattle.std.proofs.lemmas.Bool.{or_cases, or_left, or_right, and_parts, and_from, and_left, and_right, false≢true, cases_Bool, ltb-true, lt-ltb, le-ltb, eqb-true, eq-eqb, ne_eqb, eqb-false, leb-true, false_from_ne_true}
+use Rattle.elevator_model.specs.declared.Rule.{Rule}
+use Rattle.elevator_model.specs.declared.Stop.{Stop}
+use Rattle.elevator_model.specs.declared.Move.{Move}
+use Rattle.elevator_model.specs.declared.Move.TheVariants.{Board, Leave, End}
+use Rattle.elevator_model.specs.Counting.{any_below, is_among, has}
+use Rattle.elevator_model.specs.Snapshot.{Snapshot, call_count}
+use Rattle.elevator_model.specs.Tours.{Progress, breaks, broken_at_end, none_taken, make_stop, boards_at}
+use Rattle.elevator_model.specs.Partial.{Course, course_start, course_if, may_stand, may_be_left, may_end, go_on, board_on, end_on, move_on, move_on_from, moves_on, course_of}
+use Rattle.tour_rules.specs.declared.points.Point.{Point}
+use Rattle.tour_rules.specs.declared.points.Begun.{Begun}
+use Rattle.tour_rules.specs.Places.{Tracks, HasBoards}
+use Rattle.tour_rules.specs.Courses.{IsBegun, StopTracked, TracksCourse, is_after, board_test, empty_stop, may_leave, progress_after}
+use Rattle.tour_rules.proofs.Next.{may_stand-more}
+use Rattle.tour_rules.proofs.Reached.{moves_on-append, left_after}
+use Rattle.tour_rules.proofs.Sound.{course_if-some, cond-some, moves_on-none}
+
+pub present_of : (s : Snapshot) (c : ℕ) (q : Progress) (o : Option Begun) (present : Option Stop) (begun : Begun) → StopTracked s c q o present → o ≡ Some begun → (p : Stop) × (present ≡ Some p) × IsBegun s c q begun p
+present_of s c q None present begun t e = absurd (cc)
+present_of s c q (Some b) None begun t e = absurd t
+present_of s c q (Some b) (Some p) begun t e = let same : b ≡ begun = cc in (p, refl, subst (λ (x : Begun). IsBegun s c q x p) same t)
+
+pub none_of : (s : Snapshot) (c : ℕ) (q : Progress) (o : Option Begun) (present : Option Stop) → StopTracked s c q o present → o ≡ None → present ≡ None
+none_of s c q None None t e = refl
+none_of s c q None (Some p) t e = absurd t
+none_of s c q (Some b) present t e = absurd (cc)
+
+pub some_if : (b : Bool) (y : Course) → is_some (course_if b y) ≡ b
+some_if true y = refl
+some_if false y = refl
+
+-- nothing follows the end
+pub ended_board : (s : Snapshot) (c : ℕ) (x : Course) (m : Move) → x.ended ≡ true → is_some (move_on s c x m) ≡ false
+ended_board s c x (Board j) e = ap (λ (b : Bool). is_some (cond b None (board_on s c x x.present j))) e
+ended_board s c x (Leave g) e = ap (λ (b : Bool). is_some (cond b None (go_on s c x x.present g))) e
+ended_board s c x End e = ap (λ (b : Bool). is_some (cond b None (end_on s c x x.present))) e
+
+pub board_none : (s : Snapshot) (c : ℕ) (x : Course) (j : ℕ) → x.ended ≡ false → x.present ≡ None → is_some (move_on s c x (Board j)) ≡ false
+board_none s c x j e p = ap (λ (b : Bool). is_some (cond b None (board_on s c x x.present j))) e ∙ ap (λ (o : Option Stop). is_some (board_on s c x o j)) p
+
+pub board_some : (s : Snapshot) (c : ℕ) (x : Course) (p : Stop) (j : ℕ) → x.ended ≡ false → x.present ≡ Some p → may_stand s c x.before p ≡ true → is_some (move_on s c x (Board j)) ≡ (list_all (λ i. ltb i j) p.boards && board_test s c x.before p j)
+board_some s c x p j e k stands =
+    ap (λ (b : Bool). is_some (cond b None (board_on s c x x.present j))) e ∙ ap (λ (o : Option Stop). is_some (board_on s c x o j)) k ∙ some_if _ _ ∙ may_stand-more s c x.before p.floor p.boards j stands
+
+go_test : (s : Snapshot) (c : ℕ) (x : Course) (present : Option Stop) (g : ℕ) → is_some (go_on s c x present g) ≡ (may_leave s c x.before present && may_stand s c (progress_after s c x.before present) (empty_stop g))
+go_test s c x None g = some_if _ _
+go_test s c x (Some p) g = some_if _ _
+
+pub leave_some : (s : Snapshot) (c : ℕ) (x : Course) (g : ℕ) → x.ended ≡ false → is_some (move_on s c x (Leave g)) ≡ (may_leave s c x.before x.present && may_stand s c (progress_after s c x.before x.present) (empty_stop g))
+leave_some s c x g e = ap (λ (b : Bool). is_some (cond b None (go_on s c x x.present g))) e ∙ go_test s c x x.present g
+
+end_test : (s : Snapshot) (c : ℕ) (x : Course) (present : Option Stop) → is_some (end_on s c x present) ≡ (may_leave s c x.before present && may_end s c (progress_after s c x.before present))
+end_test s c x None = some_if _ _
+end_test s c x (Some p) = some_if _ _
+
+pub end_some : (s : Snapshot) (c : ℕ) (x : Course) → x.ended ≡ false → is_some (move_on s c x End) ≡ (may_leave s c x.before x.present && may_end s c (progress_after s c x.before x.present))
+end_some s c x e = ap (λ (b : Bool). is_some (cond b None (end_on s c x x.present))) e ∙ end_test s c x x.present
+
+-- ---- where a move leads
+
+go_leads_to : (s : Snapshot) (c : ℕ) (x : Course) (present : Option Stop) (g : ℕ) (y : Course) → go_on s c x present g ≡ Some y → (may_leave s c x.before present ≡ true) × (may_stand s c (progress_after s c x.before present) (empty_stop g) ≡ true) × (y ≡ record { left = left_after x.left present; before = progress_after s c x.before present; present = Some (empty_stop g); ended = false })
+go_leads_to s c x None g y h = let parts = course_if-some _ _ y h in (refl, parts.0, sym parts.1)
+go_leads_to s c x (Some p) g y h =
+    let parts = course_if-some _ _ y h in
+    let ok = and_parts (may_be_left s c x.before p) _ parts.0 in
+    (ok.0, ok.1, sym parts.1)
+
+pub leave_leads_to : (s : Snapshot) (c : ℕ) (x : Course) (g : ℕ) (y : Course) → move_on s c x (Leave g) ≡ Some y → (may_leave s c x.before x.present ≡ true) × (may_stand s c (progress_after s c x.before x.present) (empty_stop g) ≡ true) × (y ≡ record { left = left_after x.left x.present; before = progress_after s c x.before x.present; present = Some (empty_stop g); ended = false })
+leave_leads_to s c x g y h = go_leads_to s c x x.present g y (cond-some x.ended _ y h).1
+
+end_leads_to : (s : Snapshot) (c : ℕ) (x : Course) (present : Option Stop) (y : Course) → end_on s c x present ≡ Some y → y ≡ record { left = left_after x.left present; before = progress_after s c x.before present; present = None; ended = true }
+end_leads_to s c x None y h = sym (course_if-some _ _ y h).1
+end_leads_to s c x (Some p) y h = sym (course_if-some _ _ y h).1
+
+pub ending_leads_to : (s : Snapshot) (c : ℕ) (x : Course) (y : Course) → move_on s c x End ≡ Some y → y ≡ record { left = left_after x.left x.present; before = progress_after s c x.before x.present; present = None; ended = true }
+ending_leads_to s c x y h = end_leads_to s c x x.present y (cond-some x.ended _ y h).1
+
+-- a board leads to one board more
+pub record Boarded (s : Snapshot) (c : ℕ) (x : Course) (j : ℕ) (y : Course) : Type 0 where
+  pub stop : Stop
+  pub present : x.present ≡ Some stop
+  pub rises : list_all (λ i. ltb i j) stop.boards ≡ true
+  pub stands : may_stand s c x.before (record { floor = stop.floor; boards = stop.boards ++ j ∷ [] }) ≡ true
+  pub leads : y ≡ record { left = x.left; before = x.before; present = Some (record { floor = stop.floor; boards = stop.boards ++ j ∷ [] }); ended = false }
+
+board_leads : (s : Snapshot) (c : ℕ) (x : Course) (present : Option Stop) (j : ℕ) (y : Course) → x.present ≡ present → board_on s c x present j ≡ Some y → Boarded s c x j y
+board_leads s c x None j y e h = absurd (cc)
+board_leads s c x (Some p) j y e h =
+    let parts = course_if-some _ _ y h in
+    let ok = and_parts (list_all (λ i. ltb i j) p.boards) _ parts.0 in
+    record { stop = p; present = e; rises = ok.0; stands = ok.1; leads = sym parts.1 }
+
+pub board_leads_to : (s : Snapshot) (c : ℕ) (x : Course) (j : ℕ) (y : Course) → move_on s c x (Board j) ≡ Some y → Boarded s c x j y
+board_leads_to s c x j y h = board_leads s c x x.present j y refl (cond-some x.ended _ y h).1
+
+-- ---- lists of moves
+
+pub course_more : (s : Snapshot) (c : ℕ) (ms : List Move) (m : Move) → course_of s c (ms ++ m ∷ []) ≡ move_on_from s c (course_of s c ms) m
+course_more s c ms m = moves_on-append s c (Some (course_start s c)) ms (m ∷ [])
+
+-- the front of a lawful list is lawful, and its last move leads on
+pub record LastMove (s : Snapshot) (c : ℕ) (ms : List Move) (m : Move) (y : Course) : Type 0 where
+  pub front : Course
+  pub lawful : course_of s c ms ≡ Some front
+  pub leads : move_on s c front m ≡ Some y
+
+pub last_move : (s : Snapshot) (c : ℕ) (ms : List Move) (m : Move) (y : Course) → course_of s c (ms ++ m ∷ []) ≡ Some y → LastMove s c ms m y
+last_move s c ms m y h = by_front (course_of s c ms) refl (sym (course_more s c ms m) ∙ h)
+  where
+    by_front : (o : Option Course) → course_of s c ms ≡ o → move_on_from s c o m ≡ Some y → LastMove s c ms m y
+    by_front None e k = absurd (cc)
+    by_front (Some x) e k = record { front = x; lawful = e; leads = k }
+
+pub lawful_front : (s : Snapshot) (c : ℕ) (front back : List Move) (y : Course) → course_of s c (front ++ back) ≡ Some y → (x : Course) × (course_of s c front ≡ Some x)
+lawful_front s c front back y h = by_front (course_of s c front) refl (sym (moves_on-append s c (Some (course_start s c)) front back) ∙ h)
+  where
+    by_front : (o : Option Course) → course_of s c front ≡ o → moves_on s c o back ≡ Some y → (x : Course) × (course_of s c front ≡ Some x)
+    by_front None e k = let none = moves_on-none s c back in absurd (cc)
+    by_front (Some x) e k = (x, e)
+
+pub is_some_has : (o : Option Course) → IsSome o → (x : Course) × (o ≡ Some x)
+is_some_has None h = absurd (false≢true h)
+is_some_has (Some x) h = (x, refl)
+
+pub has_is_some : (o : Option Course) (x : Course) → o ≡ Some x → IsSome o
+has_is_some o x e = ap is_some e
