@@ -1,7 +1,8 @@
 -- Moves that follow a partial tour, and where they lead.
-use Rattle.std.proofs.Common.{◌==◌, ◌≡◌, ℕ, zero, suc, ◌+◌, ◌-◌, ◌*◌, ◌<◌, ◌≤◌, Bool, true, false, cond, not, ◌&&◌, ◌||◌, eqb, ltb, leb, List, [], ◌∷◌, ◌++◌, map, length, refl, sym, ap, ◌∙◌, subst, inl, inr, arith, rules, Option, Some, None}
+use Rattle.std.proofs.Common.{◌==◌, ◌≡◌, ℕ, zero, suc, ◌+◌, ◌-◌, ◌*◌, ◌<◌, ◌≤◌, Bool, true, false, cond, not, ◌&&◌, ◌||◌, eqb, ltb, leb, List, [], ◌∷◌, ◌++◌, map, length, refl, sym, ap, ◌∙◌, subst, inl, inr, arith, append_assoc, Option, Some, None}
 use Rattle.std.specs.List.{list_any, list_all, filter, range_with_len}
 use Rattle.std.specs.Option.{is_none, is_some, IsSome}
+use Rattle.std.proofs.lemmas.List.FromFn.{filter_of_map_range_with_len_more}
 use Rattle.std.proofs.lemmas.Bool.{or_cases, or_left, or_right, and_parts, and_from, and_left, and_right, false≢true, cases_Bool, ltb-true, lt-ltb, le-ltb, eqb-true, eq-eqb, ne_eqb, eqb-false, leb-true, false_from_ne_true}
 use Rattle.elevator_model.specs.declared.Rule.{Rule}
 use Rattle.elevator_model.specs.declared.Stop.{Stop}
@@ -128,3 +129,8 @@ is_some_has (Some x) h = (x, refl)
 
 pub has_is_some : (o : Option Course) (x : Course) → o ≡ Some x → IsSome o
 has_is_some o x e = ap is_some e
+
+-- one move more is tried
+pub filter_push : (t : Move → Bool) (f : ℕ → Move) (front now after : List Move) (k : ℕ) (b : Bool) → now ≡ front ++ filter t (map f (range_with_len 0 k)) → b ≡ t (f k) → after ≡ now ++ cond b (f k ∷ []) [] → after ≡ front ++ filter t (map f (range_with_len 0 (k + 1)))
+filter_push t f front now after k b before test push =
+    push ∙ ap (λ (xs : List Move). xs ++ cond b (f k ∷ []) []) before ∙ ap (λ (x : Bool). (front ++ filter t (map f (range_with_len 0 k))) ++ cond x (f k ∷ []) []) test ∙ append_assoc front (filter t (map f (range_with_len 0 k))) (cond (t (f k)) (f k ∷ []) []) ∙ ap (λ (xs : List Move). front ++ xs) (sym (filter_of_map_range_with_len_more t f 0 k k (omega arith)))

@@ -1,12 +1,14 @@
 -- Where a partial tour is, as the code keeps it, against the definition.
-use Rattle.std.specs.Prelude.{◌≡◌, ℕ, ◌+◌, ◌<◌, ◌≤◌, ◌==◌, ◌&&◌, not, Bool, true, false, nat_lt, nat_le, List, [], Option, Some, None, is_none}
+use Rattle.std.specs.Prelude.{◌≡◌, ℕ, ◌+◌, ◌<◌, ◌≤◌, ◌==◌, ◌&&◌, not, Bool, true, false, nat_lt, nat_le, List, [], Option, Some, None, is_some}
 use Rattle.std.specs.List.{list_all}
 use Rattle.elevator_model.specs.declared.Stop.{Stop}
 use Rattle.elevator_model.specs.Building.{floor_count}
 use Rattle.elevator_model.specs.Snapshot.{Snapshot, call_of, spec_of}
 use Rattle.elevator_model.specs.Tours.{Progress, make_stop, persons_where, stays_on, boards_at, is_call_for, overtakes, persons_of}
-use Rattle.elevator_model.specs.Partial.{Course, may_stand, may_be_left}
+use Rattle.elevator_model.specs.Partial.{Course, may_stand, may_be_left, boards_allowed, move_on}
+use Rattle.elevator_model.specs.declared.Move.{Move}
 use Rattle.tour_rules.specs.declared.points.Point.{Point}
+use Rattle.tour_rules.specs.declared.points.Departure.{Departure}
 use Rattle.tour_rules.specs.declared.points.Begun.{Begun}
 use Rattle.tour_rules.specs.Places.{Tracks, HasBoards}
 
@@ -54,3 +56,12 @@ empty_stop g = record { floor = g; boards = [] }
 abbrev pub board_test : Snapshot → ℕ → Progress → Stop → ℕ → Bool
 board_test s c q p j =
     is_call_for s c j && not (q.boarded j) && ((call_of s j).origin == p.floor) && not (overtakes s q j) && nat_le (persons_where s (stays_on s q p.floor) + persons_where s (boards_at s p) + persons_of s j) (spec_of s c).capacity
+
+-- whether and from where the car leaves the present stop
+pub record IsDeparture (s : Snapshot) (c : ℕ) (departure : Departure) (x : Course) : Type 0 where
+  pub leaves : departure.leaves ≡ may_leave s c x.before x.present
+  pub after : Tracks s c departure.after (progress_after s c x.before x.present)
+
+-- a move that boards allowed calls only and is lawful
+abbrev pub may_be_next : Snapshot → ℕ → Course → (allowed : ℕ → Bool) → Move → Bool
+may_be_next s c x allowed m = boards_allowed allowed m && is_some (move_on s c x m)

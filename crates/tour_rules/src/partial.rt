@@ -1,21 +1,23 @@
 //! Partial tours: the beginning of a tour as a list of moves, and the moves that may follow.
 
-ghost use Rattle.std.specs.Prelude.{◌≡◌, ◌<◌, ◌≤◌, ◌+◌, ◌&&◌, not, ℕ, None, Some, is_some, length, nat_lt, false};
-ghost use Rattle.std.specs.List.{list_all};
+ghost use Rattle.std.specs.Prelude.{◌≡◌, ◌<◌, ◌≤◌, ◌+◌, ◌&&◌, not, ℕ, None, Some, is_some, length, nat_lt, false, ◌++◌, ◌∷◌, [], if◌then◌else◌, filter, map, vec_len, vec_capacity};
+ghost use Rattle.std.specs.List.{list_all, range_with_len};
+ghost use Rattle.elevator_model.specs.Counting.{has};
+ghost use Rattle.elevator_model.specs.Building.{floor_count};
 ghost use Rattle.elevator_model.specs.declared.Stop.{Stop};
 ghost use Rattle.elevator_model.specs.Snapshot.{Snapshot, car_count, call_count};
 ghost use Rattle.elevator_model.specs.Tours.{Progress};
 ghost use Rattle.elevator_model.specs.Partial.{Course, move_on, may_stand as may_stand_lem};
 ghost use Rattle.tour_rules.specs.Places.{Tracks};
-ghost use Rattle.tour_rules.specs.Courses.{IsBegun, TracksCourse, is_after as is_after_lem, empty_stop, may_leave as may_leave_lem, progress_after, board_test};
+ghost use Rattle.tour_rules.specs.Courses.{IsBegun, TracksCourse, is_after as is_after_lem, empty_stop, may_leave as may_leave_lem, progress_after, board_test, IsDeparture, may_be_next};
 
 use crate::judging::broken_at_end;
 use crate::places::Place;
-use crate::points::{Begun, Point};
+use crate::points::{Begun, Departure, Point};
 use crate::rules::{
     is_overfull, is_useless, may_take, overtakes, serves_floor, starts_wrong, stays_put, turns_away,
 };
-use crate::sets::contains;
+use crate::sets::{contains, is_member};
 use call_state::Snapshot;
 use elevator_model::Move;
 
@@ -103,26 +105,48 @@ fn place_after(point: &Point) -> Place
     }
 }
 
-/// Whether the move may follow, where it is known whether the present stop may be left, and where the
-/// car is then.
+/// Whether and from where the car leaves the present stop.
+fn departure(snapshot: &Snapshot, car: u32, point: &Point) -> Departure
+    requires { car < car_count snapshot.now }
+    ensures { (x : Course) → TracksCourse snapshot.now car point.now x → IsDeparture snapshot.now car result x }
+{
+    Departure {
+        leaves: may_leave(snapshot, car, point),
+        after: place_after(point),
+    }
+}
+
+/// Whether the move may follow and boards no call but an allowed one.
 fn may_follow(
     snapshot: &Snapshot,
     car: u32,
     point: &Point,
-    leaves: bool,
-    after: &Place,
+    departure: &Departure,
+    allowed: u128,
     next: Move,
 ) -> bool
     requires { car < car_count snapshot.now }
-    ensures { (x : Course) → TracksCourse snapshot.now car point.now x → leaves ≡ may_leave_lem snapshot.now car x.before x.present → Tracks snapshot.now car after.now (progress_after snapshot.now car x.before x.present) → result ≡ is_some (move_on snapshot.now car x next) }
+    ensures { (x : Course) → TracksCourse snapshot.now car point.now x → IsDeparture snapshot.now car departure.now x → result ≡ may_be_next snapshot.now car x (has allowed) next }
 {
     if point.ended {
         return false;
     }
     match next {
-        Move::Board(call) => may_board_now(snapshot, car, point, call),
-        Move::Leave(floor) => leaves && may_stand(snapshot, car, after, floor),
-        Move::End => leaves && broken_at_end(snapshot, car, after).is_none(),
+        Move::Board(call) => is_member(allowed, call) && may_board_now(snapshot, car, point, call),
+        Move::Leave(floor) => departure.leaves && may_stand(snapshot, car, &departure.after, floor),
+        Move::End => departure.leaves && broken_at_end(snapshot, car, &departure.after).is_none(),
+    }
+}
+
+/// Appends the move where it passes.
+fn push_if(out: &mut Vec<Move>, next: Move, passes: bool)
+    requires { vec_len out.old < vec_capacity out.old }
+    ensures items { out.new.items ≡ out.old.items ++ (if passes then next ∷ [] else []) }
+    ensures len { vec_len out.new ≤ vec_len out.old + 1 }
+    ensures capacity { vec_capacity out.new ≡ vec_capacity out.old }
+{
+    if passes {
+        out.push_reserved(next);
     }
 }
 
@@ -134,5 +158,51 @@ fn may_board_now(snapshot: &Snapshot, car: u32, point: &Point, call: u32) -> boo
     match point.stop {
         None => false,
         Some(begun) => may_board(snapshot, car, &point.before, &begun, call),
+    }
+}
+
+/// Appends the boards of allowed calls that may follow, by index.
+fn push_boards(
+    snapshot: &Snapshot,
+    car: u32,
+    point: &Point,
+    departure: &Departure,
+    allowed: u128,
+    out: &mut Vec<Move>,
+)
+    requires car { car < car_count snapshot.now }
+    requires room { vec_len out.old + 128 ≤ vec_capacity out.old }
+    ensures items { (x : Course) → TracksCourse snapshot.now car point.now x → IsDeparture snapshot.now car departure.now x → out.new.items ≡ out.old.items ++ filter (may_be_next snapshot.now car x (has allowed)) (map Move.Board (range_with_len 0 (call_count snapshot.now))) }
+    ensures len { vec_len out.new ≤ vec_len out.old + 128 }
+    ensures capacity { vec_capacity out.new ≡ vec_capacity out.old }
+{
+    let calls = snapshot.calls().len() as u32;
+    for call in 0..calls {
+        let next = Move::Board(call);
+        let follows = may_follow(snapshot, car, point, departure, allowed, next);
+        push_if(out, next, follows);
+    }
+}
+
+/// Appends the leaves that may follow, by floor.
+fn push_leaves(
+    snapshot: &Snapshot,
+    car: u32,
+    point: &Point,
+    departure: &Departure,
+    allowed: u128,
+    out: &mut Vec<Move>,
+)
+    requires car { car < car_count snapshot.now }
+    requires room { vec_len out.old + 64 ≤ vec_capacity out.old }
+    ensures items { (x : Course) → TracksCourse snapshot.now car point.now x → IsDeparture snapshot.now car departure.now x → out.new.items ≡ out.old.items ++ filter (may_be_next snapshot.now car x (has allowed)) (map Move.Leave (range_with_len 0 (floor_count snapshot.now.building))) }
+    ensures len { vec_len out.new ≤ vec_len out.old + 64 }
+    ensures capacity { vec_capacity out.new ≡ vec_capacity out.old }
+{
+    let floors = snapshot.building().heights().len() as u32;
+    for floor in 0..floors {
+        let next = Move::Leave(floor);
+        let follows = may_follow(snapshot, car, point, departure, allowed, next);
+        push_if(out, next, follows);
     }
 }

@@ -26,3 +26,12 @@ pub(crate) struct Point {
     pub(crate) stop: Option<Begun>,
     pub(crate) ended: bool,
 }
+
+/// The departure from the present stop.
+#[derive(Clone, Copy)]
+pub(crate) struct Departure {
+    /// Whether the stop may be left.
+    pub(crate) leaves: bool,
+    /// The car once it left.
+    pub(crate) after: Place,
+}
