@@ -2,21 +2,26 @@
 use Rattle.std.proofs.Common.{◌==◌, ◌≡◌, ℕ, zero, suc, ◌+◌, ◌-◌, ◌*◌, ◌<◌, ◌≤◌, Bool, true, false, cond, not, ◌&&◌, ◌||◌, eqb, ltb, leb, List, [], ◌∷◌, ◌++◌, map, length, refl, sym, ap, ◌∙◌, subst, inl, inr, arith, append_assoc, Option, Some, None}
 use Rattle.std.specs.List.{list_any, list_all, filter, range_with_len}
 use Rattle.std.specs.Option.{is_none, is_some, IsSome}
+use Rattle.std.proofs.lemmas.List.Elements.{filter-append}
 use Rattle.std.proofs.lemmas.List.FromFn.{filter_of_map_range_with_len_more}
-use Rattle.std.proofs.lemmas.Bool.{or_cases, or_left, or_right, and_parts, and_from, and_left, and_right, false≢true, cases_Bool, ltb-true, lt-ltb, le-ltb, eqb-true, eq-eqb, ne_eqb, eqb-false, leb-true, false_from_ne_true}
+use Rattle.std.proofs.lemmas.Bool.{or_cases, or_left, or_right, and_parts, and_from, and_left, and_right, false≢true, cases_Bool, ltb-true, lt-ltb, le-ltb, eqb-true, eq-eqb, ne_eqb, eqb-false, leb-true, ltb-false, not-false, false_from_ne_true}
 use Rattle.elevator_model.specs.declared.Rule.{Rule}
 use Rattle.elevator_model.specs.declared.Stop.{Stop}
 use Rattle.elevator_model.specs.declared.Move.{Move}
 use Rattle.elevator_model.specs.declared.Move.TheVariants.{Board, Leave, End}
 use Rattle.elevator_model.specs.Counting.{any_below, is_among, has}
-use Rattle.elevator_model.specs.Snapshot.{Snapshot, call_count}
-use Rattle.elevator_model.specs.Tours.{Progress, breaks, broken_at_end, none_taken, make_stop, boards_at}
+use Rattle.elevator_model.specs.Snapshot.{Snapshot, call_count, call_of, group_of, spec_of, serves}
+use Rattle.elevator_model.specs.Building.{floor_count}
+use Rattle.elevator_model.specs.Tours.{Progress, breaks, broken_at_end, none_taken, make_stop, stop_at, boards_at, stays_on, persons_where, persons_of, rider_count}
 use Rattle.elevator_model.specs.Partial.{Course, course_start, course_if, may_stand, may_be_left, may_end, go_on, board_on, end_on, move_on, move_on_from, moves_on, course_of}
 use Rattle.tour_rules.specs.declared.points.Point.{Point}
 use Rattle.tour_rules.specs.declared.points.Begun.{Begun}
-use Rattle.tour_rules.specs.Places.{Tracks, HasBoards}
-use Rattle.tour_rules.specs.Courses.{IsBegun, StopTracked, TracksCourse, is_after, board_test, empty_stop, may_leave, progress_after}
-use Rattle.tour_rules.proofs.Next.{may_stand-more}
+use Rattle.tour_rules.specs.Places.{Tracks, IsBoardSet, HasBoards}
+use Rattle.tour_rules.specs.Courses.{IsBegun, StopTracked, TracksCourse, is_after, board_test, empty_stop, may_leave, progress_after, with_call_on}
+use Rattle.tour_rules.proofs.Next.{may_stand-more, stands_empty, persons_more}
+use Rattle.tour_rules.proofs.Measure.{among_last, among_other, not_among_below}
+use Rattle.tour_rules.proofs.Riders.{at_call, boards_set, zero_has}
+use Rattle.tour_rules.proofs.Tests.{sum_below-same, sum_below-zero}
 use Rattle.tour_rules.proofs.Reached.{moves_on-append, left_after}
 use Rattle.tour_rules.proofs.Sound.{course_if-some, cond-some, moves_on-none}
 
@@ -134,3 +139,68 @@ has_is_some o x e = ap is_some e
 pub filter_push : (t : Move → Bool) (f : ℕ → Move) (front now after : List Move) (k : ℕ) (b : Bool) → now ≡ front ++ filter t (map f (range_with_len 0 k)) → b ≡ t (f k) → after ≡ now ++ cond b (f k ∷ []) [] → after ≡ front ++ filter t (map f (range_with_len 0 (k + 1)))
 filter_push t f front now after k b before test push =
     push ∙ ap (λ (xs : List Move). xs ++ cond b (f k ∷ []) []) before ∙ ap (λ (x : Bool). (front ++ filter t (map f (range_with_len 0 k))) ++ cond x (f k ∷ []) []) test ∙ append_assoc front (filter t (map f (range_with_len 0 k))) (cond (t (f k)) (f k ∷ []) []) ∙ ap (λ (xs : List Move). front ++ xs) (sym (filter_of_map_range_with_len_more t f 0 k k (omega arith)))
+
+-- the moves that may follow, one kind after another
+pub filter_all : (t : Move → Bool) (boards leaves : List Move) (last : Bool) (one two three : List Move) → last ≡ t End → one ≡ [] ++ filter t boards → two ≡ one ++ filter t leaves → three ≡ two ++ cond last (End ∷ []) [] → three ≡ filter t ((boards ++ leaves) ++ End ∷ [])
+filter_all t boards leaves last one two three e a b d =
+    d ∙ ap (λ (xs : List Move). xs ++ cond last (End ∷ []) []) (b ∙ ap (λ (xs : List Move). xs ++ filter t leaves) a) ∙ ap (λ (x : Bool). (filter t boards ++ filter t leaves) ++ cond x (End ∷ []) []) e ∙ sym (filter-append t (boards ++ leaves) (End ∷ []) ∙ ap (λ (xs : List Move). xs ++ filter t (End ∷ [])) (filter-append t boards leaves))
+
+-- ---- the stop begun
+
+and_true : (b : Bool) → (b && true) ≡ b
+and_true true = refl
+and_true false = refl
+
+last_more : (bs : List ℕ) (j k : ℕ) → list_all (λ i. ltb i j) bs ≡ true → list_all (λ i. ltb i k) (bs ++ j ∷ []) ≡ ltb j k
+last_more [] j k rises = and_true (ltb j k)
+last_more (b ∷ bs) j k rises =
+    let parts = and_parts (ltb b j) (list_all (λ i. ltb i j) bs) rises in
+    ap (λ (x : Bool). ltb b k && x) (last_more bs j k parts.1) ∙ elim (cases_Bool (ltb j k)) [ inl e ↦ (let lt = ltb-true b j parts.0 in let more = ltb-true j k e in ap (λ (x : Bool). x && ltb j k) (lt-ltb b k (omega arith))) | inr e ↦ and_right (ltb b k) (ltb j k) e ∙ sym e ]
+
+set_more : (n set new j : ℕ) (bs : List ℕ) → ((k : ℕ) → k < n → has set k ≡ is_among k bs) → has new j ≡ true → ((k : ℕ) → (k ≡ j → ⊥) → has new k ≡ has set k) → (k : ℕ) → k < n → has new k ≡ is_among k (bs ++ j ∷ [])
+set_more n set new j bs old here others k lt =
+    elim (cases_Bool (eqb k j)) [ inl e ↦ (let same = eqb-true k j e in ap (has new) same ∙ here ∙ sym (ap (λ (i : ℕ). is_among i (bs ++ j ∷ [])) same ∙ among_last bs j)) | inr e ↦ (let ne = eqb-false k j e in others k ne ∙ old k lt ∙ sym (among_other bs j k ne)) ]
+
+pub begun_more : (s : Snapshot) (c : ℕ) (q : Progress) (begun : Begun) (stop : Stop) (j : ℕ) (new : Begun) → IsBegun s c q begun stop → j < call_count s → list_all (λ i. ltb i j) stop.boards ≡ true → may_stand s c q (with_call_on stop j) ≡ true → new.floor ≡ begun.floor → has new.boards j ≡ true → ((k : ℕ) → (k ≡ j → ⊥) → has new.boards k ≡ has begun.boards k) → new.last ≡ Some j → new.load ≡ begun.load + (call_of s j).persons → ((test : ℕ → Bool) → IsBoardSet s new.boards test → Tracks s c new.after (stop_at s c q begun.floor test)) → IsBegun s c q new (with_call_on stop j)
+begun_more s c q begun stop j new b lt rises stands f here others l load after =
+    let boards = set_more (call_count s) begun.boards new.boards j stop.boards b.boards here others in
+    let more = persons_more s stop.floor stop.boards j lt (not_among_below stop.boards j rises) in
+    let persons = at_call j (call_count s) (call_of s j).persons (group_of s (j - call_count s)).persons lt in
+    let old = b.load in
+    record {
+      floor = f ∙ b.floor;
+      in_building = b.in_building;
+      boards = boards;
+      last = λ k. last_more stop.boards j k rises ∙ sym (ap (λ (o : Option ℕ). is_after o k) l);
+      after = subst (λ (g : ℕ). Tracks s c new.after (stop_at s c q g (boards_at s (with_call_on stop j)))) b.floor (after (boards_at s (with_call_on stop j)) (boards_set s new.boards (with_call_on stop j) boards));
+      stands = stands;
+      load = omega (arith, load, old, more, persons);
+    }
+
+no_boards_at : (s : Snapshot) (g : ℕ) → persons_where s (boards_at s (empty_stop g)) ≡ 0
+no_boards_at s g = sum_below-same (rider_count s) _ (λ r. 0) (λ r lt. ap (λ (b : Bool). cond b (persons_of s r) 0) (and_right (ltb r (call_count s)) false refl)) ∙ sum_below-zero (rider_count s)
+
+-- a stop without boards that stands is at a floor of the building
+pub stands_in : (s : Snapshot) (c : ℕ) (q : Progress) (g : ℕ) → may_stand s c q (empty_stop g) ≡ true → g < floor_count s.building
+stands_in s c q g ok = ltb-true g (floor_count s.building) (and_parts (ltb g (floor_count s.building)) _ (not-false (serves s.building c g) (stands_empty s c q g ok).served)).0
+
+pub begun_first : (s : Snapshot) (c : ℕ) (q : Progress) (g : ℕ) (new : Begun) → may_stand s c q (empty_stop g) ≡ true → new.floor ≡ g → new.boards ≡ 0 → new.last ≡ None → new.load ≡ persons_where s (stays_on s q g) → ((test : ℕ → Bool) → IsBoardSet s 0 test → Tracks s c new.after (stop_at s c q g test)) → IsBegun s c q new (empty_stop g)
+begun_first s c q g new stands f b l load after =
+    let boards = λ (j : ℕ) (lt : j < call_count s). ap (λ (x : ℕ). has x j) b ∙ zero_has j in
+    let none = no_boards_at s g in
+    record {
+      floor = f;
+      in_building = stands_in s c q g stands;
+      boards = boards;
+      last = λ k. sym (ap (λ (o : Option ℕ). is_after o k) l);
+      after = after (boards_at s (empty_stop g)) (boards_set s 0 (empty_stop g) (λ j lt. zero_has j));
+      stands = stands;
+      load = omega (arith, load, none);
+    }
+
+-- who stays on fits into the car
+pub stands_fit : (s : Snapshot) (c : ℕ) (q : Progress) (g : ℕ) → may_stand s c q (empty_stop g) ≡ true → persons_where s (stays_on s q g) ≤ (spec_of s c).capacity
+stands_fit s c q g ok =
+    let fits = ltb-false (spec_of s c).capacity _ (stands_empty s c q g ok).fits in
+    let none = no_boards_at s g in
+    omega (arith, fits, none)

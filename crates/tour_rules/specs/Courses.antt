@@ -1,5 +1,5 @@
 -- Where a partial tour is, as the code keeps it, against the definition.
-use Rattle.std.specs.Prelude.{◌≡◌, ℕ, ◌+◌, ◌<◌, ◌≤◌, ◌==◌, ◌&&◌, not, Bool, true, false, nat_lt, nat_le, List, [], Option, Some, None, is_some}
+use Rattle.std.specs.Prelude.{◌≡◌, ℕ, ◌+◌, ◌<◌, ◌≤◌, ◌==◌, ◌&&◌, not, Bool, true, false, nat_lt, nat_le, List, [], ◌∷◌, ◌++◌, Option, Some, None, is_some}
 use Rattle.std.specs.List.{list_all}
 use Rattle.elevator_model.specs.declared.Stop.{Stop}
 use Rattle.elevator_model.specs.Building.{floor_count}
@@ -65,3 +65,7 @@ pub record IsDeparture (s : Snapshot) (c : ℕ) (departure : Departure) (x : Cou
 -- a move that boards allowed calls only and is lawful
 abbrev pub may_be_next : Snapshot → ℕ → Course → (allowed : ℕ → Bool) → Move → Bool
 may_be_next s c x allowed m = boards_allowed allowed m && is_some (move_on s c x m)
+
+-- the stop with one board more
+abbrev pub with_call_on : Stop → ℕ → Stop
+with_call_on stop j = record { floor = stop.floor; boards = stop.boards ++ j ∷ [] }

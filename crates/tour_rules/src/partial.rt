@@ -1,23 +1,23 @@
 //! Partial tours: the beginning of a tour as a list of moves, and the moves that may follow.
 
-ghost use Rattle.std.specs.Prelude.{◌≡◌, ◌<◌, ◌≤◌, ◌+◌, ◌&&◌, not, ℕ, None, Some, is_some, length, nat_lt, false, ◌++◌, ◌∷◌, [], if◌then◌else◌, filter, map, vec_len, vec_capacity};
+ghost use Rattle.std.specs.Prelude.{◌≡◌, ◌<◌, ◌≤◌, ◌+◌, ◌&&◌, not, ℕ, None, Some, is_some, length, nat_lt, true, false, ◌++◌, ◌∷◌, [], if◌then◌else◌, filter, map, vec_len, vec_capacity};
 ghost use Rattle.std.specs.List.{list_all, range_with_len};
 ghost use Rattle.elevator_model.specs.Counting.{has};
 ghost use Rattle.elevator_model.specs.Building.{floor_count};
 ghost use Rattle.elevator_model.specs.declared.Stop.{Stop};
-ghost use Rattle.elevator_model.specs.Snapshot.{Snapshot, car_count, call_count};
+ghost use Rattle.elevator_model.specs.Snapshot.{Snapshot, IsAccepted, car_count, call_count, call_of};
 ghost use Rattle.elevator_model.specs.Tours.{Progress};
-ghost use Rattle.elevator_model.specs.Partial.{Course, move_on, may_stand as may_stand_lem};
+ghost use Rattle.elevator_model.specs.Partial.{Course, lawful_moves, move_on, may_stand as may_stand_lem};
 ghost use Rattle.tour_rules.specs.Places.{Tracks};
-ghost use Rattle.tour_rules.specs.Courses.{IsBegun, TracksCourse, is_after as is_after_lem, empty_stop, may_leave as may_leave_lem, progress_after, board_test, IsDeparture, may_be_next};
+ghost use Rattle.tour_rules.specs.Courses.{IsBegun, TracksCourse, is_after as is_after_lem, empty_stop, may_leave as may_leave_lem, progress_after, board_test, IsDeparture, may_be_next, with_call_on};
 
 use crate::judging::broken_at_end;
-use crate::places::Place;
+use crate::places::{Heading, Place, after_stop, persons_carried};
 use crate::points::{Begun, Departure, Point};
 use crate::rules::{
     is_overfull, is_useless, may_take, overtakes, serves_floor, starts_wrong, stays_put, turns_away,
 };
-use crate::sets::{contains, is_member};
+use crate::sets::{contains, is_member, with_call};
 use call_state::Snapshot;
 use elevator_model::Move;
 
@@ -204,5 +204,55 @@ fn push_leaves(
         let next = Move::Leave(floor);
         let follows = may_follow(snapshot, car, point, departure, allowed, next);
         push_if(out, next, follows);
+    }
+}
+
+/// Puts the moves that may follow into the list, in order.
+pub(crate) fn fill(snapshot: &Snapshot, car: u32, point: &Point, allowed: u128, out: &mut Vec<Move>)
+    requires car { car < car_count snapshot.now }
+    requires room { 193 ≤ vec_capacity out.old }
+    ensures items { (x : Course) → TracksCourse snapshot.now car point.now x → out.new.items ≡ lawful_moves snapshot.now car x (has allowed) }
+    ensures capacity { vec_capacity out.new ≡ vec_capacity out.old }
+{
+    let departure = departure(snapshot, car, point);
+    out.clear();
+    push_boards(snapshot, car, point, &departure, allowed, out);
+    push_leaves(snapshot, car, point, &departure, allowed, out);
+    let ends = may_follow(snapshot, car, point, &departure, allowed, Move::End);
+    push_if(out, Move::End, ends);
+}
+
+/// The stop with one board more.
+fn with_board(snapshot: &Snapshot, before: &Place, begun: &Begun, call: u32) -> Begun
+    requires call { call < call_count snapshot.now }
+    requires few { begun.now.load + (call_of snapshot.now call).persons ≤ 64 }
+    requires floor { begun.now.floor < 64 }
+    ensures { (c : ℕ) (q : Progress) (stop : Stop) → Tracks snapshot.now c before.now q → IsBegun snapshot.now c q begun.now stop → list_all (λ i. nat_lt i call) stop.boards ≡ true → may_stand_lem snapshot.now c q (with_call_on stop call) ≡ true → IsBegun snapshot.now c q result (with_call_on stop call) }
+{
+    let calls = snapshot.calls();
+    let boards = with_call(begun.boards, call);
+    Begun {
+        floor: begun.floor,
+        boards,
+        last: Some(call),
+        load: begun.load + calls[call as usize].persons,
+        after: after_stop(snapshot, before, begun.floor, boards),
+    }
+}
+
+/// A stop where nobody boarded yet.
+fn begin_stop(snapshot: &Snapshot, car: u32, before: &Place, floor: u32) -> Begun
+    requires car { car < car_count snapshot.now }
+    requires accepted { IsAccepted snapshot.now }
+    requires floor { floor < 64 }
+    requires few { (p : Progress) × Tracks snapshot.now car before.now p × (may_stand_lem snapshot.now car p (empty_stop floor) ≡ true) }
+    ensures { (q : Progress) → Tracks snapshot.now car before.now q → may_stand_lem snapshot.now car q (empty_stop floor) ≡ true → IsBegun snapshot.now car q result (empty_stop floor) }
+{
+    Begun {
+        floor,
+        boards: 0,
+        last: None,
+        load: persons_carried(snapshot, car, before, Heading::Elsewhere(floor)),
+        after: after_stop(snapshot, before, floor, 0),
     }
 }
