@@ -12,16 +12,17 @@ use Rattle.elevator_model.specs.declared.Move.TheVariants.{Board, Leave, End}
 use Rattle.elevator_model.specs.Counting.{any_below, is_among, has}
 use Rattle.elevator_model.specs.Snapshot.{Snapshot, call_count, call_of, group_of, spec_of, serves}
 use Rattle.elevator_model.specs.Building.{floor_count}
-use Rattle.elevator_model.specs.Tours.{Progress, breaks, broken_at_end, none_taken, make_stop, stop_at, boards_at, stays_on, persons_where, persons_of, rider_count}
+use Rattle.elevator_model.specs.Tours.{Progress, breaks, rules_but_useless, broken_at_end, none_taken, make_stop, stop_at, boards_at, stays_on, persons_where, persons_of, rider_count}
 use Rattle.elevator_model.specs.Partial.{Course, course_start, course_if, may_stand, may_be_left, may_end, go_on, board_on, end_on, move_on, move_on_from, moves_on, course_of}
 use Rattle.tour_rules.specs.declared.points.Point.{Point}
+use Rattle.tour_rules.specs.declared.places.Place.{Place}
 use Rattle.tour_rules.specs.declared.points.Begun.{Begun}
 use Rattle.tour_rules.specs.Places.{Tracks, IsBoardSet, HasBoards}
 use Rattle.tour_rules.specs.Courses.{IsBegun, StopTracked, TracksCourse, is_after, board_test, empty_stop, may_leave, progress_after, with_call_on}
 use Rattle.tour_rules.proofs.Next.{may_stand-more, stands_empty, persons_more}
-use Rattle.tour_rules.proofs.Measure.{among_last, among_other, not_among_below}
+use Rattle.tour_rules.proofs.Measure.{among_last, among_other, not_among_below, may_board}
 use Rattle.tour_rules.proofs.Riders.{at_call, boards_set, zero_has}
-use Rattle.tour_rules.proofs.Tests.{sum_below-same, sum_below-zero}
+use Rattle.tour_rules.proofs.Tests.{AllClear-from, none-from, sum_below-same, sum_below-zero}
 use Rattle.tour_rules.proofs.Reached.{moves_on-append, left_after}
 use Rattle.tour_rules.proofs.Sound.{course_if-some, cond-some, moves_on-none}
 
@@ -204,3 +205,56 @@ stands_fit s c q g ok =
     let fits = ltb-false (spec_of s c).capacity _ (stands_empty s c q g ok).fits in
     let none = no_boards_at s g in
     omega (arith, fits, none)
+
+-- a call that may board fits into the car
+pub board_fits : (s : Snapshot) (c : ℕ) (q : Progress) (begun : Begun) (stop : Stop) (j : ℕ) → IsBegun s c q begun stop → list_all (λ i. ltb i j) stop.boards ≡ true → may_stand s c q (with_call_on stop j) ≡ true → (j < call_count s) × (begun.load + (call_of s j).persons ≤ (spec_of s c).capacity)
+board_fits s c q begun stop j b rises stands =
+    let may = may_board s c q stop.floor stop.boards j rises stands in
+    let h = AllClear-from (breaks s c none_taken q (with_call_on stop j)) rules_but_useless (none-from _ stands) in
+    let room = ltb-false (spec_of s c).capacity _ h.1.1.1.0 in
+    let more = persons_more s stop.floor stop.boards j may.call may.above in
+    let persons = at_call j (call_count s) (call_of s j).persons (group_of s (j - call_count s)).persons may.call in
+    let load = b.load in
+    (may.call, omega (arith, room, more, persons, load))
+
+-- the board of a lawful move, at the stop begun
+pub record BoardsHere (s : Snapshot) (c : ℕ) (x : Course) (begun : Begun) (j : ℕ) (y : Course) : Type 0 where
+  pub stop : Stop
+  pub here : IsBegun s c x.before begun stop
+  pub rises : list_all (λ i. ltb i j) stop.boards ≡ true
+  pub stands : may_stand s c x.before (with_call_on stop j) ≡ true
+  pub leads : y ≡ record { left = x.left; before = x.before; present = Some (with_call_on stop j); ended = false }
+
+pub boards_here_at : (s : Snapshot) (c : ℕ) (point : Point) (x : Course) (begun : Begun) (j : ℕ) (y : Course) → TracksCourse s c point x → point.stop ≡ Some begun → move_on s c x (Board j) ≡ Some y → BoardsHere s c x begun j y
+boards_here_at s c point x begun j y t e h =
+    let present = present_of s c x.before point.stop x.present begun t.stop e in
+    let boarded = board_leads_to s c x j y h in
+    let same : boarded.stop ≡ present.0 = some_same (sym boarded.present ∙ present.1) in
+    record {
+      stop = present.0;
+      here = present.2;
+      rises = subst (λ (p : Stop). list_all (λ i. ltb i j) p.boards ≡ true) same boarded.rises;
+      stands = subst (λ (p : Stop). may_stand s c x.before (with_call_on p j) ≡ true) same boarded.stands;
+      leads = subst (λ (p : Stop). y ≡ record { left = x.left; before = x.before; present = Some (with_call_on p j); ended = false }) same boarded.leads;
+    }
+  where
+    some_same : {a b : Stop} → Some a ≡ Some b → a ≡ b
+    some_same e = cc
+
+pub no_board_here : (s : Snapshot) (c : ℕ) (point : Point) (x : Course) (j : ℕ) (y : Course) → TracksCourse s c point x → point.stop ≡ None → move_on s c x (Board j) ≡ Some y → ⊥
+no_board_here s c point x j y t e h =
+    let boarded = board_leads_to s c x j y h in
+    let none = none_of s c x.before point.stop x.present t.stop e in
+    some_none (sym boarded.present ∙ none)
+  where
+    some_none : {a : Stop} → Some a ≡ None → ⊥
+    some_none e = cc
+
+pub tracks_board : (s : Snapshot) (c : ℕ) (before : Place) (begun : Begun) (x : Course) (stop : Stop) (y : Course) → Tracks s c before x.before → IsBegun s c x.before begun stop → y ≡ record { left = x.left; before = x.before; present = Some stop; ended = false } → TracksCourse s c (record { before = before; stop = Some begun; ended = false }) y
+tracks_board s c before begun x stop y t b e = subst (TracksCourse s c (record { before = before; stop = Some begun; ended = false })) (sym e) (record { before = t; ended = refl; stop = b })
+
+pub tracks_end : (s : Snapshot) (c : ℕ) (before : Place) (left : List Stop) (p : Progress) (y : Course) → Tracks s c before p → y ≡ record { left = left; before = p; present = None; ended = true } → TracksCourse s c (record { before = before; stop = None; ended = true }) y
+tracks_end s c before left p y t e = subst (TracksCourse s c (record { before = before; stop = None; ended = true })) (sym e) (record { before = t; ended = refl; stop = tt })
+
+pub tracks_leave : (s : Snapshot) (c : ℕ) (before : Place) (begun : Begun) (left : List Stop) (p : Progress) (g : ℕ) (y : Course) → Tracks s c before p → IsBegun s c p begun (empty_stop g) → y ≡ record { left = left; before = p; present = Some (empty_stop g); ended = false } → TracksCourse s c (record { before = before; stop = Some begun; ended = false }) y
+tracks_leave s c before begun left p g y t b e = subst (TracksCourse s c (record { before = before; stop = Some begun; ended = false })) (sym e) (record { before = t; ended = refl; stop = b })

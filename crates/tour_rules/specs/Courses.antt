@@ -69,3 +69,7 @@ may_be_next s c x allowed m = boards_allowed allowed m && is_some (move_on s c x
 -- the stop with one board more
 abbrev pub with_call_on : Stop → ℕ → Stop
 with_call_on stop j = record { floor = stop.floor; boards = stop.boards ++ j ∷ [] }
+
+-- the move is lawful where the point stands
+abbrev pub LeadsOn : Snapshot → ℕ → Point → Move → Type 0
+LeadsOn s c point m = (x : Course) × (y : Course) × TracksCourse s c point x × (move_on s c x m ≡ Some y)

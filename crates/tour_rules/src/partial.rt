@@ -7,12 +7,12 @@ ghost use Rattle.elevator_model.specs.Building.{floor_count};
 ghost use Rattle.elevator_model.specs.declared.Stop.{Stop};
 ghost use Rattle.elevator_model.specs.Snapshot.{Snapshot, IsAccepted, car_count, call_count, call_of};
 ghost use Rattle.elevator_model.specs.Tours.{Progress};
-ghost use Rattle.elevator_model.specs.Partial.{Course, lawful_moves, move_on, may_stand as may_stand_lem};
+ghost use Rattle.elevator_model.specs.Partial.{Course, course_start, lawful_moves, move_on, may_stand as may_stand_lem};
 ghost use Rattle.tour_rules.specs.Places.{Tracks};
-ghost use Rattle.tour_rules.specs.Courses.{IsBegun, TracksCourse, is_after as is_after_lem, empty_stop, may_leave as may_leave_lem, progress_after, board_test, IsDeparture, may_be_next, with_call_on};
+ghost use Rattle.tour_rules.specs.Courses.{IsBegun, TracksCourse, is_after as is_after_lem, empty_stop, may_leave as may_leave_lem, progress_after, board_test, IsDeparture, may_be_next, with_call_on, LeadsOn};
 
 use crate::judging::broken_at_end;
-use crate::places::{Heading, Place, after_stop, persons_carried};
+use crate::places::{Heading, Place, after_stop, at_start, persons_carried};
 use crate::points::{Begun, Departure, Point};
 use crate::rules::{
     is_overfull, is_useless, may_take, overtakes, serves_floor, starts_wrong, stays_put, turns_away,
@@ -254,5 +254,67 @@ fn begin_stop(snapshot: &Snapshot, car: u32, before: &Place, floor: u32) -> Begu
         last: None,
         load: persons_carried(snapshot, car, before, Heading::Elsewhere(floor)),
         after: after_stop(snapshot, before, floor, 0),
+    }
+}
+
+/// Where the board leads.
+fn advance_board(snapshot: &Snapshot, car: u32, point: &Point, call: u32) -> Point
+    requires car { car < car_count snapshot.now }
+    requires accepted { IsAccepted snapshot.now }
+    requires lawful { LeadsOn snapshot.now car point.now (Move.Board call) }
+    ensures { (x y : Course) → TracksCourse snapshot.now car point.now x → move_on snapshot.now car x (Move.Board call) ≡ Some y → TracksCourse snapshot.now car result y }
+{
+    match point.stop {
+        Some(begun) => Point {
+            before: point.before,
+            stop: Some(with_board(snapshot, &point.before, &begun, call)),
+            ended: false,
+        },
+        None => unreachable!(),
+    }
+}
+
+/// Where the leave leads.
+fn advance_leave(snapshot: &Snapshot, car: u32, point: &Point, floor: u32) -> Point
+    requires car { car < car_count snapshot.now }
+    requires accepted { IsAccepted snapshot.now }
+    requires lawful { LeadsOn snapshot.now car point.now (Move.Leave floor) }
+    ensures { (x y : Course) → TracksCourse snapshot.now car point.now x → move_on snapshot.now car x (Move.Leave floor) ≡ Some y → TracksCourse snapshot.now car result y }
+{
+    let before = place_after(point);
+    Point {
+        before,
+        stop: Some(begin_stop(snapshot, car, &before, floor)),
+        ended: false,
+    }
+}
+
+/// Where a lawful move leads.
+pub(crate) fn advance(snapshot: &Snapshot, car: u32, point: &Point, next: Move) -> Point
+    requires car { car < car_count snapshot.now }
+    requires accepted { IsAccepted snapshot.now }
+    requires lawful { LeadsOn snapshot.now car point.now next }
+    ensures { (x y : Course) → TracksCourse snapshot.now car point.now x → move_on snapshot.now car x next ≡ Some y → TracksCourse snapshot.now car result y }
+{
+    match next {
+        Move::Board(call) => advance_board(snapshot, car, point, call),
+        Move::Leave(floor) => advance_leave(snapshot, car, point, floor),
+        Move::End => Point {
+            before: place_after(point),
+            stop: None,
+            ended: true,
+        },
+    }
+}
+
+/// A partial tour without moves.
+pub(crate) fn start(snapshot: &Snapshot, car: u32) -> Point
+    requires { car < car_count snapshot.now }
+    ensures { TracksCourse snapshot.now car result (course_start snapshot.now car) }
+{
+    Point {
+        before: at_start(snapshot, car),
+        stop: None,
+        ended: false,
     }
 }
