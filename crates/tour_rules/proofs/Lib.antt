@@ -10,3 +10,4 @@ pub mod RuleLemmas
 pub mod Stops
 pub mod Next
 pub mod Follow
+pub mod Prefixes
