@@ -1,3 +1,4 @@
 pub mod BuildingParts
 pub mod SnapshotParts
 pub mod Possible
+pub mod Squares
