@@ -2,3 +2,4 @@ pub mod BuildingParts
 pub mod SnapshotParts
 pub mod Possible
 pub mod Squares
+pub mod SmallBuildings

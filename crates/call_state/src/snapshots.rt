@@ -6,7 +6,7 @@ ghost use Rattle.elevator_model.specs.Building.{IsBuilding};
 ghost use Rattle.elevator_model.specs.Snapshot.{IsAccepted, car_count, call_count, call_of, state_of, serves, can_take, is_pinned_elsewhere, is_possible};
 ghost use Rattle.call_state.specs.Possible.{HasPossible};
 
-use crate::buildings::Building;
+use crate::buildings::{Building, has_floor};
 use elevator_model::{Aboard, Call, CarState};
 use std::marker::Model;
 
@@ -116,7 +116,7 @@ fn serves_floor(building: &Building, car: usize, floor: u32) -> bool
     requires { car < length building.now.cars }
     ensures { result ≡ serves building.now car floor }
 {
-    (floor as usize) < building.heights().len() && building.cars()[car].serves >> floor & 1 == 1
+    (floor as usize) < building.heights().len() && has_floor(building.cars()[car].serves, floor)
 }
 
 /// Whether the car's size and floors allow the call.
