@@ -1,17 +1,14 @@
 //! The jobs of one call, done by several workers.
-ghost use Rattle.std.specs.Prelude.{◌≡◌, ℕ, ◌+◌, ◌-◌, ◌<◌, ◌≤◌, ◌^◌, [], ◌∷◌, ◌++◌, length, vec_len, All, Any, IfOk, slice_get, IsSomeAnd};
+ghost use Rattle.std.specs.Prelude.{◌≡◌, ℕ, ◌+◌, ◌-◌, ◌<◌, ◌≤◌, ◌^◌, [], ◌∷◌, ◌++◌, length, vec_len, All, Any, IfOk, OnOk, slice_get, IsSomeAnd};
 ghost use denote.Param.Send.{IsSync, IsSend};
 ghost use Rattle.work_fan.specs.Line.{times};
 ghost use Rattle.work_fan.specs.Work.{Works};
 
 use crate::line::{JobLine, JobSeat};
+use lift_text::Gate;
 use std::alloc::{AllocError, Global};
 use std::marker::{Send, Sync};
 use std::thread::{Threads, join_mut};
-
-pub trait Gate {
-    fn enter(&self, job: u32);
-}
 
 /// Jobs, numbered from 0, that can be done in any order, each at any desk that serves them.
 ///
@@ -48,27 +45,119 @@ struct Done<A> {
     answer: A,
 }
 
+// What a worker, or some workers together, drew and have done.
+#[derive(Drop)]
+struct Worker<A> {
+    seat: JobSeat,
+    done: Vec<Done<A>>,
+}
+
 // Draws jobs from the line, and does them one after another, until none is left.
 fn work_through<D, A: Drop, J: Jobs<Desk = D, Answer = A>, G: Gate>(
+    line: &JobLine,
+    jobs: &J,
+    gate: &G,
+    worker: &mut Worker<A>,
+    desk: &mut D,
+) -> Result<(), AllocError>
+    requires line { (worker.old.seat.line ≡ line.now.name) × (line.now.count ≡ J.number jobs.now) }
+    requires new { (worker.old.seat.drawn ≡ []) × (worker.old.done.items ≡ []) × (0 < worker.old.seat.allowance) }
+    requires desk { J.serves jobs.now desk.old }
+    ensures seat { (worker.new.seat.line ≡ worker.old.seat.line) × (worker.new.seat.allowance ≡ worker.old.seat.allowance) }
+    ensures desk { J.serves jobs.now desk.new }
+    ensures done { OnOk result (Works (J.is_right jobs.now) line.now.count worker.new.seat.drawn worker.new.done.items) }
+{
+    while let Some(job) = line.draw(&mut worker.seat) {
+        gate.enter(job);
+        let answer = jobs.work(job, desk)?;
+        worker.done.push(Done { job, answer })?;
+    }
+    Ok(())
+}
+
+// The worker of each desk draws from the line, in a thread of its own where one can be made. The desks are halved
+// at each step, and one half goes to a new thread.
+#[cycle(desks)]
+fn work_at<
+    R: Threads + Sync,
+    D: Send,
+    A: Send + Drop,
+    J: Jobs<Desk = D, Answer = A> + Sync,
+    G: Gate + Sync,
+>(
+    rt: &R,
     alloc: Global,
     line: &JobLine,
     jobs: &J,
     gate: &G,
-    seat: &mut JobSeat,
-    desk: &mut D,
-) -> Result<Vec<Done<A>>, AllocError>
-    requires line { (seat.old.line ≡ line.now.name) × (line.now.count ≡ J.number jobs.now) }
-    requires seat { (seat.old.drawn ≡ []) × (0 < seat.old.allowance) }
-    requires desk { J.serves jobs.now desk.old }
-    ensures seat { (seat.new.line ≡ seat.old.line) × (seat.new.allowance ≡ seat.old.allowance) }
-    ensures desk { J.serves jobs.now desk.new }
-    ensures done { IfOk result (λ done. Works (J.is_right jobs.now) line.now.count seat.new.drawn done.items) }
+    worker: &mut Worker<A>,
+    desks: &mut [D],
+) -> Result<(), AllocError>
+    requires line { (worker.old.seat.line ≡ line.now.name) × (line.now.count ≡ J.number jobs.now) }
+    requires new { (worker.old.seat.drawn ≡ []) × (worker.old.done.items ≡ []) × (worker.old.seat.allowance ≡ length desks.old) }
+    requires desks { (0 < length desks.old) × (length desks.old ≤ 16) × All (J.serves jobs.now) desks.old }
+    ensures seat { (worker.new.seat.line ≡ worker.old.seat.line) × (worker.new.seat.allowance ≡ worker.old.seat.allowance) }
+    ensures desks { All (J.serves jobs.now) desks.new }
+    ensures done { OnOk result (Works (J.is_right jobs.now) line.now.count worker.new.seat.drawn worker.new.done.items) }
 {
-    let mut done = Vec::new(alloc);
-    while let Some(job) = line.draw(seat) {
-        gate.enter(job);
-        let answer = jobs.work(job, desk)?;
-        done.push(Done { job, answer })?;
+    if desks.len() == 1 {
+        return work_through(line, jobs, gate, worker, &mut desks[0]);
     }
-    Ok(done)
+    let part = desks.len() / 2;
+    let (near, far) = desks.split_at_mut(part);
+    let mut other = Worker {
+        seat: line.split(&mut worker.seat, far.len() as u32),
+        done: Vec::new(alloc),
+    };
+    let (mine, theirs) = both_halves(rt, alloc, line, jobs, gate, worker, near, &mut other, far);
+    let Worker { seat, mut done } = other;
+    line.join(&mut worker.seat, seat);
+    mine?;
+    theirs?;
+    worker.done.append(&mut done)?;
+    Ok(())
+}
+
+// A separate function from `work_at`, so that what the closures require is what this function is given.
+#[cycle(desks)]
+fn both_halves<
+    R: Threads + Sync,
+    D: Send,
+    A: Send + Drop,
+    J: Jobs<Desk = D, Answer = A> + Sync,
+    G: Gate + Sync,
+>(
+    rt: &R,
+    alloc: Global,
+    line: &JobLine,
+    jobs: &J,
+    gate: &G,
+    worker: &mut Worker<A>,
+    near: &mut [D],
+    other: &mut Worker<A>,
+    far: &mut [D],
+) -> (Result<(), AllocError>, Result<(), AllocError>)
+    requires line { (worker.old.seat.line ≡ line.now.name) × (other.old.seat.line ≡ line.now.name) × (line.now.count ≡ J.number jobs.now) }
+    requires near { (worker.old.seat.drawn ≡ []) × (worker.old.done.items ≡ []) × (worker.old.seat.allowance ≡ length near.old) × (0 < length near.old) × (length near.old ≤ 16) × All (J.serves jobs.now) near.old }
+    requires far { (other.old.seat.drawn ≡ []) × (other.old.done.items ≡ []) × (other.old.seat.allowance ≡ length far.old) × (0 < length far.old) × (length far.old ≤ 16) × All (J.serves jobs.now) far.old }
+    ensures seat { (worker.new.seat.line ≡ worker.old.seat.line) × (worker.new.seat.allowance ≡ worker.old.seat.allowance) }
+    ensures other { (other.new.seat.line ≡ other.old.seat.line) × (other.new.seat.allowance ≡ other.old.seat.allowance) }
+    ensures near { All (J.serves jobs.now) near.new }
+    ensures far { All (J.serves jobs.now) far.new }
+    ensures mine { OnOk result.0 (Works (J.is_right jobs.now) line.now.count worker.new.seat.drawn worker.new.done.items) }
+    ensures theirs { OnOk result.1 (Works (J.is_right jobs.now) line.now.count other.new.seat.drawn other.new.done.items) }
+{
+    let mut mine = || -> Result<(), AllocError>
+        requires { IsSync R.row × IsSync J.row × IsSync G.row × IsSend D.row × IsSend A.row × (worker.now.seat.line ≡ line.now.name) × (line.now.count ≡ J.number jobs.now) × (worker.now.seat.drawn ≡ []) × (worker.now.done.items ≡ []) × (worker.now.seat.allowance ≡ length near.now) × (0 < length near.now) × (length near.now ≤ 16) × All (J.serves jobs.now) near.now }
+        ensures seat { (worker.exit.now.seat.line ≡ worker.entry.now.seat.line) × (worker.exit.now.seat.allowance ≡ worker.entry.now.seat.allowance) }
+        ensures desks { All (J.serves jobs.entry.now) near.exit.now }
+        ensures done { OnOk result (Works (J.is_right jobs.entry.now) line.entry.now.count worker.exit.now.seat.drawn worker.exit.now.done.items) }
+    { work_at(rt, alloc, line, jobs, gate, worker, near) };
+    let mut theirs = || -> Result<(), AllocError>
+        requires { IsSync R.row × IsSync J.row × IsSync G.row × IsSend D.row × IsSend A.row × (other.now.seat.line ≡ line.now.name) × (line.now.count ≡ J.number jobs.now) × (other.now.seat.drawn ≡ []) × (other.now.done.items ≡ []) × (other.now.seat.allowance ≡ length far.now) × (0 < length far.now) × (length far.now ≤ 16) × All (J.serves jobs.now) far.now }
+        ensures seat { (other.exit.now.seat.line ≡ other.entry.now.seat.line) × (other.exit.now.seat.allowance ≡ other.entry.now.seat.allowance) }
+        ensures desks { All (J.serves jobs.entry.now) far.exit.now }
+        ensures done { OnOk result (Works (J.is_right jobs.entry.now) line.entry.now.count other.exit.now.seat.drawn other.exit.now.done.items) }
+    { work_at(rt, alloc, line, jobs, gate, other, far) };
+    join_mut(rt, &mut mine, &mut theirs)
 }

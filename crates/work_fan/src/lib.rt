@@ -4,5 +4,5 @@
 mod fan;
 mod line;
 
-pub use fan::{Gate, Jobs};
+pub use fan::Jobs;
 pub use line::{JobLine, JobSeat};
