@@ -7,7 +7,7 @@ use Rattle.std.proofs.lemmas.List.Elements.{All-nil, All-cons, All-head, All-tai
 use Rattle.std.proofs.lemmas.List.Sums.{sum_by-append, sum_by_push}
 use Rattle.std.proofs.lemmas.List.Quantifiers.{Any-push}
 use Rattle.std.proofs.lemmas.Bool.Decides.{nat_tests}
-use Rattle.work_fan.specs.declared.fan.Done.{Done}
+use Rattle.work_fan.specs.declared.workers.Done.{Done}
 use Rattle.work_fan.specs.Line.{times}
 use Rattle.work_fan.specs.Work.{jobs_of, Works}
 
@@ -35,7 +35,7 @@ any_append P xs ys any =
     (any.0, any.1, omega (arith, length-append xs ys, any.2), get_or-append xs ys any.1 any.0 any.2 ∙ any.3, any.4)
 
 module _ {A : Type 0} where
-  jobs_of-append : (xs ys : List (Done A)) → jobs_of (xs ++ ys) ≡ jobs_of xs ++ jobs_of ys
+  pub jobs_of-append : (xs ys : List (Done A)) → jobs_of (xs ++ ys) ≡ jobs_of xs ++ jobs_of ys
   jobs_of-append [] ys = refl
   jobs_of-append (x ∷ xs) ys = ap (λ (l : List ℕ). x.job ∷ l) (jobs_of-append xs ys)
 

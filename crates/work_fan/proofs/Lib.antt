@@ -1,3 +1,4 @@
 pub mod Done
+pub mod Places
 pub mod Shares
 pub mod Steps

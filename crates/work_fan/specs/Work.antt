@@ -1,7 +1,7 @@
 -- What workers have done.
 use Rattle.std.specs.Prelude.{◌≡◌, ℕ, ◌<◌, ◌≤◌, List, map}
 use Rattle.std.specs.List.{All, Any}
-use Rattle.work_fan.specs.declared.fan.Done.{Done}
+use Rattle.work_fan.specs.declared.workers.Done.{Done}
 use Rattle.work_fan.specs.Line.{times}
 
 module _ {A : Type 0} where

@@ -1,8 +1,8 @@
 //! Work that is drawn from one line of jobs, by workers in threads of their own.
 #![tactic(auto)]
 
-mod fan;
+mod workers;
 mod line;
 
-pub use fan::Jobs;
+pub use workers::{Jobs, fan};
 pub use line::{JobLine, JobSeat};

@@ -1,8 +1,8 @@
 use Rattle.std.proofs.Common.{◌≡◌, ℕ, ◌<◌, ap, ◌∙◌, arith}
 use Rattle.std.proofs.lemmas.List.Elements.{All-same, All-push}
-use Rattle.work_fan.specs.declared.fan.Done.{Done}
+use Rattle.work_fan.specs.declared.workers.Done.{Done}
 use Rattle.work_fan.proofs.Done.{next_after, next_after-le, next_after_push, jobs_of_push, works_end}
-use Rattle.work_fan.proofs.fan.work_through.Goals as goal
+use Rattle.work_fan.proofs.workers.work_through.Goals as goal
 
 pub loop-job-smaller : goal.loop-job-smaller
 loop-job-smaller g c =

@@ -1,8 +1,9 @@
 //! The jobs of one call, done by several workers.
-ghost use Rattle.std.specs.Prelude.{◌≡◌, ℕ, ◌+◌, ◌-◌, ◌<◌, ◌≤◌, ◌^◌, [], ◌∷◌, ◌++◌, length, vec_len, All, Any, IfOk, OnOk, slice_get, IsSomeAnd};
+ghost use Rattle.std.specs.Prelude.{◌≡◌, ℕ, ◌<◌, ◌≤◌, [], length, replicate, All, Contains, IfOk, OnOk, IsSome, slice_get, slice_index_or};
+ghost use Rattle.std.specs.List.{filter_map};
 ghost use denote.Param.Send.{IsSync, IsSend};
 ghost use Rattle.work_fan.specs.Line.{times};
-ghost use Rattle.work_fan.specs.Work.{Works};
+ghost use Rattle.work_fan.specs.Work.{jobs_of, Works};
 
 use crate::line::{JobLine, JobSeat};
 use lift_text::Gate;
@@ -160,4 +161,76 @@ fn both_halves<
         ensures done { OnOk result (Works (J.is_right jobs.entry.now) line.entry.now.count other.exit.now.seat.drawn other.exit.now.done.items) }
     { work_at(rt, alloc, line, jobs, gate, other, far) };
     join_mut(rt, &mut mine, &mut theirs)
+}
+
+// As many empty places as there are jobs.
+fn empty_places<A: Drop>(alloc: Global, count: usize) -> Result<Vec<Option<A>>, AllocError>
+    ensures { IfOk result (λ places. places.items ≡ replicate count None) }
+{
+    let mut places = Vec::new(alloc);
+    for _place in 0..count {
+        places.push(None)?;
+    }
+    Ok(places)
+}
+
+// Puts each answer into the place of its job.
+fn place_all<A: Drop>(places: &mut Vec<Option<A>>, mut done: Vec<Done<A>>)
+    requires { All (λ d. d.job < length places.old.items) done.items }
+    ensures count { length places.new.items ≡ length places.old.items }
+    ensures each { (k : ℕ) → 0 < times k (jobs_of done.items) → IsSome (slice_index_or places.new.items k None) }
+    ensures from { places.old.items ≡ replicate (length places.old.items) None → (k : ℕ) (a : A) → slice_index_or places.new.items k None ≡ Some a → Contains done.items (record { job = k; answer = a }) }
+{
+    while let Some(Done { job, answer }) = done.pop() {
+        places[job as usize] = Some(answer);
+    }
+}
+
+// The answers that there are, in order.
+fn taken_out<A: Drop>(alloc: Global, places: Vec<Option<A>>) -> Result<Vec<A>, AllocError>
+    ensures { IfOk result (λ answers. answers.items ≡ filter_map (λ place. place) places.items) }
+{
+    places.into_iter().filter_map(|place| place).collect(alloc)
+}
+
+// The answers in the order of their jobs, each of which was done.
+fn in_order<A: Drop>(alloc: Global, count: u32, done: Vec<Done<A>>) -> Result<Vec<A>, AllocError>
+    requires range { All (λ d. d.job < count) done.items }
+    requires each { (k : ℕ) → k < count → 0 < times k (jobs_of done.items) }
+    ensures count { IfOk result (λ answers. length answers.items ≡ count) }
+    ensures from { IfOk result (λ answers. (k : ℕ) (a : A) → slice_get answers.items k ≡ Some a → Contains done.items (record { job = k; answer = a })) }
+{
+    let mut places = empty_places(alloc, count as usize)?;
+    place_all(&mut places, done);
+    taken_out(alloc, places)
+}
+
+/// Does all jobs, with one worker for each desk, and gives their answers: in place `k` stands a right answer of job `k`.
+///
+/// The workers draw their jobs from one line, in threads of their own where they can be made. `gate` is told of each job
+/// before it begins. It needs 1 to 16 desks, each of which serves the jobs, and serves them afterwards too, also where
+/// memory ran out.
+pub fn fan<R: Threads + Sync, J: Jobs, G: Gate + Sync>(
+    rt: &R,
+    alloc: Global,
+    jobs: &J,
+    desks: &mut [J::Desk],
+    gate: &G,
+) -> Result<Vec<J::Answer>, AllocError>
+    requires desks { (1 ≤ length desks.old) × (length desks.old ≤ 16) }
+    requires serve { All (J.serves jobs.now) desks.old }
+    ensures count { IfOk result (λ answers. length answers.items ≡ J.number jobs.now) }
+    ensures right { IfOk result (λ answers. (k : ℕ) (a : J.Answer) → slice_get answers.items k ≡ Some a → J.is_right jobs.now k a) }
+    ensures serve { All (J.serves jobs.now) desks.new }
+{
+    let (line, seat) = JobLine::begin(alloc, jobs.count(), desks.len() as u32)?;
+    let mut all = Worker {
+        seat,
+        done: Vec::new(alloc),
+    };
+    let worked = work_at(rt, alloc, &line, jobs, gate, &mut all, desks);
+    let Worker { seat, done } = all;
+    line.close(seat);
+    worked?;
+    in_order(alloc, jobs.count(), done)
 }

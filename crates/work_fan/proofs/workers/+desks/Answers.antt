@@ -1,6 +1,6 @@
 use Rattle.std.proofs.Common.{rules, arith}
 use Rattle.work_fan.proofs.Done.{on_ok, works_both}
-use Rattle.work_fan.proofs.fan.+desks.Goals as goal
+use Rattle.work_fan.proofs.workers.+desks.Goals as goal
 
 pub work_at-returns-clause-done : goal.work_at-returns-clause-done
 work_at-returns-clause-done g t c =

@@ -1,5 +1,5 @@
 use Rattle.std.proofs.Common.{◌+◌, ◌-◌, ◌*◌, length}
-use Rattle.work_fan.proofs.fan.+desks.Given as goal
+use Rattle.work_fan.proofs.workers.+desks.Given as goal
 
 abbrev pub decreases-work_at : goal.decreases-work_at
 decreases-work_at g l = 4 * length l.desks.now
