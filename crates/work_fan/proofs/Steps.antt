@@ -112,8 +112,7 @@ module _ {S : Type 0} (limits : Limits) where
         let few = kept.small in
         let next : (word + 1) % 2 ^ 64 ≡ word + 1 = omega arith in
         let after = word_set s.words ((word + 1) % 2 ^ 64) kept.one_word ∙ next in
-        let one : length (set s.words 0 ((word + 1) % 2 ^ 64)) ≡ 1 = omega (arith, length-set {A = ℕ}, kept.one_word) in
-        (
+        let one : length (set s.words 0 ((word + 1) % 2 ^ 64)) ≡ 1 = omega (arith, length-set {A = ℕ}, kept.one_word) in (
           share (me.0.drawn ++ word ∷ []) me.0.allowance,
           keeps,
           tt,
@@ -166,8 +165,7 @@ module _ {S : Type 0} (limits : Limits) where
       let kept = last.1.0 in
       let at = last.1.1 in
       let word : slice_index s.words 0 ≡ result = ap (λ (l : List ℕ). slice_index l 0) last.2 ∙ word_read ws result read in
-      let all : sum_by (λ (u : Share). u.allowance) s.views ≡ v.allowance = kept.allowances ∙ sym whole in
-      (
+      let all : sum_by (λ (u : Share). u.allowance) s.views ≡ v.allowance = kept.allowances ∙ sym whole in (
         λ x. sym (sum_alone (λ (u : Share). times x u.drawn) (λ (u : Share). u.allowance) s.views id v (λ j u there no. ap (times x) ((kept.fitting j u there).1 no)) at all) ∙ kept.once x ∙ ap (times_below x) word,
         omega (arith, sum_alone (λ (u : Share). length u.drawn) (λ (u : Share). u.allowance) s.views id v (λ j u there no. ap length ((kept.fitting j u there).1 no)) at all, kept.draws, word),
       )

@@ -189,7 +189,9 @@ impl JobLine {
         ensures once { EachOnce seat.new.drawn }
     {
         let JobSeat { seat: other } = other;
-        self.table.shared.join_seat::<Merging>(&mut seat.seat, other);
+        self.table
+            .shared
+            .join_seat::<Merging>(&mut seat.seat, other);
         // The look tells that the joined list has no number twice.
         self.table.shared.load::<Looking>(&mut seat.seat, 0);
     }

@@ -3,7 +3,7 @@ ghost use Rattle.std.specs.Prelude.{◌≡◌, ℕ, ◌<◌, ◌≤◌, [], leng
 ghost use Rattle.std.specs.List.{filter_map};
 ghost use denote.Param.Send.{IsSync, IsSend};
 ghost use Rattle.work_fan.specs.Line.{times};
-ghost use Rattle.work_fan.specs.Work.{jobs_of, Works};
+ghost use Rattle.work_fan.specs.Work.{Finished, SameSeat, Serving, Starts, jobs_of};
 
 use crate::line::{JobLine, JobSeat};
 use lift_text::Gate;
@@ -61,12 +61,12 @@ fn work_through<D, A: Drop, J: Jobs<Desk = D, Answer = A>, G: Gate>(
     worker: &mut Worker<A>,
     desk: &mut D,
 ) -> Result<(), AllocError>
-    requires line { (worker.old.seat.line ≡ line.now.name) × (line.now.count ≡ J.number jobs.now) }
-    requires new { (worker.old.seat.drawn ≡ []) × (worker.old.done.items ≡ []) × (0 < worker.old.seat.allowance) }
+    requires jobs { line.now.count ≡ J.number jobs.now }
+    requires worker { Starts line.now 1 worker.old }
     requires desk { J.serves jobs.now desk.old }
-    ensures seat { (worker.new.seat.line ≡ worker.old.seat.line) × (worker.new.seat.allowance ≡ worker.old.seat.allowance) }
+    ensures done { OnOk result (Finished (J.is_right jobs.now) line.now.count worker.new) }
+    ensures seat { SameSeat worker.old worker.new }
     ensures desk { J.serves jobs.now desk.new }
-    ensures done { OnOk result (Works (J.is_right jobs.now) line.now.count worker.new.seat.drawn worker.new.done.items) }
 {
     while let Some(job) = line.draw(&mut worker.seat) {
         gate.enter(job);
@@ -94,12 +94,12 @@ fn work_at<
     worker: &mut Worker<A>,
     desks: &mut [D],
 ) -> Result<(), AllocError>
-    requires line { (worker.old.seat.line ≡ line.now.name) × (line.now.count ≡ J.number jobs.now) }
-    requires new { (worker.old.seat.drawn ≡ []) × (worker.old.done.items ≡ []) × (worker.old.seat.allowance ≡ length desks.old) }
-    requires desks { (0 < length desks.old) × (length desks.old ≤ 16) × All (J.serves jobs.now) desks.old }
-    ensures seat { (worker.new.seat.line ≡ worker.old.seat.line) × (worker.new.seat.allowance ≡ worker.old.seat.allowance) }
+    requires jobs { line.now.count ≡ J.number jobs.now }
+    requires worker { Starts line.now (length desks.old) worker.old }
+    requires desks { Serving (J.serves jobs.now) desks.old }
+    ensures done { OnOk result (Finished (J.is_right jobs.now) line.now.count worker.new) }
+    ensures seat { SameSeat worker.old worker.new }
     ensures desks { All (J.serves jobs.now) desks.new }
-    ensures done { OnOk result (Works (J.is_right jobs.now) line.now.count worker.new.seat.drawn worker.new.done.items) }
 {
     if desks.len() == 1 {
         return work_through(line, jobs, gate, worker, &mut desks[0]);
@@ -138,27 +138,33 @@ fn both_halves<
     other: &mut Worker<A>,
     far: &mut [D],
 ) -> (Result<(), AllocError>, Result<(), AllocError>)
-    requires line { (worker.old.seat.line ≡ line.now.name) × (other.old.seat.line ≡ line.now.name) × (line.now.count ≡ J.number jobs.now) }
-    requires near { (worker.old.seat.drawn ≡ []) × (worker.old.done.items ≡ []) × (worker.old.seat.allowance ≡ length near.old) × (0 < length near.old) × (length near.old ≤ 16) × All (J.serves jobs.now) near.old }
-    requires far { (other.old.seat.drawn ≡ []) × (other.old.done.items ≡ []) × (other.old.seat.allowance ≡ length far.old) × (0 < length far.old) × (length far.old ≤ 16) × All (J.serves jobs.now) far.old }
-    ensures seat { (worker.new.seat.line ≡ worker.old.seat.line) × (worker.new.seat.allowance ≡ worker.old.seat.allowance) }
-    ensures other { (other.new.seat.line ≡ other.old.seat.line) × (other.new.seat.allowance ≡ other.old.seat.allowance) }
-    ensures near { All (J.serves jobs.now) near.new }
-    ensures far { All (J.serves jobs.now) far.new }
-    ensures mine { OnOk result.0 (Works (J.is_right jobs.now) line.now.count worker.new.seat.drawn worker.new.done.items) }
-    ensures theirs { OnOk result.1 (Works (J.is_right jobs.now) line.now.count other.new.seat.drawn other.new.done.items) }
+    requires jobs { line.now.count ≡ J.number jobs.now }
+    requires worker { Starts line.now (length near.old) worker.old }
+    requires near { Serving (J.serves jobs.now) near.old }
+    requires other { Starts line.now (length far.old) other.old }
+    requires far { Serving (J.serves jobs.now) far.old }
+    ensures mine { OnOk result.0 (Finished (J.is_right jobs.now) line.now.count worker.new) }
+    ensures theirs { OnOk result.1 (Finished (J.is_right jobs.now) line.now.count other.new) }
+    ensures seats { SameSeat worker.old worker.new × SameSeat other.old other.new }
+    ensures desks { All (J.serves jobs.now) near.new × All (J.serves jobs.now) far.new }
 {
     let mut mine = || -> Result<(), AllocError>
-        requires { IsSync R.row × IsSync J.row × IsSync G.row × IsSend D.row × IsSend A.row × (worker.now.seat.line ≡ line.now.name) × (line.now.count ≡ J.number jobs.now) × (worker.now.seat.drawn ≡ []) × (worker.now.done.items ≡ []) × (worker.now.seat.allowance ≡ length near.now) × (0 < length near.now) × (length near.now ≤ 16) × All (J.serves jobs.now) near.now }
-        ensures seat { (worker.exit.now.seat.line ≡ worker.entry.now.seat.line) × (worker.exit.now.seat.allowance ≡ worker.entry.now.seat.allowance) }
+        requires threads { IsSync R.row × IsSync J.row × IsSync G.row × IsSend D.row × IsSend A.row }
+        requires jobs { line.now.count ≡ J.number jobs.now }
+        requires worker { Starts line.now (length near.now) worker.now }
+        requires desks { Serving (J.serves jobs.now) near.now }
+        ensures done { OnOk result (Finished (J.is_right jobs.entry.now) line.entry.now.count worker.exit.now) }
+        ensures seat { SameSeat worker.entry.now worker.exit.now }
         ensures desks { All (J.serves jobs.entry.now) near.exit.now }
-        ensures done { OnOk result (Works (J.is_right jobs.entry.now) line.entry.now.count worker.exit.now.seat.drawn worker.exit.now.done.items) }
     { work_at(rt, alloc, line, jobs, gate, worker, near) };
     let mut theirs = || -> Result<(), AllocError>
-        requires { IsSync R.row × IsSync J.row × IsSync G.row × IsSend D.row × IsSend A.row × (other.now.seat.line ≡ line.now.name) × (line.now.count ≡ J.number jobs.now) × (other.now.seat.drawn ≡ []) × (other.now.done.items ≡ []) × (other.now.seat.allowance ≡ length far.now) × (0 < length far.now) × (length far.now ≤ 16) × All (J.serves jobs.now) far.now }
-        ensures seat { (other.exit.now.seat.line ≡ other.entry.now.seat.line) × (other.exit.now.seat.allowance ≡ other.entry.now.seat.allowance) }
+        requires threads { IsSync R.row × IsSync J.row × IsSync G.row × IsSend D.row × IsSend A.row }
+        requires jobs { line.now.count ≡ J.number jobs.now }
+        requires worker { Starts line.now (length far.now) other.now }
+        requires desks { Serving (J.serves jobs.now) far.now }
+        ensures done { OnOk result (Finished (J.is_right jobs.entry.now) line.entry.now.count other.exit.now) }
+        ensures seat { SameSeat other.entry.now other.exit.now }
         ensures desks { All (J.serves jobs.entry.now) far.exit.now }
-        ensures done { OnOk result (Works (J.is_right jobs.entry.now) line.entry.now.count other.exit.now.seat.drawn other.exit.now.done.items) }
     { work_at(rt, alloc, line, jobs, gate, other, far) };
     join_mut(rt, &mut mine, &mut theirs)
 }
@@ -210,18 +216,17 @@ fn in_order<A: Drop>(alloc: Global, count: u32, done: Vec<Done<A>>) -> Result<Ve
 /// The workers draw their jobs from one line, in threads of their own where they can be made. `gate` is told of each job
 /// before it begins. It needs 1 to 16 desks, each of which serves the jobs, and serves them afterwards too, also where
 /// memory ran out.
-pub fn fan<R: Threads + Sync, J: Jobs, G: Gate + Sync>(
-    rt: &R,
+pub fn fan<J: Jobs, G: Gate + Sync>(
+    rt: &(impl Threads + Sync),
     alloc: Global,
     jobs: &J,
     desks: &mut [J::Desk],
     gate: &G,
 ) -> Result<Vec<J::Answer>, AllocError>
-    requires desks { (1 ≤ length desks.old) × (length desks.old ≤ 16) }
-    requires serve { All (J.serves jobs.now) desks.old }
+    requires { Serving (J.serves jobs.now) desks.old }
     ensures count { IfOk result (λ answers. length answers.items ≡ J.number jobs.now) }
     ensures right { IfOk result (λ answers. (k : ℕ) (a : J.Answer) → slice_get answers.items k ≡ Some a → J.is_right jobs.now k a) }
-    ensures serve { All (J.serves jobs.now) desks.new }
+    ensures desks { All (J.serves jobs.now) desks.new }
 {
     let (line, seat) = JobLine::begin(alloc, jobs.count(), desks.len() as u32)?;
     let mut all = Worker {

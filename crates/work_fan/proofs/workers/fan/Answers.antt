@@ -11,8 +11,8 @@ in_order-requires-clause-each g c =
     let worked = on_ok _ _ _ c.in_ok-worked.was c.work_at-worked.ensures.done in
     let count = c.in_ok-line.ensures.line.0 in
     λ k h.
-        let below : k < c.in_ok-line.line.count = omega (arith, h, count, c.count.ensures, c.count-2.ensures) in
-        omega (arith, worked.each k below, c.close.ensures.complete worked.all k below)
+    let below : k < c.in_ok-line.line.count = omega (arith, h, count, c.count.ensures, c.count-2.ensures) in
+    omega (arith, worked.each k below, c.close.ensures.complete worked.all k below)
 
 pub returns-clause-right : goal.returns-clause-right
 returns-clause-right g c =

@@ -17,8 +17,7 @@ fetch_add-number-requires c =
     let count = ap (λ (l : LineView). l.count) c.self.view_is in
     let line = ap (λ (s : SeatView). s.line) c.seat.view_is ∙ c.requires.line ∙ sym (ap (λ (l : LineView). l.name) c.self.view_is) in
     let Below : ℕ → Type 0 = λ n. All (λ k. k < n) c.args.seat.now.drawn in
-    let goes_on = All-same (λ k. k < c.self.inside.table.shared.key.count) _ _ drawn (subst Below (sym count) c.requires.goes_on) in
-    (
+    let goes_on = All-same (λ k. k < c.self.inside.table.shared.key.count) _ _ drawn (subst Below (sym count) c.requires.goes_on) in (
       line,
       omega (arith, c.self.invariant.1),
       draws _ _ _ _ (step 0 0 0 0 none) goes_on (omega (arith, allowance, c.requires.allowance)),
@@ -31,12 +30,11 @@ returns-clause-number c =
     let drawn = ap (λ (s : SeatView). s.drawn) c.seat.view_is in
     let count = ap (λ (l : LineView). l.count) c.self.view_is in
     let kept = c.self.invariant.0 in
-    let from = c.from.ensures in
-    (
+    let from = c.from.ensures in (
       n,
       ap (λ (me : Me (Unit {0}) Share). me.0.drawn) told.0 ∙ ap (λ (xs : List ℕ). xs ++ n ∷ []) drawn,
       elim c.if-number-from.branch [
-        then-number-from w ↦ rw w.result-is (omega (arith, w.if-number-from.true, from, kept, count), refl)
+        | then-number-from w ↦ rw w.result-is (omega (arith, w.if-number-from.true, from, kept, count), refl)
         | else-number-from w ↦ rw w.result-is (λ h. omega (arith, w.if-number-from.false, from, kept, count))
       ],
       All-same (λ k. k < n) _ _ (sym drawn) (all_from_times (λ k. k < n) c.seat.inside.seat.me.0.drawn told.1),

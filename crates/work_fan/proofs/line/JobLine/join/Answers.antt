@@ -8,8 +8,7 @@ use Rattle.work_fan.proofs.line.JobLine.join.Goals as goal
 
 pub join_seat-requires : goal.join_seat-requires
 join_seat-requires c =
-    let name = ap (λ (l : LineView). l.name) c.self.view_is in
-    (
+    let name = ap (λ (l : LineView). l.name) c.self.view_is in (
       ap (λ (s : SeatView). s.line) c.seat.view_is ∙ c.requires.seat ∙ sym name,
       ap (λ (s : SeatView). s.line) c.other.view_is ∙ c.requires.other ∙ sym name,
       c.other.invariant,
@@ -19,8 +18,7 @@ join_seat-requires c =
 
 pub load-requires : goal.load-requires
 load-requires c =
-    let name = ap (λ (l : LineView). l.name) c.self.view_is in
-    (
+    let name = ap (λ (l : LineView). l.name) c.self.view_is in (
       c.join_seat.ensures.0 ∙ ap (λ (s : SeatView). s.line) c.seat.view_is ∙ c.requires.seat ∙ sym name,
       omega (arith, c.self.invariant.1),
       looks _ _ _ _ (step 0 0 0 0 none),
