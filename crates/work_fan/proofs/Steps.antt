@@ -1,11 +1,11 @@
 -- Each step keeps the rule of the word, and tells its seat what it says.
-use Rattle.std.proofs.Common.{◌≡◌, ◌≢◌, ℕ, zero, suc, ◌+◌, ◌-◌, ◌%◌, ◌^◌, ◌<◌, ◌≤◌, Bool, true, false, cond, eqb, ltb, leb, List, [], ◌∷◌, ◌++◌, length, set, slice_index, sum_by, count_by, sym, refl, ap, ◌∙◌, subst, ⊎_elim, arith, length-append, length-set}
+use Rattle.std.proofs.Common.{◌≡◌, ◌≢◌, ℕ, ◌+◌, ◌-◌, ◌%◌, ◌^◌, ◌<◌, ◌≤◌, Bool, true, false, cond, eqb, leb, List, [], ◌∷◌, ◌++◌, length, set, slice_index, sum_by, sym, refl, ap, ◌∙◌, subst, ⊎_elim, arith, length-append, length-set}
 use Rattle.std.specs.List.{All, Any}
 use Rattle.std.proofs.lemmas.List.Sums.{sum_by-append, sum_by_push}
 use Rattle.std.proofs.lemmas.Bool.Decides.{nat_tests}
 use mathlib.Core.Option.{some, some-injective, some-ne-none}
 use lib.ListN.{get_elem?}
-use Rattle.atomic_table.specs.Table.{State, Me, Act, keeps, Step, Allows, Splits, Joins, Final, Seen, stepped}
+use Rattle.atomic_table.specs.Table.{State, Me, keeps, Step, Allows, Splits, Joins, Final, Seen}
 use Rattle.atomic_table.proofs.Lists.{at_set, at_snoc, set_again}
 use Rattle.work_fan.specs.declared.line.Share.{Share}
 use Rattle.work_fan.specs.declared.line.Limits.{Limits}

@@ -1,7 +1,6 @@
 -- A job line and its seats, as contracts see them.
-use Rattle.std.specs.Prelude.{ℕ, ◌==◌, ◌≡◌, ◌≤◌, nat_lt, nat_le, count_by, if◌then◌else◌, List}
+use Rattle.std.specs.Prelude.{ℕ, ◌==◌, ◌≡◌, ◌≤◌, nat_lt, nat_le, count_by, if◌then◌else◌, List, refl}
 use Rattle.std.specs.Coded.{Coded, code_by, coded×, coded_ℕ, coded_list}
-use Rattle.std.specs.Prelude.{refl}
 use Rattle.atomic_table.specs.Seated.{TableId, table_id_coded}
 
 -- which line it is, how many jobs it has, and how many workers

@@ -5,7 +5,7 @@ use lib.ListN.{get_elem?}
 use Rattle.atomic_table.specs.Table.{State, Step, Me}
 use Rattle.work_fan.specs.declared.line.Share.{Share}
 use Rattle.work_fan.specs.declared.line.Limits.{Limits}
-use Rattle.work_fan.specs.Line.{times, times_below, past, EachBelow, EachOnce}
+use Rattle.work_fan.specs.Line.{times, times_below, past, EachOnce}
 
 abbrev pub share : List ℕ → ℕ → Share
 share drawn allowance = record { drawn = drawn; allowance = allowance }
@@ -16,6 +16,7 @@ Fitting count shares = (id : ℕ) (s : Share) → get_elem? shares id ≡ some s
 
 -- The numbers below the word are each in exactly one share, once, and no other number is in any share.
 -- The allowances sum to the number of workers, and each share fits its allowance.
+-- `draws` and `past_draws` follow from the others, and are kept so that no proof has to count.
 pub record IsKept {S : Type 0} (limits : Limits) (state : State S Share) : Type 0 where
   pub small : limits.count + limits.workers < 2 ^ 63
   pub one_word : length state.words ≡ 1

@@ -1,4 +1,3 @@
-use Rattle.std.proofs.Common.{rules, arith}
 use Rattle.work_fan.proofs.Done.{on_ok, works_both}
 use Rattle.work_fan.proofs.workers.+desks.Goals as goal
 

@@ -1,4 +1,4 @@
-use Rattle.work_fan.proofs.Places.{Placing, placed}
+use Rattle.work_fan.proofs.Places.{placed}
 use Rattle.work_fan.proofs.workers.place_all.Goals as goal
 
 pub loop-job-preserved-in-Some : goal.loop-job-preserved-in-Some

@@ -1,6 +1,5 @@
-use Rattle.std.proofs.Common.{◌≡◌, ℕ, ◌+◌, ◌<◌, cond, length, replicate, Some, None}
+use Rattle.std.proofs.Common.{◌≡◌, ℕ, ◌+◌, ◌<◌, length, replicate, Some, None}
 use Rattle.std.specs.List.{All, Contains, slice_index_or}
-use Rattle.std.specs.Option.{is_some}
 use Rattle.work_fan.specs.declared.workers.Done.{Done}
 use Rattle.work_fan.specs.Line.{times}
 use Rattle.work_fan.specs.Work.{jobs_of}

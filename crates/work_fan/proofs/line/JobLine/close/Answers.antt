@@ -1,4 +1,4 @@
-use Rattle.std.proofs.Common.{◌≡◌, ℕ, List, length, sym, ap, ◌∙◌, subst, arith}
+use Rattle.std.proofs.Common.{◌≡◌, ℕ, List, length, sym, ap, ◌∙◌, subst}
 use Rattle.work_fan.specs.Line.{SeatView, LineView, EachBelow}
 use Rattle.work_fan.proofs.Steps.{ends, all_drawn}
 use Rattle.work_fan.proofs.line.JobLine.close.Goals as goal

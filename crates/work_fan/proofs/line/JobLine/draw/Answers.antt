@@ -1,10 +1,10 @@
-use Rattle.std.proofs.Common.{◌≡◌, ℕ, ◌<◌, ◌++◌, [], ◌∷◌, List, length, SomeIff, refl, sym, ap, ◌∙◌, subst, arith}
+use Rattle.std.proofs.Common.{ℕ, ◌<◌, ◌++◌, [], ◌∷◌, List, refl, sym, ap, ◌∙◌, subst, arith}
 use Rattle.std.specs.List.{All}
 use Rattle.std.proofs.lemmas.List.Elements.{All-same}
 use mathlib.Core.Option.{none}
 use Rattle.atomic_table.specs.Table.{Me, step}
 use Rattle.work_fan.specs.declared.line.Share.{Share}
-use Rattle.work_fan.specs.Line.{SeatView, LineView, times, EachOnce}
+use Rattle.work_fan.specs.Line.{SeatView, LineView, EachOnce}
 use Rattle.work_fan.proofs.Shares.{all_from_times}
 use Rattle.work_fan.proofs.Steps.{draws}
 use Rattle.work_fan.proofs.line.JobLine.draw.Goals as goal

@@ -1,4 +1,4 @@
-use Rattle.std.proofs.Common.{◌≡◌, ℕ, List, [], sym, ap, ◌∙◌, arith}
+use Rattle.std.proofs.Common.{sym, ap, ◌∙◌, arith}
 use Rattle.work_fan.specs.Line.{SeatView, LineView}
 use Rattle.work_fan.proofs.Steps.{cuts}
 use Rattle.work_fan.proofs.line.JobLine.split_by.Goals as goal
