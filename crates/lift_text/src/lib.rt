@@ -1,0 +1,18 @@
+//! Where text comes from and where it goes: byte sources, byte sinks, and the lines, words and
+//! numbers of a text.
+#![tactic(auto)]
+
+mod adapters;
+mod gates;
+mod memory;
+mod sinks;
+mod sources;
+
+pub use adapters::{StdSink, StdSource};
+pub use gates::{Gate, OpenGate};
+pub use memory::{MemorySink, MemorySource, SureSink, SureSource};
+pub use sinks::{Sink, SinkFault, put_all};
+pub use sources::{Source, SourceFault, read_full};
+
+#[cfg(test)]
+mod tests;
