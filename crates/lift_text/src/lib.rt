@@ -5,12 +5,14 @@
 mod adapters;
 mod gates;
 mod memory;
+mod numbers;
 mod sinks;
 mod sources;
 
 pub use adapters::{StdSink, StdSource};
 pub use gates::{Gate, OpenGate};
 pub use memory::{MemorySink, MemorySource, SureSink, SureSource};
+pub use numbers::put_number;
 pub use sinks::{Sink, SinkFault, put_all};
 pub use sources::{Source, SourceFault, read_full};
 
