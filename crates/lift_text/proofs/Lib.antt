@@ -1,2 +1,4 @@
 pub mod KnownBytes
 pub mod NumberLemmas
+pub mod WordLemmas
+pub mod PlaceLemmas

@@ -6,8 +6,10 @@ mod adapters;
 mod gates;
 mod memory;
 mod numbers;
+mod places;
 mod sinks;
 mod sources;
+mod words;
 
 pub use adapters::{StdSink, StdSource};
 pub use gates::{Gate, OpenGate};
