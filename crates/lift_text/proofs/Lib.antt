@@ -2,3 +2,4 @@ pub mod KnownBytes
 pub mod NumberLemmas
 pub mod WordLemmas
 pub mod PlaceLemmas
+pub mod WindowLemmas

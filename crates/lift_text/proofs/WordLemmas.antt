@@ -40,7 +40,7 @@ words_in_last part none = ap (filter (λ word. nat_lt 0 (length word))) (slice_s
 parts_of-word : (text : List ℕ) (start end : ℕ) (rest : List (List ℕ)) → start ≤ end → end ≤ length text
     → cond (nat_lt 0 (length (slice_range text start end))) (slice_range text start end ∷ rest) rest ≡ parts_of text (word_span start end) ++ rest
 parts_of-word text start end rest ordered inside = by_case (cases_lt start end)
-    where
+  where
     by_case : (start < end) ⊎ (end ≤ start) → cond (nat_lt 0 (length (slice_range text start end))) (slice_range text start end ∷ rest) rest ≡ parts_of text (word_span start end) ++ rest
     by_case (inl below) = grind (arith, nat_tests, length-between text start end inside)
     by_case (inr none) = grind (arith, nat_tests, length-between text start end inside)

@@ -3,3 +3,5 @@ pub mod Memory
 pub mod Numbers
 pub mod Lines
 pub mod Words
+pub mod Window
+pub mod Found

@@ -9,6 +9,7 @@ mod numbers;
 mod places;
 mod sinks;
 mod sources;
+mod window;
 mod words;
 
 pub use adapters::{StdSink, StdSource};

@@ -8,7 +8,7 @@ loop-i-preserved c =
     let before = c.loop-i.invariant in
     let text = c.args.text.now in
     elim c.if-is_blank.branch [
-      then-is_blank w ↦ rw (w.start-is, w.spans-is) (record {
+      | then-is_blank w ↦ rw (w.start-is, w.spans-is) (record {
         reached = omega arith;
         no_blank = λ k low high. absurd (omega arith);
         words = words_more text c.loop-i.spans.items w.end_word.new.spans.items c.loop-i.start c.loop-i.i before.reached c.loop-i-test.true before.no_blank (sym w.if-is_blank.ensures) w.end_word.ensures.items before.words;
@@ -16,7 +16,7 @@ loop-i-preserved c =
         room = omega (arith, w.end_word.ensures.len);
         capacity = omega (arith, w.end_word.ensures.capacity);
       })
-    | else-is_blank w ↦ rw (w.start-is, w.spans-is) (record {
+      | else-is_blank w ↦ rw (w.start-is, w.spans-is) (record {
         reached = omega arith;
         no_blank = no_blank_more text c.loop-i.start c.loop-i.i before.no_blank (sym w.if-is_blank.ensures);
         words = before.words;
