@@ -3,3 +3,4 @@ pub mod NumberLemmas
 pub mod WordLemmas
 pub mod PlaceLemmas
 pub mod WindowLemmas
+pub mod PieceLemmas

@@ -13,8 +13,12 @@ pub record BeginsWithLine (bytes : List ℕ) (line size : ℕ) : Type 0 where
   pub pieces : pieces_of bytes ≡ take size bytes ∷ pieces_of (drop size bytes)
   pub content : line_of (take size bytes) ≡ take line bytes
 
+-- none of the first n bytes is an LF
+abbrev pub NoLineFeedBelow : List ℕ → ℕ → Type 0
+NoLineFeedBelow bytes n = (k : ℕ) → k < n → slice_index bytes k ≢ 10
+
 abbrev pub NoLineFeed : List ℕ → Type 0
-NoLineFeed bytes = (k : ℕ) → k < length bytes → slice_index bytes k ≢ 10
+NoLineFeed bytes = NoLineFeedBelow bytes (length bytes)
 
 -- what was left of a source after it was asked for more than the window has
 abbrev pub Filled : Fill → Option (List ℕ) → Option (List ℕ) → Type 0

@@ -1,9 +1,9 @@
 //! The bytes of a source that are read and not used yet.
-ghost use Rattle.std.specs.Prelude.{◌≡◌, ◌≢◌, ℕ, ◌+◌, ◌<◌, ◌≤◌, List, [], ◌∷◌, ◌++◌, length, take, drop, IfOk, OnErr};
+ghost use Rattle.std.specs.Prelude.{◌≡◌, ◌≢◌, ℕ, ◌+◌, ◌<◌, ◌≤◌, List, [], ◌∷◌, ◌++◌, length, take, drop, IfOk, OnErr, slice_index};
 ghost use Rattle.std.specs.Io.KnownBytes.{prepend_known, IsAtEnd};
 ghost use Rattle.std.specs.Io.BufRead.{strip_last};
 ghost use Rattle.lift_text.specs.Streams.{Rose};
-ghost use Rattle.lift_text.specs.Found.{Filled, FoundIn};
+ghost use Rattle.lift_text.specs.Found.{Filled, FoundIn, NoLineFeedBelow};
 
 use crate::places::place_of;
 use crate::sources::{Source, SourceFault};
@@ -125,6 +125,103 @@ impl Window {
         self.end = end + count;
         self.quota -= count;
         Ok(count)
+    }
+
+    /// Reads more behind the unread bytes, of which there are too few to be a longest line.
+    fn fill<S: Source>(&mut self, source: &mut S) -> Result<Fill, SourceFault>
+        requires { length self.old.unread < 4098 }
+        ensures more { result ≡ Ok Fill.More → (more : List ℕ) × (0 < length more)
+            × (self.new.unread ≡ self.old.unread ++ more)
+            × (S.left source.old ≡ prepend_known more (S.left source.new)) }
+        ensures quota { self.new.quota + length self.new.unread ≡ self.old.quota + length self.old.unread }
+        ensures less { result ≡ Ok Fill.More → self.new.quota < self.old.quota }
+        ensures kept { result ≢ Ok Fill.More → self.new.unread ≡ self.old.unread }
+        ensures ok { IfOk result (λ fill. Filled fill (S.left source.old) (S.left source.new)) }
+        ensures limit { result ≡ Ok Fill.Limit → self.new.quota ≡ 0 }
+        ensures err { OnErr result (S.left source.new ≡ S.left source.old) }
+        ensures counted { S.faults source.old ≤ S.faults source.new }
+        ensures fault { OnErr result (Rose (S.faults source.old) (S.faults source.new)) }
+    {
+        if self.quota == 0 {
+            return probe(source);
+        }
+        self.make_room();
+        if self.read_more(source)? == 0 {
+            Ok(Fill::End)
+        } else {
+            Ok(Fill::More)
+        }
+    }
+
+    /// Finds what stands at the front of what is left.
+    pub(crate) fn find<S: Source>(&mut self, source: &mut S) -> Result<Found, SourceFault>
+        ensures ok { IfOk result (λ found. FoundIn found (prepend_known self.old.unread (S.left source.old))
+            self.new.unread (S.left source.new) self.new.quota) }
+        ensures quota { self.new.quota + length self.new.unread ≡ self.old.quota + length self.old.unread }
+        ensures counted { S.faults source.old ≤ S.faults source.new }
+        ensures fault { OnErr result (Rose (S.faults source.old) (S.faults source.new)) }
+    {
+        let mut searched = 0;
+        'search: loop {
+            let place = self.line_feed_from(searched);
+            if place < self.len() {
+                return Ok(Found::Line {
+                    line: self.line_before(place),
+                    size: place + 1,
+                });
+            }
+            searched = place;
+            if searched >= LONGEST {
+                return Ok(Found::Long);
+            }
+            match self.fill(source)? {
+                Fill::More => {}
+                Fill::End => return Ok(last_found(searched)),
+                Fill::Limit => return Ok(Found::Cut),
+            }
+        }
+    }
+
+    fn len(&self) -> usize
+        ensures { result ≡ length self.now.unread }
+    {
+        self.unread().len()
+    }
+
+    /// The place of the first LF, or the length where there is none, where the bytes up to `searched`
+    /// have none.
+    fn line_feed_from(&self, searched: usize) -> usize
+        requires within { searched ≤ length self.now.unread }
+        requires none { NoLineFeedBelow self.now.unread searched }
+        ensures within { result ≤ length self.now.unread }
+        ensures none { NoLineFeedBelow self.now.unread result }
+        ensures found { result < length self.now.unread → slice_index self.now.unread result ≡ 10 }
+    {
+        searched + place_of(b'\n', &self.unread()[searched..])
+    }
+
+    /// The length of the line before the LF at this place.
+    fn line_before(&self, place: usize) -> usize
+        requires { place ≤ length self.now.unread }
+        ensures front { take result (take place self.now.unread) ≡ strip_last 13 (take place self.now.unread) }
+        ensures within { result ≤ place }
+    {
+        length_without_cr(&self.unread()[..place])
+    }
+}
+
+/// What stands before the end of the input, where it has no LF.
+fn last_found(length: usize) -> Found
+    ensures none { length ≡ 0 → result ≡ Found.End }
+    ensures line { 0 < length → result ≡ Found.Line length length }
+{
+    if length == 0 {
+        Found::End
+    } else {
+        Found::Line {
+            line: length,
+            size: length,
+        }
     }
 }
 
