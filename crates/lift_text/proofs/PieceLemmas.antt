@@ -141,11 +141,12 @@ begins_in_window unread rest place line inside none here stripped within =
 pub found_last : (found : Found) (before left : Option (List ℕ)) (unread : List ℕ) (size quota : ℕ) → (size ≡ 0 → found ≡ End) → (0 < size → found ≡ Line size size)
     → size ≡ length unread → before ≡ prepend_known unread left → IsAtEnd left → NoLineFeed unread → FoundIn found before unread left quota
 found_last found before left unread size quota is_end is_line whole known end none = elim (cases_lt 0 size) [ inl some ↦ with_line some | inr nothing ↦ without nothing ]
-    where
+  where
     with_line : 0 < size → FoundIn found before unread left quota
     with_line some =
         subst (λ f. FoundIn f before unread left quota) (sym (is_line some))
         (subst (λ n. FoundIn (Line n n) before unread left quota) (sym whole)
         (known, omega arith, omega arith, omega arith, begins_found_last before left unread known end none (omega arith)))
+
     without : size ≤ 0 → FoundIn found before unread left quota
     without nothing = subst (λ f. FoundIn f before unread left quota) (sym (is_end (omega arith))) (known, empty_list unread (omega arith), end)

@@ -1,9 +1,10 @@
 -- The words of a line, found from the front.
-use Rattle.std.proofs.Common.{◌≡◌, ℕ, ◌+◌, ◌-◌, ◌<◌, ◌≤◌, Bool, true, false, cond, List, [], ◌∷◌, ◌++◌, length, take, drop, get_or, ltb, map, arith, rules, ap, sym, ◌∙◌, refl, subst, drop-cons, add-one, ◌⊎◌, inl, inr, append_assoc, append-nil}
+use Rattle.std.proofs.Common.{◌≡◌, ℕ, suc, not, ◌==◌, ◌+◌, ◌-◌, ◌<◌, ◌≤◌, Bool, true, false, cond, List, [], ◌∷◌, ◌++◌, length, take, drop, get_or, ltb, map, arith, rules, ap, sym, ◌∙◌, refl, subst, drop-cons, add-one, ◌⊎◌, inl, inr, append_assoc, append-nil}
 use Rattle.std.specs.Prelude.{All, filter, nat_lt, slice_range}
 use Rattle.std.specs.List.{slice_split}
 use Rattle.std.proofs.lemmas.Grind.{common_steps, elements}
-use Rattle.std.proofs.lemmas.List.{take-append-drop, drop-drop, take_rest, get_or_default, map-append}
+use Rattle.std.proofs.lemmas.List.{take-append-drop, drop-drop, take_rest, take-take, get_or_default, map-append, length-map}
+use Rattle.std.proofs.lemmas.Slice.{between_is}
 use Rattle.std.proofs.lemmas.List.Edits.{length-between, get_or-between}
 use Rattle.lift_text.specs.declared.words.Span.{Span}
 use Rattle.std.proofs.lemmas.List.Elements.{All-push, All-append}
@@ -99,3 +100,24 @@ within_more size spans spans' start end ordered inside added before =
 
 pub no_blank_more : (text : List ℕ) (start i : ℕ) → NoBlank text start i → is_blank (get_or text i 0) ≡ false → NoBlank text start (i + 1)
 no_blank_more text start i none here k low high = elim (cases_lt k i) [ inl below ↦ none k low below | inr above ↦ (let same : k ≡ i = omega arith in ap (λ n. is_blank (get_or text n 0)) same ∙ here) ]
+
+within_tail : (size : ℕ) (span : Span) (spans : List Span) → All (IsWithin size) (span ∷ spans) → All (IsWithin size) spans
+within_tail size span spans within = λ k d below. within (suc k) d (omega arith)
+
+-- spans of a front stand for the same words in the whole
+pub parts_of-take : (n : ℕ) (line : List ℕ) (spans : List Span) → All (IsWithin n) spans → parts_of (take n line) spans ≡ parts_of line spans
+parts_of-take n line [] within = refl
+parts_of-take n line (span ∷ spans) within =
+    let inside : span.end ≤ n = (within 0 span (omega arith)).1 in
+    let same = between_is (take n line) span.start span.end ∙ ap (drop span.start) (take-take span.end n line inside) ∙ sym (between_is line span.start span.end) in
+    ap (λ part. part ∷ parts_of (take n line) spans) same ∙ ap (λ parts. part_of line span ∷ parts) (parts_of-take n line spans (within_tail n span spans within))
+
+pub within_le : (size n : ℕ) (spans : List Span) → size ≤ n → All (IsWithin size) spans → All (IsWithin n) spans
+within_le size n spans le within = λ k d below. (let one = within k d below in (one.0, omega (arith, one.1)))
+
+-- a line has a word exactly where there is a span
+pub some_words : (text : List ℕ) (spans : List Span) (words : List (List ℕ)) (count : ℕ) (is_empty : Bool) → parts_of text spans ≡ words → count ≡ length spans → is_empty ≡ (count == 0)
+    → not is_empty ≡ nat_lt 0 (length words)
+some_words text spans words count is_empty same whole empty =
+    let size = ap length (sym same) ∙ length-map spans (part_of text) in
+    grind (arith, nat_tests)

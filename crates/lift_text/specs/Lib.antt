@@ -5,3 +5,6 @@ pub mod Lines
 pub mod Words
 pub mod Window
 pub mod Found
+pub mod Reading
+pub mod Page
+pub mod Judge

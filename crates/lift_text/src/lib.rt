@@ -3,7 +3,9 @@
 #![tactic(auto)]
 
 mod adapters;
+mod faults;
 mod gates;
+mod judge;
 mod memory;
 mod numbers;
 mod places;
@@ -13,6 +15,7 @@ mod window;
 mod words;
 
 pub use adapters::{StdSink, StdSource};
+pub use faults::{RawLine, TextFault};
 pub use gates::{Gate, OpenGate};
 pub use memory::{MemorySink, MemorySource, SureSink, SureSource};
 pub use numbers::put_number;

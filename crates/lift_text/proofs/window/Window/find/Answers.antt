@@ -8,9 +8,13 @@ pub returns-then-place-len-clause-ok : goal.returns-then-place-len-clause-ok
 returns-then-place-len-clause-ok g c =
     let before = c.search.invariant in
     let place = c.line_feed_from-place.ensures in
-    let line = c.line_before.ensures in
-    (before.known, omega (arith, line.within), omega arith, omega arith,
-    begins_found _ _ _ _ _ before.known (λ rest. begins_in_window c.search.self.unread rest c.line_feed_from-place.result c.line_before.result (omega arith) place.none (place.found (omega arith)) line.front line.within))
+    let line = c.line_before.ensures in (
+      before.known,
+      omega (arith, line.within),
+      omega arith,
+      omega arith,
+      begins_found _ _ _ _ _ before.known (λ rest. begins_in_window c.search.self.unread rest c.line_feed_from-place.result c.line_before.result (omega arith) place.none (place.found (omega arith)) line.front line.within),
+    )
 
 pub returns-in-End-clause-ok : goal.returns-in-End-clause-ok
 returns-in-End-clause-ok g c =
