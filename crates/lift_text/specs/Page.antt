@@ -1,10 +1,13 @@
 -- What clauses see of the lines that are read and their place in the text. No public clause cites this
 -- module.
-use Rattle.std.specs.Prelude.{◌≡◌, ℕ, ◌+◌, ◌<◌, ◌≤◌, Bool, List, [], ◌∷◌, ◌++◌, length, take, Option, None, Some, option_map, IsSomeAnd, Result, Ok, Err}
-use Rattle.std.specs.Io.KnownBytes.{prepend_known, IsAtEnd}
+use Rattle.std.specs.Prelude.{◌≡◌, ℕ, ◌+◌, ◌*◌, ◌<◌, ◌≤◌, List, [], ◌∷◌, length, take, drop, All, Option, None, Some, option_map, IfSome, IsSomeAnd, Result, Ok, Err}
+use Rattle.std.specs.Io.KnownBytes.{prepend_known}
 use Rattle.lift_text.specs.Lines.{pieces_of, line_of}
-use Rattle.lift_text.specs.Found.{NoLineFeed}
-use Rattle.lift_text.specs.Reading.{TextState, reading, line_with, finished, bad_line, past_limit, Passed}
+use Rattle.lift_text.specs.Window.{WindowState}
+use Rattle.lift_text.specs.declared.words.Span.{Span}
+use Rattle.lift_text.specs.declared.page.Step.{Step}
+use Rattle.lift_text.specs.declared.page.Step.TheVariants.{WithWords, Blank, AtEnd}
+use Rattle.lift_text.specs.Reading.{TextState, reading, line_with, bad_line, past_limit, Passed}
 use Rattle.lift_text.specs.declared.faults.TextFault.{TextFault}
 use Rattle.lift_text.specs.declared.faults.TextFault.TheVariants.{Read, TooLong, Bad, NoMemory}
 use Rattle.lift_text.specs.declared.window.Found.{Found}
@@ -21,6 +24,15 @@ pub record PageState : Type 0 where
   pub raw : List ℕ
   pub failure : Option TextFault
 
+-- what a page keeps: the current line at the front of the window, its raw text and its words in it, room for
+-- the words of a longest line, and no more lines than bytes
+pub record IsPage (window : WindowState) (size raw line capacity : ℕ) (spans : List Span) : Type 0 where
+  pub size_within : size ≤ length window.unread
+  pub raw_within : raw ≤ size
+  pub words_within : All (λ span. (span.start ≤ span.end) × (span.end ≤ size)) spans
+  pub room : 4096 < 2 * capacity
+  pub counted : line + (window.quota + length (drop size window.unread)) ≤ 67108864
+
 -- how many bytes may still be read
 abbrev pub limit_of : PageState → ℕ
 limit_of page = page.quota + length page.unread
@@ -28,3 +40,33 @@ limit_of page = page.quota + length page.unread
 -- the state of the text, where the source tells what it has left
 abbrev pub text_at : PageState → Option (List ℕ) → Option TextState
 text_at page left = option_map (λ bytes. record { line = page.line; limit = limit_of page; bytes = bytes }) (prepend_known page.unread left)
+
+-- a text begins with this piece, whose line has this length, and was read up to behind it
+pub record IsLine (before after : TextState) (piece : List ℕ) (line : ℕ) : Type 0 where
+  pub pieces : pieces_of before.bytes ≡ piece ∷ pieces_of after.bytes
+  pub content : line_of piece ≡ take line piece
+  pub within : length piece ≤ before.limit
+  pub number : after.line ≡ before.line + 1
+  pub passed : Passed before after
+
+-- a text begins with a piece for which a fact holds
+abbrev pub FirstPiece : TextState → (List ℕ → Type 0) → Type 0
+FirstPiece text holds = (piece : List ℕ) × (pieces : List (List ℕ)) × (pieces_of text.bytes ≡ piece ∷ pieces) × holds piece
+
+-- what was found of the next line, by the state before, the line and the state after
+abbrev pub Advanced : Found → Option TextState → List ℕ → Option TextState → Type 0
+Advanced (Line line size) before current after = IfSome before (λ text. IsSomeAnd after (λ rest. IsLine text rest current line))
+Advanced Long before current after = IfSome before (λ text. FirstPiece text (λ piece. (4097 < text.limit) × (4096 < length (line_of piece))))
+Advanced Cut before current after = IfSome before (λ text. FirstPiece text (λ piece. (text.limit ≤ 4097) × (text.limit < length piece)))
+Advanced End before current after = IfSome before (λ text. text.bytes ≡ []) × (after ≡ before)
+
+-- what one line turned out to be: one with words, one without, or the end
+abbrev pub ReadLine : Option TextState → Result Step TextFault → List (List ℕ) → Option TextState → Type 0
+ReadLine None answer words after = after ≡ None
+ReadLine (Some before) (Ok WithWords) words after = IsSomeAnd after (λ text. (reading before ≡ line_with text.line words (reading text)) × Passed before text)
+ReadLine (Some before) (Ok Blank) words after = IsSomeAnd after (λ text. (reading before ≡ reading text) × Passed before text)
+ReadLine (Some before) (Ok AtEnd) words after = (before.bytes ≡ []) × (after ≡ Some before)
+ReadLine (Some before) (Err (Bad line code)) words after = reading before ≡ bad_line line code
+ReadLine (Some before) (Err TooLong) words after = reading before ≡ past_limit
+ReadLine (Some before) (Err Read) words after = Unit {0}
+ReadLine (Some before) (Err NoMemory) words after = ⊥

@@ -8,6 +8,7 @@ mod gates;
 mod judge;
 mod memory;
 mod numbers;
+mod page;
 mod places;
 mod sinks;
 mod sources;

@@ -13,8 +13,9 @@ returns-clause-judged c =
     let words = rw text at c.find_words.ensures.words in
     let inside = rw text at c.find_words.ensures.inside in
     let short : length (take n line) ≤ n = omega (arith, length-take n line) in
-    let same = sym (parts_of-take n line spans (within_le (length (take n line)) n spans short inside)) ∙ words in
-    (c.if-line-gt-LINE_LIMIT.false,
-    ap (list_all is_allowed) (sym text) ∙ sym c.are_allowed.ensures ∙ c.if-not-are_allowed.false,
-    same,
-    some_words line spans _ _ _ same c.find_words.new.spans.ok.0 c.is_empty.ensures)
+    let same = sym (parts_of-take n line spans (within_le (length (take n line)) n spans short inside)) ∙ words in (
+      c.if-line-gt-LINE_LIMIT.false,
+      ap (list_all is_allowed) (sym text) ∙ sym c.are_allowed.ensures ∙ c.if-not-are_allowed.false,
+      same,
+      some_words line spans _ _ _ same c.find_words.new.spans.ok.0 c.is_empty.ensures,
+    )

@@ -1,0 +1,93 @@
+//! The line of a text that is being read, and what is read of the text behind it.
+ghost use Rattle.std.specs.Prelude.{◌≡◌, ◌≢◌, ℕ, ◌+◌, ◌<◌, ◌≤◌, List, [], ◌∷◌, ◌++◌, Some, None, true, length, take, drop, IfOk, IfErr, OnOk, OnErr, IsErrOf};
+ghost use Rattle.lift_text.specs.Streams.{Rose};
+
+use crate::faults::TextFault;
+use crate::judge::judge;
+use crate::sources::{Source, SourceFault};
+use crate::window::{Found, Window};
+use crate::words::Span;
+use std::alloc::{AllocError, Global};
+use std::marker::Model;
+
+/// The most bytes that are read of a text.
+const TEXT_LIMIT: usize = 67_108_864;
+
+/// More than half as many words as a longest line has bytes.
+const MOST_WORDS: usize = 2_049;
+
+/// What one line turned out to be.
+#[derive(Clone, Copy, Debug, PartialEq, Eq)]
+pub(crate) enum Step {
+    WithWords,
+    Blank,
+    AtEnd,
+}
+
+/// The current line stands at the front of the window, where it takes `size` bytes with its end.
+#[derive(Drop)]
+pub(crate) struct Page {
+    window: Window,
+    line: u64,
+    size: usize,
+    raw: usize,
+    spans: Vec<Span>,
+    failure: Option<TextFault>,
+}
+
+impl Model for Page {
+    ghost use Rattle.std.specs.Prelude.{take, drop, vec_capacity};
+    ghost use Rattle.lift_text.specs.Words.{parts_of};
+    ghost use Rattle.lift_text.specs.Page.{PageState, IsPage};
+
+    ghost Value = { PageState };
+
+    ghost view = { λ p. record {
+      current = take p.size p.window.unread;
+      unread = drop p.size p.window.unread;
+      quota = p.window.quota;
+      line = p.line;
+      words = parts_of p.window.unread p.spans.items;
+      raw = take p.raw p.window.unread;
+      failure = p.failure;
+    } };
+
+    ghost invariant = { λ p. IsPage p.window p.size p.raw p.line (vec_capacity p.spans) p.spans.items };
+}
+
+impl Page {
+    ghost use Rattle.std.specs.Prelude.{◌≡◌, ◌≢◌, ℕ, ◌+◌, ◌<◌, ◌≤◌, List, [], ◌∷◌, ◌++◌, Some, None, true, length, take, drop, IfOk, IfErr, OnOk, OnErr, IsErrOf};
+    ghost use Rattle.lift_text.specs.Streams.{Rose};
+    ghost use Rattle.lift_text.specs.Page.{text_at, limit_of, Advanced, ReadLine};
+
+    /// A page before the first line.
+    pub(crate) fn new(alloc: Global) -> Result<Page, AllocError>
+        ensures unread { IfOk result (λ page. page.unread ≡ []) }
+        ensures quota { IfOk result (λ page. page.quota ≡ 67108864) }
+        ensures line { IfOk result (λ page. page.line ≡ 0) }
+        ensures words { IfOk result (λ page. page.words ≡ []) }
+        ensures raw { IfOk result (λ page. page.raw ≡ []) }
+        ensures failure { IfOk result (λ page. page.failure ≡ None) }
+    {
+        let window = Window::new(alloc, TEXT_LIMIT)?;
+        let spans = Vec::with_capacity(alloc, MOST_WORDS)?;
+        Ok(Page {
+            window,
+            line: 0,
+            size: 0,
+            raw: 0,
+            spans,
+            failure: None,
+        })
+    }
+
+    /// Leaves the current line behind.
+    fn clear(&mut self)
+        ensures { self.new ≡ record self.old { current = []; words = []; raw = [] } }
+    {
+        self.window.consume(self.size);
+        self.size = 0;
+        self.raw = 0;
+        self.spans.clear();
+    }
+}
