@@ -4,3 +4,4 @@ pub mod WordLemmas
 pub mod PlaceLemmas
 pub mod WindowLemmas
 pub mod PieceLemmas
+pub mod PageLemmas

@@ -6,7 +6,7 @@ use Rattle.std.specs.Io.KnownBytes.{prepend_known, IsAtEnd}
 use Rattle.std.specs.Io.BufRead.{ends_with_byte, strip_last}
 use Rattle.std.proofs.lemmas.Bool.Decides.{nat_tests}
 use Rattle.std.proofs.lemmas.Grind.{common_steps}
-use Rattle.std.proofs.lemmas.List.{take-append-le, take-append-drop, length-take-le, take_at, take_rest, get_or_at, get_or-drop, get_or-take, length-drop}
+use Rattle.std.proofs.lemmas.List.{take-append-le, take-append-drop, length-take-le, take_at, take_rest, get_or_at, get_or-drop, get_or-take, length-drop, length-take}
 use Rattle.std.proofs.lemmas.List.Sums.{fails_before_first, passes_at_first}
 use Rattle.std.proofs.lemmas.Bool.{cases_lt, false≢true, eqb-true}
 use Rattle.std.proofs.Math.Seq.{take-append-add, drop-append-add, take-length, drop-length}
@@ -62,7 +62,7 @@ line_of-push xs =
     let all = xs ++ 10 ∷ [] in
     ap (λ e. cond e (strip_last 13 (strip_last 10 all)) all) (ends_with_byte-push 10 xs) ∙ ap (strip_last 13) (strip_last-push 10 xs)
 
-line_of-last : (bytes : List ℕ) → NoLineFeed bytes → line_of bytes ≡ bytes
+pub line_of-last : (bytes : List ℕ) → NoLineFeed bytes → line_of bytes ≡ bytes
 line_of-last [] none = refl
 line_of-last (x ∷ bytes) none =
     let all = x ∷ bytes in
@@ -150,3 +150,30 @@ found_last found before left unread size quota is_end is_line whole known end no
 
     without : size ≤ 0 → FoundIn found before unread left quota
     without nothing = subst (λ f. FoundIn f before unread left quota) (sym (is_end (omega arith))) (known, empty_list unread (omega arith), end)
+
+-- the first piece of what goes on behind bytes without an LF
+pub pieces_of-front : (front : List ℕ) (b : ℕ) (bytes : List ℕ) → NoLineFeed front → (piece : List ℕ) × (pieces : List (List ℕ)) × (pieces_of (front ++ b ∷ bytes) ≡ (front ++ b ∷ piece) ∷ pieces)
+pieces_of-front [] b bytes none = first_of (eqb b 10) (pieces_of bytes)
+    where
+    first_of : (ends : Bool) (later : List (List ℕ)) → (piece : List ℕ) × (pieces : List (List ℕ)) × (cond ends ((b ∷ []) ∷ later) (onto_first b later) ≡ (b ∷ piece) ∷ pieces)
+    first_of true later = ([], later, refl)
+    first_of false [] = ([], [], refl)
+    first_of false (piece ∷ pieces) = (piece, pieces, refl)
+pieces_of-front (x ∷ front) b bytes none =
+    let later = pieces_of-front front b bytes (no_line_feed-tail x front none) in
+    (later.0, later.1, ap (λ e. cond e ((x ∷ []) ∷ pieces_of (front ++ b ∷ bytes)) (onto_first x (pieces_of (front ++ b ∷ bytes)))) (not_equal x 10 (none 0 (omega arith))) ∙ ap (onto_first x) later.2)
+
+length-strip_last : (b : ℕ) (xs : List ℕ) → length xs ≤ length (strip_last b xs) + 1
+length-strip_last b xs = by_case (ends_with_byte b xs)
+    where
+    by_case : (ends : Bool) → length xs ≤ length (cond ends (take (length xs - 1) xs) xs) + 1
+    by_case true = omega (arith, length-take (length xs - 1) xs)
+    by_case false = omega arith
+
+-- the end of a line takes two bytes at most
+pub length-line_of : (piece : List ℕ) → length piece ≤ length (line_of piece) + 2
+length-line_of piece = by_case (ends_with_byte 10 piece)
+    where
+    by_case : (ends : Bool) → length piece ≤ length (cond ends (strip_last 13 (strip_last 10 piece)) piece) + 2
+    by_case true = omega (arith, length-strip_last 10 piece, length-strip_last 13 (strip_last 10 piece))
+    by_case false = omega arith

@@ -60,6 +60,13 @@ Advanced Long before current after = IfSome before (λ text. FirstPiece text (λ
 Advanced Cut before current after = IfSome before (λ text. FirstPiece text (λ piece. (text.limit ≤ 4097) × (text.limit < length piece)))
 Advanced End before current after = IfSome before (λ text. text.bytes ≡ []) × (after ≡ before)
 
+-- the line is counted, and there is less to read
+abbrev pub Forward : Found → PageState → PageState → Type 0
+Forward (Line line size) old new = (line ≤ length new.current) × (new.line ≡ old.line + 1) × (limit_of new < limit_of old)
+Forward Long old new = new.line ≡ old.line
+Forward Cut old new = new.line ≡ old.line
+Forward End old new = new.line ≡ old.line
+
 -- what one line turned out to be: one with words, one without, or the end
 abbrev pub ReadLine : Option TextState → Result Step TextFault → List (List ℕ) → Option TextState → Type 0
 ReadLine None answer words after = after ≡ None

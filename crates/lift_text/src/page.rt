@@ -58,7 +58,7 @@ impl Model for Page {
 impl Page {
     ghost use Rattle.std.specs.Prelude.{◌≡◌, ◌≢◌, ℕ, ◌+◌, ◌<◌, ◌≤◌, List, [], ◌∷◌, ◌++◌, Some, None, true, length, take, drop, IfOk, IfErr, OnOk, OnErr, IsErrOf};
     ghost use Rattle.lift_text.specs.Streams.{Rose};
-    ghost use Rattle.lift_text.specs.Page.{text_at, limit_of, Advanced, ReadLine};
+    ghost use Rattle.lift_text.specs.Page.{text_at, limit_of, Advanced, Forward, ReadLine};
 
     /// A page before the first line.
     pub(crate) fn new(alloc: Global) -> Result<Page, AllocError>
@@ -89,5 +89,27 @@ impl Page {
         self.size = 0;
         self.raw = 0;
         self.spans.clear();
+    }
+
+    /// Goes on to the next line, where the line before was left behind.
+    fn advance<S: Source>(&mut self, source: &mut S) -> Result<Found, SourceFault>
+        requires current { self.old.current ≡ [] }
+        requires words { self.old.words ≡ [] }
+        requires raw { self.old.raw ≡ [] }
+        ensures words { self.new.words ≡ [] }
+        ensures raw { self.new.raw ≡ [] }
+        ensures failure { self.new.failure ≡ self.old.failure }
+        ensures ok { IfOk result (λ found. Advanced found (text_at self.old (S.left source.old)) self.new.current
+            (text_at self.new (S.left source.new))) }
+        ensures forward { IfOk result (λ found. Forward found self.old self.new) }
+        ensures counted { S.faults source.old ≤ S.faults source.new }
+        ensures fault { OnErr result (Rose (S.faults source.old) (S.faults source.new)) }
+    {
+        let found = self.window.find(source)?;
+        if let Found::Line { size, .. } = found {
+            self.size = size;
+            self.line += 1;
+        }
+        Ok(found)
     }
 }
