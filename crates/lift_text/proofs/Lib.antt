@@ -5,3 +5,4 @@ pub mod PlaceLemmas
 pub mod WindowLemmas
 pub mod PieceLemmas
 pub mod PageLemmas
+pub mod ReadLemmas

@@ -30,6 +30,7 @@ is_line number limit limit' unread rest line size ordered inside fits used begin
       pieces = pieces;
       content = ap line_of (sym front) ∙ begins.content ∙ take-append-le line unread rest (omega arith) ∙ sym (take-take line size unread ordered);
       within = omega arith;
+      limit = omega arith;
       number = refl;
       passed = record {
         lines = omega arith;
@@ -78,12 +79,14 @@ advanced_cut number limit known (Some rest) unread quota found whole current aft
 
 advanced_end : (number limit limit' : ℕ) (known left : Option (List ℕ)) (unread : List ℕ) (quota : ℕ) → FoundIn End known unread left quota → limit' ≡ limit
     → (current : List ℕ) → Advanced End (state number limit known) current (state number limit' (prepend_known unread left))
-advanced_end number limit limit' known None unread quota found same current =
-    (subst (λ k. IfSome (state number limit k) (λ text. text.bytes ≡ [])) (sym found.0) tt,
-    ap (λ n. state number n (prepend_known unread None)) same ∙ ap (state number limit) (sym found.0))
-advanced_end number limit limit' known (Some rest) unread quota found same current =
-    (subst (λ k. IfSome (state number limit k) (λ text. text.bytes ≡ [])) (sym found.0) (ap (λ u. u ++ rest) found.1 ∙ found.2),
-    ap (λ n. state number n (prepend_known unread (Some rest))) same ∙ ap (state number limit) (sym found.0))
+advanced_end number limit limit' known None unread quota found same current = (
+  subst (λ k. IfSome (state number limit k) (λ text. text.bytes ≡ [])) (sym found.0) tt,
+  ap (λ n. state number n (prepend_known unread None)) same ∙ ap (state number limit) (sym found.0),
+)
+advanced_end number limit limit' known (Some rest) unread quota found same current = (
+  subst (λ k. IfSome (state number limit k) (λ text. text.bytes ≡ [])) (sym found.0) (ap (λ u. u ++ rest) found.1 ∙ found.2),
+  ap (λ n. state number n (prepend_known unread (Some rest))) same ∙ ap (state number limit) (sym found.0),
+)
 
 -- where no line was found
 pub advanced_other : (found : Found) (number quota quota' : ℕ) (start unread : List ℕ) (left left' : Option (List ℕ)) → ((line size : ℕ) → found ≢ Line line size)

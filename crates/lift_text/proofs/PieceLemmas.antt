@@ -154,7 +154,7 @@ found_last found before left unread size quota is_end is_line whole known end no
 -- the first piece of what goes on behind bytes without an LF
 pub pieces_of-front : (front : List ℕ) (b : ℕ) (bytes : List ℕ) → NoLineFeed front → (piece : List ℕ) × (pieces : List (List ℕ)) × (pieces_of (front ++ b ∷ bytes) ≡ (front ++ b ∷ piece) ∷ pieces)
 pieces_of-front [] b bytes none = first_of (eqb b 10) (pieces_of bytes)
-    where
+  where
     first_of : (ends : Bool) (later : List (List ℕ)) → (piece : List ℕ) × (pieces : List (List ℕ)) × (cond ends ((b ∷ []) ∷ later) (onto_first b later) ≡ (b ∷ piece) ∷ pieces)
     first_of true later = ([], later, refl)
     first_of false [] = ([], [], refl)
@@ -165,7 +165,7 @@ pieces_of-front (x ∷ front) b bytes none =
 
 length-strip_last : (b : ℕ) (xs : List ℕ) → length xs ≤ length (strip_last b xs) + 1
 length-strip_last b xs = by_case (ends_with_byte b xs)
-    where
+  where
     by_case : (ends : Bool) → length xs ≤ length (cond ends (take (length xs - 1) xs) xs) + 1
     by_case true = omega (arith, length-take (length xs - 1) xs)
     by_case false = omega arith
@@ -173,7 +173,7 @@ length-strip_last b xs = by_case (ends_with_byte b xs)
 -- the end of a line takes two bytes at most
 pub length-line_of : (piece : List ℕ) → length piece ≤ length (line_of piece) + 2
 length-line_of piece = by_case (ends_with_byte 10 piece)
-    where
+  where
     by_case : (ends : Bool) → length piece ≤ length (cond ends (strip_last 13 (strip_last 10 piece)) piece) + 2
     by_case true = omega (arith, length-strip_last 10 piece, length-strip_last 13 (strip_last 10 piece))
     by_case false = omega arith

@@ -1,13 +1,15 @@
 -- What clauses see of the lines that are read and their place in the text. No public clause cites this
 -- module.
-use Rattle.std.specs.Prelude.{◌≡◌, ℕ, ◌+◌, ◌*◌, ◌<◌, ◌≤◌, List, [], ◌∷◌, length, take, drop, All, Option, None, Some, option_map, IfSome, IsSomeAnd, Result, Ok, Err}
+use Rattle.std.specs.Prelude.{◌≡◌, ℕ, Bool, true, false, ◌+◌, ◌*◌, ◌<◌, ◌≤◌, List, [], ◌∷◌, length, take, drop, All, Option, None, Some, option_map, IfSome, IsSomeAnd, Result, Ok, Err}
 use Rattle.std.specs.Io.KnownBytes.{prepend_known}
 use Rattle.lift_text.specs.Lines.{pieces_of, line_of}
 use Rattle.lift_text.specs.Window.{WindowState}
 use Rattle.lift_text.specs.declared.words.Span.{Span}
+use Rattle.lift_text.specs.declared.judge.Flaw.{Flaw}
+use Rattle.lift_text.specs.declared.judge.Flaw.TheVariants.{OverLong, ForbiddenByte}
 use Rattle.lift_text.specs.declared.page.Step.{Step}
 use Rattle.lift_text.specs.declared.page.Step.TheVariants.{WithWords, Blank, AtEnd}
-use Rattle.lift_text.specs.Reading.{TextState, reading, line_with, bad_line, past_limit, Passed}
+use Rattle.lift_text.specs.Reading.{TextState, Reading, reading, judged, line_with, bad_line, past_limit, Passed}
 use Rattle.lift_text.specs.declared.faults.TextFault.{TextFault}
 use Rattle.lift_text.specs.declared.faults.TextFault.TheVariants.{Read, TooLong, Bad, NoMemory}
 use Rattle.lift_text.specs.declared.window.Found.{Found}
@@ -46,6 +48,7 @@ pub record IsLine (before after : TextState) (piece : List ℕ) (line : ℕ) : T
   pub pieces : pieces_of before.bytes ≡ piece ∷ pieces_of after.bytes
   pub content : line_of piece ≡ take line piece
   pub within : length piece ≤ before.limit
+  pub limit : after.limit + length piece ≡ before.limit
   pub number : after.line ≡ before.line + 1
   pub passed : Passed before after
 
@@ -67,9 +70,26 @@ Forward Long old new = new.line ≡ old.line
 Forward Cut old new = new.line ≡ old.line
 Forward End old new = new.line ≡ old.line
 
+-- the step that a judgement makes of the line with this number
+abbrev pub step_of : ℕ → Result Bool Flaw → Result Step TextFault
+step_of line (Ok true) = Ok WithWords
+step_of line (Ok false) = Ok Blank
+step_of line (Err OverLong) = Err (Bad line 2)
+step_of line (Err ForbiddenByte) = Err (Bad line 1)
+
+-- what the current line was judged to be
+abbrev pub JudgedAs : ℕ → List ℕ → Result Step TextFault → List (List ℕ) → Type 0
+JudgedAs line text (Ok WithWords) words = (after : Reading) → judged line text after ≡ line_with line words after
+JudgedAs line text (Ok Blank) words = ((after : Reading) → judged line text after ≡ after) × (words ≡ [])
+JudgedAs line text (Ok AtEnd) words = ⊥
+JudgedAs line text (Err (Bad number code)) words = ((after : Reading) → judged line text after ≡ bad_line number code) × (words ≡ [])
+JudgedAs line text (Err TooLong) words = ⊥
+JudgedAs line text (Err Read) words = ⊥
+JudgedAs line text (Err NoMemory) words = ⊥
+
 -- what one line turned out to be: one with words, one without, or the end
 abbrev pub ReadLine : Option TextState → Result Step TextFault → List (List ℕ) → Option TextState → Type 0
-ReadLine None answer words after = after ≡ None
+ReadLine None answer words after = Unit {0}
 ReadLine (Some before) (Ok WithWords) words after = IsSomeAnd after (λ text. (reading before ≡ line_with text.line words (reading text)) × Passed before text)
 ReadLine (Some before) (Ok Blank) words after = IsSomeAnd after (λ text. (reading before ≡ reading text) × Passed before text)
 ReadLine (Some before) (Ok AtEnd) words after = (before.bytes ≡ []) × (after ≡ Some before)

@@ -1,6 +1,5 @@
 //! Whether a line may stand in a text.
-ghost use Rattle.std.specs.Prelude.{◌≡◌, ◌↔◌, ◌*◌, ◌+◌, ◌<◌, ◌≤◌, true, false, [], length, All, IsTrue, MatchResult, vec_capacity};
-ghost use Rattle.lift_text.specs.Lines.{is_clean, words_of};
+ghost use Rattle.std.specs.Prelude.{◌≡◌, ◌*◌, ◌<◌, ◌≤◌, [], length, All, OnErr, vec_capacity};
 ghost use Rattle.lift_text.specs.Words.{parts_of};
 ghost use Rattle.lift_text.specs.Judge.{Judged};
 
@@ -34,6 +33,7 @@ pub(crate) fn judge(line: &[u8], spans: &mut Vec<Span>) -> Result<bool, Flaw>
     requires room { 4096 < 2 * vec_capacity spans.old }
     requires none { spans.old.items ≡ [] }
     ensures judged { Judged line.now result (parts_of line.now spans.new.items) }
+    ensures err { OnErr result (spans.new.items ≡ []) }
     ensures capacity { vec_capacity spans.old ≤ vec_capacity spans.new }
     ensures inside { All (λ span. (span.start ≤ span.end) × (span.end ≤ length line.now)) spans.new.items }
 {

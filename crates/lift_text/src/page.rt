@@ -1,9 +1,10 @@
 //! The line of a text that is being read, and what is read of the text behind it.
 ghost use Rattle.std.specs.Prelude.{◌≡◌, ◌≢◌, ℕ, ◌+◌, ◌<◌, ◌≤◌, List, [], ◌∷◌, ◌++◌, Some, None, true, length, take, drop, IfOk, IfErr, OnOk, OnErr, IsErrOf};
 ghost use Rattle.lift_text.specs.Streams.{Rose};
+ghost use Rattle.lift_text.specs.Page.{step_of};
 
 use crate::faults::TextFault;
-use crate::judge::judge;
+use crate::judge::{Flaw, judge};
 use crate::sources::{Source, SourceFault};
 use crate::window::{Found, Window};
 use crate::words::Span;
@@ -58,7 +59,7 @@ impl Model for Page {
 impl Page {
     ghost use Rattle.std.specs.Prelude.{◌≡◌, ◌≢◌, ℕ, ◌+◌, ◌<◌, ◌≤◌, List, [], ◌∷◌, ◌++◌, Some, None, true, length, take, drop, IfOk, IfErr, OnOk, OnErr, IsErrOf};
     ghost use Rattle.lift_text.specs.Streams.{Rose};
-    ghost use Rattle.lift_text.specs.Page.{text_at, limit_of, Advanced, Forward, ReadLine};
+    ghost use Rattle.lift_text.specs.Page.{text_at, limit_of, Advanced, Forward, JudgedAs, ReadLine};
 
     /// A page before the first line.
     pub(crate) fn new(alloc: Global) -> Result<Page, AllocError>
@@ -111,5 +112,57 @@ impl Page {
             self.line += 1;
         }
         Ok(found)
+    }
+
+    /// Finds the words of the current line, which has so many bytes without its end.
+    fn judge_line(&mut self, count: usize) -> Result<Step, TextFault>
+        requires within { count ≤ length self.old.current }
+        requires words { self.old.words ≡ [] }
+        ensures judged { JudgedAs self.old.line (take count self.old.current) result self.new.words }
+        ensures same { self.new ≡ record self.old { words = self.new.words } }
+    {
+        let judgement = judge(&self.window.unread()[..count], &mut self.spans);
+        step_of(self.line, judgement)
+    }
+
+    /// Reads the next line, where the line before was left behind.
+    fn read_line<S: Source>(&mut self, source: &mut S) -> Result<Step, TextFault>
+        requires current { self.old.current ≡ [] }
+        requires words { self.old.words ≡ [] }
+        requires raw { self.old.raw ≡ [] }
+        ensures ok { ReadLine (text_at self.old (S.left source.old)) result self.new.words
+            (text_at self.new (S.left source.new)) }
+        ensures words { result ≢ Ok Step.WithWords → self.new.words ≡ [] }
+        ensures less { result ≡ Ok Step.Blank → limit_of self.new < limit_of self.old }
+        ensures raw { self.new.raw ≡ [] }
+        ensures failure { self.new.failure ≡ self.old.failure }
+        ensures read { IsErrOf result TextFault.Read → Rose (S.faults source.old) (S.faults source.new) }
+        ensures no_memory { result ≢ Err TextFault.NoMemory }
+        ensures counted { S.faults source.old ≤ S.faults source.new }
+    {
+        match self.advance(source) {
+            Ok(Found::Line { line, .. }) => self.judge_line(line),
+            Ok(Found::Long) => Err(TextFault::Bad {
+                line: self.line + 1,
+                code: Flaw::OverLong.code(),
+            }),
+            Ok(Found::Cut) => Err(TextFault::TooLong),
+            Ok(Found::End) => Ok(Step::AtEnd),
+            Err(SourceFault) => Err(TextFault::Read),
+        }
+    }
+}
+
+/// The step that a judgement makes of the line with this number.
+fn step_of(line: u64, judgement: Result<bool, Flaw>) -> Result<Step, TextFault>
+    ensures { result ≡ step_of line judgement }
+{
+    match judgement {
+        Ok(true) => Ok(Step::WithWords),
+        Ok(false) => Ok(Step::Blank),
+        Err(flaw) => Err(TextFault::Bad {
+            line,
+            code: flaw.code(),
+        }),
     }
 }

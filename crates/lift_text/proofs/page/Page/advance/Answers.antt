@@ -36,7 +36,7 @@ returns-in_default g c =
     let known = advanced_other found page.line page.window.quota window.quota page.window.unread window.unread before (left c.find.new.source) c.in_default.not-Line c.in_ok-found.ensures.ok c.in_ok-found.ensures.quota [] in
     let no_raw : page.raw ≡ 0 = omega (arith, c.self.invariant.raw_within) in
     let whole = subst (λ (p : PageState). Advanced found (text_at p before) [] after) c.self.view_is
-        (nothing_behind found page.line page.window.quota page.size page.window.unread before [] after zero known) in
+    (nothing_behind found page.line page.window.quota page.size page.window.unread before [] after zero known) in
     record {
       words = ap (parts_of window.unread) none;
       raw = ap (λ n. take n window.unread) no_raw;
