@@ -97,3 +97,8 @@ ReadLine (Some before) (Err (Bad line code)) words after = reading before ≡ ba
 ReadLine (Some before) (Err TooLong) words after = reading before ≡ past_limit
 ReadLine (Some before) (Err Read) words after = Unit {0}
 ReadLine (Some before) (Err NoMemory) words after = ⊥
+
+-- from one state to a later one, over lines without words
+abbrev pub Continues : Option TextState → Option TextState → Type 0
+Continues None after = Unit {0}
+Continues (Some before) after = IsSomeAnd after (λ text. (reading before ≡ reading text) × Passed before text)

@@ -1,5 +1,5 @@
 //! The line of a text that is being read, and what is read of the text behind it.
-ghost use Rattle.std.specs.Prelude.{◌≡◌, ◌≢◌, ℕ, ◌+◌, ◌<◌, ◌≤◌, List, [], ◌∷◌, ◌++◌, Some, None, true, length, take, drop, IfOk, IfErr, OnOk, OnErr, IsErrOf};
+ghost use Rattle.std.specs.Prelude.{◌≡◌, ◌≢◌, ℕ, ◌+◌, ◌<◌, ◌≤◌, List, [], ◌∷◌, ◌++◌, Some, None, true, length, take, drop, IfOk, IfErr, IfSome, OnOk, OnErr, IsErrOf};
 ghost use Rattle.lift_text.specs.Streams.{Rose};
 ghost use Rattle.lift_text.specs.Page.{step_of};
 
@@ -57,8 +57,9 @@ impl Model for Page {
 }
 
 impl Page {
-    ghost use Rattle.std.specs.Prelude.{◌≡◌, ◌≢◌, ℕ, ◌+◌, ◌<◌, ◌≤◌, List, [], ◌∷◌, ◌++◌, Some, None, true, length, take, drop, IfOk, IfErr, OnOk, OnErr, IsErrOf};
+    ghost use Rattle.std.specs.Prelude.{◌≡◌, ◌≢◌, ℕ, ◌+◌, ◌<◌, ◌≤◌, List, [], ◌∷◌, ◌++◌, Some, None, true, length, take, drop, IfOk, IfErr, IfSome, OnOk, OnErr, IsErrOf};
     ghost use Rattle.lift_text.specs.Streams.{Rose};
+    ghost use Rattle.lift_text.specs.Reading.{NextLine};
     ghost use Rattle.lift_text.specs.Page.{text_at, limit_of, Advanced, Forward, JudgedAs, ReadLine};
 
     /// A page before the first line.
@@ -150,6 +151,53 @@ impl Page {
             Ok(Found::End) => Ok(Step::AtEnd),
             Err(SourceFault) => Err(TextFault::Read),
         }
+    }
+
+    /// Reads the next line that has a word, and answers false at the end of the text.
+    fn read_on<S: Source>(&mut self, source: &mut S) -> Result<bool, TextFault>
+        ensures next { NextLine (text_at self.old (S.left source.old)) result self.new.words self.new.line
+            (text_at self.new (S.left source.new)) }
+        ensures words { result ≢ Ok true → self.new.words ≡ [] }
+        ensures raw { self.new.raw ≡ [] }
+        ensures failure { self.new.failure ≡ self.old.failure }
+        ensures read { IsErrOf result TextFault.Read → Rose (S.faults source.old) (S.faults source.new) }
+        ensures no_memory { result ≢ Err TextFault.NoMemory }
+        ensures counted { S.faults source.old ≤ S.faults source.new }
+    {
+        'lines: loop {
+            self.clear();
+            match self.read_line(source)? {
+                Step::WithWords => return Ok(true),
+                Step::AtEnd => return Ok(false),
+                Step::Blank => {}
+            }
+        }
+    }
+
+    /// Reads the next line that has a word, and answers false at the end of the text. An `Err` is
+    /// answered from then on.
+    pub(crate) fn next_line<S: Source>(&mut self, source: &mut S) -> Result<bool, TextFault>
+        ensures next { self.old.failure ≡ None → NextLine (text_at self.old (S.left source.old)) result self.new.words
+            self.new.line (text_at self.new (S.left source.new)) }
+        ensures again { IfSome self.old.failure (λ fault. result ≡ Err fault) }
+        ensures words { result ≢ Ok true → self.new.words ≡ [] }
+        ensures raw { self.new.raw ≡ [] }
+        ensures ok { OnOk result (self.new.failure ≡ None) }
+        ensures err { IfErr result (λ fault. self.new.failure ≡ Some fault) }
+        ensures read { self.old.failure ≡ None → IsErrOf result TextFault.Read
+            → Rose (S.faults source.old) (S.faults source.new) }
+        ensures no_memory { self.old.failure ≡ None → result ≢ Err TextFault.NoMemory }
+        ensures counted { S.faults source.old ≤ S.faults source.new }
+    {
+        self.clear();
+        if let Some(fault) = self.failure {
+            return Err(fault);
+        }
+        let result = self.read_on(source);
+        if let Err(fault) = &result {
+            self.failure = Some(*fault);
+        }
+        result
     }
 }
 
