@@ -8,3 +8,4 @@ pub mod Found
 pub mod Reading
 pub mod Page
 pub mod Judge
+pub mod LineReader
