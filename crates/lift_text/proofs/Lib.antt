@@ -6,3 +6,4 @@ pub mod WindowLemmas
 pub mod PieceLemmas
 pub mod PageLemmas
 pub mod ReadLemmas
+pub mod SkipLemmas

@@ -3,7 +3,7 @@ ghost use Rattle.std.specs.Prelude.{◌≡◌, ◌≢◌, ℕ, ◌+◌, ◌<◌,
 ghost use Rattle.std.specs.Io.KnownBytes.{prepend_known, IsAtEnd};
 ghost use Rattle.std.specs.Io.BufRead.{strip_last};
 ghost use Rattle.lift_text.specs.Streams.{Rose};
-ghost use Rattle.lift_text.specs.Found.{Filled, FoundIn, NoLineFeedBelow};
+ghost use Rattle.lift_text.specs.Found.{Filled, FoundIn, NoLineFeedBelow, SkippedIn};
 
 use crate::places::place_of;
 use crate::sources::{Source, SourceFault};
@@ -37,6 +37,13 @@ pub(crate) enum Found {
     Long,
     Cut,
     End,
+}
+
+/// How a line was skipped: whole, or up to the most bytes that may be taken.
+#[derive(Clone, Copy, Debug, PartialEq, Eq)]
+pub(crate) enum Skipped {
+    Whole,
+    Cut,
 }
 
 #[derive(Drop)]
@@ -178,6 +185,33 @@ impl Window {
                 Fill::More => {}
                 Fill::End => return Ok(last_found(searched)),
                 Fill::Limit => return Ok(Found::Cut),
+            }
+        }
+    }
+
+    /// Leaves the line at the front behind, however long it is.
+    pub(crate) fn skip_line<S: Source>(&mut self, source: &mut S) -> Result<Skipped, SourceFault>
+        requires { 0 < length self.old.unread }
+        ensures ok { IfOk result (λ skipped. SkippedIn skipped (prepend_known self.old.unread (S.left source.old))
+            (self.old.quota + length self.old.unread) self.new.unread (S.left source.new) self.new.quota) }
+        ensures less { self.new.quota + length self.new.unread ≤ self.old.quota + length self.old.unread }
+        ensures one { result ≡ Ok Skipped.Whole
+            → self.new.quota + length self.new.unread < self.old.quota + length self.old.unread }
+        ensures counted { S.faults source.old ≤ S.faults source.new }
+        ensures fault { OnErr result (Rose (S.faults source.old) (S.faults source.new)) }
+    {
+        'skip: loop {
+            let place = self.line_feed_from(0);
+            let len = self.len();
+            if place < len {
+                self.consume(place + 1);
+                return Ok(Skipped::Whole);
+            }
+            self.consume(len);
+            match self.fill(source)? {
+                Fill::More => {}
+                Fill::End => return Ok(Skipped::Whole),
+                Fill::Limit => return Ok(Skipped::Cut),
             }
         }
     }
