@@ -58,13 +58,18 @@ first_long (x ∷ unread) (b ∷ rest) long none =
     let first = pieces_of-front front b rest none in
     (front ++ b ∷ first.0, first.1, first.2, omega (arith, length-line_of (front ++ b ∷ first.0), length-append front (b ∷ first.0)))
 
-advanced_long : (number limit : ℕ) (known left : Option (List ℕ)) (unread : List ℕ) (quota : ℕ) → FoundIn Long known unread left quota → length unread ≤ limit
-    → (current : List ℕ) (after : Option TextState) → Advanced Long (state number limit known) current after
-advanced_long number limit known None unread quota found within current after =
-    subst (λ k. Advanced Long (state number limit k) current after) (sym found.0) tt
-advanced_long number limit known (Some rest) unread quota found within current after =
-    let first = first_long unread rest found.1 found.2 in
-    subst (λ k. Advanced Long (state number limit k) current after) (sym found.0) (first.0, first.1, first.2, (omega (arith, found.1), first.3))
+advanced_long : (number limit limit' : ℕ) (known left : Option (List ℕ)) (unread : List ℕ) (quota : ℕ) → FoundIn Long known unread left quota → length unread ≤ limit → limit' ≡ limit
+    → (current : List ℕ) → Advanced Long (state number limit known) current (state number limit' (prepend_known unread left))
+advanced_long number limit limit' known None unread quota found within same current = (
+  subst (λ k. IfSome (state number limit k) (λ text. FirstPiece text (λ piece. (4097 < text.limit) × (4096 < length (line_of piece))))) (sym found.0) tt,
+  ap (λ n. state number n (prepend_known unread None)) same ∙ ap (state number limit) (sym found.0),
+)
+advanced_long number limit limit' known (Some rest) unread quota found within same current =
+    let first = first_long unread rest found.1 found.2 in (
+      subst (λ k. IfSome (state number limit k) (λ text. FirstPiece text (λ piece. (4097 < text.limit) × (4096 < length (line_of piece))))) (sym found.0)
+          (first.0, first.1, first.2, (omega (arith, found.1), first.3)),
+      ap (λ n. state number n (prepend_known unread (Some rest))) same ∙ ap (state number limit) (sym found.0),
+    )
 
 advanced_cut : (number limit : ℕ) (known left : Option (List ℕ)) (unread : List ℕ) (quota : ℕ) → FoundIn Cut known unread left quota → limit ≡ quota + length unread
     → (current : List ℕ) (after : Option TextState) → Advanced Cut (state number limit known) current after
@@ -94,7 +99,7 @@ pub advanced_other : (found : Found) (number quota quota' : ℕ) (start unread :
     → (current : List ℕ) → Advanced found (state number (quota + length start) (prepend_known start left)) current (state number (quota' + length unread) (prepend_known unread left'))
 advanced_other (Line line size) number quota quota' start unread left left' other found used current = absurd (other line size refl)
 advanced_other Long number quota quota' start unread left left' other found used current =
-    advanced_long number (quota + length start) (prepend_known start left) left' unread quota' found (omega arith) current (state number (quota' + length unread) (prepend_known unread left'))
+    advanced_long number (quota + length start) (quota' + length unread) (prepend_known start left) left' unread quota' found (omega arith) used current
 advanced_other Cut number quota quota' start unread left left' other found used current =
     advanced_cut number (quota + length start) (prepend_known start left) left' unread quota' found (omega arith) current (state number (quota' + length unread) (prepend_known unread left'))
 advanced_other End number quota quota' start unread left left' other found used current =
@@ -114,8 +119,9 @@ pub nothing_behind : (found : Found) (number quota size : ℕ) (unread : List �
 nothing_behind found number quota size unread left current after zero known =
     subst (λ n. Advanced found (state number (quota + length (drop n unread)) (prepend_known (drop n unread) left)) current after) (sym zero) known
 
-pub forward_other : (found : Found) (old new : PageState) → ((line size : ℕ) → found ≢ Line line size) → new.line ≡ old.line → Forward found old new
-forward_other (Line line size) old new other same = absurd (other line size refl)
-forward_other Long old new other same = same
-forward_other Cut old new other same = same
-forward_other End old new other same = same
+pub forward_other : (found : Found) (old new : PageState) (known left : Option (List ℕ)) (quota : ℕ) → ((line size : ℕ) → found ≢ Line line size) → new.line ≡ old.line → new.current ≡ []
+    → FoundIn found known new.unread left quota → Forward found old new
+forward_other (Line line size) old new known left quota other same current found = absurd (other line size refl)
+forward_other Long old new known left quota other same current found = (same, current, omega (arith, found.1))
+forward_other Cut old new known left quota other same current found = same
+forward_other End old new known left quota other same current found = same

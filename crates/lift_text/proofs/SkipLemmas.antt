@@ -1,10 +1,15 @@
 -- Passing over a line of any length.
-use Rattle.std.proofs.Common.{◌≡◌, ◌≢◌, ℕ, suc, ◌+◌, ◌-◌, ◌<◌, ◌≤◌, List, [], ◌∷◌, ◌++◌, Option, None, Some, length, take, drop, get_or, arith, ap, sym, ◌∙◌, refl, subst, append_assoc, append-nil, length-append, length-drop, drop-cons, add-one, inl, inr}
+use Rattle.std.proofs.Common.{◌≡◌, ◌≢◌, Bool, true, false, cond, eqb, Ok, ℕ, suc, ◌+◌, ◌-◌, ◌<◌, ◌≤◌, List, [], ◌∷◌, ◌++◌, Option, None, Some, length, take, drop, get_or, arith, ap, sym, ◌∙◌, refl, subst, append_assoc, append-nil, length-append, length-drop, drop-cons, add-one, inl, inr}
+use Rattle.std.specs.Prelude.{IsSomeAnd}
+use Rattle.std.specs.List.{onto_first}
 use Rattle.std.specs.Io.KnownBytes.{prepend_known, IsAtEnd}
 use Rattle.std.proofs.lemmas.List.{take-append-drop, length-take-le, get_or-take, get_or-append_right, get_or_append_left}
 use Rattle.std.proofs.lemmas.Bool.{cases_lt}
 use Rattle.lift_text.specs.Lines.{pieces_of}
 use Rattle.lift_text.specs.Found.{NoLineFeed, NoLineFeedBelow, SkippedIn}
+use Rattle.lift_text.specs.Page.{SkippedLine}
+use Rattle.lift_text.specs.declared.faults.RawLine.TheVariants.{Long}
+use Rattle.lift_text.proofs.PageLemmas.{state}
 use Rattle.lift_text.specs.declared.window.Skipped.TheVariants.{Whole, Cut}
 use Rattle.lift_text.proofs.KnownBytes.{prepend_known-append}
 use Rattle.lift_text.proofs.PieceLemmas.{pieces_of-append, pieces_of-last, pieces_of-front}
@@ -12,8 +17,8 @@ use Rattle.lift_text.proofs.PieceLemmas.{pieces_of-append, pieces_of-last, piece
 pub no_line_feed-append : (xs ys : List ℕ) → NoLineFeed xs → NoLineFeed ys → NoLineFeed (xs ++ ys)
 no_line_feed-append xs ys first second k below is =
     elim (cases_lt k (length xs)) [
-      inl before ↦ first k before (sym (get_or_append_left xs ys 0 k before) ∙ is)
-    | inr after ↦ second (k - length xs) (omega (arith, length-append xs ys)) (sym (get_or-append_right xs ys (length xs) k 0 refl after) ∙ is)
+      | inl before ↦ first k before (sym (get_or_append_left xs ys 0 k before) ∙ is)
+      | inr after ↦ second (k - length xs) (omega (arith, length-append xs ys)) (sym (get_or-append_right xs ys (length xs) k 0 refl after) ∙ is)
     ]
 
 no_line_feed-take : (place : ℕ) (unread : List ℕ) → place ≤ length unread → NoLineFeedBelow unread place → NoLineFeed (take place unread)
@@ -60,3 +65,34 @@ skipped_cut before (Some rest) front b quota limit none known used unread =
 -- a search that finds nothing went over all
 pub all_searched : (place len size : ℕ) → len ≤ place → place ≤ size → len ≡ size → place ≡ size
 all_searched place len size past within whole = omega arith
+
+abbrev size_of : List (List ℕ) → ℕ
+size_of [] = 0
+size_of (piece ∷ pieces) = length piece + size_of pieces
+
+size_of-step : (ends : Bool) (b : ℕ) (later : List (List ℕ)) → size_of (cond ends ((b ∷ []) ∷ later) (onto_first b later)) ≡ 1 + size_of later
+size_of-step true b later = refl
+size_of-step false b [] = refl
+size_of-step false b (piece ∷ pieces) = omega arith
+
+-- the lines with their ends have all bytes
+size_of-pieces : (bytes : List ℕ) → size_of (pieces_of bytes) ≡ length bytes
+size_of-pieces [] = refl
+size_of-pieces (b ∷ bytes) = omega (arith, size_of-step (eqb b 10) b (pieces_of bytes), size_of-pieces bytes)
+
+skipped_rest : (number limit limit' : ℕ) (bytes : List ℕ) (known : Option (List ℕ)) → IsSomeAnd known (λ rest. (piece : List ℕ) × (pieces_of bytes ≡ piece ∷ pieces_of rest) × (limit' + length piece ≡ limit))
+    → SkippedLine (Some (record { line = number; limit = limit; bytes = bytes })) (Ok Long) (state (number + 1) limit' known)
+skipped_rest number limit limit' bytes None skipped = absurd skipped
+skipped_rest number limit limit' bytes (Some rest) skipped =
+    let one : number + 1 - number ≡ 1 = omega arith in
+    let size = ap size_of skipped.1 in
+    (skipped.0, skipped.1, omega (arith, skipped.2), refl, record {
+      lines = omega arith;
+      pieces = sym (ap (λ n. drop n (pieces_of bytes)) one ∙ ap (drop 1) skipped.1);
+      limit = omega (arith, skipped.2, size, size_of-pieces bytes, size_of-pieces rest);
+    })
+
+pub skipped_text : (number limit quota : ℕ) (known : Option (List ℕ)) (unread : List ℕ) (left : Option (List ℕ)) → SkippedIn Whole known limit unread left quota
+    → SkippedLine (state number limit known) (Ok Long) (state (number + 1) (quota + length unread) (prepend_known unread left))
+skipped_text number limit quota None unread left skipped = tt
+skipped_text number limit quota (Some bytes) unread left skipped = skipped_rest number limit (quota + length unread) bytes (prepend_known unread left) skipped

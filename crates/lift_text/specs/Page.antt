@@ -12,6 +12,8 @@ use Rattle.lift_text.specs.declared.page.Step.TheVariants.{WithWords, Blank, AtE
 use Rattle.lift_text.specs.Reading.{TextState, Reading, reading, judged, line_with, bad_line, past_limit, Passed}
 use Rattle.lift_text.specs.declared.faults.TextFault.{TextFault}
 use Rattle.lift_text.specs.declared.faults.TextFault.TheVariants.{Read, TooLong, Bad, NoMemory}
+use Rattle.lift_text.specs.declared.faults.RawLine.{RawLine}
+use Rattle.lift_text.specs.declared.faults.RawLine.TheVariants.{Line as LineRaw, Long as LongRaw, End as EndRaw}
 use Rattle.lift_text.specs.declared.window.Found.{Found}
 use Rattle.lift_text.specs.declared.window.Found.TheVariants.{Line, Long, Cut, End}
 
@@ -59,14 +61,14 @@ FirstPiece text holds = (piece : List ℕ) × (pieces : List (List ℕ)) × (pie
 -- what was found of the next line, by the state before, the line and the state after
 abbrev pub Advanced : Found → Option TextState → List ℕ → Option TextState → Type 0
 Advanced (Line line size) before current after = IfSome before (λ text. IsSomeAnd after (λ rest. IsLine text rest current line))
-Advanced Long before current after = IfSome before (λ text. FirstPiece text (λ piece. (4097 < text.limit) × (4096 < length (line_of piece))))
+Advanced Long before current after = IfSome before (λ text. FirstPiece text (λ piece. (4097 < text.limit) × (4096 < length (line_of piece)))) × (after ≡ before)
 Advanced Cut before current after = IfSome before (λ text. FirstPiece text (λ piece. (text.limit ≤ 4097) × (text.limit < length piece)))
 Advanced End before current after = IfSome before (λ text. text.bytes ≡ []) × (after ≡ before)
 
 -- the line is counted, and there is less to read
 abbrev pub Forward : Found → PageState → PageState → Type 0
 Forward (Line line size) old new = (line ≤ length new.current) × (new.line ≡ old.line + 1) × (limit_of new < limit_of old)
-Forward Long old new = new.line ≡ old.line
+Forward Long old new = (new.line ≡ old.line) × (new.current ≡ []) × (0 < length new.unread)
 Forward Cut old new = new.line ≡ old.line
 Forward End old new = new.line ≡ old.line
 
@@ -102,3 +104,14 @@ ReadLine (Some before) (Err NoMemory) words after = ⊥
 abbrev pub Continues : Option TextState → Option TextState → Type 0
 Continues None after = Unit {0}
 Continues (Some before) after = IsSomeAnd after (λ text. (reading before ≡ reading text) × Passed before text)
+
+-- what was passed over of a line, by the answer and the state after it
+abbrev pub SkippedLine : Option TextState → Result RawLine TextFault → Option TextState → Type 0
+SkippedLine before (Ok LongRaw) after = IfSome before (λ text. IsSomeAnd after (λ rest.
+    (piece : List ℕ) × (pieces_of text.bytes ≡ piece ∷ pieces_of rest.bytes) × (length piece ≤ text.limit) × (rest.line ≡ text.line + 1) × Passed text rest))
+SkippedLine before (Ok LineRaw) after = ⊥
+SkippedLine before (Ok EndRaw) after = ⊥
+SkippedLine before (Err TooLong) after = IfSome before (λ text. FirstPiece text (λ piece. text.limit < length piece))
+SkippedLine before (Err Read) after = Unit {0}
+SkippedLine before (Err (Bad line code)) after = ⊥
+SkippedLine before (Err NoMemory) after = ⊥

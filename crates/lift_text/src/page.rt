@@ -3,10 +3,10 @@ ghost use Rattle.std.specs.Prelude.{◌≡◌, ◌≢◌, ℕ, ◌+◌, ◌<◌,
 ghost use Rattle.lift_text.specs.Streams.{Rose};
 ghost use Rattle.lift_text.specs.Page.{step_of};
 
-use crate::faults::TextFault;
-use crate::judge::{Flaw, judge};
+use crate::faults::{RawLine, TextFault};
+use crate::judge::{Flaw, LINE_LIMIT, judge};
 use crate::sources::{Source, SourceFault};
-use crate::window::{Found, Window};
+use crate::window::{Found, Skipped, Window};
 use crate::words::Span;
 use std::alloc::{AllocError, Global};
 use std::marker::Model;
@@ -59,8 +59,8 @@ impl Model for Page {
 impl Page {
     ghost use Rattle.std.specs.Prelude.{◌≡◌, ◌≢◌, ℕ, ◌+◌, ◌<◌, ◌≤◌, List, [], ◌∷◌, ◌++◌, Some, None, true, length, take, drop, IfOk, IfErr, IfSome, OnOk, OnErr, IsErrOf};
     ghost use Rattle.lift_text.specs.Streams.{Rose};
-    ghost use Rattle.lift_text.specs.Reading.{NextLine};
-    ghost use Rattle.lift_text.specs.Page.{text_at, limit_of, Advanced, Forward, JudgedAs, ReadLine};
+    ghost use Rattle.lift_text.specs.Reading.{NextLine, NextRaw};
+    ghost use Rattle.lift_text.specs.Page.{text_at, limit_of, Advanced, Forward, JudgedAs, ReadLine, SkippedLine};
 
     /// A page before the first line.
     pub(crate) fn new(alloc: Global) -> Result<Page, AllocError>
@@ -198,6 +198,67 @@ impl Page {
             self.failure = Some(*fault);
         }
         result
+    }
+
+    /// Keeps the current line as it stands, which has so many bytes without its end, if it is not
+    /// over long.
+    fn keep_raw(&mut self, count: usize) -> RawLine
+        requires { count ≤ length self.old.current }
+        ensures line { count ≤ 4096 → (result ≡ RawLine.Line)
+            × (self.new ≡ record self.old { raw = take count self.old.current }) }
+        ensures long { 4096 < count → (result ≡ RawLine.Long) × (self.new ≡ self.old) }
+        ensures end { result ≢ RawLine.End }
+    {
+        if count > LINE_LIMIT {
+            return RawLine::Long;
+        }
+        self.raw = count;
+        RawLine::Line
+    }
+
+    /// Leaves an over-long line behind.
+    fn skip_long<S: Source>(&mut self, source: &mut S) -> Result<RawLine, TextFault>
+        requires some { 0 < length self.old.unread }
+        requires current { self.old.current ≡ [] }
+        requires words { self.old.words ≡ [] }
+        requires raw { self.old.raw ≡ [] }
+        ensures skipped { SkippedLine (text_at self.old (S.left source.old)) result (text_at self.new (S.left source.new)) }
+        ensures words { self.new.words ≡ [] }
+        ensures raw { self.new.raw ≡ [] }
+        ensures failure { self.new.failure ≡ self.old.failure }
+        ensures read { IsErrOf result TextFault.Read → Rose (S.faults source.old) (S.faults source.new) }
+        ensures counted { S.faults source.old ≤ S.faults source.new }
+    {
+        match self.window.skip_line(source) {
+            Ok(Skipped::Whole) => {
+                self.line += 1;
+                Ok(RawLine::Long)
+            }
+            Ok(Skipped::Cut) => Err(TextFault::TooLong),
+            Err(SourceFault) => Err(TextFault::Read),
+        }
+    }
+
+    /// Reads the next line as it stands, where the line before was left behind.
+    fn read_raw<S: Source>(&mut self, source: &mut S) -> Result<RawLine, TextFault>
+        requires current { self.old.current ≡ [] }
+        requires words { self.old.words ≡ [] }
+        requires raw { self.old.raw ≡ [] }
+        ensures next { NextRaw (text_at self.old (S.left source.old)) result self.new.raw
+            (text_at self.new (S.left source.new)) }
+        ensures raw { result ≢ Ok RawLine.Line → self.new.raw ≡ [] }
+        ensures words { self.new.words ≡ [] }
+        ensures failure { self.new.failure ≡ self.old.failure }
+        ensures read { IsErrOf result TextFault.Read → Rose (S.faults source.old) (S.faults source.new) }
+        ensures counted { S.faults source.old ≤ S.faults source.new }
+    {
+        match self.advance(source) {
+            Ok(Found::Line { line, .. }) => Ok(self.keep_raw(line)),
+            Ok(Found::Long) => self.skip_long(source),
+            Ok(Found::Cut) => Err(TextFault::TooLong),
+            Ok(Found::End) => Ok(RawLine::End),
+            Err(SourceFault) => Err(TextFault::Read),
+        }
     }
 }
 

@@ -42,7 +42,9 @@ returns-in_default g c =
       raw = ap (λ n. take n window.unread) no_raw;
       failure = ap (λ (p : PageState). p.failure) c.self.view_is;
       ok = subst (λ n. Advanced found (text_at c.args.self.now before) (take n window.unread) (state page.line (window.quota + length (drop n window.unread)) (prepend_known (drop n window.unread) (left c.find.new.source)))) (sym zero) whole;
-      forward = forward_other found c.args.self.now _ c.in_default.not-Line (ap (λ (p : PageState). p.line) c.self.view_is);
+      forward = forward_other found c.args.self.now _ _ (left c.find.new.source) window.quota c.in_default.not-Line (ap (λ (p : PageState). p.line) c.self.view_is)
+          (ap (λ n. take n window.unread) zero)
+          (subst (λ n. FoundIn found (prepend_known page.window.unread before) (drop n window.unread) (left c.find.new.source) window.quota) (sym zero) c.in_ok-found.ensures.ok);
       counted = omega arith;
       fault = tt;
     }

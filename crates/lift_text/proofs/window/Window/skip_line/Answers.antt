@@ -30,9 +30,12 @@ skip-preserved g c =
     let none = no_line_feed-append front.0 unread front.1 (subst (λ n. (k : ℕ) → k < n → get_or unread k 0 ≢ 10) (all_searched _ _ _ c.if-place-len.false c.line_feed_from-place.ensures.within c.len-len.ensures) c.line_feed_from-place.ensures.none) in
     record {
       some = omega (arith, ap length same, more.1);
-      front = (front.0 ++ unread, none,
-          given_more _ _ _ _ _ front.2 more.3 ∙ ap (λ l. prepend_known (front.0 ++ unread ++ l) (g.S.Source.left c.fill.new.source)) (sym same),
-          omega (arith, front.3, filled.quota, c.consume-in-skip.ensures.quota, ap length empty, length-append front.0 unread));
+      front = (
+        front.0 ++ unread,
+        none,
+        given_more _ _ _ _ _ front.2 more.3 ∙ ap (λ l. prepend_known (front.0 ++ unread ++ l) (g.S.Source.left c.fill.new.source)) (sym same),
+        omega (arith, front.3, filled.quota, c.consume-in-skip.ensures.quota, ap length empty, length-append front.0 unread),
+      );
       counted = omega (arith, filled.counted);
     }
 
@@ -50,7 +53,7 @@ returns-in-End-clause-ok g c =
     let known = front.2 ∙ ap (prepend_known (front.0 ++ unread)) (sym filled.ok.0) in
     let size = length-append front.0 unread in
     let whole = skipped_end before left (front.0 ++ unread) c.fill.new.self.quota limit none (omega (arith, c.skip.invariant.some)) known filled.ok.1
-        (omega (arith, front.3, filled.quota, c.consume-in-skip.ensures.quota, ap length empty, ap length same)) in
+    (omega (arith, front.3, filled.quota, c.consume-in-skip.ensures.quota, ap length empty, ap length same)) in
     subst (λ l. SkippedIn Whole before limit l left c.fill.new.self.quota) (sym same) whole
 
 pub returns-in-Limit-clause-ok : goal.returns-in-Limit-clause-ok
