@@ -125,3 +125,9 @@ forward_other (Line line size) old new known left quota other same current found
 forward_other Long old new known left quota other same current found = (same, current, omega (arith, found.1))
 forward_other Cut old new known left quota other same current found = same
 forward_other End old new known left quota other same current found = same
+
+pub at_end : (found : Found) (known left : Option (List ℕ)) (unread : List ℕ) (quota : ℕ) → FoundIn found known unread left quota → found ≡ End → IsAtEnd left
+at_end (Line line size) known left unread quota found is = absurd cc
+at_end Long known left unread quota found is = absurd cc
+at_end Cut known left unread quota found is = absurd cc
+at_end End known left unread quota found is = found.2

@@ -85,12 +85,17 @@ skipped_rest : (number limit limit' : ℕ) (bytes : List ℕ) (known : Option (L
 skipped_rest number limit limit' bytes None skipped = absurd skipped
 skipped_rest number limit limit' bytes (Some rest) skipped =
     let one : number + 1 - number ≡ 1 = omega arith in
-    let size = ap size_of skipped.1 in
-    (skipped.0, skipped.1, omega (arith, skipped.2), refl, record {
-      lines = omega arith;
-      pieces = sym (ap (λ n. drop n (pieces_of bytes)) one ∙ ap (drop 1) skipped.1);
-      limit = omega (arith, skipped.2, size, size_of-pieces bytes, size_of-pieces rest);
-    })
+    let size = ap size_of skipped.1 in (
+      skipped.0,
+      skipped.1,
+      omega (arith, skipped.2),
+      refl,
+      record {
+        lines = omega arith;
+        pieces = sym (ap (λ n. drop n (pieces_of bytes)) one ∙ ap (drop 1) skipped.1);
+        limit = omega (arith, skipped.2, size, size_of-pieces bytes, size_of-pieces rest);
+      },
+    )
 
 pub skipped_text : (number limit quota : ℕ) (known : Option (List ℕ)) (unread : List ℕ) (left : Option (List ℕ)) → SkippedIn Whole known limit unread left quota
     → SkippedLine (state number limit known) (Ok Long) (state (number + 1) (quota + length unread) (prepend_known unread left))

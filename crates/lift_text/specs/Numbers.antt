@@ -3,6 +3,8 @@ use Rattle.std.specs.Prelude.{ℕ, Bool, ◌&&◌, ◌||◌, ◌==◌, List, [],
 use Rattle.std.specs.List.{list_all}
 use Rattle.std.specs.Char.{is_ascii_digit}
 use Rattle.std.specs.Str.Parse.{digits_value}
+use Rattle.lift_text.specs.declared.faults.TextFault.{TextFault}
+use Rattle.lift_text.specs.declared.faults.TextFault.TheVariants.{Bad}
 use Rattle.lift_text.specs.declared.numbers.NumberFault.{NumberFault}
 use Rattle.lift_text.specs.declared.numbers.NumberFault.TheVariants.{NoNumber, OutOfRange}
 
@@ -29,3 +31,9 @@ in_range low high (Some value) = if int_lt value low || int_lt high value then E
 -- a word read as a number from low to high; a `-` may begin it where low is below 0
 abbrev pub read_number : ℤ → ℤ → List ℕ → Result ℤ NumberFault
 read_number low high word = in_range low high (number_of (int_lt low (pos 0)) word)
+
+-- what is answered of a word of the line with this number
+abbrev pub number_answer : ℕ → Result ℤ NumberFault → Result ℤ TextFault
+number_answer line (Ok value) = Ok value
+number_answer line (Err NoNumber) = Err (Bad line 6)
+number_answer line (Err OutOfRange) = Err (Bad line 7)

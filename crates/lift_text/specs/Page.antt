@@ -30,10 +30,11 @@ pub record PageState : Type 0 where
 
 -- what a page keeps: the current line at the front of the window, its raw text and its words in it, room for
 -- the words of a longest line, and no more lines than bytes
-pub record IsPage (window : WindowState) (size raw line capacity : ℕ) (spans : List Span) : Type 0 where
+pub record IsPage (window : WindowState) (size raw line count capacity : ℕ) (spans : List Span) : Type 0 where
   pub size_within : size ≤ length window.unread
   pub raw_within : raw ≤ size
   pub words_within : All (λ span. (span.start ≤ span.end) × (span.end ≤ size)) spans
+  pub few : count ≤ 4096
   pub room : 4096 < 2 * capacity
   pub counted : line + (window.quota + length (drop size window.unread)) ≤ 67108864
 

@@ -1,5 +1,5 @@
 //! Whether a line may stand in a text.
-ghost use Rattle.std.specs.Prelude.{◌≡◌, ◌*◌, ◌<◌, ◌≤◌, [], length, All, OnErr, vec_capacity};
+ghost use Rattle.std.specs.Prelude.{◌≡◌, ◌*◌, ◌<◌, ◌≤◌, [], length, All, true, OnErr, vec_len, vec_capacity};
 ghost use Rattle.lift_text.specs.Words.{parts_of};
 ghost use Rattle.lift_text.specs.Judge.{Judged};
 
@@ -33,6 +33,8 @@ pub(crate) fn judge(line: &[u8], spans: &mut Vec<Span>) -> Result<bool, Flaw>
     requires room { 4096 < 2 * vec_capacity spans.old }
     requires none { spans.old.items ≡ [] }
     ensures judged { Judged line.now result (parts_of line.now spans.new.items) }
+    ensures count { vec_len spans.new ≤ 4096 }
+    ensures some { result ≡ Ok true → 0 < vec_len spans.new }
     ensures err { OnErr result (spans.new.items ≡ []) }
     ensures capacity { vec_capacity spans.old ≤ vec_capacity spans.new }
     ensures inside { All (λ span. (span.start ≤ span.end) × (span.end ≤ length line.now)) spans.new.items }

@@ -18,6 +18,19 @@ pub(crate) enum NumberFault {
     OutOfRange,
 }
 
+impl NumberFault {
+    /// The code that is printed.
+    pub(crate) fn code(self) -> u8
+        ensures none { self ≡ NumberFault.NoNumber → result ≡ 6 }
+        ensures outside { self ≡ NumberFault.OutOfRange → result ≡ 7 }
+    {
+        match self {
+            NumberFault::NoNumber => 6,
+            NumberFault::OutOfRange => 7,
+        }
+    }
+}
+
 /// Reads a word as a number from `low` to `high`. A `-` may begin it where `low` is below 0.
 pub(crate) fn number_in(word: &[u8], low: i128, high: i128) -> Result<i128, NumberFault>
     ensures { result ≡ read_number low high word.now }

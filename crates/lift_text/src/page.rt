@@ -1,5 +1,5 @@
 //! The line of a text that is being read, and what is read of the text behind it.
-ghost use Rattle.std.specs.Prelude.{◌≡◌, ◌≢◌, ℕ, ◌+◌, ◌<◌, ◌≤◌, List, [], ◌∷◌, ◌++◌, Some, None, true, length, take, drop, IfOk, IfErr, IfSome, OnOk, OnErr, IsErrOf};
+ghost use Rattle.std.specs.Prelude.{◌≡◌, ◌≢◌, ℕ, ◌+◌, ◌<◌, ◌≤◌, List, [], ◌∷◌, ◌++◌, Some, None, true, false, length, take, drop, IfOk, IfErr, IfSome, OnOk, OnErr, IsErrOf};
 ghost use Rattle.lift_text.specs.Streams.{Rose};
 ghost use Rattle.lift_text.specs.Page.{step_of};
 
@@ -37,7 +37,7 @@ pub(crate) struct Page {
 }
 
 impl Model for Page {
-    ghost use Rattle.std.specs.Prelude.{take, drop, vec_capacity};
+    ghost use Rattle.std.specs.Prelude.{take, drop, vec_len, vec_capacity};
     ghost use Rattle.lift_text.specs.Words.{parts_of};
     ghost use Rattle.lift_text.specs.Page.{PageState, IsPage};
 
@@ -53,11 +53,12 @@ impl Model for Page {
       failure = p.failure;
     } };
 
-    ghost invariant = { λ p. IsPage p.window p.size p.raw p.line (vec_capacity p.spans) p.spans.items };
+    ghost invariant = { λ p. IsPage p.window p.size p.raw p.line (vec_len p.spans) (vec_capacity p.spans) p.spans.items };
 }
 
 impl Page {
-    ghost use Rattle.std.specs.Prelude.{◌≡◌, ◌≢◌, ℕ, ◌+◌, ◌<◌, ◌≤◌, List, [], ◌∷◌, ◌++◌, Some, None, true, length, take, drop, IfOk, IfErr, IfSome, OnOk, OnErr, IsErrOf};
+    ghost use Rattle.std.specs.Prelude.{◌≡◌, ◌≢◌, ℕ, ◌+◌, ◌<◌, ◌≤◌, List, [], ◌∷◌, ◌++◌, Some, None, true, false, length, take, drop, IfOk, IfErr, IfSome, OnOk, OnErr, IsErrOf, slice_index_or};
+    ghost use Rattle.std.specs.Io.KnownBytes.{IsAtEnd};
     ghost use Rattle.lift_text.specs.Streams.{Rose};
     ghost use Rattle.lift_text.specs.Reading.{NextLine, NextRaw};
     ghost use Rattle.lift_text.specs.Page.{text_at, limit_of, Advanced, Forward, JudgedAs, ReadLine, SkippedLine};
@@ -104,6 +105,7 @@ impl Page {
         ensures ok { IfOk result (λ found. Advanced found (text_at self.old (S.left source.old)) self.new.current
             (text_at self.new (S.left source.new))) }
         ensures forward { IfOk result (λ found. Forward found self.old self.new) }
+        ensures end { result ≡ Ok Found.End → IsAtEnd (S.left source.new) }
         ensures counted { S.faults source.old ≤ S.faults source.new }
         ensures fault { OnErr result (Rose (S.faults source.old) (S.faults source.new)) }
     {
@@ -120,6 +122,7 @@ impl Page {
         requires within { count ≤ length self.old.current }
         requires words { self.old.words ≡ [] }
         ensures judged { JudgedAs self.old.line (take count self.old.current) result self.new.words }
+        ensures some { result ≡ Ok Step.WithWords → 0 < length self.new.words }
         ensures same { self.new ≡ record self.old { words = self.new.words } }
     {
         let judgement = judge(&self.window.unread()[..count], &mut self.spans);
@@ -134,6 +137,8 @@ impl Page {
         ensures ok { ReadLine (text_at self.old (S.left source.old)) result self.new.words
             (text_at self.new (S.left source.new)) }
         ensures words { result ≢ Ok Step.WithWords → self.new.words ≡ [] }
+        ensures some { result ≡ Ok Step.WithWords → 0 < length self.new.words }
+        ensures end { result ≡ Ok Step.AtEnd → IsAtEnd (S.left source.new) }
         ensures less { result ≡ Ok Step.Blank → limit_of self.new < limit_of self.old }
         ensures raw { self.new.raw ≡ [] }
         ensures failure { self.new.failure ≡ self.old.failure }
@@ -158,6 +163,8 @@ impl Page {
         ensures next { NextLine (text_at self.old (S.left source.old)) result self.new.words self.new.line
             (text_at self.new (S.left source.new)) }
         ensures words { result ≢ Ok true → self.new.words ≡ [] }
+        ensures some { result ≡ Ok true → 0 < length self.new.words }
+        ensures end { result ≡ Ok false → IsAtEnd (S.left source.new) }
         ensures raw { self.new.raw ≡ [] }
         ensures failure { self.new.failure ≡ self.old.failure }
         ensures read { IsErrOf result TextFault.Read → Rose (S.faults source.old) (S.faults source.new) }
@@ -181,6 +188,8 @@ impl Page {
             self.new.line (text_at self.new (S.left source.new)) }
         ensures again { IfSome self.old.failure (λ fault. result ≡ Err fault) }
         ensures words { result ≢ Ok true → self.new.words ≡ [] }
+        ensures some { result ≡ Ok true → 0 < length self.new.words }
+        ensures end { result ≡ Ok false → IsAtEnd (S.left source.new) }
         ensures raw { self.new.raw ≡ [] }
         ensures ok { OnOk result (self.new.failure ≡ None) }
         ensures err { IfErr result (λ fault. self.new.failure ≡ Some fault) }
@@ -247,6 +256,7 @@ impl Page {
         ensures next { NextRaw (text_at self.old (S.left source.old)) result self.new.raw
             (text_at self.new (S.left source.new)) }
         ensures raw { result ≢ Ok RawLine.Line → self.new.raw ≡ [] }
+        ensures end { result ≡ Ok RawLine.End → IsAtEnd (S.left source.new) }
         ensures words { self.new.words ≡ [] }
         ensures failure { self.new.failure ≡ self.old.failure }
         ensures read { IsErrOf result TextFault.Read → Rose (S.faults source.old) (S.faults source.new) }
@@ -259,6 +269,62 @@ impl Page {
             Ok(Found::End) => Ok(RawLine::End),
             Err(SourceFault) => Err(TextFault::Read),
         }
+    }
+
+    /// Reads the next line as it stands. An `Err` is answered from then on.
+    pub(crate) fn raw_line<S: Source>(&mut self, source: &mut S) -> Result<RawLine, TextFault>
+        ensures next { self.old.failure ≡ None → NextRaw (text_at self.old (S.left source.old)) result self.new.raw
+            (text_at self.new (S.left source.new)) }
+        ensures again { IfSome self.old.failure (λ fault. result ≡ Err fault) }
+        ensures raw { result ≢ Ok RawLine.Line → self.new.raw ≡ [] }
+        ensures end { result ≡ Ok RawLine.End → IsAtEnd (S.left source.new) }
+        ensures words { self.new.words ≡ [] }
+        ensures ok { OnOk result (self.new.failure ≡ None) }
+        ensures err { IfErr result (λ fault. self.new.failure ≡ Some fault) }
+        ensures read { self.old.failure ≡ None → IsErrOf result TextFault.Read
+            → Rose (S.faults source.old) (S.faults source.new) }
+        ensures counted { S.faults source.old ≤ S.faults source.new }
+    {
+        self.clear();
+        if let Some(fault) = self.failure {
+            return Err(fault);
+        }
+        let result = self.read_raw(source);
+        if let Err(fault) = &result {
+            self.failure = Some(*fault);
+        }
+        result
+    }
+
+    /// The number of lines read so far.
+    pub(crate) fn line(&self) -> u64
+        ensures value { result ≡ self.now.line }
+        ensures bound { result ≤ 67108864 }
+    {
+        self.line
+    }
+
+    /// The number of words of the current line.
+    pub(crate) fn words(&self) -> u32
+        ensures { result ≡ length self.now.words }
+    {
+        self.spans.len() as u32
+    }
+
+    /// A word of the current line.
+    pub(crate) fn word(&self, k: u32) -> &[u8]
+        requires { k < length self.now.words }
+        ensures { result.now ≡ slice_index_or self.now.words k [] }
+    {
+        let span = self.spans[k as usize];
+        &self.window.unread()[span.start..span.end]
+    }
+
+    /// The current line as it stands.
+    pub(crate) fn raw(&self) -> &[u8]
+        ensures { result.now ≡ self.now.raw }
+    {
+        &self.window.unread()[..self.raw]
     }
 }
 

@@ -42,6 +42,7 @@ pub(crate) fn find_words(text: &[u8], spans: &mut Vec<Span>)
     requires room { length text.now < 2 * vec_capacity spans.old }
     requires none { spans.old.items ≡ [] }
     ensures words { parts_of text.now spans.new.items ≡ words_in text.now }
+    ensures count { 2 * vec_len spans.new ≤ length text.now + 1 }
     ensures capacity { vec_capacity spans.old ≤ vec_capacity spans.new }
     ensures inside { All (λ span. (span.start ≤ span.end) × (span.end ≤ length text.now)) spans.new.items }
 {

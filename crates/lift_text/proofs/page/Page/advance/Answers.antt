@@ -4,8 +4,8 @@ use Rattle.lift_text.specs.Words.{parts_of}
 use Rattle.lift_text.specs.Found.{FoundIn}
 use Rattle.lift_text.specs.Page.{PageState, Advanced, Forward, text_at}
 use Rattle.lift_text.specs.declared.window.Found.{Found}
-use Rattle.lift_text.specs.declared.window.Found.TheVariants.{Line}
-use Rattle.lift_text.proofs.PageLemmas.{state, advanced_line, advanced_other, empty_front, no_parts, nothing_behind, forward_other}
+use Rattle.lift_text.specs.declared.window.Found.TheVariants.{Line, End}
+use Rattle.lift_text.proofs.PageLemmas.{state, advanced_line, advanced_other, empty_front, no_parts, nothing_behind, forward_other, at_end}
 use Rattle.lift_text.proofs.page.Page.advance.Goals as goal
 
 pub returns-in-Line-clause-ok : goal.returns-in-Line-clause-ok
@@ -45,6 +45,7 @@ returns-in_default g c =
       forward = forward_other found c.args.self.now _ _ (left c.find.new.source) window.quota c.in_default.not-Line (ap (λ (p : PageState). p.line) c.self.view_is)
           (ap (λ n. take n window.unread) zero)
           (subst (λ n. FoundIn found (prepend_known page.window.unread before) (drop n window.unread) (left c.find.new.source) window.quota) (sym zero) c.in_ok-found.ensures.ok);
+      end = λ is. (let same : found ≡ End = cc in at_end found _ _ _ _ c.in_ok-found.ensures.ok same);
       counted = omega arith;
       fault = tt;
     }
