@@ -44,6 +44,10 @@ pub record TextState : Type 0 where
   pub limit : ℕ
   pub bytes : List ℕ
 
+-- a text before its first line
+abbrev pub whole_text : List ℕ → TextState
+whole_text bytes = record { line = 0; limit = 67108864; bytes = bytes }
+
 abbrev pub reading : TextState → Reading
 reading text = reading_of text.line text.limit (pieces_of text.bytes)
 

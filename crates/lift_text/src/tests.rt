@@ -1,9 +1,11 @@
 ghost use Rattle.std.specs.Prelude.{◌≡◌, IfOk};
 
 use crate::{
-    Gate, MemorySink, MemorySource, OpenGate, Sink, SinkFault, Source, SourceFault, StdSink,
-    StdSource, SureSink, SureSource, put_all, read_full,
+    Gate, LineReader, MemorySink, MemorySource, OpenGate, RawLine, Sink, SinkFault, Source,
+    SourceFault, StdSink, StdSource, SureSink, SureSource, TextFault, put_all, put_number,
+    read_full,
 };
+use std::alloc::{AllocError, Global};
 use std::io;
 use std::io::{ErrorKind, Read, Write};
 use std::test::Fail;
@@ -102,4 +104,52 @@ fn sinks_in_memory_take_what_they_have_room_for(rt: HostRuntime) -> Result<(), F
     assert_eq!(rt; sink.taken(), b"liftli".as_slice());
     OpenGate.enter(0);
     Ok(())
+}
+
+/// What a reader answers, each line in a row: its number and its words or its text.
+fn heard<S: Source>(alloc: Global, source: &mut S, raw: bool) -> Result<String, Fail> {
+    let mut reader = LineReader::new(alloc, source)?;
+    let mut heard = String::new(alloc);
+    for _ in 0..20 {
+        let more = if raw {
+            heard_raw(&mut reader, &mut heard)?
+        } else {
+            heard_words(&mut reader, &mut heard)?
+        };
+        if !more {
+            break;
+        }
+    }
+    Ok(heard)
+}
+
+fn heard_words<S: Source>(reader: &mut LineReader<S>, heard: &mut String) -> Result<bool, Fail> {
+    let answer = reader.next_line();
+    let line = reader.line();
+    match answer {
+        Ok(true) => {}
+        _ => {
+            write!(heard, "{line} {answer:?}")?;
+            return Ok(false);
+        }
+    }
+    write!(heard, "{line}")?;
+    for k in 0..reader.words() {
+        let size = reader.word(k).len();
+        match reader.number(k, -5, 99) {
+            Ok(value) => write!(heard, " {value}")?,
+            Err(TextFault::Bad { code, .. }) => write!(heard, " {size}/{code}")?,
+            Err(_) => write!(heard, " ?")?,
+        }
+    }
+    heard.push_str(";")?;
+    Ok(true)
+}
+
+fn heard_raw<S: Source>(reader: &mut LineReader<S>, heard: &mut String) -> Result<bool, Fail> {
+    let answer = reader.raw_line();
+    let line = reader.line();
+    let size = reader.raw().len();
+    write!(heard, "{line} {answer:?} {size};")?;
+    Ok(answer == Ok(RawLine::Line) || answer == Ok(RawLine::Long))
 }
