@@ -122,7 +122,7 @@ nothing_behind found number quota size unread left current after zero known =
 pub forward_other : (found : Found) (old new : PageState) (known left : Option (List ℕ)) (quota : ℕ) → ((line size : ℕ) → found ≢ Line line size) → new.line ≡ old.line → new.current ≡ []
     → FoundIn found known new.unread left quota → Forward found old new
 forward_other (Line line size) old new known left quota other same current found = absurd (other line size refl)
-forward_other Long old new known left quota other same current found = (same, current, omega (arith, found.1))
+forward_other Long old new known left quota other same current found = (same, current, found.1)
 forward_other Cut old new known left quota other same current found = same
 forward_other End old new known left quota other same current found = same
 

@@ -69,7 +69,7 @@ Advanced End before current after = IfSome before (λ text. text.bytes ≡ []) �
 -- the line is counted, and there is less to read
 abbrev pub Forward : Found → PageState → PageState → Type 0
 Forward (Line line size) old new = (line ≤ length new.current) × (new.line ≡ old.line + 1) × (limit_of new < limit_of old)
-Forward Long old new = (new.line ≡ old.line) × (new.current ≡ []) × (0 < length new.unread)
+Forward Long old new = (new.line ≡ old.line) × (new.current ≡ []) × (4097 < length new.unread)
 Forward Cut old new = new.line ≡ old.line
 Forward End old new = new.line ≡ old.line
 
@@ -89,6 +89,13 @@ JudgedAs line text (Err (Bad number code)) words = ((after : Reading) → judged
 JudgedAs line text (Err TooLong) words = ⊥
 JudgedAs line text (Err Read) words = ⊥
 JudgedAs line text (Err NoMemory) words = ⊥
+
+-- a fact of the number of a bad line
+abbrev pub IfBad : TextFault → (ℕ → Type 0) → Type 0
+IfBad (Bad line code) P = P line
+IfBad Read P = Unit {0}
+IfBad TooLong P = Unit {0}
+IfBad NoMemory P = Unit {0}
 
 -- what one line turned out to be: one with words, one without, or the end
 abbrev pub ReadLine : Option TextState → Result Step TextFault → List (List ℕ) → Option TextState → Type 0

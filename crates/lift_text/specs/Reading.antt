@@ -62,7 +62,7 @@ abbrev pub NextLine : Option TextState → Result Bool TextFault → List (List 
 NextLine None answer words line after = Unit {0}
 NextLine (Some before) (Ok true) words line after = IsSomeAnd after (λ text. (reading before ≡ line_with line words (reading text)) × (text.line ≡ line) × Passed before text)
 NextLine (Some before) (Ok false) words line after = (reading before ≡ finished line) × IsSomeAnd after (λ text. (text.bytes ≡ []) × (text.line ≡ line) × Passed before text)
-NextLine (Some before) (Err (Bad line code)) words lines after = reading before ≡ bad_line line code
+NextLine (Some before) (Err (Bad number code)) words line after = (reading before ≡ bad_line number code) × (line ≡ number)
 NextLine (Some before) (Err TooLong) words line after = reading before ≡ past_limit
 NextLine (Some before) (Err Read) words line after = Unit {0}
 NextLine (Some before) (Err NoMemory) words line after = ⊥

@@ -1,12 +1,12 @@
 //! The line of a text that is being read, and what is read of the text behind it.
 ghost use Rattle.std.specs.Prelude.{◌≡◌, ◌≢◌, ℕ, ◌+◌, ◌<◌, ◌≤◌, List, [], ◌∷◌, ◌++◌, Some, None, true, false, length, take, drop, IfOk, IfErr, IfSome, OnOk, OnErr, IsErrOf};
 ghost use Rattle.lift_text.specs.Streams.{Rose};
-ghost use Rattle.lift_text.specs.Page.{step_of};
+ghost use Rattle.lift_text.specs.Page.{IfBad, step_of};
 
 use crate::faults::{RawLine, TextFault};
 use crate::judge::{Flaw, LINE_LIMIT, judge};
 use crate::sources::{Source, SourceFault};
-use crate::window::{Found, Skipped, Window};
+use crate::window::{Found, LONGEST, Skipped, Window};
 use crate::words::Span;
 use std::alloc::{AllocError, Global};
 use std::marker::Model;
@@ -61,7 +61,7 @@ impl Page {
     ghost use Rattle.std.specs.Io.KnownBytes.{IsAtEnd};
     ghost use Rattle.lift_text.specs.Streams.{Rose};
     ghost use Rattle.lift_text.specs.Reading.{NextLine, NextRaw};
-    ghost use Rattle.lift_text.specs.Page.{text_at, limit_of, Advanced, Forward, JudgedAs, ReadLine, SkippedLine};
+    ghost use Rattle.lift_text.specs.Page.{text_at, limit_of, Advanced, Forward, IfBad, JudgedAs, ReadLine, SkippedLine};
 
     /// A page before the first line.
     pub(crate) fn new(alloc: Global) -> Result<Page, AllocError>
@@ -123,6 +123,7 @@ impl Page {
         requires words { self.old.words ≡ [] }
         ensures judged { JudgedAs self.old.line (take count self.old.current) result self.new.words }
         ensures some { result ≡ Ok Step.WithWords → 0 < length self.new.words }
+        ensures bad { IfErr result (λ fault. IfBad fault (λ line. self.new.line ≡ line)) }
         ensures same { self.new ≡ record self.old { words = self.new.words } }
     {
         let judgement = judge(&self.window.unread()[..count], &mut self.spans);
@@ -140,6 +141,7 @@ impl Page {
         ensures some { result ≡ Ok Step.WithWords → 0 < length self.new.words }
         ensures end { result ≡ Ok Step.AtEnd → IsAtEnd (S.left source.new) }
         ensures less { result ≡ Ok Step.Blank → limit_of self.new < limit_of self.old }
+        ensures bad { IfErr result (λ fault. IfBad fault (λ line. self.new.line ≡ line)) }
         ensures raw { self.new.raw ≡ [] }
         ensures failure { self.new.failure ≡ self.old.failure }
         ensures read { IsErrOf result TextFault.Read → Rose (S.faults source.old) (S.faults source.new) }
@@ -148,10 +150,14 @@ impl Page {
     {
         match self.advance(source) {
             Ok(Found::Line { line, .. }) => self.judge_line(line),
-            Ok(Found::Long) => Err(TextFault::Bad {
-                line: self.line + 1,
-                code: Flaw::OverLong.code(),
-            }),
+            Ok(Found::Long) => {
+                self.size += LONGEST;
+                self.line += 1;
+                Err(TextFault::Bad {
+                    line: self.line,
+                    code: Flaw::OverLong.code(),
+                })
+            }
             Ok(Found::Cut) => Err(TextFault::TooLong),
             Ok(Found::End) => Ok(Step::AtEnd),
             Err(SourceFault) => Err(TextFault::Read),
@@ -330,7 +336,8 @@ impl Page {
 
 /// The step that a judgement makes of the line with this number.
 fn step_of(line: u64, judgement: Result<bool, Flaw>) -> Result<Step, TextFault>
-    ensures { result ≡ step_of line judgement }
+    ensures value { result ≡ step_of line judgement }
+    ensures bad { IfErr result (λ fault. IfBad fault (λ number. line ≡ number)) }
 {
     match judgement {
         Ok(true) => Ok(Step::WithWords),
