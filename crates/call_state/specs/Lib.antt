@@ -1,0 +1,5 @@
+pub mod BuildingParts
+pub mod SnapshotParts
+pub mod Possible
+pub mod Squares
+pub mod SmallBuildings
