@@ -1,6 +1,6 @@
 -- The canonical texts. A text is a list of bytes. Each line ends with a line feed, one space stands
 -- between words, and numbers are in decimal with no leading zero.
-use Rattle.std.specs.Prelude.{ℕ, ◌-◌, ◌^◌, ◌==◌, List, [], ◌∷◌, ◌++◌, map, filter, length, Option, Some, None, if◌then◌else◌, codes, decimal}
+use Rattle.std.specs.Prelude.{ℕ, Bool, ◌-◌, ◌^◌, ◌==◌, List, [], ◌∷◌, ◌++◌, map, filter, length, Option, Some, None, if◌then◌else◌, codes, decimal}
 use Rattle.std.specs.List.{flat_map, range_with_len}
 use Rattle.elevator_model.specs.declared.CarSpec.{CarSpec}
 use Rattle.elevator_model.specs.declared.CarState.{CarState}
@@ -52,11 +52,13 @@ building_text b =
 
 -- ---- snapshots
 
+abbrev pub moving_words : ℕ → Bool → ℕ → List ℕ
+moving_words from up left = words (codes " moving") (from ∷ []) ++ line (if up then codes " up" else codes " down") (left ∷ [])
+
 unfoldable pub state_line : ℕ → CarState → List ℕ
 state_line id (Idle floor free) = words (codes "car") (id ∷ []) ++ line (codes " idle") (floor ∷ free ∷ [])
 state_line id (Coming floor arrives) = words (codes "car") (id ∷ []) ++ line (codes " coming") (floor ∷ arrives ∷ [])
-state_line id (Moving from up left) =
-    words (codes "car") (id ∷ []) ++ words (codes " moving") (from ∷ []) ++ line (if up then codes " up" else codes " down") (left ∷ [])
+state_line id (Moving from up left) = words (codes "car") (id ∷ []) ++ moving_words from up left
 
 abbrev pub state_lines : Snapshot → List ℕ
 state_lines s = flat_map (λ c. state_line (spec_of s c).id (state_of s c)) (range_with_len 0 (car_count s))

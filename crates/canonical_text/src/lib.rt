@@ -9,5 +9,7 @@
 mod fault;
 mod numbers;
 mod reading;
+mod writing;
 
 pub use fault::ReadFault;
+pub use writing::write_case;
