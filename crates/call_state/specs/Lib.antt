@@ -3,3 +3,4 @@ pub mod SnapshotParts
 pub mod Possible
 pub mod Squares
 pub mod SmallBuildings
+pub mod SmallSnapshots

@@ -5,6 +5,7 @@
 #![tactic(auto)]
 
 mod buildings;
+mod small_snapshots;
 mod snapshots;
 mod squares;
 
