@@ -27,3 +27,12 @@ text_of_passed test f bs n passes =
 pub text_of_failed : (test : ℕ → Bool) (f : ℕ → List ℕ) (bs : List ℕ) (n : ℕ) → test n ≡ false → bs ++ flat_map f (filter test (range_with_len 0 n)) ≡ bs ++ flat_map f (filter test (range_with_len 0 (n + 1)))
 text_of_failed test f bs n fails =
     ap (λ (xs : List ℕ). bs ++ flat_map f xs) (sym (filter_range_more test n ∙ ap (λ (b : Bool). filter test (range_with_len 0 n) ++ cond b (n ∷ []) []) fails ∙ append-nil (filter test (range_with_len 0 n))))
+
+-- ---- the steps of loops that write the text of each number of a range
+
+pub wrote_one : (f : ℕ → List ℕ) (old out new piece : List ℕ) (n : ℕ) → out ≡ old ++ flat_map f (range_with_len 0 n) → new ≡ out ++ piece → piece ≡ f n → new ≡ old ++ flat_map f (range_with_len 0 (n + 1))
+wrote_one f old out new piece n so_far one same =
+    one ∙ ap (λ (x : List ℕ). x ++ piece) so_far ∙ ap (λ (x : List ℕ). (old ++ flat_map f (range_with_len 0 n)) ++ x) same ∙ flat_map_range_more f old n
+
+pub wrote_passed : (test : ℕ → Bool) (f : ℕ → List ℕ) (old out new : List ℕ) (n : ℕ) → out ≡ old ++ flat_map f (filter test (range_with_len 0 n)) → new ≡ out ++ f n → test n ≡ true → new ≡ old ++ flat_map f (filter test (range_with_len 0 (n + 1)))
+wrote_passed test f old out new n so_far one passes = one ∙ ap (λ (x : List ℕ). x ++ f n) so_far ∙ text_of_passed test f old n passes

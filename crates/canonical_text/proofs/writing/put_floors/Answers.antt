@@ -1,7 +1,7 @@
-use Rattle.std.proofs.Common.{◌≡◌, ◌++◌, refl, sym, ◌∙◌, true, false, rules}
+use Rattle.std.proofs.Common.{◌≡◌, ◌++◌, refl, ap, sym, ◌∙◌, rules, Vec, Global, ℕ}
 use Rattle.elevator_model.specs.Counting.{has}
 use Rattle.canonical_text.specs.Text.{word}
-use Rattle.canonical_text.proofs.Lists.{text_of_passed, text_of_failed}
+use Rattle.canonical_text.proofs.Lists.{wrote_passed, text_of_failed}
 use Rattle.canonical_text.proofs.writing.put_floors.Goals as goal
 use Rattle.canonical_text.proofs.writing.put_floors.Goals.{then-has_floor+in_ok-put_word, else-has_floor}
 
@@ -9,11 +9,7 @@ pub loop-floor-preserved : goal.loop-floor-preserved
 loop-floor-preserved c =
     elim c.if-has_floor.branch [
       | then-has_floor+in_ok-put_word w ↦
-        let passes : has c.args.set c.loop-floor.floor ≡ true = cc in
-        let text = text_of_passed (has c.args.set) word c.args.out.now.items c.loop-floor.floor passes in
-        cc
+        rw w.out-is (wrote_passed (has c.args.set) word c.args.out.now.items c.loop-floor.out.items w.put_word.new.out.items c.loop-floor.floor c.loop-floor.invariant w.in_ok-put_word.ensures (sym c.has_floor.ensures ∙ w.if-has_floor.true))
       | else-has_floor w ↦
-        let fails : has c.args.set c.loop-floor.floor ≡ false = cc in
-        let text = text_of_failed (has c.args.set) word c.args.out.now.items c.loop-floor.floor fails in
-        cc
+        rw w.out-is (c.loop-floor.invariant ∙ text_of_failed (has c.args.set) word c.args.out.now.items c.loop-floor.floor (sym c.has_floor.ensures ∙ w.if-has_floor.false))
     ]
