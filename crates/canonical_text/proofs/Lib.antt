@@ -1,3 +1,4 @@
 pub mod Loops
 pub mod Lists
 pub mod Pins
+pub mod Stops

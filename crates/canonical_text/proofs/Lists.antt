@@ -36,3 +36,8 @@ wrote_one f old out new piece n so_far one same =
 
 pub wrote_passed : (test : ℕ → Bool) (f : ℕ → List ℕ) (old out new : List ℕ) (n : ℕ) → out ≡ old ++ flat_map f (filter test (range_with_len 0 n)) → new ≡ out ++ f n → test n ≡ true → new ≡ old ++ flat_map f (filter test (range_with_len 0 (n + 1)))
 wrote_passed test f old out new n so_far one passes = one ∙ ap (λ (x : List ℕ). x ++ f n) so_far ∙ text_of_passed test f old n passes
+
+-- the text of numbers that were made from others
+pub flat_map-map : (f : ℕ → List ℕ) (g : ℕ → ℕ) (xs : List ℕ) → flat_map f (map g xs) ≡ flat_map (λ x. f (g x)) xs
+flat_map-map f g [] = refl
+flat_map-map f g (x ∷ xs) = ap (λ (ys : List ℕ). f (g x) ++ ys) (flat_map-map f g xs)

@@ -92,9 +92,12 @@ stop_line s stop = line (codes "stop") (stop.floor ∷ map (λ j. (call_of s j).
 unfoldable pub tour_text : Snapshot → ℕ → List Stop → List ℕ
 tour_text s c tour = line (codes "tour") ((spec_of s c).id ∷ []) ++ flat_map (stop_line s) tour
 
+abbrev pub tour_texts : Snapshot → List (List Stop) → List ℕ
+tour_texts s plan = flat_map (λ c. tour_text s c (tour_of plan c)) (range_with_len 0 (car_count s))
+
 unfoldable pub answer_text : Snapshot → List (List Stop) → (cost bound : ℕ) → List ℕ
 answer_text s plan cost bound =
-    line (codes "answer") (1 ∷ []) ++ line (codes "cost") (cost ∷ []) ++ line (codes "bound") (bound ∷ []) ++ flat_map (λ c. tour_text s c (tour_of plan c)) (range_with_len 0 (car_count s)) ++ line (codes "end") []
+    line (codes "answer") (1 ∷ []) ++ line (codes "cost") (cost ∷ []) ++ line (codes "bound") (bound ∷ []) ++ tour_texts s plan ++ line (codes "end") []
 
 -- the answer of a search that ended with the cost as the bound
 unfoldable pub solved_text : Snapshot → List (List Stop) → (cost bound : ℕ) → List ℕ

@@ -6,10 +6,12 @@
 //! stands exactly where all floors are served.
 #![tactic(auto)]
 
+mod answers;
 mod fault;
 mod numbers;
 mod reading;
 mod writing;
 
+pub use answers::write_solved;
 pub use fault::ReadFault;
 pub use writing::write_case;

@@ -13,7 +13,7 @@ use std::alloc::{AllocError, Global};
 
 /// Writes a number after a space.
 #[tactic(auto, unfolding(crate::specs::Text::word))]
-fn put_word(out: &mut Vec<u8>, number: u64) -> Result<(), AllocError>
+pub(crate) fn put_word(out: &mut Vec<u8>, number: u64) -> Result<(), AllocError>
     ensures { OnOk result (out.new.items ≡ out.old.items ++ word number) }
 {
     let mut buffer = Buffer::new();
