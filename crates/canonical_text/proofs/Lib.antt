@@ -2,3 +2,4 @@ pub mod Loops
 pub mod Lists
 pub mod Pins
 pub mod Stops
+pub mod Again
