@@ -3,3 +3,4 @@ pub mod Lists
 pub mod Pins
 pub mod Stops
 pub mod Again
+pub mod Cars
