@@ -4,3 +4,5 @@ pub mod Pins
 pub mod Stops
 pub mod Again
 pub mod Cars
+pub mod Travels
+pub mod Cases
