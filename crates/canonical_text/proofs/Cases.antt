@@ -110,3 +110,109 @@ small_is s small =
     ∙ ap (λ (v : Building). whole_snapshot 1 v s.moment s.states s.aboard s.calls) building
     ∙ ap (λ (v : List CarState). whole_snapshot 1 (building_from (numbers_of s).building s.building.travel) s.moment v s.aboard s.calls) state
     ∙ ap (λ (v : List Aboard). whole_snapshot 1 (building_from (numbers_of s).building s.building.travel) s.moment (state_of s 0 ∷ []) v s.calls) empty
+
+-- ---- buildings
+
+eight_parts : (a b c d e f g h rest : List ℕ) → (a ++ b ++ c ++ d ++ e ++ f ++ g ++ h) ++ rest ≡ a ++ (b ++ (c ++ (d ++ (e ++ (f ++ (g ++ (h ++ rest)))))))
+eight_parts a b c d e f g h rest = simp append_assoc
+
+end_line : line (codes "end") [] ≡ codes "end\n"
+unfolding line words
+end_line = refl
+
+weights_again : (wait travel : ℕ) (rest : List ℕ) → wait < 2 ^ 64 → travel < 2 ^ 64 → weights_at (line (codes "weights") (wait ∷ travel ∷ []) ++ rest) ≡ Some ((wait, travel), rest)
+unfolding weights_at
+weights_again wait travel rest wait_fits travel_fits =
+    let parts : line (codes "weights") (wait ∷ travel ∷ []) ++ rest ≡ codes "weights" ++ (word wait ++ (word travel ++ (newline ++ rest))) =
+        line_then (codes "weights") (wait ∷ travel ∷ []) rest ∙ ap (λ (x : List ℕ). codes "weights" ++ x) (simp append_assoc) in
+    ap weights_at parts
+    ∙ rw (literal_again (codes "weights") (word wait ++ (word travel ++ (newline ++ rest))), number_again wait (word travel ++ (newline ++ rest)) wait_fits (end_word travel (newline ++ rest)), number_again travel (newline ++ rest) travel_fits refl, literal_again newline rest) refl
+
+heights_again : (heights rest : List ℕ) → AllByRecursion IsLong heights → 2 ≤ length heights → length heights ≤ 64 → heights_at (line (codes "floors") heights ++ rest) ≡ Some (heights, rest)
+unfolding heights_at
+heights_again heights rest fits low high =
+    let is_low : leb 2 (length heights) ≡ true = le-leb _ _ low in
+    let is_high : leb (length heights) 64 ≡ true = le-leb _ _ high in
+    ap heights_at (line_then (codes "floors") heights rest)
+    ∙ rw (literal_again (codes "floors") (flat_map word heights ++ (newline ++ rest)), numbers_line_again heights rest fits, is_low, is_high) refl
+
+building_in_lines : (n : BuildingNumbers) (travel : Square) (rest : List ℕ) → building_text (building_from n travel) ++ rest
+    ≡ line (codes "building") (1 ∷ []) ++ (line (codes "speed") (n.speed ∷ []) ++ (line (codes "accel") (n.accel ∷ []) ++ (line (codes "weights") (n.wait_weight ∷ n.travel_weight ∷ []) ++ (line (codes "floors") n.heights ++ (car_line (length n.heights) n.car ++ (codes "end\n" ++ rest))))))
+unfolding building_text patience_line
+building_in_lines n travel rest =
+    rw (eight_parts (line (codes "building") (1 ∷ [])) (line (codes "speed") (n.speed ∷ [])) (line (codes "accel") (n.accel ∷ [])) (line (codes "weights") (n.wait_weight ∷ n.travel_weight ∷ [])) [] (line (codes "floors") n.heights) (car_line (length n.heights) n.car ++ []) (line (codes "end") []) rest, append-nil (car_line (length n.heights) n.car), end_line) refl
+
+building_again : (n : BuildingNumbers) (travel : Square) (rest : List ℕ) → IsBuilding (building_from n travel) → n.car.id < 2 ^ 32 → building_at (building_text (building_from n travel) ++ rest) ≡ Some (n, rest)
+unfolding building_at
+building_again n travel rest is id =
+    let long : AllByRecursion IsLong n.heights = all_from_places IsLong 0 n.heights (λ f lt. omega (arith, is.heights f lt)) in
+    let f = codes "end\n" ++ rest in
+    let e = car_line (length n.heights) n.car ++ f in
+    let d = line (codes "floors") n.heights ++ e in
+    let c = line (codes "weights") (n.wait_weight ∷ n.travel_weight ∷ []) ++ d in
+    let b = line (codes "accel") (n.accel ∷ []) ++ c in
+    let a = line (codes "speed") (n.speed ∷ []) ++ b in
+    ap building_at (building_in_lines n travel rest)
+    ∙ rw (number_line_again (codes "building") 1 a (omega arith), number_line_again (codes "speed") n.speed b (omega (arith, is.speed_high)), number_line_again (codes "accel") n.accel c (omega (arith, is.accel_high)), weights_again n.wait_weight n.travel_weight d (omega (arith, is.wait_weight)) (omega (arith, is.travel_weight)), heights_again n.heights e long is.floors_low is.floors_high, car_again (length n.heights) n.car f is.floors_high id (is.cars 0 (omega arith)), literal_again (codes "end\n") rest) refl
+
+-- ---- states and calls
+
+state_again : (id floor free : ℕ) (rest : List ℕ) → id < 2 ^ 64 → floor < 2 ^ 32 → free < 2 ^ 64 → state_at (state_line id (Idle floor free) ++ rest) ≡ Some (Idle floor free, rest)
+unfolding state_at state_line
+state_again id floor free rest id_fits floor_fits free_fits =
+    let line_end = newline ++ rest in
+    let numbers = word floor ++ (word free ++ line_end) in
+    let parts : state_line id (Idle floor free) ++ rest ≡ codes "car" ++ (word id ++ (codes " idle" ++ numbers)) =
+        append_assoc (words (codes "car") (id ∷ [])) (line (codes " idle") (floor ∷ free ∷ [])) rest
+        ∙ ap (λ (x : List ℕ). words (codes "car") (id ∷ []) ++ x) (line_then (codes " idle") (floor ∷ free ∷ []) rest ∙ ap (λ (x : List ℕ). codes " idle" ++ x) (simp append_assoc))
+        ∙ words_then (codes "car") (id ∷ []) (codes " idle" ++ numbers)
+        ∙ ap (λ (x : List ℕ). codes "car" ++ x) (simp append_assoc) in
+    ap state_at parts
+    ∙ rw (literal_again (codes "car") (word id ++ (codes " idle" ++ numbers)), number_again id (codes " idle" ++ numbers) id_fits refl, literal_again (codes " idle") numbers, short_again floor (word free ++ line_end) floor_fits (end_word free line_end), number_again free line_end free_fits refl, literal_again newline rest) refl
+
+pub record IsReadCall (call : Call) : Type 0 where
+  pub id : call.id < 2 ^ 32
+  pub origin : call.origin < 2 ^ 32
+  pub destination : call.destination < 2 ^ 32
+  pub persons : call.persons < 2 ^ 32
+  pub released : call.released < 2 ^ 64
+  pub unpinned : call.pin ≡ None
+
+abbrev unpinned_call : Call → Option ℕ → Call
+unpinned_call call pin = record { id = call.id; origin = call.origin; destination = call.destination; persons = call.persons; released = call.released; pin = pin }
+
+abbrev Anything : List ℕ → Type 0
+Anything rest = Unit {0}
+
+five_words : (a b c d e : ℕ) (rest : List ℕ) → flat_map word (a ∷ b ∷ c ∷ d ∷ e ∷ []) ++ rest ≡ word a ++ (word b ++ (word c ++ (word d ++ (word e ++ rest))))
+five_words a b c d e rest = simp append_assoc
+
+unpinned_word : (b : Building) (pin : Option ℕ) → pin ≡ None → pin_word b pin ≡ codes " any"
+unfolding pin_word
+unpinned_word b pin e = rw e refl
+
+call_again : (b : Building) (call : Call) (rest : List ℕ) → IsReadCall call → Anything rest → call_at (call_line b call ++ rest) ≡ Some (call, rest)
+unfolding call_at call_line
+call_again b call rest fits any =
+    let line_end = codes " any\n" ++ rest in
+    let w5 = word call.released ++ line_end in
+    let w4 = word call.persons ++ w5 in
+    let w3 = word call.destination ++ w4 in
+    let w2 = word call.origin ++ w3 in
+    let numbers = call.id ∷ call.origin ∷ call.destination ∷ call.persons ∷ call.released ∷ [] in
+    let parts : call_line b call ++ rest ≡ codes "call" ++ (word call.id ++ w2) =
+        append_assoc (words (codes "call") numbers ++ pin_word b call.pin) newline rest
+        ∙ append_assoc (words (codes "call") numbers) (pin_word b call.pin) (newline ++ rest)
+        ∙ ap (λ (x : List ℕ). words (codes "call") numbers ++ (x ++ (newline ++ rest))) (unpinned_word b call.pin fits.unpinned)
+        ∙ words_then (codes "call") numbers line_end
+        ∙ ap (λ (x : List ℕ). codes "call" ++ x) (five_words call.id call.origin call.destination call.persons call.released line_end) in
+    let unpinned : unpinned_call call None ≡ call = ap (unpinned_call call) (sym fits.unpinned) in
+    ap call_at parts
+    ∙ rw (literal_again (codes "call") (word call.id ++ w2), short_again call.id w2 fits.id (end_word call.origin w3), short_again call.origin w3 fits.origin (end_word call.destination w4), short_again call.destination w4 fits.destination (end_word call.persons w5), short_again call.persons w5 fits.persons (end_word call.released line_end), number_again call.released line_end fits.released refl, literal_again (codes " any\n") rest) (ap (λ (x : Call). Some (x, rest)) unpinned)
+
+call_marked : (b : Building) (call : Call) (rest : List ℕ) → starts_with nat_eq (call_line b call ++ rest) (codes "call") ≡ true
+unfolding call_line words
+call_marked b call rest = refl
+
+each_call : (b : Building) → IsReadEach call_at (codes "call") (call_line b) IsReadCall Anything
+each_call b = record { marked = call_marked b; follows = λ call rest. tt; again = call_again b }
