@@ -2,7 +2,7 @@
 use Rattle.std.proofs.Common.{◌≡◌, ℕ, zero, suc, ◌+◌, ◌-◌, ◌*◌, ◌^◌, ◌≤◌, ◌<◌, Bool, true, false, cond, ltb, leb, eqb, ◌&&◌, List, [], ◌∷◌, ◌++◌, length, get_or, Option, Some, None, refl, sym, ap, subst, ◌∙◌, append_assoc, arith}
 use Rattle.std.specs.Prelude.{nat_eq, codes, slice_index, IsTrue}
 use Rattle.std.specs.List.{starts_with, flat_map, AllByRecursion}
-use Rattle.std.proofs.lemmas.Bool.{le-leb, false≢true}
+use Rattle.std.proofs.lemmas.Bool.{le-leb, ltb-true, false≢true}
 use Rattle.std.proofs.lemmas.List.{append-nil, nil_from_length}
 use Rattle.elevator_model.specs.declared.CarSpec.{CarSpec}
 use Rattle.elevator_model.specs.declared.CarState.{CarState}
@@ -216,3 +216,68 @@ call_marked b call rest = refl
 
 each_call : (b : Building) → IsReadEach call_at (codes "call") (call_line b) IsReadCall Anything
 each_call b = record { marked = call_marked b; follows = λ call rest. tt; again = call_again b }
+
+-- ---- snapshots
+
+abbrev numbers : BuildingNumbers → ℕ → CarState → List Call → CaseNumbers
+numbers b moment state calls = record { building = b; snapshot = record { moment = moment; state = state; calls = calls } }
+
+six_parts : (a b c d e f : List ℕ) → a ++ b ++ c ++ d ++ e ++ f ≡ a ++ (b ++ (c ++ (d ++ (e ++ f))))
+six_parts a b c d e f = simp append_assoc
+
+snapshot_in_lines : (b : BuildingNumbers) (travel : Square) (moment : ℕ) (state : CarState) (calls : List Call) → snapshot_text (snapshot_from (numbers b moment state calls) travel)
+    ≡ line (codes "snapshot") (1 ∷ []) ++ (line (codes "now") (moment ∷ []) ++ (state_line b.car.id state ++ (flat_map (call_line (building_from b travel)) calls ++ codes "end\n")))
+unfolding snapshot_text
+snapshot_in_lines b travel moment state calls =
+    rw (six_parts (line (codes "snapshot") (1 ∷ [])) (line (codes "now") (moment ∷ [])) (state_line b.car.id state ++ []) [] (flat_map (call_line (building_from b travel)) calls) (line (codes "end") []), append-nil (state_line b.car.id state), end_line) refl
+
+first_test : (a b : Bool) → (a && b) ≡ true → a ≡ true
+first_test true b e = refl
+first_test false b e = absurd (false≢true e)
+
+read_calls : (s : Snapshot) → IsSmall s → ((j : ℕ) → j < call_count s → (call_of s j).id < 2 ^ 32) → AllByRecursion IsReadCall s.calls
+read_calls s small ids =
+    all_from_places IsReadCall no_call s.calls
+    (λ j lt.
+        let call = small.accepted.calls j lt in
+        let floors = small.accepted.building.floors_high in
+        let moment = small.accepted.moment in
+        record {
+          id = ids j lt;
+          origin = omega (arith, call.origin);
+          destination = omega (arith, call.destination);
+          persons = omega (arith, call.persons_high);
+          released = omega (arith, call.released);
+          unpinned = small.unpinned j lt;
+        })
+
+snapshot_again : (b : BuildingNumbers) (travel : Square) (moment : ℕ) (state : CarState) (calls : List Call) → IsSmall (snapshot_from (numbers b moment state calls) travel) → b.car.id < 2 ^ 32 → ((j : ℕ) → j < length calls → (get_or calls j no_call).id < 2 ^ 32)
+    → snapshot_at (snapshot_text (snapshot_from (numbers b moment state calls) travel)) ≡ Some (record { moment = moment; state = state; calls = calls })
+unfolding snapshot_at
+snapshot_again b travel moment (Idle floor free) calls small id ids =
+    let s = snapshot_from (numbers b moment (Idle floor free) calls) travel in
+    let placed : IsCarPlaced s 0 = small.accepted.placed 0 (omega arith) in
+    let floors = small.accepted.building.floors_high in
+    let latest = small.accepted.moment in
+    let within : floor < floor_count s.building = ltb-true _ _ (first_test _ _ placed.served) in
+    let in_time : free ≤ moment + 100000000 = placed.timely.1 in
+    let fits = read_calls s small ids in
+    let c = flat_map (call_line (building_from b travel)) calls ++ codes "end\n" in
+    let d = state_line b.car.id (Idle floor free) ++ c in
+    let e = line (codes "now") (moment ∷ []) ++ d in
+    ap snapshot_at (snapshot_in_lines b travel moment (Idle floor free) calls)
+    ∙ rw (number_line_again (codes "snapshot") 1 e (omega arith), number_line_again (codes "now") moment d (omega arith), state_again b.car.id floor free c (omega arith) (omega arith) (omega arith), many_again call_at (codes "call") (call_line (building_from b travel)) IsReadCall Anything (each_call (building_from b travel)) calls 3 (codes "end\n") fits small.few tt refl) refl
+snapshot_again b travel moment (Coming floor arrives) calls small id ids = absurd (false≢true small.idle)
+snapshot_again b travel moment (Moving from up left) calls small id ids = absurd (false≢true small.idle)
+
+from_again : (n : CaseNumbers) (travel : Square) → IsSmall (snapshot_from n travel) → n.building.car.id < 2 ^ 32 → ((j : ℕ) → j < length n.snapshot.calls → (get_or n.snapshot.calls j no_call).id < 2 ^ 32) → case_at (case_text (snapshot_from n travel)) ≡ Some n
+unfolding case_at case_text
+from_again n travel small id ids =
+    let s = snapshot_from n travel in
+    rw (building_again n.building travel (snapshot_text s) small.accepted.building id, snapshot_again n.building travel n.snapshot.moment n.snapshot.state n.snapshot.calls small id ids) refl
+
+-- what is read of a small snapshot's text are its numbers
+pub case_again : (s : Snapshot) → IsSmall s → ((c : ℕ) → c < car_count s → (spec_of s c).id < 2 ^ 32) → ((j : ℕ) → j < call_count s → (call_of s j).id < 2 ^ 32) → case_at (case_text s) ≡ Some (numbers_of s)
+case_again s small car_ids call_ids =
+    let same = small_is s small in
+    ap (λ (x : Snapshot). case_at (case_text x)) same ∙ from_again (numbers_of s) s.building.travel (subst IsSmall same small) (car_ids 0 (omega (arith, small.one_car))) call_ids
