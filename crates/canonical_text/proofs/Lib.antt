@@ -5,4 +5,5 @@ pub mod Stops
 pub mod Again
 pub mod Cars
 pub mod Travels
-pub mod Cases
+pub mod Sections
+pub mod Judged

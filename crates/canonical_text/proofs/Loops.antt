@@ -1,12 +1,15 @@
 -- The steps of the loops that read.
-use Rattle.std.proofs.Common.{◌≡◌, ℕ, zero, suc, ◌+◌, ◌-◌, ◌*◌, ◌^◌, ◌≤◌, ◌<◌, Bool, true, false, cond, ltb, ◌&&◌, List, [], ◌∷◌, ◌++◌, length, get_or, drop, Option, Some, None, refl, sym, ap, ◌∙◌, append_assoc, arith}
+use Rattle.std.proofs.Common.{◌≡◌, ℕ, zero, suc, ◌+◌, ◌-◌, ◌*◌, ◌^◌, ◌≤◌, ◌<◌, Bool, true, false, cond, ltb, ◌&&◌, List, [], ◌∷◌, ◌++◌, length, get_or, drop, Option, Some, None, refl, sym, ap, ◌∙◌, append_assoc, arith, inl, inr}
 use Rattle.std.specs.Prelude.{nat_eq}
 use Rattle.std.specs.List.{starts_with}
 use Rattle.std.specs.Char.{is_ascii_digit}
-use Rattle.std.proofs.lemmas.List.{append-nil, at_drop_more, at_drop_all}
-use Rattle.std.proofs.lemmas.Bool.{le-ltb, lt-ltb}
+use Rattle.std.proofs.lemmas.List.{append-nil, at_drop_more, at_drop_all, length_push, get_or_append_left, get_or_push}
+use Rattle.std.proofs.lemmas.Bool.{le-ltb, lt-ltb, cases_lt}
+use Rattle.elevator_model.specs.declared.Call.{Call}
+use Rattle.elevator_model.specs.Snapshot.{no_call}
 use Rattle.canonical_text.specs.declared.fault.ReadFault.{ReadFault}
 use Rattle.canonical_text.specs.declared.fault.ReadFault.TheVariants.{NotCanonical, NoMemory}
+use Rattle.canonical_text.specs.Numbers.{HaveShortIds}
 use Rattle.canonical_text.specs.Reading.{◌>>=◌, Read, Fails, digits_at, set_of, many_at}
 
 -- ---- digits
@@ -108,3 +111,13 @@ is_full {X} item mark front most i bytes total le so_far =
     let k : most - i ≡ 0 = omega arith in
     let one : with_front front (many_at item mark (most - i) bytes) ≡ Some (front, bytes) = rw k (ap (λ (xs : List X). Some (xs, bytes)) (append-nil front)) in
     sym so_far ∙ one
+
+-- one more call with an id in the range of the text
+pub short_ids_more : (calls : List Call) (call : Call) → HaveShortIds calls → call.id < 2 ^ 32 → HaveShortIds (calls ++ call ∷ [])
+short_ids_more calls call ids id j lt =
+    elim (cases_lt j (length calls)) [
+      | inl before ↦ rw (get_or_append_left calls (call ∷ []) no_call j before) (ids j before)
+      | inr after ↦
+        let last : length calls ≡ j = omega (arith, length_push calls call) in
+        rw (get_or_push calls call no_call j last) id
+    ]

@@ -7,11 +7,13 @@
 #![tactic(auto)]
 
 mod answers;
+mod cases;
 mod fault;
 mod numbers;
 mod reading;
 mod writing;
 
 pub use answers::write_solved;
+pub use cases::read_case;
 pub use fault::ReadFault;
 pub use writing::write_case;

@@ -2,7 +2,7 @@
 
 ghost use Rattle.std.specs.Prelude.{◌≡◌, ℕ, ◌+◌, ◌-◌, ◌*◌, ◌^◌, ◌<◌, ◌≤◌, length, vec_len, Some, SomeIff, IfOk};
 ghost use Rattle.canonical_text.specs.Reading.{Gives, literal_at, digits_at, number_at, short_at, number_line_at, numbers_at, numbers_line_at, set_of, served_at, car_at, weights_at, heights_at, building_at, state_at, call_at, calls_at, snapshot_at, case_at};
-ghost use Rattle.canonical_text.specs.Numbers.{building_view, snapshot_view, case_view};
+ghost use Rattle.canonical_text.specs.Numbers.{building_view, snapshot_view, case_view, HaveShortIds};
 
 use crate::fault::ReadFault;
 use crate::numbers::{BuildingNumbers, CaseNumbers, SnapshotNumbers};
@@ -139,7 +139,8 @@ fn served_at(alloc: Global, floors: usize, bytes: &[u8]) -> Result<(u64, &[u8]),
 fn car_at(alloc: Global, floors: usize, bytes: &[u8]) -> Result<(CarSpec, &[u8]), ReadFault>
     requires low { 1 ≤ floors }
     requires high { floors ≤ 64 }
-    ensures { Gives (λ x. (x.0, x.1.now)) result (car_at floors bytes.now) }
+    ensures read { Gives (λ x. (x.0, x.1.now)) result (car_at floors bytes.now) }
+    ensures id { IfOk result (λ x. x.0.id < 2 ^ 32) }
 {
     let numbers = literal_at(b"car", bytes)?;
     let (id, rest) = short_at(numbers)?;
@@ -188,7 +189,8 @@ fn heights_at(alloc: Global, bytes: &[u8]) -> Result<(Vec<u64>, &[u8]), ReadFaul
 
 #[tactic(auto, unfolding(crate::specs::Reading::building_at))]
 fn building_at(alloc: Global, bytes: &[u8]) -> Result<(BuildingNumbers, &[u8]), ReadFault>
-    ensures { Gives (λ x. (building_view x.0, x.1.now)) result (building_at bytes.now) }
+    ensures read { Gives (λ x. (building_view x.0, x.1.now)) result (building_at bytes.now) }
+    ensures id { IfOk result (λ x. x.0.car.id < 2 ^ 32) }
 {
     let (_version, rest) = number_line_at(b"building", bytes)?;
     let (speed, rest) = number_line_at(b"speed", rest)?;
@@ -223,7 +225,8 @@ fn state_at(bytes: &[u8]) -> Result<(CarState, &[u8]), ReadFault>
 
 #[tactic(auto, unfolding(crate::specs::Reading::call_at))]
 fn call_at(bytes: &[u8]) -> Result<(Call, &[u8]), ReadFault>
-    ensures { Gives (λ x. (x.0, x.1.now)) result (call_at bytes.now) }
+    ensures read { Gives (λ x. (x.0, x.1.now)) result (call_at bytes.now) }
+    ensures id { IfOk result (λ x. x.0.id < 2 ^ 32) }
 {
     let numbers = literal_at(b"call", bytes)?;
     let (id, rest) = short_at(numbers)?;
@@ -245,7 +248,8 @@ fn call_at(bytes: &[u8]) -> Result<(Call, &[u8]), ReadFault>
 
 /// As many calls as follow, at most three.
 fn calls_at(alloc: Global, bytes: &[u8]) -> Result<(Vec<Call>, &[u8]), ReadFault>
-    ensures { Gives (λ x. (x.0.items, x.1.now)) result (calls_at 3 bytes.now) }
+    ensures read { Gives (λ x. (x.0.items, x.1.now)) result (calls_at 3 bytes.now) }
+    ensures ids { IfOk result (λ x. HaveShortIds x.0.items) }
 {
     let mut calls = Vec::new(alloc);
     let mut rest = bytes;
@@ -262,7 +266,8 @@ fn calls_at(alloc: Global, bytes: &[u8]) -> Result<(Vec<Call>, &[u8]), ReadFault
 
 #[tactic(auto, unfolding(crate::specs::Reading::snapshot_at))]
 fn snapshot_at(alloc: Global, bytes: &[u8]) -> Result<SnapshotNumbers, ReadFault>
-    ensures { Gives snapshot_view result (snapshot_at bytes.now) }
+    ensures read { Gives snapshot_view result (snapshot_at bytes.now) }
+    ensures ids { IfOk result (λ x. HaveShortIds x.calls.items) }
 {
     let (_version, rest) = number_line_at(b"snapshot", bytes)?;
     let (moment, rest) = number_line_at(b"now", rest)?;
@@ -278,7 +283,9 @@ fn snapshot_at(alloc: Global, bytes: &[u8]) -> Result<SnapshotNumbers, ReadFault
 /// The numbers of a case with one car.
 #[tactic(auto, unfolding(crate::specs::Reading::case_at))]
 pub(crate) fn case_at(alloc: Global, bytes: &[u8]) -> Result<CaseNumbers, ReadFault>
-    ensures { Gives case_view result (case_at bytes.now) }
+    ensures read { Gives case_view result (case_at bytes.now) }
+    ensures car_id { IfOk result (λ x. x.building.car.id < 2 ^ 32) }
+    ensures call_ids { IfOk result (λ x. HaveShortIds x.snapshot.calls.items) }
 {
     let (building, rest) = building_at(alloc, bytes)?;
     let snapshot = snapshot_at(alloc, rest)?;

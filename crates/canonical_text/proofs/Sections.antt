@@ -14,6 +14,7 @@ use Rattle.elevator_model.specs.Building.{Building, IsBuilding, IsCarSpec, floor
 use Rattle.elevator_model.specs.Snapshot.{Snapshot, IsSmall, IsAccepted, IsCallAccepted, IsCarPlaced, car_count, call_count, call_of, spec_of, state_of, no_state, no_call, is_idle, serves}
 use Rattle.canonical_text.specs.Text.{newline, word, words, line, patience_line, car_line, building_text, state_line, aboard_line, pin_word, call_line, snapshot_text, case_text}
 use Rattle.canonical_text.specs.Reading.{◌>>=◌, Read, literal_at, number_at, short_at, number_line_at, many_at, numbers_line_at, weights_at, heights_at, car_at, BuildingNumbers, building_at, state_at, call_at, SnapshotNumbers, snapshot_at, CaseNumbers, case_at}
+use Rattle.canonical_text.specs.Numbers.{building_from, snapshot_from, numbers_of}
 use Rattle.canonical_text.proofs.Again.{IsEnd, IsLong, IsReadEach, end_word, starts_again, literal_again, number_again, short_again, number_line_again, numbers_line_again, many_again, words_then, line_then}
 use Rattle.canonical_text.proofs.Cars.{car_again}
 
@@ -26,44 +27,7 @@ one_item : {X : Type 0} (xs : List X) (d : X) → length xs ≡ 1 → xs ≡ get
 one_item [] d one = absurd (omega arith)
 one_item {X} (x ∷ xs) d one = ap (λ (ys : List X). x ∷ ys) (nil_from_length xs (omega arith))
 
--- ---- the small snapshot of these numbers, with these travel times
-
-abbrev pub building_from : BuildingNumbers → Square → Building
-building_from n travel = record {
-  version = 1;
-  heights = n.heights;
-  speed = n.speed;
-  accel = n.accel;
-  wait_weight = n.wait_weight;
-  travel_weight = n.travel_weight;
-  patience = 0;
-  patience_weight = 0;
-  cars = n.car ∷ [];
-  travel = travel;
-}
-
-abbrev pub snapshot_from : CaseNumbers → Square → Snapshot
-snapshot_from n travel = record {
-  version = 1;
-  building = building_from n.building travel;
-  moment = n.snapshot.moment;
-  states = n.snapshot.state ∷ [];
-  aboard = [];
-  calls = n.snapshot.calls;
-}
-
-abbrev pub numbers_of : Snapshot → CaseNumbers
-numbers_of s = record {
-  building = record {
-    speed = s.building.speed;
-    accel = s.building.accel;
-    wait_weight = s.building.wait_weight;
-    travel_weight = s.building.travel_weight;
-    heights = s.building.heights;
-    car = car_of s.building 0;
-  };
-  snapshot = record { moment = s.moment; state = state_of s 0; calls = s.calls };
-}
+-- ---- the small snapshot of its numbers
 
 abbrev whole_building : ℕ → List ℕ → ℕ → ℕ → ℕ → ℕ → ℕ → ℕ → List CarSpec → Square → Building
 whole_building version heights speed accel wait_weight travel_weight patience patience_weight cars travel = record {
