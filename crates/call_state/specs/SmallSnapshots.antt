@@ -1,9 +1,9 @@
 -- What is tested of a small snapshot.
-use Rattle.std.specs.Prelude.{◌≡◌, ℕ, ◌+◌, ◌≤◌, ◌<◌, List, length, slice_index_or, IsTrue, Option, None}
+use Rattle.std.specs.Prelude.{◌≡◌, ℕ, ◌+◌, ◌≤◌, ◌<◌, List, length, slice_index_or, IsTrue, None}
 use Rattle.elevator_model.specs.declared.CarState.{CarState}
 use Rattle.elevator_model.specs.declared.CarState.TheVariants.{Idle, Coming, Moving}
 use Rattle.elevator_model.specs.declared.Call.{Call}
-use Rattle.elevator_model.specs.Building.{Building, IsBuilding, floor_count}
+use Rattle.elevator_model.specs.Building.{Building, IsBuilding}
 use Rattle.elevator_model.specs.Snapshot.{Snapshot, car_count, call_count, can_take, no_call, serves}
 
 -- All but the state and the calls is right.

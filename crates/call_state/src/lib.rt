@@ -24,3 +24,6 @@ pub enum StateFault {
     /// There is no memory left.
     NoMemory,
 }
+
+#[cfg(test)]
+mod tests;

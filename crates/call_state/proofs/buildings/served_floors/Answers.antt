@@ -1,4 +1,4 @@
-use Rattle.std.proofs.Common.{arith, true, false, cond}
+use Rattle.std.proofs.Common.{arith}
 use Rattle.std.proofs.lemmas.Grind.{common_steps}
 use Rattle.elevator_model.specs.Counting.{has}
 use Rattle.call_state.proofs.CountingLemmas.{sum_where_more}
