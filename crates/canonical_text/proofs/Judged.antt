@@ -1,5 +1,10 @@
 -- What it means that the numbers were read, and that they were refused.
-use Rattle.std.proofs.Common.{◌≡◌, ℕ, ◌^◌, ◌<◌, List, length, get_or, Option, Some, None, refl, sym, ap, subst, ◌∙◌, arith}
+use Rattle.std.proofs.Common.{◌≡◌, ℕ, ◌^◌, ◌<◌, List, Bool, true, false, not, length, get_or, Result, Err, Option, Some, None, refl, sym, ap, subst, ◌∙◌, arith}
+use Rattle.std.specs.Prelude.{nat_eq}
+use lib.Pointwise.{pointwise}
+use Rattle.std.proofs.lemmas.Bool.{not-true, not-false, both_ways}
+use Rattle.std.proofs.lemmas.Bool.Decides.{Decides-eqb}
+use Rattle.std.proofs.lemmas.Slice.Eq.{slice_eq-Decides}
 use Rattle.elevator_model.specs.Travel.{Square, IsTravelOf}
 use Rattle.elevator_model.specs.Snapshot.{Snapshot, IsSmall, car_count, call_count, spec_of, call_of}
 use Rattle.call_state.specs.SmallBuildings.{IsSmallBuilding}
@@ -58,3 +63,14 @@ car_ids_of_case n s case id c lt =
 
 pub call_ids_of_case : (n : CaseNumbers) (s : Snapshot) → IsCaseOf n s → HaveShortIds n.snapshot.calls → (j : ℕ) → j < call_count s → (call_of s j).id < 2 ^ 32
 call_ids_of_case n s case ids = subst (λ (x : Snapshot). HaveShortIds x.calls) (sym case.same) ids
+
+-- ---- faults and comparisons
+
+pub is_not_canonical : {X : Type 0} (r : Result X ReadFault) (f g : ReadFault) → r ≡ Err f → f ≡ g → r ≡ Err NotCanonical → g ≡ NotCanonical
+is_not_canonical r f g is_f same is_fault = cc
+
+pub is_same_text : (xs ys : List ℕ) → false ≡ not (pointwise nat_eq xs ys) → xs ≡ ys
+is_same_text xs ys e = (slice_eq-Decides Decides-eqb xs ys _ refl).0 (not-false _ (sym e))
+
+pub is_other_text : (xs ys : List ℕ) → true ≡ not (pointwise nat_eq xs ys) → xs ≡ ys → ⊥
+is_other_text xs ys e same = both_ways (pointwise nat_eq xs ys) (not-true _ (sym e)) ((slice_eq-Decides Decides-eqb xs ys _ refl).1 same)

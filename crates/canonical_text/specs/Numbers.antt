@@ -31,16 +31,19 @@ HaveShortIds calls = (j : ℕ) → j < length calls → (slice_index_or calls j 
 
 -- ---- what the numbers stand for
 
--- travel times can be made of them
-pub record HasTravel (b : BuildingNumbers) : Type 0 where
+pub record AreInRanges (b : BuildingNumbers) : Type 0 where
   pub floors_low : 2 ≤ length b.heights
   pub floors_high : length b.heights ≤ 64
-  pub low : (f : ℕ) → f < length b.heights → slice_index b.heights f ≤ 1000000
-  pub rising : (f g : ℕ) → f < g → g < length b.heights → slice_index b.heights f < slice_index b.heights g
   pub speed_low : 100 ≤ b.speed
   pub speed_high : b.speed ≤ 20000
   pub accel_low : 100 ≤ b.accel
   pub accel_high : b.accel ≤ 5000
+
+-- travel times can be made of them
+pub record HasTravel (b : BuildingNumbers) : Type 0 where
+  pub ranges : AreInRanges b
+  pub low : (f : ℕ) → f < length b.heights → slice_index b.heights f ≤ 1000000
+  pub rising : (f g : ℕ) → f < g → g < length b.heights → slice_index b.heights f < slice_index b.heights g
 
 -- the building of version 1 of these numbers, with these travel times
 abbrev pub building_from : BuildingNumbers → Square → Building

@@ -7,13 +7,14 @@ ghost use Rattle.elevator_model.specs.Snapshot.{Snapshot as SnapshotRecord, IsSm
 ghost use Rattle.call_state.specs.SmallBuildings.{IsSmallBuilding};
 ghost use Rattle.canonical_text.specs.declared.fault.ReadFault.TheVariants.{NotCanonical};
 ghost use Rattle.canonical_text.specs.Case.{IsCase};
-ghost use Rattle.canonical_text.specs.Numbers.{building_view, snapshot_view, case_view, HasTravel, building_from, snapshot_in, IsCaseOf};
+ghost use Rattle.canonical_text.specs.Numbers.{building_view, snapshot_view, case_view, AreInRanges, HasTravel, building_from, snapshot_in, IsCaseOf};
 
 use crate::fault::ReadFault;
 use crate::numbers::{BuildingNumbers, CaseNumbers, SnapshotNumbers};
 use crate::reading::case_at;
 use crate::writing::write_case;
 use call_state::{Building, BuildingParts, Snapshot, SnapshotParts, Travel};
+use car_motion::travel_of;
 use std::alloc::{AllocError, Global};
 
 fn are_low(heights: &[u64]) -> bool
@@ -34,9 +35,8 @@ fn are_rising(heights: &[u64]) -> bool
     true
 }
 
-/// Whether travel times can be made of the numbers.
-fn has_travel(building: &BuildingNumbers) -> bool
-    ensures { IsTrue result ↔ HasTravel (building_view building.now) }
+fn are_in_ranges(building: &BuildingNumbers) -> bool
+    ensures { IsTrue result ↔ AreInRanges (building_view building.now) }
 {
     2 <= building.heights.len()
         && building.heights.len() <= 64
@@ -44,8 +44,13 @@ fn has_travel(building: &BuildingNumbers) -> bool
         && building.speed <= 20_000
         && 100 <= building.accel
         && building.accel <= 5_000
-        && are_low(&building.heights)
-        && are_rising(&building.heights)
+}
+
+/// Whether travel times can be made of the numbers.
+fn has_travel(building: &BuildingNumbers) -> bool
+    ensures { IsTrue result ↔ HasTravel (building_view building.now) }
+{
+    are_in_ranges(building) && are_low(&building.heights) && are_rising(&building.heights)
 }
 
 /// A vector of one item.
@@ -138,19 +143,4 @@ pub fn read_case(alloc: Global, bytes: &[u8]) -> Result<Snapshot, ReadFault>
         return Err(ReadFault::NotCanonical);
     }
     Ok(snapshot)
-}
-
-fn travel_of(_alloc: Global, heights: &[u64], speed: u64, accel: u64) -> Result<Travel, AllocError>
-    requires floors_low { 2 ≤ length heights.now }
-    requires floors_high { length heights.now ≤ 64 }
-    requires low { (f : ℕ) → f < length heights.now → slice_index heights.now f ≤ 1000000 }
-    requires rising { (f g : ℕ)
-        → f < g → g < length heights.now → slice_index heights.now f < slice_index heights.now g }
-    requires speed_low { 100 ≤ speed }
-    requires speed_high { speed ≤ 20000 }
-    requires accel_low { 100 ≤ accel }
-    requires accel_high { accel ≤ 5000 }
-    ensures { IfOk result (λ travel. IsTravelOf heights.now speed accel travel) }
-{
-    Err(AllocError)
 }
