@@ -55,8 +55,8 @@ digits_again n fits =
     decimal_by_steps IsReadAgain
     (λ d low fits rest. digit_again 0 d rest low (omega arith) ∙ ap (λ (k : ℕ). digits_at k rest) (omega arith))
     (λ m ds large before fits rest.
-        let whole : m / 10 * 10 + m % 10 ≡ m = omega arith in
-        ap (digits_at 0) (append_assoc ds ((48 + m % 10) ∷ []) rest) ∙ before (omega arith) ((48 + m % 10) ∷ rest) ∙ digit_again (m / 10) (m % 10) rest (omega arith) (omega arith) ∙ ap (λ (k : ℕ). digits_at k rest) whole)
+    let whole : m / 10 * 10 + m % 10 ≡ m = omega arith in
+    ap (digits_at 0) (append_assoc ds ((48 + m % 10) ∷ []) rest) ∙ before (omega arith) ((48 + m % 10) ∷ rest) ∙ digit_again (m / 10) (m % 10) rest (omega arith) (omega arith) ∙ ap (λ (k : ℕ). digits_at k rest) whole)
     n fits
 
 pub number_again : (n : ℕ) (rest : List ℕ) → n < 2 ^ 64 → IsEnd rest → number_at (word n ++ rest) ≡ Some (n, rest)

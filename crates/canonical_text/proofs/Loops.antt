@@ -118,6 +118,6 @@ short_ids_more calls call ids id j lt =
     elim (cases_lt j (length calls)) [
       | inl before ↦ rw (get_or_append_left calls (call ∷ []) no_call j before) (ids j before)
       | inr after ↦
-        let last : length calls ≡ j = omega (arith, length_push calls call) in
-        rw (get_or_push calls call no_call j last) id
+          let last : length calls ≡ j = omega (arith, length_push calls call) in
+          rw (get_or_push calls call no_call j last) id
     ]

@@ -19,8 +19,8 @@ pin_is_possible s call x (suc n) pinned e =
     elim (or_cases (any_below n (λ c. is_possible s c call)) (is_possible s n call) e) [
       | inl earlier ↦ omega (arith, pin_is_possible s call x n pinned earlier)
       | inr here ↦
-        let moved : (not (is_pinned_elsewhere (Some x) n) && can_take s.building n call) ≡ true = subst (λ (pin : Option ℕ). (not (is_pinned_elsewhere pin n) && can_take s.building n call) ≡ true) pinned here in
-        omega (arith, eqb-true x n (is_pinned_here (eqb x n) (can_take s.building n call) moved))
+          let moved : (not (is_pinned_elsewhere (Some x) n) && can_take s.building n call) ≡ true = subst (λ (pin : Option ℕ). (not (is_pinned_elsewhere pin n) && can_take s.building n call) ≡ true) pinned here in
+          omega (arith, eqb-true x n (is_pinned_here (eqb x n) (can_take s.building n call) moved))
     ]
 
 pub pin_is_car : (s : Snapshot) (j x : ℕ) → IsAccepted s → j < call_count s → (call_of s j).pin ≡ Some x → x < car_count s

@@ -88,7 +88,7 @@ weights_again : (wait travel : ℕ) (rest : List ℕ) → wait < 2 ^ 64 → trav
 unfolding weights_at
 weights_again wait travel rest wait_fits travel_fits =
     let parts : line (codes "weights") (wait ∷ travel ∷ []) ++ rest ≡ codes "weights" ++ (word wait ++ (word travel ++ (newline ++ rest))) =
-        line_then (codes "weights") (wait ∷ travel ∷ []) rest ∙ ap (λ (x : List ℕ). codes "weights" ++ x) (simp append_assoc) in
+    line_then (codes "weights") (wait ∷ travel ∷ []) rest ∙ ap (λ (x : List ℕ). codes "weights" ++ x) (simp append_assoc) in
     ap weights_at parts
     ∙ rw (literal_again (codes "weights") (word wait ++ (word travel ++ (newline ++ rest))), number_again wait (word travel ++ (newline ++ rest)) wait_fits (end_word travel (newline ++ rest)), number_again travel (newline ++ rest) travel_fits refl, literal_again newline rest) refl
 
@@ -127,10 +127,10 @@ state_again id floor free rest id_fits floor_fits free_fits =
     let line_end = newline ++ rest in
     let numbers = word floor ++ (word free ++ line_end) in
     let parts : state_line id (Idle floor free) ++ rest ≡ codes "car" ++ (word id ++ (codes " idle" ++ numbers)) =
-        append_assoc (words (codes "car") (id ∷ [])) (line (codes " idle") (floor ∷ free ∷ [])) rest
-        ∙ ap (λ (x : List ℕ). words (codes "car") (id ∷ []) ++ x) (line_then (codes " idle") (floor ∷ free ∷ []) rest ∙ ap (λ (x : List ℕ). codes " idle" ++ x) (simp append_assoc))
-        ∙ words_then (codes "car") (id ∷ []) (codes " idle" ++ numbers)
-        ∙ ap (λ (x : List ℕ). codes "car" ++ x) (simp append_assoc) in
+    append_assoc (words (codes "car") (id ∷ [])) (line (codes " idle") (floor ∷ free ∷ [])) rest
+    ∙ ap (λ (x : List ℕ). words (codes "car") (id ∷ []) ++ x) (line_then (codes " idle") (floor ∷ free ∷ []) rest ∙ ap (λ (x : List ℕ). codes " idle" ++ x) (simp append_assoc))
+    ∙ words_then (codes "car") (id ∷ []) (codes " idle" ++ numbers)
+    ∙ ap (λ (x : List ℕ). codes "car" ++ x) (simp append_assoc) in
     ap state_at parts
     ∙ rw (literal_again (codes "car") (word id ++ (codes " idle" ++ numbers)), number_again id (codes " idle" ++ numbers) id_fits refl, literal_again (codes " idle") numbers, short_again floor (word free ++ line_end) floor_fits (end_word free line_end), number_again free line_end free_fits refl, literal_again newline rest) refl
 
@@ -165,11 +165,11 @@ call_again b call rest fits any =
     let w2 = word call.origin ++ w3 in
     let numbers = call.id ∷ call.origin ∷ call.destination ∷ call.persons ∷ call.released ∷ [] in
     let parts : call_line b call ++ rest ≡ codes "call" ++ (word call.id ++ w2) =
-        append_assoc (words (codes "call") numbers ++ pin_word b call.pin) newline rest
-        ∙ append_assoc (words (codes "call") numbers) (pin_word b call.pin) (newline ++ rest)
-        ∙ ap (λ (x : List ℕ). words (codes "call") numbers ++ (x ++ (newline ++ rest))) (unpinned_word b call.pin fits.unpinned)
-        ∙ words_then (codes "call") numbers line_end
-        ∙ ap (λ (x : List ℕ). codes "call" ++ x) (five_words call.id call.origin call.destination call.persons call.released line_end) in
+    append_assoc (words (codes "call") numbers ++ pin_word b call.pin) newline rest
+    ∙ append_assoc (words (codes "call") numbers) (pin_word b call.pin) (newline ++ rest)
+    ∙ ap (λ (x : List ℕ). words (codes "call") numbers ++ (x ++ (newline ++ rest))) (unpinned_word b call.pin fits.unpinned)
+    ∙ words_then (codes "call") numbers line_end
+    ∙ ap (λ (x : List ℕ). codes "call" ++ x) (five_words call.id call.origin call.destination call.persons call.released line_end) in
     let unpinned : unpinned_call call None ≡ call = ap (unpinned_call call) (sym fits.unpinned) in
     ap call_at parts
     ∙ rw (literal_again (codes "call") (word call.id ++ w2), short_again call.id w2 fits.id (end_word call.origin w3), short_again call.origin w3 fits.origin (end_word call.destination w4), short_again call.destination w4 fits.destination (end_word call.persons w5), short_again call.persons w5 fits.persons (end_word call.released line_end), number_again call.released line_end fits.released refl, literal_again (codes " any\n") rest) (ap (λ (x : Call). Some (x, rest)) unpinned)
@@ -203,17 +203,17 @@ read_calls : (s : Snapshot) → IsSmall s → ((j : ℕ) → j < call_count s �
 read_calls s small ids =
     all_from_places IsReadCall no_call s.calls
     (λ j lt.
-        let call = small.accepted.calls j lt in
-        let floors = small.accepted.building.floors_high in
-        let moment = small.accepted.moment in
-        record {
-          id = ids j lt;
-          origin = omega (arith, call.origin);
-          destination = omega (arith, call.destination);
-          persons = omega (arith, call.persons_high);
-          released = omega (arith, call.released);
-          unpinned = small.unpinned j lt;
-        })
+    let call = small.accepted.calls j lt in
+    let floors = small.accepted.building.floors_high in
+    let moment = small.accepted.moment in
+    record {
+      id = ids j lt;
+      origin = omega (arith, call.origin);
+      destination = omega (arith, call.destination);
+      persons = omega (arith, call.persons_high);
+      released = omega (arith, call.released);
+      unpinned = small.unpinned j lt;
+    })
 
 snapshot_again : (b : BuildingNumbers) (travel : Square) (moment : ℕ) (state : CarState) (calls : List Call) → IsSmall (snapshot_from (numbers b moment state calls) travel) → b.car.id < 2 ^ 32 → ((j : ℕ) → j < length calls → (get_or calls j no_call).id < 2 ^ 32)
     → snapshot_at (snapshot_text (snapshot_from (numbers b moment state calls) travel)) ≡ Some (record { moment = moment; state = state; calls = calls })

@@ -55,12 +55,7 @@ fn put_stops(out: &mut Vec<u8>, snapshot: &Snapshot, stops: &[Stop]) -> Result<(
 
 /// Writes the tour of a car.
 #[tactic(auto, unfolding(crate::specs::Text::tour_text))]
-fn put_tour(
-    out: &mut Vec<u8>,
-    snapshot: &Snapshot,
-    c: usize,
-    tour: &Tour,
-) -> Result<(), AllocError>
+fn put_tour(out: &mut Vec<u8>, snapshot: &Snapshot, c: usize, tour: &Tour) -> Result<(), AllocError>
     requires { c < car_count snapshot.now }
     ensures { OnOk result (out.new.items ≡ out.old.items ++ tour_text snapshot.now c tour.now) }
 {

@@ -133,7 +133,8 @@ fn case_of(alloc: Global, numbers: CaseNumbers) -> Result<Snapshot, ReadFault>
 ///
 /// It answers `NotCanonical` exactly where the bytes are not such a text.
 pub fn read_case(alloc: Global, bytes: &[u8]) -> Result<Snapshot, ReadFault>
-    ensures read { IfOk result (λ s. IsCase s bytes.now) }
+    ensures read { IfOk result (λ snapshot. IsCase snapshot bytes.now) }
+    ensures only { (s : SnapshotRecord) → IsCase s bytes.now → IfOk result (λ snapshot. snapshot ≡ s) }
     ensures not_canonical { result ≡ Err NotCanonical → (s : SnapshotRecord) → IsCase s bytes.now → ⊥ }
 {
     let numbers = case_at(alloc, bytes)?;

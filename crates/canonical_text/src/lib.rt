@@ -17,3 +17,6 @@ pub use answers::write_solved;
 pub use cases::read_case;
 pub use fault::ReadFault;
 pub use writing::write_case;
+
+#[cfg(test)]
+mod tests;

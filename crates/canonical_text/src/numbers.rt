@@ -2,7 +2,7 @@
 
 use elevator_model::{Call, CarSpec, CarState};
 
-#[derive(Debug, Drop)]
+#[derive(Drop)]
 pub(crate) struct BuildingNumbers {
     pub speed: u64,
     pub accel: u64,
@@ -12,14 +12,14 @@ pub(crate) struct BuildingNumbers {
     pub car: CarSpec,
 }
 
-#[derive(Debug, Drop)]
+#[derive(Drop)]
 pub(crate) struct SnapshotNumbers {
     pub moment: u64,
     pub state: CarState,
     pub calls: Vec<Call>,
 }
 
-#[derive(Debug, Drop)]
+#[derive(Drop)]
 pub(crate) struct CaseNumbers {
     pub building: BuildingNumbers,
     pub snapshot: SnapshotNumbers,

@@ -23,11 +23,7 @@ pub(crate) fn put_word(out: &mut Vec<u8>, number: u64) -> Result<(), AllocError>
 
 /// Writes a name, and numbers after it.
 #[tactic(auto, unfolding(crate::specs::Text::words))]
-pub(crate) fn put_words(
-    out: &mut Vec<u8>,
-    name: &[u8],
-    numbers: &[u64],
-) -> Result<(), AllocError>
+pub(crate) fn put_words(out: &mut Vec<u8>, name: &[u8], numbers: &[u64]) -> Result<(), AllocError>
     ensures { OnOk result (out.new.items ≡ out.old.items ++ words name.now numbers.now) }
 {
     out.extend_from_slice(name)?;

@@ -36,3 +36,8 @@ returns-clause-read c =
       call_ids = call_ids_of_case n snapshot c.in_ok-snapshot.ensures.made c.in_ok-numbers.ensures.call_ids;
       text = sym (is_same_text c.as_slice.result.now c.args.bytes.now c.if-ne.ensures) ∙ c.as_slice.ensures.value ∙ c.in_ok-text.ensures;
     }
+
+pub returns-clause-only : goal.returns-clause-only
+returns-clause-only c = λ s case.
+    let n = case_view c.in_ok-numbers.numbers in
+    same_case n c.in_ok-snapshot.snapshot s c.in_ok-snapshot.ensures.made (is_case_of c.args.bytes.now n c.in_ok-numbers.ensures.read s case)

@@ -9,7 +9,7 @@ pub loop-floor-preserved : goal.loop-floor-preserved
 loop-floor-preserved c =
     elim c.if-has_floor.branch [
       | then-has_floor+in_ok-put_word w ↦
-        rw w.out-is (wrote_passed (has c.args.set) word c.args.out.now.items c.loop-floor.out.items w.put_word.new.out.items c.loop-floor.floor c.loop-floor.invariant w.in_ok-put_word.ensures (sym c.has_floor.ensures ∙ w.if-has_floor.true))
+          rw w.out-is (wrote_passed (has c.args.set) word c.args.out.now.items c.loop-floor.out.items w.put_word.new.out.items c.loop-floor.floor c.loop-floor.invariant w.in_ok-put_word.ensures (sym c.has_floor.ensures ∙ w.if-has_floor.true))
       | else-has_floor w ↦
-        rw w.out-is (c.loop-floor.invariant ∙ text_of_failed (has c.args.set) word c.args.out.now.items c.loop-floor.floor (sym c.has_floor.ensures ∙ w.if-has_floor.false))
+          rw w.out-is (c.loop-floor.invariant ∙ text_of_failed (has c.args.set) word c.args.out.now.items c.loop-floor.floor (sym c.has_floor.ensures ∙ w.if-has_floor.false))
     ]
