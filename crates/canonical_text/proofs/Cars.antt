@@ -1,20 +1,20 @@
 -- What was written is read again: the line of a car.
-use Rattle.std.proofs.Common.{◌≡◌, ℕ, zero, suc, ◌+◌, ◌-◌, ◌*◌, ◌/◌, ◌%◌, ◌^◌, ◌≤◌, ◌<◌, ◌⊎◌, inl, inr, Bool, true, false, cond, ltb, leb, eqb, ◌&&◌, List, [], ◌∷◌, ◌++◌, length, Option, Some, None, refl, sym, ap, subst, ◌∙◌, append_assoc, arith}
+use Rattle.std.proofs.Common.{◌≡◌, ℕ, zero, suc, ◌+◌, ◌-◌, ◌*◌, ◌%◌, ◌^◌, ◌≤◌, ◌<◌, Bool, true, false, cond, ltb, eqb, List, [], ◌∷◌, ◌++◌, Some, refl, sym, ap, subst, ◌∙◌, append_assoc, arith}
 use Rattle.std.specs.Prelude.{nat_eq, codes, decimal}
 use Rattle.std.specs.Int.{bit_at}
 use Rattle.std.specs.List.{starts_with, flat_map, filter, range_with_len, AllByRecursion}
-use Rattle.std.proofs.lemmas.Bool.{cases_Bool, lt-ltb, eqb-true, eqb-false, eq-eqb, ne_eqb}
+use Rattle.std.proofs.lemmas.Bool.{lt-ltb, eqb-true, eqb-false, ne_eqb}
 use Rattle.std.proofs.lemmas.Fmt.{decimal_by_steps}
 use Rattle.std.proofs.Math.Arith.{mod-mul}
-use Rattle.std.proofs.Math.Nat.{mod-lt, mod-eq_of_lt, mod-one, pow-suc, pow-succ'}
+use Rattle.std.proofs.Math.Nat.{mod-lt, mod-eq_of_lt, mod-one, pow-succ'}
 use Rattle.std.proofs.Math.Pow.{pow_mono, pow_pos}
 use Rattle.std.proofs.lemmas.Nat.Bits.{bit_at-lt}
 use Rattle.elevator_model.specs.declared.CarSpec.{CarSpec}
 use Rattle.elevator_model.specs.Counting.{has}
 use Rattle.elevator_model.specs.Building.{IsCarSpec}
 use Rattle.canonical_text.specs.Text.{newline, word, words, floors_in, served_words, car_line}
-use Rattle.canonical_text.specs.Reading.{◌>>=◌, Read, literal_at, number_at, short_at, numbers_line_at, set_of, served_at, car_at}
-use Rattle.canonical_text.proofs.Again.{IsEnd, IsLong, end_word, starts_again, literal_again, number_again, short_again, numbers_line_again, words_then}
+use Rattle.canonical_text.specs.Reading.{set_of, served_at, car_at}
+use Rattle.canonical_text.proofs.Again.{IsEnd, IsLong, end_word, literal_again, number_again, short_again, numbers_line_again, words_then}
 
 -- ---- sets of floors
 

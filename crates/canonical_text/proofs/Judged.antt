@@ -1,5 +1,5 @@
 -- What it means that the numbers were read, and that they were refused.
-use Rattle.std.proofs.Common.{◌≡◌, ℕ, ◌^◌, ◌<◌, List, Bool, true, false, not, length, get_or, Result, Err, Option, Some, None, refl, sym, ap, subst, ◌∙◌, arith}
+use Rattle.std.proofs.Common.{◌≡◌, ℕ, ◌^◌, ◌<◌, List, true, false, not, Result, Err, Some, refl, sym, ap, subst, ◌∙◌, arith}
 use Rattle.std.specs.Prelude.{nat_eq}
 use lib.Pointwise.{pointwise}
 use Rattle.std.proofs.lemmas.Bool.{not-true, not-false, both_ways}
@@ -10,7 +10,6 @@ use Rattle.elevator_model.specs.Snapshot.{Snapshot, IsSmall, car_count, call_cou
 use Rattle.call_state.specs.SmallBuildings.{IsSmallBuilding}
 use Rattle.canonical_text.specs.declared.fault.ReadFault.{ReadFault}
 use Rattle.canonical_text.specs.declared.fault.ReadFault.TheVariants.{NotCanonical, NoMemory}
-use Rattle.canonical_text.specs.Text.{case_text}
 use Rattle.canonical_text.specs.Case.{IsCase}
 use Rattle.canonical_text.specs.Reading.{Fails, CaseNumbers, case_at}
 use Rattle.canonical_text.specs.Numbers.{building_from, snapshot_from, numbers_of, IsCaseOf, HaveShortIds}

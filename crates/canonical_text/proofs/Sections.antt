@@ -1,6 +1,6 @@
 -- What was written is read again: cases.
-use Rattle.std.proofs.Common.{◌≡◌, ℕ, zero, suc, ◌+◌, ◌-◌, ◌*◌, ◌^◌, ◌≤◌, ◌<◌, Bool, true, false, cond, ltb, leb, eqb, ◌&&◌, List, [], ◌∷◌, ◌++◌, length, get_or, Option, Some, None, refl, sym, ap, subst, ◌∙◌, append_assoc, arith}
-use Rattle.std.specs.Prelude.{nat_eq, codes, slice_index, IsTrue}
+use Rattle.std.proofs.Common.{◌≡◌, ℕ, suc, ◌+◌, ◌^◌, ◌≤◌, ◌<◌, Bool, true, false, leb, ◌&&◌, List, [], ◌∷◌, ◌++◌, length, get_or, Option, Some, None, refl, sym, ap, subst, ◌∙◌, append_assoc, arith}
+use Rattle.std.specs.Prelude.{nat_eq, codes}
 use Rattle.std.specs.List.{starts_with, flat_map, AllByRecursion}
 use Rattle.std.proofs.lemmas.Bool.{le-leb, ltb-true, false≢true}
 use Rattle.std.proofs.lemmas.List.{append-nil, nil_from_length}
@@ -10,12 +10,12 @@ use Rattle.elevator_model.specs.declared.CarState.TheVariants.{Idle, Coming, Mov
 use Rattle.elevator_model.specs.declared.Aboard.{Aboard}
 use Rattle.elevator_model.specs.declared.Call.{Call}
 use Rattle.elevator_model.specs.Travel.{Square}
-use Rattle.elevator_model.specs.Building.{Building, IsBuilding, IsCarSpec, floor_count, car_of, no_car}
-use Rattle.elevator_model.specs.Snapshot.{Snapshot, IsSmall, IsAccepted, IsCallAccepted, IsCarPlaced, car_count, call_count, call_of, spec_of, state_of, no_state, no_call, is_idle, serves}
-use Rattle.canonical_text.specs.Text.{newline, word, words, line, patience_line, car_line, building_text, state_line, aboard_line, pin_word, call_line, snapshot_text, case_text}
-use Rattle.canonical_text.specs.Reading.{◌>>=◌, Read, literal_at, number_at, short_at, number_line_at, many_at, numbers_line_at, weights_at, heights_at, car_at, BuildingNumbers, building_at, state_at, call_at, SnapshotNumbers, snapshot_at, CaseNumbers, case_at}
+use Rattle.elevator_model.specs.Building.{Building, IsBuilding, floor_count, car_of, no_car}
+use Rattle.elevator_model.specs.Snapshot.{Snapshot, IsSmall, IsCarPlaced, car_count, call_count, call_of, spec_of, state_of, no_state, no_call}
+use Rattle.canonical_text.specs.Text.{newline, word, words, line, patience_line, car_line, building_text, state_line, pin_word, call_line, snapshot_text, case_text}
+use Rattle.canonical_text.specs.Reading.{weights_at, heights_at, BuildingNumbers, building_at, state_at, call_at, snapshot_at, CaseNumbers, case_at}
 use Rattle.canonical_text.specs.Numbers.{building_from, snapshot_from, numbers_of}
-use Rattle.canonical_text.proofs.Again.{IsEnd, IsLong, IsReadEach, end_word, starts_again, literal_again, number_again, short_again, number_line_again, numbers_line_again, many_again, words_then, line_then}
+use Rattle.canonical_text.proofs.Again.{IsLong, IsReadEach, end_word, literal_again, number_again, short_again, number_line_again, numbers_line_again, many_again, words_then, line_then}
 use Rattle.canonical_text.proofs.Cars.{car_again}
 
 -- what holds at each place holds of each item

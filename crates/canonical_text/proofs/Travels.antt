@@ -1,9 +1,9 @@
 -- The travel times of heights, speed and acceleration are one square.
-use Rattle.std.proofs.Common.{◌≡◌, ℕ, zero, suc, ◌+◌, ◌*◌, ◌/◌, ◌%◌, ◌≤◌, ◌<◌, List, length, get_or, refl, sym, ap, ◌∙◌, arith}
+use Rattle.std.proofs.Common.{◌≡◌, ℕ, zero, suc, ◌+◌, ◌*◌, ◌/◌, ◌%◌, ◌<◌, List, length, get_or, sym, ap, ◌∙◌, arith}
 use Rattle.std.specs.Prelude.{slice_index}
 use Rattle.std.proofs.lemmas.List.{ext_get_or}
 use Rattle.std.proofs.Math.Nat.{mod-lt, div-lt_iff_lt-mul, mod-add-div'}
-use Rattle.elevator_model.specs.Travel.{Square, time_between, difference, IsLeastTime, IsTravelOf}
+use Rattle.elevator_model.specs.Travel.{Square, time_between, IsLeastTime, IsTravelOf}
 
 same_least : (speed accel distance t u : ℕ) → IsLeastTime speed accel distance t → IsLeastTime speed accel distance u → t ≡ u
 same_least speed accel distance t u p q = omega (arith, p.least u q.enough, q.least t p.enough)

@@ -1,8 +1,6 @@
 //! Reads cases.
 
 ghost use Rattle.std.specs.Prelude.{◌≡◌, ◌↔◌, [], ◌∷◌, ℕ, ◌≤◌, ◌<◌, length, slice_index, IsTrue, IfOk, Err};
-ghost use Rattle.elevator_model.specs.Travel.{IsTravelOf};
-ghost use Rattle.elevator_model.specs.Building.{Building as BuildingRecord};
 ghost use Rattle.elevator_model.specs.Snapshot.{Snapshot as SnapshotRecord, IsSmall};
 ghost use Rattle.call_state.specs.SmallBuildings.{IsSmallBuilding};
 ghost use Rattle.canonical_text.specs.declared.fault.ReadFault.TheVariants.{NotCanonical};

@@ -1,4 +1,4 @@
-use Rattle.std.proofs.Common.{◌≡◌, ◌++◌, [], get_or, refl, sym, ◌∙◌, ap, ℕ, List}
+use Rattle.std.proofs.Common.{◌≡◌, [], get_or, ◌∙◌, ap, List}
 use Rattle.std.proofs.lemmas.List.{get_or_read}
 use Rattle.elevator_model.specs.declared.Stop.{Stop}
 use Rattle.elevator_model.specs.Plans.{tour_of}

@@ -1,4 +1,4 @@
-use Rattle.std.proofs.Common.{◌≡◌, Err, ap, sym, subst, ◌∙◌}
+use Rattle.std.proofs.Common.{Err, ap}
 use Rattle.std.proofs.lemmas.Result.{err_from_is_err_and}
 use Rattle.elevator_model.specs.Travel.{IsTravelOf}
 use Rattle.canonical_text.specs.declared.fault.ReadFault.{ReadFault}

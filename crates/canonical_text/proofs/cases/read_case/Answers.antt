@@ -1,6 +1,5 @@
-use Rattle.std.proofs.Common.{◌≡◌, ℕ, ◌^◌, ◌<◌, ap, sym, subst, ◌∙◌, arith, length, get_or, Err}
+use Rattle.std.proofs.Common.{◌≡◌, ap, sym, ◌∙◌, Err}
 use Rattle.std.proofs.lemmas.Result.{err_from_is_err_and}
-use Rattle.elevator_model.specs.Snapshot.{Snapshot, car_count, spec_of, call_count, call_of}
 use Rattle.canonical_text.specs.declared.fault.ReadFault.{ReadFault}
 use Rattle.canonical_text.specs.Text.{case_text}
 use Rattle.canonical_text.specs.Numbers.{case_view}

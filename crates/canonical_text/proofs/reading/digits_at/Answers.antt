@@ -1,6 +1,5 @@
-use Rattle.std.proofs.Common.{◌≡◌, ◌+◌, ◌-◌, ◌*◌, List, ℕ, take, drop, sym, refl, ◌∙◌, get_or, length, arith, Option, Some}
+use Rattle.std.proofs.Common.{◌≡◌, ◌+◌, ◌-◌, ◌*◌, sym, refl, ◌∙◌, get_or, arith}
 use Rattle.std.proofs.lemmas.List.{take_rest}
-use Rattle.canonical_text.specs.Reading.{digits_at}
 use Rattle.canonical_text.proofs.Loops.{digits_more, digits_overflow, digits_end, digits_all}
 use Rattle.canonical_text.proofs.reading.digits_at.Goals as goal
 

@@ -1,6 +1,5 @@
 use Rattle.std.proofs.Common.{◌≡◌, ◌+◌, ◌*◌, ◌%◌, ◌^◌, sym, refl, ◌∙◌, get_or, arith}
 use Rattle.std.proofs.lemmas.Nat.{one_shl}
-use Rattle.canonical_text.specs.Reading.{set_of}
 use Rattle.canonical_text.proofs.Loops.{set_more, set_high, set_overflow, set_all}
 use Rattle.canonical_text.proofs.reading.set_of.Goals as goal
 

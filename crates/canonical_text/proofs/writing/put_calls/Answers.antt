@@ -1,5 +1,5 @@
-use Rattle.std.proofs.Common.{length, sym, arith, ◌≡◌, ◌<◌, ap}
-use Rattle.elevator_model.specs.Snapshot.{call_of, car_count, call_count}
+use Rattle.std.proofs.Common.{◌<◌}
+use Rattle.elevator_model.specs.Snapshot.{call_count}
 use Rattle.canonical_text.proofs.Pins.{pin_is_car}
 use Rattle.canonical_text.proofs.writing.put_calls.Goals as goal
 

@@ -1,4 +1,4 @@
-use Rattle.std.proofs.Common.{◌≡◌, ◌++◌, refl, ap, sym, ◌∙◌, rules, Vec, Global, ℕ}
+use Rattle.std.proofs.Common.{sym, ◌∙◌}
 use Rattle.elevator_model.specs.Counting.{has}
 use Rattle.canonical_text.specs.Text.{word}
 use Rattle.canonical_text.proofs.Lists.{wrote_passed, text_of_failed}

@@ -1,4 +1,4 @@
-use Rattle.std.proofs.Common.{◌≡◌, ◌++◌, get_or, refl}
+use Rattle.std.proofs.Common.{◌≡◌, get_or, refl}
 use Rattle.elevator_model.specs.Building.{no_car}
 use Rattle.elevator_model.specs.Snapshot.{spec_of, state_of}
 use Rattle.canonical_text.specs.Text.{state_line}
