@@ -1,0 +1,2 @@
+//! The cost of a tour.
+pub(crate) fn nothing() {}

@@ -1,0 +1,2 @@
+//! The moments of a tour's stops.
+pub(crate) fn nothing() {}
