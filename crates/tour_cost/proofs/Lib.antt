@@ -5,3 +5,5 @@ pub mod Stops
 pub mod Settled
 pub mod Short
 pub mod Groups
+pub mod Bounds
+pub mod Walked

@@ -1,25 +1,19 @@
 -- The cost of those who got off grows at each stop by the cost of those who get off there.
-use Rattle.std.proofs.Common.{◌==◌, ◌≡◌, ℕ, zero, suc, ◌+◌, ◌-◌, ◌*◌, ◌<◌, ◌≤◌, Bool, true, false, cond, not, ◌&&◌, ◌||◌, eqb, ltb, leb, List, length, get_or, refl, sym, ap, ◌∙◌, subst, inl, inr, arith, Option, Some, None}
+use Rattle.std.proofs.Common.{◌==◌, ◌≡◌, ℕ, ◌+◌, ◌-◌, ◌*◌, ◌<◌, Bool, true, false, cond, not, ◌&&◌, ◌||◌, eqb, ltb, leb, List, length, get_or, refl, sym, ap, ◌∙◌, inl, inr, arith, None}
 use Rattle.std.specs.List.{count_by}
-use Rattle.std.proofs.lemmas.Bool.{and_left, and_parts, or_cases, or_left, or_right, false≢true, ltb-true, cases_Bool, and_cases, or_parts, both_ways}
+use Rattle.std.proofs.lemmas.Bool.{and_left, and_parts, or_cases, false≢true, ltb-true, cases_Bool, both_ways}
 use Rattle.elevator_model.specs.declared.Stop.{Stop}
-use Rattle.elevator_model.specs.Counting.{has, is_among, sum_below, sum_where}
-use Rattle.elevator_model.specs.Snapshot.{Snapshot, call_count, call_of, group_of, spec_of, IsAccepted}
-use Rattle.elevator_model.specs.Tours.{Progress, rider_count, destination_of, persons_of, is_aboard, gets_off, stays_on, boards_at, make_stop, start_of, arrival, breaks, broken_at, none_taken, rules_of_stop}
+use Rattle.elevator_model.specs.Counting.{has, is_among, sum_where}
+use Rattle.elevator_model.specs.Snapshot.{Snapshot, call_count, call_of, group_of, spec_of}
+use Rattle.elevator_model.specs.Tours.{Progress, rider_count, destination_of, is_aboard, gets_off, boards_at, make_stop, start_of, arrival, breaks, broken_at, none_taken, rules_of_stop}
 use Rattle.elevator_model.specs.Costs.{cost_of_wait, cost_of_rider, is_delivered, settled_cost}
 use Rattle.tour_rules.proofs.Tests.{AllClear, AllClear-from, any_below-false, sum_below-same}
 use Rattle.tour_cost.specs.declared.rides.Ride.{Ride}
-use Rattle.tour_cost.specs.Rides.{Tracks, is_group_carried, is_group_off, cost_of_call, cost_of_group}
+use Rattle.tour_cost.specs.Rides.{Tracks, is_group_off}
+use Rattle.tour_cost.specs.Leaving.{IsKept, AreBoarded, leaving_cost, cost_of_call, cost_of_group}
 use Rattle.tour_cost.proofs.Sums.{sum_where-none, sum_below-add}
-use Rattle.tour_cost.proofs.Riders.{is_call, is_no_call, is_aboard-call, group_index, destination_of-call, destination_of-group, persons_of-call, persons_of-group, sum_riders}
+use Rattle.tour_cost.proofs.Riders.{is_call, is_no_call, is_aboard-call, group_index, persons_of-call, persons_of-group, sum_riders}
 use Rattle.tour_cost.proofs.Stops.{AreOff, off-call, off-group}
-
--- what holds after stops that break no rule: who is carried boarded or was aboard, only calls board, a
--- group keeps the moment at which it boarded
-pub record IsKept (s : Snapshot) (c : ℕ) (p : Progress) : Type 0 where
-  pub carried : (r : ℕ) → p.carried r ≡ true → (p.boarded r || is_aboard s c r) ≡ true
-  pub calls : (r : ℕ) → p.boarded r ≡ true → r < call_count s
-  pub groups : (k : ℕ) → p.boarded_at (call_count s + k) ≡ (group_of s k).boarded
 
 -- a call that boards did not board before
 twice_free : (a b t d : Bool) → a ≡ true → (a && ((b || t) || d)) ≡ false → b ≡ false
@@ -74,10 +68,7 @@ one_settled cost true a true false false t u o h hb ha = omega arith
 one_settled cost false true true false true t u o h hb ha = omega arith
 one_settled cost false true true false false t u o h hb ha = omega arith
 
--- the cost of those who get off at a stop whose doors are open at this moment
-abbrev pub leaving_cost : Snapshot → Progress → (g opened : ℕ) → ℕ
-leaving_cost s p g opened = sum_where (rider_count s) (gets_off s p g) (λ r. cost_of_rider s r (p.boarded_at r) opened)
-
+-- The cost of those who got off grows by the cost of those who get off.
 pub settled_more : (s : Snapshot) (c : ℕ) (p : Progress) (stop : Stop) → IsKept s c p → broken_at s c none_taken p stop ≡ None → settled_cost s c (make_stop s c p stop) ≡ settled_cost s c p + leaving_cost s p stop.floor (make_stop s c p stop).opened
 settled_more s c p stop kept fine =
     let clear = AllClear-from (breaks s c none_taken p stop) rules_of_stop fine in
@@ -103,10 +94,6 @@ cost_of_rider-group s k boarded delivered same =
   where
     plus_nothing : (n : ℕ) → 0 + n ≡ n
     plus_nothing n = omega arith
-
--- the moments in an array are those at which the calls that are carried boarded
-pub record AreBoarded (s : Snapshot) (p : Progress) (moments : List ℕ) : Type 0 where
-  pub each : (j : ℕ) → j < call_count s → p.carried j ≡ true → p.boarded_at j ≡ get_or moments j 0
 
 pub leaving_cost-parts : (s : Snapshot) (c : ℕ) (ride : Ride) (p : Progress) (g opened off : ℕ) (moments : List ℕ) → Tracks s c ride p → IsKept s c p → AreBoarded s p moments → AreOff s g ride.carried off → leaving_cost s p g opened ≡ sum_where (call_count s) (has off) (λ j. cost_of_call s j (get_or moments j 0) opened) + sum_where (length s.aboard) (is_group_off s c ride.visited g) (λ k. cost_of_group s k opened)
 leaving_cost-parts s c ride p g opened off moments t kept boarded o =

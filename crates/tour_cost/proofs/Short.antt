@@ -1,15 +1,13 @@
 -- Bounds: on the number of stops of a feasible tour, and on the cost of those who got off.
-use Rattle.std.proofs.Common.{◌≡◌, ℕ, zero, suc, ◌+◌, ◌-◌, ◌*◌, ◌<◌, ◌≤◌, Bool, true, false, cond, not, ◌&&◌, ◌||◌, eqb, ltb, leb, List, [], ◌∷◌, ◌++◌, map, length, length-append, refl, sym, ap, ◌∙◌, subst, inl, inr, arith, Option, Some, None}
+use Rattle.std.proofs.Common.{◌≡◌, ℕ, ◌+◌, ◌<◌, ◌≤◌, true, false, cond, eqb, List, [], ◌∷◌, map, length, length-append, refl, arith, None}
 use Rattle.std.specs.List.{flat_map}
 use Rattle.elevator_model.specs.declared.Stop.{Stop}
-use Rattle.elevator_model.specs.declared.Move.{Move}
 use Rattle.elevator_model.specs.declared.Move.TheVariants.{End}
-use Rattle.elevator_model.specs.Counting.{has, is_among, sum_below, sum_where}
-use Rattle.elevator_model.specs.Snapshot.{Snapshot, call_count, call_of, group_of, spec_of, car_count, persons_aboard, IsAccepted}
-use Rattle.elevator_model.specs.Building.{IsBuilding, most_calls}
-use Rattle.elevator_model.specs.Tours.{Progress, rider_count, IsFeasible, is_aboard, first_broken_from, none_taken, start_of, make_stop, broken_at, after_stops}
-use Rattle.elevator_model.specs.Partial.{moves_of, moves_of_stop, course_of}
-use Rattle.tour_rules.specs.Measure.{groups_of, most_moves, moves_left}
+use Rattle.elevator_model.specs.Snapshot.{Snapshot, call_count, group_of, car_count, persons_aboard, IsAccepted}
+use Rattle.elevator_model.specs.Building.{most_calls}
+use Rattle.elevator_model.specs.Tours.{Progress, IsFeasible, is_aboard, first_broken_from, none_taken, start_of, make_stop, broken_at, after_stops}
+use Rattle.elevator_model.specs.Partial.{moves_of, moves_of_stop}
+use Rattle.tour_rules.specs.Measure.{groups_of}
 use Rattle.tour_rules.proofs.Reached.{moves_reach, ended_at, risen, broken_or-none}
 use Rattle.tour_rules.proofs.Measure.{lawful_short}
 use Rattle.tour_rules.proofs.Sound.{AllFine}

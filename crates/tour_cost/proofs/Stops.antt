@@ -1,10 +1,10 @@
 -- What a stop does to the sets of a ride.
-use Rattle.std.proofs.Common.{◌≡◌, ℕ, zero, suc, ◌+◌, ◌-◌, ◌*◌, ◌<◌, ◌≤◌, Bool, true, false, cond, not, ◌&&◌, ◌||◌, eqb, ltb, leb, List, length, refl, sym, ap, ◌∙◌, subst, arith}
+use Rattle.std.proofs.Common.{◌≡◌, ℕ, ◌+◌, ◌*◌, ◌<◌, Bool, true, false, not, ◌&&◌, ◌||◌, eqb, ltb, length, refl, sym, ap, ◌∙◌, arith}
 use Rattle.std.proofs.lemmas.Bool.{and_left}
 use Rattle.elevator_model.specs.declared.Stop.{Stop}
-use Rattle.elevator_model.specs.Counting.{has, is_among, sum_below, sum_where}
+use Rattle.elevator_model.specs.Counting.{has, is_among, sum_where}
 use Rattle.elevator_model.specs.Snapshot.{Snapshot, call_count, call_of, group_of}
-use Rattle.elevator_model.specs.Tours.{Progress, rider_count, destination_of, persons_of, is_aboard, gets_off, stays_on, boards_at, persons_where, make_stop, start_of}
+use Rattle.elevator_model.specs.Tours.{Progress, destination_of, persons_of, gets_off, boards_at, persons_where, make_stop, start_of}
 use Rattle.tour_cost.specs.declared.rides.Ride.{Ride}
 use Rattle.tour_cost.specs.Rides.{Tracks, is_group_carried, is_group_off}
 use Rattle.tour_cost.proofs.Sums.{sum_where-none}

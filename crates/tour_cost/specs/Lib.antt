@@ -1,1 +1,2 @@
 pub mod Rides
+pub mod Leaving

@@ -1,11 +1,10 @@
 -- What the numbers and sets of a ride stand for.
-use Rattle.std.specs.Prelude.{◌≡◌, ℕ, ◌+◌, ◌*◌, ◌-◌, ◌<◌, ◌==◌, ◌&&◌, not, length, true, Bool}
+use Rattle.std.specs.Prelude.{◌≡◌, ℕ, ◌+◌, ◌<◌, ◌==◌, ◌&&◌, not, length, true, Bool}
 use Rattle.elevator_model.specs.declared.Stop.{Stop}
-use Rattle.elevator_model.specs.Counting.{has, is_among, sum_where}
-use Rattle.elevator_model.specs.Building.{Building, floor_count}
-use Rattle.elevator_model.specs.Snapshot.{Snapshot, call_count, call_of, group_of}
+use Rattle.elevator_model.specs.Counting.{has, is_among}
+use Rattle.elevator_model.specs.Building.{floor_count}
+use Rattle.elevator_model.specs.Snapshot.{Snapshot, call_count, group_of}
 use Rattle.elevator_model.specs.Tours.{Progress}
-use Rattle.elevator_model.specs.Costs.{cost_of_wait}
 use Rattle.tour_cost.specs.declared.rides.Ride.{Ride}
 
 -- a group of the car is carried until the car stops at its destination
@@ -29,12 +28,3 @@ pub record Tracks (s : Snapshot) (c : ℕ) (ride : Ride) (p : Progress) : Type 0
 pub record IsStopOf (s : Snapshot) (stop : Stop) : Type 0 where
   pub floor : stop.floor < floor_count s.building
   pub boards : (j : ℕ) → is_among j stop.boards ≡ true → j < call_count s
-
--- what a call costs that boards and gets off at these moments
-abbrev pub cost_of_call : Snapshot → ℕ → (boarded delivered : ℕ) → ℕ
-cost_of_call s j boarded delivered =
-    (call_of s j).persons * (cost_of_wait s.building (boarded - (call_of s j).released) + s.building.travel_weight * (delivered - boarded))
-
--- what a group aboard costs that gets off at this moment
-abbrev pub cost_of_group : Snapshot → ℕ → (delivered : ℕ) → ℕ
-cost_of_group s k delivered = (group_of s k).persons * (s.building.travel_weight * (delivered - (group_of s k).boarded))

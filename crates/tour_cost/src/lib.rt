@@ -9,4 +9,6 @@ mod rides;
 mod sets;
 mod timelines;
 
+pub use costs::cost;
 pub use elevator_model::{Plan, Times};
+pub use timelines::timeline;

@@ -36,6 +36,7 @@ impl Ride {
         ensures start { Tracks snapshot.now car result (start_of snapshot.now car) }
         ensures floor { result.floor < floor_count snapshot.now.building }
         ensures early { result.leaves ≤ 1100000000 }
+        ensures accepted { IsAccepted snapshot.now }
     {
         let (floor, moment) = match snapshot.car(car) {
             CarState::Idle { floor, free } => (floor, free),
@@ -183,7 +184,7 @@ fn persons_of_groups_off(snapshot: &Snapshot, car: u32, visited: u64, floor: u32
 }
 
 /// Whether a group of the car, not yet delivered, gets off at this floor.
-fn is_off(group: &Aboard, car: u32, visited: u64, floor: u32) -> bool
+pub(crate) fn is_off(group: &Aboard, car: u32, visited: u64, floor: u32) -> bool
     requires { group.now.destination < 64 }
     ensures { result ≡ (((group.now.car == car) && not (has visited group.now.destination)) && (group.now.destination == floor)) }
 {

@@ -1,4 +1,4 @@
-use Rattle.std.proofs.Common.{◌≡◌, ℕ, ◌<◌, List, get_or, length, true, ap, sym, arith, subst}
+use Rattle.std.proofs.Common.{◌≡◌, ℕ, List, get_or, true, arith, subst}
 use Rattle.elevator_model.specs.Counting.{is_among}
 use Rattle.tour_cost.proofs.Short.{calls-le}
 use Rattle.tour_cost.proofs.Groups.{among-at}

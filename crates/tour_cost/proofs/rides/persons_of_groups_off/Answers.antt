@@ -1,4 +1,4 @@
-use Rattle.std.proofs.Common.{◌≡◌, ◌+◌, ◌≤◌, List, get_or, length, true, false, ap, sym, ◌∙◌, arith}
+use Rattle.std.proofs.Common.{◌≡◌, ◌+◌, List, get_or, length, ap, sym, ◌∙◌, arith}
 use Rattle.elevator_model.specs.declared.Aboard.{Aboard}
 use Rattle.elevator_model.specs.Snapshot.{group_of, no_group}
 use Rattle.tour_cost.specs.Rides.{is_group_off}
