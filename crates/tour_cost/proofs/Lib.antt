@@ -7,3 +7,4 @@ pub mod Short
 pub mod Groups
 pub mod Bounds
 pub mod Walked
+pub mod ShortForm

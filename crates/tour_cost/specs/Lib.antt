@@ -1,2 +1,3 @@
 pub mod Rides
 pub mod Leaving
+pub mod ShortForm

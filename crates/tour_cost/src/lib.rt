@@ -5,10 +5,12 @@
 #![tactic(auto)]
 
 mod costs;
+mod plans;
 mod rides;
 mod sets;
 mod timelines;
 
 pub use costs::cost;
 pub use elevator_model::{Plan, Times};
+pub use plans::plan_cost;
 pub use timelines::timeline;
