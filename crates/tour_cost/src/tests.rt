@@ -1,5 +1,5 @@
 ghost use Rattle.std.specs.Prelude.{◌≡◌, [], ◌∷◌, IfOk};
-ghost use Rattle.elevator_model.specs.Worked.{car_for, building_with, shown, stop, call};
+ghost use Rattle.elevator_model.specs.Worked.{car_for, building_with, shown, stop, call, together};
 
 use super::*;
 use call_state::{
@@ -95,5 +95,36 @@ fn one_call_waits_for_the_doors_and_rides(rt: HostRuntime) -> Result<(), Fail> {
         leaves: 9000,
     };
     assert_eq!(rt; times.as_slice(), [first, second].as_slice());
+    Ok(())
+}
+
+/// Two calls from floor 0 to floor 1.
+fn two_calls(alloc: Global) -> Result<Snapshot, Fail>
+    ensures { IfOk result (λ snapshot. snapshot ≡ together) }
+{
+    let calls = vec![in alloc; call_of(1, 0, 1), call_of(2, 0, 1)]?;
+    snapshot_of(alloc, 2, 0, calls)
+}
+
+/// Both board at the first stop.
+fn boarding_together(alloc: Global) -> Result<Tour, Fail>
+    ensures { IfOk result (λ tour. tour ≡ stop 0 (0 ∷ 1 ∷ []) ∷ stop 1 [] ∷ []) }
+{
+    let stops = vec![in alloc; stop_of(alloc, 0, &[0, 1])?, stop_of(alloc, 1, &[])?]?;
+    Ok(Tour::from_vec(stops))
+}
+
+/// The cost of the tour, and that of the plan that has it alone.
+fn costs_together(alloc: Global) -> Result<(u64, u64), Fail> {
+    let snapshot = two_calls(alloc)?;
+    let tour = boarding_together(alloc)?;
+    let of_tour = cost(&snapshot, 0, &tour);
+    let plan = Plan::from_vec(vec![in alloc; tour]?);
+    Ok((of_tour, plan_cost(&snapshot, &plan)))
+}
+
+#[test]
+fn calls_that_board_together_cost_each_its_wait_and_ride(rt: HostRuntime) -> Result<(), Fail> {
+    assert_eq!(rt; costs_together(rt.alloc())?, (16000, 16000));
     Ok(())
 }
