@@ -11,7 +11,7 @@ use elevator_model::Plan;
 pub fn plan_cost(snapshot: &Snapshot, plan: &Plan) -> u64
     requires { IsFeasiblePlan snapshot.now plan.now }
     ensures cost { result ≡ plan_cost_of snapshot.now plan.now }
-    ensures bounded { result ≤ 16000000000000000000 }
+    ensures bounded { result ≤ 1000000000000000000 }
 {
     let mut total = 0;
     let cars = snapshot.building().cars().len();
