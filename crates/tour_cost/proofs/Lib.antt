@@ -8,5 +8,5 @@ pub mod Groups
 pub mod Bounds
 pub mod Walked
 pub mod ShortForm
-pub mod Together
+pub mod Cases
 pub mod Served

@@ -1,5 +1,5 @@
 ghost use Rattle.std.specs.Prelude.{◌≡◌, [], ◌∷◌, IfOk};
-ghost use Rattle.elevator_model.specs.Worked.{car_for, building_with, shown, stop, call, together};
+ghost use Rattle.elevator_model.specs.Worked.{car_for, building_with, shown, stop, call, together, two_ways};
 
 use super::*;
 use call_state::{
@@ -126,5 +126,37 @@ fn costs_together(alloc: Global) -> Result<(u64, u64), Fail> {
 #[test]
 fn calls_that_board_together_cost_each_its_wait_and_ride(rt: HostRuntime) -> Result<(), Fail> {
     assert_eq!(rt; costs_together(rt.alloc())?, (16000, 16000));
+    Ok(())
+}
+
+/// A call up and a call down from floor 1, where the car stands.
+fn calls_both_ways(alloc: Global) -> Result<Snapshot, Fail>
+    ensures { IfOk result (λ snapshot. snapshot ≡ two_ways) }
+{
+    let calls = vec![in alloc; call_of(1, 1, 2), call_of(2, 1, 0)]?;
+    snapshot_of(alloc, 8, 1, calls)
+}
+
+/// The second boards when the first got off.
+fn one_by_one(alloc: Global) -> Result<Tour, Fail>
+    ensures { IfOk result (λ tour. tour ≡ stop 1 (0 ∷ []) ∷ stop 2 [] ∷ stop 1 (1 ∷ []) ∷ stop 0 [] ∷ []) }
+{
+    let up = stop_of(alloc, 1, &[0])?;
+    let above = stop_of(alloc, 2, &[])?;
+    let down = stop_of(alloc, 1, &[1])?;
+    let below = stop_of(alloc, 0, &[])?;
+    Ok(Tour::from_vec(vec![in alloc; up, above, down, below]?))
+}
+
+fn cost_in_turn(alloc: Global) -> Result<u64, Fail> {
+    let snapshot = calls_both_ways(alloc)?;
+    let tour = one_by_one(alloc)?;
+    let in_turn = cost(&snapshot, 0, &tour);
+    Ok(in_turn)
+}
+
+#[test]
+fn calls_served_in_turn_wait_for_one_another(rt: HostRuntime) -> Result<(), Fail> {
+    assert_eq!(rt; cost_in_turn(rt.alloc())?, 28000);
     Ok(())
 }
