@@ -1,19 +1,18 @@
 -- A plan's cost is small, since each call is in one tour alone.
-use Rattle.std.proofs.Common.{◌≡◌, ℕ, zero, suc, ◌+◌, ◌-◌, ◌*◌, ◌<◌, ◌≤◌, Bool, true, false, cond, not, ◌&&◌, ◌||◌, ◌⊎◌, eqb, ltb, leb, List, [], ◌∷◌, take, length, refl, sym, ap, ◌∙◌, subst, inl, inr, arith}
+use Rattle.std.proofs.Common.{◌≡◌, ℕ, zero, suc, ◌+◌, ◌*◌, ◌<◌, ◌≤◌, Bool, true, false, cond, not, ◌||◌, eqb, List, [], ◌∷◌, length, refl, sym, ap, ◌∙◌, inl, inr, arith}
 use Rattle.std.proofs.Math.Nat.{mul-le-mul_left}
-use Rattle.std.proofs.lemmas.Bool.{and_parts, or_cases, false≢true, both_ways, cases_Bool}
+use Rattle.std.proofs.lemmas.Bool.{and_parts, or_cases, both_ways}
 use Rattle.elevator_model.specs.declared.Stop.{Stop}
-use Rattle.elevator_model.specs.Building.{IsBuilding, most_cars}
+use Rattle.elevator_model.specs.Building.{most_cars}
 use Rattle.elevator_model.specs.Counting.{is_among, sum_below, sum_where}
-use Rattle.elevator_model.specs.Snapshot.{Snapshot, call_count, call_of, group_of, car_count, IsAccepted}
-use Rattle.elevator_model.specs.Tours.{Progress, rider_count, is_aboard, boards_at, make_stop, after_stops, start_of}
+use Rattle.elevator_model.specs.Snapshot.{Snapshot, call_count, group_of, car_count, IsAccepted}
+use Rattle.elevator_model.specs.Tours.{Progress, is_aboard, make_stop, after_stops, start_of}
 use Rattle.elevator_model.specs.Costs.{cost_of_rider, is_delivered, settled_cost, cost_of}
-use Rattle.elevator_model.specs.Plans.{IsFeasiblePlan, plan_cost_of, is_boarded_in, tour_of, times_served}
-use Rattle.tour_rules.proofs.Tests.{sum_below-le, sum_below-same}
+use Rattle.elevator_model.specs.Plans.{IsFeasiblePlan, is_boarded_in, tour_of}
 use Rattle.tour_rules.proofs.Counts.{count-same}
 use Rattle.tour_cost.specs.Leaving.{IsKept}
 use Rattle.tour_cost.specs.Served.{calls_served}
-use Rattle.tour_cost.proofs.Sums.{sum_below-split, sum_below-add, sum_where-times, sum_below-each}
+use Rattle.tour_cost.proofs.Sums.{sum_below-split, sum_below-add, sum_where-times}
 use Rattle.tour_cost.proofs.Riders.{is_aboard-call, is_aboard-group}
 use Rattle.tour_cost.proofs.Stops.{boards_at-call}
 use Rattle.tour_cost.proofs.Short.{aboard-le, calls-le}

@@ -1,5 +1,4 @@
-use Rattle.std.proofs.Common.{◌≡◌, List, ◌∙◌, ap, length, arith}
-use Rattle.elevator_model.specs.declared.CarSpec.{CarSpec}
+use Rattle.std.proofs.Common.{◌≡◌, ap, length, arith}
 use Rattle.elevator_model.specs.Building.{Building}
 use Rattle.elevator_model.specs.Snapshot.{car_count}
 use Rattle.tour_cost.proofs.Served.{plan-small}
