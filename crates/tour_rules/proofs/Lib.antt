@@ -5,3 +5,7 @@ pub mod Reached
 pub mod Sound
 pub mod Counts
 pub mod Measure
+pub mod Riders
+pub mod RuleLemmas
+pub mod Stops
+pub mod Next

@@ -19,14 +19,14 @@ use Rattle.tour_rules.proofs.Sound.{course_if-some, cond-some, leads_on, moves_o
 -- ---- at a stop
 
 -- of the calls that board at a stop, those of a set of numbers below the number of calls
-boards_same : (s : Snapshot) (p : Stop) (k : ℕ) → k < call_count s → boards_at s p k ≡ is_among k p.boards
+pub boards_same : (s : Snapshot) (p : Stop) (k : ℕ) → k < call_count s → boards_at s p k ≡ is_among k p.boards
 boards_same s p k b = ap (λ (x : Bool). x && is_among k p.boards) (lt-ltb k (call_count s) b)
 
-boards_count : (s : Snapshot) (p : Stop) → count_below (rider_count s) (boards_at s p) ≡ count_below (call_count s) (λ j. is_among j p.boards)
+pub boards_count : (s : Snapshot) (p : Stop) → count_below (rider_count s) (boards_at s p) ≡ count_below (call_count s) (λ j. is_among j p.boards)
 boards_count s p =
     count-beyond (call_count s) (length s.aboard) (boards_at s p) (λ k le. and_left (ltb k (call_count s)) (is_among k p.boards) (false_from_ne_true (ltb k (call_count s)) (λ h. let lt = ltb-true k (call_count s) h in absurd (omega arith)))) ∙ count-same (call_count s) (boards_at s p) (λ j. is_among j p.boards) (boards_same s p)
 
-carried_split : (s : Snapshot) (q : Progress) (g : ℕ) → count_below (rider_count s) (stays_on s q g) + count_below (rider_count s) (gets_off s q g) ≤ count_below (rider_count s) q.carried
+pub carried_split : (s : Snapshot) (q : Progress) (g : ℕ) → count_below (rider_count s) (stays_on s q g) + count_below (rider_count s) (gets_off s q g) ≤ count_below (rider_count s) q.carried
 carried_split s q g =
     count-joined (rider_count s) q.carried (stays_on s q g) (gets_off s q g) (λ k h. (and_parts (q.carried k) _ h).0) (λ k h. (and_parts (q.carried k) _ h).0) (λ k. excludes (q.carried k) (eqb (destination_of s k) g))
   where
@@ -35,7 +35,7 @@ carried_split s q g =
     excludes true false = refl
     excludes false b = refl
 
-after_carried : (s : Snapshot) (c : ℕ) (q : Progress) (p : Stop) → count_below (rider_count s) (make_stop s c q p).carried ≤ count_below (rider_count s) (stays_on s q p.floor) + count_below (rider_count s) (boards_at s p)
+pub after_carried : (s : Snapshot) (c : ℕ) (q : Progress) (p : Stop) → count_below (rider_count s) (make_stop s c q p).carried ≤ count_below (rider_count s) (stays_on s q p.floor) + count_below (rider_count s) (boards_at s p)
 after_carried s c q p = count-split (rider_count s) (make_stop s c q p).carried (stays_on s q p.floor) (boards_at s p) (λ k h. h)
 
 not_both : (a l b : Bool) → l ≡ true → (not (a || (l && b)) && true) ≡ (not a && not b)
@@ -59,7 +59,7 @@ use_cases true true b h k e = absurd (false≢true (sym e))
 use_cases false a b h k e = absurd (false≢true k)
 
 -- a stop that may be left has a use, or needs none
-useful : (s : Snapshot) (c : ℕ) (q : Progress) (p : Stop) → may_be_left s c q p ≡ true → 1 ≤ count_below (call_count s) (λ j. is_among j p.boards) + count_below (rider_count s) (gets_off s q p.floor) + spare (is_idle (state_of s c)) q.begun (Some p)
+pub useful : (s : Snapshot) (c : ℕ) (q : Progress) (p : Stop) → may_be_left s c q p ≡ true → 1 ≤ count_below (call_count s) (λ j. is_among j p.boards) + count_below (rider_count s) (gets_off s q p.floor) + spare (is_idle (state_of s c)) q.begun (Some p)
 useful s c q p ok =
     let clear = AllClear-from (breaks s c none_taken q p) rules_of_stop (none-from (broken_at s c none_taken q p) ok) in
     let needs = q.begun || is_idle (state_of s c) in
@@ -113,17 +113,17 @@ end_falls s c x (Some p) y h =
 
 -- ---- a board
 
-among_last : (bs : List ℕ) (j : ℕ) → is_among j (bs ++ j ∷ []) ≡ true
+pub among_last : (bs : List ℕ) (j : ℕ) → is_among j (bs ++ j ∷ []) ≡ true
 among_last bs j = list_any-append (λ x. eqb x j) bs (j ∷ []) ∙ or_right (is_among j bs) (eqb j j || false) (or_left (eqb j j) false (eq-eqb j j refl))
 
-among_other : (bs : List ℕ) (j k : ℕ) → (k ≡ j → ⊥) → is_among k (bs ++ j ∷ []) ≡ is_among k bs
+pub among_other : (bs : List ℕ) (j k : ℕ) → (k ≡ j → ⊥) → is_among k (bs ++ j ∷ []) ≡ is_among k bs
 among_other bs j k ne = list_any-append (λ x. eqb x k) bs (j ∷ []) ∙ ap (λ (b : Bool). is_among k bs || (b || false)) (ne_eqb j k (λ e. ne (sym e))) ∙ or_none (is_among k bs)
   where
     or_none : (b : Bool) → (b || (false || false)) ≡ b
     or_none true = refl
     or_none false = refl
 
-not_among_below : (bs : List ℕ) (j : ℕ) → list_all (λ i. ltb i j) bs ≡ true → is_among j bs ≡ false
+pub not_among_below : (bs : List ℕ) (j : ℕ) → list_all (λ i. ltb i j) bs ≡ true → is_among j bs ≡ false
 not_among_below [] j h = refl
 not_among_below (b ∷ bs) j h =
     let parts = and_parts (ltb b j) (list_all (λ i. ltb i j) bs) h in

@@ -39,7 +39,7 @@ chosen_has t a zero j low high h = absurd (omega arith)
 chosen_has t a (suc m) j low high h =
     elim (eq-or-lt_of_le low) [ inl e ↦ first_in_cond (t a) a j (chosen t (a + 1) m) (subst (λ (x : ℕ). t x ≡ true) (sym e) h) e | inr lt ↦ in_cond (t a) a j (chosen t (a + 1) m) (chosen_has t (a + 1) m j (omega arith) (omega arith) h) ]
 
-count-cons : (j x : ℕ) (xs : List ℕ) → count_by (λ y. y == j) (x ∷ xs) ≡ cond (eqb x j) 1 0 + count_by (λ y. y == j) xs
+pub count-cons : (j x : ℕ) (xs : List ℕ) → count_by (λ y. y == j) (x ∷ xs) ≡ cond (eqb x j) 1 0 + count_by (λ y. y == j) xs
 count-cons j x xs = sum_by-cons (λ y. cond (eqb y j) 1 0) x xs
 
 -- a number that is not among the list stands in it no time
@@ -73,7 +73,7 @@ rising_part s boards = record {
   twice = λ j h. let le = count-chosen (λ k. is_among k boards) 0 (call_count s) j in let two = leb-true 2 (count_by (λ y. y == j) (rising_boards s boards)) h in absurd (omega arith);
 }
 
-count-append : (j : ℕ) (xs ys : List ℕ) → count_by (λ y. y == j) (xs ++ ys) ≡ count_by (λ y. y == j) xs + count_by (λ y. y == j) ys
+pub count-append : (j : ℕ) (xs ys : List ℕ) → count_by (λ y. y == j) (xs ++ ys) ≡ count_by (λ y. y == j) xs + count_by (λ y. y == j) ys
 count-append j xs ys = sum_by-append (λ y. cond (eqb y j) 1 0) xs ys
 
 -- the beginning of a list is a part of it

@@ -106,3 +106,48 @@ none-from (Some x) h = absurd (false≢true h)
 pub is_none-at : {A : Type 0} (o : Option A) → o ≡ None → is_none o ≡ true
 is_none-at None h = refl
 is_none-at (Some x) h = cc
+
+sum_below-up : (n k : ℕ) (f : ℕ → ℕ) → k ≤ n → sum_below k f ≤ sum_below n f
+sum_below-up zero k f le = let e : k ≡ 0 = omega arith in subst (λ (x : ℕ). sum_below x f ≤ 0) (sym e) (omega arith)
+sum_below-up (suc n) k f le =
+    elim (eq-or-lt_of_le le) [ inl e ↦ subst (λ (x : ℕ). sum_below x f ≤ sum_below (suc n) f) (sym e) (omega arith) | inr lt ↦ (let r = sum_below-up n k f (omega arith) in omega (arith, r)) ]
+
+-- the sum over the first numbers that pass is part of the sum over all numbers that pass more
+pub sum_where-up : (n k : ℕ) (t u : ℕ → Bool) (f : ℕ → ℕ) → k ≤ n → ((i : ℕ) → t i ≡ true → u i ≡ true) → sum_where k t f ≤ sum_where n u f
+sum_where-up n k t u f le less = let a = sum_where-less k t u f less in let b = sum_below-up n k (λ i. cond (u i) (f i) 0) le in omega (arith, a, b)
+
+pub sum_where-step : (n k : ℕ) (t u : ℕ → Bool) (f : ℕ → ℕ) → k < n → t k ≡ true → ((i : ℕ) → t i ≡ true → u i ≡ true) → sum_where k t f + f k ≤ sum_where n u f
+sum_where-step n k t u f lt h less =
+    let le = sum_where-up n (suc k) t u f (omega arith) less in
+    let here = ap (λ (b : Bool). cond b (f k) 0) h in
+    omega (arith, le, here)
+
+pub any_below-same : (n : ℕ) (t u : ℕ → Bool) → ((k : ℕ) → k < n → t k ≡ u k) → any_below n t ≡ any_below n u
+any_below-same zero t u h = refl
+any_below-same (suc n) t u h = let a = any_below-same n t u (λ k b. h k (omega arith)) in let b = h n (omega arith) in cc
+
+pub any_below-split : (n m : ℕ) (t : ℕ → Bool) → any_below (n + m) t ≡ (any_below n t || any_below m (λ k. t (n + k)))
+any_below-split n zero t = let e : n + 0 ≡ n = omega arith in ap (λ (x : ℕ). any_below x t) e ∙ sym (or_false (any_below n t))
+  where
+    or_false : (b : Bool) → (b || false) ≡ b
+    or_false true = refl
+    or_false false = refl
+any_below-split n (suc m) t =
+    let e : n + suc m ≡ suc (n + m) = omega arith in
+    ap (λ (x : ℕ). any_below x t) e ∙ ap (λ (b : Bool). b || t (n + m)) (any_below-split n m t) ∙ or_again (any_below n t) (any_below m (λ k. t (n + k))) (t (n + m))
+  where
+    or_again : (a b d : Bool) → ((a || b) || d) ≡ (a || (b || d))
+    or_again true b d = refl
+    or_again false b d = refl
+
+pub sum_below-split : (n m : ℕ) (f : ℕ → ℕ) → sum_below (n + m) f ≡ sum_below n f + sum_below m (λ k. f (n + k))
+sum_below-split n zero f = let e : n + 0 ≡ n = omega arith in ap (λ (x : ℕ). sum_below x f) e ∙ omega arith
+sum_below-split n (suc m) f =
+    let e : n + suc m ≡ suc (n + m) = omega arith in
+    let r = sum_below-split n m f in
+    let step : sum_below (suc (n + m)) f ≡ sum_below n f + sum_below (suc m) (λ k. f (n + k)) = omega (arith, r) in
+    ap (λ (x : ℕ). sum_below x f) e ∙ step
+
+pub sum_below-zero : (n : ℕ) → sum_below n (λ k. 0) ≡ 0
+sum_below-zero zero = refl
+sum_below-zero (suc n) = let r = sum_below-zero n in omega (arith, r)

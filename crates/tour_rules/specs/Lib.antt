@@ -1,1 +1,4 @@
 pub mod Measure
+pub mod PartialTour
+pub mod Places
+pub mod Courses

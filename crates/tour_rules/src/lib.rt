@@ -1,4 +1,12 @@
-//! The rules of tours.
+//! The rules of tours: which tour is feasible, and where a tour first breaks a rule; and partial tours
+//! with the moves that may follow.
 #![tactic(auto)]
 
+mod judging;
+mod partial;
+mod places;
+mod rules;
+mod sets;
+
 pub use elevator_model::{Boards, Broken, Move, Rule, Stop, Tour};
+pub use judging::judge;

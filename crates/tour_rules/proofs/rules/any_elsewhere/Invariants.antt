@@ -1,0 +1,9 @@
+use Rattle.std.proofs.Common.{◌≡◌, ◌==◌, ◌&&◌, ◌||◌, not, false, count_by, length}
+use Rattle.std.specs.Prelude.{nat_le}
+use Rattle.elevator_model.specs.Counting.{any_below, has}
+use Rattle.elevator_model.specs.Tours.{is_later_in_queue}
+use Rattle.tour_rules.specs.Places.{call_in}
+use Rattle.tour_rules.proofs.rules.any_elsewhere.Given as goal
+
+abbrev pub invariant-loop-j : goal.invariant-loop-j
+invariant-loop-j l = any_below l.j (λ j. has l.boards j && not ((call_in l.calls j).origin == l.floor)) ≡ false

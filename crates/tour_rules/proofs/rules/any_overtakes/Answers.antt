@@ -1,0 +1,13 @@
+use Rattle.std.proofs.Common.{◌≡◌, ◌≢◌, ◌==◌, ◌<◌, ◌≤◌, ◌&&◌, ◌||◌, not, Bool, true, false, ℕ, sym, ap, ◌∙◌, length, arith, count_by, refl}
+use Rattle.std.specs.Prelude.{nat_le}
+use Rattle.std.proofs.lemmas.Bool.{and_from, or_left, or_right, le-leb, ne_eqb, cases_Bool}
+use Rattle.std.proofs.lemmas.Bool.Decides.{nat_tests}
+use Rattle.elevator_model.specs.Counting.{any_below, has}
+use Rattle.elevator_model.specs.Tours.{is_later_in_queue}
+use Rattle.tour_rules.specs.Places.{call_in}
+use Rattle.tour_rules.proofs.Tests.{any_below-at}
+use Rattle.tour_rules.proofs.rules.any_overtakes.Goals as goal
+
+pub returns-then-overtakes : goal.returns-then-overtakes
+returns-then-overtakes c =
+    sym (any_below-at (length c.args.calls.now) (λ j. has c.args.boards j && any_below (length c.args.calls.now) (λ k. has c.args.boarded k && is_later_in_queue (call_in c.args.calls.now k) (call_in c.args.calls.now j))) c.loop-j.j (omega arith) (and_from _ _ (sym c.if-contains.ensures) (sym c.if-overtakes.ensures)))

@@ -1,0 +1,50 @@
+-- Where a partial tour is, as the code keeps it, against the definition.
+use Rattle.std.specs.Prelude.{◌≡◌, ℕ, ◌<◌, ◌&&◌, not, Bool, true, false, nat_lt, List, [], Option, Some, None, is_none}
+use Rattle.std.specs.List.{list_all}
+use Rattle.elevator_model.specs.declared.Stop.{Stop}
+use Rattle.elevator_model.specs.Building.{floor_count}
+use Rattle.elevator_model.specs.Snapshot.{Snapshot}
+use Rattle.elevator_model.specs.Tours.{Progress, make_stop}
+use Rattle.elevator_model.specs.Partial.{Course, may_stand, may_be_left}
+use Rattle.tour_rules.specs.declared.partial.Point.{Point}
+use Rattle.tour_rules.specs.declared.partial.Begun.{Begun}
+use Rattle.tour_rules.specs.Places.{Tracks, HasBoards}
+
+-- the index comes after the last one
+abbrev pub is_after : Option ℕ → ℕ → Bool
+is_after None j = true
+is_after (Some last) j = nat_lt last j
+
+-- the stop begun stands for this stop, after the progress before it
+pub record IsBegun (s : Snapshot) (c : ℕ) (before : Progress) (begun : Begun) (stop : Stop) : Type 0 where
+  pub floor : begun.floor ≡ stop.floor
+  pub in_building : stop.floor < floor_count s.building
+  pub boards : HasBoards s begun.boards stop
+  pub last : (j : ℕ) → list_all (λ i. nat_lt i j) stop.boards ≡ is_after begun.last j
+  pub after : Tracks s c begun.after (make_stop s c before stop)
+  pub stands : may_stand s c before stop ≡ true
+
+abbrev pub StopTracked : Snapshot → ℕ → Progress → Option Begun → Option Stop → Type 0
+StopTracked s c before None None = Unit {0}
+StopTracked s c before (Some begun) (Some stop) = IsBegun s c before begun stop
+StopTracked s c before None (Some stop) = ⊥
+StopTracked s c before (Some begun) None = ⊥
+
+-- the point stands for where the moves lead
+pub record TracksCourse (s : Snapshot) (c : ℕ) (point : Point) (x : Course) : Type 0 where
+  pub before : Tracks s c point.before x.before
+  pub ended : point.ended ≡ x.ended
+  pub stop : StopTracked s c x.before point.stop x.present
+
+-- the present stop, if there is one, may be left
+abbrev pub may_leave : Snapshot → ℕ → Progress → Option Stop → Bool
+may_leave s c before None = true
+may_leave s c before (Some stop) = may_be_left s c before stop
+
+-- where the car is once it leaves the present stop
+abbrev pub progress_after : Snapshot → ℕ → Progress → Option Stop → Progress
+progress_after s c before None = before
+progress_after s c before (Some stop) = make_stop s c before stop
+
+abbrev pub empty_stop : ℕ → Stop
+empty_stop g = record { floor = g; boards = [] }
