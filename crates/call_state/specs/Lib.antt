@@ -1,3 +1,6 @@
 pub mod BuildingParts
 pub mod SnapshotParts
 pub mod Possible
+pub mod Squares
+pub mod SmallBuildings
+pub mod SmallSnapshots

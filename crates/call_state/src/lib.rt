@@ -5,6 +5,7 @@
 #![tactic(auto)]
 
 mod buildings;
+mod small_snapshots;
 mod snapshots;
 mod squares;
 
@@ -23,3 +24,6 @@ pub enum StateFault {
     /// There is no memory left.
     NoMemory,
 }
+
+#[cfg(test)]
+mod tests;

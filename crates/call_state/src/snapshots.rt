@@ -1,12 +1,15 @@
 //! Snapshots: where each car is, who is aboard, which calls are open.
 
-ghost use Rattle.std.specs.Prelude.{◌≡◌, ◌<◌, ◌≤◌, ◌==◌, ◌&&◌, not, length};
+ghost use Rattle.std.specs.Prelude.{◌≡◌, ◌↔◌, IsOk, IfOk, IfErr, ◌<◌, ◌≤◌, ◌==◌, ◌&&◌, not, length};
 ghost use Rattle.elevator_model.specs.Counting.{has};
 ghost use Rattle.elevator_model.specs.Building.{IsBuilding};
-ghost use Rattle.elevator_model.specs.Snapshot.{IsAccepted, car_count, call_count, call_of, state_of, serves, can_take, is_pinned_elsewhere, is_possible};
+ghost use Rattle.elevator_model.specs.Snapshot.{IsAccepted, IsSmall, car_count, call_count, call_of, state_of, serves, can_take, is_pinned_elsewhere, is_possible};
+ghost use Rattle.elevator_model.specs.declared.Fault.TheVariants.{NotYet};
 ghost use Rattle.call_state.specs.Possible.{HasPossible};
 
-use crate::buildings::Building;
+use crate::buildings::{Building, has_floor};
+use crate::small_snapshots::are_small;
+use crate::{Fault, StateFault};
 use elevator_model::{Aboard, Call, CarState};
 use std::marker::Model;
 
@@ -43,6 +46,27 @@ impl Model for Snapshot {
 }
 
 impl Snapshot {
+    ghost use Rattle.call_state.specs.SnapshotParts.{snapshot_of};
+
+    /// The snapshot with these parts.
+    ///
+    /// For now it answers `NotYet` of item 0 exactly where the parts are not those of a small snapshot: one
+    /// that keeps the rules, of version 1 in a building of version 1, with one car, idle and empty, and at
+    /// most three calls, none pinned. It takes no memory.
+    pub fn build(parts: SnapshotParts) -> Result<Snapshot, StateFault>
+        ensures valid { IsOk result ↔ IsSmall (snapshot_of parts) }
+        ensures value { IfOk result (λ snapshot. snapshot ≡ snapshot_of parts) }
+        ensures fault { IfErr result (λ e. e ≡ StateFault.Bad NotYet 0) }
+    {
+        if !are_small(&parts) {
+            return Err(StateFault::Bad {
+                fault: Fault::NotYet,
+                item: 0,
+            });
+        }
+        Ok(Snapshot { parts })
+    }
+
     /// The building.
     pub fn building(&self) -> &Building
         ensures value { result.now ≡ self.now.building }
@@ -112,15 +136,15 @@ impl Snapshot {
 }
 
 /// Whether the car serves this floor of the building.
-fn serves_floor(building: &Building, car: usize, floor: u32) -> bool
+pub(crate) fn serves_floor(building: &Building, car: usize, floor: u32) -> bool
     requires { car < length building.now.cars }
     ensures { result ≡ serves building.now car floor }
 {
-    (floor as usize) < building.heights().len() && building.cars()[car].serves >> floor & 1 == 1
+    (floor as usize) < building.heights().len() && has_floor(building.cars()[car].serves, floor)
 }
 
 /// Whether the car's size and floors allow the call.
-fn can_car_take(building: &Building, car: usize, call: &Call) -> bool
+pub(crate) fn can_car_take(building: &Building, car: usize, call: &Call) -> bool
     requires { car < length building.now.cars }
     ensures { result ≡ can_take building.now car call.now }
 {

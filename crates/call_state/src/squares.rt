@@ -1,9 +1,15 @@
 //! Travel times between floors.
 
-ghost use Rattle.std.specs.Prelude.{◌≡◌, ◌+◌, ◌*◌, ◌≤◌, ◌<◌, length};
+ghost use Rattle.std.specs.Prelude.{◌≡◌, ◌↔◌, ℕ, ◌≤◌, ◌<◌, IsTrue, IsOk, IfOk, IfErr};
 ghost use Rattle.elevator_model.specs.Travel.{IsTravelSquare, time_between};
+ghost use Rattle.elevator_model.specs.declared.Fault.TheVariants.{NoTravelSquare};
+ghost use Rattle.call_state.specs.Squares.{square_of, IsEntry, IsDirect};
 
+use crate::{Fault, StateFault};
 use std::marker::Model;
+
+/// The greatest travel time between two floors, in ms.
+const LONGEST: u64 = 20_000_000;
 
 /// A square of travel times: from each floor to each floor.
 ///
@@ -26,6 +32,24 @@ impl Model for Travel {
 }
 
 impl Travel {
+    /// The square with these times in ms, row after row: the times from floor 0 to each floor come first.
+    ///
+    /// It fails with `NoTravelSquare` of item 0 exactly where the times are no travel square of this number
+    /// of floors. It takes no memory.
+    pub fn build(floors: u32, times: Vec<u64>) -> Result<Travel, StateFault>
+        ensures valid { IsOk result ↔ IsTravelSquare (square_of floors times.items) }
+        ensures value { IfOk result (λ travel. travel ≡ square_of floors times.items) }
+        ensures fault { IfErr result (λ e. e ≡ StateFault.Bad NoTravelSquare 0) }
+    {
+        if !is_travel_square(floors, &times) {
+            return Err(StateFault::Bad {
+                fault: Fault::NoTravelSquare,
+                item: 0,
+            });
+        }
+        Ok(Travel { floors, times })
+    }
+
     /// The number of floors, 2 to 64.
     pub fn floors(&self) -> u32
         ensures value { result ≡ self.now.floors }
@@ -44,4 +68,100 @@ impl Travel {
     {
         self.times[from as usize * self.floors as usize + to as usize]
     }
+}
+
+/// The time from one floor to another, and 0 where the times lack it.
+fn time_at(floors: u32, times: &[u64], from: u32, to: u32) -> u64
+    ensures { result ≡ time_between (square_of floors times.now) from to }
+{
+    let place = from as usize * floors as usize + to as usize;
+    times.get(place).copied().unwrap_or(0)
+}
+
+/// Whether the time between two floors is in its range.
+fn is_entry(floors: u32, times: &[u64], from: u32, to: u32) -> bool
+    ensures { IsTrue result ↔ IsEntry (square_of floors times.now) from to }
+{
+    let time = time_at(floors, times, from, to);
+    if from == to {
+        time == 0
+    } else {
+        1 <= time && time <= LONGEST
+    }
+}
+
+/// Whether the times from one floor are in their ranges.
+fn is_row(floors: u32, times: &[u64], from: u32) -> bool
+    ensures { IsTrue result ↔ ((to : ℕ) → to < floors → IsEntry (square_of floors times.now) from to) }
+{
+    for to in 0..floors {
+        if !is_entry(floors, times, from, to) {
+            return false;
+        }
+    }
+    true
+}
+
+/// Whether all times are in their ranges.
+fn are_rows(floors: u32, times: &[u64]) -> bool
+    ensures { IsTrue result
+        ↔ ((from : ℕ) → from < floors → (to : ℕ) → to < floors → IsEntry (square_of floors times.now) from to) }
+{
+    for from in 0..floors {
+        if !is_row(floors, times, from) {
+            return false;
+        }
+    }
+    true
+}
+
+/// Whether the way over one floor is never shorter than the way from another.
+fn is_leg_direct(floors: u32, times: &[u64], from: u32, over: u32) -> bool
+    ensures { IsTrue result ↔ ((to : ℕ) → to < floors → IsDirect (square_of floors times.now) from over to) }
+{
+    for to in 0..floors {
+        let rest = time_at(floors, times, from, to).saturating_sub(time_at(
+            floors, times, from, over,
+        ));
+        if time_at(floors, times, over, to) < rest {
+            return false;
+        }
+    }
+    true
+}
+
+/// Whether no way over a third floor is shorter than the way from this floor.
+fn is_row_direct(floors: u32, times: &[u64], from: u32) -> bool
+    ensures { IsTrue result
+        ↔ ((over : ℕ) → over < floors → (to : ℕ) → to < floors → IsDirect (square_of floors times.now) from over to) }
+{
+    for over in 0..floors {
+        if !is_leg_direct(floors, times, from, over) {
+            return false;
+        }
+    }
+    true
+}
+
+/// Whether no way over a third floor is shorter.
+fn are_rows_direct(floors: u32, times: &[u64]) -> bool
+    ensures { IsTrue result
+        ↔ ((from : ℕ) → from < floors → (over : ℕ) → over < floors → (to : ℕ) → to < floors → IsDirect (square_of floors times.now) from over to) }
+{
+    for from in 0..floors {
+        if !is_row_direct(floors, times, from) {
+            return false;
+        }
+    }
+    true
+}
+
+fn is_travel_square(floors: u32, times: &[u64]) -> bool
+    ensures { IsTrue result ↔ IsTravelSquare (square_of floors times.now) }
+{
+    2 <= floors
+        && floors <= 64
+        && times.len() == floors as usize * floors as usize
+        && are_rows(floors, times)
+        && are_rows_direct(floors, times)
 }

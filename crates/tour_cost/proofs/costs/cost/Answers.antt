@@ -1,0 +1,46 @@
+use Rattle.std.proofs.Common.{◌≤◌, arith}
+use Rattle.tour_cost.proofs.Walked.{IsWalked-start, IsSettled-start, here-stop, here-early, next-walked, next-settled, next-small, settled-small}
+use Rattle.tour_cost.proofs.costs.cost.Goals as goal
+
+pub loop-stop-init : goal.loop-stop-init
+loop-stop-init c = record {
+  walked = IsWalked-start c.args.snapshot.now c.args.car c.args.tour.now c.start-ride.result c.requires.feasible c.start-ride.ensures.start c.start-ride.ensures.floor c.start-ride.ensures.early;
+  settled = IsSettled-start c.args.snapshot.now c.args.car c.no_moments-boarded.result c.start-ride.ensures.accepted c.no_moments-boarded.ensures;
+}
+
+pub make_stop-next-requires-clause-early : goal.make_stop-next-requires-clause-early
+make_stop-next-requires-clause-early c =
+    let early = here-early c.args.snapshot.now c.args.car c.args.tour.now c.stops-stop-items.result.now c.loop-stop.stop-index c.loop-stop.ride c.start-ride.ensures.accepted c.requires.car c.requires.feasible c.loop-stop.invariant.walked c.stops-stop-items.ensures c.loop-stop-test.true in
+    omega (arith, early)
+
+pub make_stop-next-requires-clause-stop : goal.make_stop-next-requires-clause-stop
+make_stop-next-requires-clause-stop c = here-stop c.args.snapshot.now c.args.car c.args.tour.now c.stops-stop-items.result.now c.loop-stop.stop-index c.loop-stop.ride c.stop-item.result c.loop-stop.invariant.walked c.stops-stop-items.ensures c.loop-stop-test.true c.stop-item.is
+
+pub cost_of_leaving-cost-requires-clause-early : goal.cost_of_leaving-cost-requires-clause-early
+cost_of_leaving-cost-requires-clause-early c =
+    let early = here-early c.args.snapshot.now c.args.car c.args.tour.now c.stops-stop-items.result.now c.loop-stop.stop-index c.loop-stop.ride c.start-ride.ensures.accepted c.requires.car c.requires.feasible c.loop-stop.invariant.walked c.stops-stop-items.ensures c.loop-stop-test.true in
+    omega (arith, early, c.make_stop-next.ensures.opened, c.make_stop-next.ensures.late)
+
+pub overflow_add-cost : goal.overflow_add-cost
+overflow_add-cost c =
+    let early = here-early c.args.snapshot.now c.args.car c.args.tour.now c.stops-stop-items.result.now c.loop-stop.stop-index c.loop-stop.ride c.start-ride.ensures.accepted c.requires.car c.requires.feasible c.loop-stop.invariant.walked c.stops-stop-items.ensures c.loop-stop-test.true in
+    let opened : c.make_stop-next.result.opened ≤ 100000000000 = omega (arith, early, c.make_stop-next.ensures.opened, c.make_stop-next.ensures.late) in
+    let small = next-small c.args.snapshot.now c.args.car c.args.tour.now c.stops-stop-items.result.now c.loop-stop.stop-index c.loop-stop.ride c.make_stop-next.result c.stop-item.result c.loop-stop.boarded c.loop-stop.cost c.cost_of_leaving-cost.result c.start-ride.ensures.accepted c.requires.car c.loop-stop.invariant.walked c.stops-stop-items.ensures c.loop-stop-test.true c.stop-item.is c.make_stop-next.ensures.stops c.make_stop-next.ensures.floor opened c.loop-stop.invariant.settled c.cost_of_leaving-cost.ensures.cost in
+    omega (arith, small)
+
+pub calls_boarding-requires : goal.calls_boarding-requires
+calls_boarding-requires c = here-stop c.args.snapshot.now c.args.car c.args.tour.now c.stops-stop-items.result.now c.loop-stop.stop-index c.loop-stop.ride c.stop-item.result c.loop-stop.invariant.walked c.stops-stop-items.ensures c.loop-stop-test.true c.stop-item.is
+
+pub loop-stop-preserved : goal.loop-stop-preserved
+loop-stop-preserved c =
+    let early = here-early c.args.snapshot.now c.args.car c.args.tour.now c.stops-stop-items.result.now c.loop-stop.stop-index c.loop-stop.ride c.start-ride.ensures.accepted c.requires.car c.requires.feasible c.loop-stop.invariant.walked c.stops-stop-items.ensures c.loop-stop-test.true in
+    let opened : c.make_stop-next.result.opened ≤ 100000000000 = omega (arith, early, c.make_stop-next.ensures.opened, c.make_stop-next.ensures.late) in
+    record {
+      walked = next-walked c.args.snapshot.now c.args.car c.args.tour.now c.stops-stop-items.result.now c.loop-stop.stop-index c.loop-stop.ride c.make_stop-next.result c.stop-item.result c.loop-stop.invariant.walked c.stops-stop-items.ensures c.loop-stop-test.true c.stop-item.is c.make_stop-next.ensures.stops c.make_stop-next.ensures.floor c.make_stop-next.ensures.late;
+      settled = next-settled c.args.snapshot.now c.args.car c.args.tour.now c.stops-stop-items.result.now c.loop-stop.stop-index c.loop-stop.ride c.make_stop-next.result c.stop-item.result c.loop-stop.boarded c.note_boarding.new.boarded c.loop-stop.cost c.cost_of_leaving-cost.result c.calls_boarding.result c.start-ride.ensures.accepted c.loop-stop.invariant.walked c.stops-stop-items.ensures c.loop-stop-test.true c.stop-item.is c.make_stop-next.ensures.stops c.make_stop-next.ensures.floor opened c.loop-stop.invariant.settled c.calls_boarding.ensures (record { each = c.note_boarding.ensures }) c.cost_of_leaving-cost.ensures.cost;
+    }
+
+pub returns-clause-bounded : goal.returns-clause-bounded
+returns-clause-bounded c =
+    let small = settled-small c.args.snapshot.now c.args.car _ _ c.loop-stop.cost c.start-ride.ensures.accepted c.requires.car c.loop-stop.invariant.settled in
+    omega (arith, small)

@@ -1,0 +1,3 @@
+pub mod Rides
+pub mod Leaving
+pub mod ShortForm

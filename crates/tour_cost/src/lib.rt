@@ -1,0 +1,16 @@
+//! The times and costs of tours.
+//!
+//! Moments are in ms. A cost is in cost units: each person's ms of waiting and of riding counts with the
+//! building's weights, and a wait past the patience counts once more.
+#![tactic(auto)]
+
+mod costs;
+mod plans;
+mod rides;
+mod sets;
+mod timelines;
+
+pub use costs::cost;
+pub use elevator_model::{Plan, Times};
+pub use plans::plan_cost;
+pub use timelines::timeline;

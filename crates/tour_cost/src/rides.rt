@@ -1,0 +1,193 @@
+//! How far a car is in its tour, in plain numbers and sets.
+
+ghost use Rattle.std.specs.Prelude.{◌≡◌, ℕ, ◌+◌, ◌*◌, ◌-◌, ◌≤◌, ◌<◌, ◌==◌, ◌&&◌, not, length, true};
+ghost use Rattle.elevator_model.specs.Counting.{has, is_among, sum_where};
+ghost use Rattle.elevator_model.specs.Building.{floor_count};
+ghost use Rattle.elevator_model.specs.Snapshot.{IsAccepted, car_count, call_count, call_of, group_of, spec_of};
+ghost use Rattle.elevator_model.specs.Tours.{Progress, start_of, make_stop, arrival};
+ghost use Rattle.tour_cost.specs.Rides.{Tracks, IsStopOf, is_group_off};
+
+use crate::sets;
+use call_state::{CarState, Snapshot};
+use elevator_model::{Aboard, Stop};
+
+/// How far a car is in its tour.
+#[derive(Clone, Copy)]
+pub(crate) struct Ride {
+    /// Whether the car has made a stop.
+    pub(crate) begun: bool,
+    /// The floor of its last stop, or where it stands, comes to or comes from.
+    pub(crate) floor: u32,
+    /// The moments at which the doors of its last stop are open and at which it leaves; before the first
+    /// stop the moment from which its tour is timed.
+    pub(crate) opened: u64,
+    pub(crate) leaves: u64,
+    /// The calls that are carried.
+    pub(crate) carried: u128,
+    /// The floors where the car has stopped: a group aboard is carried until the car stops at its
+    /// destination. Bit `f` stands for floor `f`.
+    pub(crate) visited: u64,
+}
+
+impl Ride {
+    /// A car at the start of its tour.
+    pub(crate) fn start(snapshot: &Snapshot, car: u32) -> Self
+        requires { car < car_count snapshot.now }
+        ensures start { Tracks snapshot.now car result (start_of snapshot.now car) }
+        ensures floor { result.floor < floor_count snapshot.now.building }
+        ensures early { result.leaves ≤ 1100000000 }
+        ensures accepted { IsAccepted snapshot.now }
+    {
+        let (floor, moment) = match snapshot.car(car) {
+            CarState::Idle { floor, free } => (floor, free),
+            CarState::Coming { floor, arrives } => (floor, arrives),
+            CarState::Moving { from, up: _, left } => (from, left),
+        };
+        Self {
+            begun: false,
+            floor,
+            opened: moment,
+            leaves: moment,
+            carried: sets::NONE,
+            visited: 0,
+        }
+    }
+
+    /// The moment at which the car arrives at a next stop at this floor.
+    pub(crate) fn arrival(&self, snapshot: &Snapshot, car: u32, floor: u32) -> u64
+        requires car { car < car_count snapshot.now }
+        requires from { self.now.floor < floor_count snapshot.now.building }
+        requires to { floor < floor_count snapshot.now.building }
+        requires early { self.now.leaves ≤ 100000000000 }
+        ensures value { (p : Progress) → Tracks snapshot.now car self.now p → result ≡ arrival snapshot.now car p floor }
+        ensures late { result ≤ self.now.leaves + 20000000 }
+    {
+        let is_coming = matches!(snapshot.car(car), CarState::Coming { .. });
+        if self.begun || !is_coming {
+            self.leaves + snapshot.building().travel().time(self.floor, floor)
+        } else {
+            self.leaves
+        }
+    }
+
+    /// The car makes its next stop.
+    pub(crate) fn make_stop(&self, snapshot: &Snapshot, car: u32, stop: &Stop) -> Self
+        requires car { car < car_count snapshot.now }
+        requires from { self.now.floor < floor_count snapshot.now.building }
+        requires early { self.now.leaves ≤ 100000000000 }
+        requires stop { IsStopOf snapshot.now stop.now }
+        ensures stops { (p : Progress) → Tracks snapshot.now car self.now p → Tracks snapshot.now car result (make_stop snapshot.now car p stop.now) }
+        ensures floor { result.floor ≡ stop.now.floor }
+        ensures opened { result.opened ≤ result.leaves }
+        ensures late { result.leaves ≤ self.now.leaves + 150000000 }
+    {
+        let boards = calls_boarding(snapshot, stop);
+        let off = sets::both(self.carried, calls_to(snapshot, stop.floor));
+        let persons_off = persons_of_calls(snapshot, off)
+            + persons_of_groups_off(snapshot, car, self.visited, stop.floor);
+        let opened = self.arrival(snapshot, car, stop.floor) + opening_of(snapshot, car);
+        let dwell = dwell_of(
+            snapshot,
+            car,
+            persons_off,
+            persons_of_calls(snapshot, boards),
+        );
+        Self {
+            begun: true,
+            floor: stop.floor,
+            opened,
+            leaves: opened + dwell,
+            carried: sets::either(sets::without(self.carried, off), boards),
+            visited: self.visited | 1 << stop.floor,
+        }
+    }
+}
+
+/// The time from an arrival to open doors, in ms.
+fn opening_of(snapshot: &Snapshot, car: u32) -> u64
+    requires { car < car_count snapshot.now }
+    ensures value { result ≡ (spec_of snapshot.now car).opening }
+    ensures short { result ≤ 60000 }
+    ensures accepted { IsAccepted snapshot.now }
+{
+    snapshot.building().cars()[car as usize].opening
+}
+
+/// How long the doors stay open and take to close, in ms, where so many persons get off and on.
+fn dwell_of(snapshot: &Snapshot, car: u32, off: u64, on: u64) -> u64
+    requires car { car < car_count snapshot.now }
+    requires off { off ≤ 1088 }
+    requires on { on ≤ 1024 }
+    ensures value { result ≡ (spec_of snapshot.now car).alighting * off + (spec_of snapshot.now car).boarding * on + (spec_of snapshot.now car).closing }
+    ensures short { result ≤ 129000000 }
+{
+    let spec = snapshot.building().cars()[car as usize];
+    spec.alighting * off + spec.boarding * on + spec.closing
+}
+
+/// The calls that board at a stop.
+pub(crate) fn calls_boarding(snapshot: &Snapshot, stop: &Stop) -> u128
+    requires { IsStopOf snapshot.now stop.now }
+    ensures { (j : ℕ) → has result j ≡ is_among j stop.now.boards }
+{
+    let mut boards = sets::NONE;
+    let _accepted = snapshot.calls();
+    for call in stop.boards.as_slice() {
+        boards = sets::with(boards, *call as usize);
+    }
+    boards
+}
+
+/// The calls whose destination is this floor.
+pub(crate) fn calls_to(snapshot: &Snapshot, floor: u32) -> u128
+    ensures { (j : ℕ) → j < call_count snapshot.now → has result j ≡ ((call_of snapshot.now j).destination == floor) }
+{
+    let mut to_floor = sets::NONE;
+    let calls = snapshot.calls();
+    for j in 0..calls.len() {
+        if calls[j].destination == floor {
+            to_floor = sets::with(to_floor, j);
+        }
+    }
+    to_floor
+}
+
+/// The persons of a set of calls.
+fn persons_of_calls(snapshot: &Snapshot, set: u128) -> u64
+    ensures value { result ≡ sum_where (call_count snapshot.now) (has set) (λ j. (call_of snapshot.now j).persons) }
+    ensures few { result ≤ 1024 }
+{
+    let mut persons = 0;
+    let calls = snapshot.calls();
+    for j in 0..calls.len() {
+        if sets::contains(set, j) {
+            persons += calls[j].persons as u64;
+        }
+    }
+    persons
+}
+
+/// The persons of the groups aboard that get off at this floor.
+fn persons_of_groups_off(snapshot: &Snapshot, car: u32, visited: u64, floor: u32) -> u64
+    requires { car < car_count snapshot.now }
+    ensures value { result ≡ sum_where (length snapshot.now.aboard) (is_group_off snapshot.now car visited floor) (λ k. (group_of snapshot.now k).persons) }
+    ensures few { result ≤ 64 }
+{
+    let mut persons = 0;
+    let groups = snapshot.aboard();
+    for k in 0..groups.len() {
+        if is_off(&groups[k], car, visited, floor) {
+            persons += groups[k].persons as u64;
+        }
+    }
+    persons
+}
+
+/// Whether a group of the car, not yet delivered, gets off at this floor.
+pub(crate) fn is_off(group: &Aboard, car: u32, visited: u64, floor: u32) -> bool
+    requires { group.now.destination < 64 }
+    ensures { result ≡ (((group.now.car == car) && not (has visited group.now.destination)) && (group.now.destination == floor)) }
+{
+    let is_carried = group.car == car && visited >> group.destination & 1 == 0;
+    is_carried && group.destination == floor
+}
