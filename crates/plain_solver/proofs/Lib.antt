@@ -1,0 +1,5 @@
+pub mod Stops
+pub mod Serving
+pub mod Small
+pub mod OneTour
+pub mod Lawful
