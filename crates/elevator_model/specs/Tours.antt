@@ -119,10 +119,11 @@ is_later_in_queue x y = (x.origin == y.origin) && same_direction (is_upward x) (
 abbrev pub overtakes : Snapshot → Progress → ℕ → Bool
 overtakes s p j = any_below (call_count s) (λ k. p.boarded k && is_later_in_queue (call_of s k) (call_of s j))
 
--- someone carried would ride away from the destination on the leg from floor f to floor g
+-- On the leg from floor f to floor g someone carried would ride past or away from the destination: the
+-- car rises above it, or falls below it.
 abbrev pub turns_with : Snapshot → Progress → ℕ → ℕ → Bool
 turns_with s p f g =
-    (nat_lt f g && any_below (rider_count s) (λ r. p.carried r && nat_lt (destination_of s r) f)) || (nat_lt g f && any_below (rider_count s) (λ r. p.carried r && nat_lt f (destination_of s r)))
+    (nat_lt f g && any_below (rider_count s) (λ r. p.carried r && nat_lt (destination_of s r) g)) || (nat_lt g f && any_below (rider_count s) (λ r. p.carried r && nat_lt g (destination_of s r)))
 
 abbrev pub is_call_for : Snapshot → ℕ → ℕ → Bool
 is_call_for s c j = nat_lt j (call_count s) && is_possible s c (call_of s j)

@@ -112,6 +112,8 @@ pub record AreBroken : Type 0 where
   pub same_floor : Breaks one_call (stop 0 [] ∷ []) 1 UselessStop
   pub twice_there : Breaks one_call (stop 0 (0 ∷ []) ∷ stop 0 [] ∷ stop 1 [] ∷ []) 2 SameFloorTwice
   pub turn : Breaks two_ways (stop 1 (0 ∷ 1 ∷ []) ∷ stop 2 [] ∷ stop 0 [] ∷ []) 2 TurnWithPassengers
+  pub past_a_destination : Breaks (shown 1 0 8 (Idle 0 0) [] (call 1 0 1 1 ∷ call 2 0 2 1 ∷ [])) (stop 0 (0 ∷ 1 ∷ []) ∷ stop 2 [] ∷ stop 1 [] ∷ []) 2 TurnWithPassengers
+  pub below_a_destination : Breaks (shown 1 0 8 (Idle 3 0) [] (call 1 3 2 1 ∷ call 2 3 1 1 ∷ [])) (stop 3 (0 ∷ 1 ∷ []) ∷ stop 1 [] ∷ stop 2 [] ∷ []) 2 TurnWithPassengers
   pub capacity : Breaks three_persons (stop 0 (0 ∷ 1 ∷ []) ∷ stop 1 [] ∷ []) 1 Capacity
   pub queue : Breaks one_queue (stop 0 (1 ∷ []) ∷ stop 1 [] ∷ stop 0 (0 ∷ []) ∷ stop 3 [] ∷ []) 3 QueueOrder
   pub no_call : Breaks one_call (stop 0 (0 ∷ 5 ∷ []) ∷ stop 1 [] ∷ []) 1 Car

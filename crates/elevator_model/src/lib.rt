@@ -116,7 +116,7 @@ pub enum Rule {
     SameFloorTwice,
     /// A stop where nobody gets off and no call boards.
     UselessStop,
-    /// A leg away from the destination of someone carried.
+    /// A leg past or away from the destination of someone carried.
     TurnWithPassengers,
     /// More persons carried than the capacity.
     Capacity,

@@ -43,9 +43,9 @@ pub useless_same : (s : Snapshot) (c : ℕ) (place : Place) (p : Progress) (set 
 useless_same s c place p set stop need off on t h n f o =
     ap (λ (b : Bool). (b && not off) && not on) (n ∙ ap (λ (b : Bool). b || is_idle (state_of s c)) t.begun) ∙ ap (λ (b : Bool). ((p.begun || is_idle (state_of s c)) && not b) && not on) f ∙ ap (λ (b : Bool). ((p.begun || is_idle (state_of s c)) && not (any_below (rider_count s) (gets_off s p stop.floor))) && not b) (o ∙ boards_any s set stop h)
 
-pub turns_same : (s : Snapshot) (c : ℕ) (place : Place) (p : Progress) (g : ℕ) (leg : Bool) (low high : Bool) → Tracks s c place p → leg ≡ (place.begun || not (is_coming (state_of s c))) → low ≡ any_below (rider_count s) (λ r. p.carried r && heads (Below place.floor) (destination_of s r)) → high ≡ any_below (rider_count s) (λ r. p.carried r && heads (Above place.floor) (destination_of s r)) → (leg && ((ltb place.floor g && low) || (ltb g place.floor && high))) ≡ (has_leg s c p && turns_with s p p.floor g)
+pub turns_same : (s : Snapshot) (c : ℕ) (place : Place) (p : Progress) (g : ℕ) (leg : Bool) (low high : Bool) → Tracks s c place p → leg ≡ (place.begun || not (is_coming (state_of s c))) → low ≡ any_below (rider_count s) (λ r. p.carried r && heads (Below g) (destination_of s r)) → high ≡ any_below (rider_count s) (λ r. p.carried r && heads (Above g) (destination_of s r)) → (leg && ((ltb place.floor g && low) || (ltb g place.floor && high))) ≡ (has_leg s c p && turns_with s p p.floor g)
 turns_same s c place p g leg low high t l a b =
-    ap (λ (x : Bool). x && ((ltb place.floor g && low) || (ltb g place.floor && high))) (l ∙ ap (λ (x : Bool). x || not (is_coming (state_of s c))) t.begun) ∙ ap (λ (x : Bool). has_leg s c p && ((ltb place.floor g && x) || (ltb g place.floor && high))) a ∙ ap (λ (x : Bool). has_leg s c p && ((ltb place.floor g && any_below (rider_count s) (λ r. p.carried r && heads (Below place.floor) (destination_of s r))) || (ltb g place.floor && x))) b ∙ ap (λ (f : ℕ). has_leg s c p && turns_with s p f g) t.floor
+    ap (λ (x : Bool). x && ((ltb place.floor g && low) || (ltb g place.floor && high))) (l ∙ ap (λ (x : Bool). x || not (is_coming (state_of s c))) t.begun) ∙ ap (λ (x : Bool). has_leg s c p && ((ltb place.floor g && x) || (ltb g place.floor && high))) a ∙ ap (λ (x : Bool). has_leg s c p && ((ltb place.floor g && any_below (rider_count s) (λ r. p.carried r && heads (Below g) (destination_of s r))) || (ltb g place.floor && x))) b ∙ ap (λ (f : ℕ). has_leg s c p && turns_with s p f g) t.floor
 
 pub queue_same : (s : Snapshot) (c : ℕ) (place : Place) (p : Progress) (set : ℕ) (stop : Stop) → Tracks s c place p → HasBoards s set stop → any_below (call_count s) (λ j. has set j && any_below (call_count s) (λ k. has place.boarded k && is_later_in_queue (call_in s.calls k) (call_in s.calls j))) ≡ breaks s c none_taken p stop QueueOrder
 queue_same s c place p set stop t h = boards_test s set stop _ (overtakes s p) h (λ j lt. overtakes_same s c place p t j)

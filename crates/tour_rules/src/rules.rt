@@ -234,18 +234,19 @@ fn lacks_use(needs_use: bool, anyone_off: bool, anyone_on: bool) -> bool
     needs_use && !anyone_off && !anyone_on
 }
 
-/// Whether someone carried would ride away from the destination on the leg to this floor.
+/// Whether someone carried would ride past or away from the destination on the leg to this floor.
 pub(crate) fn turns_away(snapshot: &Snapshot, car: u32, place: &Place, floor: u32) -> bool
     requires { car < car_count snapshot.now }
     ensures { (p : Progress) → Tracks snapshot.now car place.now p → result ≡ (has_leg_lem snapshot.now car p && turns_with snapshot.now p p.floor floor) }
 {
     let has_leg = has_leg(snapshot, car, place);
-    let any_below = any_carried(snapshot, car, place, Heading::Below(place.floor));
-    let any_above = any_carried(snapshot, car, place, Heading::Above(place.floor));
+    let any_below = any_carried(snapshot, car, place, Heading::Below(floor));
+    let any_above = any_carried(snapshot, car, place, Heading::Above(floor));
     is_turn(has_leg, place.floor, floor, any_below, any_above)
 }
 
-/// Whether a leg leads upwards with someone for a floor below, or downwards with someone for one above.
+/// Whether a leg leads upwards with someone for a floor below its end, or downwards with someone for one
+/// above it.
 fn is_turn(has_leg: bool, from: u32, to: u32, any_below: bool, any_above: bool) -> bool
     ensures { result ≡ (has_leg && ((nat_lt from to && any_below) || (nat_lt to from && any_above))) }
 {
