@@ -1,12 +1,11 @@
 -- Going on to the next line of a text.
-use Rattle.std.proofs.Common.{◌≡◌, ◌≢◌, ℕ, suc, ◌+◌, ◌-◌, ◌<◌, ◌≤◌, Bool, true, false, cond, eqb, List, [], ◌∷◌, ◌++◌, Option, None, Some, length, take, drop, arith, rules, ap, sym, ◌∙◌, refl, subst, append_assoc, append-nil, length-append, length-drop, IfSome}
-use Rattle.std.specs.Prelude.{option_map, IsSomeAnd}
-use Rattle.std.specs.List.{onto_first}
+use Rattle.std.proofs.Common.{◌≡◌, ◌≢◌, ℕ, ◌+◌, ◌-◌, ◌<◌, ◌≤◌, List, [], ◌∷◌, ◌++◌, Option, None, Some, length, take, drop, arith, ap, sym, ◌∙◌, refl, subst, append_assoc, append-nil, length-append, length-drop, IfSome}
+use Rattle.std.specs.Prelude.{option_map}
 use Rattle.std.specs.Io.KnownBytes.{prepend_known, IsAtEnd}
 use Rattle.std.proofs.lemmas.List.{take-append-le, drop-append-le, take-take, length-take-le}
 use Rattle.lift_text.specs.Lines.{pieces_of, line_of}
 use Rattle.lift_text.specs.Found.{BeginsWithLine, NoLineFeed, FoundIn}
-use Rattle.lift_text.specs.Reading.{TextState, Passed}
+use Rattle.lift_text.specs.Reading.{TextState}
 use Rattle.lift_text.specs.Page.{PageState, IsLine, Advanced, FirstPiece, Forward}
 use Rattle.lift_text.specs.Words.{parts_of}
 use Rattle.lift_text.specs.declared.words.Span.{Span}

@@ -1,12 +1,12 @@
 -- What one line turns out to be.
-use Rattle.std.proofs.Common.{◌≡◌, ◌≢◌, ℕ, ◌+◌, ◌-◌, ◌<◌, ◌≤◌, Bool, true, false, cond, ltb, List, [], ◌∷◌, Option, None, Some, Result, Ok, Err, OnErr, length, take, drop, arith, rules, ap, sym, ◌∙◌, refl, subst, IfSome}
-use Rattle.std.specs.Prelude.{IsSomeAnd, nat_lt}
+use Rattle.std.proofs.Common.{◌≡◌, ℕ, ◌+◌, ◌-◌, ◌<◌, ◌≤◌, Bool, true, false, cond, List, [], ◌∷◌, Option, None, Some, Result, Ok, Err, OnErr, length, take, arith, ap, sym, ◌∙◌, refl}
+use Rattle.std.specs.Prelude.{nat_lt}
 use Rattle.std.proofs.lemmas.Bool.Decides.{nat_tests}
 use Rattle.std.proofs.lemmas.Bool.{false≢true}
 use Rattle.lift_text.specs.Lines.{pieces_of, line_of, words_of, is_clean}
 use Rattle.lift_text.specs.Judge.{Judged}
-use Rattle.lift_text.specs.Reading.{TextState, Reading, reading, reading_of, judged, cut_short, line_with, finished, bad_line, past_limit, Passed}
-use Rattle.lift_text.specs.Page.{IsLine, Advanced, FirstPiece, JudgedAs, ReadLine, step_of}
+use Rattle.lift_text.specs.Reading.{TextState, Reading, reading, reading_of, judged, cut_short, line_with, bad_line}
+use Rattle.lift_text.specs.Page.{IsLine, Advanced, JudgedAs, ReadLine, step_of}
 use Rattle.lift_text.specs.declared.judge.Flaw.{Flaw}
 use Rattle.lift_text.specs.declared.page.Step.{Step}
 use Rattle.lift_text.specs.declared.page.Step.TheVariants.{WithWords, Blank, AtEnd}

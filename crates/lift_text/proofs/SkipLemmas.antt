@@ -1,5 +1,5 @@
 -- Passing over a line of any length.
-use Rattle.std.proofs.Common.{◌≡◌, ◌≢◌, Bool, true, false, cond, eqb, Ok, ℕ, suc, ◌+◌, ◌-◌, ◌<◌, ◌≤◌, List, [], ◌∷◌, ◌++◌, Option, None, Some, length, take, drop, get_or, arith, ap, sym, ◌∙◌, refl, subst, append_assoc, append-nil, length-append, length-drop, drop-cons, add-one, inl, inr}
+use Rattle.std.proofs.Common.{◌≡◌, Bool, true, false, cond, eqb, Ok, ℕ, suc, ◌+◌, ◌-◌, ◌<◌, ◌≤◌, List, [], ◌∷◌, ◌++◌, Option, None, Some, length, take, drop, get_or, arith, ap, sym, ◌∙◌, refl, subst, append_assoc, append-nil, length-append, length-drop, drop-cons, add-one, inl, inr}
 use Rattle.std.specs.Prelude.{IsSomeAnd}
 use Rattle.std.specs.List.{onto_first}
 use Rattle.std.specs.Io.KnownBytes.{prepend_known, IsAtEnd}
@@ -11,7 +11,6 @@ use Rattle.lift_text.specs.Page.{SkippedLine}
 use Rattle.lift_text.specs.declared.faults.RawLine.TheVariants.{Long}
 use Rattle.lift_text.proofs.PageLemmas.{state}
 use Rattle.lift_text.specs.declared.window.Skipped.TheVariants.{Whole, Cut}
-use Rattle.lift_text.proofs.KnownBytes.{prepend_known-append}
 use Rattle.lift_text.proofs.PieceLemmas.{pieces_of-append, pieces_of-last, pieces_of-front}
 
 pub no_line_feed-append : (xs ys : List ℕ) → NoLineFeed xs → NoLineFeed ys → NoLineFeed (xs ++ ys)

@@ -1,5 +1,5 @@
 -- The lines of a text, and the words of a line.
-use Rattle.std.specs.Prelude.{ℕ, Bool, not, ◌&&◌, ◌||◌, ◌==◌, nat_le, nat_lt, List, [], ◌∷◌, length, filter, if◌then◌else◌}
+use Rattle.std.specs.Prelude.{ℕ, Bool, ◌&&◌, ◌||◌, ◌==◌, nat_le, nat_lt, List, [], ◌∷◌, length, filter, if◌then◌else◌}
 use Rattle.std.specs.List.{list_all, before_first, onto_first, slice_split}
 use Rattle.std.specs.Io.BufRead.{ends_with_byte, strip_last}
 

@@ -1,4 +1,4 @@
-use Rattle.std.proofs.Common.{◌≡◌, ◌==◌, ◌≤◌, arith, sym, ap, ◌∙◌, length, take, length-take}
+use Rattle.std.proofs.Common.{◌==◌, ◌≤◌, arith, sym, ap, ◌∙◌, length, take, length-take}
 use Rattle.std.specs.List.{position_or_len, list_all}
 use Rattle.lift_text.specs.Lines.{is_allowed}
 use Rattle.lift_text.proofs.WordLemmas.{parts_of-take, within_le, some_words}

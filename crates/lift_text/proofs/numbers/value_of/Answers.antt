@@ -1,4 +1,4 @@
-use Rattle.std.proofs.Common.{arith, ap, ◌≡◌, ◌*◌, ◌+◌, ◌-◌, ◌<◌, ◌≤◌, ◌^◌, take, length, get_or}
+use Rattle.std.proofs.Common.{arith, ap, ◌+◌}
 use Rattle.std.proofs.lemmas.List.{take_all}
 use Rattle.std.specs.Str.Parse.{digits_value}
 use Rattle.lift_text.proofs.NumberLemmas.{value_more, value-take-le}

@@ -1,4 +1,4 @@
-use Rattle.std.proofs.Common.{◌≡◌, ◌+◌, ◌≤◌, ◌<◌, ℕ, arith, sym}
+use Rattle.std.proofs.Common.{arith, sym}
 use Rattle.lift_text.proofs.WordLemmas.{words_more, words_all, within_more, no_blank_more}
 use Rattle.lift_text.proofs.words.find_words.Goals as goal
 use Rattle.lift_text.proofs.words.find_words.Goals.{then-is_blank, else-is_blank}

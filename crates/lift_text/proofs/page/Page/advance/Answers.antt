@@ -1,9 +1,8 @@
-use Rattle.std.proofs.Common.{◌≡◌, ◌+◌, ◌≤◌, List, ℕ, Option, [], length, take, drop, arith, rules, sym, ap, subst, ◌∙◌, length-drop}
+use Rattle.std.proofs.Common.{◌≡◌, ◌+◌, [], length, take, drop, arith, sym, ap, subst, ◌∙◌}
 use Rattle.std.specs.Io.KnownBytes.{prepend_known}
 use Rattle.lift_text.specs.Words.{parts_of}
 use Rattle.lift_text.specs.Found.{FoundIn}
-use Rattle.lift_text.specs.Page.{PageState, Advanced, Forward, text_at}
-use Rattle.lift_text.specs.declared.window.Found.{Found}
+use Rattle.lift_text.specs.Page.{PageState, Advanced, text_at}
 use Rattle.lift_text.specs.declared.window.Found.TheVariants.{Line, End}
 use Rattle.lift_text.proofs.PageLemmas.{state, advanced_line, advanced_other, empty_front, no_parts, nothing_behind, forward_other, at_end}
 use Rattle.lift_text.proofs.page.Page.advance.Goals as goal

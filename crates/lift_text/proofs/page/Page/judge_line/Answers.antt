@@ -1,4 +1,4 @@
-use Rattle.std.proofs.Common.{◌≡◌, ◌≤◌, List, ℕ, length, take, arith, sym, ap, subst, ◌∙◌, length-take, []}
+use Rattle.std.proofs.Common.{◌≡◌, ◌≤◌, length, take, arith, sym, ap, subst, length-take, []}
 use Rattle.std.proofs.lemmas.List.{take-take}
 use Rattle.lift_text.specs.Words.{parts_of}
 use Rattle.lift_text.specs.Judge.{Judged}

@@ -1,4 +1,4 @@
-use Rattle.std.proofs.Common.{◌≡◌, ◌+◌, List, ℕ, Option, length, take, arith, sym, ap, subst, ◌∙◌, Result}
+use Rattle.std.proofs.Common.{sym, subst}
 use Rattle.std.specs.Io.KnownBytes.{prepend_known}
 use Rattle.lift_text.specs.Page.{PageState, Advanced, ReadLine, limit_of, text_at}
 use Rattle.lift_text.proofs.ReadLemmas.{read_found}

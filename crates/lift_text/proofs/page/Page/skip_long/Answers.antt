@@ -1,9 +1,8 @@
-use Rattle.std.proofs.Common.{◌≡◌, ◌+◌, List, ℕ, Ok, length, drop, ap, sym, subst, ◌∙◌}
+use Rattle.std.proofs.Common.{◌+◌, Ok, length, drop, ap, sym, subst, ◌∙◌}
 use Rattle.std.specs.Io.KnownBytes.{prepend_known}
 use Rattle.lift_text.specs.Found.{SkippedIn}
 use Rattle.lift_text.specs.Page.{PageState, SkippedLine, text_at}
 use Rattle.lift_text.specs.declared.faults.RawLine.TheVariants.{Long}
-use Rattle.lift_text.specs.declared.window.Skipped.TheVariants.{Whole}
 use Rattle.lift_text.proofs.PageLemmas.{state, empty_front}
 use Rattle.lift_text.proofs.SkipLemmas.{skipped_text}
 use Rattle.lift_text.proofs.page.Page.skip_long.Goals as goal

@@ -1,4 +1,3 @@
-use Rattle.std.proofs.Common.{arith}
 use Rattle.lift_text.proofs.PieceLemmas.{none_until, found_at}
 use Rattle.lift_text.proofs.window.Window.line_feed_from.Goals as goal
 

@@ -1,4 +1,4 @@
-use Rattle.std.proofs.Common.{◌≡◌, ◌++◌, ◌≤◌, ◌+◌, take, length, ap, sym, arith, ◌∙◌}
+use Rattle.std.proofs.Common.{◌++◌, take, ap, arith, ◌∙◌}
 use Rattle.std.specs.Prelude.{slice_range}
 use Rattle.std.proofs.lemmas.List.{length-take-le}
 use Rattle.lift_text.specs.Window.{WindowState}

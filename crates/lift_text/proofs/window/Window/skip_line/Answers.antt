@@ -1,4 +1,4 @@
-use Rattle.std.proofs.Common.{◌≡◌, ◌≢◌, ◌+◌, ◌<◌, ◌≤◌, ◌++◌, List, ℕ, [], length, drop, get_or, arith, ap, sym, subst, ◌∙◌, length-append, refl}
+use Rattle.std.proofs.Common.{◌≢◌, ◌+◌, ◌<◌, ◌++◌, ℕ, [], length, drop, get_or, arith, ap, sym, subst, ◌∙◌, length-append, refl}
 use Rattle.std.proofs.Math.Seq.{drop-length}
 use Rattle.std.specs.Io.KnownBytes.{prepend_known}
 use Rattle.lift_text.specs.Found.{SkippedIn}
