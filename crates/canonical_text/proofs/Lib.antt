@@ -7,3 +7,4 @@ pub mod Cars
 pub mod Travels
 pub mod Sections
 pub mod Judged
+pub mod Lengths

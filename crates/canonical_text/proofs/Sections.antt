@@ -19,7 +19,7 @@ use Rattle.canonical_text.proofs.Again.{IsLong, IsReadEach, end_word, literal_ag
 use Rattle.canonical_text.proofs.Cars.{car_again}
 
 -- what holds at each place holds of each item
-all_from_places : {X : Type 0} (P : X → Type 0) (d : X) (xs : List X) → ((j : ℕ) → j < length xs → P (get_or xs j d)) → AllByRecursion P xs
+pub all_from_places : {X : Type 0} (P : X → Type 0) (d : X) (xs : List X) → ((j : ℕ) → j < length xs → P (get_or xs j d)) → AllByRecursion P xs
 all_from_places P d [] each = tt
 all_from_places P d (x ∷ xs) each = (each 0 (omega arith), all_from_places P d xs (λ j lt. each (suc j) (omega arith)))
 
@@ -100,7 +100,7 @@ heights_again heights rest fits low high =
     ap heights_at (line_then (codes "floors") heights rest)
     ∙ rw (literal_again (codes "floors") (flat_map word heights ++ (newline ++ rest)), numbers_line_again heights rest fits, is_low, is_high) refl
 
-building_in_lines : (n : BuildingNumbers) (travel : Square) (rest : List ℕ) → building_text (building_from n travel) ++ rest
+pub building_in_lines : (n : BuildingNumbers) (travel : Square) (rest : List ℕ) → building_text (building_from n travel) ++ rest
     ≡ line (codes "building") (1 ∷ []) ++ (line (codes "speed") (n.speed ∷ []) ++ (line (codes "accel") (n.accel ∷ []) ++ (line (codes "weights") (n.wait_weight ∷ n.travel_weight ∷ []) ++ (line (codes "floors") n.heights ++ (car_line (length n.heights) n.car ++ (codes "end\n" ++ rest))))))
 unfolding building_text patience_line
 building_in_lines n travel rest =
@@ -151,7 +151,7 @@ Anything rest = Unit {0}
 five_words : (a b c d e : ℕ) (rest : List ℕ) → flat_map word (a ∷ b ∷ c ∷ d ∷ e ∷ []) ++ rest ≡ word a ++ (word b ++ (word c ++ (word d ++ (word e ++ rest))))
 five_words a b c d e rest = simp append_assoc
 
-unpinned_word : (b : Building) (pin : Option ℕ) → pin ≡ None → pin_word b pin ≡ codes " any"
+pub unpinned_word : (b : Building) (pin : Option ℕ) → pin ≡ None → pin_word b pin ≡ codes " any"
 unfolding pin_word
 unpinned_word b pin e = rw e refl
 
@@ -183,23 +183,23 @@ each_call b = record { marked = call_marked b; follows = λ call rest. tt; again
 
 -- ---- snapshots
 
-abbrev numbers : BuildingNumbers → ℕ → CarState → List Call → CaseNumbers
+abbrev pub numbers : BuildingNumbers → ℕ → CarState → List Call → CaseNumbers
 numbers b moment state calls = record { building = b; snapshot = record { moment = moment; state = state; calls = calls } }
 
 six_parts : (a b c d e f : List ℕ) → a ++ b ++ c ++ d ++ e ++ f ≡ a ++ (b ++ (c ++ (d ++ (e ++ f))))
 six_parts a b c d e f = simp append_assoc
 
-snapshot_in_lines : (b : BuildingNumbers) (travel : Square) (moment : ℕ) (state : CarState) (calls : List Call) → snapshot_text (snapshot_from (numbers b moment state calls) travel)
+pub snapshot_in_lines : (b : BuildingNumbers) (travel : Square) (moment : ℕ) (state : CarState) (calls : List Call) → snapshot_text (snapshot_from (numbers b moment state calls) travel)
     ≡ line (codes "snapshot") (1 ∷ []) ++ (line (codes "now") (moment ∷ []) ++ (state_line b.car.id state ++ (flat_map (call_line (building_from b travel)) calls ++ codes "end\n")))
 unfolding snapshot_text
 snapshot_in_lines b travel moment state calls =
     rw (six_parts (line (codes "snapshot") (1 ∷ [])) (line (codes "now") (moment ∷ [])) (state_line b.car.id state ++ []) [] (flat_map (call_line (building_from b travel)) calls) (line (codes "end") []), append-nil (state_line b.car.id state), end_line) refl
 
-first_test : (a b : Bool) → (a && b) ≡ true → a ≡ true
+pub first_test : (a b : Bool) → (a && b) ≡ true → a ≡ true
 first_test true b e = refl
 first_test false b e = absurd (false≢true e)
 
-read_calls : (s : Snapshot) → IsSmall s → ((j : ℕ) → j < call_count s → (call_of s j).id < 2 ^ 32) → AllByRecursion IsReadCall s.calls
+pub read_calls : (s : Snapshot) → IsSmall s → ((j : ℕ) → j < call_count s → (call_of s j).id < 2 ^ 32) → AllByRecursion IsReadCall s.calls
 read_calls s small ids =
     all_from_places IsReadCall no_call s.calls
     (λ j lt.

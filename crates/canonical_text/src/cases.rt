@@ -129,10 +129,11 @@ fn case_of(alloc: Global, numbers: CaseNumbers) -> Result<Snapshot, ReadFault>
 /// and empty, and at most three open calls, none of them pinned. The travel times are those of the
 /// heights, the speed and the acceleration.
 ///
-/// It answers `NotCanonical` exactly where the bytes are not such a text.
+/// It answers `NotCanonical` exactly where the bytes are not such a text. None is over 4,096 bytes.
 pub fn read_case(alloc: Global, bytes: &[u8]) -> Result<Snapshot, ReadFault>
     ensures read { IfOk result (λ snapshot. IsCase snapshot bytes.now) }
     ensures only { (s : SnapshotRecord) → IsCase s bytes.now → IfOk result (λ snapshot. snapshot ≡ s) }
+    ensures short { IfOk result (λ _. length bytes.now ≤ 4096) }
     ensures not_canonical { result ≡ Err NotCanonical → (s : SnapshotRecord) → IsCase s bytes.now → ⊥ }
 {
     let numbers = case_at(alloc, bytes)?;

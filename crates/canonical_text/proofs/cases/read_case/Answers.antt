@@ -4,6 +4,7 @@ use Rattle.canonical_text.specs.declared.fault.ReadFault.{ReadFault}
 use Rattle.canonical_text.specs.Text.{case_text}
 use Rattle.canonical_text.specs.Numbers.{case_view}
 use Rattle.canonical_text.proofs.Judged.{none_read, is_case_of, same_case, travel_of_case, car_ids_of_case, call_ids_of_case, is_not_canonical, is_same_text, is_other_text}
+use Rattle.canonical_text.proofs.Lengths.{length_case}
 use Rattle.canonical_text.proofs.cases.read_case.Goals as goal
 
 pub returns-in_err-numbers-clause-not_canonical : goal.returns-in_err-numbers-clause-not_canonical
@@ -40,3 +41,6 @@ pub returns-clause-only : goal.returns-clause-only
 returns-clause-only c = λ s case.
     let n = case_view c.in_ok-numbers.numbers in
     same_case n c.in_ok-snapshot.snapshot s c.in_ok-snapshot.ensures.made (is_case_of c.args.bytes.now n c.in_ok-numbers.ensures.read s case)
+
+pub returns-clause-short : goal.returns-clause-short
+returns-clause-short c = length_case c.in_ok-snapshot.snapshot c.args.bytes.now (returns-clause-read c)
