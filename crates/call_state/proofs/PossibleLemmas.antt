@@ -1,14 +1,14 @@
 -- A set of possible cars, car by car.
-use Rattle.std.proofs.Common.{length, Bool, cond, lit≤, not, ◌&&◌, List, slice_index_or, ◌≡◌, ◌≢◌, ℕ, ◌+◌, ◌*◌, ◌%◌, ◌^◌, ◌<◌, ◌≤◌, true, false, eqb, sym, ◌∙◌, ap, arith, w16}
+use Rattle.std.proofs.Common.{length, Bool, cond, lit≤, List, slice_index_or, ◌≡◌, ◌≢◌, ℕ, ◌+◌, ◌*◌, ◌%◌, ◌^◌, ◌<◌, ◌≤◌, true, false, eqb, sym, ◌∙◌, ap, arith, w16}
 use Rattle.std.specs.Int.RustNames.{bit_or}
 use Rattle.std.proofs.lemmas.Nat.Bits.{bit_at-zero, bit_at_set_same, bit_at_set_other}
 use borrow.Author.Count.{below_more}
 use Rattle.elevator_model.specs.Counting.{has}
-use Rattle.elevator_model.specs.Snapshot.{Snapshot, call_of, no_call, can_take, is_pinned_elsewhere, is_possible}
+use Rattle.elevator_model.specs.Snapshot.{Snapshot, call_of, no_call, is_possible}
 use Rattle.elevator_model.specs.Building.{Building, IsBuilding, most_cars}
 use Rattle.elevator_model.specs.declared.CarSpec.{CarSpec}
 use Rattle.elevator_model.specs.declared.Call.{Call}
-use Rattle.call_state.specs.Possible.{HasPossible}
+use Rattle.call_state.specs.Possible.{HasPossible, may_take}
 
 pub HasPossible-none : (s : Snapshot) (call : ℕ) → HasPossible s call 0 0
 HasPossible-none s call = record {
@@ -34,7 +34,7 @@ pub most_cars-le : (version : ℕ) → most_cars version ≤ 16
 most_cars-le version = elim (eqb version 1) as (λ t. cond t 8 16 ≤ 16) [ true ↦ lit≤ tt | false ↦ lit≤ tt ]
 
 -- what the code tests of a car, and what the set is to say of it
-pub is_possible-here : (s : Snapshot) (call car : ℕ) (b : Building) (calls : List Call) (r : Bool) → b ≡ s.building → calls ≡ s.calls → r ≡ (not (is_pinned_elsewhere (slice_index_or calls call no_call).pin car) && can_take b car (slice_index_or calls call no_call)) → is_possible s car (call_of s call) ≡ r
+pub is_possible-here : (s : Snapshot) (call car : ℕ) (b : Building) (calls : List Call) (r : Bool) → b ≡ s.building → calls ≡ s.calls → r ≡ may_take b car (slice_index_or calls call no_call) → is_possible s car (call_of s call) ≡ r
 is_possible-here s call car b calls r same_building same_calls tested = cc
 
 pub car-lt : (b : Building) (cars : List CarSpec) (car : ℕ) → IsBuilding b → cars ≡ b.cars → car < length cars → car < 16

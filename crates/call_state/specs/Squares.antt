@@ -1,5 +1,5 @@
 -- What is tested of travel times.
-use Rattle.std.specs.Prelude.{◌≡◌, ◌≢◌, ℕ, ◌+◌, ◌≤◌, List}
+use Rattle.std.specs.Prelude.{◌≡◌, ◌≢◌, ℕ, ◌+◌, ◌≤◌, ◌<◌, List}
 use Rattle.elevator_model.specs.Travel.{Square, time_between}
 
 abbrev pub square_of : ℕ → List ℕ → Square
@@ -11,6 +11,21 @@ pub record IsEntry (t : Square) (f g : ℕ) : Type 0 where
   pub positive : f ≢ g → 1 ≤ time_between t f g
   pub bounded : time_between t f g ≤ 20000000
 
--- no way over a third floor is shorter
+abbrev pub IsRow : Square → ℕ → Type 0
+IsRow t f = (g : ℕ) → g < t.floors → IsEntry t f g
+
+abbrev pub AreRows : Square → Type 0
+AreRows t = (f : ℕ) → f < t.floors → IsRow t f
+
+-- the way from f to h is no longer than that over g
 abbrev pub IsDirect : Square → ℕ → ℕ → ℕ → Type 0
 IsDirect t f g h = time_between t f h ≤ time_between t f g + time_between t g h
+
+abbrev pub IsLegDirect : Square → ℕ → ℕ → Type 0
+IsLegDirect t f g = (h : ℕ) → h < t.floors → IsDirect t f g h
+
+abbrev pub IsRowDirect : Square → ℕ → Type 0
+IsRowDirect t f = (g : ℕ) → g < t.floors → IsLegDirect t f g
+
+abbrev pub AreRowsDirect : Square → Type 0
+AreRowsDirect t = (f : ℕ) → f < t.floors → IsRowDirect t f

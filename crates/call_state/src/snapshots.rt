@@ -1,11 +1,9 @@
 //! Snapshots: where each car is, who is aboard, which calls are open.
 
-ghost use Rattle.std.specs.Prelude.{◌≡◌, ◌↔◌, IsOk, IfOk, IfErr, ◌<◌, ◌≤◌, ◌==◌, ◌&&◌, not, length};
-ghost use Rattle.elevator_model.specs.Counting.{has};
-ghost use Rattle.elevator_model.specs.Building.{IsBuilding};
-ghost use Rattle.elevator_model.specs.Snapshot.{IsAccepted, IsSmall, car_count, call_count, call_of, state_of, serves, can_take, is_pinned_elsewhere, is_possible};
+ghost use Rattle.std.specs.Prelude.{◌≡◌, ◌↔◌, ◌<◌, IsOk, IfOk, IfErr, length};
+ghost use Rattle.elevator_model.specs.Snapshot.{IsAccepted, IsSmall, car_count, call_count, call_of, state_of, serves, can_take};
 ghost use Rattle.elevator_model.specs.declared.Fault.TheVariants.{NotYet};
-ghost use Rattle.call_state.specs.Possible.{HasPossible};
+ghost use Rattle.call_state.specs.Possible.{HasPossible, may_take};
 
 use crate::buildings::{Building, has_floor};
 use crate::small_snapshots::are_small;
@@ -156,7 +154,7 @@ pub(crate) fn can_car_take(building: &Building, car: usize, call: &Call) -> bool
 /// Whether the car is one of the call's possible cars.
 fn is_possible_car(building: &Building, car: usize, call: &Call) -> bool
     requires { car < length building.now.cars }
-    ensures { result ≡ (not (is_pinned_elsewhere call.now.pin car) && can_take building.now car call.now) }
+    ensures { result ≡ may_take building.now car call.now }
 {
     let is_pinned_elsewhere = match call.pin {
         Some(pin) => pin as usize != car,

@@ -1,9 +1,9 @@
 //! Travel times between floors.
 
-ghost use Rattle.std.specs.Prelude.{◌≡◌, ◌↔◌, ℕ, ◌≤◌, ◌<◌, IsTrue, IsOk, IfOk, IfErr};
+ghost use Rattle.std.specs.Prelude.{◌≡◌, ◌↔◌, ◌≤◌, ◌<◌, IsTrue, IsOk, IfOk, IfErr};
 ghost use Rattle.elevator_model.specs.Travel.{IsTravelSquare, time_between};
 ghost use Rattle.elevator_model.specs.declared.Fault.TheVariants.{NoTravelSquare};
-ghost use Rattle.call_state.specs.Squares.{square_of, IsEntry, IsDirect};
+ghost use Rattle.call_state.specs.Squares.{square_of, IsEntry, IsRow, AreRows, IsLegDirect, IsRowDirect, AreRowsDirect};
 
 use crate::{Fault, StateFault};
 use std::marker::Model;
@@ -92,7 +92,7 @@ fn is_entry(floors: u32, times: &[u64], from: u32, to: u32) -> bool
 
 /// Whether the times from one floor are in their ranges.
 fn is_row(floors: u32, times: &[u64], from: u32) -> bool
-    ensures { IsTrue result ↔ ((to : ℕ) → to < floors → IsEntry (square_of floors times.now) from to) }
+    ensures { IsTrue result ↔ IsRow (square_of floors times.now) from }
 {
     for to in 0..floors {
         if !is_entry(floors, times, from, to) {
@@ -104,8 +104,7 @@ fn is_row(floors: u32, times: &[u64], from: u32) -> bool
 
 /// Whether all times are in their ranges.
 fn are_rows(floors: u32, times: &[u64]) -> bool
-    ensures { IsTrue result
-        ↔ ((from : ℕ) → from < floors → (to : ℕ) → to < floors → IsEntry (square_of floors times.now) from to) }
+    ensures { IsTrue result ↔ AreRows (square_of floors times.now) }
 {
     for from in 0..floors {
         if !is_row(floors, times, from) {
@@ -117,7 +116,7 @@ fn are_rows(floors: u32, times: &[u64]) -> bool
 
 /// Whether the way over one floor is never shorter than the way from another.
 fn is_leg_direct(floors: u32, times: &[u64], from: u32, over: u32) -> bool
-    ensures { IsTrue result ↔ ((to : ℕ) → to < floors → IsDirect (square_of floors times.now) from over to) }
+    ensures { IsTrue result ↔ IsLegDirect (square_of floors times.now) from over }
 {
     for to in 0..floors {
         let rest = time_at(floors, times, from, to).saturating_sub(time_at(
@@ -132,8 +131,7 @@ fn is_leg_direct(floors: u32, times: &[u64], from: u32, over: u32) -> bool
 
 /// Whether no way over a third floor is shorter than the way from this floor.
 fn is_row_direct(floors: u32, times: &[u64], from: u32) -> bool
-    ensures { IsTrue result
-        ↔ ((over : ℕ) → over < floors → (to : ℕ) → to < floors → IsDirect (square_of floors times.now) from over to) }
+    ensures { IsTrue result ↔ IsRowDirect (square_of floors times.now) from }
 {
     for over in 0..floors {
         if !is_leg_direct(floors, times, from, over) {
@@ -145,8 +143,7 @@ fn is_row_direct(floors: u32, times: &[u64], from: u32) -> bool
 
 /// Whether no way over a third floor is shorter.
 fn are_rows_direct(floors: u32, times: &[u64]) -> bool
-    ensures { IsTrue result
-        ↔ ((from : ℕ) → from < floors → (over : ℕ) → over < floors → (to : ℕ) → to < floors → IsDirect (square_of floors times.now) from over to) }
+    ensures { IsTrue result ↔ AreRowsDirect (square_of floors times.now) }
 {
     for from in 0..floors {
         if !is_row_direct(floors, times, from) {

@@ -8,3 +8,5 @@ pub mod Groups
 pub mod Bounds
 pub mod Walked
 pub mod ShortForm
+pub mod Cases
+pub mod Served

@@ -88,7 +88,7 @@ cost_of_rider-call : (s : Snapshot) (j boarded delivered : ℕ) → j < call_cou
 cost_of_rider-call s j boarded delivered b =
     ap (λ (n : ℕ). n * (cond (ltb j (call_count s)) (cost_of_wait s.building (boarded - (call_of s j).released)) 0 + s.building.travel_weight * (delivered - boarded))) (persons_of-call s j b) ∙ ap (λ (x : Bool). (call_of s j).persons * (cond x (cost_of_wait s.building (boarded - (call_of s j).released)) 0 + s.building.travel_weight * (delivered - boarded))) (is_call s j b)
 
-cost_of_rider-group : (s : Snapshot) (k boarded delivered : ℕ) → boarded ≡ (group_of s k).boarded → cost_of_rider s (call_count s + k) boarded delivered ≡ cost_of_group s k delivered
+pub cost_of_rider-group : (s : Snapshot) (k boarded delivered : ℕ) → boarded ≡ (group_of s k).boarded → cost_of_rider s (call_count s + k) boarded delivered ≡ cost_of_group s k delivered
 cost_of_rider-group s k boarded delivered same =
     ap (λ (n : ℕ). n * (cond (ltb (call_count s + k) (call_count s)) (cost_of_wait s.building (boarded - (call_of s (call_count s + k)).released)) 0 + s.building.travel_weight * (delivered - boarded))) (persons_of-group s k) ∙ ap (λ (x : Bool). (group_of s k).persons * (cond x (cost_of_wait s.building (boarded - (call_of s (call_count s + k)).released)) 0 + s.building.travel_weight * (delivered - boarded))) (is_no_call s k) ∙ ap (λ (n : ℕ). (group_of s k).persons * (0 + s.building.travel_weight * (delivered - n))) same ∙ ap (λ (n : ℕ). (group_of s k).persons * n) (plus_nothing (s.building.travel_weight * (delivered - (group_of s k).boarded)))
   where

@@ -1,11 +1,11 @@
 -- In a building of version 1 a tour costs what the short form says.
-use Rattle.std.proofs.Common.{◌≡◌, ℕ, zero, ◌+◌, ◌-◌, ◌*◌, ◌<◌, ◌≤◌, Bool, true, false, cond, ltb, List, refl, sym, ap, ◌∙◌, arith}
+use Rattle.std.proofs.Common.{◌≡◌, ℕ, ◌+◌, ◌-◌, ◌*◌, cond, ltb, List, refl, ap, arith}
 use Rattle.elevator_model.specs.declared.Stop.{Stop}
 use Rattle.elevator_model.specs.Building.{Building, IsBuilding}
-use Rattle.elevator_model.specs.Snapshot.{Snapshot, call_count, call_of, IsAccepted}
-use Rattle.elevator_model.specs.Tours.{Progress, rider_count, persons_of, after_stops, start_of}
-use Rattle.elevator_model.specs.Costs.{cost_of_wait, cost_of_rider, is_delivered, settled_cost, cost_of}
-use Rattle.tour_cost.specs.ShortForm.{short_cost_of_rider, short_settled_cost, short_cost_of}
+use Rattle.elevator_model.specs.Snapshot.{Snapshot, call_count, call_of}
+use Rattle.elevator_model.specs.Tours.{rider_count, persons_of, after_stops, start_of}
+use Rattle.elevator_model.specs.Costs.{cost_of_wait, cost_of_rider, is_delivered, cost_of}
+use Rattle.tour_cost.specs.ShortForm.{short_cost_of_rider, short_cost_of}
 use Rattle.tour_cost.proofs.Sums.{sum_where-same}
 
 no_weight : (b : Building) → IsBuilding b → b.version ≡ 1 → b.patience_weight ≡ 0

@@ -1,6 +1,6 @@
 -- A car after the first stops of a feasible tour.
 use Rattle.std.proofs.Common.{◌≡◌, ℕ, suc, ◌+◌, ◌-◌, ◌*◌, ◌<◌, ◌≤◌, Bool, true, false, cond, not, ◌&&◌, ◌||◌, eqb, ltb, List, [], ◌∷◌, ◌++◌, take, drop, length, get_or, refl, sym, ap, ◌∙◌, subst, arith, None, add-one, drop-cons, append_assoc}
-use Rattle.std.proofs.lemmas.List.{take_more}
+use Rattle.std.proofs.lemmas.List.{take_more, take_all}
 use Rattle.std.proofs.lemmas.Bool.{and_parts, false≢true, ltb-true, ltb-false, not-false, cond_both, both_ways}
 use Rattle.tour_cost.proofs.Riders.{is_aboard-call}
 use Rattle.elevator_model.specs.declared.Stop.{Stop}
@@ -16,6 +16,8 @@ use Rattle.tour_cost.specs.declared.rides.Ride.{Ride}
 use Rattle.tour_cost.specs.Rides.{Tracks, IsStopOf}
 use Rattle.tour_cost.specs.Leaving.{IsKept, AreBoarded, leaving_cost}
 use Rattle.tour_cost.proofs.Short.{AllFine-feasible, calls-le, stops-le}
+use Rattle.tour_cost.specs.Served.{calls_served}
+use Rattle.tour_cost.proofs.Served.{tour_cost-each}
 use Rattle.tour_cost.proofs.Stops.{boards_at-call}
 use Rattle.tour_cost.proofs.Settled.{IsKept-start, IsKept-stop, settled_more, settled_start}
 use Rattle.tour_cost.proofs.Bounds.{AreEarly, settled-le}
@@ -203,3 +205,12 @@ next-times s c tour items i ride next stop before after whole at walked same h e
     let rest = times_from s c (progress s c tour (i + 1)) (drop (i + 1) tour) in
     let times = times_at at next.opened next.leaves (arrival s c p stop.floor) after_stop.opened after_stop.leaves (arrives p walked.tracks) tracks.opened tracks.leaves in
     ap (λ (xs : List Times). xs ++ rest) pushed ∙ append_assoc before (times_of at next.opened next.leaves ∷ []) rest ∙ ap (λ (t : Times). before ++ t ∷ rest) times ∙ ap (λ (q : Progress). before ++ times_of (arrival s c p stop.floor) after_stop.opened after_stop.leaves ∷ times_from s c q (drop (i + 1) tour)) (progress-more s c tour i stop here.0 here.1) ∙ ap (λ (xs : List Stop). before ++ times_from s c p xs) (sym (rest-more tour i stop here.0 here.1)) ∙ so_far
+
+-- after all stops
+pub progress-all : (s : Snapshot) (c : ℕ) (tour items : List Stop) (i : ℕ) → items ≡ tour → length items ≤ i → progress s c tour i ≡ after_stops s c (start_of s c) tour
+progress-all s c tour items i same h = ap (after_stops s c (start_of s c)) (take_all i tour (let long = ap length same in omega (arith, long)))
+
+pub settled-served : (s : Snapshot) (c : ℕ) (tour items : List Stop) (i : ℕ) (moments : List ℕ) (cost : ℕ) → IsAccepted s → c < car_count s → items ≡ tour → length items ≤ i → IsSettled s c (progress s c tour i) moments cost → cost ≤ 2400000000000000 * calls_served s tour + 6400000000000000
+settled-served s c tour items i moments cost a b same h settled =
+    let is = subst (λ (p : Progress). IsSettled s c p moments cost) (progress-all s c tour items i same h) settled in
+    tour_cost-each s c tour cost a b is.kept is.early is.settled

@@ -6,6 +6,7 @@ ghost use Rattle.elevator_model.specs.Building.{IsBuilding};
 ghost use Rattle.elevator_model.specs.Snapshot.{IsAccepted, car_count, call_count};
 ghost use Rattle.elevator_model.specs.Tours.{Progress, IsFeasible};
 ghost use Rattle.elevator_model.specs.Costs.{cost_of};
+ghost use Rattle.tour_cost.specs.Served.{calls_served};
 ghost use Rattle.tour_cost.specs.Rides.{Tracks, is_group_off};
 ghost use Rattle.tour_cost.specs.Leaving.{IsKept, AreBoarded, leaving_cost, call_cost, cost_of_call, group_cost, cost_of_group};
 
@@ -21,12 +22,13 @@ const MOST_CALLS: usize = 128;
 ///
 /// A call's persons pay for each ms from its release to open doors where they board, once more for each ms
 /// of it past the patience, and for each ms from there to open doors where they get off. A group aboard
-/// pays for the ride alone.
+/// pays for the ride alone. Each call costs at most 2.4 * 10^15, and the groups at most 6.4 * 10^15.
 pub fn cost(snapshot: &Snapshot, car: u32, tour: &Tour) -> u64
     requires car { car < car_count snapshot.now }
     requires feasible { IsFeasible snapshot.now car tour.now }
     ensures cost { result ≡ cost_of snapshot.now car tour.now }
     ensures bounded { result ≤ 1000000000000000000 }
+    ensures per_call { result ≤ 2400000000000000 * calls_served snapshot.now tour.now + 6400000000000000 }
 {
     let mut ride = Ride::start(snapshot, car);
     let mut boarded = no_moments();

@@ -14,3 +14,6 @@ pub use costs::cost;
 pub use elevator_model::{Plan, Times};
 pub use plans::plan_cost;
 pub use timelines::timeline;
+
+#[cfg(test)]
+mod tests;

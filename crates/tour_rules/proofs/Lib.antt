@@ -9,3 +9,5 @@ pub mod Riders
 pub mod RuleLemmas
 pub mod Stops
 pub mod Next
+pub mod Follow
+pub mod Prefixes

@@ -12,6 +12,7 @@ use Rattle.elevator_model.specs.Counting.{any_below, sum_below, sum_where, is_am
 use Rattle.elevator_model.specs.Snapshot.{Snapshot, call_count, call_of, spec_of, state_of, is_possible}
 use Rattle.elevator_model.specs.Tours.{Progress, breaks, first_rule, rules_but_useless, rules_of_stop, boards_at, broken_at, none_taken, stays_on, rider_count, persons_where, persons_of, is_call_for, overtakes}
 use Rattle.elevator_model.specs.Partial.{Course, course_if, may_stand, may_be_left}
+use Rattle.tour_rules.specs.Courses.{board_test, empty_stop, may_leave}
 use Rattle.tour_rules.proofs.Tests.{AllClear, AllClear-from, first_rule-clear, none-from, is_none-at, list_any-append, list_any-false, any_below-false, any_below-none, sum_below-same}
 use Rattle.tour_rules.proofs.Measure.{among_last, among_other, not_among_below, MayBoard, may_board}
 use Rattle.tour_rules.proofs.Rising.{count-cons, count-none, count-append}
@@ -55,11 +56,6 @@ once_more : (s : Snapshot) (q : Progress) (g : ℕ) (bs : List ℕ) (j : ℕ) �
 once_more s q g bs j fresh none old =
     any_below-none (call_count s) _ (λ k lt. elim (cases_Bool (eqb k j)) [ inl e ↦ (let same = eqb-true k j e in and_right (boards_at s (at g (bs ++ j ∷ [])) k) _ (or_from (q.boarded k || false) (leb 2 (count_by (λ x. x == k) (bs ++ j ∷ []))) (or_from (q.boarded k) false (ap q.boarded same ∙ fresh) refl) (subst (λ (i : ℕ). leb 2 (count_by (λ x. x == i) (bs ++ j ∷ [])) ≡ false) (sym same) (let a = count-append j bs (j ∷ []) in let z = count-none j bs none in let o = count-cons j j [] in let one = ap {B = ℕ} (λ (b : Bool). cond b 1 0) (eq-eqb j j refl) in let nil : count_by (λ y. y == j) [] ≡ 0 = refl in lt-leb 2 _ (omega (arith, a, z, o, one, nil)))))) | inr e ↦ (let ne = eqb-false k j e in let a = count-append k bs (j ∷ []) in let o = count-cons k j [] in let one = ap {B = ℕ} (λ (b : Bool). cond b 1 0) (ne_eqb j k (λ eq. ne (sym eq))) in let nil : count_by (λ y. y == k) [] ≡ 0 = refl in let same : count_by (λ y. y == k) (bs ++ j ∷ []) ≡ count_by (λ y. y == k) bs = omega (arith, a, o, one, nil) in ap (λ (b : Bool). b && ((q.boarded k || false) || leb 2 (count_by (λ x. x == k) (bs ++ j ∷ [])))) (board_other s g bs j k ne) ∙ ap (λ (n : ℕ). boards_at s (at g bs) k && ((q.boarded k || false) || leb 2 n)) same ∙ any_below-false (call_count s) (λ i. boards_at s (at g bs) i && ((q.boarded i || false) || leb 2 (count_by (λ x. x == i) bs))) k old lt) ])
 
--- what a call needs to board at a stop that stands
-abbrev pub board_test : Snapshot → ℕ → Progress → Stop → ℕ → Bool
-board_test s c q p j =
-    is_call_for s c j && not (q.boarded j) && ((call_of s j).origin == p.floor) && not (overtakes s q j) && leb (persons_where s (stays_on s q p.floor) + persons_where s (boards_at s p) + persons_of s j) (spec_of s c).capacity
-
 stands_more : (s : Snapshot) (c : ℕ) (q : Progress) (g : ℕ) (bs : List ℕ) (j : ℕ) → list_all (λ i. ltb i j) bs ≡ true → may_stand s c q (at g bs) ≡ true → board_test s c q (at g bs) j ≡ true → may_stand s c q (at g (bs ++ j ∷ [])) ≡ true
 stands_more s c q g bs j rises ok test =
     let h = AllClear-from (breaks s c none_taken q (at g bs)) rules_but_useless (none-from _ ok) in
@@ -97,3 +93,54 @@ test_stands s c q g bs j rises ok =
 pub may_stand-more : (s : Snapshot) (c : ℕ) (q : Progress) (g : ℕ) (bs : List ℕ) (j : ℕ) → may_stand s c q (at g bs) ≡ true → (list_all (λ i. ltb i j) bs && may_stand s c q (at g (bs ++ j ∷ []))) ≡ (list_all (λ i. ltb i j) bs && board_test s c q (at g bs) j)
 may_stand-more s c q g bs j ok =
     same_bool _ _ (λ h. let parts = and_parts (list_all (λ i. ltb i j) bs) _ h in and_from _ _ parts.0 (test_stands s c q g bs j parts.0 parts.1)) (λ h. let parts = and_parts (list_all (λ i. ltb i j) bs) _ h in and_from _ _ parts.0 (stands_more s c q g bs j parts.0 ok parts.1))
+
+-- ---- a stop without boards
+
+-- the tests of a stop without boards
+pub record EmptyStands (s : Snapshot) (c : ℕ) (p : Progress) (g : ℕ) : Type 0 where
+  pub first : breaks s c none_taken p (empty_stop g) FirstStop ≡ false
+  pub elsewhere : breaks s c none_taken p (empty_stop g) SameFloorTwice ≡ false
+  pub goes_on : breaks s c none_taken p (empty_stop g) TurnWithPassengers ≡ false
+  pub fits : breaks s c none_taken p (empty_stop g) Capacity ≡ false
+  pub served : breaks s c none_taken p (empty_stop g) Floor ≡ false
+
+no_board : (s : Snapshot) (g : ℕ) (t : ℕ → Bool) → any_below (call_count s) (λ j. boards_at s (empty_stop g) j && t j) ≡ false
+no_board s g t = any_below-none (call_count s) _ (λ j lt. and_left (boards_at s (empty_stop g) j) (t j) (and_right (ltb j (call_count s)) false refl))
+
+pub empty_stands : (s : Snapshot) (c : ℕ) (p : Progress) (g : ℕ) → EmptyStands s c p g → may_stand s c p (empty_stop g) ≡ true
+empty_stands s c p g h =
+    is_none-at (first_rule (breaks s c none_taken p (empty_stop g)) rules_but_useless) (first_rule-clear (breaks s c none_taken p (empty_stop g)) rules_but_useless (h.first, (h.elsewhere, (h.goes_on, (h.fits, (no_board s g (overtakes s p), (refl, (h.served, (no_board s g (λ j. (p.boarded j || false) || leb 2 (count_by (λ x. x == j) [])), (no_board s g (λ j. not ((call_of s j).origin == g)), tt))))))))))
+
+pub stands_empty : (s : Snapshot) (c : ℕ) (p : Progress) (g : ℕ) → may_stand s c p (empty_stop g) ≡ true → EmptyStands s c p g
+stands_empty s c p g ok =
+    let h = AllClear-from (breaks s c none_taken p (empty_stop g)) rules_but_useless (none-from _ ok) in
+    record { first = h.0; elsewhere = h.1.0; goes_on = h.1.1.0; fits = h.1.1.1.0; served = h.1.1.1.1.1.1.0 }
+
+-- a broken rule keeps the stop from standing
+pub fails_first : (s : Snapshot) (c : ℕ) (p : Progress) (g : ℕ) → breaks s c none_taken p (empty_stop g) FirstStop ≡ true → false ≡ may_stand s c p (empty_stop g)
+fails_first s c p g e = sym (false_from_ne_true _ (λ ok. both_ways _ (stands_empty s c p g ok).first e))
+
+pub fails_elsewhere : (s : Snapshot) (c : ℕ) (p : Progress) (g : ℕ) → breaks s c none_taken p (empty_stop g) SameFloorTwice ≡ true → false ≡ may_stand s c p (empty_stop g)
+fails_elsewhere s c p g e = sym (false_from_ne_true _ (λ ok. both_ways _ (stands_empty s c p g ok).elsewhere e))
+
+pub fails_turn : (s : Snapshot) (c : ℕ) (p : Progress) (g : ℕ) → breaks s c none_taken p (empty_stop g) TurnWithPassengers ≡ true → false ≡ may_stand s c p (empty_stop g)
+fails_turn s c p g e = sym (false_from_ne_true _ (λ ok. both_ways _ (stands_empty s c p g ok).goes_on e))
+
+pub fails_fit : (s : Snapshot) (c : ℕ) (p : Progress) (g : ℕ) → breaks s c none_taken p (empty_stop g) Capacity ≡ true → false ≡ may_stand s c p (empty_stop g)
+fails_fit s c p g e = sym (false_from_ne_true _ (λ ok. both_ways _ (stands_empty s c p g ok).fits e))
+
+pub fails_served : (s : Snapshot) (c : ℕ) (p : Progress) (g : ℕ) → breaks s c none_taken p (empty_stop g) Floor ≡ true → false ≡ may_stand s c p (empty_stop g)
+fails_served s c p g e = sym (false_from_ne_true _ (λ ok. both_ways _ (stands_empty s c p g ok).served e))
+
+-- ---- leaving a stop
+
+-- A stop that stands may be left unless it is useless.
+pub leaves_unless : (s : Snapshot) (c : ℕ) (p : Progress) (st : Stop) → may_stand s c p st ≡ true → may_be_left s c p st ≡ not (breaks s c none_taken p st UselessStop)
+leaves_unless s c p st ok =
+    let h = AllClear-from (breaks s c none_taken p st) rules_but_useless (none-from _ ok) in
+    same_bool _ _ (λ left. not_from_false _ (AllClear-from (breaks s c none_taken p st) rules_of_stop (none-from (broken_at s c none_taken p st) left)).1.1.0) (λ use_it. is_none-at (broken_at s c none_taken p st) (first_rule-clear (breaks s c none_taken p st) rules_of_stop (h.0, (h.1.0, (not-true _ use_it, h.1.1)))))
+
+pub stand_same : (s : Snapshot) (c : ℕ) (p : Progress) (g : ℕ) (over : Bool) → breaks s c none_taken p (empty_stop g) FirstStop ≡ false → breaks s c none_taken p (empty_stop g) SameFloorTwice ≡ false → breaks s c none_taken p (empty_stop g) TurnWithPassengers ≡ false → breaks s c none_taken p (empty_stop g) Floor ≡ false → over ≡ breaks s c none_taken p (empty_stop g) Capacity → not over ≡ may_stand s c p (empty_stop g)
+stand_same s c p g true first elsewhere goes_on served over = fails_fit s c p g (sym over)
+stand_same s c p g false first elsewhere goes_on served over =
+    sym (empty_stands s c p g (record { first = first; elsewhere = elsewhere; goes_on = goes_on; fits = sym over; served = served }))

@@ -13,10 +13,10 @@ use Rattle.tour_rules.specs.Places.{heads, call_in, group_in, call_heads, group_
 use Rattle.tour_rules.proofs.Tests.{any_below-same, any_below-split, sum_below-same, sum_below-split, sum_below-zero}
 
 -- a choice between calls and groups, at a call and at a group
-at_call : {X : Type 0} (r n : ℕ) (x y : X) → r < n → cond (ltb r n) x y ≡ x
+pub at_call : {X : Type 0} (r n : ℕ) (x y : X) → r < n → cond (ltb r n) x y ≡ x
 at_call r n x y lt = ap (λ b. cond b x y) (lt-ltb r n lt)
 
-at_group : {X : Type 0} (r n : ℕ) (x y : X) → n ≤ r → cond (ltb r n) x y ≡ y
+pub at_group : {X : Type 0} (r n : ℕ) (x y : X) → n ≤ r → cond (ltb r n) x y ≡ y
 at_group r n x y le = ap (λ b. cond b x y) (le-ltb r n le)
 
 call_rider : (s : Snapshot) (c calls visited : ℕ) (h : Heading) (r : ℕ) → r < call_count s → rider_heads s c calls visited h r ≡ call_heads s.calls calls h r

@@ -10,7 +10,7 @@ ghost use Rattle.tour_rules.specs.Places.{Tracks, HasBoards};
 use crate::places::{Heading, Place, after_stop, any_carried, at_start};
 use crate::rules::{
     any_elsewhere, any_foreign, any_overtakes, any_twice, board_set, is_overfull, is_useless,
-    may_stop_first, needs_use, serves_floor, turns_away,
+    needs_use, serves_floor, starts_wrong, stays_put, turns_away,
 };
 use call_state::Snapshot;
 use elevator_model::{Broken, Rule, Stop, Tour};
@@ -45,8 +45,8 @@ fn breaks(
 {
     let calls = snapshot.calls();
     match rule {
-        Rule::FirstStop => !place.begun && !may_stop_first(snapshot, car, stop.floor),
-        Rule::SameFloorTwice => place.begun && stop.floor == place.floor,
+        Rule::FirstStop => starts_wrong(snapshot, car, place, stop.floor),
+        Rule::SameFloorTwice => stays_put(place, stop.floor),
         Rule::UselessStop => is_useless(snapshot, car, place, stop.floor, boards),
         Rule::TurnWithPassengers => turns_away(snapshot, car, place, stop.floor),
         Rule::Capacity => is_overfull(snapshot, car, place, stop.floor, boards),
@@ -87,7 +87,7 @@ fn broken_at(
 }
 
 /// The rule that is broken where the tour ends here.
-fn broken_at_end(snapshot: &Snapshot, car: u32, place: &Place) -> Option<Rule>
+pub(crate) fn broken_at_end(snapshot: &Snapshot, car: u32, place: &Place) -> Option<Rule>
     requires { car < car_count snapshot.now }
     ensures { (p : Progress) → Tracks snapshot.now car place.now p → result ≡ broken_at_end_lem snapshot.now car p }
 {

@@ -5,8 +5,11 @@
 mod judging;
 mod partial;
 mod places;
+mod points;
+mod prefix;
 mod rules;
 mod sets;
 
 pub use elevator_model::{Boards, Broken, Move, Rule, Stop, Tour};
 pub use judging::judge;
+pub use prefix::{Moves, Prefix, next_moves};

@@ -174,7 +174,7 @@ fn is_open(snapshot: &Snapshot, car: u32, from: u32, up: bool, left: u64, floor:
 }
 
 /// Whether the car may make its first stop at this floor.
-pub(crate) fn may_stop_first(snapshot: &Snapshot, car: u32, floor: u32) -> bool
+fn may_stop_first(snapshot: &Snapshot, car: u32, floor: u32) -> bool
     requires { car < car_count snapshot.now }
     ensures { result ≡ may_stop_first_lem snapshot.now.building car snapshot.now.moment (state_of snapshot.now car) floor }
 {
@@ -266,4 +266,19 @@ pub(crate) fn is_overfull(
     let staying = persons_carried(snapshot, car, place, Heading::Elsewhere(floor));
     let boarding = persons_boarding(snapshot, boards);
     staying + boarding > snapshot.building().cars()[car as usize].capacity
+}
+
+/// Whether the floor is that of the stop before.
+pub(crate) fn stays_put(place: &Place, floor: u32) -> bool
+    ensures { result ≡ (place.now.begun && (floor == place.now.floor)) }
+{
+    place.begun && floor == place.floor
+}
+
+/// Whether the car may not make its first stop at this floor.
+pub(crate) fn starts_wrong(snapshot: &Snapshot, car: u32, place: &Place, floor: u32) -> bool
+    requires { car < car_count snapshot.now }
+    ensures { result ≡ (not place.now.begun && not (may_stop_first_lem snapshot.now.building car snapshot.now.moment (state_of snapshot.now car) floor)) }
+{
+    !place.begun && !may_stop_first(snapshot, car, floor)
 }

@@ -11,6 +11,16 @@ pub(crate) fn contains(set: u128, call: u32) -> bool
     set >> call & 1 == 1
 }
 
+/// Whether the index is one of a call in the set.
+pub(crate) fn is_member(set: u128, index: u32) -> bool
+    ensures { result ≡ has set index }
+{
+    if index >= 128 {
+        return false;
+    }
+    contains(set, index)
+}
+
 /// The set with one call more.
 pub(crate) fn with_call(set: u128, call: u32) -> u128
     requires { call < 128 }

@@ -1,5 +1,5 @@
 use Rattle.std.proofs.Common.{◌≤◌, arith}
-use Rattle.tour_cost.proofs.Walked.{IsWalked-start, IsSettled-start, here-stop, here-early, next-walked, next-settled, next-small, settled-small}
+use Rattle.tour_cost.proofs.Walked.{IsWalked-start, IsSettled-start, here-stop, here-early, next-walked, next-settled, next-small, settled-small, settled-served}
 use Rattle.tour_cost.proofs.costs.cost.Goals as goal
 
 pub loop-stop-init : goal.loop-stop-init
@@ -44,3 +44,6 @@ pub returns-clause-bounded : goal.returns-clause-bounded
 returns-clause-bounded c =
     let small = settled-small c.args.snapshot.now c.args.car _ _ c.loop-stop.cost c.start-ride.ensures.accepted c.requires.car c.loop-stop.invariant.settled in
     omega (arith, small)
+
+pub returns-clause-per_call : goal.returns-clause-per_call
+returns-clause-per_call c = settled-served c.args.snapshot.now c.args.car c.args.tour.now c.stops-stop-items.result.now c.loop-stop.stop-index c.loop-stop.boarded c.loop-stop.cost c.start-ride.ensures.accepted c.requires.car c.stops-stop-items.ensures c.loop-stop-test.false c.loop-stop.invariant.settled

@@ -1,0 +1,9 @@
+pub mod Loops
+pub mod Lists
+pub mod Pins
+pub mod Stops
+pub mod Again
+pub mod Cars
+pub mod Travels
+pub mod Sections
+pub mod Judged

@@ -1,0 +1,51 @@
+use Rattle.std.proofs.Common.{◌≡◌, ◌+◌, ◌≤◌, List, ℕ, Option, [], length, take, drop, arith, rules, sym, ap, subst, ◌∙◌, length-drop}
+use Rattle.std.specs.Io.KnownBytes.{prepend_known}
+use Rattle.lift_text.specs.Words.{parts_of}
+use Rattle.lift_text.specs.Found.{FoundIn}
+use Rattle.lift_text.specs.Page.{PageState, Advanced, Forward, text_at}
+use Rattle.lift_text.specs.declared.window.Found.{Found}
+use Rattle.lift_text.specs.declared.window.Found.TheVariants.{Line, End}
+use Rattle.lift_text.proofs.PageLemmas.{state, advanced_line, advanced_other, empty_front, no_parts, nothing_behind, forward_other, at_end}
+use Rattle.lift_text.proofs.page.Page.advance.Goals as goal
+
+pub returns-in-Line-clause-ok : goal.returns-in-Line-clause-ok
+returns-in-Line-clause-ok g c =
+    let left = g.S.Source.left in
+    let page = c.self.inside in
+    let window = c.find.new.self in
+    let line = c.in-Line.line in
+    let size = c.in-Line.size in
+    let before = left c.args.source.now in
+    let zero = empty_front page.size page.window.unread c.self.invariant.size_within (ap (λ (p : PageState). p.current) c.self.view_is ∙ c.requires.current) in
+    let found = subst (λ f. FoundIn f (prepend_known page.window.unread before) window.unread (left c.find.new.source) window.quota) c.in-Line.is c.in_ok-found.ensures.ok in
+    let after = state (page.line + 1) (window.quota + length (drop size window.unread)) (prepend_known (drop size window.unread) (left c.find.new.source)) in
+    let known = advanced_line page.line page.window.quota window.quota page.window.unread window.unread before (left c.find.new.source) line size found c.in_ok-found.ensures.quota in
+    subst (λ (p : PageState). Advanced (Line line size) (text_at p before) (take size window.unread) after) c.self.view_is
+    (nothing_behind (Line line size) page.line page.window.quota page.size page.window.unread before (take size window.unread) after zero known)
+
+pub returns-in_default : goal.returns-in_default
+returns-in_default g c =
+    let left = g.S.Source.left in
+    let page = c.self.inside in
+    let window = c.find.new.self in
+    let before = left c.args.source.now in
+    let zero = empty_front page.size page.window.unread c.self.invariant.size_within (ap (λ (p : PageState). p.current) c.self.view_is ∙ c.requires.current) in
+    let none = no_parts page.window.unread page.spans.items (ap (λ (p : PageState). p.words) c.self.view_is ∙ c.requires.words) in
+    let found = c.in_ok-found.found in
+    let after = state page.line (window.quota + length window.unread) (prepend_known window.unread (left c.find.new.source)) in
+    let known = advanced_other found page.line page.window.quota window.quota page.window.unread window.unread before (left c.find.new.source) c.in_default.not-Line c.in_ok-found.ensures.ok c.in_ok-found.ensures.quota [] in
+    let no_raw : page.raw ≡ 0 = omega (arith, c.self.invariant.raw_within) in
+    let whole = subst (λ (p : PageState). Advanced found (text_at p before) [] after) c.self.view_is
+    (nothing_behind found page.line page.window.quota page.size page.window.unread before [] after zero known) in
+    record {
+      words = ap (parts_of window.unread) none;
+      raw = ap (λ n. take n window.unread) no_raw;
+      failure = ap (λ (p : PageState). p.failure) c.self.view_is;
+      ok = subst (λ n. Advanced found (text_at c.args.self.now before) (take n window.unread) (state page.line (window.quota + length (drop n window.unread)) (prepend_known (drop n window.unread) (left c.find.new.source)))) (sym zero) whole;
+      forward = forward_other found c.args.self.now _ _ (left c.find.new.source) window.quota c.in_default.not-Line (ap (λ (p : PageState). p.line) c.self.view_is)
+          (ap (λ n. take n window.unread) zero)
+          (subst (λ n. FoundIn found (prepend_known page.window.unread before) (drop n window.unread) (left c.find.new.source) window.quota) (sym zero) c.in_ok-found.ensures.ok);
+      end = λ is. (let same : found ≡ End = cc in at_end found _ _ _ _ c.in_ok-found.ensures.ok same);
+      counted = omega arith;
+      fault = tt;
+    }

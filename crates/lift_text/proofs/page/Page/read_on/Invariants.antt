@@ -1,0 +1,14 @@
+use Rattle.std.proofs.Common.{◌≡◌, ◌≤◌}
+use Rattle.lift_text.specs.Page.{Continues, limit_of, text_at}
+use Rattle.lift_text.proofs.page.Page.read_on.Given as goal
+
+-- only lines without words were read
+abbrev pub invariant-lines : goal.invariant-lines
+invariant-lines g l = record {
+  continues : Continues (text_at l.initial.self (g.S.Source.left l.initial.source)) (text_at l.self (g.S.Source.left l.source));
+  failure : l.self.failure ≡ l.initial.self.failure;
+  counted : g.S.Source.faults l.initial.source ≤ g.S.Source.faults l.source;
+}
+
+abbrev pub decreases-lines : goal.decreases-lines
+decreases-lines g l = limit_of l.self

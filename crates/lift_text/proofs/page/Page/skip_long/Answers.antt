@@ -1,0 +1,24 @@
+use Rattle.std.proofs.Common.{◌≡◌, ◌+◌, List, ℕ, Ok, length, drop, ap, sym, subst, ◌∙◌}
+use Rattle.std.specs.Io.KnownBytes.{prepend_known}
+use Rattle.lift_text.specs.Found.{SkippedIn}
+use Rattle.lift_text.specs.Page.{PageState, SkippedLine, text_at}
+use Rattle.lift_text.specs.declared.faults.RawLine.TheVariants.{Long}
+use Rattle.lift_text.specs.declared.window.Skipped.TheVariants.{Whole}
+use Rattle.lift_text.proofs.PageLemmas.{state, empty_front}
+use Rattle.lift_text.proofs.SkipLemmas.{skipped_text}
+use Rattle.lift_text.proofs.page.Page.skip_long.Goals as goal
+
+pub returns-in-Ok-Whole-clause-skipped : goal.returns-in-Ok-Whole-clause-skipped
+returns-in-Ok-Whole-clause-skipped g c =
+    let left = g.S.Source.left in
+    let page = c.self.inside in
+    let before = left c.args.source.now in
+    let zero = empty_front page.size page.window.unread c.self.invariant.size_within (ap (λ (p : PageState). p.current) c.self.view_is ∙ c.requires.current) in
+    let window = c.skip_line.new.self in
+    let after = left c.skip_line.new.source in
+    let start = page.window.unread in
+    let skipped = subst (λ f. SkippedIn f (prepend_known start before) (page.window.quota + length start) window.unread after window.quota) c.in-Ok-Whole.field-0-is c.in-Ok-Whole.ensures.ok in
+    let passed = skipped_text page.line (page.window.quota + length start) window.quota (prepend_known start before) window.unread after skipped in
+    subst (λ (p : PageState). SkippedLine (text_at p before) (Ok Long) (state (page.line + 1) (window.quota + length (drop page.size window.unread)) (prepend_known (drop page.size window.unread) after))) c.self.view_is
+    (subst (λ n. SkippedLine (state page.line (page.window.quota + length (drop n start)) (prepend_known (drop n start) before)) (Ok Long)
+    (state (page.line + 1) (window.quota + length (drop n window.unread)) (prepend_known (drop n window.unread) after))) (sym zero) passed)

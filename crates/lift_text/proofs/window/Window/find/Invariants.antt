@@ -1,0 +1,16 @@
+use Rattle.std.proofs.Common.{◌≡◌, ◌≢◌, ℕ, ◌+◌, ◌<◌, ◌≤◌, length, get_or}
+use Rattle.std.specs.Io.KnownBytes.{prepend_known}
+use Rattle.lift_text.proofs.window.Window.find.Given as goal
+
+-- no LF is among the first `searched` bytes, and nothing of what was left is used
+abbrev pub invariant-search : goal.invariant-search
+invariant-search g l = record {
+  within : l.searched ≤ length l.self.unread;
+  none : (k : ℕ) → k < l.searched → get_or l.self.unread k 0 ≢ 10;
+  known : prepend_known l.initial.self.unread (g.S.Source.left l.initial.source) ≡ prepend_known l.self.unread (g.S.Source.left l.source);
+  quota : l.self.quota + length l.self.unread ≡ l.initial.self.quota + length l.initial.self.unread;
+  counted : g.S.Source.faults l.initial.source ≤ g.S.Source.faults l.source;
+}
+
+abbrev pub decreases-search : goal.decreases-search
+decreases-search g l = l.self.quota

@@ -1,0 +1,72 @@
+use Rattle.std.proofs.Common.{◌≡◌, ◌≢◌, ◌+◌, ◌<◌, ◌≤◌, ◌++◌, List, ℕ, [], length, drop, get_or, arith, ap, sym, subst, ◌∙◌, length-append, refl}
+use Rattle.std.proofs.Math.Seq.{drop-length}
+use Rattle.std.specs.Io.KnownBytes.{prepend_known}
+use Rattle.lift_text.specs.Found.{SkippedIn}
+use Rattle.lift_text.specs.declared.window.Skipped.TheVariants.{Whole}
+use Rattle.lift_text.proofs.KnownBytes.{given_more}
+use Rattle.lift_text.proofs.SkipLemmas.{skipped_line, skipped_end, skipped_cut, no_line_feed-append, all_searched}
+use Rattle.lift_text.proofs.window.Window.skip_line.Goals as goal
+
+pub returns-then-place-len-clause-ok : goal.returns-then-place-len-clause-ok
+returns-then-place-len-clause-ok g c =
+    let front = c.skip.invariant.front in
+    let before = prepend_known c.args.self.now.unread (g.S.Source.left c.args.source.now) in
+    let limit = c.args.self.now.quota + length c.args.self.now.unread in
+    let left = g.S.Source.left c.skip.source in
+    let place = c.line_feed_from-place in
+    let inside : place.result < length c.skip.self.unread = omega arith in
+    let whole = skipped_line before left front.0 c.skip.self.unread place.result c.skip.self.quota limit front.1 inside place.ensures.none (place.ensures.found inside) front.2 front.3 in
+    subst (λ unread. SkippedIn Whole before limit unread left c.consume.new.self.quota) (sym c.consume.ensures.unread)
+    (subst (λ quota. SkippedIn Whole before limit (drop (place.result + 1) c.skip.self.unread) left quota) (sym c.consume.ensures.quota) whole)
+
+pub skip-preserved : goal.skip-preserved
+skip-preserved g c =
+    let front = c.skip.invariant.front in
+    let unread = c.skip.self.unread in
+    let filled = rw c.in-More.is at c.in_ok-fill.ensures in
+    let more = filled.more refl in
+    let empty = c.consume-in-skip.ensures.unread ∙ ap (λ n. drop n unread) c.len-len.ensures ∙ drop-length unread in
+    let same = more.2 ∙ ap (λ l. l ++ more.0) empty in
+    let none = no_line_feed-append front.0 unread front.1 (subst (λ n. (k : ℕ) → k < n → get_or unread k 0 ≢ 10) (all_searched _ _ _ c.if-place-len.false c.line_feed_from-place.ensures.within c.len-len.ensures) c.line_feed_from-place.ensures.none) in
+    record {
+      some = omega (arith, ap length same, more.1);
+      front = (
+        front.0 ++ unread,
+        none,
+        given_more _ _ _ _ _ front.2 more.3 ∙ ap (λ l. prepend_known (front.0 ++ unread ++ l) (g.S.Source.left c.fill.new.source)) (sym same),
+        omega (arith, front.3, filled.quota, c.consume-in-skip.ensures.quota, ap length empty, length-append front.0 unread),
+      );
+      counted = omega (arith, filled.counted);
+    }
+
+pub returns-in-End-clause-ok : goal.returns-in-End-clause-ok
+returns-in-End-clause-ok g c =
+    let front = c.skip.invariant.front in
+    let unread = c.skip.self.unread in
+    let before = prepend_known c.args.self.now.unread (g.S.Source.left c.args.source.now) in
+    let limit = c.args.self.now.quota + length c.args.self.now.unread in
+    let filled = rw c.in-End.is at c.in_ok-fill.ensures in
+    let left = g.S.Source.left c.fill.new.source in
+    let empty = c.consume-in-skip.ensures.unread ∙ ap (λ n. drop n unread) c.len-len.ensures ∙ drop-length unread in
+    let same = filled.kept (λ is. cc) ∙ empty in
+    let none = no_line_feed-append front.0 unread front.1 (subst (λ n. (k : ℕ) → k < n → get_or unread k 0 ≢ 10) (all_searched _ _ _ c.if-place-len.false c.line_feed_from-place.ensures.within c.len-len.ensures) c.line_feed_from-place.ensures.none) in
+    let known = front.2 ∙ ap (prepend_known (front.0 ++ unread)) (sym filled.ok.0) in
+    let size = length-append front.0 unread in
+    let whole = skipped_end before left (front.0 ++ unread) c.fill.new.self.quota limit none (omega (arith, c.skip.invariant.some)) known filled.ok.1
+    (omega (arith, front.3, filled.quota, c.consume-in-skip.ensures.quota, ap length empty, ap length same)) in
+    subst (λ l. SkippedIn Whole before limit l left c.fill.new.self.quota) (sym same) whole
+
+pub returns-in-Limit-clause-ok : goal.returns-in-Limit-clause-ok
+returns-in-Limit-clause-ok g c =
+    let front = c.skip.invariant.front in
+    let unread = c.skip.self.unread in
+    let before = prepend_known c.args.self.now.unread (g.S.Source.left c.args.source.now) in
+    let limit = c.args.self.now.quota + length c.args.self.now.unread in
+    let filled = rw c.in-Limit.is at c.in_ok-fill.ensures in
+    let left = g.S.Source.left c.fill.new.source in
+    let empty = c.consume-in-skip.ensures.unread ∙ ap (λ n. drop n unread) c.len-len.ensures ∙ drop-length unread in
+    let same = filled.kept (λ is. cc) ∙ empty in
+    let none = no_line_feed-append front.0 unread front.1 (subst (λ n. (k : ℕ) → k < n → get_or unread k 0 ≢ 10) (all_searched _ _ _ c.if-place-len.false c.line_feed_from-place.ensures.within c.len-len.ensures) c.line_feed_from-place.ensures.none) in
+    let size = length-append front.0 unread in
+    skipped_cut before left (front.0 ++ unread) filled.ok.0 c.fill.new.self.quota limit none (front.2 ∙ ap (prepend_known (front.0 ++ unread)) filled.ok.1)
+    (omega (arith, front.3, filled.quota, filled.limit refl, c.consume-in-skip.ensures.quota, ap length empty, ap length same)) []

@@ -1,0 +1,45 @@
+-- What is found at the front of the bytes that are read and not used yet. No public clause cites this
+-- module.
+use Rattle.std.specs.Prelude.{◌≡◌, ◌≢◌, ℕ, ◌+◌, ◌<◌, ◌≤◌, List, [], ◌∷◌, ◌++◌, length, take, drop, Option, IfSome, IsSomeAnd, slice_index}
+use Rattle.std.specs.Io.KnownBytes.{prepend_known, IsAtEnd}
+use Rattle.lift_text.specs.Lines.{pieces_of, line_of}
+use Rattle.lift_text.specs.declared.window.Fill.{Fill}
+use Rattle.lift_text.specs.declared.window.Fill.TheVariants.{More as MoreBytes, End as NoBytes, Limit}
+use Rattle.lift_text.specs.declared.window.Found.{Found}
+use Rattle.lift_text.specs.declared.window.Found.TheVariants.{Line, Long, Cut, End}
+use Rattle.lift_text.specs.declared.window.Skipped.{Skipped}
+use Rattle.lift_text.specs.declared.window.Skipped.TheVariants.{Whole, Cut as CutShort}
+
+-- bytes begin with a line of this length, which takes this size with its end
+pub record BeginsWithLine (bytes : List ℕ) (line size : ℕ) : Type 0 where
+  pub pieces : pieces_of bytes ≡ take size bytes ∷ pieces_of (drop size bytes)
+  pub content : line_of (take size bytes) ≡ take line bytes
+
+-- none of the first n bytes is an LF
+abbrev pub NoLineFeedBelow : List ℕ → ℕ → Type 0
+NoLineFeedBelow bytes n = (k : ℕ) → k < n → slice_index bytes k ≢ 10
+
+abbrev pub NoLineFeed : List ℕ → Type 0
+NoLineFeed bytes = NoLineFeedBelow bytes (length bytes)
+
+-- what was left of a source after it was asked for more than the window has
+abbrev pub Filled : Fill → Option (List ℕ) → Option (List ℕ) → Type 0
+Filled MoreBytes old new = Unit {0}
+Filled NoBytes old new = (new ≡ old) × IsAtEnd new
+Filled Limit old new = (b : ℕ) × (old ≡ prepend_known (b ∷ []) new)
+
+-- what stands at the front of what was left before: the unread bytes, and what the source has left
+abbrev pub FoundIn : Found → Option (List ℕ) → List ℕ → Option (List ℕ) → ℕ → Type 0
+FoundIn (Line line size) before unread left quota =
+    (before ≡ prepend_known unread left) × (line ≤ size) × (0 < size) × (size ≤ length unread) × IfSome before (λ bytes. BeginsWithLine bytes line size)
+FoundIn Long before unread left quota = (before ≡ prepend_known unread left) × (4097 < length unread) × NoLineFeed unread
+FoundIn Cut before unread left quota =
+    ((b : ℕ) × (before ≡ prepend_known (unread ++ b ∷ []) left)) × (quota ≡ 0) × (length unread ≤ 4097) × NoLineFeed unread
+FoundIn End before unread left quota = (before ≡ prepend_known unread left) × (unread ≡ []) × IsAtEnd left
+
+-- what was passed over of what was left before, of which at most `limit` bytes may be taken
+abbrev pub SkippedIn : Skipped → Option (List ℕ) → ℕ → List ℕ → Option (List ℕ) → ℕ → Type 0
+SkippedIn Whole before limit unread left quota = IfSome before (λ bytes. IsSomeAnd (prepend_known unread left) (λ rest.
+    (piece : List ℕ) × (pieces_of bytes ≡ piece ∷ pieces_of rest) × (quota + length unread + length piece ≡ limit)))
+SkippedIn CutShort before limit unread left quota = IfSome before (λ bytes.
+    (piece : List ℕ) × (pieces : List (List ℕ)) × (pieces_of bytes ≡ piece ∷ pieces) × (limit < length piece))

@@ -1,0 +1,11 @@
+pub mod Streams
+pub mod Memory
+pub mod Numbers
+pub mod Lines
+pub mod Words
+pub mod Window
+pub mod Found
+pub mod Reading
+pub mod Page
+pub mod Judge
+pub mod LineReader

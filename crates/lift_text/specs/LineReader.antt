@@ -1,0 +1,27 @@
+-- What clauses see of a reader of lines.
+use Rattle.std.specs.Prelude.{ℕ, List, Option}
+use Rattle.lift_text.specs.Reading.{TextState}
+use Rattle.lift_text.specs.Page.{text_at}
+use Rattle.lift_text.specs.declared.faults.TextFault.{TextFault}
+use Rattle.lift_text.specs.declared.reader.LineReader.{LineReader}
+
+module _ {S : Type 0} where
+  -- the state of the text, where the source tells what it has left
+  abbrev pub text : (S → Option (List ℕ)) → LineReader S → Option TextState
+  text left reader = text_at reader.page (left reader.source.now)
+
+  -- how many lines were read
+  abbrev pub line : LineReader S → ℕ
+  line reader = reader.page.line
+
+  -- the words of the line that was read
+  abbrev pub words : LineReader S → List (List ℕ)
+  words reader = reader.page.words
+
+  -- the line that was read as it stands
+  abbrev pub raw : LineReader S → List ℕ
+  raw reader = reader.page.raw
+
+  -- the fault that is answered from now on
+  abbrev pub failure : LineReader S → Option TextFault
+  failure reader = reader.page.failure

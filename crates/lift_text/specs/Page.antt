@@ -1,0 +1,125 @@
+-- What clauses see of the lines that are read and their place in the text. No public clause cites this
+-- module.
+use Rattle.std.specs.Prelude.{◌≡◌, ℕ, Bool, true, false, ◌+◌, ◌*◌, ◌<◌, ◌≤◌, List, [], ◌∷◌, length, take, drop, All, Option, None, Some, option_map, IfSome, IsSomeAnd, Result, Ok, Err}
+use Rattle.std.specs.Io.KnownBytes.{prepend_known}
+use Rattle.lift_text.specs.Lines.{pieces_of, line_of}
+use Rattle.lift_text.specs.Window.{WindowState}
+use Rattle.lift_text.specs.declared.words.Span.{Span}
+use Rattle.lift_text.specs.declared.judge.Flaw.{Flaw}
+use Rattle.lift_text.specs.declared.judge.Flaw.TheVariants.{OverLong, ForbiddenByte}
+use Rattle.lift_text.specs.declared.page.Step.{Step}
+use Rattle.lift_text.specs.declared.page.Step.TheVariants.{WithWords, Blank, AtEnd}
+use Rattle.lift_text.specs.Reading.{TextState, Reading, reading, judged, line_with, bad_line, past_limit, Passed}
+use Rattle.lift_text.specs.declared.faults.TextFault.{TextFault}
+use Rattle.lift_text.specs.declared.faults.TextFault.TheVariants.{Read, TooLong, Bad, NoMemory}
+use Rattle.lift_text.specs.declared.faults.RawLine.{RawLine}
+use Rattle.lift_text.specs.declared.faults.RawLine.TheVariants.{Line as LineRaw, Long as LongRaw, End as EndRaw}
+use Rattle.lift_text.specs.declared.window.Found.{Found}
+use Rattle.lift_text.specs.declared.window.Found.TheVariants.{Line, Long, Cut, End}
+
+-- the bytes of the current line with its end, the bytes behind it, how many more may be taken, the number of
+-- lines read, the words and the raw text of the current line, and the fault that is answered from now on
+pub record PageState : Type 0 where
+  pub current : List ℕ
+  pub unread : List ℕ
+  pub quota : ℕ
+  pub line : ℕ
+  pub words : List (List ℕ)
+  pub raw : List ℕ
+  pub failure : Option TextFault
+
+-- what a page keeps: the current line at the front of the window, its raw text and its words in it, room for
+-- the words of a longest line, and no more lines than bytes
+pub record IsPage (window : WindowState) (size raw line count capacity : ℕ) (spans : List Span) : Type 0 where
+  pub size_within : size ≤ length window.unread
+  pub raw_within : raw ≤ size
+  pub words_within : All (λ span. (span.start ≤ span.end) × (span.end ≤ size)) spans
+  pub few : count ≤ 4096
+  pub room : 4096 < 2 * capacity
+  pub counted : line + (window.quota + length (drop size window.unread)) ≤ 67108864
+
+-- how many bytes may still be read
+abbrev pub limit_of : PageState → ℕ
+limit_of page = page.quota + length page.unread
+
+-- the state of the text, where the source tells what it has left
+abbrev pub text_at : PageState → Option (List ℕ) → Option TextState
+text_at page left = option_map (λ bytes. record { line = page.line; limit = limit_of page; bytes = bytes }) (prepend_known page.unread left)
+
+-- a text begins with this piece, whose line has this length, and was read up to behind it
+pub record IsLine (before after : TextState) (piece : List ℕ) (line : ℕ) : Type 0 where
+  pub pieces : pieces_of before.bytes ≡ piece ∷ pieces_of after.bytes
+  pub content : line_of piece ≡ take line piece
+  pub within : length piece ≤ before.limit
+  pub limit : after.limit + length piece ≡ before.limit
+  pub number : after.line ≡ before.line + 1
+  pub passed : Passed before after
+
+-- a text begins with a piece for which a fact holds
+abbrev pub FirstPiece : TextState → (List ℕ → Type 0) → Type 0
+FirstPiece text holds = (piece : List ℕ) × (pieces : List (List ℕ)) × (pieces_of text.bytes ≡ piece ∷ pieces) × holds piece
+
+-- what was found of the next line, by the state before, the line and the state after
+abbrev pub Advanced : Found → Option TextState → List ℕ → Option TextState → Type 0
+Advanced (Line line size) before current after = IfSome before (λ text. IsSomeAnd after (λ rest. IsLine text rest current line))
+Advanced Long before current after = IfSome before (λ text. FirstPiece text (λ piece. (4097 < text.limit) × (4096 < length (line_of piece)))) × (after ≡ before)
+Advanced Cut before current after = IfSome before (λ text. FirstPiece text (λ piece. (text.limit ≤ 4097) × (text.limit < length piece)))
+Advanced End before current after = IfSome before (λ text. text.bytes ≡ []) × (after ≡ before)
+
+-- the line is counted, and there is less to read
+abbrev pub Forward : Found → PageState → PageState → Type 0
+Forward (Line line size) old new = (line ≤ length new.current) × (new.line ≡ old.line + 1) × (limit_of new < limit_of old)
+Forward Long old new = (new.line ≡ old.line) × (new.current ≡ []) × (4097 < length new.unread)
+Forward Cut old new = new.line ≡ old.line
+Forward End old new = new.line ≡ old.line
+
+-- the step that a judgement makes of the line with this number
+abbrev pub step_of : ℕ → Result Bool Flaw → Result Step TextFault
+step_of line (Ok true) = Ok WithWords
+step_of line (Ok false) = Ok Blank
+step_of line (Err OverLong) = Err (Bad line 2)
+step_of line (Err ForbiddenByte) = Err (Bad line 1)
+
+-- what the current line was judged to be
+abbrev pub JudgedAs : ℕ → List ℕ → Result Step TextFault → List (List ℕ) → Type 0
+JudgedAs line text (Ok WithWords) words = (after : Reading) → judged line text after ≡ line_with line words after
+JudgedAs line text (Ok Blank) words = ((after : Reading) → judged line text after ≡ after) × (words ≡ [])
+JudgedAs line text (Ok AtEnd) words = ⊥
+JudgedAs line text (Err (Bad number code)) words = ((after : Reading) → judged line text after ≡ bad_line number code) × (words ≡ [])
+JudgedAs line text (Err TooLong) words = ⊥
+JudgedAs line text (Err Read) words = ⊥
+JudgedAs line text (Err NoMemory) words = ⊥
+
+-- a fact of the number of a bad line
+abbrev pub IfBad : TextFault → (ℕ → Type 0) → Type 0
+IfBad (Bad line code) P = P line
+IfBad Read P = Unit {0}
+IfBad TooLong P = Unit {0}
+IfBad NoMemory P = Unit {0}
+
+-- what one line turned out to be: one with words, one without, or the end
+abbrev pub ReadLine : Option TextState → Result Step TextFault → List (List ℕ) → Option TextState → Type 0
+ReadLine None answer words after = Unit {0}
+ReadLine (Some before) (Ok WithWords) words after = IsSomeAnd after (λ text. (reading before ≡ line_with text.line words (reading text)) × Passed before text)
+ReadLine (Some before) (Ok Blank) words after = IsSomeAnd after (λ text. (reading before ≡ reading text) × Passed before text)
+ReadLine (Some before) (Ok AtEnd) words after = (before.bytes ≡ []) × (after ≡ Some before)
+ReadLine (Some before) (Err (Bad line code)) words after = reading before ≡ bad_line line code
+ReadLine (Some before) (Err TooLong) words after = reading before ≡ past_limit
+ReadLine (Some before) (Err Read) words after = Unit {0}
+ReadLine (Some before) (Err NoMemory) words after = ⊥
+
+-- from one state to a later one, over lines without words
+abbrev pub Continues : Option TextState → Option TextState → Type 0
+Continues None after = Unit {0}
+Continues (Some before) after = IsSomeAnd after (λ text. (reading before ≡ reading text) × Passed before text)
+
+-- what was passed over of a line, by the answer and the state after it
+abbrev pub SkippedLine : Option TextState → Result RawLine TextFault → Option TextState → Type 0
+SkippedLine before (Ok LongRaw) after = IfSome before (λ text. IsSomeAnd after (λ rest.
+    (piece : List ℕ) × (pieces_of text.bytes ≡ piece ∷ pieces_of rest.bytes) × (length piece ≤ text.limit) × (rest.line ≡ text.line + 1) × Passed text rest))
+SkippedLine before (Ok LineRaw) after = ⊥
+SkippedLine before (Ok EndRaw) after = ⊥
+SkippedLine before (Err TooLong) after = IfSome before (λ text. FirstPiece text (λ piece. text.limit < length piece))
+SkippedLine before (Err Read) after = Unit {0}
+SkippedLine before (Err (Bad line code)) after = ⊥
+SkippedLine before (Err NoMemory) after = ⊥

@@ -1,0 +1,51 @@
+//! Whether a line may stand in a text.
+ghost use Rattle.std.specs.Prelude.{◌≡◌, ◌*◌, ◌<◌, ◌≤◌, [], length, All, true, OnErr, vec_len, vec_capacity};
+ghost use Rattle.lift_text.specs.Words.{parts_of};
+ghost use Rattle.lift_text.specs.Judge.{Judged};
+
+use crate::words::{Span, are_allowed, before_comment, find_words};
+
+/// The most bytes of a line without its end.
+pub(crate) const LINE_LIMIT: usize = 4_096;
+
+/// Why a line is bad whatever it says.
+#[derive(Clone, Copy, Debug, PartialEq, Eq)]
+pub(crate) enum Flaw {
+    OverLong,
+    ForbiddenByte,
+}
+
+impl Flaw {
+    /// The code that is printed.
+    pub(crate) fn code(self) -> u8
+        ensures over_long { self ≡ Flaw.OverLong → result ≡ 2 }
+        ensures forbidden { self ≡ Flaw.ForbiddenByte → result ≡ 1 }
+    {
+        match self {
+            Flaw::OverLong => 2,
+            Flaw::ForbiddenByte => 1,
+        }
+    }
+}
+
+/// Finds the words of a line, and answers whether it has some.
+pub(crate) fn judge(line: &[u8], spans: &mut Vec<Span>) -> Result<bool, Flaw>
+    requires room { 4096 < 2 * vec_capacity spans.old }
+    requires none { spans.old.items ≡ [] }
+    ensures judged { Judged line.now result (parts_of line.now spans.new.items) }
+    ensures count { vec_len spans.new ≤ 4096 }
+    ensures some { result ≡ Ok true → 0 < vec_len spans.new }
+    ensures err { OnErr result (spans.new.items ≡ []) }
+    ensures capacity { vec_capacity spans.old ≤ vec_capacity spans.new }
+    ensures inside { All (λ span. (span.start ≤ span.end) × (span.end ≤ length line.now)) spans.new.items }
+{
+    if line.len() > LINE_LIMIT {
+        return Err(Flaw::OverLong);
+    }
+    let text = before_comment(line);
+    if !are_allowed(text) {
+        return Err(Flaw::ForbiddenByte);
+    }
+    find_words(text, spans);
+    Ok(!spans.is_empty())
+}

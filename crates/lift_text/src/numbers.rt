@@ -1,0 +1,99 @@
+//! Numbers in decimal digits: read from words, and written.
+ghost use Rattle.std.specs.Prelude.{◌≡◌, FitsSigned, ◌<◌, ◌^◌, ◌++◌, length, pos, neg_ℤ, IsTrue, OnOk, OnErr, if◌then◌else◌};
+ghost use Rattle.std.specs.List.{list_all};
+ghost use Rattle.std.specs.Char.{is_ascii_digit};
+ghost use Rattle.std.specs.Str.Parse.{digits_value};
+ghost use Rattle.std.specs.Option.{SomeIff};
+ghost use Rattle.std.specs.Fmt.{signed_decimal};
+ghost use Rattle.std.specs.Int.{w128};
+ghost use Rattle.lift_text.specs.Numbers.{read_number, starts_with_minus};
+
+use itoa::Buffer;
+use std::alloc::AllocError;
+
+/// Why a word is not read as a number.
+#[derive(Clone, Copy, Debug, PartialEq, Eq)]
+pub(crate) enum NumberFault {
+    NoNumber,
+    OutOfRange,
+}
+
+impl NumberFault {
+    /// The code that is printed.
+    pub(crate) fn code(self) -> u8
+        ensures none { self ≡ NumberFault.NoNumber → result ≡ 6 }
+        ensures outside { self ≡ NumberFault.OutOfRange → result ≡ 7 }
+    {
+        match self {
+            NumberFault::NoNumber => 6,
+            NumberFault::OutOfRange => 7,
+        }
+    }
+}
+
+/// Reads a word as a number from `low` to `high`. A `-` may begin it where `low` is below 0.
+pub(crate) fn number_in(word: &[u8], low: i128, high: i128) -> Result<i128, NumberFault>
+    ensures { result ≡ read_number low high word.now }
+{
+    let is_negative = low < 0 && starts_with_minus(word);
+    let digits = if is_negative { &word[1..] } else { word };
+    if digits.is_empty() || !are_digits(digits) {
+        return Err(NumberFault::NoNumber);
+    }
+    let Some(magnitude) = value_of(digits) else {
+        return Err(NumberFault::OutOfRange);
+    };
+    match signed(is_negative, magnitude) {
+        Some(value) if low <= value && value <= high => Ok(value),
+        _ => Err(NumberFault::OutOfRange),
+    }
+}
+
+fn starts_with_minus(word: &[u8]) -> bool
+    ensures value { result ≡ starts_with_minus word.now }
+    ensures some { IsTrue result → 0 < length word.now }
+{
+    word.first() == Some(&b'-')
+}
+
+fn are_digits(bytes: &[u8]) -> bool
+    ensures { result ≡ list_all is_ascii_digit bytes.now }
+{
+    bytes.iter().all(|byte| byte.is_ascii_digit())
+}
+
+/// The value of digits, where it has at most 128 bits.
+fn value_of(digits: &[u8]) -> Option<u128>
+    requires { IsTrue (list_all is_ascii_digit digits.now) }
+    ensures { SomeIff result (digits_value 10 digits.now < 2 ^ 128) (digits_value 10 digits.now) }
+{
+    let mut value: u128 = 0;
+    for digit in digits {
+        value = value
+            .checked_mul(10)?
+            .checked_add(u128::from(*digit - b'0'))?;
+    }
+    Some(value)
+}
+
+/// A number with its sign, where it fits.
+fn signed(is_negative: bool, magnitude: u128) -> Option<i128>
+    ensures { let value = if is_negative then neg_ℤ (pos magnitude) else pos magnitude in
+        SomeIff result (FitsSigned w128 value) value }
+{
+    if is_negative {
+        0i128.checked_sub_unsigned(magnitude)
+    } else {
+        0i128.checked_add_unsigned(magnitude)
+    }
+}
+
+/// Appends a number in decimal digits, with a `-` in front where it is negative and no leading
+/// zeros. The only error is want of memory, which leaves `out` as it was.
+pub fn put_number(out: &mut Vec<u8>, value: i128) -> Result<(), AllocError>
+    ensures ok { OnOk result (out.new.items ≡ out.old.items ++ signed_decimal value) }
+    ensures err { OnErr result (out.new.items ≡ out.old.items) }
+{
+    let mut buffer = Buffer::new();
+    out.extend_from_slice(buffer.format(value).as_bytes())
+}

@@ -1,0 +1,350 @@
+//! The line of a text that is being read, and what is read of the text behind it.
+ghost use Rattle.std.specs.Prelude.{◌≡◌, ◌≢◌, ℕ, ◌+◌, ◌<◌, ◌≤◌, List, [], ◌∷◌, ◌++◌, Some, None, true, false, length, take, drop, IfOk, IfErr, IfSome, OnOk, OnErr, IsErrOf};
+ghost use Rattle.lift_text.specs.Streams.{Rose};
+ghost use Rattle.lift_text.specs.Page.{IfBad, step_of};
+
+use crate::faults::{RawLine, TextFault};
+use crate::judge::{Flaw, LINE_LIMIT, judge};
+use crate::sources::{Source, SourceFault};
+use crate::window::{Found, LONGEST, Skipped, Window};
+use crate::words::Span;
+use std::alloc::{AllocError, Global};
+use std::marker::Model;
+
+/// The most bytes that are read of a text.
+const TEXT_LIMIT: usize = 67_108_864;
+
+/// More than half as many words as a longest line has bytes.
+const MOST_WORDS: usize = 2_049;
+
+/// What one line turned out to be.
+#[derive(Clone, Copy, Debug, PartialEq, Eq)]
+pub(crate) enum Step {
+    WithWords,
+    Blank,
+    AtEnd,
+}
+
+/// The current line stands at the front of the window, where it takes `size` bytes with its end.
+#[derive(Drop)]
+pub(crate) struct Page {
+    window: Window,
+    line: u64,
+    size: usize,
+    raw: usize,
+    spans: Vec<Span>,
+    failure: Option<TextFault>,
+}
+
+impl Model for Page {
+    ghost use Rattle.std.specs.Prelude.{take, drop, vec_len, vec_capacity};
+    ghost use Rattle.lift_text.specs.Words.{parts_of};
+    ghost use Rattle.lift_text.specs.Page.{PageState, IsPage};
+
+    ghost Value = { PageState };
+
+    ghost view = { λ p. record {
+      current = take p.size p.window.unread;
+      unread = drop p.size p.window.unread;
+      quota = p.window.quota;
+      line = p.line;
+      words = parts_of p.window.unread p.spans.items;
+      raw = take p.raw p.window.unread;
+      failure = p.failure;
+    } };
+
+    ghost invariant = { λ p. IsPage p.window p.size p.raw p.line (vec_len p.spans) (vec_capacity p.spans) p.spans.items };
+}
+
+impl Page {
+    ghost use Rattle.std.specs.Prelude.{◌≡◌, ◌≢◌, ℕ, ◌+◌, ◌<◌, ◌≤◌, List, [], ◌∷◌, ◌++◌, Some, None, true, false, length, take, drop, IfOk, IfErr, IfSome, OnOk, OnErr, IsErrOf, slice_index_or};
+    ghost use Rattle.std.specs.Io.KnownBytes.{IsAtEnd};
+    ghost use Rattle.lift_text.specs.Streams.{Rose};
+    ghost use Rattle.lift_text.specs.Reading.{NextLine, NextRaw};
+    ghost use Rattle.lift_text.specs.Page.{text_at, limit_of, Advanced, Forward, IfBad, JudgedAs, ReadLine, SkippedLine};
+
+    /// A page before the first line.
+    pub(crate) fn new(alloc: Global) -> Result<Page, AllocError>
+        ensures unread { IfOk result (λ page. page.unread ≡ []) }
+        ensures quota { IfOk result (λ page. page.quota ≡ 67108864) }
+        ensures line { IfOk result (λ page. page.line ≡ 0) }
+        ensures words { IfOk result (λ page. page.words ≡ []) }
+        ensures raw { IfOk result (λ page. page.raw ≡ []) }
+        ensures failure { IfOk result (λ page. page.failure ≡ None) }
+    {
+        let window = Window::new(alloc, TEXT_LIMIT)?;
+        let spans = Vec::with_capacity(alloc, MOST_WORDS)?;
+        Ok(Page {
+            window,
+            line: 0,
+            size: 0,
+            raw: 0,
+            spans,
+            failure: None,
+        })
+    }
+
+    /// Leaves the current line behind.
+    fn clear(&mut self)
+        ensures { self.new ≡ record self.old { current = []; words = []; raw = [] } }
+    {
+        self.window.consume(self.size);
+        self.size = 0;
+        self.raw = 0;
+        self.spans.clear();
+    }
+
+    /// Goes on to the next line, where the line before was left behind.
+    fn advance<S: Source>(&mut self, source: &mut S) -> Result<Found, SourceFault>
+        requires current { self.old.current ≡ [] }
+        requires words { self.old.words ≡ [] }
+        requires raw { self.old.raw ≡ [] }
+        ensures words { self.new.words ≡ [] }
+        ensures raw { self.new.raw ≡ [] }
+        ensures failure { self.new.failure ≡ self.old.failure }
+        ensures ok { IfOk result (λ found. Advanced found (text_at self.old (S.left source.old)) self.new.current
+            (text_at self.new (S.left source.new))) }
+        ensures forward { IfOk result (λ found. Forward found self.old self.new) }
+        ensures end { result ≡ Ok Found.End → IsAtEnd (S.left source.new) }
+        ensures counted { S.faults source.old ≤ S.faults source.new }
+        ensures fault { OnErr result (Rose (S.faults source.old) (S.faults source.new)) }
+    {
+        let found = self.window.find(source)?;
+        if let Found::Line { size, .. } = found {
+            self.size = size;
+            self.line += 1;
+        }
+        Ok(found)
+    }
+
+    /// Finds the words of the current line, which has so many bytes without its end.
+    fn judge_line(&mut self, count: usize) -> Result<Step, TextFault>
+        requires within { count ≤ length self.old.current }
+        requires words { self.old.words ≡ [] }
+        ensures judged { JudgedAs self.old.line (take count self.old.current) result self.new.words }
+        ensures some { result ≡ Ok Step.WithWords → 0 < length self.new.words }
+        ensures bad { IfErr result (λ fault. IfBad fault (λ line. self.new.line ≡ line)) }
+        ensures same { self.new ≡ record self.old { words = self.new.words } }
+    {
+        let judgement = judge(&self.window.unread()[..count], &mut self.spans);
+        step_of(self.line, judgement)
+    }
+
+    /// Reads the next line, where the line before was left behind.
+    fn read_line<S: Source>(&mut self, source: &mut S) -> Result<Step, TextFault>
+        requires current { self.old.current ≡ [] }
+        requires words { self.old.words ≡ [] }
+        requires raw { self.old.raw ≡ [] }
+        ensures ok { ReadLine (text_at self.old (S.left source.old)) result self.new.words
+            (text_at self.new (S.left source.new)) }
+        ensures words { result ≢ Ok Step.WithWords → self.new.words ≡ [] }
+        ensures some { result ≡ Ok Step.WithWords → 0 < length self.new.words }
+        ensures end { result ≡ Ok Step.AtEnd → IsAtEnd (S.left source.new) }
+        ensures less { result ≡ Ok Step.Blank → limit_of self.new < limit_of self.old }
+        ensures bad { IfErr result (λ fault. IfBad fault (λ line. self.new.line ≡ line)) }
+        ensures raw { self.new.raw ≡ [] }
+        ensures failure { self.new.failure ≡ self.old.failure }
+        ensures read { IsErrOf result TextFault.Read → Rose (S.faults source.old) (S.faults source.new) }
+        ensures no_memory { result ≢ Err TextFault.NoMemory }
+        ensures counted { S.faults source.old ≤ S.faults source.new }
+    {
+        match self.advance(source) {
+            Ok(Found::Line { line, .. }) => self.judge_line(line),
+            Ok(Found::Long) => {
+                self.size += LONGEST;
+                self.line += 1;
+                Err(TextFault::Bad {
+                    line: self.line,
+                    code: Flaw::OverLong.code(),
+                })
+            }
+            Ok(Found::Cut) => Err(TextFault::TooLong),
+            Ok(Found::End) => Ok(Step::AtEnd),
+            Err(SourceFault) => Err(TextFault::Read),
+        }
+    }
+
+    /// Reads the next line that has a word, and answers false at the end of the text.
+    fn read_on<S: Source>(&mut self, source: &mut S) -> Result<bool, TextFault>
+        ensures next { NextLine (text_at self.old (S.left source.old)) result self.new.words self.new.line
+            (text_at self.new (S.left source.new)) }
+        ensures words { result ≢ Ok true → self.new.words ≡ [] }
+        ensures some { result ≡ Ok true → 0 < length self.new.words }
+        ensures end { result ≡ Ok false → IsAtEnd (S.left source.new) }
+        ensures raw { self.new.raw ≡ [] }
+        ensures failure { self.new.failure ≡ self.old.failure }
+        ensures read { IsErrOf result TextFault.Read → Rose (S.faults source.old) (S.faults source.new) }
+        ensures no_memory { result ≢ Err TextFault.NoMemory }
+        ensures counted { S.faults source.old ≤ S.faults source.new }
+    {
+        'lines: loop {
+            self.clear();
+            match self.read_line(source)? {
+                Step::WithWords => return Ok(true),
+                Step::AtEnd => return Ok(false),
+                Step::Blank => {}
+            }
+        }
+    }
+
+    /// Reads the next line that has a word, and answers false at the end of the text. An `Err` is
+    /// answered from then on.
+    pub(crate) fn next_line<S: Source>(&mut self, source: &mut S) -> Result<bool, TextFault>
+        ensures next { self.old.failure ≡ None → NextLine (text_at self.old (S.left source.old)) result self.new.words
+            self.new.line (text_at self.new (S.left source.new)) }
+        ensures again { IfSome self.old.failure (λ fault. result ≡ Err fault) }
+        ensures words { result ≢ Ok true → self.new.words ≡ [] }
+        ensures some { result ≡ Ok true → 0 < length self.new.words }
+        ensures end { result ≡ Ok false → IsAtEnd (S.left source.new) }
+        ensures raw { self.new.raw ≡ [] }
+        ensures ok { OnOk result (self.new.failure ≡ None) }
+        ensures err { IfErr result (λ fault. self.new.failure ≡ Some fault) }
+        ensures read { self.old.failure ≡ None → IsErrOf result TextFault.Read
+            → Rose (S.faults source.old) (S.faults source.new) }
+        ensures no_memory { self.old.failure ≡ None → result ≢ Err TextFault.NoMemory }
+        ensures counted { S.faults source.old ≤ S.faults source.new }
+    {
+        self.clear();
+        if let Some(fault) = self.failure {
+            return Err(fault);
+        }
+        let result = self.read_on(source);
+        if let Err(fault) = &result {
+            self.failure = Some(*fault);
+        }
+        result
+    }
+
+    /// Keeps the current line as it stands, which has so many bytes without its end, if it is not
+    /// over long.
+    fn keep_raw(&mut self, count: usize) -> RawLine
+        requires { count ≤ length self.old.current }
+        ensures line { count ≤ 4096 → (result ≡ RawLine.Line)
+            × (self.new ≡ record self.old { raw = take count self.old.current }) }
+        ensures long { 4096 < count → (result ≡ RawLine.Long) × (self.new ≡ self.old) }
+        ensures end { result ≢ RawLine.End }
+    {
+        if count > LINE_LIMIT {
+            return RawLine::Long;
+        }
+        self.raw = count;
+        RawLine::Line
+    }
+
+    /// Leaves an over-long line behind.
+    fn skip_long<S: Source>(&mut self, source: &mut S) -> Result<RawLine, TextFault>
+        requires some { 0 < length self.old.unread }
+        requires current { self.old.current ≡ [] }
+        requires words { self.old.words ≡ [] }
+        requires raw { self.old.raw ≡ [] }
+        ensures skipped { SkippedLine (text_at self.old (S.left source.old)) result (text_at self.new (S.left source.new)) }
+        ensures words { self.new.words ≡ [] }
+        ensures raw { self.new.raw ≡ [] }
+        ensures failure { self.new.failure ≡ self.old.failure }
+        ensures read { IsErrOf result TextFault.Read → Rose (S.faults source.old) (S.faults source.new) }
+        ensures counted { S.faults source.old ≤ S.faults source.new }
+    {
+        match self.window.skip_line(source) {
+            Ok(Skipped::Whole) => {
+                self.line += 1;
+                Ok(RawLine::Long)
+            }
+            Ok(Skipped::Cut) => Err(TextFault::TooLong),
+            Err(SourceFault) => Err(TextFault::Read),
+        }
+    }
+
+    /// Reads the next line as it stands, where the line before was left behind.
+    fn read_raw<S: Source>(&mut self, source: &mut S) -> Result<RawLine, TextFault>
+        requires current { self.old.current ≡ [] }
+        requires words { self.old.words ≡ [] }
+        requires raw { self.old.raw ≡ [] }
+        ensures next { NextRaw (text_at self.old (S.left source.old)) result self.new.raw
+            (text_at self.new (S.left source.new)) }
+        ensures raw { result ≢ Ok RawLine.Line → self.new.raw ≡ [] }
+        ensures end { result ≡ Ok RawLine.End → IsAtEnd (S.left source.new) }
+        ensures words { self.new.words ≡ [] }
+        ensures failure { self.new.failure ≡ self.old.failure }
+        ensures read { IsErrOf result TextFault.Read → Rose (S.faults source.old) (S.faults source.new) }
+        ensures counted { S.faults source.old ≤ S.faults source.new }
+    {
+        match self.advance(source) {
+            Ok(Found::Line { line, .. }) => Ok(self.keep_raw(line)),
+            Ok(Found::Long) => self.skip_long(source),
+            Ok(Found::Cut) => Err(TextFault::TooLong),
+            Ok(Found::End) => Ok(RawLine::End),
+            Err(SourceFault) => Err(TextFault::Read),
+        }
+    }
+
+    /// Reads the next line as it stands. An `Err` is answered from then on.
+    pub(crate) fn raw_line<S: Source>(&mut self, source: &mut S) -> Result<RawLine, TextFault>
+        ensures next { self.old.failure ≡ None → NextRaw (text_at self.old (S.left source.old)) result self.new.raw
+            (text_at self.new (S.left source.new)) }
+        ensures again { IfSome self.old.failure (λ fault. result ≡ Err fault) }
+        ensures raw { result ≢ Ok RawLine.Line → self.new.raw ≡ [] }
+        ensures end { result ≡ Ok RawLine.End → IsAtEnd (S.left source.new) }
+        ensures words { self.new.words ≡ [] }
+        ensures ok { OnOk result (self.new.failure ≡ None) }
+        ensures err { IfErr result (λ fault. self.new.failure ≡ Some fault) }
+        ensures read { self.old.failure ≡ None → IsErrOf result TextFault.Read
+            → Rose (S.faults source.old) (S.faults source.new) }
+        ensures counted { S.faults source.old ≤ S.faults source.new }
+    {
+        self.clear();
+        if let Some(fault) = self.failure {
+            return Err(fault);
+        }
+        let result = self.read_raw(source);
+        if let Err(fault) = &result {
+            self.failure = Some(*fault);
+        }
+        result
+    }
+
+    /// The number of lines read so far.
+    pub(crate) fn line(&self) -> u64
+        ensures value { result ≡ self.now.line }
+        ensures bound { result ≤ 67108864 }
+    {
+        self.line
+    }
+
+    /// The number of words of the current line.
+    pub(crate) fn words(&self) -> u32
+        ensures { result ≡ length self.now.words }
+    {
+        self.spans.len() as u32
+    }
+
+    /// A word of the current line.
+    pub(crate) fn word(&self, k: u32) -> &[u8]
+        requires { k < length self.now.words }
+        ensures { result.now ≡ slice_index_or self.now.words k [] }
+    {
+        let span = self.spans[k as usize];
+        &self.window.unread()[span.start..span.end]
+    }
+
+    /// The current line as it stands.
+    pub(crate) fn raw(&self) -> &[u8]
+        ensures { result.now ≡ self.now.raw }
+    {
+        &self.window.unread()[..self.raw]
+    }
+}
+
+/// The step that a judgement makes of the line with this number.
+fn step_of(line: u64, judgement: Result<bool, Flaw>) -> Result<Step, TextFault>
+    ensures value { result ≡ step_of line judgement }
+    ensures bad { IfErr result (λ fault. IfBad fault (λ number. line ≡ number)) }
+{
+    match judgement {
+        Ok(true) => Ok(Step::WithWords),
+        Ok(false) => Ok(Step::Blank),
+        Err(flaw) => Err(TextFault::Bad {
+            line,
+            code: flaw.code(),
+        }),
+    }
+}

@@ -1,0 +1,140 @@
+//! Reading a text line by line.
+ghost use Rattle.std.specs.Prelude.{◌≡◌, ◌≢◌, ◌<◌, ◌≤◌, [], Some, None, true, false, length, IfOk, IfErr, IfSome, OnOk, IsErrOf, option_map, slice_index_or};
+ghost use Rattle.std.specs.Io.KnownBytes.{IsAtEnd};
+ghost use Rattle.lift_text.specs.Streams.{Rose};
+ghost use Rattle.lift_text.specs.Numbers.{number_answer, read_number};
+ghost use Rattle.lift_text.specs.Reading.{NextLine, NextRaw, whole_text};
+
+use crate::faults::{RawLine, TextFault};
+use crate::numbers::number_in;
+use crate::page::Page;
+use crate::sources::Source;
+use std::alloc::{AllocError, Global};
+
+/// Reads the lines of a source.
+///
+/// A line ends with LF, or with CR LF; the last line may lack its end. From a `#` on, the rest of a
+/// line is a comment and may hold any bytes. Outside comments a line holds the bytes from the space
+/// to `~` and tabs, and spaces and tabs separate its words. A line has at most 4,096 bytes without its
+/// end, and a text has at most 67,108,864 bytes. The answers are the same whatever pieces the source
+/// gives.
+///
+/// The memory that it needs is taken when it is made.
+#[derive(Drop)]
+pub struct LineReader<'a, S> {
+    source: &'a mut S,
+    page: Page,
+}
+
+impl<'a, S: Source> LineReader<'a, S> {
+    ghost use Rattle.lift_text.specs.LineReader.{text, line, words, raw, failure};
+
+    /// A reader before the first line. The only error is want of memory.
+    pub fn new(alloc: Global, source: &'a mut S) -> Result<LineReader<'a, S>, AllocError>
+        ensures same_source { IfOk result (λ reader. reader.source.ghost_name ≡ source.entry.ghost_name) }
+        ensures source { IfOk result (λ reader. reader.source.now ≡ source.old) }
+        ensures text { IfOk result (λ reader. text S.left reader ≡ option_map whole_text (S.left source.old)) }
+        ensures line { IfOk result (λ reader. line reader ≡ 0) }
+        ensures words { IfOk result (λ reader. words reader ≡ []) }
+        ensures raw { IfOk result (λ reader. raw reader ≡ []) }
+        ensures failure { IfOk result (λ reader. failure reader ≡ None) }
+    {
+        let page = Page::new(alloc)?;
+        Ok(LineReader { source, page })
+    }
+
+    /// Reads the next line that has a word, and answers false at the end of the text.
+    ///
+    /// A line is bad with code 2 where it is over 4,096 bytes, and else with code 1 where a byte
+    /// outside its comment is not allowed. `Read` comes only where a read of the source failed. An
+    /// `Err` is answered from then on.
+    pub fn next_line(&mut self) -> Result<bool, TextFault>
+        ensures same_source { self.new.source.ghost_name ≡ self.old.source.ghost_name }
+        ensures next { failure self.old ≡ None → NextLine (text S.left self.old) result (words self.new)
+            (line self.new) (text S.left self.new) }
+        ensures again { IfSome (failure self.old) (λ fault. result ≡ Err fault) }
+
+        ensures some { result ≡ Ok true → 0 < length (words self.new) }
+        ensures words { result ≢ Ok true → words self.new ≡ [] }
+        ensures raw { raw self.new ≡ [] }
+        ensures end { failure self.old ≡ None → result ≡ Ok false → IsAtEnd (S.left self.new.source.now) }
+
+        ensures ok { OnOk result (failure self.new ≡ None) }
+        ensures err { IfErr result (λ fault. failure self.new ≡ Some fault) }
+        ensures read { failure self.old ≡ None → IsErrOf result TextFault.Read
+            → Rose (S.faults self.old.source.now) (S.faults self.new.source.now) }
+        ensures no_memory { failure self.old ≡ None → result ≢ Err TextFault.NoMemory }
+        ensures counted { S.faults self.old.source.now ≤ S.faults self.new.source.now }
+    {
+        self.page.next_line(self.source)
+    }
+
+    /// The number of lines read so far, skipped ones too.
+    pub fn line(&self) -> u64
+        ensures value { result ≡ line self.now }
+        ensures bound { result ≤ 67108864 }
+    {
+        self.page.line()
+    }
+
+    /// The number of words of the line that `next_line` read: 0 before the first, after the answer
+    /// false, after an `Err` and after `raw_line`.
+    pub fn words(&self) -> u32
+        ensures { result ≡ length (words self.now) }
+    {
+        self.page.words()
+    }
+
+    /// A word of the line that `next_line` read, counted from 0.
+    pub fn word(&self, k: u32) -> &[u8]
+        requires { k < length (words self.now) }
+        ensures { result.now ≡ slice_index_or (words self.now) k [] }
+    {
+        self.page.word(k)
+    }
+
+    /// A word of the line that `next_line` read, as a number from `low` to `high`. It is one or more
+    /// decimal digits, and a `-` may begin it where `low` is below 0. The line is bad with code 6
+    /// where the word is no number, and else with code 7 where it is outside the range.
+    pub fn number(&self, k: u32, low: i128, high: i128) -> Result<i128, TextFault>
+        requires { k < length (words self.now) }
+        ensures { result ≡ number_answer (line self.now) (read_number low high (slice_index_or (words self.now) k [])) }
+    {
+        match number_in(self.word(k), low, high) {
+            Ok(value) => Ok(value),
+            Err(fault) => Err(TextFault::Bad {
+                line: self.line(),
+                code: fault.code(),
+            }),
+        }
+    }
+
+    /// Reads the next line as it stands. `Read` comes only where a read of the source failed. An
+    /// `Err` is answered from then on.
+    pub fn raw_line(&mut self) -> Result<RawLine, TextFault>
+        ensures same_source { self.new.source.ghost_name ≡ self.old.source.ghost_name }
+        ensures next { failure self.old ≡ None → NextRaw (text S.left self.old) result (raw self.new)
+            (text S.left self.new) }
+        ensures again { IfSome (failure self.old) (λ fault. result ≡ Err fault) }
+
+        ensures raw { result ≢ Ok RawLine.Line → raw self.new ≡ [] }
+        ensures words { words self.new ≡ [] }
+        ensures end { failure self.old ≡ None → result ≡ Ok RawLine.End → IsAtEnd (S.left self.new.source.now) }
+
+        ensures ok { OnOk result (failure self.new ≡ None) }
+        ensures err { IfErr result (λ fault. failure self.new ≡ Some fault) }
+        ensures read { failure self.old ≡ None → IsErrOf result TextFault.Read
+            → Rose (S.faults self.old.source.now) (S.faults self.new.source.now) }
+        ensures counted { S.faults self.old.source.now ≤ S.faults self.new.source.now }
+    {
+        self.page.raw_line(self.source)
+    }
+
+    /// The line that `raw_line` read, without its end: empty before the first, after `Long`, `End` or
+    /// an `Err`, and after `next_line`.
+    pub fn raw(&self) -> &[u8]
+        ensures { result.now ≡ raw self.now }
+    {
+        self.page.raw()
+    }
+}

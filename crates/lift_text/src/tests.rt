@@ -1,0 +1,288 @@
+ghost use Rattle.std.specs.Prelude.{◌≡◌, None, IfOk};
+
+use crate::{
+    Gate, LineReader, MemorySink, MemorySource, OpenGate, RawLine, Sink, SinkFault, Source,
+    SourceFault, StdSink, StdSource, SureSink, SureSource, TextFault, put_all, put_number,
+    read_full,
+};
+use std::alloc::Global;
+use std::io;
+use std::io::{ErrorKind, Read, Write};
+use std::test::Fail;
+
+/// A stream whose first calls are interrupted and whose later calls find the end.
+#[derive(Drop)]
+struct Interrupted {
+    times: u32,
+}
+
+impl Interrupted {
+    fn call(&mut self) -> io::Result<usize>
+        ensures { IfOk result (λ count. count ≡ 0) }
+    {
+        if self.times == 0 {
+            return Ok(0);
+        }
+        self.times -= 1;
+        Err(io::Error::from(ErrorKind::Interrupted))
+    }
+}
+
+impl Read for Interrupted {
+    fn read(&mut self, _buf: &mut [u8]) -> io::Result<usize> {
+        self.call()
+    }
+}
+
+impl Write for Interrupted {
+    fn write(&mut self, _buf: &[u8]) -> io::Result<usize> {
+        self.call()
+    }
+
+    fn flush(&mut self) -> io::Result<()> {
+        Ok(())
+    }
+}
+
+#[test]
+fn std_source_repeats_a_thousand_interrupted_reads(rt: HostRuntime) {
+    let mut into = [0; 4];
+    let mut source = StdSource::new(Interrupted { times: 1000 });
+    assert_eq!(rt; source.read(&mut into), Ok(0));
+    let mut source = StdSource::new(Interrupted { times: 1001 });
+    assert_eq!(rt; source.read(&mut into), Err(SourceFault));
+    assert_eq!(rt; source.read(&mut into), Ok(0));
+    let mut source = StdSource::new(b"lift".as_slice());
+    assert_eq!(rt; source.read(&mut into[..3]), Ok(3));
+    assert_eq!(rt; into, *b"lif\0");
+}
+
+#[test]
+fn std_sink_repeats_a_thousand_interrupted_writes(rt: HostRuntime) {
+    let mut sink = StdSink::new(Interrupted { times: 1000 });
+    assert_eq!(rt; sink.write(b""), Ok(0));
+    let mut sink = StdSink::new(Interrupted { times: 1001 });
+    assert_eq!(rt; sink.write(b""), Err(SinkFault));
+    assert_eq!(rt; sink.write(b""), Ok(0));
+    assert_eq!(rt;
+        sink.write(b"lift"),
+        Err(SinkFault),
+        "none of a piece is taken"
+    );
+    let mut sink = StdSink::new(Vec::new(rt.alloc()));
+    assert_eq!(rt; sink.write(b"lift"), Ok(4));
+}
+
+#[test]
+fn sources_in_memory_give_their_bytes(rt: HostRuntime) -> Result<(), Fail> {
+    let alloc = rt.alloc();
+    let failing = Vec::from_slice(alloc, &[3])?;
+    let mut source = MemorySource::new(Vec::from_slice(alloc, b"elevator")?, 3, failing);
+    let mut into = [0; 7];
+    assert_eq!(rt; source.read(&mut into), Ok(3));
+    assert_eq!(rt; read_full(&mut source, &mut into), Err(SourceFault));
+    assert_eq!(rt; into, *b"vat\0\0\0\0");
+    assert_eq!(rt; read_full(&mut source, &mut into), Ok(2));
+    assert_eq!(rt; into, *b"ort\0\0\0\0");
+    let mut source = SureSource::new(Vec::from_slice(alloc, b"elevator")?);
+    assert_eq!(rt; read_full(&mut source, &mut into), Ok(7));
+    assert_eq!(rt; into, *b"elevato");
+    Ok(())
+}
+
+#[test]
+fn sinks_in_memory_take_what_they_have_room_for(rt: HostRuntime) -> Result<(), Fail> {
+    let alloc = rt.alloc();
+    let mut sink = MemorySink::new(alloc, 9, 3, Vec::from_slice(alloc, &[2])?)?;
+    assert_eq!(rt; put_all(&mut sink, b"lifts"), Err(SinkFault));
+    assert_eq!(rt; sink.taken(), b"lif".as_slice());
+    assert_eq!(rt; put_all(&mut sink, b"elevator"), Err(SinkFault));
+    assert_eq!(rt; sink.taken(), b"lifelevat".as_slice());
+    let mut sink = SureSink::new(alloc, 6)?;
+    assert_eq!(rt; put_all(&mut sink, b"lift"), Ok(()));
+    assert_eq!(rt; put_all(&mut sink, b"lift"), Err(SinkFault));
+    assert_eq!(rt; sink.taken(), b"liftli".as_slice());
+    OpenGate.enter(0);
+    Ok(())
+}
+
+/// What a reader answers, each line in a row: its number and its words or its text.
+fn heard<S: Source>(alloc: Global, source: &mut S, raw: bool) -> Result<String, Fail> {
+    let mut reader = LineReader::new(alloc, source)?;
+    let mut heard = String::new(alloc);
+    for _ in 0..20 {
+        let more = if raw {
+            heard_raw(&mut reader, &mut heard)?
+        } else {
+            heard_words(&mut reader, &mut heard)?
+        };
+        if !more {
+            break;
+        }
+    }
+    Ok(heard)
+}
+
+fn heard_words<S: Source>(reader: &mut LineReader<S>, heard: &mut String) -> Result<bool, Fail> {
+    let answer = reader.next_line();
+    let line = reader.line();
+    match answer {
+        Ok(true) => {}
+        _ => {
+            write!(heard, "{line} {answer:?}")?;
+            return Ok(false);
+        }
+    }
+    write!(heard, "{line}")?;
+    for k in 0..reader.words() {
+        let size = reader.word(k).len();
+        match reader.number(k, -5, 99) {
+            Ok(value) => write!(heard, " {value}")?,
+            Err(TextFault::Bad { code, .. }) => write!(heard, " {size}/{code}")?,
+            Err(_) => write!(heard, " ?")?,
+        }
+    }
+    heard.push_str(";")?;
+    Ok(true)
+}
+
+fn heard_raw<S: Source>(reader: &mut LineReader<S>, heard: &mut String) -> Result<bool, Fail> {
+    let answer = reader.raw_line();
+    let line = reader.line();
+    let size = reader.raw().len();
+    write!(heard, "{line} {answer:?} {size};")?;
+    Ok(answer == Ok(RawLine::Line) || answer == Ok(RawLine::Long))
+}
+
+const MIXED: &[u8] = b"# \x00\xff any\r\n\r\n \t\nab  7\t-0 # x\x1f\n-\n007 -5 -6 100";
+
+#[test]
+fn lines_are_the_same_in_any_pieces(rt: HostRuntime) -> Result<(), Fail> {
+    let alloc = rt.alloc();
+    let table: [(&[u8], bool, &str); 10] = [
+        (MIXED, false, "4 2/6 7 0;5 1/6;6 7 -5 2/7 3/7;6 Ok(false)"),
+        (
+            MIXED,
+            true,
+            "1 Ok(Line) 8;2 Ok(Line) 0;3 Ok(Line) 2;4 Ok(Line) 13;5 Ok(Line) 1;6 Ok(Line) 13;6 Ok(End) 0;",
+        ),
+        (b"", false, "0 Ok(false)"),
+        (b"a\n\x1f\n", false, "1 1/6;2 Err(Bad { line: 2, code: 1 })"),
+        (b"\x7f", false, "1 Err(Bad { line: 1, code: 1 })"),
+        (b"#\x7f\n~", false, "2 1/6;2 Ok(false)"),
+        (b"a\rb\n", false, "1 Err(Bad { line: 1, code: 1 })"),
+        (b"\na\r", false, "2 Err(Bad { line: 2, code: 1 })"),
+        (b"a\r", true, "1 Ok(Line) 2;1 Ok(End) 0;"),
+        (b"\r\n\n", true, "1 Ok(Line) 0;2 Ok(Line) 0;2 Ok(End) 0;"),
+    ];
+    for (bytes, raw, want) in table {
+        for each in [1usize, 3, 100_000] {
+            assert!(rt; each >= 1);
+            let bytes = Vec::from_slice(alloc, bytes)?;
+            let mut source = MemorySource::new(bytes, each, Vec::new(alloc));
+            let heard = heard(alloc, &mut source, raw)?;
+            assert_eq!(rt; heard.as_str(), want);
+        }
+    }
+    Ok(())
+}
+
+#[test]
+fn longest_lines_are_taken(rt: HostRuntime) -> Result<(), Fail> {
+    let alloc = rt.alloc();
+    let table = [
+        (4096usize, false, "1 4096/6;2 1/6;2 Ok(false)"),
+        (4097, false, "1 Err(Bad { line: 1, code: 2 })"),
+        (4096, true, "1 Ok(Line) 4096;2 Ok(Line) 1;2 Ok(End) 0;"),
+        (4097, true, "1 Ok(Long) 0;2 Ok(Line) 1;2 Ok(End) 0;"),
+        (200_000, true, "1 Ok(Long) 0;2 Ok(Line) 1;2 Ok(End) 0;"),
+    ];
+    for (size, raw, want) in table {
+        for each in [1usize, 1000, 100_000] {
+            assert!(rt; each >= 1);
+            let mut bytes = vec![in alloc; b'x'; size]?;
+            bytes.extend_from_slice(b"\r\ny")?;
+            let mut source = MemorySource::new(bytes, each, Vec::new(alloc));
+            let heard = heard(alloc, &mut source, raw)?;
+            assert_eq!(rt; heard.as_str(), want);
+        }
+    }
+    Ok(())
+}
+
+#[test]
+fn numbers_have_up_to_128_bits(rt: HostRuntime) -> Result<(), Fail> {
+    let alloc = rt.alloc();
+    let text = b"170141183460469231731687303715884105727 170141183460469231731687303715884105728 \
+        -170141183460469231731687303715884105728 1000000000000000000000000000000000000000 -1";
+    let mut source = SureSource::new(Vec::from_slice(alloc, text)?);
+    let mut reader = LineReader::new(alloc, &mut source)?;
+    assert_eq!(rt; reader.next_line(), Ok(true));
+    assert!(rt; reader.words() == 5);
+    let outside = Err(TextFault::Bad { line: 1, code: 7 });
+    assert_eq!(rt; reader.number(0, i128::MIN, i128::MAX), Ok(i128::MAX));
+    assert_eq!(rt; reader.number(1, i128::MIN, i128::MAX), outside);
+    assert_eq!(rt; reader.number(2, i128::MIN, i128::MAX), Ok(i128::MIN));
+    assert_eq!(rt; reader.number(3, i128::MIN, i128::MAX), outside);
+    assert_eq!(rt;
+        reader.number(4, 0, 1),
+        Err(TextFault::Bad { line: 1, code: 6 })
+    );
+    let mut out = Vec::from_slice(alloc, b"x ")?;
+    put_number(&mut out, i128::MIN)?;
+    assert_eq!(rt;
+        out.as_slice(),
+        b"x -170141183460469231731687303715884105728".as_slice()
+    );
+    Ok(())
+}
+
+#[test]
+fn a_failed_read_is_answered_ever_after(rt: HostRuntime) -> Result<(), Fail> {
+    let alloc = rt.alloc();
+    for failing in 1..6u64 {
+        let bytes = Vec::from_slice(alloc, b"a\nb\n")?;
+        let mut source = MemorySource::new(bytes, 1, Vec::from_slice(alloc, &[failing])?);
+        let mut reader = LineReader::new(alloc, &mut source)?;
+        for _ in 0..(failing - 1) / 2 {
+            assert_eq!(rt; reader.next_line(), Ok(true));
+        }
+        for _ in 0..2 {
+            assert_eq!(rt;
+                reader.next_line(),
+                Err(TextFault::Read),
+                "at read {failing}"
+            );
+            assert_eq!(rt;
+                reader.raw_line(),
+                Err(TextFault::Read),
+                "at read {failing}"
+            );
+        }
+    }
+    Ok(())
+}
+
+/// A source without an end, of bytes that are no LF: it leaves `into` as it was made.
+#[derive(Drop)]
+struct Endless;
+
+impl Source for Endless {
+    ghost left = { λ _. None };
+
+    ghost faults = { λ _. 0 };
+
+    fn read(&mut self, into: &mut [u8]) -> Result<usize, SourceFault> {
+        Ok(into.len())
+    }
+}
+
+#[test]
+fn a_text_past_the_limit_is_too_long(rt: HostRuntime) -> Result<(), Fail> {
+    let mut source = Endless;
+    let mut reader = LineReader::new(rt.alloc(), &mut source)?;
+    assert_eq!(rt; reader.raw_line(), Err(TextFault::TooLong));
+    assert_eq!(rt; reader.next_line(), Err(TextFault::TooLong));
+    assert_eq!(rt; reader.line(), 0);
+    Ok(())
+}

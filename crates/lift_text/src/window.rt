@@ -1,0 +1,287 @@
+//! The bytes of a source that are read and not used yet.
+ghost use Rattle.std.specs.Prelude.{◌≡◌, ◌≢◌, ℕ, ◌+◌, ◌<◌, ◌≤◌, List, [], ◌∷◌, ◌++◌, length, take, drop, IfOk, OnErr, slice_index};
+ghost use Rattle.std.specs.Io.KnownBytes.{prepend_known, IsAtEnd};
+ghost use Rattle.std.specs.Io.BufRead.{strip_last};
+ghost use Rattle.lift_text.specs.Streams.{Rose};
+ghost use Rattle.lift_text.specs.Found.{Filled, FoundIn, NoLineFeedBelow, SkippedIn};
+
+use crate::places::place_of;
+use crate::sources::{Source, SourceFault};
+use std::alloc::{AllocError, Global};
+use std::marker::Model;
+
+/// The most bytes of a line with its end, CR LF.
+pub(crate) const LONGEST: usize = 4_098;
+
+/// The most bytes that are asked of a source at once.
+const LARGEST_READ: usize = 65_536;
+
+/// Room for the front of a line and a largest read behind it. So the front of a line is moved to the
+/// front of the window once at most.
+const SIZE: usize = LONGEST + LARGEST_READ;
+
+/// What came of asking a source for more: bytes, the end of the input, or a byte past the most that
+/// may be taken.
+#[derive(Clone, Copy, Debug, PartialEq, Eq)]
+pub(crate) enum Fill {
+    More,
+    End,
+    Limit,
+}
+
+/// What stands at the front of what is left: a line of some length, which takes `size` bytes with its
+/// end; a line that is over long; a line that goes past the most bytes that may be taken; or nothing.
+#[derive(Clone, Copy, Debug, PartialEq, Eq)]
+pub(crate) enum Found {
+    Line { line: usize, size: usize },
+    Long,
+    Cut,
+    End,
+}
+
+/// How a line was skipped: whole, or up to the most bytes that may be taken.
+#[derive(Clone, Copy, Debug, PartialEq, Eq)]
+pub(crate) enum Skipped {
+    Whole,
+    Cut,
+}
+
+#[derive(Drop)]
+pub(crate) struct Window {
+    bytes: Vec<u8>,
+    start: usize,
+    end: usize,
+    quota: usize,
+}
+
+impl Model for Window {
+    ghost use Rattle.std.specs.Prelude.{◌≡◌, ◌-◌, ◌≤◌, slice_range, vec_len};
+    ghost use Rattle.lift_text.specs.Window.{WindowState};
+
+    ghost Value = { WindowState };
+
+    ghost view = { λ w. record {
+      unread = slice_range w.bytes.items w.start w.end;
+      quota = w.quota;
+      room = 69634 - w.end;
+    } };
+
+    ghost invariant = { λ w. (w.start ≤ w.end) × (w.end ≤ 69634) × (vec_len w.bytes ≡ 69634) };
+}
+
+impl Window {
+    /// A window that takes at most `quota` bytes.
+    pub(crate) fn new(alloc: Global, quota: usize) -> Result<Window, AllocError>
+        ensures empty { IfOk result (λ window. window.unread ≡ []) }
+        ensures quota { IfOk result (λ window. window.quota ≡ quota) }
+    {
+        Ok(Window {
+            bytes: vec![in alloc; 0; SIZE]?,
+            start: 0,
+            end: 0,
+            quota,
+        })
+    }
+
+    pub(crate) fn unread(&self) -> &[u8]
+        ensures value { result.now ≡ self.now.unread }
+    {
+        &self.bytes[self.start..self.end]
+    }
+
+    pub(crate) fn consume(&mut self, count: usize)
+        requires { count ≤ length self.old.unread }
+        ensures unread { self.new.unread ≡ drop count self.old.unread }
+        ensures quota { self.new.quota ≡ self.old.quota }
+    {
+        self.start += count;
+    }
+
+    /// Moves the unread bytes to the front where there is little room behind them.
+    fn make_room(&mut self)
+        requires { length self.old.unread < 4098 }
+        ensures unread { self.new.unread ≡ self.old.unread }
+        ensures quota { self.new.quota ≡ self.old.quota }
+        ensures room { 0 < self.new.room }
+    {
+        if SIZE - self.end < LONGEST {
+            let (start, end) = (self.start, self.end);
+            self.bytes.copy_within(start..end, 0);
+            self.start = 0;
+            self.end = end - start;
+        }
+    }
+
+    /// Reads behind the unread bytes.
+    fn read_more<S: Source>(&mut self, source: &mut S) -> Result<usize, SourceFault>
+        requires room { 0 < self.old.room }
+        requires quota { 0 < self.old.quota }
+        ensures ok { IfOk result (λ count. (more : List ℕ) × (length more ≡ count)
+            × (self.new.unread ≡ self.old.unread ++ more)
+            × (S.left source.old ≡ prepend_known more (S.left source.new))) }
+        ensures quota { IfOk result (λ count. self.new.quota + count ≡ self.old.quota) }
+        ensures end { IfOk result (λ count. count ≡ 0 → IsAtEnd (S.left source.new)) }
+        ensures err { OnErr result ((self.new.unread ≡ self.old.unread) × (self.new.quota ≡ self.old.quota)
+            × (S.left source.new ≡ S.left source.old)) }
+        ensures counted { S.faults source.old ≤ S.faults source.new }
+        ensures fault { OnErr result (Rose (S.faults source.old) (S.faults source.new)) }
+    {
+        let end = self.end;
+        let most = (SIZE - end).min(LARGEST_READ).min(self.quota);
+        let count = source.read(&mut self.bytes[end..end + most])?;
+        self.end = end + count;
+        self.quota -= count;
+        Ok(count)
+    }
+
+    /// Reads more behind the unread bytes, of which there are too few to be a longest line.
+    fn fill<S: Source>(&mut self, source: &mut S) -> Result<Fill, SourceFault>
+        requires { length self.old.unread < 4098 }
+        ensures more { result ≡ Ok Fill.More → (more : List ℕ) × (0 < length more)
+            × (self.new.unread ≡ self.old.unread ++ more)
+            × (S.left source.old ≡ prepend_known more (S.left source.new)) }
+        ensures quota { self.new.quota + length self.new.unread ≡ self.old.quota + length self.old.unread }
+        ensures less { result ≡ Ok Fill.More → self.new.quota < self.old.quota }
+        ensures kept { result ≢ Ok Fill.More → self.new.unread ≡ self.old.unread }
+        ensures ok { IfOk result (λ fill. Filled fill (S.left source.old) (S.left source.new)) }
+        ensures limit { result ≡ Ok Fill.Limit → self.new.quota ≡ 0 }
+        ensures err { OnErr result (S.left source.new ≡ S.left source.old) }
+        ensures counted { S.faults source.old ≤ S.faults source.new }
+        ensures fault { OnErr result (Rose (S.faults source.old) (S.faults source.new)) }
+    {
+        if self.quota == 0 {
+            return probe(source);
+        }
+        self.make_room();
+        if self.read_more(source)? == 0 {
+            Ok(Fill::End)
+        } else {
+            Ok(Fill::More)
+        }
+    }
+
+    /// Finds what stands at the front of what is left.
+    pub(crate) fn find<S: Source>(&mut self, source: &mut S) -> Result<Found, SourceFault>
+        ensures ok { IfOk result (λ found. FoundIn found (prepend_known self.old.unread (S.left source.old))
+            self.new.unread (S.left source.new) self.new.quota) }
+        ensures quota { self.new.quota + length self.new.unread ≡ self.old.quota + length self.old.unread }
+        ensures counted { S.faults source.old ≤ S.faults source.new }
+        ensures fault { OnErr result (Rose (S.faults source.old) (S.faults source.new)) }
+    {
+        let mut searched = 0;
+        'search: loop {
+            let place = self.line_feed_from(searched);
+            if place < self.len() {
+                return Ok(Found::Line {
+                    line: self.line_before(place),
+                    size: place + 1,
+                });
+            }
+            searched = place;
+            if searched >= LONGEST {
+                return Ok(Found::Long);
+            }
+            match self.fill(source)? {
+                Fill::More => {}
+                Fill::End => return Ok(last_found(searched)),
+                Fill::Limit => return Ok(Found::Cut),
+            }
+        }
+    }
+
+    /// Leaves the line at the front behind, however long it is.
+    pub(crate) fn skip_line<S: Source>(&mut self, source: &mut S) -> Result<Skipped, SourceFault>
+        requires { 0 < length self.old.unread }
+        ensures ok { IfOk result (λ skipped. SkippedIn skipped (prepend_known self.old.unread (S.left source.old))
+            (self.old.quota + length self.old.unread) self.new.unread (S.left source.new) self.new.quota) }
+        ensures less { self.new.quota + length self.new.unread ≤ self.old.quota + length self.old.unread }
+        ensures one { result ≡ Ok Skipped.Whole
+            → self.new.quota + length self.new.unread < self.old.quota + length self.old.unread }
+        ensures counted { S.faults source.old ≤ S.faults source.new }
+        ensures fault { OnErr result (Rose (S.faults source.old) (S.faults source.new)) }
+    {
+        'skip: loop {
+            let place = self.line_feed_from(0);
+            let len = self.len();
+            if place < len {
+                self.consume(place + 1);
+                return Ok(Skipped::Whole);
+            }
+            self.consume(len);
+            match self.fill(source)? {
+                Fill::More => {}
+                Fill::End => return Ok(Skipped::Whole),
+                Fill::Limit => return Ok(Skipped::Cut),
+            }
+        }
+    }
+
+    fn len(&self) -> usize
+        ensures { result ≡ length self.now.unread }
+    {
+        self.unread().len()
+    }
+
+    /// The place of the first LF, or the length where there is none, where the bytes up to `searched`
+    /// have none.
+    fn line_feed_from(&self, searched: usize) -> usize
+        requires within { searched ≤ length self.now.unread }
+        requires none { NoLineFeedBelow self.now.unread searched }
+        ensures within { result ≤ length self.now.unread }
+        ensures none { NoLineFeedBelow self.now.unread result }
+        ensures found { result < length self.now.unread → slice_index self.now.unread result ≡ 10 }
+    {
+        searched + place_of(b'\n', &self.unread()[searched..])
+    }
+
+    /// The length of the line before the LF at this place.
+    fn line_before(&self, place: usize) -> usize
+        requires { place ≤ length self.now.unread }
+        ensures front { take result (take place self.now.unread) ≡ strip_last 13 (take place self.now.unread) }
+        ensures within { result ≤ place }
+    {
+        length_without_cr(&self.unread()[..place])
+    }
+}
+
+/// What stands before the end of the input, where it has no LF.
+fn last_found(length: usize) -> Found
+    ensures none { length ≡ 0 → result ≡ Found.End }
+    ensures line { 0 < length → result ≡ Found.Line length length }
+{
+    if length == 0 {
+        Found::End
+    } else {
+        Found::Line {
+            line: length,
+            size: length,
+        }
+    }
+}
+
+/// Whether a source has a byte left.
+fn probe<S: Source>(source: &mut S) -> Result<Fill, SourceFault>
+    ensures ok { IfOk result (λ fill. Filled fill (S.left source.old) (S.left source.new)) }
+    ensures none { IfOk result (λ fill. fill ≢ Fill.More) }
+    ensures err { OnErr result (S.left source.new ≡ S.left source.old) }
+    ensures counted { S.faults source.old ≤ S.faults source.new }
+    ensures fault { OnErr result (Rose (S.faults source.old) (S.faults source.new)) }
+{
+    let mut byte = [0];
+    if source.read(&mut byte)? == 0 {
+        Ok(Fill::End)
+    } else {
+        Ok(Fill::Limit)
+    }
+}
+
+/// The length of a line without a CR at its end.
+fn length_without_cr(line: &[u8]) -> usize
+    ensures front { take result line.now ≡ strip_last 13 line.now }
+    ensures within { result ≤ length line.now }
+{
+    match line.last() {
+        Some(b'\r') => line.len() - 1,
+        _ => line.len(),
+    }
+}

@@ -1,0 +1,16 @@
+-- Scaled sums: whole numbers of thousandths of a cost unit.
+use Rattle.std.specs.Prelude.{ℤ, pos, neg_ℤ, ◌+ℤ◌, ◌*ℤ◌, ◌≤ℤ◌, ◌^◌, List, [], ◌∷◌}
+
+-- the value lies from -10^24 to 10^24
+abbrev pub IsPrice : ℤ → Type 0
+IsPrice value = (neg_ℤ (pos (10 ^ 24)) ≤ℤ value) × (value ≤ℤ pos (10 ^ 24))
+
+-- the prices, added up
+abbrev pub price_sum : List ℤ → ℤ
+price_sum [] = pos 0
+price_sum (x ∷ xs) = x +ℤ price_sum xs
+
+-- `units` is the least whole number of units of `size` that is no less than `sum`
+pub record RoundsUp (size sum units : ℤ) : Type 0 where
+  pub enough : sum ≤ℤ (size *ℤ units)
+  pub least : (k : ℤ) → sum ≤ℤ (size *ℤ k) → units ≤ℤ k

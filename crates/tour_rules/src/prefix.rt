@@ -1,0 +1,178 @@
+//! Partial tours and the moves that may follow.
+
+ghost use Rattle.std.specs.Prelude.{true, OnOk, ◌≡◌, ◌<◌, ◌≤◌, ◌++◌, ◌∷◌, [], IfOk, MatchOption, Some, ℕ};
+ghost use Rattle.elevator_model.specs.Counting.{has};
+ghost use Rattle.elevator_model.specs.Partial.{Course, lawful_moves};
+ghost use Rattle.tour_rules.specs.PartialTour.{course, with_move_made, stops_made};
+
+use crate::partial::{advance, fill, start};
+use crate::points::Point;
+use call_state::Snapshot;
+use elevator_model::{Boards, Move, Stop, Tour};
+use std::alloc::{AllocError, Global};
+use std::marker::Model;
+
+/// The most moves of a partial tour: three for each of 128 calls, one for each of 64 groups, and two.
+const MOST_MOVES: usize = 450;
+
+/// The most moves that may follow: 128 boards, 64 leaves and the end.
+const MOST_NEXT: usize = 193;
+
+/// The moves that may follow a partial tour, with room for all of them.
+#[derive(Drop, Debug)]
+pub struct Moves {
+    items: Vec<Move>,
+}
+
+impl Model for Moves {
+    ghost use Rattle.std.specs.Prelude.{List, ◌≤◌, vec_capacity};
+    ghost use Rattle.elevator_model.specs.declared.Move.{Move};
+
+    ghost Value = { List Move };
+
+    ghost view = { λ m. m.items.items };
+
+    ghost invariant = { λ m. 193 ≤ vec_capacity m.items };
+}
+
+impl Moves {
+    /// No moves, with room for all that may follow any partial tour.
+    pub fn new(alloc: Global) -> Result<Self, AllocError>
+        ensures { IfOk result (λ m. m ≡ []) }
+    {
+        Ok(Moves {
+            items: Vec::with_capacity(alloc, MOST_NEXT)?,
+        })
+    }
+
+    /// The moves, in their order.
+    pub fn items(&self) -> &[Move]
+        ensures { result.now ≡ self.now }
+    {
+        self.items.as_slice()
+    }
+}
+
+/// The beginning of a car's tour, as a list of lawful moves, with where each of them leads.
+#[derive(Drop)]
+pub struct Prefix<'a> {
+    snapshot: &'a Snapshot,
+    car: u32,
+    moves: Vec<Move>,
+    /// Where the moves lead: the start, and the point after each move.
+    points: Vec<Point>,
+}
+
+impl<'a> Model for Prefix<'a> {
+    ghost use Rattle.std.specs.Prelude.{◌≤◌, vec_capacity};
+    ghost use Rattle.tour_rules.specs.PartialTour.{PartialTour};
+
+    ghost Value = { PartialTour };
+
+    ghost use Rattle.tour_rules.specs.Prefixes.{IsPrefix};
+
+    ghost view = { λ p. record { snapshot = p.snapshot.now; car = p.car; moves = p.moves.items } };
+
+    ghost invariant = { λ p. IsPrefix p.snapshot.now p.car p.moves.items p.points.items × (450 ≤ vec_capacity p.moves) × (451 ≤ vec_capacity p.points) };
+}
+
+impl<'a> Prefix<'a> {
+    ghost use Rattle.elevator_model.specs.Snapshot.{car_count};
+    ghost use Rattle.elevator_model.specs.Partial.{IsLawful};
+    ghost use Rattle.tour_rules.specs.PartialTour.{with_move};
+
+    /// The empty partial tour of the car, with room for the longest.
+    pub fn new(alloc: Global, snapshot: &'a Snapshot, car: u32) -> Result<Self, AllocError>
+        requires { car < car_count snapshot.now }
+        ensures { IfOk result (λ p. p ≡ record { snapshot = snapshot.now; car = car; moves = [] }) }
+    {
+        let _calls = snapshot.calls();
+        let moves = Vec::with_capacity(alloc, MOST_MOVES)?;
+        let mut points = Vec::with_capacity(alloc, MOST_MOVES + 1)?;
+        points.push_reserved(start(snapshot, car));
+        Ok(Prefix {
+            snapshot,
+            car,
+            moves,
+            points,
+        })
+    }
+
+    /// The moves.
+    pub fn moves(&self) -> &[Move]
+        ensures value { result.now ≡ self.now.moves }
+        ensures lawful { IsLawful self.now.snapshot self.now.car self.now.moves }
+    {
+        self.moves.as_slice()
+    }
+
+    /// Adds a move. The longer partial tour has to be lawful.
+    pub fn push(&mut self, next: Move)
+        requires { IsLawful self.old.snapshot self.old.car (self.old.moves ++ next ∷ []) }
+        ensures { self.new ≡ with_move self.old next }
+    {
+        let point = self.points[self.moves.len()];
+        let point = advance(self.snapshot, self.car, &point, next);
+        self.moves.push_reserved(next);
+        self.points.push_reserved(point);
+    }
+
+    /// Takes the last move away. None where there is none, and then nothing changes.
+    pub fn pop(&mut self) -> Option<Move>
+        ensures { MatchOption result ((self.old.moves ≡ []) × (self.new ≡ self.old)) (λ m. self.old ≡ with_move self.new m) }
+    {
+        let last = self.moves.pop()?;
+        let _ = self.points.pop();
+        Some(last)
+    }
+
+    /// The tour whose move list this is. The partial tour has to have ended.
+    pub fn tour(&self, alloc: Global) -> Result<Tour, AllocError>
+        requires { (x : Course) × (course self.now ≡ Some x) × (x.ended ≡ true) }
+        ensures { IfOk result (λ tour. (x : Course) → course self.now ≡ Some x → tour ≡ x.left) }
+    {
+        stops_of(alloc, self.moves.as_slice())
+    }
+}
+
+/// Fills the list with the moves after which the partial tour is lawful, boards of allowed calls only,
+/// in order.
+pub fn next_moves(prefix: &Prefix, allowed: u128, out: &mut Moves)
+    ensures { (x : Course) → course prefix.now ≡ Some x → out.new ≡ lawful_moves prefix.now.snapshot prefix.now.car x (has allowed) }
+{
+    let point = prefix.points[prefix.moves.len()];
+    fill(prefix.snapshot, prefix.car, &point, allowed, &mut out.items);
+}
+
+/// Adds what the move does to the stops: a new one, or a board at the last one.
+fn add_move(alloc: Global, stops: &mut Vec<Stop>, next: Move) -> Result<(), AllocError>
+    ensures { OnOk result (stops.new.items ≡ with_move_made stops.old.items next) }
+{
+    match next {
+        Move::Leave(floor) => {
+            stops.push(Stop {
+                floor,
+                boards: Boards::new(alloc),
+            })?;
+        }
+        Move::Board(call) => {
+            if let Some(mut stop) = stops.pop() {
+                stop.boards.push(call)?;
+                stops.push(stop)?;
+            }
+        }
+        Move::End => {}
+    }
+    Ok(())
+}
+
+/// The stops that the moves make.
+fn stops_of(alloc: Global, moves: &[Move]) -> Result<Tour, AllocError>
+    ensures { IfOk result (λ tour. tour ≡ stops_made moves.now) }
+{
+    let mut stops = Vec::new(alloc);
+    for next in moves {
+        add_move(alloc, &mut stops, *next)?;
+    }
+    Ok(Tour::from_vec(stops))
+}

@@ -1,0 +1,4 @@
+pub mod Done
+pub mod Places
+pub mod Shares
+pub mod Steps

@@ -1,0 +1,12 @@
+//! Work that is drawn from one line of jobs, by workers in threads of their own.
+//!
+//! No call waits for another thread: there is no lock, no channel and no loop that waits.
+#![tactic(auto)]
+
+mod line;
+#[cfg(test)]
+mod tests;
+mod workers;
+
+pub use line::{JobLine, JobSeat};
+pub use workers::{Jobs, fan};

@@ -1,0 +1,241 @@
+//! The jobs of one call, done by several workers.
+ghost use Rattle.std.specs.Prelude.{◌≡◌, ℕ, ◌<◌, ◌≤◌, [], length, replicate, All, Contains, IfOk, OnOk, IsSome, slice_get, slice_index_or};
+ghost use Rattle.std.specs.List.{filter_map};
+ghost use denote.Param.Send.{IsSync, IsSend};
+ghost use Rattle.work_fan.specs.Line.{times};
+ghost use Rattle.work_fan.specs.Work.{Finished, SameSeat, Serving, Starts, jobs_of};
+
+use crate::line::{JobLine, JobSeat};
+use lift_text::Gate;
+use std::alloc::{AllocError, Global};
+use std::marker::{Send, Sync};
+use std::thread::{Threads, join_mut};
+
+/// Jobs, numbered from 0, that can be done in any order, each at any desk that serves them.
+///
+/// A desk is what one worker works with, as its scratch memory.
+pub trait Jobs: Sync {
+    type Desk: Send;
+
+    type Answer: Send + Drop;
+
+    /// How many jobs there are.
+    ghost number: { Self → ℕ };
+
+    /// This desk serves these jobs.
+    ghost serves: { Self → Self.Desk → Type 0 };
+
+    /// This is a right answer of job k.
+    ghost is_right: { Self → ℕ → Self.Answer → Type 0 };
+
+    fn count(&self) -> u32
+        ensures { result ≡ number self.now };
+
+    /// Does job `k`. The desk serves the jobs afterwards too, also where memory ran out.
+    fn work(&self, k: u32, desk: &mut Self::Desk) -> Result<Self::Answer, AllocError>
+        requires job { k < number self.now }
+        requires desk { serves self.now desk.old }
+        ensures answer { IfOk result (is_right self.now k) }
+        ensures desk { serves self.now desk.new };
+}
+
+// A job that was done, with its answer.
+#[derive(Drop)]
+struct Done<A> {
+    job: u32,
+    answer: A,
+}
+
+// What a worker, or some workers together, drew and have done.
+#[derive(Drop)]
+struct Worker<A> {
+    seat: JobSeat,
+    done: Vec<Done<A>>,
+}
+
+// Draws jobs from the line, and does them one after another, until none is left.
+fn work_through<D, A: Drop, J: Jobs<Desk = D, Answer = A>, G: Gate>(
+    line: &JobLine,
+    jobs: &J,
+    gate: &G,
+    worker: &mut Worker<A>,
+    desk: &mut D,
+) -> Result<(), AllocError>
+    requires jobs { line.now.count ≡ J.number jobs.now }
+    requires worker { Starts line.now 1 worker.old }
+    requires desk { J.serves jobs.now desk.old }
+    ensures done { OnOk result (Finished (J.is_right jobs.now) line.now.count worker.new) }
+    ensures seat { SameSeat worker.old worker.new }
+    ensures desk { J.serves jobs.now desk.new }
+{
+    while let Some(job) = line.draw(&mut worker.seat) {
+        gate.enter(job);
+        let answer = jobs.work(job, desk)?;
+        worker.done.push(Done { job, answer })?;
+    }
+    Ok(())
+}
+
+// The worker of each desk draws from the line, in a thread of its own where one can be made. The desks are halved
+// at each step, and one half goes to a new thread.
+#[cycle(desks)]
+fn work_at<
+    R: Threads + Sync,
+    D: Send,
+    A: Send + Drop,
+    J: Jobs<Desk = D, Answer = A> + Sync,
+    G: Gate + Sync,
+>(
+    rt: &R,
+    alloc: Global,
+    line: &JobLine,
+    jobs: &J,
+    gate: &G,
+    worker: &mut Worker<A>,
+    desks: &mut [D],
+) -> Result<(), AllocError>
+    requires jobs { line.now.count ≡ J.number jobs.now }
+    requires worker { Starts line.now (length desks.old) worker.old }
+    requires desks { Serving (J.serves jobs.now) desks.old }
+    ensures done { OnOk result (Finished (J.is_right jobs.now) line.now.count worker.new) }
+    ensures seat { SameSeat worker.old worker.new }
+    ensures desks { All (J.serves jobs.now) desks.new }
+{
+    if desks.len() == 1 {
+        return work_through(line, jobs, gate, worker, &mut desks[0]);
+    }
+    let part = desks.len() / 2;
+    let (near, far) = desks.split_at_mut(part);
+    let mut other = Worker {
+        seat: line.split(&mut worker.seat, far.len() as u32),
+        done: Vec::new(alloc),
+    };
+    let (mine, theirs) = both_halves(rt, alloc, line, jobs, gate, worker, near, &mut other, far);
+    let Worker { seat, mut done } = other;
+    line.join(&mut worker.seat, seat);
+    mine?;
+    theirs?;
+    worker.done.append(&mut done)?;
+    Ok(())
+}
+
+// A separate function from `work_at`, so that what the closures require is what this function is given.
+#[cycle(desks)]
+fn both_halves<
+    R: Threads + Sync,
+    D: Send,
+    A: Send + Drop,
+    J: Jobs<Desk = D, Answer = A> + Sync,
+    G: Gate + Sync,
+>(
+    rt: &R,
+    alloc: Global,
+    line: &JobLine,
+    jobs: &J,
+    gate: &G,
+    worker: &mut Worker<A>,
+    near: &mut [D],
+    other: &mut Worker<A>,
+    far: &mut [D],
+) -> (Result<(), AllocError>, Result<(), AllocError>)
+    requires jobs { line.now.count ≡ J.number jobs.now }
+    requires worker { Starts line.now (length near.old) worker.old }
+    requires near { Serving (J.serves jobs.now) near.old }
+    requires other { Starts line.now (length far.old) other.old }
+    requires far { Serving (J.serves jobs.now) far.old }
+    ensures mine { OnOk result.0 (Finished (J.is_right jobs.now) line.now.count worker.new) }
+    ensures theirs { OnOk result.1 (Finished (J.is_right jobs.now) line.now.count other.new) }
+    ensures seats { SameSeat worker.old worker.new × SameSeat other.old other.new }
+    ensures desks { All (J.serves jobs.now) near.new × All (J.serves jobs.now) far.new }
+{
+    let mut mine = || -> Result<(), AllocError>
+        requires threads { IsSync R.row × IsSync J.row × IsSync G.row × IsSend D.row × IsSend A.row }
+        requires jobs { line.now.count ≡ J.number jobs.now }
+        requires worker { Starts line.now (length near.now) worker.now }
+        requires desks { Serving (J.serves jobs.now) near.now }
+        ensures done { OnOk result (Finished (J.is_right jobs.entry.now) line.entry.now.count worker.exit.now) }
+        ensures seat { SameSeat worker.entry.now worker.exit.now }
+        ensures desks { All (J.serves jobs.entry.now) near.exit.now }
+    { work_at(rt, alloc, line, jobs, gate, worker, near) };
+    let mut theirs = || -> Result<(), AllocError>
+        requires threads { IsSync R.row × IsSync J.row × IsSync G.row × IsSend D.row × IsSend A.row }
+        requires jobs { line.now.count ≡ J.number jobs.now }
+        requires worker { Starts line.now (length far.now) other.now }
+        requires desks { Serving (J.serves jobs.now) far.now }
+        ensures done { OnOk result (Finished (J.is_right jobs.entry.now) line.entry.now.count other.exit.now) }
+        ensures seat { SameSeat other.entry.now other.exit.now }
+        ensures desks { All (J.serves jobs.entry.now) far.exit.now }
+    { work_at(rt, alloc, line, jobs, gate, other, far) };
+    join_mut(rt, &mut mine, &mut theirs)
+}
+
+// As many empty places as there are jobs.
+fn empty_places<A: Drop>(alloc: Global, count: usize) -> Result<Vec<Option<A>>, AllocError>
+    ensures { IfOk result (λ places. places.items ≡ replicate count None) }
+{
+    let mut places = Vec::new(alloc);
+    for _place in 0..count {
+        places.push(None)?;
+    }
+    Ok(places)
+}
+
+// Puts each answer into the place of its job.
+fn place_all<A: Drop>(places: &mut Vec<Option<A>>, mut done: Vec<Done<A>>)
+    requires { All (λ d. d.job < length places.old.items) done.items }
+    ensures count { length places.new.items ≡ length places.old.items }
+    ensures each { (k : ℕ) → 0 < times k (jobs_of done.items) → IsSome (slice_index_or places.new.items k None) }
+    ensures from { places.old.items ≡ replicate (length places.old.items) None → (k : ℕ) (a : A) → slice_index_or places.new.items k None ≡ Some a → Contains done.items (record { job = k; answer = a }) }
+{
+    while let Some(Done { job, answer }) = done.pop() {
+        places[job as usize] = Some(answer);
+    }
+}
+
+// The answers that there are, in order.
+fn taken_out<A: Drop>(alloc: Global, places: Vec<Option<A>>) -> Result<Vec<A>, AllocError>
+    ensures { IfOk result (λ answers. answers.items ≡ filter_map (λ place. place) places.items) }
+{
+    places.into_iter().filter_map(|place| place).collect(alloc)
+}
+
+// The answers in the order of their jobs, each of which was done.
+fn in_order<A: Drop>(alloc: Global, count: u32, done: Vec<Done<A>>) -> Result<Vec<A>, AllocError>
+    requires range { All (λ d. d.job < count) done.items }
+    requires each { (k : ℕ) → k < count → 0 < times k (jobs_of done.items) }
+    ensures count { IfOk result (λ answers. length answers.items ≡ count) }
+    ensures from { IfOk result (λ answers. (k : ℕ) (a : A) → slice_get answers.items k ≡ Some a → Contains done.items (record { job = k; answer = a })) }
+{
+    let mut places = empty_places(alloc, count as usize)?;
+    place_all(&mut places, done);
+    taken_out(alloc, places)
+}
+
+/// Does all jobs, with one worker for each desk, and gives their answers: in place `k` stands a right answer of job `k`.
+///
+/// The workers draw their jobs from one line, in threads of their own where they can be made. `gate` is told of each job
+/// before it begins. It needs 1 to 16 desks, each of which serves the jobs, and serves them afterwards too, also where
+/// memory ran out.
+pub fn fan<J: Jobs, G: Gate + Sync>(
+    rt: &(impl Threads + Sync),
+    alloc: Global,
+    jobs: &J,
+    desks: &mut [J::Desk],
+    gate: &G,
+) -> Result<Vec<J::Answer>, AllocError>
+    requires { Serving (J.serves jobs.now) desks.old }
+    ensures count { IfOk result (λ answers. length answers.items ≡ J.number jobs.now) }
+    ensures right { IfOk result (λ answers. (k : ℕ) (a : J.Answer) → slice_get answers.items k ≡ Some a → J.is_right jobs.now k a) }
+    ensures desks { All (J.serves jobs.now) desks.new }
+{
+    let (line, seat) = JobLine::begin(alloc, jobs.count(), desks.len() as u32)?;
+    let mut all = Worker {
+        seat,
+        done: Vec::new(alloc),
+    };
+    let worked = work_at(rt, alloc, &line, jobs, gate, &mut all, desks);
+    let Worker { seat, done } = all;
+    line.close(seat);
+    worked?;
+    in_order(alloc, jobs.count(), done)
+}
