@@ -1,16 +1,16 @@
 -- The cheapest tour of a list.
-use Rattle.std.proofs.Common.{◌==◌, ◌≡◌, ℕ, zero, suc, ◌+◌, ◌<◌, ◌≤◌, Bool, true, false, cond, leb, List, [], ◌∷◌, length, refl, sym, ap, ◌∙◌, subst, inl, inr, arith, Option, Some, None}
-use Rattle.std.proofs.lemmas.Bool.{leb-true, leb-false, cases_Bool, both_ways}
+use Rattle.std.proofs.Common.{◌≡◌, ℕ, ◌+◌, ◌<◌, ◌≤◌, Bool, cond, leb, List, [], ◌∷◌, length, sym, ap, ◌∙◌, subst, inl, inr, arith, Option, Some, None}
+use Rattle.std.proofs.lemmas.Bool.{leb-true, leb-false, cases_Bool}
 use Rattle.std.proofs.Math.Nat.{eq-or-lt_of_le}
 use Rattle.elevator_model.specs.declared.Stop.{Stop}
-use Rattle.elevator_model.specs.Snapshot.{Snapshot, IsSmall, call_count, car_count}
-use Rattle.elevator_model.specs.Tours.{IsFeasible, after_stops, start_of}
+use Rattle.elevator_model.specs.Snapshot.{Snapshot, IsSmall}
+use Rattle.elevator_model.specs.Tours.{IsFeasible}
 use Rattle.elevator_model.specs.Costs.{cost_of}
-use Rattle.elevator_model.specs.Plans.{is_boarded_in, tour_of, IsFeasiblePlan, IsOptimal, plan_cost_of}
+use Rattle.elevator_model.specs.Plans.{tour_of, IsFeasiblePlan, IsOptimal, plan_cost_of}
 use Rattle.plain_solver.specs.declared.plans.Best.{Best}
 use Rattle.plain_solver.specs.Listed.{tour_at, AreAllTours, BoardsAll}
 use Rattle.plain_solver.specs.Cheapest.{IsCheapestTour, IsBest, cheaper_of}
-use Rattle.plain_solver.proofs.Serving.{serves_all, ServesAll}
+use Rattle.plain_solver.proofs.Serving.{serves_all}
 use Rattle.plain_solver.proofs.Small.{small_serves}
 use Rattle.plain_solver.proofs.OneTour.{boarded_in, plan_of_tour, tour_of_plan, plan_cost-one}
 use Rattle.plain_solver.proofs.Listed.{same_cost, same_boards}

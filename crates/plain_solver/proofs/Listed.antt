@@ -1,5 +1,5 @@
 -- A list of all tours that an empty partial tour can lead to has each feasible tour.
-use Rattle.std.proofs.Common.{◌==◌, ◌≡◌, ℕ, zero, suc, ◌+◌, ◌-◌, ◌<◌, ◌≤◌, Bool, true, false, cond, not, ◌&&◌, ◌||◌, ◌⊎◌, eqb, ltb, List, [], ◌∷◌, ◌++◌, length, map, refl, sym, ap, ◌∙◌, subst, inl, inr, arith, Option, Some, None}
+use Rattle.std.proofs.Common.{◌≡◌, ℕ, zero, suc, ◌+◌, ◌<◌, Bool, cond, ◌&&◌, List, [], ◌∷◌, ◌++◌, map, refl, sym, ap, ◌∙◌, subst, arith, Option, Some, None}
 use Rattle.std.specs.List.{filter, flat_map, range_with_len}
 use Rattle.std.proofs.lemmas.Bool.{lt-ltb}
 use Rattle.elevator_model.specs.declared.Stop.{Stop}
@@ -7,14 +7,13 @@ use Rattle.elevator_model.specs.declared.Move.{Move}
 use Rattle.elevator_model.specs.declared.Move.TheVariants.{Board, Leave, End}
 use Rattle.elevator_model.specs.Counting.{is_among}
 use Rattle.elevator_model.specs.Snapshot.{Snapshot, call_count}
-use Rattle.elevator_model.specs.Tours.{Progress, IsFeasible, boards_at, start_of, after_stops}
+use Rattle.elevator_model.specs.Tours.{Progress, IsFeasible, start_of, after_stops}
 use Rattle.elevator_model.specs.Costs.{cost_of, settled_cost}
-use Rattle.elevator_model.specs.Plans.{is_boarded_in}
 use Rattle.elevator_model.specs.Partial.{Course, course_of, rising_boards, moves_of_stop, moves_of}
 use Rattle.tour_rules.proofs.Rising.{rising_same}
 use Rattle.tour_rules.proofs.Reached.{risen, moves_reach}
 use Rattle.tour_rules.specs.PartialTour.{PartialTour}
-use Rattle.plain_solver.specs.Listed.{tour_at, IsListed, AddsTours, AreAllTours, BoardsAll}
+use Rattle.plain_solver.specs.Listed.{AddsTours, AreAllTours, BoardsAll}
 use Rattle.plain_solver.proofs.OneTour.{boarded_in}
 
 filter_same : (t u : ℕ → Bool) (a n : ℕ) → ((j : ℕ) → j < a + n → t j ≡ u j) → filter t (range_with_len a n) ≡ filter u (range_with_len a n)

@@ -1,13 +1,12 @@
 -- Plans of one car: one tour that boards each open call.
-use Rattle.std.proofs.Common.{◌==◌, ◌≡◌, ℕ, zero, suc, ◌+◌, ◌-◌, ◌<◌, ◌≤◌, Bool, true, false, cond, not, ◌&&◌, ◌||◌, eqb, ltb, leb, List, [], ◌∷◌, length, refl, sym, ap, ◌∙◌, subst, inl, inr, arith, zero-add}
-use Rattle.std.specs.List.{list_any}
-use Rattle.std.proofs.lemmas.Bool.{false≢true, lt-ltb, cases_Bool}
+use Rattle.std.proofs.Common.{◌≡◌, ℕ, ◌+◌, ◌<◌, Bool, true, false, cond, ◌&&◌, ◌||◌, List, [], ◌∷◌, refl, sym, ap, ◌∙◌, subst, arith, zero-add}
+use Rattle.std.proofs.lemmas.Bool.{lt-ltb}
 use Rattle.elevator_model.specs.declared.Stop.{Stop}
 use Rattle.elevator_model.specs.Counting.{sum_below, sum_where, is_among}
 use Rattle.elevator_model.specs.Snapshot.{Snapshot, car_count, call_count}
 use Rattle.elevator_model.specs.Tours.{Progress, IsFeasible, after_stops, start_of, make_stop, boards_at}
 use Rattle.elevator_model.specs.Costs.{cost_of}
-use Rattle.elevator_model.specs.Plans.{is_boarded_in, tour_of, times_served, IsFeasiblePlan, plan_cost_of}
+use Rattle.elevator_model.specs.Plans.{is_boarded_in, tour_of, IsFeasiblePlan, plan_cost_of}
 use Rattle.plain_solver.specs.Listed.{BoardsAll}
 
 or_grouped : (a b d : Bool) → ((a || b) || d) ≡ (a || (b || d))

@@ -1,5 +1,5 @@
 -- The depth-first search over partial tours.
-use Rattle.std.proofs.Common.{◌==◌, ◌≡◌, ℕ, zero, suc, ◌+◌, ◌-◌, ◌*◌, ◌^◌, ◌<◌, ◌≤◌, Bool, true, false, cond, not, ◌&&◌, ◌||◌, ◌⊎◌, eqb, ltb, leb, List, [], ◌∷◌, ◌++◌, length, map, get_or, refl, sym, ap, ◌∙◌, subst, inl, inr, arith, append_assoc, append-nil, length-append, Option, Some, None}
+use Rattle.std.proofs.Common.{◌≡◌, ℕ, ◌+◌, ◌-◌, ◌^◌, ◌<◌, ◌≤◌, true, false, cond, ◌⊎◌, eqb, List, [], ◌∷◌, ◌++◌, length, get_or, refl, sym, ap, ◌∙◌, subst, inl, inr, arith, append_assoc, append-nil, length-append, Option, Some, None}
 use Rattle.std.specs.List.{slice_get}
 use Rattle.std.specs.Option.{IsSome, is_some}
 use Rattle.std.proofs.Math.Nat.{eq-or-lt_of_le}
@@ -14,13 +14,13 @@ use Rattle.elevator_model.specs.declared.Move.TheVariants.{Board, Leave, End}
 use Rattle.elevator_model.specs.Counting.{has}
 use Rattle.elevator_model.specs.Building.{most_calls}
 use Rattle.elevator_model.specs.Snapshot.{Snapshot, call_count, IsAccepted}
-use Rattle.elevator_model.specs.Tours.{Progress, IsFeasible, make_stop, start_of, after_stops}
-use Rattle.elevator_model.specs.Partial.{Course, course_of, course_start, course_if, move_on, move_on_from, moves_on, lawful_moves, go_on, board_on, end_on, may_stand, may_be_left, may_end, moves_of, IsLawful}
+use Rattle.elevator_model.specs.Tours.{IsFeasible}
+use Rattle.elevator_model.specs.Partial.{Course, course_of, course_start, move_on, move_on_from, moves_on, lawful_moves, go_on, board_on, end_on, moves_of, IsLawful}
 use Rattle.tour_rules.specs.PartialTour.{PartialTour, course, with_move}
 use Rattle.tour_rules.specs.Measure.{moves_left}
 use Rattle.tour_rules.proofs.Measure.{moves_left-falls}
 use Rattle.tour_rules.proofs.Reached.{moves_on-append}
-use Rattle.tour_rules.proofs.Sound.{course_if-some, cond-some, moves_on-none, leads_on, ended_feasible}
+use Rattle.tour_rules.proofs.Sound.{course_if-some, cond-some, leads_on, ended_feasible}
 use Rattle.plain_solver.specs.Listed.{ends_tour, tour_at, IsListed, AddsTours}
 use Rattle.plain_solver.proofs.Lawful.{In, in_lawful, at_place, lawful_at}
 use Rattle.plain_solver.proofs.Distinct.{AreDistinct, distinct_places}

@@ -1,15 +1,14 @@
 -- The moves of the stops of an ended partial tour are its moves.
-use Rattle.std.proofs.Common.{◌==◌, ◌≡◌, ℕ, zero, suc, ◌+◌, ◌-◌, ◌<◌, ◌≤◌, Bool, true, false, cond, not, ◌&&◌, ◌||◌, ◌⊎◌, eqb, ltb, List, [], ◌∷◌, ◌++◌, length, map, refl, sym, ap, ◌∙◌, subst, inl, inr, arith, append_assoc, append-nil, Option, Some, None}
-use Rattle.std.specs.List.{list_all, list_any, filter, flat_map, range_with_len}
+use Rattle.std.proofs.Common.{◌≡◌, ℕ, zero, suc, ◌+◌, ◌<◌, ◌≤◌, Bool, true, false, cond, ◌||◌, eqb, ltb, List, [], ◌∷◌, ◌++◌, map, refl, sym, ap, ◌∙◌, subst, inl, inr, arith, append_assoc, append-nil, Option, Some, None}
+use Rattle.std.specs.List.{list_all, filter, flat_map, range_with_len}
 use Rattle.std.proofs.Math.Nat.{eq-or-lt_of_le}
-use Rattle.std.proofs.lemmas.Bool.{false≢true, false_from_ne_true, both_ways, and_parts, or_from, or_left, or_right, or_cases, ltb-true, eq-eqb, ne_eqb, eqb-true}
+use Rattle.std.proofs.lemmas.Bool.{and_parts, or_from, or_left, or_right, ltb-true, eq-eqb, ne_eqb}
 use Rattle.elevator_model.specs.declared.Stop.{Stop}
 use Rattle.elevator_model.specs.declared.Move.{Move}
 use Rattle.elevator_model.specs.declared.Move.TheVariants.{Board, Leave, End}
 use Rattle.elevator_model.specs.Counting.{is_among}
 use Rattle.elevator_model.specs.Snapshot.{Snapshot, call_count}
-use Rattle.elevator_model.specs.Tours.{Progress, make_stop}
-use Rattle.elevator_model.specs.Partial.{Course, course_start, course_of, go_on, board_on, end_on, move_on, moves_on, rising_boards, moves_of_stop, moves_of, may_stand}
+use Rattle.elevator_model.specs.Partial.{Course, course_start, course_of, go_on, board_on, end_on, move_on, moves_on, rising_boards, moves_of_stop, moves_of}
 use Rattle.tour_rules.proofs.Tests.{list_any-append}
 use Rattle.tour_rules.proofs.Sound.{course_if-some, cond-some, leads_on}
 use Rattle.tour_rules.proofs.Measure.{may_board}

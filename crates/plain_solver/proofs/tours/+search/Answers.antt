@@ -1,13 +1,11 @@
-use Rattle.std.proofs.Common.{◌≡◌, ◌-◌, ◌^◌, ◌++◌, [], ◌∷◌, ◌≤◌, ◌<◌, ◌∙◌, ℕ, sym, ap, subst, length, get_or, List, refl, arith, true, false}
-use Rattle.elevator_model.specs.declared.Stop.{Stop}
-use Rattle.elevator_model.specs.declared.Move.{Move}
+use Rattle.std.proofs.Common.{◌≡◌, ◌-◌, ◌^◌, ◌++◌, [], ◌∷◌, ◌≤◌, ◌∙◌, ℕ, sym, ap, subst, length, get_or, refl, arith}
 use Rattle.elevator_model.specs.declared.Move.TheVariants.{Board}
 use Rattle.elevator_model.specs.Counting.{has}
-use Rattle.elevator_model.specs.Snapshot.{Snapshot, call_count}
-use Rattle.elevator_model.specs.Partial.{Course, IsLawful}
+use Rattle.elevator_model.specs.Snapshot.{call_count}
+use Rattle.elevator_model.specs.Partial.{IsLawful}
 use Rattle.tour_rules.specs.PartialTour.{PartialTour, with_move}
 use Rattle.plain_solver.specs.Listed.{AddsTours}
-use Rattle.plain_solver.proofs.Search.{left_in, AddsFirst, adds_none, adds_next, adds_all, next_lawful, left_falls}
+use Rattle.plain_solver.proofs.Search.{left_in, AddsFirst, adds_next, adds_all, next_lawful, left_falls}
 use Rattle.plain_solver.proofs.Distinct.{AreDistinct, distinct_lawful}
 use Rattle.plain_solver.proofs.tours.+search.Goals as goal
 

@@ -1,5 +1,5 @@
 -- The last move says whether the tour has ended.
-use Rattle.std.proofs.Common.{◌≡◌, ◌-◌, ◌∙◌, sym, subst, length, List, Option, Some, None}
+use Rattle.std.proofs.Common.{◌≡◌, ◌-◌, ◌∙◌, sym, subst, length, List, Some, None}
 use Rattle.std.specs.List.{slice_get}
 use Rattle.elevator_model.specs.declared.Move.{Move}
 use Rattle.plain_solver.proofs.Search.{ended_last, ended_none}
