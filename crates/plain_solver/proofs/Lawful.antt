@@ -1,16 +1,15 @@
 -- Each move that is lawful after a partial tour is among its lawful moves.
-use Rattle.std.proofs.Common.{◌==◌, ◌≡◌, ℕ, zero, suc, ◌+◌, ◌-◌, ◌<◌, ◌≤◌, Bool, true, false, cond, not, ◌&&◌, ◌||◌, ◌⊎◌, eqb, ltb, leb, List, [], ◌∷◌, ◌++◌, length, map, get_or, refl, sym, ap, ◌∙◌, subst, inl, inr, arith, Option, Some, None}
-use Rattle.std.specs.List.{list_any, list_all, filter, range_with_len}
+use Rattle.std.proofs.Common.{◌≡◌, ℕ, zero, suc, ◌+◌, ◌<◌, ◌≤◌, Bool, true, false, cond, ◌&&◌, ◌⊎◌, eqb, ltb, List, [], ◌∷◌, ◌++◌, length, map, get_or, refl, sym, ap, subst, inl, inr, arith, Option, Some, None}
+use Rattle.std.specs.List.{list_all, filter, range_with_len}
 use Rattle.std.specs.Option.{is_some}
 use Rattle.std.proofs.lemmas.Bool.{false≢true, and_parts, and_from, not-false, ltb-true, eqb-true, eqb-false, cases_Bool}
-use Rattle.elevator_model.specs.declared.Rule.TheVariants.{Floor}
 use Rattle.elevator_model.specs.declared.Stop.{Stop}
 use Rattle.elevator_model.specs.declared.Move.{Move}
 use Rattle.elevator_model.specs.declared.Move.TheVariants.{Board, Leave, End}
 use Rattle.elevator_model.specs.Building.{floor_count}
 use Rattle.elevator_model.specs.Snapshot.{Snapshot, call_count, serves}
-use Rattle.elevator_model.specs.Tours.{Progress, breaks, rules_but_useless, broken_at, none_taken, make_stop}
-use Rattle.elevator_model.specs.Partial.{Course, course_if, may_stand, may_be_left, go_on, board_on, end_on, move_on, all_moves, boards_allowed, lawful_moves}
+use Rattle.elevator_model.specs.Tours.{Progress, breaks, rules_but_useless, none_taken, make_stop}
+use Rattle.elevator_model.specs.Partial.{Course, may_stand, may_be_left, go_on, board_on, move_on, all_moves, boards_allowed, lawful_moves}
 use Rattle.tour_rules.proofs.Tests.{AllClear-from, none-from}
 use Rattle.tour_rules.proofs.Sound.{course_if-some, cond-some}
 use Rattle.tour_rules.proofs.Measure.{may_board}

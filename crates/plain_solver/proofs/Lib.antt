@@ -3,3 +3,8 @@ pub mod Serving
 pub mod Small
 pub mod OneTour
 pub mod Lawful
+pub mod Distinct
+pub mod Told
+pub mod Search
+pub mod Listed
+pub mod Best

@@ -1,13 +1,13 @@
 -- Plans of one car: one tour that boards each open call.
-use Rattle.std.proofs.Common.{◌==◌, ◌≡◌, ℕ, zero, suc, ◌+◌, ◌-◌, ◌<◌, ◌≤◌, Bool, true, false, cond, not, ◌&&◌, ◌||◌, eqb, ltb, leb, List, [], ◌∷◌, length, refl, sym, ap, ◌∙◌, subst, inl, inr, arith, zero-add}
-use Rattle.std.specs.List.{list_any}
-use Rattle.std.proofs.lemmas.Bool.{false≢true, lt-ltb, cases_Bool}
+use Rattle.std.proofs.Common.{◌≡◌, ℕ, ◌+◌, ◌<◌, Bool, true, false, cond, ◌&&◌, ◌||◌, List, [], ◌∷◌, refl, sym, ap, ◌∙◌, subst, arith, zero-add}
+use Rattle.std.proofs.lemmas.Bool.{lt-ltb}
 use Rattle.elevator_model.specs.declared.Stop.{Stop}
 use Rattle.elevator_model.specs.Counting.{sum_below, sum_where, is_among}
 use Rattle.elevator_model.specs.Snapshot.{Snapshot, car_count, call_count}
 use Rattle.elevator_model.specs.Tours.{Progress, IsFeasible, after_stops, start_of, make_stop, boards_at}
 use Rattle.elevator_model.specs.Costs.{cost_of}
-use Rattle.elevator_model.specs.Plans.{is_boarded_in, tour_of, times_served, IsFeasiblePlan, plan_cost_of}
+use Rattle.elevator_model.specs.Plans.{is_boarded_in, tour_of, IsFeasiblePlan, plan_cost_of}
+use Rattle.plain_solver.specs.Listed.{BoardsAll}
 
 or_grouped : (a b d : Bool) → ((a || b) || d) ≡ (a || (b || d))
 or_grouped true b d = refl
@@ -28,10 +28,6 @@ boarded_from s c p (st ∷ tour) j below =
 -- The calls that have boarded after a tour are those that board at its stops.
 pub boarded_in : (s : Snapshot) (c : ℕ) (tour : List Stop) (j : ℕ) → j < call_count s → (after_stops s c (start_of s c) tour).boarded j ≡ is_boarded_in tour j
 boarded_in s c tour j below = boarded_from s c (start_of s c) tour j below
-
--- the tour boards each open call
-abbrev pub BoardsAll : Snapshot → List Stop → Type 0
-BoardsAll s tour = (j : ℕ) → j < call_count s → is_boarded_in tour j ≡ true
 
 -- A feasible tour that boards each call is a feasible plan where there is one car.
 pub plan_of_tour : (s : Snapshot) (tour : List Stop) → car_count s ≡ 1 → IsFeasible s 0 tour → BoardsAll s tour → IsFeasiblePlan s (tour ∷ [])

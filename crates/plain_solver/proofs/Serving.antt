@@ -1,21 +1,20 @@
 -- A car that can serve each open call has a feasible tour that boards them all: one after another, by
 -- `released` and id.
-use Rattle.std.proofs.Common.{◌==◌, ◌≡◌, ℕ, zero, suc, ◌+◌, ◌-◌, ◌*◌, ◌<◌, ◌≤◌, Bool, true, false, cond, not, ◌&&◌, ◌||◌, ◌⊎◌, eqb, ltb, leb, List, [], ◌∷◌, ◌++◌, length, refl, sym, ap, ◌∙◌, subst, inl, inr, arith, Option, Some, None}
-use Rattle.std.proofs.lemmas.Bool.{or_parts, or_from, or_cases, or_left, or_right, and_parts, and_from, and_cases, and_left, and_right, false≢true, false_from_ne_true, true_from_ne_false, both_ways, ltb-true, lt-ltb, ltb-false, le-ltb, eqb-true, eqb-false, eq-eqb, ne_eqb, cases_Bool, not_from_true, not_from_false, not-true, not-false, cond-false}
+use Rattle.std.proofs.Common.{◌≡◌, ℕ, zero, suc, ◌+◌, ◌<◌, ◌≤◌, Bool, true, false, cond, not, ◌&&◌, ◌||◌, eqb, ltb, List, [], ◌∷◌, refl, sym, ap, ◌∙◌, subst, inl, inr, arith, Some, None}
+use Rattle.std.proofs.lemmas.Bool.{or_parts, or_from, or_cases, or_right, and_parts, and_cases, and_left, and_right, false≢true, false_from_ne_true, both_ways, ltb-true, ltb-false, le-ltb, eqb-true, eqb-false, eq-eqb, ne_eqb, cases_Bool, not_from_true, not_from_false, not-true, not-false, cond-false}
 use Rattle.std.proofs.Math.Nat.{eq-or-lt_of_le}
 use Rattle.elevator_model.specs.declared.Call.{Call}
 use Rattle.elevator_model.specs.declared.Move.{Move}
-use Rattle.elevator_model.specs.declared.Rule.{Rule}
 use Rattle.elevator_model.specs.declared.Rule.TheVariants.{FirstStop, Delivery}
 use Rattle.elevator_model.specs.declared.Stop.{Stop}
-use Rattle.elevator_model.specs.Counting.{any_below, is_among}
-use Rattle.elevator_model.specs.Snapshot.{Snapshot, call_count, call_of, state_of, is_idle, is_possible, serves, can_take, is_pinned_elsewhere}
-use Rattle.elevator_model.specs.Tours.{Progress, boards_at, stays_on, is_later, rider_count, destination_of, broken_at, broken_at_end, first_broken, none_taken, is_aboard, make_stop, after_stops, start_of, IsFeasible}
+use Rattle.elevator_model.specs.Counting.{any_below}
+use Rattle.elevator_model.specs.Snapshot.{Snapshot, call_count, call_of, state_of, is_idle, serves}
+use Rattle.elevator_model.specs.Tours.{Progress, stays_on, is_later, rider_count, destination_of, broken_at, broken_at_end, none_taken, make_stop, after_stops, start_of, IsFeasible}
 use Rattle.elevator_model.specs.Partial.{Course, course_of, moves_of}
-use Rattle.tour_rules.proofs.Tests.{any_below-none, any_below-true, any_below-false}
+use Rattle.tour_rules.proofs.Tests.{any_below-none, any_below-false}
 use Rattle.tour_rules.proofs.Counts.{count_where, count-any, count-le, count-less_one, count-same}
 use Rattle.tour_rules.proofs.Sound.{AllFine, first_broken-fine}
-use Rattle.tour_rules.proofs.Reached.{moves_reach, risen}
+use Rattle.tour_rules.proofs.Reached.{moves_reach}
 use Rattle.plain_solver.proofs.Stops.{at, CanServe, AllGoTo, one_board, no_board, none_stays, destination_of-call, board_clear, alight_clear, may_take}
 
 -- ---- the least of the calls that pass a test

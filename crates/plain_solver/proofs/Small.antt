@@ -1,8 +1,8 @@
 -- The one car of a small snapshot can serve each open call.
-use Rattle.std.proofs.Common.{◌==◌, ◌≡◌, ℕ, zero, suc, ◌+◌, ◌-◌, ◌<◌, ◌≤◌, Bool, true, false, not, ◌&&◌, ◌||◌, eqb, ltb, leb, List, length, refl, sym, ap, ◌∙◌, subst, arith}
-use Rattle.std.proofs.lemmas.Bool.{and_left, false≢true, lt-leb}
+use Rattle.std.proofs.Common.{◌≡◌, ℕ, ◌<◌, Bool, true, false, ◌&&◌, ltb, leb, subst, arith}
+use Rattle.std.proofs.lemmas.Bool.{and_left, lt-leb}
 use Rattle.elevator_model.specs.Counting.{any_below}
-use Rattle.elevator_model.specs.Snapshot.{Snapshot, IsSmall, IsCallAccepted, car_count, call_count, call_of, group_of, is_possible}
+use Rattle.elevator_model.specs.Snapshot.{Snapshot, IsSmall, car_count, call_count, call_of, is_possible}
 use Rattle.elevator_model.specs.Tours.{rider_count, is_aboard}
 use Rattle.plain_solver.proofs.Stops.{CanServe}
 

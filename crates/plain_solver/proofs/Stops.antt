@@ -1,19 +1,18 @@
 -- Stops that break no rule: one where a call boards, and one where the riders get off.
-use Rattle.std.proofs.Common.{◌==◌, ◌≡◌, ℕ, zero, suc, ◌+◌, ◌-◌, ◌*◌, ◌<◌, ◌≤◌, Bool, true, false, cond, not, ◌&&◌, ◌||◌, ◌⊎◌, eqb, ltb, leb, List, [], ◌∷◌, ◌++◌, length, refl, sym, ap, ◌∙◌, subst, inl, inr, arith, Option, Some, None}
-use Rattle.std.specs.List.{list_any, count_by}
-use Rattle.std.proofs.lemmas.Bool.{or_parts, or_from, or_cases, or_left, or_right, and_parts, and_from, and_cases, and_left, and_right, false≢true, false_from_ne_true, both_ways, ltb-true, lt-ltb, ltb-false, le-ltb, leb-true, lt-leb, eqb-true, eq-eqb, ne_eqb, cases_Bool, not_from_true, not_from_false, cond-true}
+use Rattle.std.proofs.Common.{◌==◌, ◌≡◌, ℕ, zero, suc, ◌+◌, ◌-◌, ◌<◌, ◌≤◌, Bool, true, false, cond, not, ◌&&◌, ◌||◌, eqb, ltb, leb, List, [], ◌∷◌, refl, sym, ap, ◌∙◌, subst, inl, inr, arith, None}
+use Rattle.std.specs.List.{count_by}
+use Rattle.std.proofs.lemmas.Bool.{or_from, or_left, and_parts, and_from, and_left, and_right, false≢true, ltb-true, lt-ltb, le-ltb, leb-true, lt-leb, eqb-true, eq-eqb, ne_eqb, cases_Bool, not_from_true, cond-true}
 use Rattle.std.proofs.Math.Nat.{eq-or-lt_of_le}
 use Rattle.std.proofs.lemmas.List.Sums.{sum_by-cons}
 use Rattle.elevator_model.specs.declared.CarState.{CarState}
 use Rattle.elevator_model.specs.declared.CarState.TheVariants.{Idle, Coming, Moving}
-use Rattle.elevator_model.specs.declared.Rule.{Rule}
-use Rattle.elevator_model.specs.declared.Rule.TheVariants.{FirstStop, SameFloorTwice, UselessStop, TurnWithPassengers, Capacity, QueueOrder, Car, Floor, Delivery, CallTwice, Place}
+use Rattle.elevator_model.specs.declared.Rule.TheVariants.{FirstStop, SameFloorTwice, UselessStop, TurnWithPassengers, Capacity, QueueOrder, Car, Floor, CallTwice, Place}
 use Rattle.elevator_model.specs.declared.Stop.{Stop}
-use Rattle.elevator_model.specs.Counting.{any_below, sum_below, sum_where, is_among}
+use Rattle.elevator_model.specs.Counting.{any_below, sum_where}
 use Rattle.elevator_model.specs.Building.{Building}
-use Rattle.elevator_model.specs.Snapshot.{Snapshot, call_count, call_of, group_of, spec_of, state_of, is_idle, is_coming, is_possible, may_stop_first, serves, can_take, is_pinned_elsewhere}
-use Rattle.elevator_model.specs.Tours.{Progress, breaks, first_rule, rules_of_stop, boards_at, persons_where, stays_on, gets_off, overtakes, is_call_for, is_later, is_later_in_queue, rider_count, persons_of, destination_of, turns_with, has_leg, broken_at, none_taken, is_aboard}
-use Rattle.tour_rules.proofs.Tests.{any_below-at, any_below-none, sum_below-same, AllClear, first_rule-clear, same_function}
+use Rattle.elevator_model.specs.Snapshot.{Snapshot, call_count, call_of, group_of, spec_of, state_of, is_idle, is_possible, may_stop_first, serves, can_take, is_pinned_elsewhere}
+use Rattle.elevator_model.specs.Tours.{Progress, breaks, rules_of_stop, boards_at, persons_where, stays_on, gets_off, overtakes, is_call_for, is_later, rider_count, persons_of, destination_of, turns_with, has_leg, broken_at, none_taken, is_aboard}
+use Rattle.tour_rules.proofs.Tests.{any_below-at, any_below-none, first_rule-clear, same_function}
 
 abbrev pub at : ℕ → List ℕ → Stop
 at g boards = record { floor = g; boards = boards }
