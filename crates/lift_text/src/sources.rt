@@ -44,7 +44,8 @@ pub fn read_full<S: Source>(source: &mut S, into: &mut [u8]) -> Result<usize, So
     ensures given { IfOk result (λ count.
         S.left source.old ≡ prepend_known (take count into.new) (S.left source.new)) }
     ensures end { IfOk result (λ count. count < length into.new → IsAtEnd (S.left source.new)) }
-    ensures front_taken { (bytes : List ℕ) × (S.left source.old ≡ prepend_known bytes (S.left source.new)) }
+    ensures front_taken { (bytes : List ℕ) × (length bytes ≤ length into.new)
+        × (S.left source.old ≡ prepend_known bytes (S.left source.new)) }
     ensures counted { S.faults source.old ≤ S.faults source.new }
     ensures fault { OnErr result (Rose (S.faults source.old) (S.faults source.new)) }
 {

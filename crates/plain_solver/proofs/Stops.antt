@@ -69,19 +69,19 @@ floor_clear s c p g bs apart =
 no_turn : (s : Snapshot) (p : Progress) (g : ℕ) → AllGoTo s p g → turns_with s p p.floor g ≡ false
 no_turn s p g all = or_from _ _ up down
   where
-    rider_up : (r : ℕ) → r < rider_count s → ltb p.floor g ≡ true → (p.carried r && ltb (destination_of s r) p.floor) ≡ false
+    rider_up : (r : ℕ) → r < rider_count s → ltb p.floor g ≡ true → (p.carried r && ltb (destination_of s r) g) ≡ false
     rider_up r b above =
-        elim (cases_Bool (p.carried r)) [ inl e ↦ (let to = all r b e in let lt = ltb-true p.floor g above in and_right (p.carried r) _ (le-ltb (destination_of s r) p.floor (omega arith))) | inr e ↦ and_left (p.carried r) _ e ]
+        elim (cases_Bool (p.carried r)) [ inl e ↦ (let to = all r b e in let lt = ltb-true p.floor g above in and_right (p.carried r) _ (le-ltb (destination_of s r) g (omega arith))) | inr e ↦ and_left (p.carried r) _ e ]
 
-    rider_down : (r : ℕ) → r < rider_count s → ltb g p.floor ≡ true → (p.carried r && ltb p.floor (destination_of s r)) ≡ false
+    rider_down : (r : ℕ) → r < rider_count s → ltb g p.floor ≡ true → (p.carried r && ltb g (destination_of s r)) ≡ false
     rider_down r b below =
-        elim (cases_Bool (p.carried r)) [ inl e ↦ (let to = all r b e in let lt = ltb-true g p.floor below in and_right (p.carried r) _ (le-ltb p.floor (destination_of s r) (omega arith))) | inr e ↦ and_left (p.carried r) _ e ]
+        elim (cases_Bool (p.carried r)) [ inl e ↦ (let to = all r b e in let lt = ltb-true g p.floor below in and_right (p.carried r) _ (le-ltb g (destination_of s r) (omega arith))) | inr e ↦ and_left (p.carried r) _ e ]
 
-    up : (ltb p.floor g && any_below (rider_count s) (λ r. p.carried r && ltb (destination_of s r) p.floor)) ≡ false
+    up : (ltb p.floor g && any_below (rider_count s) (λ r. p.carried r && ltb (destination_of s r) g)) ≡ false
     up =
         elim (cases_Bool (ltb p.floor g)) [ inl e ↦ and_right (ltb p.floor g) _ (any_below-none (rider_count s) _ (λ r b. rider_up r b e)) | inr e ↦ and_left (ltb p.floor g) _ e ]
 
-    down : (ltb g p.floor && any_below (rider_count s) (λ r. p.carried r && ltb p.floor (destination_of s r))) ≡ false
+    down : (ltb g p.floor && any_below (rider_count s) (λ r. p.carried r && ltb g (destination_of s r))) ≡ false
     down =
         elim (cases_Bool (ltb g p.floor)) [ inl e ↦ and_right (ltb g p.floor) _ (any_below-none (rider_count s) _ (λ r b. rider_down r b e)) | inr e ↦ and_left (ltb g p.floor) _ e ]
 
