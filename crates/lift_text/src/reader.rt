@@ -137,4 +137,14 @@ impl<'a, S: Source> LineReader<'a, S> {
     {
         self.page.raw()
     }
+
+    /// Gives the source back, as the reader left it.
+    pub fn into_source(self) -> &'a mut S
+        ensures same_source { result.ghost_name ≡ self.entry.source.ghost_name }
+        ensures source { result.now ≡ self.entry.source.now }
+    {
+        let LineReader { source, page } = self;
+        drop(page);
+        source
+    }
 }
