@@ -13,3 +13,6 @@ mod sets;
 pub use elevator_model::{Boards, Broken, Move, Rule, Stop, Tour};
 pub use judging::judge;
 pub use prefix::{Moves, Prefix, next_moves};
+
+#[cfg(test)]
+mod tests;
