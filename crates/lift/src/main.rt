@@ -1,0 +1,32 @@
+//! `lift`: exact, machine-checked dispatching of elevator groups.
+#![tactic(auto)]
+
+use lift_commands::{Status, run};
+use lift_text::{OpenGate, StdSink, StdSource};
+use std::process::ExitCode;
+use std::{env, io};
+
+/// The words of the command line. Where one is not text there are none, and no such words are taken.
+fn words(rt: &HostRuntime) -> Result<Vec<String>, Status> {
+    match env::args(rt) {
+        Ok(args) => args.collect(rt.alloc()).map_err(|_| Status::Memory),
+        Err(error) if error.kind() == io::ErrorKind::OutOfMemory => Err(Status::Memory),
+        Err(_) => Ok(Vec::new(rt.alloc())),
+    }
+}
+
+fn main(rt: HostRuntime) -> ExitCode {
+    let mut source = StdSource::new(rt.reader());
+    let mut sink = StdSink::new(io::writer(&rt));
+    let status = match words(&rt) {
+        Ok(words) => run(
+            rt.alloc(),
+            words.as_slice(),
+            &mut source,
+            &mut sink,
+            &OpenGate,
+        ),
+        Err(status) => status,
+    };
+    ExitCode::from(status as u8)
+}

@@ -1,0 +1,32 @@
+use crate::solve::{case, words};
+use lift_commands::{Status, run};
+use lift_text::{MemorySink, MemorySource, OpenGate, SureSink};
+use std::test::Fail;
+
+#[test]
+fn a_failing_read_writes_nothing(rt: HostRuntime) -> Result<(), Fail> {
+    let alloc = rt.alloc();
+    let words = words(alloc, &["lift", "solve", "--brief"])?;
+    let input = case(alloc, "8", "car 1 idle 0 0\ncall 1 0 1 1 0 any\n")?;
+    let bytes = input.as_bytes().to_vec(alloc)?;
+    let mut source = MemorySource::new(bytes, 4096, [1].to_vec(alloc)?);
+    let mut sink = SureSink::new(alloc, 8192)?;
+    let status = run(alloc, words.as_slice(), &mut source, &mut sink, &OpenGate);
+    assert_eq!(rt; status, Status::Read);
+    assert_eq!(rt; sink.taken().len(), 0);
+    Ok(())
+}
+
+#[test]
+fn a_failing_write_leaves_a_prefix(rt: HostRuntime) -> Result<(), Fail> {
+    let alloc = rt.alloc();
+    let words = words(alloc, &["lift", "solve", "--brief"])?;
+    let input = case(alloc, "8", "car 1 idle 0 0\ncall 1 0 1 1 0 any\n")?;
+    let bytes = input.as_bytes().to_vec(alloc)?;
+    let mut source = MemorySource::new(bytes, 4096, Vec::new(alloc));
+    let mut sink = MemorySink::new(alloc, 8192, 3, [2].to_vec(alloc)?)?;
+    let status = run(alloc, words.as_slice(), &mut source, &mut sink, &OpenGate);
+    assert_eq!(rt; status, Status::Write);
+    assert_eq!(rt; sink.taken(), b"ans".as_slice());
+    Ok(())
+}

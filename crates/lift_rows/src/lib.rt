@@ -1,0 +1,7 @@
+//! Tests of the whole program: tables of words and inputs with the bytes and the status that are due.
+#![tactic(auto)]
+
+#[cfg(test)]
+mod faults;
+#[cfg(test)]
+mod solve;
