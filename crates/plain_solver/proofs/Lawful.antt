@@ -10,7 +10,7 @@ use Rattle.elevator_model.specs.Building.{floor_count}
 use Rattle.elevator_model.specs.Snapshot.{Snapshot, call_count, serves}
 use Rattle.elevator_model.specs.Tours.{Progress, breaks, rules_but_useless, none_taken, make_stop}
 use Rattle.elevator_model.specs.Partial.{Course, may_stand, may_be_left, go_on, board_on, move_on, all_moves, boards_allowed, lawful_moves}
-use Rattle.tour_rules.proofs.Tests.{AllClear-from, none-from}
+use Rattle.tour_rules.proofs.BoundedTests.{AllClear-from, none-from}
 use Rattle.tour_rules.proofs.Sound.{course_if-some, cond-some}
 use Rattle.tour_rules.proofs.Measure.{may_board}
 

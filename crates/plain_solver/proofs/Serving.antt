@@ -11,7 +11,7 @@ use Rattle.elevator_model.specs.Counting.{any_below}
 use Rattle.elevator_model.specs.Snapshot.{Snapshot, call_count, call_of, state_of, is_idle, serves}
 use Rattle.elevator_model.specs.Tours.{Progress, stays_on, is_later, rider_count, destination_of, broken_at, broken_at_end, none_taken, make_stop, after_stops, start_of, IsFeasible}
 use Rattle.elevator_model.specs.Partial.{Course, course_of, moves_of}
-use Rattle.tour_rules.proofs.Tests.{any_below-none, any_below-false}
+use Rattle.tour_rules.proofs.BoundedTests.{any_below-none, any_below-false}
 use Rattle.tour_rules.proofs.Counts.{count_where, count-any, count-le, count-less_one, count-same}
 use Rattle.tour_rules.proofs.Sound.{AllFine, first_broken-fine}
 use Rattle.tour_rules.proofs.Reached.{moves_reach}

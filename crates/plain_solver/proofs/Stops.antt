@@ -12,7 +12,7 @@ use Rattle.elevator_model.specs.Counting.{any_below, sum_where}
 use Rattle.elevator_model.specs.Building.{Building}
 use Rattle.elevator_model.specs.Snapshot.{Snapshot, call_count, call_of, group_of, spec_of, state_of, is_idle, is_possible, may_stop_first, serves, can_take, is_pinned_elsewhere}
 use Rattle.elevator_model.specs.Tours.{Progress, breaks, rules_of_stop, boards_at, persons_where, stays_on, gets_off, overtakes, is_call_for, is_later, rider_count, persons_of, destination_of, turns_with, has_leg, broken_at, none_taken, is_aboard}
-use Rattle.tour_rules.proofs.Tests.{any_below-at, any_below-none, first_rule-clear, same_function}
+use Rattle.tour_rules.proofs.BoundedTests.{any_below-at, any_below-none, first_rule-clear, same_function}
 
 abbrev pub at : ℕ → List ℕ → Stop
 at g boards = record { floor = g; boards = boards }

@@ -9,7 +9,7 @@ use Rattle.elevator_model.specs.declared.Move.TheVariants.{Board, Leave, End}
 use Rattle.elevator_model.specs.Counting.{is_among}
 use Rattle.elevator_model.specs.Snapshot.{Snapshot, call_count}
 use Rattle.elevator_model.specs.Partial.{Course, course_start, course_of, go_on, board_on, end_on, move_on, moves_on, rising_boards, moves_of_stop, moves_of}
-use Rattle.tour_rules.proofs.Tests.{list_any-append}
+use Rattle.tour_rules.proofs.BoundedTests.{list_any-append}
 use Rattle.tour_rules.proofs.Sound.{course_if-some, cond-some, leads_on}
 use Rattle.tour_rules.proofs.Measure.{may_board}
 

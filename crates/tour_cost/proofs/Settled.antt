@@ -7,7 +7,7 @@ use Rattle.elevator_model.specs.Counting.{has, is_among, sum_where}
 use Rattle.elevator_model.specs.Snapshot.{Snapshot, call_count, call_of, group_of, spec_of}
 use Rattle.elevator_model.specs.Tours.{Progress, rider_count, destination_of, is_aboard, gets_off, boards_at, make_stop, start_of, arrival, breaks, broken_at, none_taken, rules_of_stop}
 use Rattle.elevator_model.specs.Costs.{cost_of_wait, cost_of_rider, is_delivered, settled_cost}
-use Rattle.tour_rules.proofs.Tests.{AllClear, AllClear-from, any_below-false, sum_below-same}
+use Rattle.tour_rules.proofs.BoundedTests.{AllClear, AllClear-from, any_below-false, sum_below-same}
 use Rattle.tour_cost.specs.declared.rides.Ride.{Ride}
 use Rattle.tour_cost.specs.Rides.{Tracks, is_group_off}
 use Rattle.tour_cost.specs.Leaving.{IsKept, AreBoarded, leaving_cost, cost_of_call, cost_of_group}

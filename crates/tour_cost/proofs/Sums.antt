@@ -3,7 +3,7 @@ use Rattle.std.proofs.Common.{◌≡◌, ℕ, zero, suc, ◌+◌, ◌*◌, ◌<�
 use Rattle.std.proofs.lemmas.Bool.{false≢true}
 use Rattle.std.proofs.Math.Nat.{eq-or-lt_of_le}
 use Rattle.elevator_model.specs.Counting.{sum_below, sum_where}
-use Rattle.tour_rules.proofs.Tests.{sum_below-same}
+use Rattle.tour_rules.proofs.BoundedTests.{sum_below-same}
 
 pub sum_below-more : (n : ℕ) (f : ℕ → ℕ) → sum_below (n + 1) f ≡ sum_below n f + f n
 sum_below-more n f = let e : n + 1 ≡ suc n = omega arith in ap (λ (m : ℕ). sum_below m f) e

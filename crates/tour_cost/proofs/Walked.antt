@@ -10,7 +10,7 @@ use Rattle.elevator_model.specs.Building.{floor_count}
 use Rattle.elevator_model.specs.Snapshot.{Snapshot, call_count, call_of, group_of, car_count, serves, is_possible, IsAccepted}
 use Rattle.elevator_model.specs.Tours.{Progress, is_aboard, boards_at, make_stop, after_stops, start_of, breaks, broken_at, none_taken, rules_of_stop, is_call_for, IsFeasible, gets_off, destination_of, arrival}
 use Rattle.elevator_model.specs.Costs.{settled_cost, times_from}
-use Rattle.tour_rules.proofs.Tests.{AllClear-from, list_any-false}
+use Rattle.tour_rules.proofs.BoundedTests.{AllClear-from, list_any-false}
 use Rattle.tour_rules.proofs.Sound.{AllFine, after_stops-push}
 use Rattle.tour_cost.specs.declared.rides.Ride.{Ride}
 use Rattle.tour_cost.specs.Rides.{Tracks, IsStopOf}

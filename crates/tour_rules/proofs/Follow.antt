@@ -22,7 +22,7 @@ use Rattle.tour_rules.specs.Courses.{IsBegun, StopTracked, TracksCourse, is_afte
 use Rattle.tour_rules.proofs.Next.{may_stand-more, stands_empty, persons_more}
 use Rattle.tour_rules.proofs.Measure.{among_last, among_other, not_among_below, may_board}
 use Rattle.tour_rules.proofs.Riders.{at_call, boards_set, zero_has}
-use Rattle.tour_rules.proofs.Tests.{AllClear-from, none-from, sum_below-same, sum_below-zero}
+use Rattle.tour_rules.proofs.BoundedTests.{AllClear-from, none-from, sum_below-same, sum_below-zero}
 use Rattle.tour_rules.proofs.Reached.{moves_on-append, left_after}
 use Rattle.tour_rules.proofs.Sound.{course_if-some, cond-some, moves_on-none}
 

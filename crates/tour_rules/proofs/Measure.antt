@@ -12,7 +12,7 @@ use Rattle.elevator_model.specs.Snapshot.{Snapshot, call_count, call_of, state_o
 use Rattle.elevator_model.specs.Tours.{Progress, breaks, first_rule, rules_but_useless, rules_of_stop, boards_at, broken_at, none_taken, make_stop, gets_off, stays_on, rider_count, is_call_for, start_of, is_aboard, destination_of}
 use Rattle.elevator_model.specs.Partial.{Course, course_start, course_if, may_stand, may_be_left, may_end, go_on, board_on, end_on, move_on, moves_on, course_of}
 use Rattle.tour_rules.specs.Measure.{count_below, groups_of, most_moves, boards_here, spare, moves_left}
-use Rattle.tour_rules.proofs.Tests.{AllClear, AllClear-from, none-from, list_any-append, list_any-false, any_below-false}
+use Rattle.tour_rules.proofs.BoundedTests.{AllClear, AllClear-from, none-from, list_any-append, list_any-false, any_below-false}
 use Rattle.tour_rules.proofs.Counts.{count-same, count-none, count-all, count-le, count-some, count-any, count-less_one, count-split, count-joined, count-beyond}
 use Rattle.tour_rules.proofs.Sound.{course_if-some, cond-some, leads_on, moves_on-none}
 

@@ -13,7 +13,7 @@ use Rattle.elevator_model.specs.Snapshot.{Snapshot, call_count, call_of, spec_of
 use Rattle.elevator_model.specs.Tours.{Progress, breaks, first_rule, rules_but_useless, rules_of_stop, boards_at, broken_at, none_taken, stays_on, rider_count, persons_where, persons_of, is_call_for, overtakes}
 use Rattle.elevator_model.specs.Partial.{Course, course_if, may_stand, may_be_left}
 use Rattle.tour_rules.specs.Courses.{board_test, empty_stop, may_leave}
-use Rattle.tour_rules.proofs.Tests.{AllClear, AllClear-from, first_rule-clear, none-from, is_none-at, list_any-append, list_any-false, any_below-false, any_below-none, sum_below-same}
+use Rattle.tour_rules.proofs.BoundedTests.{AllClear, AllClear-from, first_rule-clear, none-from, is_none-at, list_any-append, list_any-false, any_below-false, any_below-none, sum_below-same}
 use Rattle.tour_rules.proofs.Measure.{among_last, among_other, not_among_below, MayBoard, may_board}
 use Rattle.tour_rules.proofs.Rising.{count-cons, count-none, count-append}
 

@@ -10,7 +10,7 @@ use Rattle.tour_rules.specs.declared.places.Place.{Place}
 use Rattle.tour_rules.specs.declared.places.Heading.{Heading}
 use Rattle.tour_rules.specs.declared.places.Heading.TheVariants.{To, Elsewhere, Below, Above, Anywhere}
 use Rattle.tour_rules.specs.Places.{heads, call_in, group_in, call_heads, group_heads, group_carried, rider_heads, carries, Tracks, IsBoardSet}
-use Rattle.tour_rules.proofs.Tests.{any_below-same, any_below-split, sum_below-same, sum_below-split, sum_below-zero}
+use Rattle.tour_rules.proofs.BoundedTests.{any_below-same, any_below-split, sum_below-same, sum_below-split, sum_below-zero}
 
 -- a choice between calls and groups, at a call and at a group
 pub at_call : {X : Type 0} (r n : ℕ) (x y : X) → r < n → cond (ltb r n) x y ≡ x

@@ -10,7 +10,7 @@ use Rattle.elevator_model.specs.Counting.{any_below, sum_below, sum_where, is_am
 use Rattle.elevator_model.specs.Snapshot.{Snapshot, call_count}
 use Rattle.elevator_model.specs.Tours.{Progress, boards_at, broken_at, make_stop}
 use Rattle.elevator_model.specs.Partial.{rising_boards}
-use Rattle.tour_rules.proofs.Tests.{list_any-append, same_function}
+use Rattle.tour_rules.proofs.BoundedTests.{list_any-append, same_function}
 use Rattle.tour_rules.proofs.Stands.{ArePart}
 
 abbrev chosen : (ℕ → Bool) → (a m : ℕ) → List ℕ

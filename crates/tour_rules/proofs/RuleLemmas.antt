@@ -13,7 +13,7 @@ use Rattle.elevator_model.specs.declared.Rule.{Rule}
 use Rattle.tour_rules.specs.declared.places.Place.{Place}
 use Rattle.tour_rules.specs.declared.places.Heading.TheVariants.{To, Elsewhere, Below, Above, Anywhere}
 use Rattle.tour_rules.specs.Places.{call_in, call_heads, heads, Tracks, HasBoards}
-use Rattle.tour_rules.proofs.Tests.{any_below-same, any_below-at, any_below-none, any_below-true}
+use Rattle.tour_rules.proofs.BoundedTests.{any_below-same, any_below-at, any_below-none, any_below-true}
 use Rattle.tour_rules.specs.declared.points.Begun.{Begun}
 use Rattle.tour_rules.specs.Courses.{IsBegun, is_after, board_test}
 use Rattle.tour_rules.proofs.Riders.{boards_set, at_call}

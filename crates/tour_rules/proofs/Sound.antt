@@ -10,7 +10,7 @@ use Rattle.elevator_model.specs.declared.Move.TheVariants.{Board, Leave, End}
 use Rattle.elevator_model.specs.Snapshot.{Snapshot}
 use Rattle.elevator_model.specs.Tours.{Progress, broken_at, broken_at_end, broken_or, first_broken_from, IsFeasible, none_taken, make_stop, after_stops, start_of}
 use Rattle.elevator_model.specs.Partial.{Course, course_start, course_if, may_stand, may_be_left, may_end, go_on, board_on, end_on, move_on, move_on_from, moves_on, course_of}
-use Rattle.tour_rules.proofs.Tests.{none-from}
+use Rattle.tour_rules.proofs.BoundedTests.{none-from}
 
 -- each of the stops breaks no rule after those before it
 abbrev pub AllFine : Snapshot → ℕ → Progress → List Stop → Type 0

@@ -10,7 +10,7 @@ use Rattle.elevator_model.specs.Counting.{any_below, sum_below, sum_where, is_am
 use Rattle.elevator_model.specs.Snapshot.{Snapshot, call_count, call_of, spec_of}
 use Rattle.elevator_model.specs.Tours.{Progress, breaks, first_rule, rules_but_useless, rules_of_stop, boards_at, persons_where, stays_on, overtakes, is_call_for, rider_count, persons_of, broken_at, none_taken, make_stop}
 use Rattle.elevator_model.specs.Partial.{may_stand, may_be_left}
-use Rattle.tour_rules.proofs.Tests.{any_below-less, any_below-none, any_below-false, sum_where-less, list_any-false, list_any-none, AllClear, AllClear-from, first_rule-clear, none-from, is_none-at, same_function}
+use Rattle.tour_rules.proofs.BoundedTests.{any_below-less, any_below-none, any_below-false, sum_where-less, list_any-false, list_any-none, AllClear, AllClear-from, first_rule-clear, none-from, is_none-at, same_function}
 
 -- each board of the one list is in the other, and one that stands twice in it stands twice in the other
 pub record ArePart (fewer more : List ℕ) : Type 0 where

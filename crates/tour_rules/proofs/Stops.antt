@@ -10,7 +10,7 @@ use Rattle.elevator_model.specs.Snapshot.{Snapshot, call_count, car_count, group
 use Rattle.elevator_model.specs.Tours.{Progress, breaks, broken_at, rules_of_stop, none_taken, make_stop, broken_or, first_broken_from, boards_at, gets_off, stays_on, rider_count, is_aboard, start_of}
 use Rattle.elevator_model.specs.Partial.{may_be_left}
 use Rattle.tour_rules.specs.Measure.{count_below, groups_of, stops_left, spare}
-use Rattle.tour_rules.proofs.Tests.{AllClear, AllClear-from, any_below-false, is_none-at, sum_below-le, sum_below-split, sum_below-same, sum_below-zero, same_function}
+use Rattle.tour_rules.proofs.BoundedTests.{AllClear, AllClear-from, any_below-false, is_none-at, sum_below-le, sum_below-split, sum_below-same, sum_below-zero, same_function}
 use Rattle.tour_rules.proofs.Counts.{count-same, count-none, count-all, count-le, count-joined, count-split}
 use Rattle.tour_rules.proofs.Measure.{boards_count, boards_same, carried_split, after_carried, useful}
 use Rattle.tour_rules.proofs.Riders.{zero_has}

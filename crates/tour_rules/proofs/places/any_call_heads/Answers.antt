@@ -2,7 +2,7 @@ use Rattle.std.proofs.Common.{sym, length, arith}
 use Rattle.std.proofs.lemmas.Bool.{and_from}
 use Rattle.std.proofs.lemmas.Grind.{common_steps}
 use Rattle.tour_rules.specs.Places.{call_heads}
-use Rattle.tour_rules.proofs.Tests.{any_below-at}
+use Rattle.tour_rules.proofs.BoundedTests.{any_below-at}
 use Rattle.tour_rules.proofs.places.any_call_heads.Goals as goal
 
 pub returns-then-includes : goal.returns-then-includes
