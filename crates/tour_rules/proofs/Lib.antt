@@ -1,4 +1,4 @@
-pub mod Tests
+pub mod BoundedTests
 pub mod Stands
 pub mod Rising
 pub mod Reached
