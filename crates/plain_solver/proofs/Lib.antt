@@ -4,7 +4,6 @@ pub mod Small
 pub mod OneTour
 pub mod Lawful
 pub mod Distinct
-pub mod Told
 pub mod Search
 pub mod Listed
 pub mod Best

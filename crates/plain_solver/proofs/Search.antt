@@ -24,7 +24,7 @@ use Rattle.tour_rules.proofs.Sound.{course_if-some, cond-some, leads_on, ended_f
 use Rattle.plain_solver.specs.Listed.{ends_tour, tour_at, IsListed, AddsTours}
 use Rattle.plain_solver.proofs.Lawful.{In, in_lawful, at_place, lawful_at}
 use Rattle.plain_solver.proofs.Distinct.{AreDistinct, distinct_places}
-use Rattle.plain_solver.proofs.Told.{moves_told}
+use Rattle.tour_rules.proofs.Told.{moves_told}
 
 abbrev pub left_of : Snapshot → ℕ → Option Course → ℕ
 left_of s c None = 0

@@ -1,9 +1,9 @@
 -- How many numbers below a bound pass a test.
-use Rattle.std.proofs.Common.{◌≡◌, ℕ, zero, suc, ◌+◌, ◌-◌, ◌*◌, ◌<◌, ◌≤◌, Bool, true, false, cond, not, ◌&&◌, ◌||◌, eqb, ltb, leb, refl, sym, ap, ◌∙◌, subst, inl, inr, arith}
-use Rattle.std.proofs.lemmas.Bool.{or_cases, false≢true, cases_Bool, both_ways, and_parts}
+use Rattle.std.proofs.Common.{◌≡◌, ℕ, zero, suc, ◌+◌, ◌<◌, ◌≤◌, Bool, true, false, cond, ◌&&◌, ◌||◌, refl, sym, ap, ◌∙◌, subst, inl, inr, arith}
+use Rattle.std.proofs.lemmas.Bool.{false≢true}
 use Rattle.std.proofs.Math.Nat.{eq-or-lt_of_le}
-use Rattle.elevator_model.specs.Counting.{any_below, sum_below, sum_where}
-use Rattle.tour_rules.proofs.BoundedTests.{sum_below-le, sum_below-same, any_below-true}
+use Rattle.elevator_model.specs.Counting.{any_below, sum_where}
+use Rattle.tour_rules.proofs.BoundedTests.{sum_below-same, any_below-true}
 
 abbrev pub count_where : ℕ → (ℕ → Bool) → ℕ
 count_where n t = sum_where n t (λ _. 1)

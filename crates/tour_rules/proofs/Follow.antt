@@ -1,23 +1,22 @@
 -- Moves that follow a partial tour, and where they lead.
-use Rattle.std.proofs.Common.{◌==◌, ◌≡◌, ℕ, zero, suc, ◌+◌, ◌-◌, ◌*◌, ◌<◌, ◌≤◌, Bool, true, false, cond, not, ◌&&◌, ◌||◌, eqb, ltb, leb, List, [], ◌∷◌, ◌++◌, map, length, refl, sym, ap, ◌∙◌, subst, inl, inr, arith, append_assoc, Option, Some, None}
-use Rattle.std.specs.List.{list_any, list_all, filter, range_with_len}
-use Rattle.std.specs.Option.{is_none, is_some, IsSome}
+use Rattle.std.proofs.Common.{◌≡◌, ℕ, ◌+◌, ◌-◌, ◌<◌, ◌≤◌, Bool, true, false, cond, ◌&&◌, eqb, ltb, List, [], ◌∷◌, ◌++◌, map, refl, sym, ap, ◌∙◌, subst, inl, inr, arith, append_assoc, Option, Some, None}
+use Rattle.std.specs.List.{list_all, filter, range_with_len}
+use Rattle.std.specs.Option.{is_some, IsSome}
 use Rattle.std.proofs.lemmas.List.Elements.{filter-append}
 use Rattle.std.proofs.lemmas.List.FromFn.{filter_of_map_range_with_len_more}
-use Rattle.std.proofs.lemmas.Bool.{or_cases, or_left, or_right, and_parts, and_from, and_left, and_right, false≢true, cases_Bool, ltb-true, lt-ltb, le-ltb, eqb-true, eq-eqb, ne_eqb, eqb-false, leb-true, ltb-false, not-false, false_from_ne_true}
-use Rattle.elevator_model.specs.declared.Rule.{Rule}
+use Rattle.std.proofs.lemmas.Bool.{and_parts, and_right, false≢true, cases_Bool, ltb-true, lt-ltb, eqb-true, eqb-false, ltb-false, not-false}
 use Rattle.elevator_model.specs.declared.Stop.{Stop}
 use Rattle.elevator_model.specs.declared.Move.{Move}
 use Rattle.elevator_model.specs.declared.Move.TheVariants.{Board, Leave, End}
-use Rattle.elevator_model.specs.Counting.{any_below, is_among, has}
+use Rattle.elevator_model.specs.Counting.{is_among, has}
 use Rattle.elevator_model.specs.Snapshot.{Snapshot, call_count, call_of, group_of, spec_of, serves}
 use Rattle.elevator_model.specs.Building.{floor_count}
-use Rattle.elevator_model.specs.Tours.{Progress, breaks, rules_but_useless, broken_at_end, none_taken, make_stop, stop_at, boards_at, stays_on, persons_where, persons_of, rider_count}
+use Rattle.elevator_model.specs.Tours.{Progress, breaks, rules_but_useless, none_taken, stop_at, boards_at, stays_on, persons_where, persons_of, rider_count}
 use Rattle.elevator_model.specs.Partial.{Course, course_start, course_if, may_stand, may_be_left, may_end, go_on, board_on, end_on, move_on, move_on_from, moves_on, course_of}
 use Rattle.tour_rules.specs.declared.points.Point.{Point}
 use Rattle.tour_rules.specs.declared.places.Place.{Place}
 use Rattle.tour_rules.specs.declared.points.Begun.{Begun}
-use Rattle.tour_rules.specs.Places.{Tracks, IsBoardSet, HasBoards}
+use Rattle.tour_rules.specs.Places.{Tracks, IsBoardSet}
 use Rattle.tour_rules.specs.Courses.{IsBegun, StopTracked, TracksCourse, is_after, board_test, empty_stop, may_leave, progress_after, with_call_on}
 use Rattle.tour_rules.proofs.Next.{may_stand-more, stands_empty, persons_more}
 use Rattle.tour_rules.proofs.Measure.{among_last, among_other, not_among_below, may_board}

@@ -11,3 +11,4 @@ pub mod Stops
 pub mod Next
 pub mod Follow
 pub mod Prefixes
+pub mod Told

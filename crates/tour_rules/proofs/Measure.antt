@@ -1,20 +1,18 @@
 -- Each lawful move makes fewer moves possible.
-use Rattle.std.proofs.Common.{◌==◌, ◌≡◌, ℕ, zero, suc, ◌+◌, ◌-◌, ◌*◌, ◌<◌, ◌≤◌, Bool, true, false, cond, not, ◌&&◌, ◌||◌, eqb, ltb, leb, List, [], ◌∷◌, ◌++◌, length, refl, sym, ap, ◌∙◌, subst, inl, inr, arith, Option, Some, None}
-use Rattle.std.specs.List.{list_any, list_all, count_by}
-use Rattle.std.proofs.lemmas.Bool.{or_cases, or_parts, or_left, or_right, or_from, and_parts, and_cases, and_from, and_left, and_right, false≢true, cases_Bool, both_ways, ltb-true, lt-ltb, eqb-true, eq-eqb, ne_eqb, false_from_ne_true, true_from_ne_false, not-true, not-false, not_from_true, not_from_false}
-use Rattle.elevator_model.specs.declared.Rule.{Rule}
-use Rattle.elevator_model.specs.declared.Rule.TheVariants.{FirstStop, SameFloorTwice, UselessStop, TurnWithPassengers, Capacity, QueueOrder, Car, Floor, Delivery, CallTwice, Place}
+use Rattle.std.proofs.Common.{◌==◌, ◌≡◌, ℕ, ◌+◌, ◌*◌, ◌<◌, ◌≤◌, Bool, true, false, cond, not, ◌&&◌, ◌||◌, eqb, ltb, leb, List, [], ◌∷◌, ◌++◌, length, refl, sym, ap, ◌∙◌, subst, inl, inr, arith, Option, Some, None}
+use Rattle.std.specs.List.{list_all, count_by}
+use Rattle.std.proofs.lemmas.Bool.{or_left, or_right, or_from, and_parts, and_from, and_left, and_right, false≢true, cases_Bool, ltb-true, lt-ltb, eq-eqb, ne_eqb, false_from_ne_true, not-false, not_from_true, not_from_false}
 use Rattle.elevator_model.specs.declared.Stop.{Stop}
 use Rattle.elevator_model.specs.declared.Move.{Move}
 use Rattle.elevator_model.specs.declared.Move.TheVariants.{Board, Leave, End}
 use Rattle.elevator_model.specs.Counting.{any_below, is_among}
 use Rattle.elevator_model.specs.Snapshot.{Snapshot, call_count, call_of, state_of, is_idle, is_possible}
-use Rattle.elevator_model.specs.Tours.{Progress, breaks, first_rule, rules_but_useless, rules_of_stop, boards_at, broken_at, none_taken, make_stop, gets_off, stays_on, rider_count, is_call_for, start_of, is_aboard, destination_of}
-use Rattle.elevator_model.specs.Partial.{Course, course_start, course_if, may_stand, may_be_left, may_end, go_on, board_on, end_on, move_on, moves_on, course_of}
-use Rattle.tour_rules.specs.Measure.{count_below, groups_of, most_moves, boards_here, spare, moves_left}
-use Rattle.tour_rules.proofs.BoundedTests.{AllClear, AllClear-from, none-from, list_any-append, list_any-false, any_below-false}
-use Rattle.tour_rules.proofs.Counts.{count-same, count-none, count-all, count-le, count-some, count-any, count-less_one, count-split, count-joined, count-beyond}
-use Rattle.tour_rules.proofs.Sound.{course_if-some, cond-some, leads_on, moves_on-none}
+use Rattle.elevator_model.specs.Tours.{Progress, breaks, rules_but_useless, rules_of_stop, boards_at, broken_at, none_taken, make_stop, gets_off, stays_on, rider_count, is_call_for, destination_of}
+use Rattle.elevator_model.specs.Partial.{Course, course_start, may_stand, may_be_left, go_on, board_on, end_on, move_on, moves_on, course_of}
+use Rattle.tour_rules.specs.Measure.{count_below, most_moves, boards_here, spare, moves_left}
+use Rattle.tour_rules.proofs.BoundedTests.{AllClear-from, none-from, list_any-append, list_any-false, any_below-false}
+use Rattle.tour_rules.proofs.Counts.{count-same, count-none, count-le, count-any, count-less_one, count-split, count-joined, count-beyond}
+use Rattle.tour_rules.proofs.Sound.{course_if-some, cond-some, leads_on}
 
 -- ---- at a stop
 

@@ -1,20 +1,17 @@
 -- Which moves may follow, tested on sets.
-use Rattle.std.proofs.Common.{◌==◌, ◌≡◌, ℕ, zero, suc, ◌+◌, ◌-◌, ◌*◌, ◌<◌, ◌≤◌, Bool, true, false, cond, not, ◌&&◌, ◌||◌, eqb, ltb, leb, List, [], ◌∷◌, ◌++◌, length, refl, sym, ap, ◌∙◌, subst, inl, inr, arith, Option, Some, None, count_by}
-use Rattle.std.specs.List.{list_any, list_all, sum_by}
-use Rattle.std.specs.Option.{is_none, is_some}
-use Rattle.std.proofs.lemmas.Bool.{or_cases, or_parts, or_left, or_right, or_from, and_parts, and_from, and_left, and_right, false≢true, cases_Bool, both_ways, ltb-true, ltb-false, lt-ltb, le-ltb, le-leb, leb-true, lt-leb, eqb-true, eq-eqb, ne_eqb, eqb-false, false_from_ne_true, not-true, not-false, not_from_true, not_from_false}
-use Rattle.std.proofs.lemmas.List.Sums.{sum_by-cons}
+use Rattle.std.proofs.Common.{◌==◌, ◌≡◌, ℕ, zero, suc, ◌+◌, ◌<◌, ◌≤◌, Bool, true, false, cond, not, ◌&&◌, ◌||◌, eqb, ltb, leb, List, [], ◌∷◌, ◌++◌, refl, sym, ap, ◌∙◌, subst, inl, inr, arith, count_by}
+use Rattle.std.specs.List.{list_all}
+use Rattle.std.proofs.lemmas.Bool.{or_from, and_parts, and_from, and_left, and_right, cases_Bool, both_ways, ltb-true, ltb-false, lt-ltb, le-ltb, le-leb, leb-true, lt-leb, eqb-true, eq-eqb, ne_eqb, eqb-false, false_from_ne_true, not-true, not-false, not_from_true, not_from_false}
 use Rattle.std.proofs.Math.Nat.{eq-or-lt_of_le}
-use Rattle.elevator_model.specs.declared.Rule.{Rule}
-use Rattle.elevator_model.specs.declared.Rule.TheVariants.{FirstStop, SameFloorTwice, UselessStop, TurnWithPassengers, Capacity, QueueOrder, Car, Floor, CallTwice, Place}
+use Rattle.elevator_model.specs.declared.Rule.TheVariants.{FirstStop, SameFloorTwice, UselessStop, TurnWithPassengers, Capacity, Floor}
 use Rattle.elevator_model.specs.declared.Stop.{Stop}
-use Rattle.elevator_model.specs.Counting.{any_below, sum_below, sum_where, is_among}
-use Rattle.elevator_model.specs.Snapshot.{Snapshot, call_count, call_of, spec_of, state_of, is_possible}
+use Rattle.elevator_model.specs.Counting.{any_below, sum_where, is_among}
+use Rattle.elevator_model.specs.Snapshot.{Snapshot, call_count, call_of, spec_of, is_possible}
 use Rattle.elevator_model.specs.Tours.{Progress, breaks, first_rule, rules_but_useless, rules_of_stop, boards_at, broken_at, none_taken, stays_on, rider_count, persons_where, persons_of, is_call_for, overtakes}
-use Rattle.elevator_model.specs.Partial.{Course, course_if, may_stand, may_be_left}
-use Rattle.tour_rules.specs.Courses.{board_test, empty_stop, may_leave}
-use Rattle.tour_rules.proofs.BoundedTests.{AllClear, AllClear-from, first_rule-clear, none-from, is_none-at, list_any-append, list_any-false, any_below-false, any_below-none, sum_below-same}
-use Rattle.tour_rules.proofs.Measure.{among_last, among_other, not_among_below, MayBoard, may_board}
+use Rattle.elevator_model.specs.Partial.{may_stand, may_be_left}
+use Rattle.tour_rules.specs.Courses.{board_test, empty_stop}
+use Rattle.tour_rules.proofs.BoundedTests.{AllClear-from, first_rule-clear, none-from, is_none-at, list_any-append, any_below-false, any_below-none, sum_below-same}
+use Rattle.tour_rules.proofs.Measure.{among_last, among_other, not_among_below, may_board}
 use Rattle.tour_rules.proofs.Rising.{count-cons, count-none, count-append}
 
 pub same_bool : (a b : Bool) → (a ≡ true → b ≡ true) → (b ≡ true → a ≡ true) → a ≡ b

@@ -1,15 +1,14 @@
 -- Partial tours with a point after each move, one move longer and one move shorter; the stops they make.
-use Rattle.std.proofs.Common.{◌≡◌, ℕ, zero, suc, ◌+◌, ◌-◌, ◌<◌, ◌≤◌, Bool, true, false, min, List, [], ◌∷◌, ◌++◌, length, take, drop, get_or, fold, refl, sym, ap, ◌∙◌, subst, inl, inr, arith, Option, Some, None, append-nil, append_assoc, length-append}
-use Rattle.std.proofs.lemmas.List.{take-append-le, take-take, take_all, take-append-drop, length-take, length-take-le, get_or_append_left, get_or-take, get_or_push}
+use Rattle.std.proofs.Common.{◌≡◌, ℕ, ◌+◌, ◌<◌, ◌≤◌, true, List, [], ◌∷◌, ◌++◌, length, take, drop, get_or, fold, refl, sym, ap, ◌∙◌, subst, inl, inr, arith, Option, Some, None, length-append}
+use Rattle.std.proofs.lemmas.List.{take-append-le, take-take, take_all, take-append-drop, length-take-le, get_or_append_left, get_or-take, get_or_push}
 use Rattle.std.proofs.Math.Nat.{eq-or-lt_of_le}
 use Rattle.std.proofs.lemmas.Bool.{false≢true}
 use Rattle.elevator_model.specs.declared.Stop.{Stop}
 use Rattle.elevator_model.specs.declared.Move.{Move}
 use Rattle.elevator_model.specs.declared.Move.TheVariants.{Board, Leave, End}
-use Rattle.elevator_model.specs.Snapshot.{Snapshot, IsAccepted, car_count, call_count}
+use Rattle.elevator_model.specs.Snapshot.{Snapshot, IsAccepted, car_count}
 use Rattle.elevator_model.specs.Partial.{Course, course_start, course_of, move_on, moves_on, IsLawful}
 use Rattle.tour_rules.specs.declared.points.Point.{Point}
-use Rattle.tour_rules.specs.Measure.{most_moves, moves_left}
 use Rattle.tour_rules.specs.Courses.{TracksCourse, LeadsOn, with_call_on}
 use Rattle.tour_rules.specs.Prefixes.{IsPrefix}
 use Rattle.tour_rules.specs.PartialTour.{with_board_made, with_move_made, stops_made}

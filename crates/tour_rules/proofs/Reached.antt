@@ -1,19 +1,19 @@
 -- The moves of a feasible tour are lawful, one after another, and lead to its end.
-use Rattle.std.proofs.Common.{◌≡◌, ℕ, zero, suc, ◌+◌, ◌<◌, ◌≤◌, Bool, true, false, cond, not, ◌&&◌, ◌||◌, ltb, List, [], ◌∷◌, ◌++◌, map, length, refl, sym, ap, ◌∙◌, subst, arith, append_assoc, append-nil, Option, Some, None}
+use Rattle.std.proofs.Common.{◌≡◌, ℕ, ◌+◌, Bool, true, false, not, ◌&&◌, ◌||◌, ltb, List, [], ◌∷◌, ◌++◌, map, refl, sym, ap, ◌∙◌, subst, append_assoc, append-nil, Option, Some, None}
 use Rattle.std.specs.List.{list_all, flat_map}
 use Rattle.std.proofs.lemmas.Bool.{and_from}
 use Rattle.elevator_model.specs.declared.Rule.{Rule}
-use Rattle.elevator_model.specs.declared.Rule.TheVariants.{FirstStop, SameFloorTwice, UselessStop, TurnWithPassengers, Capacity, QueueOrder, Car, Floor, Delivery, CallTwice, Place}
+use Rattle.elevator_model.specs.declared.Rule.TheVariants.{UselessStop}
 use Rattle.elevator_model.specs.declared.Stop.{Stop}
 use Rattle.elevator_model.specs.declared.Broken.{Broken}
 use Rattle.elevator_model.specs.declared.Move.{Move}
-use Rattle.elevator_model.specs.declared.Move.TheVariants.{Board, Leave, End}
+use Rattle.elevator_model.specs.declared.Move.TheVariants.{Board, End}
 use Rattle.elevator_model.specs.Counting.{any_below, is_among}
 use Rattle.elevator_model.specs.Snapshot.{Snapshot, call_count, is_idle, state_of}
-use Rattle.elevator_model.specs.Tours.{Progress, breaks, first_rule, rules_but_useless, rules_of_stop, boards_at, broken_at, broken_at_end, broken_or, first_broken_from, IsFeasible, none_taken, make_stop, stop_at, after_stops, start_of, gets_off, rider_count}
-use Rattle.elevator_model.specs.Partial.{Course, course_start, course_if, may_stand, may_be_left, may_end, go_on, board_on, end_on, move_on, move_on_from, moves_on, course_of, rising_boards, moves_of_stop, moves_of}
+use Rattle.elevator_model.specs.Tours.{Progress, breaks, first_rule, rules_but_useless, rules_of_stop, broken_at, broken_at_end, broken_or, first_broken_from, IsFeasible, none_taken, make_stop, stop_at, after_stops, start_of, gets_off, rider_count}
+use Rattle.elevator_model.specs.Partial.{Course, course_if, may_stand, may_be_left, may_end, go_on, end_on, move_on_from, moves_on, course_of, rising_boards, moves_of_stop, moves_of}
 use Rattle.tour_rules.proofs.BoundedTests.{AllClear, AllClear-from, first_rule-clear, is_none-at}
-use Rattle.tour_rules.proofs.Stands.{ArePart, stands_part}
+use Rattle.tour_rules.proofs.Stands.{stands_part}
 use Rattle.tour_rules.proofs.Rising.{Follows, chosen_follows, rising_same, rising_part, front_part}
 
 abbrev at : ℕ → List ℕ → Stop

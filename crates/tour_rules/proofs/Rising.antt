@@ -1,14 +1,12 @@
 -- The boards of a stop by rising index: the same calls, each once.
-use Rattle.std.proofs.Common.{◌==◌, ◌≡◌, ℕ, zero, suc, ◌+◌, ◌-◌, ◌*◌, ◌<◌, ◌≤◌, Bool, true, false, cond, not, ◌&&◌, ◌||◌, ◌⊎◌, eqb, ltb, leb, List, [], ◌∷◌, ◌++◌, length, refl, sym, ap, ◌∙◌, subst, inl, inr, arith, rules, append_assoc, Option, Some, None}
-use Rattle.std.specs.List.{list_any, list_all, filter, range_with_len, count_by, sum_by}
-use Rattle.std.specs.Option.{is_none}
-use Rattle.std.proofs.lemmas.Bool.{or_parts, or_from, or_cases, or_left, or_right, and_parts, and_from, and_cases, and_left, and_right, false≢true, false_from_ne_true, both_ways, ltb-true, lt-ltb, ltb-false, le-ltb, eqb-true, eq-eqb, ne_eqb, lt-leb, leb-true, le-leb, cases_Bool}
+use Rattle.std.proofs.Common.{◌==◌, ◌≡◌, ℕ, zero, suc, ◌+◌, ◌<◌, ◌≤◌, Bool, true, false, cond, ◌&&◌, eqb, ltb, List, [], ◌∷◌, ◌++◌, refl, sym, ap, ◌∙◌, subst, inl, inr, arith}
+use Rattle.std.specs.List.{list_all, filter, range_with_len, count_by}
+use Rattle.std.proofs.lemmas.Bool.{or_parts, or_cases, or_left, or_right, and_parts, and_from, and_left, false≢true, false_from_ne_true, both_ways, ltb-true, lt-ltb, eqb-true, eq-eqb, leb-true, le-leb, cases_Bool}
 use Rattle.std.proofs.Math.Nat.{eq-or-lt_of_le}
 use Rattle.std.proofs.lemmas.List.Sums.{sum_by-cons, sum_by-append}
-use Rattle.elevator_model.specs.declared.Stop.{Stop}
-use Rattle.elevator_model.specs.Counting.{any_below, sum_below, sum_where, is_among}
+use Rattle.elevator_model.specs.Counting.{is_among}
 use Rattle.elevator_model.specs.Snapshot.{Snapshot, call_count}
-use Rattle.elevator_model.specs.Tours.{Progress, boards_at, broken_at, make_stop}
+use Rattle.elevator_model.specs.Tours.{boards_at}
 use Rattle.elevator_model.specs.Partial.{rising_boards}
 use Rattle.tour_rules.proofs.BoundedTests.{list_any-append, same_function}
 use Rattle.tour_rules.proofs.Stands.{ArePart}

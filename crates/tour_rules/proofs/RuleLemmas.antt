@@ -1,11 +1,9 @@
 -- The rules, tested on sets, against the definition.
-use Rattle.std.proofs.Common.{◌-◌, [], ◌∷◌, Some, None, Option, get_or, drop, ◌==◌, ◌≡◌, ℕ, ◌+◌, ◌<◌, ◌≤◌, Bool, true, false, cond, not, ◌&&◌, ◌||◌, eqb, ltb, leb, List, length, count_by, refl, sym, ap, ◌∙◌, subst, arith, inl, inr}
-use Rattle.std.proofs.lemmas.Bool.{and_right, cases_Bool, false≢true, both_ways, eqb-true, ne_eqb, false_from_ne_true}
+use Rattle.std.proofs.Common.{◌-◌, Some, None, get_or, drop, ◌==◌, ◌≡◌, ℕ, ◌+◌, ◌<◌, Bool, true, false, cond, not, ◌&&◌, ◌||◌, ltb, leb, List, length, count_by, refl, sym, ap, ◌∙◌}
 use Rattle.std.proofs.lemmas.List.{drop_more}
 use Rattle.std.specs.List.{list_all}
-use Rattle.std.proofs.lemmas.Nat.Bits.{bit_at-zero, same_from_bits}
 use Rattle.elevator_model.specs.declared.Stop.{Stop}
-use Rattle.elevator_model.specs.Counting.{any_below, sum_where, has, is_among}
+use Rattle.elevator_model.specs.Counting.{any_below, has}
 use Rattle.elevator_model.specs.Snapshot.{Snapshot, call_count, call_of, group_of, spec_of, state_of, is_coming, is_idle}
 use Rattle.elevator_model.specs.Tours.{Progress, rider_count, destination_of, persons_where, boards_at, gets_off, stays_on, overtakes, turns_with, has_leg, is_later_in_queue, breaks, broken_at_end, first_rule, none_taken, is_call_for}
 use Rattle.elevator_model.specs.declared.Rule.TheVariants.{FirstStop, UselessStop, Delivery, QueueOrder, CallTwice, Capacity, Place as AtPlace}
@@ -13,7 +11,7 @@ use Rattle.elevator_model.specs.declared.Rule.{Rule}
 use Rattle.tour_rules.specs.declared.places.Place.{Place}
 use Rattle.tour_rules.specs.declared.places.Heading.TheVariants.{To, Elsewhere, Below, Above, Anywhere}
 use Rattle.tour_rules.specs.Places.{call_in, call_heads, heads, Tracks, HasBoards}
-use Rattle.tour_rules.proofs.BoundedTests.{any_below-same, any_below-at, any_below-none, any_below-true}
+use Rattle.tour_rules.proofs.BoundedTests.{any_below-same}
 use Rattle.tour_rules.specs.declared.points.Begun.{Begun}
 use Rattle.tour_rules.specs.Courses.{IsBegun, is_after, board_test}
 use Rattle.tour_rules.proofs.Riders.{boards_set, at_call}

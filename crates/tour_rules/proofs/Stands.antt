@@ -1,16 +1,12 @@
 -- A stop with fewer boards breaks no rule that the stop with more boards keeps.
-use Rattle.std.proofs.Common.{◌==◌, ◌≡◌, ℕ, zero, suc, ◌+◌, ◌-◌, ◌*◌, ◌<◌, ◌≤◌, Bool, true, false, cond, not, ◌&&◌, ◌||◌, ◌⊎◌, eqb, ltb, leb, List, [], ◌∷◌, ◌++◌, length, refl, sym, ap, ◌∙◌, subst, inl, inr, arith, rules, append_assoc, Option, Some, None}
-use Rattle.std.specs.List.{list_any, list_all, filter, range_with_len, count_by, sum_by}
-use Rattle.std.specs.Option.{is_none}
-use Rattle.std.proofs.lemmas.Bool.{or_parts, or_from, or_cases, or_left, or_right, and_parts, and_from, and_cases, and_left, and_right, false≢true, false_from_ne_true, both_ways, ltb-true, lt-ltb, ltb-false, le-ltb, eqb-true, eq-eqb, cases_Bool}
-use Rattle.elevator_model.specs.declared.Rule.{Rule}
-use Rattle.elevator_model.specs.declared.Rule.TheVariants.{FirstStop, SameFloorTwice, UselessStop, TurnWithPassengers, Capacity, QueueOrder, Car, Floor, Delivery, CallTwice, Place}
+use Rattle.std.proofs.Common.{◌==◌, ◌≡◌, ℕ, ◌≤◌, Bool, true, false, not, ◌&&◌, ◌||◌, eqb, ltb, leb, List, inl, inr, arith}
+use Rattle.std.specs.List.{count_by}
+use Rattle.std.proofs.lemmas.Bool.{or_cases, or_left, or_right, and_parts, and_from, ltb-false, le-ltb}
 use Rattle.elevator_model.specs.declared.Stop.{Stop}
-use Rattle.elevator_model.specs.Counting.{any_below, sum_below, sum_where, is_among}
+use Rattle.elevator_model.specs.Counting.{is_among}
 use Rattle.elevator_model.specs.Snapshot.{Snapshot, call_count, call_of, spec_of}
-use Rattle.elevator_model.specs.Tours.{Progress, breaks, first_rule, rules_but_useless, rules_of_stop, boards_at, persons_where, stays_on, overtakes, is_call_for, rider_count, persons_of, broken_at, none_taken, make_stop}
-use Rattle.elevator_model.specs.Partial.{may_stand, may_be_left}
-use Rattle.tour_rules.proofs.BoundedTests.{any_below-less, any_below-none, any_below-false, sum_where-less, list_any-false, list_any-none, AllClear, AllClear-from, first_rule-clear, none-from, is_none-at, same_function}
+use Rattle.elevator_model.specs.Tours.{Progress, breaks, rules_but_useless, boards_at, overtakes, is_call_for, rider_count, persons_of}
+use Rattle.tour_rules.proofs.BoundedTests.{any_below-less, sum_where-less, list_any-false, list_any-none, AllClear}
 
 -- each board of the one list is in the other, and one that stands twice in it stands twice in the other
 pub record ArePart (fewer more : List ℕ) : Type 0 where

@@ -1,17 +1,15 @@
 -- How many stops a tour without a broken rule can have.
-use Rattle.std.proofs.Common.{get_or, drop, ◌==◌, ◌≡◌, ℕ, zero, suc, ◌+◌, ◌-◌, ◌*◌, ◌<◌, ◌≤◌, Bool, true, false, cond, not, ◌&&◌, ◌||◌, eqb, ltb, leb, List, [], ◌∷◌, length, refl, sym, ap, ◌∙◌, subst, inl, inr, arith, Option, Some, None, count_by}
-use Rattle.std.proofs.lemmas.Bool.{and_parts, and_from, and_right, and_left, false≢true, false_from_ne_true, both_ways, ltb-true, lt-ltb, le-ltb, le-leb, cases_Bool, lt-leb, not-false, not_from_false, not-true}
+use Rattle.std.proofs.Common.{get_or, drop, ◌==◌, ◌≡◌, ℕ, ◌+◌, ◌-◌, ◌<◌, ◌≤◌, Bool, true, false, cond, not, ◌&&◌, ◌||◌, ltb, leb, List, ◌∷◌, length, refl, sym, ap, ◌∙◌, arith, Some, None, count_by}
+use Rattle.std.proofs.lemmas.Bool.{and_parts, and_left, false≢true, ltb-true, lt-ltb, le-leb, lt-leb, not-false, not_from_false}
 use Rattle.std.proofs.lemmas.List.{drop_more}
-use Rattle.elevator_model.specs.declared.Rule.{Rule}
 use Rattle.elevator_model.specs.declared.Stop.{Stop}
-use Rattle.elevator_model.specs.Counting.{any_below, sum_below, sum_where, is_among, has}
-use Rattle.elevator_model.specs.Building.{floor_count, car_of}
-use Rattle.elevator_model.specs.Snapshot.{Snapshot, call_count, car_count, group_of, spec_of, state_of, is_idle, persons_aboard, IsAccepted, serves}
-use Rattle.elevator_model.specs.Tours.{Progress, breaks, broken_at, rules_of_stop, none_taken, make_stop, broken_or, first_broken_from, boards_at, gets_off, stays_on, rider_count, is_aboard, start_of}
-use Rattle.elevator_model.specs.Partial.{may_be_left}
-use Rattle.tour_rules.specs.Measure.{count_below, groups_of, stops_left, spare}
-use Rattle.tour_rules.proofs.BoundedTests.{AllClear, AllClear-from, any_below-false, is_none-at, sum_below-le, sum_below-split, sum_below-same, sum_below-zero, same_function}
-use Rattle.tour_rules.proofs.Counts.{count-same, count-none, count-all, count-le, count-joined, count-split}
+use Rattle.elevator_model.specs.Counting.{is_among, has}
+use Rattle.elevator_model.specs.Building.{floor_count}
+use Rattle.elevator_model.specs.Snapshot.{Snapshot, call_count, car_count, group_of, state_of, is_idle, IsAccepted, serves}
+use Rattle.elevator_model.specs.Tours.{Progress, breaks, broken_at, rules_of_stop, none_taken, make_stop, broken_or, first_broken_from, boards_at, rider_count, is_aboard, start_of}
+use Rattle.tour_rules.specs.Measure.{groups_of, stops_left, spare}
+use Rattle.tour_rules.proofs.BoundedTests.{AllClear-from, any_below-false, is_none-at, sum_below-le, sum_below-split, sum_below-same, sum_below-zero, same_function}
+use Rattle.tour_rules.proofs.Counts.{count-same, count-le, count-joined}
 use Rattle.tour_rules.proofs.Measure.{boards_count, boards_same, carried_split, after_carried, useful}
 use Rattle.tour_rules.proofs.Riders.{zero_has}
 

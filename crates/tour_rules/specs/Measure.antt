@@ -1,9 +1,9 @@
 -- A number that falls with each lawful move, so that partial tours are short.
-use Rattle.std.specs.Prelude.{ℕ, ◌+◌, ◌*◌, ◌&&◌, ◌||◌, not, Bool, true, false, if◌then◌else◌, Option, Some, None}
+use Rattle.std.specs.Prelude.{ℕ, ◌+◌, ◌*◌, ◌&&◌, ◌||◌, not, Bool, false, if◌then◌else◌, Option, Some, None}
 use Rattle.elevator_model.specs.declared.Stop.{Stop}
 use Rattle.elevator_model.specs.Counting.{sum_where, is_among}
 use Rattle.elevator_model.specs.Snapshot.{Snapshot, call_count, state_of, is_idle}
-use Rattle.elevator_model.specs.Tours.{Progress, rider_count, boards_at, is_aboard}
+use Rattle.elevator_model.specs.Tours.{Progress, rider_count, is_aboard}
 use Rattle.elevator_model.specs.Partial.{Course}
 
 abbrev pub count_below : ℕ → (ℕ → Bool) → ℕ

@@ -1,5 +1,5 @@
 -- What a partial tour keeps: after each of its moves, the point where it leads.
-use Rattle.std.specs.Prelude.{◌≡◌, ℕ, ◌+◌, ◌≤◌, ◌<◌, List, length, take, Option, Some, slice_index_or}
+use Rattle.std.specs.Prelude.{◌≡◌, ℕ, ◌+◌, ◌≤◌, ◌<◌, List, length, take, Some, slice_index_or}
 use Rattle.elevator_model.specs.declared.Move.{Move}
 use Rattle.elevator_model.specs.Snapshot.{Snapshot, IsAccepted, car_count}
 use Rattle.elevator_model.specs.Partial.{Course, course_of, IsLawful}

@@ -2,7 +2,7 @@
 
 ghost use Rattle.std.specs.Prelude.{true, OnOk, ◌≡◌, ◌<◌, ◌≤◌, ◌++◌, ◌∷◌, [], IfOk, MatchOption, Some, ℕ};
 ghost use Rattle.elevator_model.specs.Counting.{has};
-ghost use Rattle.elevator_model.specs.Partial.{Course, lawful_moves};
+ghost use Rattle.elevator_model.specs.Partial.{Course, lawful_moves, moves_of};
 ghost use Rattle.tour_rules.specs.PartialTour.{course, with_move_made, stops_made};
 
 use crate::partial::{advance, fill, start};
@@ -129,7 +129,8 @@ impl<'a> Prefix<'a> {
     /// The tour whose move list this is. The partial tour has to have ended.
     pub fn tour(&self, alloc: Global) -> Result<Tour, AllocError>
         requires { (x : Course) × (course self.now ≡ Some x) × (x.ended ≡ true) }
-        ensures { IfOk result (λ tour. (x : Course) → course self.now ≡ Some x → tour ≡ x.left) }
+        ensures stops { IfOk result (λ tour. (x : Course) → course self.now ≡ Some x → tour ≡ x.left) }
+        ensures moves { IfOk result (λ tour. moves_of self.now.snapshot tour ≡ self.now.moves) }
     {
         stops_of(alloc, self.moves.as_slice())
     }

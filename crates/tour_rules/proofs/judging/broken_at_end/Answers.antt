@@ -1,5 +1,4 @@
-use Rattle.std.proofs.Common.{◌≡◌, ◌∙◌, sym, ap, not, cond, Bool, Option, Some, None}
-use Rattle.elevator_model.specs.declared.Rule.{Rule}
+use Rattle.std.proofs.Common.{◌∙◌, sym, ap, not, cond, Bool, Some, None}
 use Rattle.elevator_model.specs.declared.Rule.TheVariants.{FirstStop, Delivery}
 use Rattle.tour_rules.proofs.RuleLemmas.{end_same}
 use Rattle.tour_rules.proofs.judging.broken_at_end.Goals as goal

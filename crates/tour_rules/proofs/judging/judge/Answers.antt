@@ -1,8 +1,6 @@
-use Rattle.std.proofs.Common.{◌≡◌, ◌<◌, ◌≤◌, ◌+◌, ◌∙◌, ℕ, Bool, sym, ap, refl, subst, arith, List, drop, Option, Some, None}
-use Rattle.elevator_model.specs.declared.Stop.{Stop}
+use Rattle.std.proofs.Common.{◌+◌, ◌∙◌, ℕ, Bool, sym, ap, refl, arith, drop, Option}
 use Rattle.elevator_model.specs.declared.Rule.{Rule}
 use Rattle.elevator_model.specs.Counting.{has}
-use Rattle.elevator_model.specs.Snapshot.{call_count}
 use Rattle.elevator_model.specs.Tours.{start_of, make_stop, broken_at, broken_or, first_broken, first_broken_from, none_taken, boards_at}
 use Rattle.tour_rules.proofs.Stops.{none_is_empty, fine_floor, stop_falls, stops_few, judge_step}
 use Rattle.tour_rules.proofs.Riders.{boards_set}

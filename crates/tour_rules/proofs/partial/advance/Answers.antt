@@ -1,5 +1,4 @@
-use Rattle.std.proofs.Common.{◌≡◌, ◌∙◌, ap, sym, Option, Some}
-use Rattle.elevator_model.specs.declared.Move.{Move}
+use Rattle.std.proofs.Common.{◌∙◌, ap, sym}
 use Rattle.elevator_model.specs.Partial.{move_on}
 use Rattle.tour_rules.specs.Courses.{progress_after}
 use Rattle.tour_rules.proofs.Follow.{ending_leads_to, tracks_end}

@@ -1,5 +1,5 @@
-use Rattle.std.proofs.Common.{◌≡◌, ◌<◌, ◌≤◌, ◌+◌, arith, refl}
-use Rattle.tour_rules.proofs.Follow.{boards_here_at, board_fits, no_board_here, tracks_board}
+use Rattle.std.proofs.Common.{arith}
+use Rattle.tour_rules.proofs.Follow.{boards_here_at, board_fits, tracks_board}
 use Rattle.tour_rules.proofs.partial.advance_board.Goals as goal
 
 pub with_board-requires-clause-call : goal.with_board-requires-clause-call

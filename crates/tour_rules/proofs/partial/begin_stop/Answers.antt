@@ -1,4 +1,4 @@
-use Rattle.std.proofs.Common.{◌≡◌, ◌≤◌, ◌∙◌, refl, arith, ℕ}
+use Rattle.std.proofs.Common.{refl, arith}
 use Rattle.tour_rules.proofs.Follow.{begun_first, stands_fit}
 use Rattle.tour_rules.proofs.partial.begin_stop.Goals as goal
 

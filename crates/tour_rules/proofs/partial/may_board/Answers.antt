@@ -1,4 +1,4 @@
-use Rattle.std.proofs.Common.{◌≡◌, ◌∙◌, ◌+◌, ap, leb, eqb, ◌<◌, length, arith, ℕ, List, slice_index_or}
+use Rattle.std.proofs.Common.{◌∙◌, ◌+◌, ap, leb, eqb, ◌<◌, length, arith, List, slice_index_or}
 use Rattle.elevator_model.specs.declared.CarSpec.{CarSpec}
 use Rattle.elevator_model.specs.declared.Call.{Call}
 use Rattle.elevator_model.specs.Building.{Building, no_car}

@@ -1,4 +1,4 @@
-use Rattle.std.proofs.Common.{◌≡◌, ◌∙◌, sym}
+use Rattle.std.proofs.Common.{◌∙◌, sym}
 use Rattle.tour_rules.proofs.Follow.{present_of, board_some}
 use Rattle.tour_rules.proofs.partial.may_board_now.Goals as goal
 

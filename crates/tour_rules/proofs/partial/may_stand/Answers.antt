@@ -1,4 +1,4 @@
-use Rattle.std.proofs.Common.{◌≡◌, ◌∙◌, sym, ap, not, Bool, true, false, refl}
+use Rattle.std.proofs.Common.{◌∙◌, sym, ap, not, refl}
 use Rattle.elevator_model.specs.Building.{Building}
 use Rattle.elevator_model.specs.Snapshot.{serves, may_stop_first, state_of}
 use Rattle.tour_rules.specs.Courses.{empty_stop}

@@ -1,4 +1,4 @@
-use Rattle.std.proofs.Common.{◌≡◌, ◌≤◌, ◌∙◌, arith}
+use Rattle.std.proofs.Common.{◌∙◌, arith}
 use Rattle.elevator_model.specs.declared.Move.TheVariants.{Leave}
 use Rattle.elevator_model.specs.Counting.{has}
 use Rattle.tour_rules.specs.Courses.{may_be_next}

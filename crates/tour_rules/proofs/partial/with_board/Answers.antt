@@ -1,6 +1,5 @@
-use Rattle.std.proofs.Common.{◌≡◌, ◌<◌, ◌+◌, ◌∙◌, ap, refl, arith, length, ℕ, List}
+use Rattle.std.proofs.Common.{◌+◌, ap, refl, arith, List}
 use Rattle.elevator_model.specs.declared.Call.{Call}
-use Rattle.elevator_model.specs.Snapshot.{call_count}
 use Rattle.tour_rules.specs.Places.{call_in}
 use Rattle.tour_rules.proofs.Follow.{begun_more}
 use Rattle.tour_rules.proofs.Stops.{most_calls_few}

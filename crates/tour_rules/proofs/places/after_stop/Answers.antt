@@ -1,5 +1,5 @@
-use Rattle.std.proofs.Common.{◌≡◌, refl}
-use Rattle.tour_rules.proofs.Riders.{Tracks-stop, IsAfterStop}
+use Rattle.std.proofs.Common.{refl}
+use Rattle.tour_rules.proofs.Riders.{Tracks-stop}
 use Rattle.tour_rules.proofs.places.after_stop.Goals as goal
 
 pub returns : goal.returns

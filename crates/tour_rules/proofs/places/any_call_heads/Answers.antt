@@ -1,6 +1,5 @@
 use Rattle.std.proofs.Common.{sym, length, arith}
 use Rattle.std.proofs.lemmas.Bool.{and_from}
-use Rattle.std.proofs.lemmas.Grind.{common_steps}
 use Rattle.tour_rules.specs.Places.{call_heads}
 use Rattle.tour_rules.proofs.BoundedTests.{any_below-at}
 use Rattle.tour_rules.proofs.places.any_call_heads.Goals as goal

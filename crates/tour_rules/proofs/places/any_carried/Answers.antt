@@ -1,4 +1,4 @@
-use Rattle.std.proofs.Common.{◌≡◌, ◌||◌, Bool, true, false, sym, ◌∙◌, ap, refl, length}
+use Rattle.std.proofs.Common.{◌||◌, Bool, sym, ◌∙◌, ap, refl, length}
 use Rattle.std.proofs.lemmas.Bool.{or_left}
 use Rattle.elevator_model.specs.Counting.{any_below}
 use Rattle.tour_rules.specs.Places.{group_heads}

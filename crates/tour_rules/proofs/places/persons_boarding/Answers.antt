@@ -1,4 +1,4 @@
-use Rattle.std.proofs.Common.{◌≡◌, sym, ◌∙◌}
+use Rattle.std.proofs.Common.{sym, ◌∙◌}
 use Rattle.tour_rules.proofs.Riders.{board_persons}
 use Rattle.tour_rules.proofs.places.persons_boarding.Goals as goal
 

@@ -1,5 +1,4 @@
-use Rattle.std.proofs.Common.{◌≡◌, ◌≤◌, arith}
-use Rattle.elevator_model.specs.Snapshot.{persons_aboard}
+use Rattle.std.proofs.Common.{arith}
 use Rattle.tour_rules.proofs.Riders.{carried_persons}
 use Rattle.tour_rules.proofs.places.persons_carried.Goals as goal
 

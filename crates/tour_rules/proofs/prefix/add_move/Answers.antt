@@ -1,4 +1,4 @@
-use Rattle.std.proofs.Common.{◌≡◌, ◌∙◌, ◌++◌, ◌∷◌, [], ℕ, sym, ap, List}
+use Rattle.std.proofs.Common.{◌∙◌, ◌++◌, ◌∷◌, [], ℕ, sym, ap, List}
 use Rattle.elevator_model.specs.declared.Stop.{Stop}
 use Rattle.tour_rules.specs.PartialTour.{with_board_made, with_move_made}
 use Rattle.tour_rules.proofs.Prefixes.{with_board_made-push}

@@ -1,7 +1,5 @@
-use Rattle.std.proofs.Common.{◌≡◌, ◌==◌, ◌&&◌, ◌||◌, not, false, count_by, length}
-use Rattle.std.specs.Prelude.{nat_le}
+use Rattle.std.proofs.Common.{◌≡◌, ◌==◌, ◌&&◌, not, false}
 use Rattle.elevator_model.specs.Counting.{any_below, has}
-use Rattle.elevator_model.specs.Tours.{is_later_in_queue}
 use Rattle.tour_rules.specs.Places.{call_in}
 use Rattle.tour_rules.proofs.rules.any_elsewhere.Given as goal
 

@@ -1,7 +1,5 @@
-use Rattle.std.proofs.Common.{◌≡◌, ◌≢◌, ◌==◌, ◌<◌, ◌≤◌, ◌&&◌, ◌||◌, not, Bool, true, false, ℕ, sym, ap, ◌∙◌, length, arith, count_by, refl}
-use Rattle.std.specs.Prelude.{nat_le}
-use Rattle.std.proofs.lemmas.Bool.{and_from, or_left, or_right, le-leb, ne_eqb, cases_Bool}
-use Rattle.std.proofs.lemmas.Bool.Decides.{nat_tests}
+use Rattle.std.proofs.Common.{◌&&◌, sym, length, arith}
+use Rattle.std.proofs.lemmas.Bool.{and_from}
 use Rattle.elevator_model.specs.Counting.{any_below, has}
 use Rattle.elevator_model.specs.Tours.{is_later_in_queue}
 use Rattle.tour_rules.specs.Places.{call_in}

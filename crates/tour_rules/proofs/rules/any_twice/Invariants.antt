@@ -1,8 +1,6 @@
-use Rattle.std.proofs.Common.{◌≡◌, ◌==◌, ◌&&◌, ◌||◌, not, false, count_by, length}
+use Rattle.std.proofs.Common.{◌≡◌, ◌==◌, ◌&&◌, ◌||◌, false, count_by}
 use Rattle.std.specs.Prelude.{nat_le}
 use Rattle.elevator_model.specs.Counting.{any_below, has}
-use Rattle.elevator_model.specs.Tours.{is_later_in_queue}
-use Rattle.tour_rules.specs.Places.{call_in}
 use Rattle.tour_rules.proofs.rules.any_twice.Given as goal
 
 abbrev pub invariant-loop-j : goal.invariant-loop-j

@@ -1,4 +1,4 @@
-use Rattle.std.proofs.Common.{◌≡◌, ◌∙◌, ◌+◌, ap, ltb, ℕ, List, slice_index_or}
+use Rattle.std.proofs.Common.{◌∙◌, ◌+◌, ap, ltb, List, slice_index_or}
 use Rattle.elevator_model.specs.declared.CarSpec.{CarSpec}
 use Rattle.elevator_model.specs.Building.{Building, no_car}
 use Rattle.elevator_model.specs.Tours.{boards_at}

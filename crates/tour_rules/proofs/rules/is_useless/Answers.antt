@@ -1,7 +1,4 @@
-use Rattle.std.proofs.Common.{◌≡◌, ◌∙◌, sym, subst, ℕ}
-use Rattle.elevator_model.specs.declared.Stop.{Stop}
-use Rattle.elevator_model.specs.Counting.{any_below}
-use Rattle.elevator_model.specs.Tours.{rider_count, destination_of}
+use Rattle.std.proofs.Common.{◌∙◌}
 use Rattle.tour_rules.proofs.RuleLemmas.{useless_same}
 use Rattle.tour_rules.proofs.rules.is_useless.Goals as goal
 

@@ -1,4 +1,4 @@
-use Rattle.std.proofs.Common.{◌≡◌, ◌∙◌}
+use Rattle.std.proofs.Common.{◌∙◌}
 use Rattle.tour_rules.proofs.RuleLemmas.{turns_same}
 use Rattle.tour_rules.proofs.rules.turns_away.Goals as goal
 

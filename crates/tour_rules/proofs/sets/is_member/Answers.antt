@@ -1,4 +1,4 @@
-use Rattle.std.proofs.Common.{◌≡◌, ap, sym, eqb, ℕ, arith}
+use Rattle.std.proofs.Common.{ap, sym, eqb, ℕ, arith}
 use Rattle.std.proofs.lemmas.Nat.Bits.{bit_at_above}
 use Rattle.tour_rules.proofs.sets.is_member.Goals as goal
 

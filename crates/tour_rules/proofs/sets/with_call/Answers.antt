@@ -1,4 +1,4 @@
-use Rattle.std.proofs.Common.{◌≡◌, ◌≢◌, ℕ, eqb, ap, eq-eqb}
+use Rattle.std.proofs.Common.{ℕ, eqb, ap, eq-eqb}
 use Rattle.std.proofs.lemmas.Nat.Bits.{bit_at_set_same, bit_at_set_other}
 use Rattle.std.specs.Int.{w128}
 use Rattle.tour_rules.proofs.sets.with_call.Goals as goal

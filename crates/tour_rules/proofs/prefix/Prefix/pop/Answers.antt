@@ -1,4 +1,4 @@
-use Rattle.std.proofs.Common.{◌≡◌, ◌<◌, ◌≤◌, ◌∙◌, ℕ, ◌+◌, ◌-◌, sym, ap, arith, subst, length, take, vec_len, List}
+use Rattle.std.proofs.Common.{◌≡◌, ◌∙◌, ℕ, ◌+◌, ◌-◌, sym, ap, arith, subst, take, vec_len, List}
 use Rattle.elevator_model.specs.declared.Move.{Move}
 use Rattle.tour_rules.specs.declared.points.Point.{Point}
 use Rattle.tour_rules.specs.Prefixes.{IsPrefix}

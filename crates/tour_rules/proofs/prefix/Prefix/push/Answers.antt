@@ -1,4 +1,4 @@
-use Rattle.std.proofs.Common.{◌≡◌, ◌<◌, ◌≤◌, ◌∙◌, ℕ, ◌+◌, sym, ap, arith, subst, length, get_or, ◌++◌, ◌∷◌, [], List, length-append}
+use Rattle.std.proofs.Common.{◌≡◌, ◌∙◌, ℕ, sym, ap, arith, subst, length, get_or, ◌++◌, ◌∷◌, [], List, length-append}
 use Rattle.elevator_model.specs.declared.Move.{Move}
 use Rattle.elevator_model.specs.Partial.{IsLawful}
 use Rattle.tour_rules.specs.declared.points.Point.{Point}
