@@ -1,13 +1,18 @@
 //! `lift`: exact, machine-checked dispatching of elevator groups.
 #![tactic(auto)]
 
+ghost use Rattle.std.specs.Prelude.{◌≡◌, IfErr};
+
 use lift_commands::{Status, run};
 use lift_text::{OpenGate, StdSink, StdSource};
 use std::process::ExitCode;
 use std::{env, io};
 
-/// The words of the command line. Where one is not text there are none, and no such words are taken.
-fn words(rt: &HostRuntime) -> Result<Vec<String>, Status> {
+/// The words of the command line. Where one is not text there are none, and no such words are taken. An
+/// `Err` is the status of want of memory.
+fn words(rt: &HostRuntime) -> Result<Vec<String>, Status>
+    ensures { IfErr result (λ status. status ≡ Status.Memory) }
+{
     match env::args(rt) {
         Ok(args) => args.collect(rt.alloc()).map_err(|_| Status::Memory),
         Err(error) if error.kind() == io::ErrorKind::OutOfMemory => Err(Status::Memory),
