@@ -7,6 +7,7 @@ use Rattle.elevator_model.specs.declared.Move.TheVariants.{Board, Leave, End}
 use Rattle.elevator_model.specs.Counting.{is_among}
 use Rattle.elevator_model.specs.Building.{floor_count}
 use Rattle.elevator_model.specs.Snapshot.{Snapshot, call_count}
+use Rattle.elevator_model.specs.Costs.{settled_cost}
 use Rattle.elevator_model.specs.Tours.{Progress, start_of, make_stop, breaks, first_rule, rules_but_useless, broken_at, broken_at_end, none_taken}
 
 -- Where a partial tour is: the stops that were left, the stop begun with the calls that boarded there so
@@ -74,6 +75,22 @@ moves_on s c x (m ∷ ms) = moves_on s c (move_on_from s c x m) ms
 -- Where the moves lead, and nothing where they are not lawful.
 abbrev pub course_of : Snapshot → ℕ → List Move → Option Course
 course_of s c moves = moves_on s c (Some (course_start s c)) moves
+
+-- Where the car is with the present stop made by the calls that boarded there so far.
+abbrev pub progress_after : Snapshot → ℕ → Progress → Option Stop → Progress
+progress_after s c before None = before
+progress_after s c before (Some stop) = make_stop s c before stop
+
+-- the cost of those who got off within the partial tour
+abbrev pub settled_of : Snapshot → ℕ → Course → ℕ
+settled_of s c x = settled_cost s c (progress_after s c x.before x.present)
+
+abbrev pub opened_of : Progress → Option ℕ
+opened_of p = if p.begun then Some p.opened else None
+
+-- the moment at which the doors of the last stop are open, and nothing where no stop has begun
+abbrev pub moment_in : Snapshot → ℕ → Course → Option ℕ
+moment_in s c x = opened_of (progress_after s c x.before x.present)
 
 abbrev pub IsLawful : Snapshot → ℕ → List Move → Type 0
 IsLawful s c moves = IsSome (course_of s c moves)

@@ -1,21 +1,23 @@
 -- Worked cases, against which the definitions are checked: four floors 4000 mm apart, 2000 mm/s,
 -- 1000 mm/s², weights 1 and 1, doors 1000 ms each way, 500 ms for each person on or off.
-use Rattle.std.specs.Prelude.{◌≡◌, ℕ, List, [], ◌∷◌, true, Some, None}
+use Rattle.std.specs.Prelude.{◌≡◌, ℕ, zero, suc, ◌+◌, List, [], ◌∷◌, ◌++◌, true, Option, Some, None}
 use Rattle.elevator_model.specs.declared.CarSpec.{CarSpec}
 use Rattle.elevator_model.specs.declared.CarState.{CarState}
 use Rattle.elevator_model.specs.declared.CarState.TheVariants.{Idle, Coming, Moving}
 use Rattle.elevator_model.specs.declared.Aboard.{Aboard}
 use Rattle.elevator_model.specs.declared.Call.{Call}
 use Rattle.elevator_model.specs.declared.Stop.{Stop}
+use Rattle.elevator_model.specs.declared.Fault.{Fault}
 use Rattle.elevator_model.specs.declared.Rule.{Rule}
-use Rattle.elevator_model.specs.declared.Rule.TheVariants.{FirstStop, SameFloorTwice, UselessStop, TurnWithPassengers, Capacity, QueueOrder, Car, Floor, Delivery, CallTwice, Place}
+use Rattle.elevator_model.specs.declared.Rule.TheVariants.{FirstStop, SameFloorTwice, UselessStop, TurnWithPassengers, Capacity, QueueOrder, Car, Floor, Delivery, CallTwice, Place, Unserved}
 use Rattle.elevator_model.specs.Travel.{Square}
 use Rattle.elevator_model.specs.Building.{Building}
 use Rattle.elevator_model.specs.Snapshot.{Snapshot}
-use Rattle.elevator_model.specs.declared.Fault.TheVariants.{OutOfRange, WrongSide, NoOpenFloor, NoPossibleCar}
+use Rattle.elevator_model.specs.declared.Fault.TheVariants.{OutOfRange, NotRising, IdUsedBefore, NoSuchFloor, OriginIsDestination, NoPossibleCar, PinCannotTake, WrongSide, OverCapacity, MomentOutOfRange, TooManyCalls, TooManyCars, NotServed, PersonsOutOfRange, NoOpenFloor}
 use Rattle.elevator_model.specs.Faults.{first_fault_of_building, first_fault_of_snapshot}
 use Rattle.elevator_model.specs.Tours.{first_broken}
 use Rattle.elevator_model.specs.Costs.{cost_of}
+use Rattle.elevator_model.specs.Plans.{first_bad, plan_cost_of}
 
 abbrev pub four_floors : Square
 four_floors = record {
@@ -124,6 +126,94 @@ pub record AreBroken : Type 0 where
   pub again : Breaks one_call (stop 0 (0 ∷ []) ∷ stop 1 [] ∷ stop 0 (0 ∷ []) ∷ stop 1 [] ∷ []) 3 CallTwice
   pub place : Breaks one_call (stop 2 (0 ∷ []) ∷ stop 1 [] ∷ []) 1 Place
 
+-- the case of one call in a building with patience
+abbrev pub impatient : (patience weight : ℕ) → Snapshot
+impatient patience weight = record {
+  version = 1;
+  building = record {
+    version = 2;
+    heights = 0 ∷ 4000 ∷ 8000 ∷ 12000 ∷ [];
+    speed = 2000;
+    accel = 1000;
+    wait_weight = 1;
+    travel_weight = 1;
+    patience = patience;
+    patience_weight = weight;
+    cars = car_for 8 ∷ [];
+    travel = four_floors;
+  };
+  moment = 0;
+  states = Idle 0 0 ∷ [];
+  aboard = [];
+  calls = call 1 0 1 1 ∷ [];
+}
+
+-- each wait of 1000 ms counts three times more from 500 ms on, and not at all from 1000 ms on
+pub record ArePatient : Type 0 where
+  pub waits_on : Costs (impatient 500 3) (stop 0 (0 ∷ []) ∷ stop 1 [] ∷ []) 9000
+  pub in_time : Costs (impatient 1000 3) (stop 0 (0 ∷ []) ∷ stop 1 [] ∷ []) 7500
+
+abbrev pub car_named : (id capacity serves : ℕ) → CarSpec
+car_named id capacity serves = record { id = id; capacity = capacity; opening = 1000; closing = 1000; boarding = 500; alighting = 500; serves = serves }
+
+abbrev pub building_of_cars : (version : ℕ) → List CarSpec → Building
+building_of_cars version cars = record {
+  version = version;
+  heights = 0 ∷ 4000 ∷ 8000 ∷ 12000 ∷ [];
+  speed = 2000;
+  accel = 1000;
+  wait_weight = 1;
+  travel_weight = 1;
+  patience = 0;
+  patience_weight = 0;
+  cars = cars;
+  travel = four_floors;
+}
+
+-- cars 1 and 2 of these capacities, each serving all floors
+abbrev pub pair : (first second : ℕ) → List CarState → List Call → Snapshot
+pair first second states calls = record {
+  version = 1;
+  building = building_of_cars 1 (car_named 1 first 15 ∷ car_named 2 second 15 ∷ []);
+  moment = 0;
+  states = states;
+  aboard = [];
+  calls = calls;
+}
+
+-- a plan has no bad place and this cost
+abbrev pub PlanCosts : Snapshot → List (List Stop) → ℕ → Type 0
+PlanCosts s plan cost = (first_bad s plan ≡ None) × (plan_cost_of s plan ≡ cost)
+
+abbrev pub BadAt : Snapshot → List (List Stop) → (car stop : ℕ) → Rule → Type 0
+BadAt s plan car stop rule = first_bad s plan ≡ Some (record { car = car; stop = stop; rule = rule })
+
+abbrev pub idle_and_coming : Snapshot
+idle_and_coming = pair 8 8 (Idle 0 0 ∷ Coming 3 2000 ∷ []) []
+
+abbrev pub pinned : Snapshot
+pinned = pair 8 8 (Idle 0 0 ∷ Idle 3 0 ∷ []) (record { id = 1; origin = 0; destination = 1; persons = 1; released = 0; pin = Some 1 } ∷ [])
+
+-- two calls up and two calls down between the lowest floor and the third one, and cars for one and two persons
+abbrev pub up_and_down : Snapshot
+up_and_down = pair 1 2 (Idle 0 0 ∷ Idle 1 0 ∷ []) (call 1 0 2 1 ∷ call 2 0 2 1 ∷ call 3 2 0 1 ∷ call 4 2 0 1 ∷ [])
+
+abbrev pub two_down_one_up : List Stop
+two_down_one_up = stop 2 (2 ∷ 3 ∷ []) ∷ stop 0 (1 ∷ []) ∷ stop 2 [] ∷ []
+
+-- plans of several cars: their costs, and the first bad place
+pub record ArePlans : Type 0 where
+  pub lone_stop : PlanCosts idle_and_coming ([] ∷ (stop 3 [] ∷ []) ∷ []) 0
+  pub pin : PlanCosts pinned ([] ∷ (stop 0 (0 ∷ []) ∷ stop 1 [] ∷ []) ∷ []) 15500
+  pub shared : PlanCosts up_and_down ((stop 0 (0 ∷ []) ∷ stop 2 [] ∷ []) ∷ two_down_one_up ∷ []) 61000
+  pub one_alone : cost_of up_and_down 0 (stop 0 (0 ∷ []) ∷ stop 2 [] ∷ []) ≡ 9500
+  pub three_alone : cost_of up_and_down 1 two_down_one_up ≡ 51500
+  pub no_lone_stop : BadAt idle_and_coming ([] ∷ [] ∷ []) 1 1 FirstStop
+  pub other_than_the_pin : BadAt pinned ((stop 0 (0 ∷ []) ∷ stop 1 [] ∷ []) ∷ [] ∷ []) 0 1 Car
+  pub taken_twice : BadAt up_and_down ((stop 0 (1 ∷ []) ∷ stop 2 [] ∷ []) ∷ two_down_one_up ∷ []) 1 2 CallTwice
+  pub left_out : BadAt up_and_down ([] ∷ two_down_one_up ∷ []) 2 0 Unserved
+  pub rule_before_left_out : BadAt up_and_down ([] ∷ (stop 2 (2 ∷ 3 ∷ []) ∷ []) ∷ []) 1 2 Delivery
+
 -- first faults, by their places
 pub record AreFaults : Type 0 where
   pub none : first_fault_of_snapshot one_call ≡ None
@@ -132,3 +222,115 @@ pub record AreFaults : Type 0 where
   pub no_car : first_fault_of_snapshot (shown 1 0 1 (Idle 0 0) [] (call 1 0 3 2 ∷ [])) ≡ Some (NoPossibleCar, 2)
   pub building : first_fault_of_building (building_with (car_for 8)) ≡ None
   pub capacity : first_fault_of_building (building_with (car_for 0)) ≡ Some (OutOfRange, 1)
+
+abbrev pub with_heights : (heights : List ℕ) → Building
+with_heights heights = record {
+  version = 1;
+  heights = heights;
+  speed = 2000;
+  accel = 1000;
+  wait_weight = 1;
+  travel_weight = 1;
+  patience = 0;
+  patience_weight = 0;
+  cars = car_for 8 ∷ [];
+  travel = four_floors;
+}
+
+-- cars with the ids 1 to n, in falling order
+abbrev pub cars_to : ℕ → List CarSpec
+cars_to zero = []
+cars_to (suc n) = car_named (n + 1) 8 15 ∷ cars_to n
+
+-- the first faults of buildings, each kind once, and where two stand together
+pub record AreBuildingFaults : Type 0 where
+  pub two_cars : first_fault_of_building (building_of_cars 1 (cars_to 2)) ≡ None
+  pub no_version : first_fault_of_building (building_of_cars 4 (cars_to 2)) ≡ Some (OutOfRange, 0)
+  pub no_cars : first_fault_of_building (building_of_cars 1 []) ≡ Some (OutOfRange, 0)
+  pub patience_in_one : first_fault_of_building (record { version = 1; heights = 0 ∷ 4000 ∷ 8000 ∷ 12000 ∷ []; speed = 2000; accel = 1000; wait_weight = 1; travel_weight = 1; patience = 0; patience_weight = 1; cars = cars_to 1; travel = four_floors }) ≡ Some (OutOfRange, 0)
+  pub slow : first_fault_of_building (record { version = 2; heights = 0 ∷ 4000 ∷ 8000 ∷ 12000 ∷ []; speed = 99; accel = 1000; wait_weight = 1; travel_weight = 1; patience = 0; patience_weight = 1; cars = cars_to 1; travel = four_floors }) ≡ Some (OutOfRange, 0)
+  pub level : first_fault_of_building (with_heights (0 ∷ 4000 ∷ 4000 ∷ 12000 ∷ [])) ≡ Some (NotRising, 0)
+  pub too_high_first : first_fault_of_building (with_heights (0 ∷ 4000 ∷ 4000 ∷ 1000001 ∷ [])) ≡ Some (OutOfRange, 0)
+  pub other_floors : first_fault_of_building (with_heights (0 ∷ 4000 ∷ 8000 ∷ [])) ≡ Some (OutOfRange, 0)
+  pub same_id : first_fault_of_building (building_of_cars 1 (car_named 1 8 15 ∷ car_named 1 8 16 ∷ [])) ≡ Some (IdUsedBefore, 2)
+  pub fifth_floor : first_fault_of_building (building_of_cars 1 (car_named 1 8 17 ∷ car_named 1 8 15 ∷ [])) ≡ Some (NoSuchFloor, 1)
+  pub one_floor : first_fault_of_building (building_of_cars 1 (car_named 1 8 4 ∷ [])) ≡ Some (NotServed, 1)
+  pub eight : first_fault_of_building (building_of_cars 1 (cars_to 8)) ≡ None
+  pub ninth : first_fault_of_building (building_of_cars 1 (cars_to 9)) ≡ Some (TooManyCars, 9)
+  pub sixteen : first_fault_of_building (building_of_cars 3 (cars_to 16)) ≡ None
+  pub seventeenth : first_fault_of_building (building_of_cars 2 (cars_to 17)) ≡ Some (TooManyCars, 17)
+  pub ninth_with_the_first_id : first_fault_of_building (building_of_cars 1 (cars_to 8 ++ car_named 1 8 1 ∷ [])) ≡ Some (IdUsedBefore, 9)
+
+abbrev pub group : (id destination persons boarded : ℕ) → Aboard
+group id destination persons boarded = record { id = id; car = 0; destination = destination; persons = persons; boarded = boarded }
+
+abbrev pub call_from : (id origin destination persons released : ℕ) → (pin : Option ℕ) → Call
+call_from id origin destination persons released pin = record { id = id; origin = origin; destination = destination; persons = persons; released = released; pin = pin }
+
+-- calls with the ids 1 to n, in falling order
+abbrev pub calls_to : ℕ → List Call
+calls_to zero = []
+calls_to (suc n) = call (n + 1) 0 1 1 ∷ calls_to n
+
+-- one car of 8 persons that serves the three lower floors, at the moment 5000
+abbrev pub lower : CarState → List Aboard → List Call → Snapshot
+lower state aboard calls = record {
+  version = 2;
+  building = building_of_cars 1 (car_named 1 8 7 ∷ []);
+  moment = 5000;
+  states = state ∷ [];
+  aboard = aboard;
+  calls = calls;
+}
+
+abbrev pub at_one : CarState
+at_one = Idle 1 5000
+
+abbrev pub FaultIs : Snapshot → Fault → ℕ → Type 0
+FaultIs s fault place = first_fault_of_snapshot s ≡ Some (fault, place)
+
+-- the first faults of cars' states
+pub record AreStateFaults : Type 0 where
+  pub none : first_fault_of_snapshot (lower at_one [] []) ≡ None
+  pub no_floor : FaultIs (lower (Idle 4 4999) [] []) NoSuchFloor 1
+  pub before_now : FaultIs (lower (Idle 3 4999) [] []) MomentOutOfRange 1
+  pub last_moment : first_fault_of_snapshot (lower (Idle 1 100005000) [] []) ≡ None
+  pub too_late : FaultIs (lower (Idle 1 100005001) [] []) MomentOutOfRange 1
+  pub arrives_before : FaultIs (lower (Coming 1 4999) [] []) MomentOutOfRange 1
+  pub left_after : FaultIs (lower (Moving 0 true 5001) [] []) MomentOutOfRange 1
+  pub not_served : FaultIs (lower (Coming 3 5000) [] []) NotServed 1
+  pub none_open : FaultIs (lower (Moving 2 true 5000) [] []) NoOpenFloor 1
+  pub second_car : FaultIs (pair 8 8 (Idle 0 0 ∷ Idle 4 0 ∷ []) (call 1 0 0 1 ∷ [])) NoSuchFloor 2
+
+-- the first faults of groups aboard, whose places come after the car's
+pub record AreGroupFaults : Type 0 where
+  pub none : first_fault_of_snapshot (lower at_one (group 1 2 8 6000 ∷ []) []) ≡ None
+  pub same_id : FaultIs (lower at_one (group 7 2 1 0 ∷ group 7 9 9 9 ∷ []) []) IdUsedBefore 3
+  pub no_floor : FaultIs (lower at_one (group 7 4 1 0 ∷ []) []) NoSuchFloor 2
+  pub its_floor : FaultIs (lower at_one (group 7 1 9 0 ∷ []) []) WrongSide 2
+  pub both_sides : FaultIs (lower at_one (group 7 2 8 0 ∷ group 8 0 1 0 ∷ []) []) WrongSide 3
+  pub coming_both_sides : FaultIs (lower (Coming 1 5000) (group 7 2 1 0 ∷ group 8 1 1 0 ∷ group 9 0 1 0 ∷ []) []) WrongSide 4
+  pub coming_one_side : first_fault_of_snapshot (lower (Coming 1 5000) (group 7 2 1 0 ∷ group 8 1 1 0 ∷ []) []) ≡ None
+  pub moving_past : FaultIs (lower (Moving 1 true 4000) (group 7 0 1 0 ∷ []) []) WrongSide 2
+  pub too_many : FaultIs (lower at_one (group 7 2 8 0 ∷ group 8 2 1 6001 ∷ []) []) OverCapacity 3
+  pub too_late : FaultIs (lower at_one (group 7 3 1 6001 ∷ []) []) MomentOutOfRange 2
+  pub not_served : FaultIs (lower at_one (group 7 3 0 6000 ∷ []) []) NotServed 2
+  pub nobody : FaultIs (lower at_one (group 7 2 0 6000 ∷ []) []) PersonsOutOfRange 2
+  pub a_call_after_a_group : FaultIs (lower at_one (group 7 2 0 0 ∷ []) (call 7 0 1 1 ∷ [])) PersonsOutOfRange 2
+
+-- the first faults of calls, whose places come after those of the groups
+pub record AreCallFaults : Type 0 where
+  pub none : first_fault_of_snapshot (lower at_one [] (call_from 1 0 2 8 5000 (Some 0) ∷ [])) ≡ None
+  pub id_of_a_call : FaultIs (lower at_one [] (call 1 0 2 1 ∷ call 1 4 4 9 ∷ [])) IdUsedBefore 3
+  pub id_of_a_group : FaultIs (lower at_one (group 1 2 1 0 ∷ []) (call 1 0 2 1 ∷ [])) IdUsedBefore 3
+  pub no_origin : FaultIs (lower at_one [] (call 1 4 2 1 ∷ [])) NoSuchFloor 2
+  pub no_destination : FaultIs (lower at_one [] (call 1 2 4 1 ∷ [])) NoSuchFloor 2
+  pub nowhere : FaultIs (lower at_one [] (call 1 3 3 9 ∷ [])) OriginIsDestination 2
+  pub unserved : FaultIs (lower at_one [] (call_from 1 0 3 9 5001 None ∷ [])) NoPossibleCar 2
+  pub pinned_unserved : FaultIs (lower at_one [] (call_from 1 0 3 1 5001 (Some 0) ∷ [])) PinCannotTake 2
+  pub after_now : FaultIs (lower at_one [] (call_from 1 0 2 0 5001 None ∷ [])) MomentOutOfRange 2
+  pub nobody : FaultIs (lower at_one [] (call 1 0 2 0 ∷ [])) PersonsOutOfRange 2
+  pub nine : FaultIs (lower at_one [] (call_from 1 0 2 9 0 None ∷ [])) NoPossibleCar 2
+  pub nine_in_a_large_car : FaultIs (shown 1 0 9 (Idle 0 0) [] (call 1 0 2 9 ∷ [])) PersonsOutOfRange 2
+  pub full : first_fault_of_snapshot (lower at_one [] (calls_to 64)) ≡ None
+  pub one_more : FaultIs (lower at_one [] (calls_to 65)) TooManyCalls 66

@@ -6,7 +6,7 @@
 //! the texts; here they are named by their index, from 0, in the order of the text.
 #![tactic(auto)]
 
-ghost use Rattle.std.specs.Prelude.{◌≡◌, ℕ, List, [], ◌∷◌, ◌++◌, length, OnOk, OnErr, IfErr};
+ghost use Rattle.std.specs.Prelude.{◌≡◌, ℕ, List, [], ◌∷◌, ◌++◌, length, OnOk, OnErr, IfOk, IfErr};
 
 use std::alloc::{AllocError, AllocFailed, Global};
 use std::marker::Model;
@@ -222,6 +222,14 @@ impl Boards {
     {
         self.calls
     }
+
+    /// The same calls in the same order. `Err` means that there is no memory left.
+    pub fn copy(&self, alloc: Global) -> Result<Boards, AllocError>
+        ensures { IfOk result (λ boards. boards ≡ self.now) }
+    {
+        let calls = self.as_slice().to_vec(alloc)?;
+        Ok(Boards { calls })
+    }
 }
 
 /// A stop of a tour: a floor, and the calls that board there.
@@ -229,6 +237,18 @@ impl Boards {
 pub struct Stop {
     pub floor: u32,
     pub boards: Boards,
+}
+
+impl Stop {
+    /// The same stop. `Err` means that there is no memory left.
+    pub fn copy(&self, alloc: Global) -> Result<Stop, AllocError>
+        ensures { IfOk result (λ stop. stop ≡ self.now) }
+    {
+        Ok(Stop {
+            floor: self.floor,
+            boards: self.boards.copy(alloc)?,
+        })
+    }
 }
 
 /// The stops of one car, in order.
@@ -285,6 +305,17 @@ impl Tour {
     {
         self.stops
     }
+
+    /// The same stops in the same order. `Err` means that there is no memory left.
+    pub fn copy(&self, alloc: Global) -> Result<Tour, AllocError>
+        ensures { IfOk result (λ tour. tour ≡ self.now) }
+    {
+        let mut stops = Vec::with_capacity(alloc, self.stops.len())?;
+        for stop in &self.stops {
+            stops.push(stop.copy(alloc)?)?;
+        }
+        Ok(Tour { stops })
+    }
 }
 
 /// One tour per car, in the building's order.
@@ -322,6 +353,17 @@ impl Plan {
         ensures { result.items ≡ self }
     {
         self.tours
+    }
+
+    /// The same tours in the same order. `Err` means that there is no memory left.
+    pub fn copy(&self, alloc: Global) -> Result<Plan, AllocError>
+        ensures { IfOk result (λ plan. plan ≡ self.now) }
+    {
+        let mut tours = Vec::with_capacity(alloc, self.tours.len())?;
+        for tour in &self.tours {
+            tours.push(tour.copy(alloc)?)?;
+        }
+        Ok(Plan { tours })
     }
 }
 

@@ -1,4 +1,4 @@
-ghost use Rattle.elevator_model.specs.Worked.{AreCosts, AreBroken, AreFaults};
+ghost use Rattle.elevator_model.specs.Worked.{AreCosts, AreBroken, ArePatient, ArePlans, AreFaults, AreBuildingFaults, AreStateFaults, AreGroupFaults, AreCallFaults};
 
 // The costs that the definitions give to the worked cases.
 fn worked_costs()
@@ -15,9 +15,41 @@ fn worked_faults()
     ensures { AreFaults }
 {}
 
+// What a wait past the patience costs.
+fn waits_past_patience()
+    ensures { ArePatient }
+{}
+
+// Plans of several cars, and their first bad places.
+fn worked_plans()
+    ensures { ArePlans }
+{}
+
+fn building_faults()
+    ensures { AreBuildingFaults }
+{}
+
+fn state_faults()
+    ensures { AreStateFaults }
+{}
+
+fn group_faults()
+    ensures { AreGroupFaults }
+{}
+
+fn call_faults()
+    ensures { AreCallFaults }
+{}
+
 #[test]
 fn definitions_give_the_worked_cases() {
     worked_costs();
     broken_rules();
     worked_faults();
+    waits_past_patience();
+    worked_plans();
+    building_faults();
+    state_faults();
+    group_faults();
+    call_faults();
 }
