@@ -8,6 +8,10 @@ pub prepend_known-append : (xs ys : List ℕ) (known : Option (List ℕ)) → pr
 prepend_known-append xs ys None = refl
 prepend_known-append xs ys (Some zs) = ap Some (sym (append_assoc xs ys zs))
 
+pub prepend_known-nil : (known : Option (List ℕ)) → known ≡ prepend_known [] known
+prepend_known-nil None = refl
+prepend_known-nil (Some xs) = refl
+
 pub append_known-nil : (known : Option (List ℕ)) → known ≡ append_known known []
 append_known-nil None = refl
 append_known-nil (Some xs) = ap Some (sym (append-nil xs))

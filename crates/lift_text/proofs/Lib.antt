@@ -7,3 +7,7 @@ pub mod PieceLemmas
 pub mod PageLemmas
 pub mod ReadLemmas
 pub mod SkipLemmas
+pub mod TakenLemmas
+pub mod EndLemmas
+pub mod CrossLemmas
+pub mod PrefixLemmas

@@ -44,7 +44,7 @@ ends_with_byte-none x bytes none =
     let last = not_equal (get_or (x ∷ bytes) (length (x ∷ bytes) - 1) 0) 10 (none (length (x ∷ bytes) - 1) (omega arith)) in
     grind (arith, nat_tests)
 
-ends_with_byte-push : (b : ℕ) (xs : List ℕ) → ends_with_byte b (xs ++ b ∷ []) ≡ true
+pub ends_with_byte-push : (b : ℕ) (xs : List ℕ) → ends_with_byte b (xs ++ b ∷ []) ≡ true
 ends_with_byte-push b xs =
     let last = last_place b xs in
     let size = length-append xs (b ∷ []) in

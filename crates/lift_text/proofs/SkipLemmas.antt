@@ -1,5 +1,5 @@
 -- Passing over a line of any length.
-use Rattle.std.proofs.Common.{◌≡◌, Bool, true, false, cond, eqb, Ok, ℕ, suc, ◌+◌, ◌-◌, ◌<◌, ◌≤◌, List, [], ◌∷◌, ◌++◌, Option, None, Some, length, take, drop, get_or, arith, ap, sym, ◌∙◌, refl, subst, append_assoc, append-nil, length-append, length-drop, drop-cons, add-one, inl, inr}
+use Rattle.std.proofs.Common.{◌≡◌, Bool, true, false, cond, eqb, Ok, Err, ℕ, suc, ◌+◌, ◌-◌, ◌<◌, ◌≤◌, List, [], ◌∷◌, ◌++◌, Option, None, Some, length, take, drop, get_or, arith, ap, sym, ◌∙◌, refl, subst, append_assoc, append-nil, length-append, length-drop, drop-cons, add-one, inl, inr}
 use Rattle.std.specs.Prelude.{IsSomeAnd}
 use Rattle.std.specs.List.{onto_first}
 use Rattle.std.specs.Io.KnownBytes.{prepend_known, IsAtEnd}
@@ -7,7 +7,9 @@ use Rattle.std.proofs.lemmas.List.{take-append-drop, length-take-le, get_or-take
 use Rattle.std.proofs.lemmas.Bool.{cases_lt}
 use Rattle.lift_text.specs.Lines.{pieces_of}
 use Rattle.lift_text.specs.Found.{NoLineFeed, NoLineFeedBelow, SkippedIn}
+use Rattle.lift_text.specs.Reading.{TextState}
 use Rattle.lift_text.specs.Page.{SkippedLine}
+use Rattle.lift_text.specs.declared.faults.TextFault.TheVariants.{TooLong}
 use Rattle.lift_text.specs.declared.faults.RawLine.TheVariants.{Long}
 use Rattle.lift_text.proofs.PageLemmas.{state}
 use Rattle.lift_text.specs.declared.window.Skipped.TheVariants.{Whole, Cut}
@@ -65,7 +67,7 @@ skipped_cut before (Some rest) front b quota limit none known used unread =
 pub all_searched : (place len size : ℕ) → len ≤ place → place ≤ size → len ≡ size → place ≡ size
 all_searched place len size past within whole = omega arith
 
-abbrev size_of : List (List ℕ) → ℕ
+abbrev pub size_of : List (List ℕ) → ℕ
 size_of [] = 0
 size_of (piece ∷ pieces) = length piece + size_of pieces
 
@@ -75,7 +77,7 @@ size_of-step false b [] = refl
 size_of-step false b (piece ∷ pieces) = omega arith
 
 -- the lines with their ends have all bytes
-size_of-pieces : (bytes : List ℕ) → size_of (pieces_of bytes) ≡ length bytes
+pub size_of-pieces : (bytes : List ℕ) → size_of (pieces_of bytes) ≡ length bytes
 size_of-pieces [] = refl
 size_of-pieces (b ∷ bytes) = omega (arith, size_of-step (eqb b 10) b (pieces_of bytes), size_of-pieces bytes)
 
@@ -100,3 +102,8 @@ pub skipped_text : (number limit quota : ℕ) (known : Option (List ℕ)) (unrea
     → SkippedLine (state number limit known) (Ok Long) (state (number + 1) (quota + length unread) (prepend_known unread left))
 skipped_text number limit quota None unread left skipped = tt
 skipped_text number limit quota (Some bytes) unread left skipped = skipped_rest number limit (quota + length unread) bytes (prepend_known unread left) skipped
+
+pub cut_text : (number limit quota : ℕ) (known : Option (List ℕ)) (unread : List ℕ) (left : Option (List ℕ)) (after : Option TextState) → SkippedIn Cut known limit unread left quota
+    → SkippedLine (state number limit known) (Err TooLong) after
+cut_text number limit quota None unread left after skipped = tt
+cut_text number limit quota (Some bytes) unread left after skipped = (skipped.0, skipped.1, skipped.2, skipped.3)

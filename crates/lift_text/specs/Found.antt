@@ -1,8 +1,10 @@
 -- What is found at the front of the bytes that are read and not used yet. No public clause cites this
 -- module.
-use Rattle.std.specs.Prelude.{◌≡◌, ◌≢◌, ℕ, ◌+◌, ◌<◌, ◌≤◌, List, [], ◌∷◌, ◌++◌, length, take, drop, Option, IfSome, IsSomeAnd, slice_index}
+use Rattle.std.specs.Prelude.{◌≡◌, ◌≢◌, ℕ, ◌+◌, ◌<◌, ◌≤◌, List, [], ◌∷◌, ◌++◌, length, take, drop, ◌⊎◌, Option, IfSome, IsSomeAnd, Result, Ok, Err, slice_index}
 use Rattle.std.specs.Io.KnownBytes.{prepend_known, IsAtEnd}
 use Rattle.lift_text.specs.Lines.{pieces_of, line_of}
+use Rattle.lift_text.specs.Streams.{Took}
+use Rattle.lift_text.specs.declared.sources.SourceFault.{SourceFault}
 use Rattle.lift_text.specs.declared.window.Fill.{Fill}
 use Rattle.lift_text.specs.declared.window.Fill.TheVariants.{More as MoreBytes, End as NoBytes, Limit}
 use Rattle.lift_text.specs.declared.window.Found.{Found}
@@ -43,3 +45,39 @@ SkippedIn Whole before limit unread left quota = IfSome before (λ bytes. IsSome
     (piece : List ℕ) × (pieces_of bytes ≡ piece ∷ pieces_of rest) × (quota + length unread + length piece ≡ limit)))
 SkippedIn CutShort before limit unread left quota = IfSome before (λ bytes.
     (piece : List ℕ) × (pieces : List (List ℕ)) × (pieces_of bytes ≡ piece ∷ pieces) × (limit < length piece))
+
+-- bytes were taken behind those that were held, but for as many as came past the quota
+pub record Gathered (past quota quota' : ℕ) (held held' taken : List ℕ) (left left' : Option (List ℕ)) : Type 0 where
+  pub took : Took past quota quota' taken left left'
+  pub kept : past ≡ 0 → held ++ taken ≡ held'
+
+-- how many bytes a search takes past the quota
+abbrev pub past_found : Result Found SourceFault → ℕ
+past_found (Ok (Line line size)) = 0
+past_found (Ok Long) = 0
+past_found (Ok Cut) = 1
+past_found (Ok End) = 0
+past_found (Err fault) = 0
+
+-- how many bytes skipping a line takes past the quota
+abbrev pub past_skipped : Result Skipped SourceFault → ℕ
+past_skipped (Ok Whole) = 0
+past_skipped (Ok CutShort) = 1
+past_skipped (Err fault) = 0
+
+-- a line with its LF
+pub record IsWholeLine (piece : List ℕ) : Type 0 where
+  pub front : List ℕ
+  pub none : NoLineFeed front
+  pub is : piece ≡ front ++ 10 ∷ []
+
+-- so many whole lines
+abbrev pub AreLines : List ℕ → ℕ → Type 0
+AreLines front count = (tail : List ℕ) → drop count (pieces_of (front ++ tail)) ≡ pieces_of tail
+
+-- how the end of the line that was found shows: by its LF, by the end of the source, or by its size
+abbrev pub FoundShows : Found → List ℕ → Option (List ℕ) → Type 0
+FoundShows (Line line size) unread left = IsWholeLine (take size unread) ⊎ IsAtEnd left
+FoundShows Long unread left = NoLineFeed unread × (4097 < length unread)
+FoundShows Cut unread left = Unit {0}
+FoundShows End unread left = Unit {0}

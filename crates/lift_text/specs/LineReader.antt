@@ -25,3 +25,11 @@ module _ {S : Type 0} where
   -- the fault that is answered from now on
   abbrev pub failure : LineReader S → Option TextFault
   failure reader = reader.page.failure
+
+  -- how many more bytes may be taken from the source
+  abbrev pub quota : LineReader S → ℕ
+  quota reader = reader.page.quota
+
+  -- the bytes behind the line that was read that are taken from the source already
+  abbrev pub unread : LineReader S → List ℕ
+  unread reader = reader.page.unread

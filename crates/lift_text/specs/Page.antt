@@ -1,9 +1,11 @@
 -- What clauses see of the lines that are read and their place in the text. No public clause cites this
 -- module.
-use Rattle.std.specs.Prelude.{◌≡◌, ℕ, Bool, true, false, ◌+◌, ◌*◌, ◌<◌, ◌≤◌, List, [], ◌∷◌, length, take, drop, All, Option, None, Some, option_map, IfSome, IsSomeAnd, Result, Ok, Err}
-use Rattle.std.specs.Io.KnownBytes.{prepend_known}
+use Rattle.std.specs.Prelude.{◌≡◌, ℕ, Bool, true, false, ◌+◌, ◌*◌, ◌<◌, ◌≤◌, List, [], ◌∷◌, ◌++◌, length, take, drop, All, ◌⊎◌, Option, None, Some, option_map, IfSome, IsSomeAnd, Result, Ok, Err}
+use Rattle.std.specs.Io.KnownBytes.{prepend_known, IsAtEnd}
 use Rattle.lift_text.specs.Lines.{pieces_of, line_of}
 use Rattle.lift_text.specs.Window.{WindowState}
+use Rattle.lift_text.specs.Streams.{Took}
+use Rattle.lift_text.specs.Found.{Gathered, IsWholeLine, AreLines, NoLineFeed}
 use Rattle.lift_text.specs.declared.words.Span.{Span}
 use Rattle.lift_text.specs.declared.judge.Flaw.{Flaw}
 use Rattle.lift_text.specs.declared.judge.Flaw.TheVariants.{OverLong, ForbiddenByte}
@@ -73,6 +75,17 @@ Forward Long old new = (new.line ≡ old.line) × (new.current ≡ []) × (4097 
 Forward Cut old new = new.line ≡ old.line
 Forward End old new = new.line ≡ old.line
 
+-- bytes were taken behind those that were unread, and the current line stands at their front
+abbrev pub PageTook : ℕ → PageState → PageState → List ℕ → Option (List ℕ) → Option (List ℕ) → Type 0
+PageTook past old new taken left left' = Gathered past old.quota new.quota old.unread (new.current ++ new.unread) taken left left'
+
+-- how the end of the line that was found shows, by the state after it
+abbrev pub LineEnds : Found → PageState → Option (List ℕ) → Type 0
+LineEnds (Line line size) page left = IsWholeLine page.current ⊎ IsAtEnd left
+LineEnds Long page left = NoLineFeed page.unread × (4097 < length page.unread)
+LineEnds Cut page left = Unit {0}
+LineEnds End page left = Unit {0}
+
 -- the step that a judgement makes of the line with this number
 abbrev pub step_of : ℕ → Result Bool Flaw → Result Step TextFault
 step_of line (Ok true) = Ok WithWords
@@ -108,10 +121,32 @@ ReadLine (Some before) (Err TooLong) words after = reading before ≡ past_limit
 ReadLine (Some before) (Err Read) words after = Unit {0}
 ReadLine (Some before) (Err NoMemory) words after = ⊥
 
+-- how the end of a line shows that has no words or is bad, and that it is the next one
+abbrev pub StepEnds : Result Step TextFault → PageState → PageState → Option (List ℕ) → Type 0
+StepEnds (Ok WithWords) old new left = Unit {0}
+StepEnds (Ok Blank) old new left = (new.line ≡ old.line + 1) × (IsWholeLine new.current ⊎ IsAtEnd left)
+StepEnds (Ok AtEnd) old new left = Unit {0}
+StepEnds (Err (Bad line code)) old new left = (line ≡ old.line + 1)
+    × (IsWholeLine new.current ⊎ (IsAtEnd left ⊎ (NoLineFeed (new.current ++ new.unread) × (4097 < length (new.current ++ new.unread)))))
+StepEnds (Err TooLong) old new left = Unit {0}
+StepEnds (Err Read) old new left = Unit {0}
+StepEnds (Err NoMemory) old new left = Unit {0}
+
 -- from one state to a later one, over lines without words
 abbrev pub Continues : Option TextState → Option TextState → Type 0
 Continues None after = Unit {0}
 Continues (Some before) after = IsSomeAnd after (λ text. (reading before ≡ reading text) × Passed before text)
+
+-- from one state to a later one, over so many lines: the bytes that were taken, and those that were passed
+-- over, which are whole lines where the source is not at its end
+pub record Crossed (old new : PageState) (left left' : Option (List ℕ)) : Type 0 where
+  pub taken : List ℕ
+  pub front : List ℕ
+  pub count : ℕ
+  pub took : Took 0 old.quota new.quota taken left left'
+  pub held : old.unread ++ taken ≡ front ++ new.unread
+  pub line : new.line ≡ old.line + count
+  pub lines : AreLines front count ⊎ IsAtEnd left'
 
 -- what was passed over of a line, by the answer and the state after it
 abbrev pub SkippedLine : Option TextState → Result RawLine TextFault → Option TextState → Type 0

@@ -1,5 +1,7 @@
 -- What is read of a text, line by line.
-use Rattle.std.specs.Prelude.{◌≡◌, ℕ, ◌+◌, ◌-◌, ◌≤◌, ◌<◌, Bool, true, false, nat_lt, List, [], ◌∷◌, length, drop, Option, None, Some, IsSomeAnd, Result, Ok, Err, if◌then◌else◌}
+use Rattle.std.specs.Prelude.{◌≡◌, ℕ, ◌+◌, ◌-◌, ◌≤◌, ◌<◌, Bool, true, false, nat_lt, List, [], ◌∷◌, length, drop, slice_index_or, ◌⊎◌, IsTrue, Option, None, Some, IsSomeAnd, Result, Ok, Err, if◌then◌else◌}
+use Rattle.std.specs.Io.KnownBytes.{IsAtEnd}
+use Rattle.std.specs.Io.BufRead.{ends_with_byte}
 use Rattle.lift_text.specs.Lines.{pieces_of, line_of, words_of, is_clean}
 use Rattle.lift_text.specs.declared.faults.TextFault.{TextFault}
 use Rattle.lift_text.specs.declared.faults.TextFault.TheVariants.{Read, TooLong, Bad, NoMemory}
@@ -81,3 +83,28 @@ NextRaw (Some before) (Err TooLong) raw after = (piece : List ℕ) × (pieces : 
 NextRaw (Some before) (Err Read) raw after = Unit {0}
 NextRaw (Some before) (Err (Bad line code)) raw after = ⊥
 NextRaw (Some before) (Err NoMemory) raw after = ⊥
+
+-- how many bytes a call takes past the quota, by the fault that was answered before it and by its answer: one
+-- where it is the first to answer that the text is too long
+abbrev pub past_quota : {A : Type 0} → Option TextFault → Result A TextFault → ℕ
+past_quota None (Ok answer) = 0
+past_quota None (Err TooLong) = 1
+past_quota None (Err Read) = 0
+past_quota None (Err (Bad line code)) = 0
+past_quota None (Err NoMemory) = 0
+past_quota (Some fault) answer = 0
+
+-- the end of a line shows in those of its bytes that were taken: they have its LF, or the source is at its
+-- end, or they are more than 4,097, which a line of allowed length and a CR have
+abbrev pub EndShows : List ℕ → Option (List ℕ) → Type 0
+EndShows piece left = IsTrue (ends_with_byte 10 piece) ⊎ (IsAtEnd left ⊎ (line_limit + 1 < length piece))
+
+-- where the answer is the first error and says that a line is bad, that line's end shows in the bytes that
+-- were taken behind so many lines; `left` is what the source has left behind them
+abbrev pub BadLineShows : Option TextFault → Result Bool TextFault → ℕ → List ℕ → Option (List ℕ) → Type 0
+BadLineShows None (Ok answer) lines bytes left = Unit {0}
+BadLineShows None (Err (Bad number code)) lines bytes left = (lines < number) × EndShows (slice_index_or (pieces_of bytes) (number - (lines + 1)) []) left
+BadLineShows None (Err TooLong) lines bytes left = Unit {0}
+BadLineShows None (Err Read) lines bytes left = Unit {0}
+BadLineShows None (Err NoMemory) lines bytes left = Unit {0}
+BadLineShows (Some fault) answer lines bytes left = Unit {0}

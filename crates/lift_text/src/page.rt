@@ -59,9 +59,10 @@ impl Model for Page {
 impl Page {
     ghost use Rattle.std.specs.Prelude.{◌≡◌, ◌≢◌, ℕ, ◌+◌, ◌<◌, ◌≤◌, List, [], ◌∷◌, ◌++◌, Some, None, true, false, length, take, drop, IfOk, IfErr, IfSome, OnOk, OnErr, IsErrOf, slice_index_or};
     ghost use Rattle.std.specs.Io.KnownBytes.{IsAtEnd};
-    ghost use Rattle.lift_text.specs.Streams.{Rose};
-    ghost use Rattle.lift_text.specs.Reading.{NextLine, NextRaw};
-    ghost use Rattle.lift_text.specs.Page.{text_at, limit_of, Advanced, Forward, IfBad, JudgedAs, ReadLine, SkippedLine};
+    ghost use Rattle.lift_text.specs.Streams.{Rose, Took};
+    ghost use Rattle.lift_text.specs.Found.{past_found};
+    ghost use Rattle.lift_text.specs.Reading.{NextLine, NextRaw, BadLineShows, past_quota};
+    ghost use Rattle.lift_text.specs.Page.{text_at, limit_of, Advanced, Forward, IfBad, JudgedAs, LineEnds, PageTook, ReadLine, SkippedLine, StepEnds};
 
     /// A page before the first line.
     pub(crate) fn new(alloc: Global) -> Result<Page, AllocError>
@@ -105,6 +106,9 @@ impl Page {
         ensures ok { IfOk result (λ found. Advanced found (text_at self.old (S.left source.old)) self.new.current
             (text_at self.new (S.left source.new))) }
         ensures forward { IfOk result (λ found. Forward found self.old self.new) }
+        ensures taken { (taken : List ℕ) × PageTook (past_found result) self.old self.new taken
+            (S.left source.old) (S.left source.new) }
+        ensures shows { IfOk result (λ found. LineEnds found self.new (S.left source.new)) }
         ensures end { result ≡ Ok Found.End → IsAtEnd (S.left source.new) }
         ensures counted { S.faults source.old ≤ S.faults source.new }
         ensures fault { OnErr result (Rose (S.faults source.old) (S.faults source.new)) }
@@ -141,6 +145,9 @@ impl Page {
         ensures some { result ≡ Ok Step.WithWords → 0 < length self.new.words }
         ensures end { result ≡ Ok Step.AtEnd → IsAtEnd (S.left source.new) }
         ensures less { result ≡ Ok Step.Blank → limit_of self.new < limit_of self.old }
+        ensures taken { (taken : List ℕ) × PageTook (past_quota None result) self.old self.new taken
+            (S.left source.old) (S.left source.new) }
+        ensures shows { StepEnds result self.old self.new (S.left source.new) }
         ensures bad { IfErr result (λ fault. IfBad fault (λ line. self.new.line ≡ line)) }
         ensures raw { self.new.raw ≡ [] }
         ensures failure { self.new.failure ≡ self.old.failure }
@@ -171,6 +178,9 @@ impl Page {
         ensures words { result ≢ Ok true → self.new.words ≡ [] }
         ensures some { result ≡ Ok true → 0 < length self.new.words }
         ensures end { result ≡ Ok false → IsAtEnd (S.left source.new) }
+        ensures taken { (taken : List ℕ) × Took (past_quota None result) self.old.quota self.new.quota taken
+            (S.left source.old) (S.left source.new)
+            × BadLineShows None result self.old.line (self.old.unread ++ taken) (S.left source.new) }
         ensures raw { self.new.raw ≡ [] }
         ensures failure { self.new.failure ≡ self.old.failure }
         ensures read { IsErrOf result TextFault.Read → Rose (S.faults source.old) (S.faults source.new) }
@@ -196,6 +206,10 @@ impl Page {
         ensures words { result ≢ Ok true → self.new.words ≡ [] }
         ensures some { result ≡ Ok true → 0 < length self.new.words }
         ensures end { result ≡ Ok false → IsAtEnd (S.left source.new) }
+        ensures taken { (taken : List ℕ) × Took (past_quota self.old.failure result) self.old.quota self.new.quota taken
+            (S.left source.old) (S.left source.new)
+            × IfSome self.old.failure (λ _. taken ≡ [])
+            × BadLineShows self.old.failure result self.old.line (self.old.unread ++ taken) (S.left source.new) }
         ensures raw { self.new.raw ≡ [] }
         ensures ok { OnOk result (self.new.failure ≡ None) }
         ensures err { IfErr result (λ fault. self.new.failure ≡ Some fault) }
@@ -238,6 +252,8 @@ impl Page {
         requires words { self.old.words ≡ [] }
         requires raw { self.old.raw ≡ [] }
         ensures skipped { SkippedLine (text_at self.old (S.left source.old)) result (text_at self.new (S.left source.new)) }
+        ensures taken { (taken : List ℕ) × Took (past_quota None result) self.old.quota self.new.quota taken
+            (S.left source.old) (S.left source.new) }
         ensures words { self.new.words ≡ [] }
         ensures raw { self.new.raw ≡ [] }
         ensures failure { self.new.failure ≡ self.old.failure }
@@ -263,6 +279,8 @@ impl Page {
             (text_at self.new (S.left source.new)) }
         ensures raw { result ≢ Ok RawLine.Line → self.new.raw ≡ [] }
         ensures end { result ≡ Ok RawLine.End → IsAtEnd (S.left source.new) }
+        ensures taken { (taken : List ℕ) × Took (past_quota None result) self.old.quota self.new.quota taken
+            (S.left source.old) (S.left source.new) }
         ensures words { self.new.words ≡ [] }
         ensures failure { self.new.failure ≡ self.old.failure }
         ensures read { IsErrOf result TextFault.Read → Rose (S.faults source.old) (S.faults source.new) }
@@ -284,6 +302,9 @@ impl Page {
         ensures again { IfSome self.old.failure (λ fault. result ≡ Err fault) }
         ensures raw { result ≢ Ok RawLine.Line → self.new.raw ≡ [] }
         ensures end { result ≡ Ok RawLine.End → IsAtEnd (S.left source.new) }
+        ensures taken { (taken : List ℕ) × Took (past_quota self.old.failure result) self.old.quota self.new.quota taken
+            (S.left source.old) (S.left source.new)
+            × IfSome self.old.failure (λ _. taken ≡ []) }
         ensures words { self.new.words ≡ [] }
         ensures ok { OnOk result (self.new.failure ≡ None) }
         ensures err { IfErr result (λ fault. self.new.failure ≡ Some fault) }

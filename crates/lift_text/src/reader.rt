@@ -1,9 +1,9 @@
 //! Reading a text line by line.
-ghost use Rattle.std.specs.Prelude.{◌≡◌, ◌≢◌, ◌<◌, ◌≤◌, [], Some, None, true, false, length, IfOk, IfErr, IfSome, OnOk, IsErrOf, option_map, slice_index_or};
+ghost use Rattle.std.specs.Prelude.{◌≡◌, ◌≢◌, ℕ, ◌<◌, ◌≤◌, List, [], ◌++◌, Some, None, true, false, length, IfOk, IfErr, IfSome, OnOk, IsErrOf, option_map, slice_index_or};
 ghost use Rattle.std.specs.Io.KnownBytes.{IsAtEnd};
-ghost use Rattle.lift_text.specs.Streams.{Rose};
+ghost use Rattle.lift_text.specs.Streams.{Rose, Took};
 ghost use Rattle.lift_text.specs.Numbers.{number_answer, read_number};
-ghost use Rattle.lift_text.specs.Reading.{NextLine, NextRaw, whole_text};
+ghost use Rattle.lift_text.specs.Reading.{NextLine, NextRaw, BadLineShows, past_quota, whole_text};
 
 use crate::faults::{RawLine, TextFault};
 use crate::numbers::number_in;
@@ -16,8 +16,8 @@ use std::alloc::{AllocError, Global};
 /// A line ends with LF, or with CR LF; the last line may lack its end. From a `#` on, the rest of a
 /// line is a comment and may hold any bytes. Outside comments a line holds the bytes from the space
 /// to `~` and tabs, and spaces and tabs separate its words. A line has at most 4,096 bytes without its
-/// end, and a text has at most 67,108,864 bytes. The answers are the same whatever pieces the source
-/// gives.
+/// end, and a text has at most 67,108,864 bytes: so many are taken from the source at most, and one more
+/// with the first `TooLong`. The answers are the same whatever pieces the source gives.
 ///
 /// The memory that it needs is taken when it is made.
 #[derive(Drop)]
@@ -27,13 +27,15 @@ pub struct LineReader<'a, S> {
 }
 
 impl<'a, S: Source> LineReader<'a, S> {
-    ghost use Rattle.lift_text.specs.LineReader.{text, line, words, raw, failure};
+    ghost use Rattle.lift_text.specs.LineReader.{text, line, words, raw, failure, quota, unread};
 
     /// A reader before the first line. The only error is want of memory.
     pub fn new(alloc: Global, source: &'a mut S) -> Result<LineReader<'a, S>, AllocError>
         ensures same_source { IfOk result (λ reader. reader.source.ghost_name ≡ source.entry.ghost_name) }
         ensures source { IfOk result (λ reader. reader.source.now ≡ source.old) }
         ensures text { IfOk result (λ reader. text S.left reader ≡ option_map whole_text (S.left source.old)) }
+        ensures quota { IfOk result (λ reader. quota reader ≡ 67108864) }
+        ensures unread { IfOk result (λ reader. unread reader ≡ []) }
         ensures line { IfOk result (λ reader. line reader ≡ 0) }
         ensures words { IfOk result (λ reader. words reader ≡ []) }
         ensures raw { IfOk result (λ reader. raw reader ≡ []) }
@@ -46,8 +48,9 @@ impl<'a, S: Source> LineReader<'a, S> {
     /// Reads the next line that has a word, and answers false at the end of the text.
     ///
     /// A line is bad with code 2 where it is over 4,096 bytes, and else with code 1 where a byte
-    /// outside its comment is not allowed. `Read` comes only where a read of the source failed. An
-    /// `Err` is answered from then on.
+    /// outside its comment is not allowed; this is answered only when its LF, the end of the source or
+    /// more than 4,097 of its bytes were seen. `Read` comes only where a read of the source failed. An
+    /// `Err` is answered from then on, and nothing more is taken from the source.
     pub fn next_line(&mut self) -> Result<bool, TextFault>
         ensures same_source { self.new.source.ghost_name ≡ self.old.source.ghost_name }
         ensures next { failure self.old ≡ None → NextLine (text S.left self.old) result (words self.new)
@@ -58,6 +61,14 @@ impl<'a, S: Source> LineReader<'a, S> {
         ensures words { result ≢ Ok true → words self.new ≡ [] }
         ensures raw { raw self.new ≡ [] }
         ensures end { failure self.old ≡ None → result ≡ Ok false → IsAtEnd (S.left self.new.source.now) }
+
+        // The bytes that this call took are counted off the quota, but for one with the first `TooLong`.
+        ensures taken { (taken : List ℕ)
+            × Took (past_quota (failure self.old) result) (quota self.old) (quota self.new) taken
+            (S.left self.old.source.now) (S.left self.new.source.now)
+            × IfSome (failure self.old) (λ _. taken ≡ [])
+            × BadLineShows (failure self.old) result (line self.old) (unread self.old ++ taken)
+            (S.left self.new.source.now) }
 
         ensures ok { OnOk result (failure self.new ≡ None) }
         ensures err { IfErr result (λ fault. failure self.new ≡ Some fault) }
@@ -110,7 +121,7 @@ impl<'a, S: Source> LineReader<'a, S> {
     }
 
     /// Reads the next line as it stands. `Read` comes only where a read of the source failed. An
-    /// `Err` is answered from then on.
+    /// `Err` is answered from then on, and nothing more is taken from the source.
     pub fn raw_line(&mut self) -> Result<RawLine, TextFault>
         ensures same_source { self.new.source.ghost_name ≡ self.old.source.ghost_name }
         ensures next { failure self.old ≡ None → NextRaw (text S.left self.old) result (raw self.new)
@@ -120,6 +131,12 @@ impl<'a, S: Source> LineReader<'a, S> {
         ensures raw { result ≢ Ok RawLine.Line → raw self.new ≡ [] }
         ensures words { words self.new ≡ [] }
         ensures end { failure self.old ≡ None → result ≡ Ok RawLine.End → IsAtEnd (S.left self.new.source.now) }
+
+        // The bytes that this call took are counted off the quota, but for one with the first `TooLong`.
+        ensures taken { (taken : List ℕ)
+            × Took (past_quota (failure self.old) result) (quota self.old) (quota self.new) taken
+            (S.left self.old.source.now) (S.left self.new.source.now)
+            × IfSome (failure self.old) (λ _. taken ≡ []) }
 
         ensures ok { OnOk result (failure self.new ≡ None) }
         ensures err { IfErr result (λ fault. failure self.new ≡ Some fault) }

@@ -154,17 +154,24 @@ fn heard_raw<S: Source>(reader: &mut LineReader<S>, heard: &mut String) -> Resul
     Ok(answer == Ok(RawLine::Line) || answer == Ok(RawLine::Long))
 }
 
-const MIXED: &[u8] = b"# \x00\xff any\r\n\r\n \t\nab  7\t-0 # x\x1f\n-\n007 -5 -6 100";
+/// CR LF, blank lines, comments with any bytes, and no LF at the end. The last numbers have 39 and 40 digits.
+const MIXED: &[u8] = b"# \x00\xff any\r\n\r\n \t\nab  7\t-0 # x\x1f\x7f\n-\n007 -5 -6 100 \
+    170141183460469231731687303715884105727 1000000000000000000000000000000000000000 \
+    0000000000000000000000000000000000000007";
 
 #[test]
 fn lines_are_the_same_in_any_pieces(rt: HostRuntime) -> Result<(), Fail> {
     let alloc = rt.alloc();
-    let table: [(&[u8], bool, &str); 10] = [
-        (MIXED, false, "4 2/6 7 0;5 1/6;6 7 -5 2/7 3/7;6 Ok(false)"),
+    let table: [(&[u8], bool, &str); 11] = [
+        (
+            MIXED,
+            false,
+            "4 2/6 7 0;5 1/6;6 7 -5 2/7 3/7 39/7 40/7 7;6 Ok(false)",
+        ),
         (
             MIXED,
             true,
-            "1 Ok(Line) 8;2 Ok(Line) 0;3 Ok(Line) 2;4 Ok(Line) 13;5 Ok(Line) 1;6 Ok(Line) 13;6 Ok(End) 0;",
+            "1 Ok(Line) 8;2 Ok(Line) 0;3 Ok(Line) 2;4 Ok(Line) 14;5 Ok(Line) 1;6 Ok(Line) 135;6 Ok(End) 0;",
         ),
         (b"", false, "0 Ok(false)"),
         (b"a\n\x1f\n", false, "1 1/6;2 Err(Bad { line: 2, code: 1 })"),
@@ -173,6 +180,7 @@ fn lines_are_the_same_in_any_pieces(rt: HostRuntime) -> Result<(), Fail> {
         (b"a\rb\n", false, "1 Err(Bad { line: 1, code: 1 })"),
         (b"\na\r", false, "2 Err(Bad { line: 2, code: 1 })"),
         (b"a\r", true, "1 Ok(Line) 2;1 Ok(End) 0;"),
+        (b"a\r\r\n", true, "1 Ok(Line) 2;1 Ok(End) 0;"),
         (b"\r\n\n", true, "1 Ok(Line) 0;2 Ok(Line) 0;2 Ok(End) 0;"),
     ];
     for (bytes, raw, want) in table {
@@ -191,16 +199,29 @@ fn lines_are_the_same_in_any_pieces(rt: HostRuntime) -> Result<(), Fail> {
 fn longest_lines_are_taken(rt: HostRuntime) -> Result<(), Fail> {
     let alloc = rt.alloc();
     let table = [
-        (4096usize, false, "1 4096/6;2 1/6;2 Ok(false)"),
-        (4097, false, "1 Err(Bad { line: 1, code: 2 })"),
-        (4096, true, "1 Ok(Line) 4096;2 Ok(Line) 1;2 Ok(End) 0;"),
-        (4097, true, "1 Ok(Long) 0;2 Ok(Line) 1;2 Ok(End) 0;"),
-        (200_000, true, "1 Ok(Long) 0;2 Ok(Line) 1;2 Ok(End) 0;"),
+        (4096usize, false, "3 7;4 4096/6;5 1/6;5 Ok(false)"),
+        (4097, false, "3 7;4 Err(Bad { line: 4, code: 2 })"),
+        (
+            4096,
+            true,
+            "1 Ok(Line) 2;2 Ok(Line) 0;3 Ok(Line) 2;4 Ok(Line) 4096;5 Ok(Line) 1;5 Ok(End) 0;",
+        ),
+        (
+            4097,
+            true,
+            "1 Ok(Line) 2;2 Ok(Line) 0;3 Ok(Line) 2;4 Ok(Long) 0;5 Ok(Line) 1;5 Ok(End) 0;",
+        ),
+        (
+            200_000,
+            true,
+            "1 Ok(Line) 2;2 Ok(Line) 0;3 Ok(Line) 2;4 Ok(Long) 0;5 Ok(Line) 1;5 Ok(End) 0;",
+        ),
     ];
     for (size, raw, want) in table {
-        for each in [1usize, 1000, 100_000] {
+        for each in [1usize, 3, 100_000] {
             assert!(rt; each >= 1);
-            let mut bytes = vec![in alloc; b'x'; size]?;
+            let mut bytes = Vec::from_slice(alloc, b"#\xff\r\n\n\t7\n")?;
+            bytes.resize(8 + size, b'x')?;
             bytes.extend_from_slice(b"\r\ny")?;
             let mut source = MemorySource::new(bytes, each, Vec::new(alloc));
             let heard = heard(alloc, &mut source, raw)?;
@@ -214,20 +235,31 @@ fn longest_lines_are_taken(rt: HostRuntime) -> Result<(), Fail> {
 fn numbers_have_up_to_128_bits(rt: HostRuntime) -> Result<(), Fail> {
     let alloc = rt.alloc();
     let text = b"170141183460469231731687303715884105727 170141183460469231731687303715884105728 \
-        -170141183460469231731687303715884105728 1000000000000000000000000000000000000000 -1";
+        -170141183460469231731687303715884105728 1000000000000000000000000000000000000000 -1 -0 - \
+        -000000000000000000000000000000000000000000000001 +1";
+    let outside = Err(TextFault::Bad { line: 1, code: 7 });
+    let none = Err(TextFault::Bad { line: 1, code: 6 });
+    let table = [
+        (0u32, i128::MIN, Ok(i128::MAX)),
+        (1, i128::MIN, outside),
+        (2, i128::MIN, Ok(i128::MIN)),
+        (3, i128::MIN, outside),
+        (4, i128::MIN, Ok(-1)),
+        (4, 0, none),
+        (5, -1, Ok(0)),
+        (5, 0, none),
+        (6, i128::MIN, none),
+        (7, i128::MIN, Ok(-1)),
+        (8, i128::MIN, none),
+    ];
     let mut source = SureSource::new(Vec::from_slice(alloc, text)?);
     let mut reader = LineReader::new(alloc, &mut source)?;
     assert_eq!(rt; reader.next_line(), Ok(true));
-    assert!(rt; reader.words() == 5);
-    let outside = Err(TextFault::Bad { line: 1, code: 7 });
-    assert_eq!(rt; reader.number(0, i128::MIN, i128::MAX), Ok(i128::MAX));
-    assert_eq!(rt; reader.number(1, i128::MIN, i128::MAX), outside);
-    assert_eq!(rt; reader.number(2, i128::MIN, i128::MAX), Ok(i128::MIN));
-    assert_eq!(rt; reader.number(3, i128::MIN, i128::MAX), outside);
-    assert_eq!(rt;
-        reader.number(4, 0, 1),
-        Err(TextFault::Bad { line: 1, code: 6 })
-    );
+    assert_eq!(rt; reader.words(), 9);
+    for (word, low, want) in table {
+        assert!(rt; word < reader.words());
+        assert_eq!(rt; reader.number(word, low, i128::MAX), want, "at word {word}");
+    }
     let mut out = Vec::from_slice(alloc, b"x ")?;
     put_number(&mut out, i128::MIN)?;
     assert_eq!(rt;
@@ -240,32 +272,81 @@ fn numbers_have_up_to_128_bits(rt: HostRuntime) -> Result<(), Fail> {
 #[test]
 fn a_failed_read_is_answered_ever_after(rt: HostRuntime) -> Result<(), Fail> {
     let alloc = rt.alloc();
-    for failing in 1..6u64 {
-        let bytes = Vec::from_slice(alloc, b"a\nb\n")?;
-        let mut source = MemorySource::new(bytes, 1, Vec::from_slice(alloc, &[failing])?);
-        let mut reader = LineReader::new(alloc, &mut source)?;
-        for _ in 0..(failing - 1) / 2 {
-            assert_eq!(rt; reader.next_line(), Ok(true));
-        }
-        for _ in 0..2 {
-            assert_eq!(rt;
-                reader.next_line(),
-                Err(TextFault::Read),
-                "at read {failing}"
-            );
-            assert_eq!(rt;
-                reader.raw_line(),
-                Err(TextFault::Read),
-                "at read {failing}"
-            );
+    // The number of the read that fails, where each gives one byte, and what was read before it: how
+    // many lines, and how many of them with a word.
+    let table = [
+        (1u64, 0u64, 0u32),
+        (2, 0, 0),
+        (3, 0, 0),
+        (4, 1, 1),
+        (5, 1, 1),
+        (6, 2, 1),
+        (7, 3, 1),
+        (8, 3, 1),
+        (9, 3, 1),
+        (10, 3, 1),
+        (11, 4, 2),
+    ];
+    for (failing, lines, with_words) in table {
+        for raw in [false, true] {
+            let bytes = Vec::from_slice(alloc, b"a\r\n#\n\nb c")?;
+            let mut source = MemorySource::new(bytes, 1, Vec::from_slice(alloc, &[failing])?);
+            let mut reader = LineReader::new(alloc, &mut source)?;
+            if raw {
+                for _ in 0..lines {
+                    assert_eq!(rt; reader.raw_line(), Ok(RawLine::Line), "at read {failing}");
+                }
+                assert_eq!(rt;
+                    reader.raw_line(),
+                    Err(TextFault::Read),
+                    "at read {failing}"
+                );
+            } else {
+                for _ in 0..with_words {
+                    assert_eq!(rt; reader.next_line(), Ok(true), "at read {failing}");
+                }
+            }
+            for _ in 0..2 {
+                assert_eq!(rt;
+                    reader.next_line(),
+                    Err(TextFault::Read),
+                    "at read {failing}"
+                );
+                assert_eq!(rt;
+                    reader.raw_line(),
+                    Err(TextFault::Read),
+                    "at read {failing}"
+                );
+            }
+            assert_eq!(rt; reader.line(), lines, "at read {failing}");
         }
     }
     Ok(())
 }
 
-/// A source without an end, of bytes that are no LF: it leaves `into` as it was made.
+#[test]
+fn a_bad_line_is_answered_when_its_end_was_taken(rt: HostRuntime) -> Result<(), Fail> {
+    let alloc = rt.alloc();
+    for (size, left) in [(1usize, 1usize), (4096, 1), (4097, 2), (5000, 905)] {
+        let mut bytes = Vec::from_slice(alloc, b"a\n")?;
+        bytes.resize(2 + size, b'\r')?;
+        bytes.extend_from_slice(b"\x7f\nb")?;
+        let mut source = MemorySource::new(bytes, 1, Vec::new(alloc));
+        let mut reader = LineReader::new(alloc, &mut source)?;
+        assert_eq!(rt; reader.next_line(), Ok(true));
+        assert!(rt; matches!(reader.next_line(), Err(TextFault::Bad { line: 2, .. })));
+        let mut rest = vec![in alloc; 0; 6000]?;
+        assert_eq!(rt; read_full(reader.into_source(), &mut rest), Ok(left));
+    }
+    Ok(())
+}
+
+/// A source without an end, of bytes that are no LF: it leaves `into` as it was made. It counts the
+/// bytes that it gave.
 #[derive(Drop)]
-struct Endless;
+struct Endless {
+    given: u64,
+}
 
 impl Source for Endless {
     ghost left = { λ _. None };
@@ -273,16 +354,18 @@ impl Source for Endless {
     ghost faults = { λ _. 0 };
 
     fn read(&mut self, into: &mut [u8]) -> Result<usize, SourceFault> {
+        self.given = self.given.saturating_add(into.len() as u64);
         Ok(into.len())
     }
 }
 
 #[test]
 fn a_text_past_the_limit_is_too_long(rt: HostRuntime) -> Result<(), Fail> {
-    let mut source = Endless;
+    let mut source = Endless { given: 0 };
     let mut reader = LineReader::new(rt.alloc(), &mut source)?;
     assert_eq!(rt; reader.raw_line(), Err(TextFault::TooLong));
     assert_eq!(rt; reader.next_line(), Err(TextFault::TooLong));
     assert_eq!(rt; reader.line(), 0);
+    assert_eq!(rt; reader.into_source().given, 67_108_865);
     Ok(())
 }

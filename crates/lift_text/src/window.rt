@@ -2,8 +2,8 @@
 ghost use Rattle.std.specs.Prelude.{◌≡◌, ◌≢◌, ℕ, ◌+◌, ◌<◌, ◌≤◌, List, [], ◌∷◌, ◌++◌, length, take, drop, IfOk, OnErr, slice_index};
 ghost use Rattle.std.specs.Io.KnownBytes.{prepend_known, IsAtEnd};
 ghost use Rattle.std.specs.Io.BufRead.{strip_last};
-ghost use Rattle.lift_text.specs.Streams.{Rose};
-ghost use Rattle.lift_text.specs.Found.{Filled, FoundIn, NoLineFeedBelow, SkippedIn};
+ghost use Rattle.lift_text.specs.Streams.{Rose, Took};
+ghost use Rattle.lift_text.specs.Found.{Filled, FoundIn, Gathered, FoundShows, NoLineFeedBelow, SkippedIn, past_found, past_skipped};
 
 use crate::places::place_of;
 use crate::sources::{Source, SourceFault};
@@ -165,6 +165,9 @@ impl Window {
         ensures ok { IfOk result (λ found. FoundIn found (prepend_known self.old.unread (S.left source.old))
             self.new.unread (S.left source.new) self.new.quota) }
         ensures quota { self.new.quota + length self.new.unread ≡ self.old.quota + length self.old.unread }
+        ensures taken { (taken : List ℕ) × Gathered (past_found result) self.old.quota self.new.quota
+            self.old.unread self.new.unread taken (S.left source.old) (S.left source.new) }
+        ensures shows { IfOk result (λ found. FoundShows found self.new.unread (S.left source.new)) }
         ensures counted { S.faults source.old ≤ S.faults source.new }
         ensures fault { OnErr result (Rose (S.faults source.old) (S.faults source.new)) }
     {
@@ -197,6 +200,8 @@ impl Window {
         ensures less { self.new.quota + length self.new.unread ≤ self.old.quota + length self.old.unread }
         ensures one { result ≡ Ok Skipped.Whole
             → self.new.quota + length self.new.unread < self.old.quota + length self.old.unread }
+        ensures taken { (taken : List ℕ) × Took (past_skipped result) self.old.quota self.new.quota taken
+            (S.left source.old) (S.left source.new) }
         ensures counted { S.faults source.old ≤ S.faults source.new }
         ensures fault { OnErr result (Rose (S.faults source.old) (S.faults source.new)) }
     {

@@ -1,5 +1,5 @@
 use Rattle.std.proofs.Common.{◌≡◌, ◌≤◌}
-use Rattle.lift_text.specs.Page.{Continues, limit_of, text_at}
+use Rattle.lift_text.specs.Page.{Continues, Crossed, limit_of, text_at}
 use Rattle.lift_text.proofs.page.Page.read_on.Given as goal
 
 -- only lines without words were read
@@ -7,6 +7,7 @@ abbrev pub invariant-lines : goal.invariant-lines
 invariant-lines g l = record {
   continues : Continues (text_at l.initial.self (g.S.Source.left l.initial.source)) (text_at l.self (g.S.Source.left l.source));
   failure : l.self.failure ≡ l.initial.self.failure;
+  crossed : Crossed l.initial.self l.self (g.S.Source.left l.initial.source) (g.S.Source.left l.source);
   counted : g.S.Source.faults l.initial.source ≤ g.S.Source.faults l.source;
 }
 

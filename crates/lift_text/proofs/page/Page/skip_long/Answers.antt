@@ -1,10 +1,11 @@
-use Rattle.std.proofs.Common.{◌+◌, Ok, length, drop, ap, sym, subst, ◌∙◌}
+use Rattle.std.proofs.Common.{◌+◌, Ok, Err, None, length, drop, ap, sym, subst, ◌∙◌}
 use Rattle.std.specs.Io.KnownBytes.{prepend_known}
 use Rattle.lift_text.specs.Found.{SkippedIn}
 use Rattle.lift_text.specs.Page.{PageState, SkippedLine, text_at}
 use Rattle.lift_text.specs.declared.faults.RawLine.TheVariants.{Long}
+use Rattle.lift_text.specs.declared.faults.TextFault.TheVariants.{TooLong}
 use Rattle.lift_text.proofs.PageLemmas.{state, empty_front}
-use Rattle.lift_text.proofs.SkipLemmas.{skipped_text}
+use Rattle.lift_text.proofs.SkipLemmas.{skipped_text, cut_text}
 use Rattle.lift_text.proofs.page.Page.skip_long.Goals as goal
 
 pub returns-in-Ok-Whole-clause-skipped : goal.returns-in-Ok-Whole-clause-skipped
@@ -21,3 +22,17 @@ returns-in-Ok-Whole-clause-skipped g c =
     subst (λ (p : PageState). SkippedLine (text_at p before) (Ok Long) (state (page.line + 1) (window.quota + length (drop page.size window.unread)) (prepend_known (drop page.size window.unread) after))) c.self.view_is
     (subst (λ n. SkippedLine (state page.line (page.window.quota + length (drop n start)) (prepend_known (drop n start) before)) (Ok Long)
     (state (page.line + 1) (window.quota + length (drop n window.unread)) (prepend_known (drop n window.unread) after))) (sym zero) passed)
+
+pub returns-in-Ok-Cut-clause-skipped : goal.returns-in-Ok-Cut-clause-skipped
+returns-in-Ok-Cut-clause-skipped g c =
+    let page = c.self.inside in
+    let before = g.S.Source.left c.args.source.now in
+    let start = page.window.unread in
+    let limit = page.window.quota + length start in
+    let window = c.skip_line.new.self in
+    let after = g.S.Source.left c.skip_line.new.source in
+    let zero = empty_front page.size start c.self.invariant.size_within (ap (λ (p : PageState). p.current) c.self.view_is ∙ c.requires.current) in
+    let skipped = subst (λ f. SkippedIn f (prepend_known start before) limit window.unread after window.quota) c.in-Ok-Cut.field-0-is c.in-Ok-Cut.ensures.ok in
+    let cut = cut_text page.line limit window.quota (prepend_known start before) window.unread after None skipped in
+    subst (λ (p : PageState). SkippedLine (text_at p before) (Err TooLong) None) c.self.view_is
+    (subst (λ n. SkippedLine (state page.line (page.window.quota + length (drop n start)) (prepend_known (drop n start) before)) (Err TooLong) None) (sym zero) cut)

@@ -1,6 +1,7 @@
-use Rattle.std.proofs.Common.{◌≡◌, ◌≢◌, ◌<◌, ℕ, length, get_or, arith, sym, ap, subst, ◌∙◌}
+use Rattle.std.proofs.Common.{◌≡◌, ◌≢◌, ◌<◌, ℕ, [], ◌∷◌, ◌++◌, length, get_or, arith, sym, ap, subst, ◌∙◌, refl}
 use Rattle.std.specs.Io.KnownBytes.{prepend_known}
 use Rattle.lift_text.specs.Found.{NoLineFeed}
+use Rattle.lift_text.proofs.TakenLemmas.{gathered_cut}
 use Rattle.lift_text.proofs.PieceLemmas.{begins_in_window, begins_found, found_last}
 use Rattle.lift_text.proofs.window.Window.find.Goals as goal
 
@@ -28,3 +29,11 @@ returns-in-End-clause-ok g c =
     found_last c.last_found.result _ (left c.fill.new.source) c.fill.new.self.unread c.line_feed_from-place.result _
     c.last_found.ensures.none c.last_found.ensures.line (whole ∙ ap length (sym kept)) known filled.ok.1
     (subst (λ unread. NoLineFeed unread) (sym kept) (subst (λ n. (k : ℕ) → k < n → get_or c.search.self.unread k 0 ≢ 10) whole place.none))
+
+pub returns-in-Limit-clause-taken : goal.returns-in-Limit-clause-taken
+returns-in-Limit-clause-taken g c =
+    let before = c.search.invariant.taken in
+    let filled = rw c.in-Limit.is at c.in_ok-fill.ensures in (
+      before.0 ++ filled.ok.0 ∷ [],
+      gathered_cut _ _ _ _ _ _ _ _ _ before.1 filled.ok.1 (before.2 ∙ sym (filled.kept (λ is. cc))) (omega (arith, filled.quota, c.search.invariant.quota)) (filled.limit refl),
+    )

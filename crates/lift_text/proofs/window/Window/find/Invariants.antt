@@ -1,4 +1,4 @@
-use Rattle.std.proofs.Common.{◌≡◌, ◌≢◌, ℕ, ◌+◌, ◌<◌, ◌≤◌, length, get_or}
+use Rattle.std.proofs.Common.{◌≡◌, ◌≢◌, ℕ, List, ◌++◌, ◌+◌, ◌<◌, ◌≤◌, length, get_or}
 use Rattle.std.specs.Io.KnownBytes.{prepend_known}
 use Rattle.lift_text.proofs.window.Window.find.Given as goal
 
@@ -9,6 +9,8 @@ invariant-search g l = record {
   none : (k : ℕ) → k < l.searched → get_or l.self.unread k 0 ≢ 10;
   known : prepend_known l.initial.self.unread (g.S.Source.left l.initial.source) ≡ prepend_known l.self.unread (g.S.Source.left l.source);
   quota : l.self.quota + length l.self.unread ≡ l.initial.self.quota + length l.initial.self.unread;
+  taken : (taken : List ℕ) × (g.S.Source.left l.initial.source ≡ prepend_known taken (g.S.Source.left l.source))
+      × (l.initial.self.unread ++ taken ≡ l.self.unread);
   counted : g.S.Source.faults l.initial.source ≤ g.S.Source.faults l.source;
 }
 

@@ -1,9 +1,10 @@
-use Rattle.std.proofs.Common.{◌≢◌, ◌+◌, ◌<◌, ◌++◌, ℕ, [], length, drop, get_or, arith, ap, sym, subst, ◌∙◌, length-append, refl}
+use Rattle.std.proofs.Common.{◌≢◌, ◌+◌, ◌<◌, ◌++◌, ℕ, [], ◌∷◌, length, drop, get_or, arith, ap, sym, subst, ◌∙◌, length-append, refl}
 use Rattle.std.proofs.Math.Seq.{drop-length}
 use Rattle.std.specs.Io.KnownBytes.{prepend_known}
 use Rattle.lift_text.specs.Found.{SkippedIn}
 use Rattle.lift_text.specs.declared.window.Skipped.TheVariants.{Whole}
 use Rattle.lift_text.proofs.KnownBytes.{given_more}
+use Rattle.lift_text.proofs.TakenLemmas.{took_last}
 use Rattle.lift_text.proofs.SkipLemmas.{skipped_line, skipped_end, skipped_cut, no_line_feed-append, all_searched}
 use Rattle.lift_text.proofs.window.Window.skip_line.Goals as goal
 
@@ -35,6 +36,11 @@ skip-preserved g c =
         none,
         given_more _ _ _ _ _ front.2 more.3 ∙ ap (λ l. prepend_known (front.0 ++ unread ++ l) (g.S.Source.left c.fill.new.source)) (sym same),
         omega (arith, front.3, filled.quota, c.consume-in-skip.ensures.quota, ap length empty, length-append front.0 unread),
+      );
+      taken = (
+        c.skip.invariant.taken.0 ++ more.0,
+        given_more _ _ _ c.skip.invariant.taken.0 more.0 c.skip.invariant.taken.1 more.3,
+        omega (arith, c.skip.invariant.taken.2, filled.quota, c.consume-in-skip.ensures.quota, ap length same, length-append c.skip.invariant.taken.0 more.0, ap length empty),
       );
       counted = omega (arith, filled.counted);
     }
@@ -70,3 +76,12 @@ returns-in-Limit-clause-ok g c =
     let size = length-append front.0 unread in
     skipped_cut before left (front.0 ++ unread) filled.ok.0 c.fill.new.self.quota limit none (front.2 ∙ ap (prepend_known (front.0 ++ unread)) filled.ok.1)
     (omega (arith, front.3, filled.quota, filled.limit refl, c.consume-in-skip.ensures.quota, ap length empty, ap length same)) []
+
+pub returns-in-Limit-clause-taken : goal.returns-in-Limit-clause-taken
+returns-in-Limit-clause-taken g c =
+    let before = c.skip.invariant.taken in
+    let filled = rw c.in-Limit.is at c.in_ok-fill.ensures in
+    let same = filled.kept (λ is. cc) in (
+      before.0 ++ filled.ok.0 ∷ [],
+      took_last _ _ _ _ _ _ _ before.1 filled.ok.1 (omega (arith, before.2, filled.quota, c.consume-in-skip.ensures.quota, ap length same)) (filled.limit refl),
+    )

@@ -10,6 +10,8 @@ invariant-skip g l = record {
   front : (front : List ℕ) × NoLineFeed front
       × (prepend_known l.initial.self.unread (g.S.Source.left l.initial.source) ≡ prepend_known (front ++ l.self.unread) (g.S.Source.left l.source))
       × (l.self.quota + length l.self.unread + length front ≡ l.initial.self.quota + length l.initial.self.unread);
+  taken : (taken : List ℕ) × (g.S.Source.left l.initial.source ≡ prepend_known taken (g.S.Source.left l.source))
+      × (l.self.quota + length taken ≡ l.initial.self.quota);
   counted : g.S.Source.faults l.initial.source ≤ g.S.Source.faults l.source;
 }
 
