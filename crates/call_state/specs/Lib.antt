@@ -2,5 +2,7 @@ pub mod BuildingParts
 pub mod SnapshotParts
 pub mod Possible
 pub mod Squares
-pub mod SmallBuildings
-pub mod SmallSnapshots
+pub mod Tests
+pub mod Ids
+pub mod Refusals
+pub mod FirstFaults

@@ -1,14 +1,19 @@
 //! Buildings and their cars.
 
-ghost use Rattle.std.specs.Prelude.{◌≡◌, ◌↔◌, ◌^◌, ◌≤◌, ◌<◌, IsTrue, IsOk, IfOk, IfErr};
-ghost use Rattle.elevator_model.specs.Counting.{has, sum_where};
-ghost use Rattle.elevator_model.specs.Building.{IsBuilding, IsCarSpec};
-ghost use Rattle.elevator_model.specs.declared.Fault.TheVariants.{NotYet};
-ghost use Rattle.call_state.specs.SmallBuildings.{IsSmallBuilding, IsSmallFrame, AreLow, AreRising};
+ghost use Rattle.std.specs.Prelude.{◌≡◌, ℕ, ◌≤◌, ◌<◌, [], length, nat_lt, IfOk, OnOk, IfErr, IfNone, MatchOption};
+ghost use Rattle.std.specs.List.{list_any};
+ghost use Rattle.elevator_model.specs.Travel.{IsTravelSquare};
+ghost use Rattle.elevator_model.specs.Building.{IsBuilding, car_of, most_cars as most_cars_lem};
+ghost use Rattle.elevator_model.specs.Faults.{is_rising, fault_of_frame, fault_of_spec, first_in, first_fault_of_building};
+ghost use Rattle.call_state.specs.Refusals.{Names, SpeaksAgainst};
+ghost use Rattle.call_state.specs.Tests.{has_motion_in_range, has_weights_in_range};
 
+use crate::car_faults::spec_fault;
+use crate::id_index::IdIndex;
 use crate::squares::Travel;
 use crate::{Fault, StateFault};
 use elevator_model::CarSpec;
+use std::alloc::{AllocError, Global};
 use std::marker::Model;
 
 /// What a building is made of.
@@ -40,9 +45,12 @@ pub struct BuildingParts {
 #[derive(Drop, Debug)]
 pub struct Building {
     parts: BuildingParts,
+    ids: IdIndex,
 }
 
 impl Model for Building {
+    ghost use Rattle.std.specs.Prelude.{◌≡◌, map};
+    ghost use Rattle.elevator_model.specs.declared.CarSpec.{CarSpec};
     ghost use Rattle.elevator_model.specs.Building.{Building as Record, IsBuilding};
     ghost use Rattle.call_state.specs.BuildingParts.{building_of};
 
@@ -50,7 +58,7 @@ impl Model for Building {
 
     ghost view = { λ b. building_of b.parts };
 
-    ghost invariant = { λ b. IsBuilding (building_of b.parts) };
+    ghost invariant = { λ b. IsBuilding (building_of b.parts) × (b.ids ≡ map (λ (x : CarSpec). x.id) b.parts.cars.items) };
 }
 
 impl Building {
@@ -58,20 +66,42 @@ impl Building {
 
     /// The building with these parts.
     ///
-    /// For now it answers `NotYet` of item 0 exactly where the parts are not those of a building of version
-    /// 1 with one car. It takes no memory.
-    pub fn build(parts: BuildingParts) -> Result<Building, StateFault>
-        ensures valid { IsOk result ↔ IsSmallBuilding (building_of parts) }
+    /// It fails with the first fault, at the building itself or at a car, exactly where the parts do not
+    /// keep the rules, and with `NoMemory` where there is no memory left.
+    pub fn build(alloc: Global, parts: BuildingParts) -> Result<Building, StateFault>
         ensures value { IfOk result (λ building. building ≡ building_of parts) }
-        ensures fault { IfErr result (λ e. e ≡ StateFault.Bad NotYet 0) }
+        ensures faultless { OnOk result (first_fault_of_building (building_of parts) ≡ None) }
+        ensures valid { OnOk result (IsBuilding (building_of parts)) }
+        ensures fault { IfErr result (Names (first_fault_of_building (building_of parts))) }
+        ensures refused { IfErr result (SpeaksAgainst (IsBuilding (building_of parts))) }
     {
-        if !parts.are_small() {
-            return Err(StateFault::Bad {
-                fault: Fault::NotYet,
-                item: 0,
-            });
+        if let Some((fault, item)) = parts.first_fault() {
+            return Err(StateFault::Bad { fault, item });
         }
-        Ok(Building { parts })
+        let Ok(ids) = IdIndex::of_cars(alloc, &parts.cars) else {
+            return Err(StateFault::NoMemory);
+        };
+        Ok(Building { parts, ids })
+    }
+
+    /// The index of the car with this id, and `None` exactly where no car has it.
+    pub fn car_of(&self, id: u32) -> Option<u32>
+        ensures car { MatchOption result ((c : ℕ) → c < length self.now.cars → (car_of self.now c).id ≡ id → ⊥) (λ c. (c < length self.now.cars) × ((car_of self.now c).id ≡ id)) }
+        ensures building { IsBuilding self.now }
+    {
+        match self.ids.place_of(id) {
+            Some(place) => Some(place as u32),
+            None => None,
+        }
+    }
+
+    /// The same building once more. It fails only where there is no memory left.
+    pub fn copy(&self, alloc: Global) -> Result<Building, AllocError>
+        ensures { IfOk result (λ building. building ≡ self.now) }
+    {
+        let parts = self.parts.copy(alloc)?;
+        let ids = IdIndex::of_cars(alloc, &parts.cars)?;
+        Ok(Building { parts, ids })
     }
 
     /// 1, 2 or 3.
@@ -155,14 +185,15 @@ impl Building {
     }
 }
 
-fn are_low(heights: &[u64]) -> bool
-    ensures { IsTrue result ↔ AreLow heights.now }
+/// Whether some height is over 1,000,000 mm.
+fn any_too_high(heights: &[u64]) -> bool
+    ensures { result ≡ list_any (λ h. nat_lt 1000000 h) heights.now }
 {
-    heights.iter().all(|height| *height <= 1_000_000)
+    heights.iter().any(|height| 1_000_000 < *height)
 }
 
 fn are_rising(heights: &[u64]) -> bool
-    ensures { IsTrue result ↔ AreRising heights.now }
+    ensures { result ≡ is_rising heights.now }
 {
     for floor in 1..heights.len() {
         if heights[floor] <= heights[floor - 1] {
@@ -172,79 +203,105 @@ fn are_rising(heights: &[u64]) -> bool
     true
 }
 
-/// Whether the floor is in the set.
-pub(crate) fn has_floor(serves: u64, floor: u32) -> bool
-    requires { floor < 64 }
-    ensures { result ≡ has serves floor }
+/// The greatest number of cars in a building of this version.
+fn most_cars(version: u8) -> u32
+    ensures value { result ≡ most_cars_lem version }
+    ensures small { result ≤ 16 }
 {
-    serves >> floor & 1 == 1
+    if version == 1 { 8 } else { 16 }
 }
 
-/// How many of the lowest floors are in the set.
-fn served_floors(serves: u64, floors: u32) -> u32
-    requires { floors ≤ 64 }
-    ensures { result ≡ sum_where floors (has serves) (λ _. 1) }
+/// The first fault of the cars of a building with so many floors, which may have at most `greatest` cars,
+/// and the place of the car with it, from 1.
+fn first_spec_fault(floors: u32, greatest: u32, cars: &[CarSpec]) -> Option<(Fault, u32)>
+    requires floors { floors ≤ 64 }
+    requires cars { greatest ≤ 16 }
+    ensures { result ≡ first_in (fault_of_spec floors greatest) [] cars.now 1 }
 {
-    let mut served = 0;
-    for floor in 0..floors {
-        if has_floor(serves, floor) {
-            served += 1;
+    for car in 0..cars.len() {
+        if let Some(fault) = spec_fault(floors, greatest, &cars[..car], &cars[car]) {
+            return Some((fault, 1 + car as u32));
         }
     }
-    served
-}
-
-/// Whether all in the set is one of the lowest floors.
-fn are_floors(serves: u64, floors: u32) -> bool
-    requires { floors ≤ 64 }
-    ensures { IsTrue result ↔ (serves < 2 ^ floors) }
-{
-    floors == 64 || serves >> floors == 0
-}
-
-/// Whether the car's numbers are in their ranges, and it serves two of the floors at least.
-fn is_car_spec(car: &CarSpec, floors: u32) -> bool
-    requires { floors ≤ 64 }
-    ensures { IsTrue result ↔ IsCarSpec floors car.now }
-{
-    1 <= car.capacity
-        && car.capacity <= 64
-        && car.opening <= 60_000
-        && car.closing <= 60_000
-        && car.boarding <= 60_000
-        && car.alighting <= 60_000
-        && are_floors(car.serves, floors)
-        && 2 <= served_floors(car.serves, floors)
+    None
 }
 
 impl BuildingParts {
     ghost use Rattle.call_state.specs.BuildingParts.{building_of};
 
-    /// Whether all but the heights and the car is right.
-    fn has_small_frame(&self) -> bool
-        ensures { IsTrue result ↔ IsSmallFrame (building_of self.now) }
+    /// The same parts once more. It fails only where there is no memory left.
+    fn copy(&self, alloc: Global) -> Result<BuildingParts, AllocError>
+        ensures { IfOk result (λ parts. building_of parts ≡ building_of self.now) }
     {
-        self.version == 1
+        Ok(BuildingParts {
+            version: self.version,
+            heights: self.heights.as_slice().to_vec(alloc)?,
+            speed: self.speed,
+            accel: self.accel,
+            wait_weight: self.wait_weight,
+            travel_weight: self.travel_weight,
+            patience: self.patience,
+            patience_weight: self.patience_weight,
+            cars: self.cars.as_slice().to_vec(alloc)?,
+            travel: self.travel.copy(alloc)?,
+        })
+    }
+
+    /// Whether the version, the heights, the speed and the acceleration are in their ranges.
+    fn has_motion_in_range(&self) -> bool
+        ensures { result ≡ has_motion_in_range (building_of self.now) }
+    {
+        1 <= self.version
+            && self.version <= 3
             && 2 <= self.heights.len()
             && self.heights.len() <= 64
+            && !any_too_high(&self.heights)
             && 100 <= self.speed
             && self.speed <= 20_000
             && 100 <= self.accel
             && self.accel <= 5_000
-            && self.wait_weight <= 1_000
-            && self.travel_weight <= 1_000
-            && self.patience == 0
-            && self.patience_weight == 0
-            && self.cars.len() == 1
-            && self.travel.floors() as usize == self.heights.len()
     }
 
-    fn are_small(&self) -> bool
-        ensures { IsTrue result ↔ IsSmallBuilding (building_of self.now) }
+    /// Whether the weights and the patience are in their ranges.
+    fn has_weights_in_range(&self) -> bool
+        ensures { result ≡ has_weights_in_range (building_of self.now) }
     {
-        self.has_small_frame()
-            && are_low(&self.heights)
-            && are_rising(&self.heights)
-            && is_car_spec(&self.cars[0], self.heights.len() as u32)
+        self.wait_weight <= 1_000
+            && self.travel_weight <= 1_000
+            && self.patience <= 1_000_000_000
+            && self.patience_weight <= 1_000
+            && (self.version != 1 || self.patience + self.patience_weight == 0)
+    }
+
+    /// The first fault of the building itself.
+    fn frame_fault(&self) -> Option<Fault>
+        ensures value { result ≡ fault_of_frame (building_of self.now) }
+        ensures floors { IfNone result (length self.now.heights.items ≤ 64) }
+        ensures square { IsTravelSquare self.now.travel }
+    {
+        let floors = self.travel.floors() as usize;
+        let is_in_range = self.has_motion_in_range()
+            && self.has_weights_in_range()
+            && floors == self.heights.len()
+            && !self.cars.is_empty();
+        if !is_in_range {
+            return Some(Fault::OutOfRange);
+        }
+        if !are_rising(&self.heights) {
+            return Some(Fault::NotRising);
+        }
+        None
+    }
+
+    /// The first fault, and the place of the car with it, from 1, or 0 of the building itself.
+    fn first_fault(&self) -> Option<(Fault, u32)>
+        ensures value { result ≡ first_fault_of_building (building_of self.now) }
+        ensures square { IsTravelSquare self.now.travel }
+    {
+        if let Some(fault) = self.frame_fault() {
+            return Some((fault, 0));
+        }
+        let floors = self.heights.len() as u32;
+        first_spec_fault(floors, most_cars(self.version), &self.cars)
     }
 }

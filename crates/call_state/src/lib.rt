@@ -1,18 +1,30 @@
-//! building with its cars, and a snapshot of a building with its cars' states, the groups aboard and
-//! the open calls.
+//! The states that the rules allow: a square of travel times between floors, a building with its cars,
+//! and a snapshot of a building with its cars' states, the groups aboard and the open calls. What breaks
+//! the rules is refused with its first fault, and a value of these types keeps them.
 //!
 //! Lengths are in mm, moments and times in ms. Floors, cars and calls are named by their index, from 0.
 #![tactic(auto)]
 
+mod aboard_faults;
 mod buildings;
+mod call_faults;
+mod car_faults;
+mod id_index;
 mod small_snapshots;
 mod snapshots;
 mod squares;
+mod state_faults;
+mod whole_parts;
 
+pub use aboard_faults::aboard_fault;
 pub use buildings::{Building, BuildingParts};
+pub use call_faults::call_fault;
+pub use car_faults::spec_fault;
 pub use elevator_model::{Aboard, Call, CarSpec, CarState, Fault};
+pub use small_snapshots::is_small;
 pub use snapshots::{Snapshot, SnapshotParts};
 pub use squares::Travel;
+pub use state_faults::{can_stop, is_open, serves_floor, state_fault};
 
 /// Why a travel square, a building or a snapshot is refused.
 #[derive(Clone, Copy, PartialEq, Eq, Debug)]

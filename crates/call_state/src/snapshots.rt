@@ -1,14 +1,22 @@
 //! Snapshots: where each car is, who is aboard, which calls are open.
 
-ghost use Rattle.std.specs.Prelude.{◌≡◌, ◌↔◌, ◌<◌, IsOk, IfOk, IfErr, length};
-ghost use Rattle.elevator_model.specs.Snapshot.{IsAccepted, IsSmall, car_count, call_count, call_of, state_of, serves, can_take};
-ghost use Rattle.elevator_model.specs.declared.Fault.TheVariants.{NotYet};
+ghost use Rattle.std.specs.Prelude.{◌≡◌, ◌↔◌, ℕ, ◌<◌, ◌≤◌, None, IsTrue, IfOk, OnOk, IfErr, IfNone, MatchOption, length};
+ghost use Rattle.elevator_model.specs.Snapshot.{IsAccepted, car_count, call_count, call_of, state_of};
+ghost use Rattle.elevator_model.specs.Faults.{first_fault_of_snapshot};
+ghost use Rattle.call_state.specs.SnapshotParts.{AreSnapshotParts};
+ghost use Rattle.call_state.specs.FirstFaults.{first_of_states, first_of_groups, first_of_calls};
+ghost use Rattle.call_state.specs.Refusals.{Names, SpeaksAgainst};
 ghost use Rattle.call_state.specs.Possible.{HasPossible, may_take};
 
-use crate::buildings::{Building, has_floor};
-use crate::small_snapshots::are_small;
+use crate::aboard_faults::aboard_fault;
+use crate::buildings::Building;
+use crate::call_faults::{call_fault, can_car_take};
+use crate::id_index::IdIndex;
+use crate::state_faults::state_fault;
+use crate::whole_parts::{are_pinned_to_cars, are_unmoving, ride_in_cars};
 use crate::{Fault, StateFault};
 use elevator_model::{Aboard, Call, CarState};
+use std::alloc::{AllocError, Global};
 use std::marker::Model;
 
 /// What a snapshot is made of.
@@ -25,14 +33,112 @@ pub struct SnapshotParts {
     pub calls: Vec<Call>,
 }
 
+impl SnapshotParts {
+    ghost use Rattle.call_state.specs.SnapshotParts.{snapshot_of};
+
+    /// Whether the parts fit together, so that they can be tested for faults: the version is 1 or 2, the moment
+    /// is at most 10^9, each car has a state that the version knows, and each car that a group or a pin
+    /// names is one of the building.
+    pub fn are_whole(&self) -> bool
+        ensures { IsTrue result ↔ AreSnapshotParts (snapshot_of self.entry.now) }
+    {
+        let cars = self.building.cars().len();
+        1 <= self.version
+            && self.version <= 2
+            && self.now <= 1_000_000_000
+            && self.cars.len() == cars
+            && (self.version != 1 || are_unmoving(&self.cars))
+            && ride_in_cars(&self.aboard, cars)
+            && are_pinned_to_cars(&self.calls, cars)
+    }
+
+    /// The same parts once more. It fails only where there is no memory left.
+    fn copy(&self, alloc: Global) -> Result<SnapshotParts, AllocError>
+        ensures { IfOk result (λ parts. snapshot_of parts ≡ snapshot_of self.entry.now) }
+    {
+        Ok(SnapshotParts {
+            version: self.version,
+            building: self.building.copy(alloc)?,
+            now: self.now,
+            cars: self.cars.as_slice().to_vec(alloc)?,
+            aboard: self.aboard.as_slice().to_vec(alloc)?,
+            calls: self.calls.as_slice().to_vec(alloc)?,
+        })
+    }
+
+    /// The first fault of the cars' states, and the place of the car with it, from 1.
+    fn first_state_fault(&self) -> Option<(Fault, u32)>
+        requires { AreSnapshotParts (snapshot_of self.now) }
+        ensures { result ≡ first_of_states (snapshot_of self.entry.now) }
+    {
+        for car in 0..self.building.cars().len() {
+            let state = self.cars[car];
+            if let Some(fault) = state_fault(&self.building, self.now, car as u32, state) {
+                return Some((fault, 1 + car as u32));
+            }
+        }
+        None
+    }
+
+    /// The first fault of the groups aboard, and the place of the group with it, counted on from the cars.
+    fn first_aboard_fault(&self) -> Option<(Fault, u32)>
+        requires { AreSnapshotParts (snapshot_of self.now) }
+        ensures value { result ≡ first_of_groups (snapshot_of self.entry.now) }
+        ensures few { IfNone result (length (snapshot_of self.entry.now).aboard ≤ 1024) }
+    {
+        let first = 1 + self.building.cars().len() as u32;
+        for k in 0..self.aboard.len() {
+            let (before, group) = (&self.aboard[..k], &self.aboard[k]);
+            if let Some(fault) = aboard_fault(&self.building, self.now, &self.cars, before, group) {
+                return Some((fault, first + k as u32));
+            }
+        }
+        None
+    }
+
+    /// The first fault of the calls, and the place of the call with it, counted on from the cars and the
+    /// groups aboard.
+    fn first_call_fault(&self) -> Option<(Fault, u32)>
+        requires parts { AreSnapshotParts (snapshot_of self.now) }
+        requires few { length (snapshot_of self.now).aboard ≤ 1024 }
+        ensures { result ≡ first_of_calls (snapshot_of self.entry.now) }
+    {
+        let first = 1 + self.building.cars().len() as u32 + self.aboard.len() as u32;
+        for j in 0..self.calls.len() {
+            let (before, call) = (&self.calls[..j], &self.calls[j]);
+            if let Some(fault) = call_fault(&self.building, self.now, &self.aboard, before, call) {
+                return Some((fault, first + j as u32));
+            }
+        }
+        None
+    }
+
+    /// The first fault, and the place of its item.
+    fn first_fault(&self) -> Option<(Fault, u32)>
+        requires { AreSnapshotParts (snapshot_of self.now) }
+        ensures { result ≡ first_fault_of_snapshot (snapshot_of self.entry.now) }
+    {
+        if let Some(found) = self.first_state_fault() {
+            return Some(found);
+        }
+        if let Some(found) = self.first_aboard_fault() {
+            return Some(found);
+        }
+        self.first_call_fault()
+    }
+}
+
 /// A snapshot that keeps the rules: each car can deliver those aboard, and each open call has a car that
 /// can take it.
 #[derive(Drop, Debug)]
 pub struct Snapshot {
     parts: SnapshotParts,
+    ids: IdIndex,
 }
 
 impl Model for Snapshot {
+    ghost use Rattle.std.specs.Prelude.{◌≡◌, map};
+    ghost use Rattle.elevator_model.specs.declared.Call.{Call};
     ghost use Rattle.elevator_model.specs.Snapshot.{Snapshot as Record, IsAccepted};
     ghost use Rattle.call_state.specs.SnapshotParts.{snapshot_of};
 
@@ -40,29 +146,54 @@ impl Model for Snapshot {
 
     ghost view = { λ s. snapshot_of s.parts };
 
-    ghost invariant = { λ s. IsAccepted (snapshot_of s.parts) };
+    ghost invariant = { λ s. IsAccepted (snapshot_of s.parts) × (s.ids ≡ map (λ (x : Call). x.id) s.parts.calls.items) };
 }
 
 impl Snapshot {
     ghost use Rattle.call_state.specs.SnapshotParts.{snapshot_of};
 
-    /// The snapshot with these parts.
+    /// The snapshot with these parts. Each car that they name is one of the building, each car has a state,
+    /// and only version 2 has moving cars.
     ///
-    /// For now it answers `NotYet` of item 0 exactly where the parts are not those of a small snapshot: one
-    /// that keeps the rules, of version 1 in a building of version 1, with one car, idle and empty, and at
-    /// most three calls, none pinned. It takes no memory.
-    pub fn build(parts: SnapshotParts) -> Result<Snapshot, StateFault>
-        ensures valid { IsOk result ↔ IsSmall (snapshot_of parts) }
+    /// It fails with the first fault, through the cars, the groups aboard and the calls, exactly where the
+    /// parts do not keep the rules, and with `NoMemory` where there is no memory left.
+    pub fn build(alloc: Global, parts: SnapshotParts) -> Result<Snapshot, StateFault>
+        requires { AreSnapshotParts (snapshot_of parts) }
         ensures value { IfOk result (λ snapshot. snapshot ≡ snapshot_of parts) }
-        ensures fault { IfErr result (λ e. e ≡ StateFault.Bad NotYet 0) }
+        ensures faultless { OnOk result (first_fault_of_snapshot (snapshot_of parts) ≡ None) }
+        ensures accepted { OnOk result (IsAccepted (snapshot_of parts)) }
+        ensures fault { IfErr result (Names (first_fault_of_snapshot (snapshot_of parts))) }
+        ensures refused { IfErr result (SpeaksAgainst (IsAccepted (snapshot_of parts))) }
     {
-        if !are_small(&parts) {
-            return Err(StateFault::Bad {
-                fault: Fault::NotYet,
-                item: 0,
-            });
+        if let Some((fault, item)) = parts.first_fault() {
+            return Err(StateFault::Bad { fault, item });
         }
-        Ok(Snapshot { parts })
+        // A reader of the building tells that it keeps its rules, which the snapshot's rules are to hold.
+        let _version = parts.building.version();
+        let Ok(ids) = IdIndex::of_calls(alloc, &parts.calls) else {
+            return Err(StateFault::NoMemory);
+        };
+        Ok(Snapshot { parts, ids })
+    }
+
+    /// The index of the open call with this id, and `None` exactly where no call has it.
+    pub fn call_of(&self, id: u32) -> Option<u32>
+        ensures call { MatchOption result ((j : ℕ) → j < call_count self.now → (call_of self.now j).id ≡ id → ⊥) (λ j. (j < call_count self.now) × ((call_of self.now j).id ≡ id)) }
+        ensures accepted { IsAccepted self.now }
+    {
+        match self.ids.place_of(id) {
+            Some(place) => Some(place as u32),
+            None => None,
+        }
+    }
+
+    /// The same snapshot once more. It fails only where there is no memory left.
+    pub fn copy(&self, alloc: Global) -> Result<Snapshot, AllocError>
+        ensures { IfOk result (λ snapshot. snapshot ≡ self.now) }
+    {
+        let parts = self.parts.copy(alloc)?;
+        let ids = IdIndex::of_calls(alloc, &parts.calls)?;
+        Ok(Snapshot { parts, ids })
     }
 
     /// The building.
@@ -124,7 +255,7 @@ impl Snapshot {
         let building = self.building();
         let wanted = self.calls()[call as usize];
         let mut possible = 0u16;
-        for car in 0..building.cars().len() {
+        for car in 0..building.cars().len() as u32 {
             if is_possible_car(building, car, &wanted) {
                 possible |= 1 << car;
             }
@@ -133,31 +264,13 @@ impl Snapshot {
     }
 }
 
-/// Whether the car serves this floor of the building.
-pub(crate) fn serves_floor(building: &Building, car: usize, floor: u32) -> bool
-    requires { car < length building.now.cars }
-    ensures { result ≡ serves building.now car floor }
-{
-    (floor as usize) < building.heights().len() && has_floor(building.cars()[car].serves, floor)
-}
-
-/// Whether the car's size and floors allow the call.
-pub(crate) fn can_car_take(building: &Building, car: usize, call: &Call) -> bool
-    requires { car < length building.now.cars }
-    ensures { result ≡ can_take building.now car call.now }
-{
-    call.persons <= building.cars()[car].capacity
-        && serves_floor(building, car, call.origin)
-        && serves_floor(building, car, call.destination)
-}
-
 /// Whether the car is one of the call's possible cars.
-fn is_possible_car(building: &Building, car: usize, call: &Call) -> bool
+fn is_possible_car(building: &Building, car: u32, call: &Call) -> bool
     requires { car < length building.now.cars }
     ensures { result ≡ may_take building.now car call.now }
 {
     let is_pinned_elsewhere = match call.pin {
-        Some(pin) => pin as usize != car,
+        Some(pin) => pin != car,
         None => false,
     };
     !is_pinned_elsewhere && can_car_take(building, car, call)

@@ -6,6 +6,7 @@ ghost use Rattle.elevator_model.specs.declared.Fault.TheVariants.{NoTravelSquare
 ghost use Rattle.call_state.specs.Squares.{square_of, IsEntry, IsRow, AreRows, IsLegDirect, IsRowDirect, AreRowsDirect};
 
 use crate::{Fault, StateFault};
+use std::alloc::{AllocError, Global};
 use std::marker::Model;
 
 /// The greatest travel time between two floors, in ms.
@@ -67,6 +68,24 @@ impl Travel {
         ensures square { IsTravelSquare self.now }
     {
         self.times[from as usize * self.floors as usize + to as usize]
+    }
+
+    /// The same square once more. It fails only where there is no memory left.
+    pub fn copy(&self, alloc: Global) -> Result<Travel, AllocError>
+        ensures { IfOk result (λ travel. travel ≡ self.now) }
+    {
+        Ok(Travel {
+            floors: self.floors,
+            times: self.times.as_slice().to_vec(alloc)?,
+        })
+    }
+
+    /// The travel time in ms from one floor to another, and 0 where the times lack it.
+    pub(crate) fn time_or_zero(&self, from: u32, to: u32) -> u64
+        ensures value { result ≡ time_between self.now from to }
+        ensures square { IsTravelSquare self.now }
+    {
+        time_at(self.floors, &self.times, from, to)
     }
 }
 

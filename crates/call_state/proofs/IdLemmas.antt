@@ -1,0 +1,43 @@
+-- Ids in a list: where one stands, and that a new one is among none.
+use Rattle.std.proofs.Common.{◌≡◌, ℕ, ◌<◌, ◌≤◌, nat_eq, cond, if◌then◌else◌, List, [], ◌∷◌, ◌++◌, length, map, get_or, take, position, Option, Some, None, MatchOption, nat_lt, sym, ◌∙◌, ap, arith}
+use Rattle.std.specs.List.{list_any, position_or_len}
+use Rattle.std.proofs.lemmas.Bool.{eqb-true, ne_eqb, eq-eqb, false≢true, cond-false}
+use Rattle.std.proofs.lemmas.Bool.Decides.{nat_tests}
+use Rattle.std.proofs.lemmas.List.{get_or-map, get_or-take, length-map, length-take-le}
+use Rattle.std.proofs.lemmas.List.Sums.{fails_before_first}
+use Rattle.std.proofs.lemmas.List.Quantifiers.{position-Some}
+use Rattle.call_state.specs.Ids.{AreDifferent}
+use Rattle.call_state.proofs.ListTests.{list_any_false}
+
+position-None : (a b : ℕ) → cond (nat_lt a b) (Some a) None ≡ None → b ≤ a
+position-None a b none = grind (arith, nat_tests)
+
+pub position-place : (ids : List ℕ) (id : ℕ) (r : Option ℕ) → r ≡ position (nat_eq id) ids → MatchOption r ((k : ℕ) → k < length ids → get_or ids k 0 ≡ id → ⊥) (λ k. (k < length ids) × (get_or ids k 0 ≡ id))
+position-place ids id None is =
+    let none = position-None (position_or_len (nat_eq id) ids) (length ids) (sym is) in
+    λ k within same. false≢true (sym (fails_before_first (nat_eq id) ids k 0 (omega arith)) ∙ eq-eqb id (get_or ids k 0) (sym same))
+position-place ids id (Some k) is =
+    let found = position-Some (nat_eq id) ids k 0 (sym is) in
+    (found.0, sym (eqb-true id (get_or ids k 0) found.1))
+
+pub insert-new : (ids : List ℕ) (id : ℕ) → ((k : ℕ) → k < length ids → get_or ids k 0 ≡ id → ⊥) → (if list_any (nat_eq id) ids then ids else ids ++ id ∷ []) ≡ ids ++ id ∷ []
+insert-new ids id new =
+    cond-false (list_any (nat_eq id) ids) ids (ids ++ id ∷ []) (list_any_false (nat_eq id) ids 0 (λ k within. ne_eqb id (get_or ids k 0) (λ same. new k within (sym same))))
+
+-- an id of a list of items with different ids is new after those before it
+pub new_after : {X : Type 0} (id : X → ℕ) (xs : List X) (i : ℕ) (d : X) (ids : List ℕ) → AreDifferent (map id xs) → i < length xs → ids ≡ map id (take i xs) → (k : ℕ) → k < length ids → get_or ids k 0 ≡ id (get_or xs i d) → ⊥
+new_after id xs i d ids different within is k inside same =
+    let long : length ids ≡ i = ap length is ∙ length-map (take i xs) id ∙ length-take-le i xs (omega arith) in
+    let before : k < i = omega arith in
+    let here : get_or (map id xs) k 0 ≡ get_or ids k 0 = get_or-map id xs k d 0 (omega arith) ∙ ap id (sym (get_or-take i xs k d before)) ∙ sym (get_or-map id (take i xs) k d 0 (let short = length-take-le i xs (omega arith) in omega arith)) ∙ ap (λ l. get_or l k 0) (sym is) in
+    different k i before (let same_length = length-map xs id in omega arith) (here ∙ same ∙ sym (get_or-map id xs i d 0 within))
+
+-- the place of an id among those of the items is the place of an item with it
+pub item_place : {X : Type 0} (id : X → ℕ) (xs : List X) (d : X) (ids : List ℕ) (wanted : ℕ) (r : Option ℕ) → ids ≡ map id xs → MatchOption r ((k : ℕ) → k < length ids → get_or ids k 0 ≡ wanted → ⊥) (λ k. (k < length ids) × (get_or ids k 0 ≡ wanted)) → MatchOption r ((k : ℕ) → k < length xs → id (get_or xs k d) ≡ wanted → ⊥) (λ k. (k < length xs) × (id (get_or xs k d) ≡ wanted))
+item_place id xs d ids wanted None is none = λ k within same.
+    let long : length ids ≡ length xs = ap length is ∙ length-map xs id in
+    none k (omega arith) (ap (λ l. get_or l k 0) is ∙ get_or-map id xs k d 0 within ∙ same)
+item_place id xs d ids wanted (Some k) is found =
+    let long : length ids ≡ length xs = ap length is ∙ length-map xs id in
+    let within : k < length xs = omega (arith, found.0) in
+    (within, sym (get_or-map id xs k d 0 within) ∙ ap (λ l. get_or l k 0) (sym is) ∙ found.1)

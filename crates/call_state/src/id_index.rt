@@ -1,0 +1,74 @@
+//! The place of each id in a list, found without going through the list.
+
+ghost use Rattle.std.specs.Prelude.{◌≡◌, ℕ, ◌<◌, ◌∷◌, ◌++◌, [], length, map, slice_index, IfOk, OnOk, MatchOption};
+ghost use Rattle.elevator_model.specs.declared.CarSpec.{CarSpec};
+ghost use Rattle.elevator_model.specs.declared.Call.{Call};
+ghost use Rattle.call_state.specs.Ids.{AreDifferent};
+
+use elevator_model::{Call, CarSpec};
+use indexmap::IndexSet;
+use std::alloc::{AllocError, Global};
+use std::marker::Model;
+
+/// Different ids in their order.
+#[derive(Drop, Debug)]
+pub(crate) struct IdIndex {
+    ids: IndexSet<u32>,
+}
+
+impl Model for IdIndex {
+    ghost use Rattle.std.specs.Prelude.{ℕ, List};
+
+    ghost Value = { List ℕ };
+
+    ghost view = { λ x. x.ids.keys };
+}
+
+impl IdIndex {
+    /// Puts an id that is not among them last. It fails only where there is no memory left.
+    fn push(&mut self, id: u32) -> Result<(), AllocError>
+        requires { (k : ℕ) → k < length self.old → slice_index self.old k ≡ id → ⊥ }
+        ensures { OnOk result (self.new ≡ self.old ++ id ∷ []) }
+    {
+        self.ids.insert(id)?;
+        Ok(())
+    }
+
+    /// The place of an id.
+    pub(crate) fn place_of(&self, id: u32) -> Option<usize>
+        ensures { MatchOption
+            result
+            ((k : ℕ) → k < length self.now → slice_index self.now k ≡ id → ⊥)
+            (λ k. (k < length self.now) × (slice_index self.now k ≡ id)) }
+    {
+        self.ids.get_index_of(&id)
+    }
+
+    /// The ids of cars, in their order. It fails only where there is no memory left.
+    pub(crate) fn of_cars(alloc: Global, cars: &[CarSpec]) -> Result<IdIndex, AllocError>
+        requires { AreDifferent (map (λ (x : CarSpec). x.id) cars.now) }
+        ensures { IfOk result (λ index. index ≡ map (λ (x : CarSpec). x.id) cars.now) }
+    {
+        let mut index = IdIndex {
+            ids: IndexSet::new(alloc),
+        };
+        for car in cars {
+            index.push(car.id)?;
+        }
+        Ok(index)
+    }
+
+    /// The ids of calls, in their order. It fails only where there is no memory left.
+    pub(crate) fn of_calls(alloc: Global, calls: &[Call]) -> Result<IdIndex, AllocError>
+        requires { AreDifferent (map (λ (x : Call). x.id) calls.now) }
+        ensures { IfOk result (λ index. index ≡ map (λ (x : Call). x.id) calls.now) }
+    {
+        let mut index = IdIndex {
+            ids: IndexSet::new(alloc),
+        };
+        for call in calls {
+            index.push(call.id)?;
+        }
+        Ok(index)
+    }
+}
