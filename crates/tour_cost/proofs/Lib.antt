@@ -1,12 +1,9 @@
-pub mod Sums
 pub mod Bits
-pub mod Riders
 pub mod Stops
-pub mod Settled
 pub mod Short
-pub mod Groups
-pub mod Bounds
 pub mod Walked
 pub mod ShortForm
 pub mod Cases
 pub mod Served
+pub mod Judged
+pub mod Moments

@@ -10,15 +10,16 @@ use Rattle.elevator_model.specs.Tours.{Progress, is_aboard, make_stop, after_sto
 use Rattle.elevator_model.specs.Costs.{cost_of_rider, is_delivered, settled_cost, cost_of}
 use Rattle.elevator_model.specs.Plans.{IsFeasiblePlan, is_boarded_in, tour_of}
 use Rattle.tour_rules.proofs.Counts.{count-same}
-use Rattle.tour_cost.specs.Leaving.{IsKept}
+use Rattle.tour_rules.specs.Leaving.{IsKept, AreEarly}
 use Rattle.tour_cost.specs.Served.{calls_served}
-use Rattle.tour_cost.proofs.Sums.{sum_below-split, sum_below-add, sum_where-times}
-use Rattle.tour_cost.proofs.Riders.{is_aboard-call, is_aboard-group}
-use Rattle.tour_cost.proofs.Stops.{boards_at-call}
-use Rattle.tour_cost.proofs.Short.{aboard-le, calls-le}
-use Rattle.tour_cost.proofs.Bounds.{AreEarly, rider-le}
-use Rattle.tour_cost.proofs.Settled.{cost_of_rider-group}
-use Rattle.tour_cost.proofs.Groups.{group_cost-le}
+use Rattle.tour_rules.proofs.BoundedTests.{sum_below-split}
+use Rattle.tour_rules.proofs.Sums.{sum_below-add, sum_where-times}
+use Rattle.tour_rules.proofs.RiderSums.{is_aboard-call, is_aboard-group}
+use Rattle.tour_rules.proofs.GettingOff.{boards_at-call}
+use Rattle.tour_cost.proofs.Short.{calls-le}
+use Rattle.tour_rules.proofs.Bounds.{aboard-le, rider-le}
+use Rattle.tour_rules.proofs.Settled.{cost_of_rider-group}
+use Rattle.tour_rules.proofs.Groups.{group_cost-le}
 
 -- the cost of those who got off, by the calls that boarded
 pub settled-each : (s : Snapshot) (c : ℕ) (p : Progress) → IsAccepted s → c < car_count s → IsKept s c p → AreEarly s p → settled_cost s c p ≤ 2400000000000000 * sum_where (call_count s) p.boarded (λ _. 1) + 6400000000000000
@@ -88,7 +89,7 @@ pub cars-le : (s : Snapshot) → IsAccepted s → car_count s ≤ 16
 cars-le s a = let high : car_count s ≤ most_cars s.building.version = a.building.cars_high in let m = most_cars-le s.building.version in omega arith
 
 -- the sum over all cars is small
-pub plan-small : (s : Snapshot) (plan : List (List Stop)) (total n : ℕ) → IsAccepted s → IsFeasiblePlan s plan → n ≡ car_count s → total ≤ 2400000000000000 * sum_below n (λ c. calls_served s (tour_of plan c)) + 6400000000000000 * n → total ≤ 1000000000000000000
+pub plan-small : (s : Snapshot) (plan : List (List Stop)) (total n : ℕ) → IsAccepted s → IsFeasiblePlan s plan → n ≡ car_count s → total ≤ 2400000000000000 * sum_below n (λ c. calls_served s (tour_of plan c)) + 6400000000000000 * n → total < 1000000000000000000
 plan-small s plan total n a feasible all h =
     let whole = ap (λ (m : ℕ). 2400000000000000 * sum_below m (λ c. calls_served s (tour_of plan c))) all in
     let once = ap (λ (m : ℕ). 2400000000000000 * m) (served-once s plan feasible) in

@@ -1,18 +1,16 @@
--- Bounds: on the number of stops of a feasible tour, and on the cost of those who got off.
-use Rattle.std.proofs.Common.{◌≡◌, ℕ, ◌+◌, ◌<◌, ◌≤◌, true, false, cond, eqb, List, [], ◌∷◌, map, length, length-append, refl, arith, None}
+-- Bounds on the number of calls, and of the stops of a feasible tour.
+use Rattle.std.proofs.Common.{◌≡◌, ℕ, ◌+◌, ◌<◌, ◌≤◌, true, false, cond, eqb, List, [], ◌∷◌, map, length, length-append, arith, None}
 use Rattle.std.specs.List.{flat_map}
 use Rattle.elevator_model.specs.declared.Stop.{Stop}
 use Rattle.elevator_model.specs.declared.Move.TheVariants.{End}
-use Rattle.elevator_model.specs.Snapshot.{Snapshot, call_count, group_of, car_count, persons_aboard, IsAccepted}
+use Rattle.elevator_model.specs.Snapshot.{Snapshot, call_count, car_count, IsAccepted}
 use Rattle.elevator_model.specs.Building.{most_calls}
-use Rattle.elevator_model.specs.Tours.{Progress, IsFeasible, is_aboard, first_broken_from, none_taken, start_of, make_stop, broken_at, after_stops}
+use Rattle.elevator_model.specs.Tours.{Progress, IsFeasible, first_broken_from, none_taken, start_of, make_stop, broken_at, after_stops}
 use Rattle.elevator_model.specs.Partial.{moves_of, moves_of_stop}
-use Rattle.tour_rules.specs.Measure.{groups_of}
 use Rattle.tour_rules.proofs.Reached.{moves_reach, ended_at, risen, broken_or-none}
 use Rattle.tour_rules.proofs.Measure.{lawful_short}
 use Rattle.tour_rules.proofs.Sound.{AllFine}
-use Rattle.tour_cost.proofs.Sums.{sum_where-none, sum_where-times}
-use Rattle.tour_cost.proofs.Riders.{is_aboard-call, is_aboard-group, sum_riders}
+use Rattle.tour_rules.proofs.Stops.{groups_few}
 
 pub AllFine-feasible : (s : Snapshot) (c : ℕ) (p : Progress) (k : ℕ) (stops : List Stop) → first_broken_from s c none_taken p k stops ≡ None → AllFine s c p stops
 AllFine-feasible s c p k [] h = tt
@@ -33,22 +31,11 @@ most_calls-le version = elim (eqb version 1) as (λ t. cond t 64 128 ≤ 128) [ 
 pub calls-le : (s : Snapshot) → IsAccepted s → call_count s ≤ 128
 calls-le s a = let high : call_count s ≤ most_calls s.building.version = a.calls_high in let m = most_calls-le s.building.version in omega arith
 
-pub aboard-le : (s : Snapshot) (c : ℕ) → IsAccepted s → c < car_count s → persons_aboard s c ≤ 64
-aboard-le s c a b = let fits = (a.placed c b).capacity in let high = (a.building.cars c b).capacity_high in omega (arith, fits, high)
-
-pub groups-le : (s : Snapshot) (c : ℕ) → IsAccepted s → c < car_count s → groups_of s c ≤ 64
-groups-le s c a b =
-    let split = sum_riders s (is_aboard s c) (λ _. 1) (λ _. false) (λ k. eqb (group_of s k).car c) (λ _. 1) (λ _. 1) (is_aboard-call s c) (λ j d e. refl) (is_aboard-group s c) (λ k d. refl) in
-    let none = sum_where-none (call_count s) (λ _. false) (λ _. 1) (λ k d. refl) in
-    let each = sum_where-times (length s.aboard) (λ k. eqb (group_of s k).car c) (λ k. eqb (group_of s k).car c) (λ _. 1) (λ k. (group_of s k).persons) 1 (λ k d e. e) (λ k d e. let low = (a.groups k d).persons_low in omega (arith, low)) in
-    let high = aboard-le s c a b in
-    omega (arith, split, none, each, high)
-
 pub stops-le : (s : Snapshot) (c : ℕ) (tour : List Stop) → IsAccepted s → c < car_count s → IsFeasible s c tour → length tour ≤ 450
 stops-le s c tour a b feasible =
     let moves = lawful_short s c (moves_of s tour) (ended_at (map (risen s) tour) (after_stops s c (start_of s c) tour)) (moves_reach s c tour feasible) in
     let stops = stops_are_moves s tour in
     let joined = length-append (flat_map (moves_of_stop s) tour) (End ∷ []) in
     let calls = calls-le s a in
-    let groups = groups-le s c a b in
+    let groups = groups_few s c a b in
     omega (arith, moves, stops, joined, calls, groups)

@@ -1,45 +1,17 @@
 -- What a stop does to the sets of a ride.
-use Rattle.std.proofs.Common.{◌≡◌, ℕ, ◌+◌, ◌*◌, ◌<◌, Bool, true, false, not, ◌&&◌, ◌||◌, eqb, ltb, length, refl, sym, ap, ◌∙◌, arith}
-use Rattle.std.proofs.lemmas.Bool.{and_left}
+use Rattle.std.proofs.Common.{◌≡◌, ℕ, ◌+◌, ◌*◌, ◌<◌, Bool, true, false, not, ◌&&◌, ◌||◌, eqb, length, refl, sym, ap, ◌∙◌, arith}
 use Rattle.elevator_model.specs.declared.Stop.{Stop}
-use Rattle.elevator_model.specs.Counting.{has, is_among, sum_where}
+use Rattle.elevator_model.specs.Counting.{has, is_among}
 use Rattle.elevator_model.specs.Snapshot.{Snapshot, call_count, call_of, group_of}
-use Rattle.elevator_model.specs.Tours.{Progress, destination_of, persons_of, gets_off, boards_at, persons_where, make_stop, start_of}
+use Rattle.elevator_model.specs.Tours.{Progress, destination_of, boards_at, make_stop, start_of}
 use Rattle.tour_cost.specs.declared.rides.Ride.{Ride}
-use Rattle.tour_cost.specs.Rides.{Tracks, is_group_carried, is_group_off}
-use Rattle.tour_cost.proofs.Sums.{sum_where-none}
-use Rattle.tour_cost.proofs.Riders.{is_call, is_no_call, destination_of-call, destination_of-group, persons_of-call, persons_of-group, sum_riders, is_aboard-call, is_aboard-group}
+use Rattle.tour_cost.specs.Rides.{Tracks}
+use Rattle.tour_rules.specs.Leaving.{AreCarried, is_group_carried}
+use Rattle.tour_rules.proofs.GettingOff.{AreOff, boards_at-call, boards_at-group}
+use Rattle.tour_rules.proofs.RiderSums.{destination_of-call, destination_of-group, is_aboard-call, is_aboard-group}
 
--- the calls of a set get off at this floor
-pub record AreOff (s : Snapshot) (g : ℕ) (carried off : ℕ) : Type 0 where
-  pub each : (j : ℕ) → j < call_count s → has off j ≡ (has carried j && eqb (call_of s j).destination g)
-
-pub AreOff-both : (s : Snapshot) (g carried to off : ℕ) → ((j : ℕ) → has off j ≡ (has carried j && has to j)) → ((j : ℕ) → j < call_count s → has to j ≡ eqb (call_of s j).destination g) → AreOff s g carried off
-AreOff-both s g carried to off h k = record { each = λ j b. h j ∙ ap (λ (x : Bool). has carried j && x) (k j b) }
-
-pub off-call : (s : Snapshot) (c : ℕ) (ride : Ride) (p : Progress) (g off : ℕ) → Tracks s c ride p → AreOff s g ride.carried off → (j : ℕ) → j < call_count s → gets_off s p g j ≡ has off j
-off-call s c ride p g off t o j b =
-    ap (λ (x : Bool). x && eqb (destination_of s j) g) (t.calls j b) ∙ ap (λ (d : ℕ). has ride.carried j && eqb d g) (destination_of-call s j b) ∙ sym (o.each j b)
-
-pub off-group : (s : Snapshot) (c : ℕ) (ride : Ride) (p : Progress) (g : ℕ) → Tracks s c ride p → (k : ℕ) → k < length s.aboard → gets_off s p g (call_count s + k) ≡ is_group_off s c ride.visited g k
-off-group s c ride p g t k b =
-    ap (λ (x : Bool). x && eqb (destination_of s (call_count s + k)) g) (t.groups k b) ∙ ap (λ (d : ℕ). is_group_carried s c ride.visited k && eqb d g) (destination_of-group s k)
-
-pub persons_off : (s : Snapshot) (c : ℕ) (ride : Ride) (p : Progress) (g off : ℕ) → Tracks s c ride p → AreOff s g ride.carried off → persons_where s (gets_off s p g) ≡ sum_where (call_count s) (has off) (λ j. (call_of s j).persons) + sum_where (length s.aboard) (is_group_off s c ride.visited g) (λ k. (group_of s k).persons)
-persons_off s c ride p g off t o =
-    sum_riders s (gets_off s p g) (persons_of s) (has off) (is_group_off s c ride.visited g) (λ j. (call_of s j).persons) (λ k. (group_of s k).persons) (off-call s c ride p g off t o) (λ j b e. persons_of-call s j b) (off-group s c ride p g t) (λ k b. persons_of-group s k)
-
-pub boards_at-group : (s : Snapshot) (stop : Stop) (k : ℕ) → boards_at s stop (call_count s + k) ≡ false
-boards_at-group s stop k = and_left (ltb (call_count s + k) (call_count s)) (is_among (call_count s + k) stop.boards) (is_no_call s k)
-
-pub boards_at-call : (s : Snapshot) (stop : Stop) (j : ℕ) → j < call_count s → boards_at s stop j ≡ is_among j stop.boards
-boards_at-call s stop j b = ap (λ (x : Bool). x && is_among j stop.boards) (is_call s j b)
-
-pub persons_on : (s : Snapshot) (stop : Stop) (boards : ℕ) → ((j : ℕ) → has boards j ≡ is_among j stop.boards) → persons_where s (boards_at s stop) ≡ sum_where (call_count s) (has boards) (λ j. (call_of s j).persons)
-persons_on s stop boards h =
-    let split = sum_riders s (boards_at s stop) (persons_of s) (has boards) (λ _. false) (λ j. (call_of s j).persons) (λ k. (group_of s k).persons) (λ j b. boards_at-call s stop j b ∙ sym (h j)) (λ j b e. persons_of-call s j b) (λ k b. boards_at-group s stop k) (λ k b. persons_of-group s k) in
-    let none = sum_where-none (length s.aboard) (λ _. false) (λ k. (group_of s k).persons) (λ k b. refl) in
-    omega (arith, split, none)
+pub riders_carried : (s : Snapshot) (c : ℕ) (ride : Ride) (p : Progress) → Tracks s c ride p → AreCarried s c ride.carried ride.visited p
+riders_carried s c ride p t = record { calls = t.calls; groups = t.groups }
 
 left_on : (k d x : Bool) → ((k && not d) || x) ≡ ((k && not (k && d)) || x)
 left_on true d x = refl

@@ -1,26 +1,27 @@
 -- A car after the first stops of a feasible tour.
-use Rattle.std.proofs.Common.{◌≡◌, ℕ, suc, ◌+◌, ◌-◌, ◌*◌, ◌<◌, ◌≤◌, Bool, true, false, cond, not, ◌&&◌, ◌||◌, eqb, ltb, List, [], ◌∷◌, ◌++◌, take, drop, length, get_or, refl, sym, ap, ◌∙◌, subst, arith, None, add-one, drop-cons, append_assoc}
+use Rattle.std.proofs.Common.{◌≡◌, ℕ, suc, ◌+◌, ◌*◌, ◌<◌, ◌≤◌, Bool, true, false, cond, not, ◌&&◌, ◌||◌, eqb, ltb, List, [], ◌∷◌, ◌++◌, take, drop, length, get_or, refl, sym, ap, ◌∙◌, subst, arith, None, add-one, drop-cons, append_assoc}
 use Rattle.std.proofs.lemmas.List.{take_more, take_all}
-use Rattle.std.proofs.lemmas.Bool.{and_parts, false≢true, ltb-true, ltb-false, not-false, cond_both, both_ways}
-use Rattle.tour_cost.proofs.Riders.{is_aboard-call}
+use Rattle.std.proofs.lemmas.Bool.{and_parts, false≢true, ltb-true, not-false, both_ways}
+use Rattle.tour_rules.proofs.RiderSums.{is_aboard-call}
 use Rattle.elevator_model.specs.declared.Stop.{Stop}
 use Rattle.elevator_model.specs.declared.Times.{Times}
 use Rattle.elevator_model.specs.Counting.{has, is_among}
 use Rattle.elevator_model.specs.Building.{floor_count}
-use Rattle.elevator_model.specs.Snapshot.{Snapshot, call_count, call_of, group_of, car_count, serves, is_possible, IsAccepted}
-use Rattle.elevator_model.specs.Tours.{Progress, is_aboard, boards_at, make_stop, after_stops, start_of, breaks, broken_at, none_taken, rules_of_stop, is_call_for, IsFeasible, gets_off, destination_of, arrival}
+use Rattle.elevator_model.specs.Snapshot.{Snapshot, call_count, call_of, car_count, serves, is_possible, IsAccepted}
+use Rattle.elevator_model.specs.Tours.{Progress, is_aboard, boards_at, make_stop, after_stops, start_of, breaks, broken_at, none_taken, rules_of_stop, is_call_for, IsFeasible, destination_of, arrival}
 use Rattle.elevator_model.specs.Costs.{settled_cost, times_from}
 use Rattle.tour_rules.proofs.BoundedTests.{AllClear-from, list_any-false}
 use Rattle.tour_rules.proofs.Sound.{AllFine, after_stops-push}
 use Rattle.tour_cost.specs.declared.rides.Ride.{Ride}
 use Rattle.tour_cost.specs.Rides.{Tracks, IsStopOf}
-use Rattle.tour_cost.specs.Leaving.{IsKept, AreBoarded, leaving_cost}
+use Rattle.tour_rules.specs.Leaving.{AreCarried, IsKept, AreBoarded, AreEarly, leaving_cost}
 use Rattle.tour_cost.proofs.Short.{AllFine-feasible, calls-le, stops-le}
 use Rattle.tour_cost.specs.Served.{calls_served}
 use Rattle.tour_cost.proofs.Served.{tour_cost-each}
-use Rattle.tour_cost.proofs.Stops.{boards_at-call}
-use Rattle.tour_cost.proofs.Settled.{IsKept-start, IsKept-stop, settled_more, settled_start}
-use Rattle.tour_cost.proofs.Bounds.{AreEarly, settled-le}
+use Rattle.tour_rules.proofs.GettingOff.{boards_at-call}
+use Rattle.tour_cost.proofs.Stops.{riders_carried}
+use Rattle.tour_rules.proofs.Settled.{IsKept-start, IsKept-stop, settled_more, settled_start}
+use Rattle.tour_rules.proofs.Bounds.{either-le, AreEarly-start, AreEarly-stop, settled-le}
 
 -- the progress after the first i stops
 abbrev pub progress : Snapshot → ℕ → List Stop → ℕ → Progress
@@ -77,28 +78,6 @@ pub record IsSettled (s : Snapshot) (c : ℕ) (p : Progress) (moments : List ℕ
   pub boarded : AreBoarded s p moments
   pub low : (j : ℕ) → j < call_count s → get_or moments j 0 ≤ 100000000000
   pub settled : cost ≡ settled_cost s c p
-
-either-le : (t : Bool) (x y most : ℕ) → x ≤ most → y ≤ most → cond t x y ≤ most
-either-le true x y most hx hy = hx
-either-le false x y most hx hy = hy
-
-group_boarded-le : (s : Snapshot) (k : ℕ) → IsAccepted s → k < length s.aboard → (group_of s k).boarded ≤ 100000000000
-group_boarded-le s k a b =
-    let group = a.groups k b in
-    let opening = (a.building.cars (group_of s k).car group.car).opening in
-    omega (arith, group.boarded, opening, a.moment)
-
-AreEarly-start : (s : Snapshot) (c : ℕ) → IsAccepted s → AreEarly s (start_of s c)
-AreEarly-start s c a = record {
-  boarded = λ r b. cond_both (ltb r (call_count s)) 0 (group_of s (r - call_count s)).boarded (λ x. x ≤ 100000000000) (λ e. omega arith) (λ e. let above = ltb-false r (call_count s) e in group_boarded-le s (r - call_count s) a (omega (arith, above)));
-  delivered = λ r. omega arith;
-}
-
-AreEarly-stop : (s : Snapshot) (c : ℕ) (p : Progress) (stop : Stop) → AreEarly s p → (make_stop s c p stop).opened ≤ 100000000000 → AreEarly s (make_stop s c p stop)
-AreEarly-stop s c p stop early h = record {
-  boarded = λ r b. either-le (boards_at s stop r) (make_stop s c p stop).opened (p.boarded_at r) 100000000000 h (early.boarded r b);
-  delivered = λ r. either-le (gets_off s p stop.floor r) (make_stop s c p stop).opened (p.delivered_at r) 100000000000 h (early.delivered r);
-}
 
 -- the moments with those of the calls that board
 pub record AreNoted (boards opened : ℕ) (before after : List ℕ) : Type 0 where
@@ -171,22 +150,22 @@ next-walked s c tour items i ride next stop walked same h e stops floor leaves =
     let at = subst P same (h, e) in
     IsWalked-stop s c tour i ride next stop walked at.0 at.1 (stops (progress s c tour i) walked.tracks) floor leaves
 
-pub next-settled : (s : Snapshot) (c : ℕ) (tour items : List Stop) (i : ℕ) (ride next : Ride) (stop : Stop) (before after : List ℕ) (cost leaving boards : ℕ) → IsAccepted s → IsWalked s c tour i ride → items ≡ tour → i < length items → stop ≡ get_or items i stop → ((p : Progress) → Tracks s c ride p → Tracks s c next (make_stop s c p stop)) → next.floor ≡ stop.floor → next.opened ≤ 100000000000 → IsSettled s c (progress s c tour i) before cost → ((j : ℕ) → has boards j ≡ is_among j stop.boards) → AreNoted boards next.opened before after → ((p : Progress) → Tracks s c ride p → IsKept s c p → AreBoarded s p before → leaving ≡ leaving_cost s p next.floor next.opened) → IsSettled s c (progress s c tour (i + 1)) after (cost + leaving)
+pub next-settled : (s : Snapshot) (c : ℕ) (tour items : List Stop) (i : ℕ) (ride next : Ride) (stop : Stop) (before after : List ℕ) (cost leaving boards : ℕ) → IsAccepted s → IsWalked s c tour i ride → items ≡ tour → i < length items → stop ≡ get_or items i stop → ((p : Progress) → Tracks s c ride p → Tracks s c next (make_stop s c p stop)) → next.floor ≡ stop.floor → next.opened ≤ 100000000000 → IsSettled s c (progress s c tour i) before cost → ((j : ℕ) → has boards j ≡ is_among j stop.boards) → AreNoted boards next.opened before after → ((p : Progress) → AreCarried s c ride.carried ride.visited p → IsKept s c p → AreBoarded s p before → leaving ≡ leaving_cost s p next.floor next.opened) → IsSettled s c (progress s c tour (i + 1)) after (cost + leaving)
 next-settled s c tour items i ride next stop before after cost leaving boards a walked same h e stops floor early settled boards_are noted_are leaves =
     let P : List Stop → Type 0 = λ xs. (i < length xs) × (stop ≡ get_or xs i stop) in
     let at = subst P same (h, e) in
     let p = progress s c tour i in
     let fine = here-fine s c tour items i ride stop walked same h e in
     let tracks = stops p walked.tracks in
-    let left = leaves p walked.tracks settled.kept settled.boarded ∙ ap (λ (f : ℕ). leaving_cost s p f next.opened) floor in
+    let left = leaves p (riders_carried s c ride p walked.tracks) settled.kept settled.boarded ∙ ap (λ (f : ℕ). leaving_cost s p f next.opened) floor in
     subst (λ (q : Progress). IsSettled s c q after (cost + leaving)) (sym (progress-more s c tour i stop at.0 at.1)) (IsSettled-stop s c p stop before after cost leaving boards next.opened a settled fine tracks.opened early boards_are noted_are left)
 
-pub next-small : (s : Snapshot) (c : ℕ) (tour items : List Stop) (i : ℕ) (ride next : Ride) (stop : Stop) (before : List ℕ) (cost leaving : ℕ) → IsAccepted s → c < car_count s → IsWalked s c tour i ride → items ≡ tour → i < length items → stop ≡ get_or items i stop → ((p : Progress) → Tracks s c ride p → Tracks s c next (make_stop s c p stop)) → next.floor ≡ stop.floor → next.opened ≤ 100000000000 → IsSettled s c (progress s c tour i) before cost → ((p : Progress) → Tracks s c ride p → IsKept s c p → AreBoarded s p before → leaving ≡ leaving_cost s p next.floor next.opened) → cost + leaving ≤ 460800000000000000
+pub next-small : (s : Snapshot) (c : ℕ) (tour items : List Stop) (i : ℕ) (ride next : Ride) (stop : Stop) (before : List ℕ) (cost leaving : ℕ) → IsAccepted s → c < car_count s → IsWalked s c tour i ride → items ≡ tour → i < length items → stop ≡ get_or items i stop → ((p : Progress) → Tracks s c ride p → Tracks s c next (make_stop s c p stop)) → next.floor ≡ stop.floor → next.opened ≤ 100000000000 → IsSettled s c (progress s c tour i) before cost → ((p : Progress) → AreCarried s c ride.carried ride.visited p → IsKept s c p → AreBoarded s p before → leaving ≡ leaving_cost s p next.floor next.opened) → cost + leaving ≤ 460800000000000000
 next-small s c tour items i ride next stop before cost leaving a b walked same h e stops floor early settled leaves =
     let p = progress s c tour i in
     let fine = here-fine s c tour items i ride stop walked same h e in
     let tracks = stops p walked.tracks in
-    let left = leaves p walked.tracks settled.kept settled.boarded ∙ ap (λ (f : ℕ). leaving_cost s p f next.opened) floor in
+    let left = leaves p (riders_carried s c ride p walked.tracks) settled.kept settled.boarded ∙ ap (λ (f : ℕ). leaving_cost s p f next.opened) floor in
     settled_more-le s c p stop before cost leaving next.opened a b settled fine tracks.opened early left
 
 pub settled-small : (s : Snapshot) (c : ℕ) (p : Progress) (moments : List ℕ) (cost : ℕ) → IsAccepted s → c < car_count s → IsSettled s c p moments cost → cost ≤ 460800000000000000

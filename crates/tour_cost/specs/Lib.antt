@@ -1,4 +1,4 @@
 pub mod Rides
-pub mod Leaving
 pub mod ShortForm
 pub mod Served
+pub mod Unserved

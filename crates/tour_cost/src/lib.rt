@@ -7,12 +7,12 @@
 mod costs;
 mod plans;
 mod rides;
-mod sets;
+pub mod sets;
 mod timelines;
 
 pub use costs::cost;
-pub use elevator_model::{Plan, Times};
-pub use plans::plan_cost;
+pub use elevator_model::{BadPlan, Plan, Times};
+pub use plans::{calls_of, judge_plan, plan_cost};
 pub use timelines::timeline;
 
 #[cfg(test)]

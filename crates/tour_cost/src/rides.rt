@@ -5,11 +5,13 @@ ghost use Rattle.elevator_model.specs.Counting.{has, is_among, sum_where};
 ghost use Rattle.elevator_model.specs.Building.{floor_count};
 ghost use Rattle.elevator_model.specs.Snapshot.{IsAccepted, car_count, call_count, call_of, group_of, spec_of};
 ghost use Rattle.elevator_model.specs.Tours.{Progress, start_of, make_stop, arrival};
-ghost use Rattle.tour_cost.specs.Rides.{Tracks, IsStopOf, is_group_off};
+ghost use Rattle.tour_rules.specs.Leaving.{is_group_off};
+ghost use Rattle.tour_cost.specs.Rides.{Tracks, IsStopOf};
 
 use crate::sets;
 use call_state::{CarState, Snapshot};
-use elevator_model::{Aboard, Stop};
+use elevator_model::Stop;
+use tour_rules::riding;
 
 /// How far a car is in its tour.
 #[derive(Clone, Copy)]
@@ -62,12 +64,7 @@ impl Ride {
         ensures value { (p : Progress) → Tracks snapshot.now car self.now p → result ≡ arrival snapshot.now car p floor }
         ensures late { result ≤ self.now.leaves + 20000000 }
     {
-        let is_coming = matches!(snapshot.car(car), CarState::Coming { .. });
-        if self.begun || !is_coming {
-            self.leaves + snapshot.building().travel().time(self.floor, floor)
-        } else {
-            self.leaves
-        }
+        riding::arrival(snapshot, car, self.begun, self.floor, self.leaves, floor)
     }
 
     /// The car makes its next stop.
@@ -85,8 +82,8 @@ impl Ride {
         let off = sets::both(self.carried, calls_to(snapshot, stop.floor));
         let persons_off = persons_of_calls(snapshot, off)
             + persons_of_groups_off(snapshot, car, self.visited, stop.floor);
-        let opened = self.arrival(snapshot, car, stop.floor) + opening_of(snapshot, car);
-        let dwell = dwell_of(
+        let opened = self.arrival(snapshot, car, stop.floor) + riding::opening_of(snapshot, car);
+        let dwell = riding::dwell_of(
             snapshot,
             car,
             persons_off,
@@ -101,28 +98,6 @@ impl Ride {
             visited: self.visited | 1 << stop.floor,
         }
     }
-}
-
-/// The time from an arrival to open doors, in ms.
-fn opening_of(snapshot: &Snapshot, car: u32) -> u64
-    requires { car < car_count snapshot.now }
-    ensures value { result ≡ (spec_of snapshot.now car).opening }
-    ensures short { result ≤ 60000 }
-    ensures accepted { IsAccepted snapshot.now }
-{
-    snapshot.building().cars()[car as usize].opening
-}
-
-/// How long the doors stay open and take to close, in ms, where so many persons get off and on.
-fn dwell_of(snapshot: &Snapshot, car: u32, off: u64, on: u64) -> u64
-    requires car { car < car_count snapshot.now }
-    requires off { off ≤ 1088 }
-    requires on { on ≤ 1024 }
-    ensures value { result ≡ (spec_of snapshot.now car).alighting * off + (spec_of snapshot.now car).boarding * on + (spec_of snapshot.now car).closing }
-    ensures short { result ≤ 129000000 }
-{
-    let spec = snapshot.building().cars()[car as usize];
-    spec.alighting * off + spec.boarding * on + spec.closing
 }
 
 /// The calls that board at a stop.
@@ -176,18 +151,9 @@ fn persons_of_groups_off(snapshot: &Snapshot, car: u32, visited: u64, floor: u32
     let mut persons = 0;
     let groups = snapshot.aboard();
     for k in 0..groups.len() {
-        if is_off(&groups[k], car, visited, floor) {
+        if riding::is_off(&groups[k], car, visited, floor) {
             persons += groups[k].persons as u64;
         }
     }
     persons
-}
-
-/// Whether a group of the car, not yet delivered, gets off at this floor.
-pub(crate) fn is_off(group: &Aboard, car: u32, visited: u64, floor: u32) -> bool
-    requires { group.now.destination < 64 }
-    ensures { result ≡ (((group.now.car == car) && not (has visited group.now.destination)) && (group.now.destination == floor)) }
-{
-    let is_carried = group.car == car && visited >> group.destination & 1 == 0;
-    is_carried && group.destination == floor
 }

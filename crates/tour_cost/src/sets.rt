@@ -4,10 +4,10 @@ ghost use Rattle.std.specs.Prelude.{◌≡◌, ℕ, ◌<◌, ◌==◌, ◌&&◌,
 ghost use Rattle.elevator_model.specs.Counting.{has};
 
 /// No calls.
-pub(crate) const NONE: u128 = 0;
+pub const NONE: u128 = 0;
 
 /// Whether the call is in the set.
-pub(crate) fn contains(set: u128, call: usize) -> bool
+pub fn contains(set: u128, call: usize) -> bool
     requires { call < 128 }
     ensures { result ≡ has set call }
 {
@@ -15,7 +15,7 @@ pub(crate) fn contains(set: u128, call: usize) -> bool
 }
 
 /// The set with one call more.
-pub(crate) fn with(set: u128, call: usize) -> u128
+pub fn with(set: u128, call: usize) -> u128
     requires { call < 128 }
     ensures { (k : ℕ) → has result k ≡ (has set k || (k == call)) }
 {
@@ -23,21 +23,21 @@ pub(crate) fn with(set: u128, call: usize) -> u128
 }
 
 /// The calls that are in both sets.
-pub(crate) fn both(left: u128, right: u128) -> u128
+pub fn both(left: u128, right: u128) -> u128
     ensures { (k : ℕ) → has result k ≡ (has left k && has right k) }
 {
     left & right
 }
 
 /// The calls that are in one of the sets.
-pub(crate) fn either(left: u128, right: u128) -> u128
+pub fn either(left: u128, right: u128) -> u128
     ensures { (k : ℕ) → has result k ≡ (has left k || has right k) }
 {
     left | right
 }
 
 /// The calls of the first set that are not in the second.
-pub(crate) fn without(left: u128, right: u128) -> u128
+pub fn without(left: u128, right: u128) -> u128
     ensures { (k : ℕ) → has result k ≡ (has left k && not (has right k)) }
 {
     left & !right

@@ -1,4 +1,5 @@
 ghost use Rattle.std.specs.Prelude.{◌≡◌, [], ◌∷◌, IfOk};
+ghost use Rattle.call_state.specs.SnapshotParts.{snapshot_of as shown_by};
 ghost use Rattle.elevator_model.specs.Worked.{car_for, building_with, shown, stop, call, together, two_ways};
 
 use super::*;
@@ -8,6 +9,7 @@ use call_state::{
 use elevator_model::{Boards, Stop, Tour};
 use std::alloc::Global;
 use std::test::Fail;
+use tour_rules::judge;
 
 /// Four floors 4000 mm apart, weights 1 and 1, and one car.
 fn four_floors(alloc: Global, capacity: u32) -> Result<Building, Fail>
@@ -37,7 +39,17 @@ fn four_floors(alloc: Global, capacity: u32) -> Result<Building, Fail>
         cars: [car].to_vec(alloc)?,
         travel: Travel::build(4, times.to_vec(alloc)?)?,
     };
-    Ok(Building::build(parts)?)
+    Ok(Building::build(alloc, parts)?)
+}
+
+/// The snapshot with these parts, where they fit together.
+fn built(alloc: Global, parts: SnapshotParts) -> Result<Snapshot, Fail>
+    ensures { IfOk result (λ snapshot. snapshot ≡ shown_by parts) }
+{
+    if !parts.are_whole() {
+        return Err(Fail::from("the parts do not fit together"));
+    }
+    Ok(Snapshot::build(alloc, parts)?)
 }
 
 /// The car stands at this floor, and these calls are open.
@@ -52,7 +64,7 @@ fn snapshot_of(alloc: Global, capacity: u32, floor: u32, calls: Vec<Call>) -> Re
         aboard: Vec::new(alloc),
         calls,
     };
-    Ok(Snapshot::build(parts)?)
+    built(alloc, parts)
 }
 
 fn call_of(id: u32, origin: u32, destination: u32) -> Call
@@ -82,6 +94,9 @@ fn one_call_waits_for_the_doors_and_rides(rt: HostRuntime) -> Result<(), Fail> {
     let alloc = rt.alloc();
     let snapshot = snapshot_of(alloc, 8, 0, vec![in alloc; call_of(1, 0, 1)]?)?;
     let tour = Tour::from_vec(vec![in alloc; stop_of(alloc, 0, &[0])?, stop_of(alloc, 1, &[])?]?);
+    let Ok(()) = judge(&snapshot, 0, &tour) else {
+        return Err(Fail::from("the tour breaks a rule"));
+    };
     assert_eq!(rt; cost(&snapshot, 0, &tour), 7500);
     let times = timeline(alloc, &snapshot, 0, &tour)?;
     let first = Times {

@@ -107,7 +107,7 @@ pub is_none-at : {A : Type 0} (o : Option A) → o ≡ None → is_none o ≡ tr
 is_none-at None h = refl
 is_none-at (Some x) h = cc
 
-sum_below-up : (n k : ℕ) (f : ℕ → ℕ) → k ≤ n → sum_below k f ≤ sum_below n f
+pub sum_below-up : (n k : ℕ) (f : ℕ → ℕ) → k ≤ n → sum_below k f ≤ sum_below n f
 sum_below-up zero k f le = let e : k ≡ 0 = omega arith in subst (λ (x : ℕ). sum_below x f ≤ 0) (sym e) (omega arith)
 sum_below-up (suc n) k f le =
     elim (eq-or-lt_of_le le) [ inl e ↦ subst (λ (x : ℕ). sum_below x f ≤ sum_below (suc n) f) (sym e) (omega arith) | inr lt ↦ (let r = sum_below-up n k f (omega arith) in omega (arith, r)) ]

@@ -17,7 +17,8 @@ use Rattle.tour_rules.specs.declared.points.Point.{Point}
 use Rattle.tour_rules.specs.declared.places.Place.{Place}
 use Rattle.tour_rules.specs.declared.points.Begun.{Begun}
 use Rattle.tour_rules.specs.Places.{Tracks, IsBoardSet}
-use Rattle.tour_rules.specs.Courses.{IsBegun, StopTracked, TracksCourse, is_after, board_test, empty_stop, may_leave, progress_after, with_call_on}
+use Rattle.tour_rules.specs.Courses.{IsBegun, StopTracked, TracksCourse, is_after, board_test, empty_stop, may_leave, with_call_on}
+use Rattle.elevator_model.specs.Partial.{progress_after}
 use Rattle.tour_rules.proofs.Next.{may_stand-more, stands_empty, persons_more}
 use Rattle.tour_rules.proofs.Measure.{among_last, among_other, not_among_below, may_board}
 use Rattle.tour_rules.proofs.Riders.{at_call, boards_set, zero_has}
@@ -177,7 +178,7 @@ begun_more s c q begun stop j new b lt rises stands f here others l load after =
       load = omega (arith, load, old, more, persons);
     }
 
-no_boards_at : (s : Snapshot) (g : ℕ) → persons_where s (boards_at s (empty_stop g)) ≡ 0
+pub no_boards_at : (s : Snapshot) (g : ℕ) → persons_where s (boards_at s (empty_stop g)) ≡ 0
 no_boards_at s g = sum_below-same (rider_count s) _ (λ r. 0) (λ r lt. ap (λ (b : Bool). cond b (persons_of s r) 0) (and_right (ltb r (call_count s)) false refl)) ∙ sum_below-zero (rider_count s)
 
 -- a stop without boards that stands is at a floor of the building

@@ -12,3 +12,12 @@ pub mod Next
 pub mod Follow
 pub mod Prefixes
 pub mod Told
+pub mod Taken
+pub mod Sums
+pub mod RiderSums
+pub mod GettingOff
+pub mod Settled
+pub mod Bounds
+pub mod Groups
+pub mod Tallied
+pub mod Cases

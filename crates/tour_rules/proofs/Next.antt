@@ -30,10 +30,10 @@ sum-one_more (suc n) t u f j b h k same =
 abbrev at : ℕ → List ℕ → Stop
 at g boards = record { floor = g; boards = boards }
 
-board_more : (s : Snapshot) (g : ℕ) (bs : List ℕ) (j : ℕ) → j < call_count s → boards_at s (at g (bs ++ j ∷ [])) j ≡ true
+pub board_more : (s : Snapshot) (g : ℕ) (bs : List ℕ) (j : ℕ) → j < call_count s → boards_at s (at g (bs ++ j ∷ [])) j ≡ true
 board_more s g bs j lt = and_from (ltb j (call_count s)) (is_among j (bs ++ j ∷ [])) (lt-ltb j (call_count s) lt) (among_last bs j)
 
-board_other : (s : Snapshot) (g : ℕ) (bs : List ℕ) (j k : ℕ) → (k ≡ j → ⊥) → boards_at s (at g (bs ++ j ∷ [])) k ≡ boards_at s (at g bs) k
+pub board_other : (s : Snapshot) (g : ℕ) (bs : List ℕ) (j k : ℕ) → (k ≡ j → ⊥) → boards_at s (at g (bs ++ j ∷ [])) k ≡ boards_at s (at g bs) k
 board_other s g bs j k ne = ap (λ (b : Bool). ltb k (call_count s) && b) (among_other bs j k ne)
 
 -- the persons who board, with one call more

@@ -8,17 +8,25 @@ use Rattle.elevator_model.specs.declared.Move.{Move}
 use Rattle.elevator_model.specs.declared.Move.TheVariants.{Board, Leave, End}
 use Rattle.elevator_model.specs.Snapshot.{Snapshot, IsAccepted, car_count}
 use Rattle.elevator_model.specs.Partial.{Course, course_start, course_of, move_on, moves_on, IsLawful}
-use Rattle.tour_rules.specs.declared.points.Point.{Point}
+use Rattle.tour_rules.specs.declared.points.Step.{Step}
 use Rattle.tour_rules.specs.Courses.{TracksCourse, LeadsOn, with_call_on}
 use Rattle.tour_rules.specs.Prefixes.{IsPrefix}
 use Rattle.tour_rules.specs.PartialTour.{with_board_made, with_move_made, stops_made}
 use Rattle.tour_rules.proofs.Follow.{last_move, lawful_front, is_some_has, has_is_some, leave_leads_to, ending_leads_to, board_leads_to}
 use Rattle.tour_rules.proofs.Reached.{left_after}
 use Rattle.tour_rules.proofs.Sound.{leads_on}
+use Rattle.tour_rules.specs.Measure.{most_moves}
 use Rattle.tour_rules.proofs.Measure.{lawful_short}
 use Rattle.tour_rules.proofs.Stops.{groups_few, most_calls_few}
 
--- a lawful list has at most 450 moves
+-- a lawful list has at most three moves for each call, one for each group and two
+pub moves_short : (s : Snapshot) (c : ℕ) (moves : List Move) → IsLawful s c moves → length moves ≤ most_moves s c
+moves_short s c moves lawful =
+    let x = is_some_has (course_of s c moves) lawful in
+    let short = lawful_short s c moves x.0 x.1 in
+    omega (arith, short)
+
+-- so at most 450
 pub moves_few : (s : Snapshot) (c : ℕ) (moves : List Move) → IsAccepted s → c < car_count s → IsLawful s c moves → length moves ≤ 450
 moves_few s c moves ok lt lawful =
     let x = is_some_has (course_of s c moves) lawful in
@@ -27,19 +35,40 @@ moves_few s c moves ok lt lawful =
     let calls = most_calls_few s ok in
     omega (arith, short, groups, calls)
 
--- the next move is lawful at the last point
-pub leads_from_last : (s : Snapshot) (c : ℕ) (moves : List Move) (points : List Point) (point : Point) (next : Move) → IsPrefix s c moves points → point ≡ get_or points (length moves) point → IsLawful s c (moves ++ next ∷ []) → LeadsOn s c point next
-leads_from_last s c moves points point next p is lawful =
+pub no_moves : (s : Snapshot) (c k : ℕ) (x : Course) → k ≡ 0 → course_of s c (take k []) ≡ Some x → course_start s c ≡ x
+no_moves s c k x none h = some_same (sym (ap (λ (n : ℕ). course_of s c (take n [])) none) ∙ h)
+  where
+    some_same : {a b : Course} → Some a ≡ Some b → a ≡ b
+    some_same e = cc
+
+-- no moves, at the start
+IsPrefix-start : (s : Snapshot) (c : ℕ) (step : Step) → IsAccepted s → c < car_count s → TracksCourse s c step.point (course_start s c) → IsPrefix s c [] (step ∷ [])
+IsPrefix-start s c step a b t = record {
+  car = b;
+  accepted = a;
+  lawful = refl;
+  counted = refl;
+  tracked = λ k x d le h. let none : k ≡ 0 = omega arith in subst (λ (i : ℕ). TracksCourse s c (get_or (step ∷ []) i d).point x) (sym none) (subst (TracksCourse s c step.point) (no_moves s c k x none h) t);
+}
+
+pub IsPrefix-new : (s : Snapshot) (c : ℕ) (moves : List Move) (front steps : List Step) (step : Step) → IsAccepted s → c < car_count s → TracksCourse s c step.point (course_start s c) → moves ≡ [] → front ≡ [] → steps ≡ front ++ step ∷ [] → IsPrefix s c moves steps
+IsPrefix-new s c moves front steps step a b t no_move empty pushed =
+    let all = pushed ∙ ap (λ (ps : List Step). ps ++ step ∷ []) empty in
+    subst (λ (ms : List Move). IsPrefix s c ms steps) (sym no_move) (subst (IsPrefix s c []) (sym all) (IsPrefix-start s c step a b t))
+
+-- the next move is lawful at the last step
+pub leads_from_last : (s : Snapshot) (c : ℕ) (moves : List Move) (steps : List Step) (step : Step) (next : Move) → IsPrefix s c moves steps → step ≡ get_or steps (length moves) step → IsLawful s c (moves ++ next ∷ []) → LeadsOn s c step.point next
+leads_from_last s c moves steps step next p is lawful =
     let y = is_some_has (course_of s c (moves ++ next ∷ [])) lawful in
     let last = last_move s c moves next y.0 y.1 in
     let whole = take_all (length moves) moves (omega arith) in
-    let tracked = p.tracked (length moves) last.front point (omega arith) (ap (course_of s c) whole ∙ last.lawful) in
-    (last.front, y.0, subst (λ (q : Point). TracksCourse s c q last.front) (sym is) tracked, last.leads)
+    let tracked = p.tracked (length moves) last.front step (omega arith) (ap (course_of s c) whole ∙ last.lawful) in
+    (last.front, y.0, subst (λ (q : Step). TracksCourse s c q.point last.front) (sym is) tracked, last.leads)
 
-pub IsPrefix-push : (s : Snapshot) (c : ℕ) (moves : List Move) (points : List Point) (next : Move) (point new : Point) → IsPrefix s c moves points → point ≡ get_or points (length moves) point → IsLawful s c (moves ++ next ∷ []) → ((x y : Course) → TracksCourse s c point x → move_on s c x next ≡ Some y → TracksCourse s c new y) → IsPrefix s c (moves ++ next ∷ []) (points ++ new ∷ [])
-IsPrefix-push s c moves points next point new p is lawful leads =
+pub IsPrefix-push : (s : Snapshot) (c : ℕ) (moves : List Move) (steps : List Step) (next : Move) (step new : Step) → IsPrefix s c moves steps → step ≡ get_or steps (length moves) step → IsLawful s c (moves ++ next ∷ []) → ((x y : Course) → TracksCourse s c step.point x → move_on s c x next ≡ Some y → TracksCourse s c new.point y) → IsPrefix s c (moves ++ next ∷ []) (steps ++ new ∷ [])
+IsPrefix-push s c moves steps next step new p is lawful leads =
     let one = length-append moves (next ∷ []) in
-    let two = length-append points (new ∷ []) in
+    let two = length-append steps (new ∷ []) in
     let counted = p.counted in
     record {
       car = p.car;
@@ -49,34 +78,34 @@ IsPrefix-push s c moves points next point new p is lawful leads =
       tracked = λ k x d le h. elim (eq-or-lt_of_le le) [ inl e ↦ at_end k x d (omega (arith, one, e)) h | inr lt ↦ before k x d (omega (arith, one, lt)) h ];
     }
   where
-    before : (k : ℕ) (x : Course) (d : Point) → k ≤ length moves → course_of s c (take k (moves ++ next ∷ [])) ≡ Some x → TracksCourse s c (get_or (points ++ new ∷ []) k d) x
+    before : (k : ℕ) (x : Course) (d : Step) → k ≤ length moves → course_of s c (take k (moves ++ next ∷ [])) ≡ Some x → TracksCourse s c (get_or (steps ++ new ∷ []) k d).point x
     before k x d le h =
         let counted = p.counted in
-        subst (λ (q : Point). TracksCourse s c q x) (sym (get_or_append_left points (new ∷ []) d k (omega (arith, counted)))) (p.tracked k x d le (ap (course_of s c) (sym (take-append-le k moves (next ∷ []) le)) ∙ h))
+        subst (λ (q : Step). TracksCourse s c q.point x) (sym (get_or_append_left steps (new ∷ []) d k (omega (arith, counted)))) (p.tracked k x d le (ap (course_of s c) (sym (take-append-le k moves (next ∷ []) le)) ∙ h))
 
-    at_end : (k : ℕ) (x : Course) (d : Point) → k ≡ length moves + 1 → course_of s c (take k (moves ++ next ∷ [])) ≡ Some x → TracksCourse s c (get_or (points ++ new ∷ []) k d) x
+    at_end : (k : ℕ) (x : Course) (d : Step) → k ≡ length moves + 1 → course_of s c (take k (moves ++ next ∷ [])) ≡ Some x → TracksCourse s c (get_or (steps ++ new ∷ []) k d).point x
     at_end k x d e h =
         let one = length-append moves (next ∷ []) in
         let counted = p.counted in
         let whole = take_all k (moves ++ next ∷ []) (omega (arith, one, e)) in
         let last = last_move s c moves next x (ap (course_of s c) (sym whole) ∙ h) in
         let all = take_all (length moves) moves (omega arith) in
-        let old = p.tracked (length moves) last.front point (omega arith) (ap (course_of s c) all ∙ last.lawful) in
-        subst (λ (q : Point). TracksCourse s c q x) (sym (get_or_push points new d k (omega (arith, counted, e)))) (leads last.front x (subst (λ (q : Point). TracksCourse s c q last.front) (sym is) old) last.leads)
+        let old = p.tracked (length moves) last.front step (omega arith) (ap (course_of s c) all ∙ last.lawful) in
+        subst (λ (q : Step). TracksCourse s c q.point x) (sym (get_or_push steps new d k (omega (arith, counted, e)))) (leads last.front x (subst (λ (q : Step). TracksCourse s c q.point last.front) (sym is) old) last.leads)
 
-pub IsPrefix-take : (s : Snapshot) (c : ℕ) (moves : List Move) (points : List Point) (n : ℕ) → IsPrefix s c moves points → n ≤ length moves → IsPrefix s c (take n moves) (take (n + 1) points)
-IsPrefix-take s c moves points n p le =
+pub IsPrefix-take : (s : Snapshot) (c : ℕ) (moves : List Move) (steps : List Step) (n : ℕ) → IsPrefix s c moves steps → n ≤ length moves → IsPrefix s c (take n moves) (take (n + 1) steps)
+IsPrefix-take s c moves steps n p le =
     let counted = p.counted in
     let x = is_some_has (course_of s c moves) p.lawful in
     let front = lawful_front s c (take n moves) (drop n moves) x.0 (ap (course_of s c) (take-append-drop n moves) ∙ x.1) in
     let one = length-take-le n moves le in
-    let two = length-take-le (n + 1) points (omega (arith, counted)) in
+    let two = length-take-le (n + 1) steps (omega (arith, counted)) in
     record {
       car = p.car;
       accepted = p.accepted;
       lawful = has_is_some (course_of s c (take n moves)) front.0 front.1;
       counted = omega (arith, one, two);
-      tracked = λ k y d below h. subst (λ (q : Point). TracksCourse s c q y) (sym (get_or-take (n + 1) points k d (omega (arith, one, below)))) (p.tracked k y d (omega (arith, one, below, le)) (ap (course_of s c) (sym (take-take k n moves (omega (arith, one, below)))) ∙ h));
+      tracked = λ k y d below h. subst (λ (q : Step). TracksCourse s c q.point y) (sym (get_or-take (n + 1) steps k d (omega (arith, one, below)))) (p.tracked k y d (omega (arith, one, below, le)) (ap (course_of s c) (sym (take-take k n moves (omega (arith, one, below)))) ∙ h));
     }
 
 -- ---- the stops that the moves make

@@ -94,6 +94,6 @@ stops_few s c ok lt =
     omega (arith, groups, calls, all)
 
 -- one stop more is judged
-pub judge_step : (s : Snapshot) (c : ℕ) (p : Progress) (k : ℕ) (stops : List Stop) (i : ℕ) (st : Stop) → i < length stops → st ≡ get_or stops i st → first_broken_from s c none_taken p k (drop i stops) ≡ broken_or (broken_at s c none_taken p st) k (first_broken_from s c none_taken (make_stop s c p st) (k + 1) (drop (i + 1) stops))
-judge_step s c p k stops i st lt is =
-    ap (first_broken_from s c none_taken p k) (drop_more stops i st lt) ∙ ap (λ (x : Stop). first_broken_from s c none_taken p k (x ∷ drop (i + 1) stops)) (sym is)
+pub judge_step : (s : Snapshot) (c : ℕ) (taken : ℕ → Bool) (p : Progress) (k : ℕ) (stops : List Stop) (i : ℕ) (st : Stop) → i < length stops → st ≡ get_or stops i st → first_broken_from s c taken p k (drop i stops) ≡ broken_or (broken_at s c taken p st) k (first_broken_from s c taken (make_stop s c p st) (k + 1) (drop (i + 1) stops))
+judge_step s c taken p k stops i st lt is =
+    ap (first_broken_from s c taken p k) (drop_more stops i st lt) ∙ ap (λ (x : Stop). first_broken_from s c taken p k (x ∷ drop (i + 1) stops)) (sym is)

@@ -5,7 +5,7 @@ use Rattle.elevator_model.specs.declared.Stop.{Stop}
 use Rattle.elevator_model.specs.Building.{floor_count}
 use Rattle.elevator_model.specs.Snapshot.{Snapshot, call_of, spec_of}
 use Rattle.elevator_model.specs.Tours.{Progress, make_stop, persons_where, stays_on, boards_at, is_call_for, overtakes, persons_of}
-use Rattle.elevator_model.specs.Partial.{Course, may_stand, may_be_left, boards_allowed, move_on}
+use Rattle.elevator_model.specs.Partial.{Course, progress_after, may_stand, may_be_left, boards_allowed, move_on}
 use Rattle.elevator_model.specs.declared.Move.{Move}
 use Rattle.tour_rules.specs.declared.points.Point.{Point}
 use Rattle.tour_rules.specs.declared.points.Departure.{Departure}
@@ -43,11 +43,6 @@ pub record TracksCourse (s : Snapshot) (c : ℕ) (point : Point) (x : Course) : 
 abbrev pub may_leave : Snapshot → ℕ → Progress → Option Stop → Bool
 may_leave s c before None = true
 may_leave s c before (Some stop) = may_be_left s c before stop
-
--- where the car is once it leaves the present stop
-abbrev pub progress_after : Snapshot → ℕ → Progress → Option Stop → Progress
-progress_after s c before None = before
-progress_after s c before (Some stop) = make_stop s c before stop
 
 abbrev pub empty_stop : ℕ → Stop
 empty_stop g = record { floor = g; boards = [] }

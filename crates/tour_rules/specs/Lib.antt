@@ -3,3 +3,5 @@ pub mod PartialTour
 pub mod Places
 pub mod Courses
 pub mod Prefixes
+pub mod Leaving
+pub mod Tallies

@@ -4,7 +4,7 @@ ghost use Rattle.std.specs.Prelude.{◌≡◌, ◌<◌, ◌≤◌, ◌+◌, ℕ,
 ghost use Rattle.elevator_model.specs.declared.Stop.{Stop};
 ghost use Rattle.elevator_model.specs.Counting.{has};
 ghost use Rattle.elevator_model.specs.Snapshot.{car_count, call_count};
-ghost use Rattle.elevator_model.specs.Tours.{Progress, breaks as breaks_lem, broken_at as broken_at_lem, broken_at_end as broken_at_end_lem, first_broken, none_taken};
+ghost use Rattle.elevator_model.specs.Tours.{Progress, breaks as breaks_lem, broken_at as broken_at_lem, broken_at_end as broken_at_end_lem, first_broken, first_broken_from, start_of, none_taken};
 ghost use Rattle.tour_rules.specs.Places.{Tracks, HasBoards};
 
 use crate::places::{Heading, Place, after_stop, any_carried, at_start};
@@ -106,12 +106,21 @@ pub fn judge(snapshot: &Snapshot, car: u32, tour: &Tour) -> Result<(), Broken>
     requires { car < car_count snapshot.now }
     ensures { MatchResult result (λ _. first_broken snapshot.now car tour.now ≡ None) (λ b. first_broken snapshot.now car tour.now ≡ Some b) }
 {
+    judge_after(snapshot, car, 0, tour)
+}
+
+/// The same, where the calls of the set `taken` boarded in tours of other cars: such a call boards a second
+/// time. Bit `j` stands for call `j`.
+pub fn judge_after(snapshot: &Snapshot, car: u32, taken: u128, tour: &Tour) -> Result<(), Broken>
+    requires { car < car_count snapshot.now }
+    ensures { MatchResult result (λ _. first_broken_from snapshot.now car (has taken) (start_of snapshot.now car) 1 tour.now ≡ None) (λ b. first_broken_from snapshot.now car (has taken) (start_of snapshot.now car) 1 tour.now ≡ Some b) }
+{
     let calls = snapshot.calls();
     let mut place = at_start(snapshot, car);
     let mut number = 1;
     for stop in tour.stops() {
         let boards = board_set(stop.boards.as_slice(), calls.len());
-        match broken_at(snapshot, car, 0, &place, stop, boards) {
+        match broken_at(snapshot, car, taken, &place, stop, boards) {
             Some(rule) => return Err(Broken { stop: number, rule }),
             None => {}
         }

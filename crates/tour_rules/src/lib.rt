@@ -7,11 +7,13 @@ mod partial;
 mod places;
 mod points;
 mod prefix;
+pub mod riding;
 mod rules;
 mod sets;
+mod tally;
 
 pub use elevator_model::{Boards, Broken, Move, Rule, Stop, Tour};
-pub use judging::judge;
+pub use judging::{judge, judge_after};
 pub use prefix::{Moves, Prefix, next_moves};
 
 #[cfg(test)]

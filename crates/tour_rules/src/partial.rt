@@ -7,9 +7,9 @@ ghost use Rattle.elevator_model.specs.Building.{floor_count};
 ghost use Rattle.elevator_model.specs.declared.Stop.{Stop};
 ghost use Rattle.elevator_model.specs.Snapshot.{Snapshot, IsAccepted, car_count, call_count, call_of};
 ghost use Rattle.elevator_model.specs.Tours.{Progress};
-ghost use Rattle.elevator_model.specs.Partial.{Course, course_start, lawful_moves, move_on, may_stand as may_stand_lem};
+ghost use Rattle.elevator_model.specs.Partial.{progress_after, Course, course_start, lawful_moves, move_on, may_stand as may_stand_lem};
 ghost use Rattle.tour_rules.specs.Places.{Tracks};
-ghost use Rattle.tour_rules.specs.Courses.{IsBegun, TracksCourse, is_after as is_after_lem, empty_stop, may_leave as may_leave_lem, progress_after, board_test, IsDeparture, may_be_next, with_call_on, LeadsOn};
+ghost use Rattle.tour_rules.specs.Courses.{IsBegun, TracksCourse, is_after as is_after_lem, empty_stop, may_leave as may_leave_lem, board_test, IsDeparture, may_be_next, with_call_on, LeadsOn};
 
 use crate::judging::broken_at_end;
 use crate::places::{Heading, Place, after_stop, at_start, persons_carried};
@@ -96,7 +96,7 @@ fn may_leave(snapshot: &Snapshot, car: u32, point: &Point) -> bool
 }
 
 /// Where the car is once it leaves the present stop.
-fn place_after(point: &Point) -> Place
+pub(crate) fn place_after(point: &Point) -> Place
     ensures { (s : Snapshot) (c : ℕ) (x : Course) → TracksCourse s c point.now x → Tracks s c result (progress_after s c x.before x.present) }
 {
     match point.stop {

@@ -67,7 +67,7 @@ pub(crate) fn any_call_heads(calls: &[Call], set: u128, heading: Heading) -> boo
 }
 
 /// Whether the car's group is still aboard after stops at these floors.
-fn is_carried(group: &Aboard, car: u32, visited: u64) -> bool
+pub(crate) fn is_carried(group: &Aboard, car: u32, visited: u64) -> bool
     requires { group.now.destination < 64 }
     ensures { result ≡ (group.now.car == car) && not (has visited group.now.destination) }
 {

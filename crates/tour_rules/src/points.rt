@@ -3,6 +3,7 @@
 ghost use Rattle.std.specs.Prelude.{◌≤◌};
 
 use crate::places::Place;
+use crate::tally::Tally;
 
 /// The stop begun: who boarded there so far.
 #[derive(Clone, Copy)]
@@ -25,6 +26,13 @@ pub(crate) struct Point {
     pub(crate) before: Place,
     pub(crate) stop: Option<Begun>,
     pub(crate) ended: bool,
+}
+
+/// Where a partial tour is, and its moments and cost until there.
+#[derive(Clone, Copy)]
+pub(crate) struct Step {
+    pub(crate) point: Point,
+    pub(crate) tally: Tally,
 }
 
 /// The departure from the present stop.

@@ -1,12 +1,13 @@
 //! Partial tours and the moves that may follow.
 
-ghost use Rattle.std.specs.Prelude.{true, OnOk, ◌≡◌, ◌<◌, ◌≤◌, ◌++◌, ◌∷◌, [], IfOk, MatchOption, Some, ℕ};
+ghost use Rattle.std.specs.Prelude.{true, OnOk, ◌≡◌, ◌<◌, ◌≤◌, ◌++◌, ◌∷◌, [], IfOk, MatchOption, Some, ℕ, length};
 ghost use Rattle.elevator_model.specs.Counting.{has};
-ghost use Rattle.elevator_model.specs.Partial.{Course, lawful_moves, moves_of};
+ghost use Rattle.elevator_model.specs.Partial.{Course, lawful_moves, moves_of, settled_of, moment_in};
 ghost use Rattle.tour_rules.specs.PartialTour.{course, with_move_made, stops_made};
 
-use crate::partial::{advance, fill, start};
-use crate::points::Point;
+use crate::partial::{advance, fill, place_after, start};
+use crate::points::Step;
+use crate::tally::{Tally, note};
 use call_state::Snapshot;
 use elevator_model::{Boards, Move, Stop, Tour};
 use std::alloc::{AllocError, Global};
@@ -14,6 +15,9 @@ use std::marker::Model;
 
 /// The most moves of a partial tour: three for each of 128 calls, one for each of 64 groups, and two.
 const MOST_MOVES: usize = 450;
+
+/// The most calls that a snapshot can have.
+const MOST_CALLS: usize = 128;
 
 /// The most moves that may follow: 128 boards, 64 leaves and the end.
 const MOST_NEXT: usize = 193;
@@ -53,14 +57,18 @@ impl Moves {
     }
 }
 
-/// The beginning of a car's tour, as a list of lawful moves, with where each of them leads.
+/// The beginning of a car's tour, as a list of lawful moves, with where each of them leads and what it
+/// costs until there.
 #[derive(Drop)]
 pub struct Prefix<'a> {
     snapshot: &'a Snapshot,
     car: u32,
     moves: Vec<Move>,
-    /// Where the moves lead: the start, and the point after each move.
-    points: Vec<Point>,
+    /// Where the moves lead: the start, and what follows each move.
+    steps: Vec<Step>,
+    /// For each call that boarded the moment of it. One that was taken back is overwritten when the call
+    /// boards again.
+    moments: Vec<u64>,
 }
 
 impl<'a> Model for Prefix<'a> {
@@ -70,16 +78,18 @@ impl<'a> Model for Prefix<'a> {
     ghost Value = { PartialTour };
 
     ghost use Rattle.tour_rules.specs.Prefixes.{IsPrefix};
+    ghost use Rattle.tour_rules.specs.Tallies.{IsTallied};
 
     ghost view = { λ p. record { snapshot = p.snapshot.now; car = p.car; moves = p.moves.items } };
 
-    ghost invariant = { λ p. IsPrefix p.snapshot.now p.car p.moves.items p.points.items × (450 ≤ vec_capacity p.moves) × (451 ≤ vec_capacity p.points) };
+    ghost invariant = { λ p. IsPrefix p.snapshot.now p.car p.moves.items p.steps.items × (450 ≤ vec_capacity p.moves) × (451 ≤ vec_capacity p.steps) × IsTallied p.snapshot.now p.car p.moves.items p.steps.items p.moments.items };
 }
 
 impl<'a> Prefix<'a> {
     ghost use Rattle.elevator_model.specs.Snapshot.{car_count};
     ghost use Rattle.elevator_model.specs.Partial.{IsLawful};
     ghost use Rattle.tour_rules.specs.PartialTour.{with_move};
+    ghost use Rattle.tour_rules.specs.Measure.{most_moves};
 
     /// The empty partial tour of the car, with room for the longest.
     pub fn new(alloc: Global, snapshot: &'a Snapshot, car: u32) -> Result<Self, AllocError>
@@ -88,20 +98,26 @@ impl<'a> Prefix<'a> {
     {
         let _calls = snapshot.calls();
         let moves = Vec::with_capacity(alloc, MOST_MOVES)?;
-        let mut points = Vec::with_capacity(alloc, MOST_MOVES + 1)?;
-        points.push_reserved(start(snapshot, car));
+        let mut steps = Vec::with_capacity(alloc, MOST_MOVES + 1)?;
+        steps.push_reserved(Step {
+            point: start(snapshot, car),
+            tally: Tally::start(snapshot, car),
+        });
+        let moments = Vec::from_array(alloc, [0; MOST_CALLS])?;
         Ok(Prefix {
             snapshot,
             car,
             moves,
-            points,
+            steps,
+            moments,
         })
     }
 
-    /// The moves.
+    /// The moves: at most three for each call, one for each group aboard the car, and two.
     pub fn moves(&self) -> &[Move]
         ensures value { result.now ≡ self.now.moves }
         ensures lawful { IsLawful self.now.snapshot self.now.car self.now.moves }
+        ensures short { length self.now.moves ≤ most_moves self.now.snapshot self.now.car }
     {
         self.moves.as_slice()
     }
@@ -111,10 +127,18 @@ impl<'a> Prefix<'a> {
         requires { IsLawful self.old.snapshot self.old.car (self.old.moves ++ next ∷ []) }
         ensures { self.new ≡ with_move self.old next }
     {
-        let point = self.points[self.moves.len()];
-        let point = advance(self.snapshot, self.car, &point, next);
+        let step = self.steps[self.moves.len()];
+        let tally = step.tally.after(
+            self.snapshot,
+            self.car,
+            &step.point,
+            next,
+            self.moments.as_slice(),
+        );
+        let point = advance(self.snapshot, self.car, &step.point, next);
+        note(self.moments.as_mut_slice(), next, tally.opened);
         self.moves.push_reserved(next);
-        self.points.push_reserved(point);
+        self.steps.push_reserved(Step { point, tally });
     }
 
     /// Takes the last move away. None where there is none, and then nothing changes.
@@ -122,8 +146,28 @@ impl<'a> Prefix<'a> {
         ensures { MatchOption result ((self.old.moves ≡ []) × (self.new ≡ self.old)) (λ m. self.old ≡ with_move self.new m) }
     {
         let last = self.moves.pop()?;
-        let _ = self.points.pop();
+        let _ = self.steps.pop();
         Some(last)
+    }
+
+    /// The cost in cost units of those who got off within the partial tour. The present stop counts: those
+    /// who are to get off there have done so.
+    pub fn settled(&self) -> u64
+        ensures { (x : Course) → course self.now ≡ Some x → result ≡ settled_of self.now.snapshot self.now.car x }
+    {
+        self.steps[self.moves.len()].tally.settled
+    }
+
+    /// The moment in ms at which the doors of the last stop are open. None where no stop has begun.
+    pub fn moment(&self) -> Option<u64>
+        ensures { (x : Course) → course self.now ≡ Some x → result ≡ moment_in self.now.snapshot self.now.car x }
+    {
+        let step = self.steps[self.moves.len()];
+        if place_after(&step.point).begun {
+            Some(step.tally.opened)
+        } else {
+            None
+        }
     }
 
     /// The tour whose move list this is. The partial tour has to have ended.
@@ -141,8 +185,14 @@ impl<'a> Prefix<'a> {
 pub fn next_moves(prefix: &Prefix, allowed: u128, out: &mut Moves)
     ensures { (x : Course) → course prefix.now ≡ Some x → out.new ≡ lawful_moves prefix.now.snapshot prefix.now.car x (has allowed) }
 {
-    let point = prefix.points[prefix.moves.len()];
-    fill(prefix.snapshot, prefix.car, &point, allowed, &mut out.items);
+    let step = prefix.steps[prefix.moves.len()];
+    fill(
+        prefix.snapshot,
+        prefix.car,
+        &step.point,
+        allowed,
+        &mut out.items,
+    );
 }
 
 /// Adds what the move does to the stops: a new one, or a board at the last one.

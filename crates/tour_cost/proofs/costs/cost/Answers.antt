@@ -1,5 +1,7 @@
-use Rattle.std.proofs.Common.{◌≤◌, arith}
-use Rattle.tour_cost.proofs.Walked.{IsWalked-start, IsSettled-start, here-stop, here-early, next-walked, next-settled, next-small, settled-small, settled-served}
+use Rattle.std.proofs.Common.{◌∙◌, ◌≤◌, ap, arith}
+use Rattle.elevator_model.specs.Costs.{settled_cost}
+use Rattle.tour_cost.proofs.ShortForm.{short_form}
+use Rattle.tour_cost.proofs.Walked.{IsWalked-start, IsSettled-start, here-stop, here-early, next-walked, next-settled, next-small, settled-small, settled-served, progress-all}
 use Rattle.tour_cost.proofs.costs.cost.Goals as goal
 
 pub loop-stop-init : goal.loop-stop-init
@@ -28,8 +30,8 @@ overflow_add-cost c =
     let small = next-small c.args.snapshot.now c.args.car c.args.tour.now c.stops-stop-items.result.now c.loop-stop.stop-index c.loop-stop.ride c.make_stop-next.result c.stop-item.result c.loop-stop.boarded c.loop-stop.cost c.cost_of_leaving-cost.result c.start-ride.ensures.accepted c.requires.car c.loop-stop.invariant.walked c.stops-stop-items.ensures c.loop-stop-test.true c.stop-item.is c.make_stop-next.ensures.stops c.make_stop-next.ensures.floor opened c.loop-stop.invariant.settled c.cost_of_leaving-cost.ensures.cost in
     omega (arith, small)
 
-pub calls_boarding-requires : goal.calls_boarding-requires
-calls_boarding-requires c = here-stop c.args.snapshot.now c.args.car c.args.tour.now c.stops-stop-items.result.now c.loop-stop.stop-index c.loop-stop.ride c.stop-item.result c.loop-stop.invariant.walked c.stops-stop-items.ensures c.loop-stop-test.true c.stop-item.is
+pub calls_boarding-boards-requires : goal.calls_boarding-boards-requires
+calls_boarding-boards-requires c = here-stop c.args.snapshot.now c.args.car c.args.tour.now c.stops-stop-items.result.now c.loop-stop.stop-index c.loop-stop.ride c.stop-item.result c.loop-stop.invariant.walked c.stops-stop-items.ensures c.loop-stop-test.true c.stop-item.is
 
 pub loop-stop-preserved : goal.loop-stop-preserved
 loop-stop-preserved c =
@@ -37,7 +39,7 @@ loop-stop-preserved c =
     let opened : c.make_stop-next.result.opened ≤ 100000000000 = omega (arith, early, c.make_stop-next.ensures.opened, c.make_stop-next.ensures.late) in
     record {
       walked = next-walked c.args.snapshot.now c.args.car c.args.tour.now c.stops-stop-items.result.now c.loop-stop.stop-index c.loop-stop.ride c.make_stop-next.result c.stop-item.result c.loop-stop.invariant.walked c.stops-stop-items.ensures c.loop-stop-test.true c.stop-item.is c.make_stop-next.ensures.stops c.make_stop-next.ensures.floor c.make_stop-next.ensures.late;
-      settled = next-settled c.args.snapshot.now c.args.car c.args.tour.now c.stops-stop-items.result.now c.loop-stop.stop-index c.loop-stop.ride c.make_stop-next.result c.stop-item.result c.loop-stop.boarded c.note_boarding.new.boarded c.loop-stop.cost c.cost_of_leaving-cost.result c.calls_boarding.result c.start-ride.ensures.accepted c.loop-stop.invariant.walked c.stops-stop-items.ensures c.loop-stop-test.true c.stop-item.is c.make_stop-next.ensures.stops c.make_stop-next.ensures.floor opened c.loop-stop.invariant.settled c.calls_boarding.ensures (record { each = c.note_boarding.ensures }) c.cost_of_leaving-cost.ensures.cost;
+      settled = next-settled c.args.snapshot.now c.args.car c.args.tour.now c.stops-stop-items.result.now c.loop-stop.stop-index c.loop-stop.ride c.make_stop-next.result c.stop-item.result c.loop-stop.boarded c.note_boarding.new.boarded c.loop-stop.cost c.cost_of_leaving-cost.result c.calls_boarding-boards.result c.start-ride.ensures.accepted c.loop-stop.invariant.walked c.stops-stop-items.ensures c.loop-stop-test.true c.stop-item.is c.make_stop-next.ensures.stops c.make_stop-next.ensures.floor opened c.loop-stop.invariant.settled c.calls_boarding-boards.ensures (record { each = c.note_boarding.ensures }) c.cost_of_leaving-cost.ensures.cost;
     }
 
 pub returns-clause-bounded : goal.returns-clause-bounded
@@ -47,3 +49,10 @@ returns-clause-bounded c =
 
 pub returns-clause-per_call : goal.returns-clause-per_call
 returns-clause-per_call c = settled-served c.args.snapshot.now c.args.car c.args.tour.now c.stops-stop-items.result.now c.loop-stop.stop-index c.loop-stop.boarded c.loop-stop.cost c.start-ride.ensures.accepted c.requires.car c.stops-stop-items.ensures c.loop-stop-test.false c.loop-stop.invariant.settled
+
+pub returns-clause-short : goal.returns-clause-short
+returns-clause-short c = λ first.
+    let s = c.args.snapshot.now in
+    let tour = c.args.tour.now in
+    let whole = progress-all s c.args.car tour c.stops-stop-items.result.now c.loop-stop.stop-index c.stops-stop-items.ensures c.loop-stop-test.false in
+    c.loop-stop.invariant.settled.settled ∙ ap (settled_cost s c.args.car) whole ∙ short_form s c.args.car tour c.start-ride.ensures.accepted.building first

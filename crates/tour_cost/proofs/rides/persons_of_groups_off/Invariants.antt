@@ -2,7 +2,7 @@
 use Rattle.std.proofs.Common.{◌≡◌}
 use Rattle.elevator_model.specs.Counting.{sum_where}
 use Rattle.elevator_model.specs.Snapshot.{group_of}
-use Rattle.tour_cost.specs.Rides.{is_group_off}
+use Rattle.tour_rules.specs.Leaving.{is_group_off}
 use Rattle.tour_cost.proofs.rides.persons_of_groups_off.Given as goal
 
 abbrev pub invariant-loop-k : goal.invariant-loop-k

@@ -1,6 +1,6 @@
 use Rattle.std.proofs.Common.{◌∙◌, ap, sym}
 use Rattle.elevator_model.specs.Partial.{move_on}
-use Rattle.tour_rules.specs.Courses.{progress_after}
+use Rattle.elevator_model.specs.Partial.{progress_after}
 use Rattle.tour_rules.proofs.Follow.{ending_leads_to, tracks_end}
 use Rattle.tour_rules.proofs.partial.advance.Goals as goal
 

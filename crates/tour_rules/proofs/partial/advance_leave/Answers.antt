@@ -1,5 +1,5 @@
 use Rattle.std.proofs.Common.{arith}
-use Rattle.tour_rules.specs.Courses.{progress_after}
+use Rattle.elevator_model.specs.Partial.{progress_after}
 use Rattle.tour_rules.proofs.Follow.{leave_leads_to, tracks_leave, stands_in}
 use Rattle.tour_rules.proofs.partial.advance_leave.Goals as goal
 

@@ -2,7 +2,8 @@ use Rattle.std.proofs.Common.{◌≡◌, ℕ, ◌+◌, ◌*◌, ◌<◌, ap, ◌
 use Rattle.elevator_model.specs.Snapshot.{spec_of}
 use Rattle.elevator_model.specs.Tours.{arrival, persons_where, gets_off, boards_at}
 use Rattle.tour_cost.proofs.Bits.{has_with_floor}
-use Rattle.tour_cost.proofs.Stops.{AreOff-both, persons_off, persons_on, carried-call, carried-group, leaves_after}
+use Rattle.tour_rules.proofs.GettingOff.{AreOff-both, persons_off, persons_on}
+use Rattle.tour_cost.proofs.Stops.{riders_carried, carried-call, carried-group, leaves_after}
 use Rattle.tour_cost.proofs.rides.Ride.make_stop.Goals as goal
 
 pub overflow_shl-result : goal.overflow_shl-result
@@ -16,7 +17,7 @@ returns-clause-stops c = λ p t.
     let stop = c.args.stop.now in
     let off = AreOff-both s stop.floor ride.carried c.calls_to.result c.both-off.result c.both-off.ensures c.calls_to.ensures in
     let small : stop.floor < 64 = (let high = c.opening_of.ensures.accepted.building.floors_high in omega (arith, high, c.requires.stop.floor)) in
-    let off_is = persons_off s car ride p stop.floor c.both-off.result t off in
+    let off_is = persons_off s car p stop.floor ride.carried ride.visited c.both-off.result (riders_carried s car ride p t) off in
     let on_is = persons_on s stop c.calls_boarding-boards.result c.calls_boarding-boards.ensures in
     let off_sum : persons_where s (gets_off s p stop.floor) ≡ c.persons_of_calls.result + c.persons_of_groups_off.result = omega (arith, off_is, c.persons_of_calls.ensures.value, c.persons_of_groups_off.ensures.value) in
     let on_sum : persons_where s (boards_at s stop) ≡ c.persons_of_calls-2.result = omega (arith, on_is, c.persons_of_calls-2.ensures.value) in
