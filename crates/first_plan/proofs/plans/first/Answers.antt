@@ -1,0 +1,5 @@
+use Rattle.first_plan.proofs.PlainPlan.{plan_exists}
+use Rattle.first_plan.proofs.plans.first.Goals as goal
+
+pub returns-clause-exists : goal.returns-clause-exists
+returns-clause-exists c = plan_exists c.args.snapshot.now c.calls.ensures.accepted

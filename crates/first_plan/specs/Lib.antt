@@ -1,0 +1,3 @@
+pub mod PlainTours
+pub mod Openings
+pub mod PlainPlans

@@ -1,0 +1,81 @@
+//! A first plan, and a plan with one call more.
+
+ghost use Rattle.std.specs.Prelude.{◌<◌, ◌≤◌, ◌↔◌, List, IsTrue, IfOk, IfSome};
+ghost use Rattle.elevator_model.specs.declared.Stop.{Stop};
+ghost use Rattle.elevator_model.specs.Snapshot.{call_count};
+ghost use Rattle.elevator_model.specs.Plans.{IsFeasiblePlan, plan_cost_of};
+
+use crate::plain::plain_plan;
+use crate::proposing::{proposal, with_call_put};
+use call_state::Snapshot;
+use elevator_model::Plan;
+use std::alloc::{AllocError, Global};
+use tour_cost::{judge_plan, plan_cost};
+
+/// Whether a proposed plan is feasible.
+fn is_feasible(snapshot: &Snapshot, plan: &Plan) -> bool
+    ensures { IsTrue result ↔ IsFeasiblePlan snapshot.now plan.now }
+{
+    if plan.tours().len() != snapshot.building().cars().len() {
+        return false;
+    }
+    judge_plan(snapshot, plan).is_ok()
+}
+
+/// The proposed plan, if it is feasible and costs less than the plain plan, and else that one.
+fn better_plan(snapshot: &Snapshot, plain: Plan, proposed: Option<Plan>) -> Plan
+    requires { IsFeasiblePlan snapshot.now plain }
+    ensures feasible { IsFeasiblePlan snapshot.now result }
+    ensures plain { plan_cost_of snapshot.now result ≤ plan_cost_of snapshot.now plain }
+    ensures proposed { IfSome proposed (λ plan. IsFeasiblePlan snapshot.now plan → plan_cost_of snapshot.now result ≤ plan_cost_of snapshot.now plan) }
+{
+    if let Some(proposed) = proposed {
+        if is_feasible(snapshot, &proposed) {
+            if plan_cost(snapshot, &proposed) < plan_cost(snapshot, &plain) {
+                return proposed;
+            }
+        }
+    }
+    plain
+}
+
+/// A feasible plan.
+fn feasible_plan(alloc: Global, snapshot: &Snapshot) -> Result<Plan, AllocError>
+    ensures { IfOk result (λ plan. IsFeasiblePlan snapshot.now plan) }
+{
+    let plain = plain_plan(alloc, snapshot)?;
+    let proposed = proposal(alloc, snapshot)?;
+    Ok(better_plan(snapshot, plain, proposed))
+}
+
+/// A feasible plan of the snapshot: every accepted snapshot has one. The error is want of memory alone.
+///
+/// It is made by putting the calls one after another where the cost rises least, and then moving each once
+/// or twice where that lowers the cost. Where that fails, each car serves its calls one after another.
+pub fn first(alloc: Global, snapshot: &Snapshot) -> Result<Plan, AllocError>
+    ensures feasible { IfOk result (λ plan. IsFeasiblePlan snapshot.now plan) }
+    ensures exists { (plan : List (List Stop)) × IsFeasiblePlan snapshot.now plan }
+{
+    prove!(snapshot.calls().len() <= 128);
+    feasible_plan(alloc, snapshot)
+}
+
+/// The plan with one call more, put where the cost rises least. This is so where the plan lacks this call
+/// alone and is feasible otherwise; any other plan gives some feasible plan of the snapshot. The error is
+/// want of memory alone.
+pub fn insert(
+    alloc: Global,
+    snapshot: &Snapshot,
+    plan: &Plan,
+    call: u32,
+) -> Result<Plan, AllocError>
+    requires { call < call_count snapshot.now }
+    ensures { IfOk result (λ plan. IsFeasiblePlan snapshot.now plan) }
+{
+    if let Some(longer) = with_call_put(alloc, snapshot, plan, call)? {
+        if is_feasible(snapshot, &longer) {
+            return Ok(longer);
+        }
+    }
+    feasible_plan(alloc, snapshot)
+}

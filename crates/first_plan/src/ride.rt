@@ -1,0 +1,219 @@
+//! A car on its way through a draft tour: what it costs, and whether a rule is broken.
+//!
+//! Drafts are proposals, which are judged before they are used. So nothing here has to be right, and sums
+//! stop at the greatest number.
+
+ghost use Rattle.std.specs.Prelude.{◌<◌};
+ghost use Rattle.elevator_model.specs.Snapshot.{car_count};
+
+use crate::opening::first_floors;
+use crate::visits::Visit;
+use call_state::{CarSpec, CarState, Snapshot};
+
+/// How far a car is in its draft tour. Moments are in ms, costs in cost units.
+#[derive(Clone, Copy)]
+pub(crate) struct Ride {
+    spec: CarSpec,
+    /// Whether it has made a stop.
+    begun: bool,
+    /// Before its first stop: whether that stop is due, and whether a leg leads there.
+    due: bool,
+    has_leg: bool,
+    /// The floors where it may stop first: bit `f` stands for floor `f`.
+    first: u64,
+    /// The floor of its last stop, or where it stands, comes to or comes from.
+    floor: u32,
+    /// The moments at which the doors of its last stop are open and at which it leaves.
+    opened: u64,
+    leaves: u64,
+    /// The persons carried.
+    load: u64,
+    /// The floors where someone carried goes.
+    bound_for: u64,
+    /// For each floor the persons carried there, and the sum of the moments at which they boarded.
+    persons: [u64; 64],
+    since: [u64; 64],
+    /// The calls that boarded at earlier stops, and at this one.
+    before: u128,
+    here: u128,
+    /// What the riders cost who boarded and got off so far.
+    cost: u64,
+    is_broken: bool,
+}
+
+/// The time in ms from one floor to another.
+fn travel_time(snapshot: &Snapshot, from: u32, to: u32) -> u64 {
+    let travel = snapshot.building().travel();
+    if from >= travel.floors() || to >= travel.floors() {
+        return 0;
+    }
+    travel.time(from, to)
+}
+
+/// What a person's wait costs.
+fn cost_of_wait(snapshot: &Snapshot, wait: u64) -> u64 {
+    let building = snapshot.building();
+    let past = wait.saturating_sub(building.patience());
+    building
+        .wait_weight()
+        .saturating_mul(wait)
+        .saturating_add(building.patience_weight().saturating_mul(past))
+}
+
+impl Ride {
+    /// The car at the start of its tour.
+    pub(crate) fn start(snapshot: &Snapshot, car: u32) -> Self
+        requires { car < car_count snapshot.now }
+    {
+        let state = snapshot.car(car);
+        let (floor, moment) = match state {
+            CarState::Idle { floor, free } => (floor, free),
+            CarState::Coming { floor, arrives } => (floor, arrives),
+            CarState::Moving { from, up: _, left } => (from, left),
+        };
+        let mut ride = Self {
+            spec: snapshot.building().cars()[car as usize],
+            begun: false,
+            due: !matches!(state, CarState::Idle { .. }),
+            has_leg: !matches!(state, CarState::Coming { .. }),
+            first: first_floors(snapshot, car),
+            floor,
+            opened: moment,
+            leaves: moment,
+            load: 0,
+            bound_for: 0,
+            persons: [0; 64],
+            since: [0; 64],
+            before: 0,
+            here: 0,
+            cost: 0,
+            is_broken: false,
+        };
+        for group in snapshot.aboard() {
+            if group.car == car {
+                ride.take_up(group.destination, group.persons as u64, group.boarded);
+            }
+        }
+        ride
+    }
+
+    /// Whether a rule is broken so far.
+    pub(crate) fn is_broken(&self) -> bool {
+        self.is_broken
+    }
+
+    /// What the tour costs if it ends here. None where it breaks a rule.
+    pub(crate) fn cost_at_end(&self) -> Option<u64> {
+        if self.is_broken || self.bound_for != 0 {
+            return None;
+        }
+        Some(self.cost)
+    }
+
+    /// The car visits a floor, if that is of use. Whether it is.
+    pub(crate) fn visit(&mut self, snapshot: &Snapshot, later: &[u128], visit: Visit) -> bool {
+        if !self.begun || visit.floor != self.floor {
+            if visit.call.is_none() && !self.has_use_at(visit.floor) {
+                return false;
+            }
+            self.arrive(snapshot, visit.floor);
+        } else if visit.call.is_none() {
+            return false;
+        }
+        if let Some(call) = visit.call {
+            self.board(snapshot, later, call);
+        }
+        true
+    }
+
+    /// Whether a stop at the floor is of use though nobody boards.
+    fn has_use_at(&self, floor: u32) -> bool {
+        !self.begun && self.due || self.bound_for >> (floor % 64) & 1 == 1
+    }
+
+    /// Whether the way to the floor is not allowed.
+    fn goes_wrong(&self, floor: u32) -> bool {
+        if !self.begun && self.first >> (floor % 64) & 1 == 0 {
+            return true;
+        }
+        (self.begun || self.has_leg) && self.turns(floor)
+    }
+
+    /// Whether someone carried would ride past or away from the destination on the way to the floor.
+    fn turns(&self, floor: u32) -> bool {
+        self.floor < floor && self.bound_for.trailing_zeros() < floor
+            || floor < self.floor && self.bound_for >> (floor % 64) > 1
+    }
+
+    /// The car stops at another floor, and all get off that go there.
+    fn arrive(&mut self, snapshot: &Snapshot, floor: u32) {
+        if self.goes_wrong(floor) {
+            self.is_broken = true;
+        }
+        let travel = if self.begun || self.has_leg {
+            travel_time(snapshot, self.floor, floor)
+        } else {
+            0
+        };
+        self.opened = self
+            .leaves
+            .saturating_add(travel)
+            .saturating_add(self.spec.opening);
+        self.leaves = self.opened.saturating_add(self.spec.closing);
+        self.begun = true;
+        self.floor = floor;
+        self.before |= self.here;
+        self.here = 0;
+        self.let_off(snapshot.building().travel_weight());
+    }
+
+    /// All get off that go to the floor where the car is.
+    fn let_off(&mut self, travel_weight: u64) {
+        let place = self.floor as usize % 64;
+        let persons = self.persons[place];
+        let ridden = persons
+            .saturating_mul(self.opened)
+            .saturating_sub(self.since[place]);
+        self.cost = self
+            .cost
+            .saturating_add(travel_weight.saturating_mul(ridden));
+        self.leaves = self
+            .leaves
+            .saturating_add(self.spec.alighting.saturating_mul(persons));
+        self.load = self.load.saturating_sub(persons);
+        self.persons[place] = 0;
+        self.since[place] = 0;
+        self.bound_for &= !(1 << place);
+    }
+
+    /// A call boards where the car is.
+    fn board(&mut self, snapshot: &Snapshot, later: &[u128], call: u32) {
+        let Some(wanted) = snapshot.calls().get(call as usize).copied() else {
+            self.is_broken = true;
+            return;
+        };
+        let later = later.get(call as usize).copied().unwrap_or(0);
+        let persons = wanted.persons as u64;
+        let load = self.load.saturating_add(persons);
+        if self.before & later != 0 || load > self.spec.capacity as u64 {
+            self.is_broken = true;
+        }
+        let wait = self.opened.saturating_sub(wanted.released);
+        let cost = persons.saturating_mul(cost_of_wait(snapshot, wait));
+        self.cost = self.cost.saturating_add(cost);
+        self.leaves = self
+            .leaves
+            .saturating_add(self.spec.boarding.saturating_mul(persons));
+        self.here |= 1 << (call % 128);
+        self.take_up(wanted.destination, persons, self.opened);
+    }
+
+    /// Persons who boarded at this moment are carried from now on.
+    fn take_up(&mut self, destination: u32, persons: u64, boarded: u64) {
+        let place = destination as usize % 64;
+        self.load = self.load.saturating_add(persons);
+        self.persons[place] = self.persons[place].saturating_add(persons);
+        self.since[place] = self.since[place].saturating_add(persons.saturating_mul(boarded));
+        self.bound_for |= 1 << place;
+    }
+}
