@@ -1,9 +1,6 @@
-pub mod Stops
-pub mod Serving
-pub mod Small
-pub mod OneTour
+pub mod Boarded
 pub mod Lawful
 pub mod Distinct
 pub mod Search
 pub mod Listed
-pub mod Best
+pub mod RestLemmas

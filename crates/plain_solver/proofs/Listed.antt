@@ -13,8 +13,8 @@ use Rattle.elevator_model.specs.Partial.{Course, course_of, rising_boards, moves
 use Rattle.tour_rules.proofs.Rising.{rising_same}
 use Rattle.tour_rules.proofs.Reached.{risen, moves_reach}
 use Rattle.tour_rules.specs.PartialTour.{PartialTour}
-use Rattle.plain_solver.specs.Listed.{AddsTours, AreAllTours, BoardsAll}
-use Rattle.plain_solver.proofs.OneTour.{boarded_in}
+use Rattle.plain_solver.specs.Listed.{AddsTours, AreAllTours}
+use Rattle.plain_solver.proofs.Boarded.{boarded_in}
 
 filter_same : (t u : ℕ → Bool) (a n : ℕ) → ((j : ℕ) → j < a + n → t j ≡ u j) → filter t (range_with_len a n) ≡ filter u (range_with_len a n)
 filter_same t u a zero h = refl
@@ -50,7 +50,7 @@ all_tours p s c none tours same empty added =
 
 -- ---- what the moves of a feasible tour determine
 
-same_end : (s : Snapshot) (c : ℕ) (t u : List Stop) → IsFeasible s c t → IsFeasible s c u → moves_of s t ≡ moves_of s u → after_stops s c (start_of s c) t ≡ after_stops s c (start_of s c) u
+pub same_end : (s : Snapshot) (c : ℕ) (t u : List Stop) → IsFeasible s c t → IsFeasible s c u → moves_of s t ≡ moves_of s u → after_stops s c (start_of s c) t ≡ after_stops s c (start_of s c) u
 same_end s c t u first second same =
     ap before_of (sym (moves_reach s c t first) ∙ ap (course_of s c) same ∙ moves_reach s c u second)
   where
@@ -61,8 +61,3 @@ same_end s c t u first second same =
 -- Feasible tours with the same moves cost the same.
 pub same_cost : (s : Snapshot) (c : ℕ) (t u : List Stop) → IsFeasible s c t → IsFeasible s c u → moves_of s t ≡ moves_of s u → cost_of s c t ≡ cost_of s c u
 same_cost s c t u first second same = ap (settled_cost s c) (same_end s c t u first second same)
-
--- Feasible tours with the same moves board the same calls.
-pub same_boards : (s : Snapshot) (c : ℕ) (t u : List Stop) → IsFeasible s c t → IsFeasible s c u → moves_of s t ≡ moves_of s u → BoardsAll s u → BoardsAll s t
-same_boards s c t u first second same all j below =
-    sym (boarded_in s c t j below) ∙ ap (λ (p : Progress). p.boarded j) (same_end s c t u first second same) ∙ boarded_in s c u j below ∙ all j below

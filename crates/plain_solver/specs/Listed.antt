@@ -37,7 +37,3 @@ pub record AddsTours (p : PartialTour) (old new : List (List Stop)) : Type 0 whe
   pub follows : (k : ℕ) → length old ≤ k → k < length new → (later : List Move) × (moves_of p.snapshot (tour_at new k) ≡ p.moves ++ later)
   pub complete : (later : List Move) (x : Course) → course_of p.snapshot p.car (p.moves ++ later) ≡ Some x → x.ended ≡ true → IsListed x.left new
   pub once : (j k : ℕ) → length old ≤ j → j < k → k < length new → moves_of p.snapshot (tour_at new j) ≡ moves_of p.snapshot (tour_at new k) → ⊥
-
--- the tour boards each open call
-abbrev pub BoardsAll : Snapshot → List Stop → Type 0
-BoardsAll s tour = (j : ℕ) → j < call_count s → is_boarded_in tour j ≡ true

@@ -4,6 +4,7 @@
 //! Costs are in cost units. Floors, cars and calls are named by their index, from 0.
 #![tactic(auto)]
 
+mod choices;
 mod plans;
 mod tours;
 

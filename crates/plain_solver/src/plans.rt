@@ -1,18 +1,15 @@
-//! The cheapest plan of a snapshot with one car.
+//! The cheapest plan of a snapshot.
 
-ghost use Rattle.std.specs.Prelude.{◌≡◌, ℕ, ◌≤◌, ◌<◌, ◌↔◌, length, IsTrue, IfOk};
-ghost use Rattle.elevator_model.specs.Counting.{is_among};
-ghost use Rattle.elevator_model.specs.Snapshot.{car_count, IsSmall};
-ghost use Rattle.elevator_model.specs.Tours.{IsFeasible};
-ghost use Rattle.elevator_model.specs.Plans.{is_boarded_in, IsOptimal, plan_cost_of};
-ghost use Rattle.plain_solver.specs.Listed.{tour_at, BoardsAll};
-ghost use Rattle.plain_solver.specs.Cheapest.{IsBest, cheaper_of};
+ghost use Rattle.std.specs.Prelude.{◌≡◌, ◌≤◌, length, IfOk};
+ghost use Rattle.elevator_model.specs.Snapshot.{IsAccepted};
+ghost use Rattle.elevator_model.specs.Plans.{IsOptimal, plan_cost_of};
+ghost use Rattle.plain_solver.specs.Rests.{AreChoicesFrom};
 
-use crate::tours::feasible_tours;
+use crate::choices::{Choices, cheapest_rest};
 use call_state::Snapshot;
-use elevator_model::{Plan, Stop, Tour};
+use elevator_model::Plan;
 use std::alloc::{AllocError, Global};
-use tour_cost::cost;
+use tour_cost::sets;
 
 /// An optimal plan and its cost.
 #[derive(Debug, Drop)]
@@ -22,84 +19,33 @@ pub struct Cheapest {
     pub cost: u64,
 }
 
-/// A tour of a list, and its cost in cost units.
-#[derive(Clone, Copy)]
-pub(crate) struct Best {
-    pub(crate) place: usize,
-    pub(crate) cost: u64,
-}
-
-/// The cheapest plan of a small snapshot. The error is want of memory alone: a small snapshot has a
-/// feasible plan.
+/// The cheapest plan of a snapshot. The error is want of memory alone: every snapshot has a feasible plan.
+///
+/// It tries every choice of one feasible tour for each car: this is for a few calls only.
 pub fn cheapest_plan(alloc: Global, snapshot: &Snapshot) -> Result<Cheapest, AllocError>
-    requires { IsSmall snapshot.now }
     ensures optimal { IfOk result (λ cheapest. IsOptimal snapshot.now cheapest.plan) }
     ensures cost { IfOk result (λ cheapest. cheapest.cost ≡ plan_cost_of snapshot.now cheapest.plan) }
 {
-    let mut tours = feasible_tours(alloc, snapshot, 0)?;
-    let Some(best) = cheapest_tour(snapshot, tours.as_slice()) else {
+    let choices = all_choices(alloc, snapshot)?;
+    let cheapest = cheapest_rest(alloc, snapshot, choices.as_slice(), 0, sets::NONE)?;
+    let Some(cheapest) = cheapest else {
         unreachable!()
     };
-    let tour = tours.swap_remove(best.place);
-    let mut plan = Vec::new(alloc);
-    plan.push(tour)?;
     Ok(Cheapest {
-        plan: Plan::from_vec(plan),
-        cost: best.cost,
+        cost: cheapest.cost(),
+        plan: Plan::from_vec(cheapest.into_tours()),
     })
 }
 
-/// The cheapest of the first car's feasible tours that boards each open call.
-fn cheapest_tour(snapshot: &Snapshot, tours: &[Tour]) -> Option<Best>
-    requires car { 0 < car_count snapshot.now }
-    requires feasible { (k : ℕ) → k < length tours.now → IsFeasible snapshot.now 0 (tour_at tours.now k) }
-    ensures { IsBest snapshot.now tours.now (length tours.now) result }
+/// The choices of each car.
+fn all_choices(alloc: Global, snapshot: &Snapshot) -> Result<Vec<Choices>, AllocError>
+    ensures choices { IfOk result (λ choices. AreChoicesFrom snapshot.now 0 choices.items) }
+    ensures few { IfOk result (λ choices. length choices.items ≤ 16) }
+    ensures accepted { IsAccepted snapshot.now }
 {
-    let mut best = None;
-    for (place, tour) in tours.iter().enumerate() {
-        if boards_all(snapshot, tour) {
-            let cost = cost(snapshot, 0, tour);
-            best = Some(cheaper(best, Best { place, cost }));
-        }
+    let mut choices = Vec::new(alloc);
+    for car in 0..snapshot.building().cars().len() {
+        choices.push(Choices::new(alloc, snapshot, car as u32)?)?;
     }
-    best
-}
-
-/// The cheaper one, and of two that cost the same the earlier one.
-fn cheaper(best: Option<Best>, next: Best) -> Best
-    ensures { result ≡ cheaper_of best next }
-{
-    match best {
-        Some(best) if best.cost <= next.cost => best,
-        Some(_) | None => next,
-    }
-}
-
-/// Whether the tour boards each open call.
-fn boards_all(snapshot: &Snapshot, tour: &Tour) -> bool
-    ensures { IsTrue result ↔ BoardsAll snapshot.now tour.now }
-{
-    for call in 0..snapshot.calls().len() {
-        if !boards(tour, call) {
-            return false;
-        }
-    }
-    true
-}
-
-/// Whether the call boards at some stop of the tour.
-fn boards(tour: &Tour, call: usize) -> bool
-    ensures { result ≡ is_boarded_in tour.now call }
-{
-    tour.stops().iter().any(|stop| boards_at(stop, call))
-}
-
-/// Whether the call boards at the stop.
-fn boards_at(stop: &Stop, call: usize) -> bool
-    ensures { result ≡ is_among call stop.now.boards }
-{
-    stop.boards
-        .as_slice()
-        .iter()
-        .any(|board| *board as usize == call)
+    Ok(choices)
 }

@@ -1,6 +1,3 @@
-ghost use Rattle.std.specs.Prelude.{IfOk};
-ghost use Rattle.elevator_model.specs.Snapshot.{IsSmall};
-
 use super::*;
 use call_state::{
     Building, BuildingParts, Call, CarSpec, CarState, Snapshot, SnapshotParts, Travel,
@@ -34,13 +31,11 @@ fn four_floors(alloc: Global, capacity: u32) -> Result<Building, Fail> {
         cars: [car].to_vec(alloc)?,
         travel: Travel::build(4, times.to_vec(alloc)?)?,
     };
-    Ok(Building::build(parts)?)
+    Ok(Building::build(alloc, parts)?)
 }
 
 /// The car stands at this floor, and these calls are open.
-fn idle_at(alloc: Global, capacity: u32, floor: u32, calls: &[Call]) -> Result<Snapshot, Fail>
-    ensures { IfOk result (λ snapshot. IsSmall snapshot) }
-{
+fn idle_at(alloc: Global, capacity: u32, floor: u32, calls: &[Call]) -> Result<Snapshot, Fail> {
     let parts = SnapshotParts {
         version: 1,
         building: four_floors(alloc, capacity)?,
@@ -49,7 +44,10 @@ fn idle_at(alloc: Global, capacity: u32, floor: u32, calls: &[Call]) -> Result<S
         aboard: Vec::new(alloc),
         calls: calls.to_vec(alloc)?,
     };
-    Ok(Snapshot::build(parts)?)
+    if !parts.are_whole() {
+        return Err(Fail::from("the parts do not fit together"));
+    }
+    Ok(Snapshot::build(alloc, parts)?)
 }
 
 fn call(id: u32, origin: u32, destination: u32, persons: u32) -> Call {

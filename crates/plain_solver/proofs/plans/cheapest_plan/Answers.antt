@@ -1,37 +1,31 @@
--- A small snapshot has a feasible tour that boards each call, so the list has one; the cheapest of them is
--- the plan.
-use Rattle.std.proofs.Common.{◌≡◌, ◌++◌, [], ◌∷◌, ◌∙◌, ◌<◌, ℕ, List, length, sym, ap, subst}
-use Rattle.std.proofs.lemmas.List.{get_or_read}
+use Rattle.std.proofs.Common.{◌≡◌, ◌∙◌, ℕ, Bool, List, Option, Some, None, sym, ap, subst}
 use Rattle.elevator_model.specs.declared.Stop.{Stop}
+use Rattle.elevator_model.specs.Tours.{none_taken}
 use Rattle.elevator_model.specs.Plans.{IsOptimal, plan_cost_of}
-use Rattle.plain_solver.specs.Listed.{BoardsAll, tour_at}
-use Rattle.plain_solver.specs.Cheapest.{IsCheapestTour}
-use Rattle.plain_solver.proofs.Best.{never_none, best_optimal, best_cost}
+use Rattle.tour_rules.proofs.Stops.{none_is_empty}
+use Rattle.first_plan.proofs.PlainPlan.{plan_exists}
+use Rattle.plain_solver.specs.Rests.{Chosen, IsCheapest, IsLeast}
+use Rattle.plain_solver.proofs.RestLemmas.{complete_where_plan, optimal_where_least, cost_where_least}
 use Rattle.plain_solver.proofs.plans.cheapest_plan.Goals as goal
 
 pub unreachable-requires : goal.unreachable-requires
 unreachable-requires c =
     let s = c.args.snapshot.now in
-    never_none s c.in_ok-tours.tours.items c.requires c.in_ok-tours.ensures (subst (λ (tours : List (List Stop)). (k : ℕ) → k < length tours → BoardsAll s (tour_at tours k) → ⊥) c.as_slice.ensures.value c.in_default.ensures)
+    let plan = plan_exists s c.in_ok-choices.ensures.accepted in
+    let cheapest = subst (λ (o : Option Chosen). IsCheapest s none_taken 0 o) c.in_default.is (subst (λ (held : ℕ → Bool). IsCheapest s held 0 c.in_ok-cheapest.cheapest) none_is_empty c.in_ok-cheapest.ensures.cheapest) in
+    cheapest plan.0 (complete_where_plan s plan.0 plan.1)
+
+least : (c : goal.After-drop-choices-2) → IsLeast c.args.snapshot.now none_taken 0 c.in-Some.cheapest
+least c =
+    let s = c.args.snapshot.now in
+    subst (λ (o : Option Chosen). IsCheapest s none_taken 0 o) c.in-Some.is (subst (λ (held : ℕ → Bool). IsCheapest s held 0 c.in_ok-cheapest.cheapest) none_is_empty c.in_ok-cheapest.ensures.cheapest)
 
 pub returns-clause-optimal : goal.returns-clause-optimal
 returns-clause-optimal c =
-    let s = c.args.snapshot.now in
-    let tours = c.in_ok-tours.tours.items in
-    let best = c.in-Some.best in
-    let tour = c.swap_remove-tour.result in
-    let cheapest = subst (λ (l : List (List Stop)). IsCheapestTour s l (length l) best) c.as_slice.ensures.value c.in-Some.ensures in
-    let same : tour ≡ tour_at tours best.place = get_or_read tours best.place tour cheapest.within c.swap_remove-tour.ensures.value [] in
-    let plan = c.from_vec.ensures ∙ c.in_ok-push.ensures.items ∙ ap (λ (l : List (List Stop)). l ++ tour ∷ []) c.new-plan.ensures.items in
-    subst (IsOptimal s) (sym plan) (best_optimal s tours best tour c.requires c.in_ok-tours.ensures cheapest same)
+    let is = c.from_vec.ensures ∙ c.into_tours.ensures in
+    subst (IsOptimal c.args.snapshot.now) (sym is) (optimal_where_least c.args.snapshot.now c.in-Some.cheapest (least c))
 
 pub returns-clause-cost : goal.returns-clause-cost
 returns-clause-cost c =
-    let s = c.args.snapshot.now in
-    let tours = c.in_ok-tours.tours.items in
-    let best = c.in-Some.best in
-    let tour = c.swap_remove-tour.result in
-    let cheapest = subst (λ (l : List (List Stop)). IsCheapestTour s l (length l) best) c.as_slice.ensures.value c.in-Some.ensures in
-    let same : tour ≡ tour_at tours best.place = get_or_read tours best.place tour cheapest.within c.swap_remove-tour.ensures.value [] in
-    let plan = c.from_vec.ensures ∙ c.in_ok-push.ensures.items ∙ ap (λ (l : List (List Stop)). l ++ tour ∷ []) c.new-plan.ensures.items in
-    best_cost s tours best tour c.requires cheapest same ∙ ap (plan_cost_of s) (sym plan)
+    let is = c.from_vec.ensures ∙ c.into_tours.ensures in
+    c.cost.ensures ∙ cost_where_least c.args.snapshot.now c.in-Some.cheapest (least c) ∙ ap (plan_cost_of c.args.snapshot.now) (sym is)
