@@ -7,7 +7,7 @@ use Rattle.std.proofs.lemmas.Bool.Decides.{Decides-eqb}
 use Rattle.std.proofs.lemmas.Slice.Eq.{slice_eq-Decides}
 use Rattle.elevator_model.specs.Travel.{Square, IsTravelOf}
 use Rattle.elevator_model.specs.Snapshot.{Snapshot, IsSmall, car_count, call_count, spec_of, call_of}
-use Rattle.call_state.specs.SmallBuildings.{IsSmallBuilding}
+use Rattle.elevator_model.specs.Building.{IsBuilding}
 use Rattle.canonical_text.specs.declared.fault.ReadFault.{ReadFault}
 use Rattle.canonical_text.specs.declared.fault.ReadFault.TheVariants.{NotCanonical, NoMemory}
 use Rattle.canonical_text.specs.Case.{IsCase}
@@ -25,10 +25,8 @@ case_is n s travel case is_travel =
 pub small_from : (n : CaseNumbers) (s : Snapshot) (travel : Square) → IsCaseOf n s → IsTravelOf n.building.heights n.building.speed n.building.accel travel → IsSmall (snapshot_from n travel)
 small_from n s travel case is_travel = subst IsSmall (case_is n s travel case is_travel) case.small
 
-pub small_building_from : (n : CaseNumbers) (s : Snapshot) (travel : Square) → IsCaseOf n s → IsTravelOf n.building.heights n.building.speed n.building.accel travel → IsSmallBuilding (building_from n.building travel)
-small_building_from n s travel case is_travel =
-    let small = small_from n s travel case is_travel in
-    record { building = small.accepted.building; version = small.building; one_car = small.one_car }
+pub building_kept : (n : CaseNumbers) (s : Snapshot) (travel : Square) → IsCaseOf n s → IsTravelOf n.building.heights n.building.speed n.building.accel travel → IsBuilding (building_from n.building travel)
+building_kept n s travel case is_travel = (small_from n s travel case is_travel).accepted.building
 
 pub same_case : (n : CaseNumbers) (s u : Snapshot) → IsCaseOf n s → IsCaseOf n u → s ≡ u
 same_case n s u p q = case_is n s u.building.travel p q.travel ∙ sym q.same

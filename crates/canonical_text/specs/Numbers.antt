@@ -1,9 +1,9 @@
 -- What the lines say, without where it lies in memory.
-use Rattle.std.specs.Prelude.{◌≡◌, ℕ, ◌≤◌, ◌<◌, ◌^◌, List, [], ◌∷◌, length, slice_index, slice_index_or}
+use Rattle.std.specs.Prelude.{◌≡◌, ℕ, ◌≤◌, ◌<◌, ◌^◌, List, [], ◌∷◌, length, slice_index, slice_index_or, IsTrue, None}
 use Rattle.elevator_model.specs.declared.Call.{Call}
 use Rattle.elevator_model.specs.Travel.{Square, IsTravelOf}
 use Rattle.elevator_model.specs.Building.{Building, car_of}
-use Rattle.elevator_model.specs.Snapshot.{Snapshot, IsSmall, state_of, no_call}
+use Rattle.elevator_model.specs.Snapshot.{Snapshot, IsSmall, state_of, no_call, is_idle}
 use Rattle.canonical_text.specs.declared.numbers.BuildingNumbers as building
 use Rattle.canonical_text.specs.declared.numbers.SnapshotNumbers as snapshot
 use Rattle.canonical_text.specs.declared.numbers.CaseNumbers as case
@@ -70,6 +70,12 @@ snapshot_in building s = record {
   aboard = [];
   calls = s.calls;
 }
+
+-- what a small snapshot keeps beside the rules
+pub record MayBeSmall (n : SnapshotNumbers) : Type 0 where
+  pub moment : n.moment ≤ 1000000000
+  pub idle : IsTrue (is_idle n.state)
+  pub unpinned : (j : ℕ) → j < length n.calls → (slice_index_or n.calls j no_call).pin ≡ None
 
 abbrev pub snapshot_from : CaseNumbers → Square → Snapshot
 snapshot_from n travel = snapshot_in (building_from n.building travel) n.snapshot

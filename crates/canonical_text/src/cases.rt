@@ -1,17 +1,19 @@
 //! Reads cases.
 
-ghost use Rattle.std.specs.Prelude.{◌≡◌, ◌↔◌, [], ◌∷◌, ℕ, ◌≤◌, ◌<◌, length, slice_index, IsTrue, IfOk, Err};
-ghost use Rattle.elevator_model.specs.Snapshot.{Snapshot as SnapshotRecord, IsSmall};
-ghost use Rattle.call_state.specs.SmallBuildings.{IsSmallBuilding};
+ghost use Rattle.std.specs.Prelude.{◌≡◌, ◌↔◌, [], ◌∷◌, ℕ, ◌≤◌, ◌<◌, length, slice_index, slice_index_or, IsTrue, IfOk, Err, None};
+ghost use Rattle.elevator_model.specs.Snapshot.{Snapshot as SnapshotRecord, IsSmall, no_call};
+ghost use Rattle.elevator_model.specs.Building.{IsBuilding};
 ghost use Rattle.canonical_text.specs.declared.fault.ReadFault.TheVariants.{NotCanonical};
 ghost use Rattle.canonical_text.specs.Case.{IsCase};
-ghost use Rattle.canonical_text.specs.Numbers.{building_view, snapshot_view, case_view, AreInRanges, HasTravel, building_from, snapshot_in, IsCaseOf};
+ghost use Rattle.canonical_text.specs.Numbers.{building_view, snapshot_view, case_view, AreInRanges, HasTravel, MayBeSmall, building_from, snapshot_in, IsCaseOf};
 
 use crate::fault::ReadFault;
 use crate::numbers::{BuildingNumbers, CaseNumbers, SnapshotNumbers};
 use crate::reading::case_at;
 use crate::writing::write_case;
-use call_state::{Building, BuildingParts, Snapshot, SnapshotParts, Travel};
+use call_state::{
+    Building, BuildingParts, Call, CarState, Snapshot, SnapshotParts, StateFault, Travel, is_small,
+};
 use car_motion::travel_of;
 use std::alloc::{AllocError, Global};
 
@@ -66,7 +68,7 @@ fn building_of(
     travel: Travel,
 ) -> Result<Building, ReadFault>
     ensures value { IfOk result (λ building. building ≡ building_from (building_view numbers) travel) }
-    ensures refused { result ≡ Err NotCanonical → IsSmallBuilding (building_from (building_view numbers) travel) → ⊥ }
+    ensures refused { result ≡ Err NotCanonical → IsBuilding (building_from (building_view numbers) travel) → ⊥ }
 {
     let cars = only(alloc, numbers.car)?;
     let parts = BuildingParts {
@@ -81,10 +83,31 @@ fn building_of(
         cars,
         travel,
     };
-    match Building::build(parts) {
+    match Building::build(alloc, parts) {
         Ok(building) => Ok(building),
-        Err(_) => Err(ReadFault::NotCanonical),
+        Err(StateFault::Bad { .. }) => Err(ReadFault::NotCanonical),
+        Err(StateFault::NoMemory) => Err(ReadFault::NoMemory),
     }
+}
+
+fn are_unpinned(calls: &[Call]) -> bool
+    ensures { IsTrue result ↔ ((j : ℕ) → j < length calls.now → (slice_index_or calls.now j no_call).pin ≡ None) }
+{
+    for call in calls {
+        if call.pin.is_some() {
+            return false;
+        }
+    }
+    true
+}
+
+/// Whether the state is one of a small snapshot, and no call is pinned.
+fn may_be_small(numbers: &SnapshotNumbers) -> bool
+    ensures { IsTrue result ↔ MayBeSmall (snapshot_view numbers.now) }
+{
+    numbers.moment <= 1_000_000_000
+        && matches!(numbers.state, CarState::Idle { .. })
+        && are_unpinned(&numbers.calls)
 }
 
 fn snapshot_of(
@@ -92,10 +115,14 @@ fn snapshot_of(
     building: Building,
     numbers: SnapshotNumbers,
 ) -> Result<Snapshot, ReadFault>
+    requires { length building.cars ≡ 1 }
     ensures value { IfOk result (λ snapshot. snapshot ≡ snapshot_in building (snapshot_view numbers)) }
     ensures small { IfOk result IsSmall }
     ensures refused { result ≡ Err NotCanonical → IsSmall (snapshot_in building (snapshot_view numbers)) → ⊥ }
 {
+    if !may_be_small(&numbers) {
+        return Err(ReadFault::NotCanonical);
+    }
     let cars = only(alloc, numbers.state)?;
     let parts = SnapshotParts {
         version: 1,
@@ -105,9 +132,10 @@ fn snapshot_of(
         aboard: Vec::new(alloc),
         calls: numbers.calls,
     };
-    match Snapshot::build(parts) {
-        Ok(snapshot) => Ok(snapshot),
-        Err(_) => Err(ReadFault::NotCanonical),
+    match Snapshot::build(alloc, parts) {
+        Ok(snapshot) if is_small(&snapshot) => Ok(snapshot),
+        Ok(_) | Err(StateFault::Bad { .. }) => Err(ReadFault::NotCanonical),
+        Err(StateFault::NoMemory) => Err(ReadFault::NoMemory),
     }
 }
 
