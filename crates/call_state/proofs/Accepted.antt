@@ -6,14 +6,14 @@ use Rattle.std.proofs.lemmas.List.Sums.{sum_by_more, sum_by-take-le}
 use Rattle.std.proofs.Math.Seq.{take-length}
 use Rattle.elevator_model.specs.declared.Aboard.{Aboard}
 use Rattle.elevator_model.specs.declared.Call.{Call}
-use Rattle.elevator_model.specs.Counting.{has}
+use Rattle.call_sets.specs.Counting.{has}
 use Rattle.elevator_model.specs.Building.{IsBuilding, car_of, floor_count, most_calls}
 use Rattle.elevator_model.specs.Snapshot.{Snapshot, IsAccepted, car_count, call_count, state_of, group_of, call_of, floor_of, no_state, no_group, no_call, persons_aboard}
 use Rattle.elevator_model.specs.Faults.{fault_of_state, fault_of_group, fault_of_call, first_fault_of_snapshot, persons_in, is_on_wrong_side}
 use Rattle.call_state.specs.Ids.{AreDifferent}
 use Rattle.call_state.specs.SnapshotParts.{AreSnapshotParts}
 use Rattle.call_state.proofs.ListTests.{list_any_false, list_any_at_false, fails_before, none_before}
-use Rattle.call_state.proofs.BelowTests.{sum_below-list}
+use Rattle.call_sets.proofs.Sums.{sum_below-list}
 use Rattle.call_state.proofs.FirstFaults.{first_found-none, first_in-none, first_in-clear}
 use Rattle.call_state.proofs.ClearGroups.{IsGroupClear, IsGroupClear-from, fault_of_group-clear, capacity-kept}
 use Rattle.call_state.proofs.ClearStates.{IsStateClear, IsStateClear-from, fault_of_state-clear, IsTimely-from, IsTimely-tests, IsCallClear, IsCallClear-from, fault_of_call-clear, possible-from, possible-to}

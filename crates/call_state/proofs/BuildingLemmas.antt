@@ -6,7 +6,7 @@ use Rattle.std.proofs.lemmas.Bool.Decides.{nat_tests}
 use Rattle.std.proofs.lemmas.List.{get_or-map, length-map, length-take-le}
 use Rattle.elevator_model.specs.declared.CarSpec.{CarSpec}
 use Rattle.elevator_model.specs.declared.Fault.{Fault}
-use Rattle.elevator_model.specs.Counting.{has, sum_where}
+use Rattle.call_sets.specs.Counting.{has, sum_where}
 use Rattle.elevator_model.specs.Travel.{IsTravelSquare}
 use Rattle.elevator_model.specs.Building.{Building, IsBuilding, IsCarSpec, floor_count, car_of, no_car, most_cars}
 use Rattle.elevator_model.specs.Faults.{is_rising, in_ranges, fault_of_frame, fault_of_spec, first_in, first_fault_of_building}

@@ -5,12 +5,12 @@ use Rattle.std.proofs.lemmas.Bool.{and_parts, ltb-false, le-ltb, leb-true, leb-f
 use Rattle.std.proofs.lemmas.List.Sums.{sum_by_more}
 use Rattle.elevator_model.specs.declared.CarState.{CarState}
 use Rattle.elevator_model.specs.declared.Aboard.{Aboard}
-use Rattle.elevator_model.specs.Counting.{sum_below}
+use Rattle.call_sets.specs.Counting.{sum_below}
 use Rattle.elevator_model.specs.Building.{Building, IsBuilding, floor_count, car_of}
 use Rattle.elevator_model.specs.Snapshot.{no_state, no_group, serves}
 use Rattle.elevator_model.specs.Faults.{fault_of_group, is_on_wrong_side, persons_in, is_within}
 use Rattle.call_state.proofs.BuildingLemmas.{cond-none}
-use Rattle.call_state.proofs.BelowTests.{sum_below-add, sum_below-each, sum_below-one}
+use Rattle.call_sets.proofs.Sums.{sum_below-add, sum_below-each, sum_below-one}
 use Rattle.call_state.proofs.PossibleLemmas.{most_cars-le}
 
 -- a group after the groups before it, fault by fault

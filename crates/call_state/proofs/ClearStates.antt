@@ -6,11 +6,11 @@ use Rattle.elevator_model.specs.declared.CarState.{CarState}
 use Rattle.elevator_model.specs.declared.CarState.TheVariants.{Idle, Coming, Moving}
 use Rattle.elevator_model.specs.declared.Aboard.{Aboard}
 use Rattle.elevator_model.specs.declared.Call.{Call}
-use Rattle.elevator_model.specs.Counting.{any_below}
+use Rattle.call_sets.specs.Counting.{any_below}
 use Rattle.elevator_model.specs.Building.{Building, floor_count, most_calls}
 use Rattle.elevator_model.specs.Snapshot.{Snapshot, IsTimely, floor_of, serves, is_open, can_take, is_pinned_elsewhere}
 use Rattle.elevator_model.specs.Faults.{fault_of_state, fault_of_call, is_untimely, has_no_open_floor, is_within, is_pinned, can_take_pinned}
-use Rattle.call_state.proofs.BelowTests.{any_below-at, any_below-true}
+use Rattle.call_sets.proofs.BelowTests.{any_below-at, any_below-true}
 use Rattle.call_state.proofs.BuildingLemmas.{cond-none}
 
 -- a state, fault by fault

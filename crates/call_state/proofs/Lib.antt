@@ -1,10 +1,8 @@
-pub mod CountingLemmas
 pub mod PossibleLemmas
 pub mod ListTests
 pub mod IdLemmas
 pub mod FirstFaults
 pub mod BuildingLemmas
-pub mod BelowTests
 pub mod ClearGroups
 pub mod ClearStates
 pub mod Sides

@@ -6,3 +6,4 @@ pub mod Tests
 pub mod Ids
 pub mod Refusals
 pub mod FirstFaults
+pub mod PartsFlaw

@@ -42,14 +42,10 @@ fn is_on_wrong_side(
     ensures { result ≡ is_on_wrong_side_lem building.now now car state before.now destination }
 {
     match state {
-        CarState::Idle { floor, free: _ } => destination == floor
+        CarState::Idle { floor, .. } => destination == floor
             || any_apart(before, car, floor, destination),
-        CarState::Coming { floor, arrives: _ } => any_apart(before, car, floor, destination),
-        CarState::Moving {
-            from: _,
-            up: _,
-            left: _,
-        } => !is_open(building, car, now, state, destination),
+        CarState::Coming { floor, .. } => any_apart(before, car, floor, destination),
+        CarState::Moving { .. } => !is_open(building, car, now, state, destination),
     }
 }
 

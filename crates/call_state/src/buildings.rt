@@ -3,7 +3,7 @@
 ghost use Rattle.std.specs.Prelude.{◌≡◌, ℕ, ◌≤◌, ◌<◌, [], length, nat_lt, IfOk, OnOk, IfErr, IfNone, MatchOption};
 ghost use Rattle.std.specs.List.{list_any};
 ghost use Rattle.elevator_model.specs.Travel.{IsTravelSquare};
-ghost use Rattle.elevator_model.specs.Building.{IsBuilding, car_of, most_cars as most_cars_lem};
+ghost use Rattle.elevator_model.specs.Building.{IsBuilding, car_of};
 ghost use Rattle.elevator_model.specs.Faults.{is_rising, fault_of_frame, fault_of_spec, first_in, first_fault_of_building};
 ghost use Rattle.call_state.specs.Refusals.{Names, SpeaksAgainst};
 ghost use Rattle.call_state.specs.Tests.{has_motion_in_range, has_weights_in_range};
@@ -12,7 +12,7 @@ use crate::car_faults::spec_fault;
 use crate::id_index::IdIndex;
 use crate::squares::Travel;
 use crate::{Fault, StateFault};
-use elevator_model::CarSpec;
+use elevator_model::{CarSpec, most_cars};
 use std::alloc::{AllocError, Global};
 use std::marker::Model;
 
@@ -78,9 +78,7 @@ impl Building {
         if let Some((fault, item)) = parts.first_fault() {
             return Err(StateFault::Bad { fault, item });
         }
-        let Ok(ids) = IdIndex::of_cars(alloc, &parts.cars) else {
-            return Err(StateFault::NoMemory);
-        };
+        let ids = IdIndex::of_cars(alloc, &parts.cars)?;
         Ok(Building { parts, ids })
     }
 
@@ -201,14 +199,6 @@ fn are_rising(heights: &[u64]) -> bool
         }
     }
     true
-}
-
-/// The greatest number of cars in a building of this version.
-fn most_cars(version: u8) -> u32
-    ensures value { result ≡ most_cars_lem version }
-    ensures small { result ≤ 16 }
-{
-    if version == 1 { 8 } else { 16 }
 }
 
 /// The first fault of the cars of a building with so many floors, which may have at most `greatest` cars,

@@ -3,15 +3,14 @@
 ghost use Rattle.std.specs.Prelude.{◌≡◌, ◌<◌, ◌==◌, length, IfSome};
 ghost use Rattle.std.specs.List.{list_any};
 ghost use Rattle.elevator_model.specs.declared.Call.{Call};
-ghost use Rattle.elevator_model.specs.Counting.{any_below};
-ghost use Rattle.elevator_model.specs.Building.{most_calls as most_calls_lem};
+ghost use Rattle.call_sets.specs.Counting.{any_below};
 ghost use Rattle.elevator_model.specs.Snapshot.{can_take};
 ghost use Rattle.elevator_model.specs.Faults.{fault_of_call, can_take_pinned as can_take_pinned_lem};
 
 use crate::aboard_faults::has_group;
 use crate::buildings::Building;
 use crate::state_faults::serves_floor;
-use elevator_model::{Aboard, Call, Fault};
+use elevator_model::{Aboard, Call, Fault, most_calls};
 
 /// Whether the car's size and floors allow the call.
 pub(crate) fn can_car_take(building: &Building, car: u32, call: &Call) -> bool
@@ -52,13 +51,6 @@ fn can_take_pinned(building: &Building, call: &Call) -> bool
     }
 }
 
-/// The greatest number of open calls in a building of this version.
-fn most_calls(version: u8) -> usize
-    ensures { result ≡ most_calls_lem version }
-{
-    if version == 1 { 64 } else { 128 }
-}
-
 /// The first fault of an open call, after the groups aboard and the calls `before` it: of a snapshot of
 /// this building, at the moment `now` in ms.
 pub fn call_fault(
@@ -90,7 +82,7 @@ pub fn call_fault(
     if now < item.released {
         return Some(Fault::MomentOutOfRange);
     }
-    if most_calls(building.version()) <= before.len() {
+    if most_calls(building.version()) as usize <= before.len() {
         return Some(Fault::TooManyCalls);
     }
     if item.persons < 1 || 8 < item.persons {

@@ -1,43 +1,12 @@
 //! What is wrong with a car of a building.
 
-ghost use Rattle.std.specs.Prelude.{◌≡◌, ◌↔◌, ◌^◌, ◌≤◌, ◌<◌, ◌==◌, ◌&&◌, nat_le, IsTrue};
+ghost use Rattle.std.specs.Prelude.{◌≡◌, ◌≤◌, ◌==◌};
 ghost use Rattle.std.specs.List.{list_any};
-ghost use Rattle.elevator_model.specs.Counting.{has, sum_where};
 ghost use Rattle.elevator_model.specs.Faults.{fault_of_spec};
 ghost use Rattle.elevator_model.specs.declared.CarSpec.{CarSpec};
 ghost use Rattle.call_state.specs.Tests.{is_in_range};
 
 use elevator_model::{CarSpec, Fault};
-
-/// Whether the floor is in the set.
-pub(crate) fn has_floor(serves: u64, floor: u32) -> bool
-    requires { floor < 64 }
-    ensures { result ≡ has serves floor }
-{
-    serves >> floor & 1 == 1
-}
-
-/// How many of the lowest floors are in the set.
-pub(crate) fn served_floors(serves: u64, floors: u32) -> u32
-    requires { floors ≤ 64 }
-    ensures { result ≡ sum_where floors (has serves) (λ _. 1) }
-{
-    let mut served = 0;
-    for floor in 0..floors {
-        if has_floor(serves, floor) {
-            served += 1;
-        }
-    }
-    served
-}
-
-/// Whether all in the set is one of the lowest floors.
-pub(crate) fn are_floors(serves: u64, floors: u32) -> bool
-    requires { floors ≤ 64 }
-    ensures { IsTrue result ↔ (serves < 2 ^ floors) }
-{
-    floors == 64 || serves >> floors == 0
-}
 
 /// Whether the car's capacity and times are in their ranges.
 fn is_in_range(car: &CarSpec) -> bool
@@ -70,13 +39,13 @@ pub fn spec_fault(floors: u32, greatest: u32, before: &[CarSpec], item: &CarSpec
     if has_car(before, item.id) {
         return Some(Fault::IdUsedBefore);
     }
-    if !are_floors(item.serves, floors) {
+    if !item.serves.is_below(floors) {
         return Some(Fault::NoSuchFloor);
     }
     if greatest as usize <= before.len() {
         return Some(Fault::TooManyCars);
     }
-    if served_floors(item.serves, floors) < 2 {
+    if item.serves.count_below(floors) < 2 {
         return Some(Fault::NotServed);
     }
     None

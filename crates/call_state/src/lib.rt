@@ -5,11 +5,15 @@
 //! Lengths are in mm, moments and times in ms. Floors, cars and calls are named by their index, from 0.
 #![tactic(auto)]
 
+ghost use Rattle.std.specs.Prelude.{◌≡◌};
+ghost use Rattle.call_state.specs.declared.StateFault.TheVariants.{NoMemory};
+
 mod aboard_faults;
 mod buildings;
 mod call_faults;
 mod car_faults;
 mod id_index;
+mod possible_cars;
 mod small_snapshots;
 mod snapshots;
 mod squares;
@@ -19,12 +23,16 @@ mod whole_parts;
 pub use aboard_faults::aboard_fault;
 pub use buildings::{Building, BuildingParts};
 pub use call_faults::call_fault;
+pub use call_sets::{CarSet, FloorSet};
 pub use car_faults::spec_fault;
 pub use elevator_model::{Aboard, Call, CarSpec, CarState, Fault};
 pub use small_snapshots::is_small;
-pub use snapshots::{Snapshot, SnapshotParts};
+pub use snapshots::{PartsFlaw, Snapshot, SnapshotParts};
 pub use squares::Travel;
 pub use state_faults::{can_stop, is_open, serves_floor, state_fault};
+use std::alloc::AllocError;
+use std::error::Error;
+use std::fmt;
 
 /// Why a travel square, a building or a snapshot is refused.
 #[derive(Clone, Copy, PartialEq, Eq, Debug)]
@@ -35,6 +43,25 @@ pub enum StateFault {
     Bad { fault: Fault, item: u32 },
     /// There is no memory left.
     NoMemory,
+}
+
+impl fmt::Display for StateFault {
+    fn fmt<W: fmt::Write>(&self, f: &mut fmt::Formatter<W>) -> fmt::Result {
+        match self {
+            StateFault::Bad { fault, item } => write!(f, "item {item}: {fault}"),
+            StateFault::NoMemory => write!(f, "out of memory"),
+        }
+    }
+}
+
+impl Error for StateFault {}
+
+impl From<AllocError> for StateFault {
+    ghost from_gives = { λ _ fault. fault ≡ NoMemory };
+
+    fn from(_error: AllocError) -> StateFault {
+        StateFault::NoMemory
+    }
 }
 
 #[cfg(test)]

@@ -2,27 +2,10 @@
 //! three calls, none pinned.
 
 ghost use Rattle.std.specs.Prelude.{◌≡◌, ◌↔◌, ℕ, ◌<◌, IsTrue, None, length, slice_index_or};
-ghost use Rattle.elevator_model.specs.Snapshot.{IsSmall, is_idle as is_idle_lem, no_call};
+ghost use Rattle.elevator_model.specs.Snapshot.{IsSmall, no_call};
 
 use crate::snapshots::Snapshot;
-use elevator_model::{Call, CarState};
-
-fn is_idle(state: CarState) -> bool
-    ensures { result ≡ is_idle_lem state }
-{
-    match state {
-        CarState::Idle { floor: _, free: _ } => true,
-        CarState::Coming {
-            floor: _,
-            arrives: _,
-        } => false,
-        CarState::Moving {
-            from: _,
-            up: _,
-            left: _,
-        } => false,
-    }
-}
+use elevator_model::Call;
 
 fn are_unpinned(calls: &[Call]) -> bool
     ensures { IsTrue result
@@ -44,7 +27,7 @@ pub fn is_small(snapshot: &Snapshot) -> bool
     snapshot.version() == 1
         && snapshot.building().version() == 1
         && snapshot.building().cars().len() == 1
-        && is_idle(snapshot.car(0))
+        && snapshot.car(0).is_idle()
         && snapshot.aboard().is_empty()
         && snapshot.calls().len() <= 3
         && are_unpinned(snapshot.calls())

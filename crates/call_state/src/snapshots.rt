@@ -1,21 +1,25 @@
 //! Snapshots: where each car is, who is aboard, which calls are open.
 
-ghost use Rattle.std.specs.Prelude.{◌≡◌, ◌↔◌, ℕ, ◌<◌, ◌≤◌, None, IsTrue, IfOk, OnOk, IfErr, IfNone, MatchOption, length};
-ghost use Rattle.elevator_model.specs.Snapshot.{IsAccepted, car_count, call_count, call_of, state_of};
+ghost use Rattle.std.specs.Prelude.{◌≡◌, ◌↔◌, ℕ, ◌<◌, ◌≤◌, None, IsTrue, IfOk, OnOk, IfErr, IfNone, IfSome, IsNone, MatchOption, length};
+ghost use Rattle.elevator_model.specs.Snapshot.{IsAccepted, car_count, call_count, call_of, spec_of, state_of};
+ghost use Rattle.elevator_model.specs.Tours.{is_call_for};
 ghost use Rattle.elevator_model.specs.Faults.{first_fault_of_snapshot};
 ghost use Rattle.call_state.specs.SnapshotParts.{AreSnapshotParts};
+ghost use Rattle.call_state.specs.PartsFlaw.{Lacks};
 ghost use Rattle.call_state.specs.FirstFaults.{first_of_states, first_of_groups, first_of_calls};
 ghost use Rattle.call_state.specs.Refusals.{Names, SpeaksAgainst};
-ghost use Rattle.call_state.specs.Possible.{HasPossible, may_take};
+ghost use Rattle.call_state.specs.Possible.{HasPossible};
 
 use crate::aboard_faults::aboard_fault;
 use crate::buildings::Building;
-use crate::call_faults::{call_fault, can_car_take};
+use crate::call_faults::call_fault;
 use crate::id_index::IdIndex;
+use crate::possible_cars::possible_cars;
 use crate::state_faults::state_fault;
 use crate::whole_parts::{are_pinned_to_cars, are_unmoving, ride_in_cars};
 use crate::{Fault, StateFault};
-use elevator_model::{Aboard, Call, CarState};
+use call_sets::CarSet;
+use elevator_model::{Aboard, Call, CarSpec, CarState};
 use std::alloc::{AllocError, Global};
 use std::marker::Model;
 
@@ -33,6 +37,23 @@ pub struct SnapshotParts {
     pub calls: Vec<Call>,
 }
 
+/// What keeps the parts of a snapshot from being tested for faults.
+#[derive(Clone, Copy, PartialEq, Eq, Debug)]
+pub enum PartsFlaw {
+    /// The version is neither 1 nor 2.
+    Version,
+    /// The moment is over 10^9 ms.
+    Moment,
+    /// There are more or fewer states than cars.
+    StateCount,
+    /// A car is moving, which version 1 does not know.
+    MovingCar,
+    /// A group rides in a car that the building lacks.
+    CarOfGroup,
+    /// A call is pinned to a car that the building lacks.
+    PinnedCar,
+}
+
 impl SnapshotParts {
     ghost use Rattle.call_state.specs.SnapshotParts.{snapshot_of};
 
@@ -42,14 +63,34 @@ impl SnapshotParts {
     pub fn are_whole(&self) -> bool
         ensures { IsTrue result ↔ AreSnapshotParts (snapshot_of self.entry.now) }
     {
+        self.flaw().is_none()
+    }
+
+    /// The first condition of `are_whole` that does not hold.
+    pub fn flaw(&self) -> Option<PartsFlaw>
+        ensures whole { IsNone result ↔ AreSnapshotParts (snapshot_of self.entry.now) }
+        ensures flaw { IfSome result (Lacks (snapshot_of self.entry.now)) }
+    {
         let cars = self.building.cars().len();
-        1 <= self.version
-            && self.version <= 2
-            && self.now <= 1_000_000_000
-            && self.cars.len() == cars
-            && (self.version != 1 || are_unmoving(&self.cars))
-            && ride_in_cars(&self.aboard, cars)
-            && are_pinned_to_cars(&self.calls, cars)
+        if self.version < 1 || 2 < self.version {
+            return Some(PartsFlaw::Version);
+        }
+        if 1_000_000_000 < self.now {
+            return Some(PartsFlaw::Moment);
+        }
+        if self.cars.len() != cars {
+            return Some(PartsFlaw::StateCount);
+        }
+        if self.version == 1 && !are_unmoving(&self.cars) {
+            return Some(PartsFlaw::MovingCar);
+        }
+        if !ride_in_cars(&self.aboard, cars) {
+            return Some(PartsFlaw::CarOfGroup);
+        }
+        if !are_pinned_to_cars(&self.calls, cars) {
+            return Some(PartsFlaw::PinnedCar);
+        }
+        None
     }
 
     /// The same parts once more. It fails only where there is no memory left.
@@ -134,6 +175,8 @@ impl SnapshotParts {
 pub struct Snapshot {
     parts: SnapshotParts,
     ids: IdIndex,
+    /// The possible cars of each call.
+    possible: Vec<CarSet>,
 }
 
 impl Model for Snapshot {
@@ -141,12 +184,13 @@ impl Model for Snapshot {
     ghost use Rattle.elevator_model.specs.declared.Call.{Call};
     ghost use Rattle.elevator_model.specs.Snapshot.{Snapshot as Record, IsAccepted};
     ghost use Rattle.call_state.specs.SnapshotParts.{snapshot_of};
+    ghost use Rattle.call_state.specs.Possible.{ArePossible};
 
     ghost Value = { Record };
 
     ghost view = { λ s. snapshot_of s.parts };
 
-    ghost invariant = { λ s. IsAccepted (snapshot_of s.parts) × (s.ids ≡ map (λ (x : Call). x.id) s.parts.calls.items) };
+    ghost invariant = { λ s. IsAccepted (snapshot_of s.parts) × (s.ids ≡ map (λ (x : Call). x.id) s.parts.calls.items) × ArePossible s.parts.building s.parts.calls.items s.possible.items };
 }
 
 impl Snapshot {
@@ -170,10 +214,13 @@ impl Snapshot {
         }
         // A reader of the building tells that it keeps its rules, which the snapshot's rules are to hold.
         let _version = parts.building.version();
-        let Ok(ids) = IdIndex::of_calls(alloc, &parts.calls) else {
-            return Err(StateFault::NoMemory);
-        };
-        Ok(Snapshot { parts, ids })
+        let ids = IdIndex::of_calls(alloc, &parts.calls)?;
+        let possible = possible_cars(alloc, &parts.building, &parts.calls)?;
+        Ok(Snapshot {
+            parts,
+            ids,
+            possible,
+        })
     }
 
     /// The index of the open call with this id, and `None` exactly where no call has it.
@@ -193,7 +240,12 @@ impl Snapshot {
     {
         let parts = self.parts.copy(alloc)?;
         let ids = IdIndex::of_calls(alloc, &parts.calls)?;
-        Ok(Snapshot { parts, ids })
+        let possible = possible_cars(alloc, &parts.building, &parts.calls)?;
+        Ok(Snapshot {
+            parts,
+            ids,
+            possible,
+        })
     }
 
     /// The building.
@@ -229,6 +281,15 @@ impl Snapshot {
         self.parts.cars[c as usize]
     }
 
+    /// A car of the building.
+    pub fn spec(&self, c: u32) -> &CarSpec
+        requires { c < car_count self.now }
+        ensures value { result.now ≡ spec_of self.now c }
+        ensures accepted { IsAccepted self.now }
+    {
+        &self.parts.building.cars()[c as usize]
+    }
+
     /// The groups aboard, in the snapshot's order.
     pub fn aboard(&self) -> &[Aboard]
         ensures value { result.now ≡ self.now.aboard }
@@ -245,33 +306,23 @@ impl Snapshot {
         self.parts.calls.as_slice()
     }
 
-    /// The cars that may take a call: bit `c` stands for car `c`. Of a pinned call it is the pin alone,
-    /// else all cars that can take it.
-    pub fn possible(&self, call: u32) -> u16
+    /// The cars that may take a call: of a pinned call the pin alone, else all that can take it.
+    pub fn possible(&self, call: u32) -> CarSet
         requires { call < call_count self.now }
         ensures cars { HasPossible self.now call (car_count self.now) result }
         ensures accepted { IsAccepted self.now }
     {
-        let building = self.building();
-        let wanted = self.calls()[call as usize];
-        let mut possible = 0u16;
-        for car in 0..building.cars().len() as u32 {
-            if is_possible_car(building, car, &wanted) {
-                possible |= 1 << car;
-            }
-        }
-        possible
+        self.possible[call as usize]
     }
-}
 
-/// Whether the car is one of the call's possible cars.
-fn is_possible_car(building: &Building, car: u32, call: &Call) -> bool
-    requires { car < length building.now.cars }
-    ensures { result ≡ may_take building.now car call.now }
-{
-    let is_pinned_elsewhere = match call.pin {
-        Some(pin) => pin != car,
-        None => false,
-    };
-    !is_pinned_elsewhere && can_car_take(building, car, call)
+    /// Whether the car may take the call: never so where the snapshot lacks the call or the building the car.
+    pub fn may_take(&self, car: u32, call: u32) -> bool
+        ensures value { result ≡ is_call_for self.now car call }
+        ensures accepted { IsAccepted self.now }
+    {
+        match self.possible.get(call as usize) {
+            Some(cars) => cars.contains(car),
+            None => false,
+        }
+    }
 }

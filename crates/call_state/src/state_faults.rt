@@ -1,27 +1,24 @@
 //! What is wrong with the state of a car.
 
 ghost use Rattle.std.specs.Prelude.{◌≡◌, ◌≤◌, ◌<◌, ◌+◌, ◌||◌, nat_lt, length, slice_index};
-ghost use Rattle.elevator_model.specs.Counting.{any_below};
+ghost use Rattle.call_sets.specs.Counting.{any_below};
 ghost use Rattle.elevator_model.specs.Building.{IsBuilding, car_of, floor_count};
-ghost use Rattle.elevator_model.specs.Snapshot.{floor_of as floor_of_lem, serves, is_open as is_open_lem};
+ghost use Rattle.elevator_model.specs.Snapshot.{serves, is_open as is_open_lem};
 ghost use Rattle.elevator_model.specs.Travel.{can_stop as can_stop_lem};
 ghost use Rattle.elevator_model.specs.Faults.{fault_of_state, has_no_open_floor as has_no_open_floor_lem, is_untimely as is_untimely_lem};
 
 use crate::buildings::Building;
-use crate::car_faults::has_floor;
-use elevator_model::{CarState, Fault};
-
-/// How long after the snapshot's moment a car may become free or arrive, in ms.
-const LONGEST_WORK: u64 = 100_000_000;
+use call_sets::FloorSet;
+use elevator_model::{CarState, Fault, LONGEST_WORK};
 
 /// The floors that the car serves, and none where the building lacks the car.
-fn floors_of(building: &Building, car: u32) -> u64
+fn floors_of(building: &Building, car: u32) -> FloorSet
     ensures value { result ≡ (car_of building.now car).serves }
     ensures building { IsBuilding building.now }
 {
     match building.cars().get(car as usize) {
         Some(spec) => spec.serves,
-        None => 0,
+        None => FloorSet::empty(),
     }
 }
 
@@ -29,7 +26,7 @@ fn floors_of(building: &Building, car: u32) -> u64
 pub fn serves_floor(building: &Building, car: u32, floor: u32) -> bool
     ensures { result ≡ serves building.now car floor }
 {
-    (floor as usize) < building.heights().len() && has_floor(floors_of(building, car), floor)
+    (floor as usize) < building.heights().len() && floors_of(building, car).contains(floor)
 }
 
 /// The height of a floor in mm, and 0 where the building lacks it.
@@ -88,11 +85,7 @@ pub fn is_open(building: &Building, car: u32, now: u64, state: CarState, floor: 
     ensures { result ≡ is_open_lem building.now car now state floor }
 {
     match state {
-        CarState::Idle { floor: _, free: _ } => false,
-        CarState::Coming {
-            floor: _,
-            arrives: _,
-        } => false,
+        CarState::Idle { .. } | CarState::Coming { .. } => false,
         CarState::Moving { from, up, left } => {
             is_open_from(building, car, now, from, up, left, floor)
         }
@@ -113,18 +106,7 @@ fn any_open(building: &Building, car: u32, now: u64, state: CarState) -> bool
 fn has_no_open_floor(building: &Building, now: u64, car: u32, state: CarState) -> bool
     ensures { result ≡ has_no_open_floor_lem building.now now car state }
 {
-    match state {
-        CarState::Idle { floor: _, free: _ } => false,
-        CarState::Coming {
-            floor: _,
-            arrives: _,
-        } => false,
-        CarState::Moving {
-            from: _,
-            up: _,
-            left: _,
-        } => !any_open(building, car, now, state),
-    }
+    state.is_moving() && !any_open(building, car, now, state)
 }
 
 /// Whether a moment lies before this one, or too long after it.
@@ -138,28 +120,9 @@ fn is_untimely(now: u64, state: CarState) -> bool
     ensures { result ≡ is_untimely_lem now state }
 {
     match state {
-        CarState::Idle { floor: _, free } => is_out_of_reach(now, free),
-        CarState::Coming { floor: _, arrives } => is_out_of_reach(now, arrives),
-        CarState::Moving {
-            from: _,
-            up: _,
-            left,
-        } => now < left,
-    }
-}
-
-/// The floor where the car stands, comes to or left.
-fn floor_of(state: CarState) -> u32
-    ensures { result ≡ floor_of_lem state }
-{
-    match state {
-        CarState::Idle { floor, free: _ } => floor,
-        CarState::Coming { floor, arrives: _ } => floor,
-        CarState::Moving {
-            from,
-            up: _,
-            left: _,
-        } => from,
+        CarState::Idle { free, .. } => is_out_of_reach(now, free),
+        CarState::Coming { arrives, .. } => is_out_of_reach(now, arrives),
+        CarState::Moving { left, .. } => now < left,
     }
 }
 
@@ -167,7 +130,7 @@ fn floor_of(state: CarState) -> u32
 pub fn state_fault(building: &Building, now: u64, car: u32, state: CarState) -> Option<Fault>
     ensures { result ≡ fault_of_state building.now now car state }
 {
-    let floor = floor_of(state);
+    let floor = state.floor();
     if building.heights().len() <= floor as usize {
         return Some(Fault::NoSuchFloor);
     }

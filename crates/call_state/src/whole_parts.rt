@@ -8,18 +8,7 @@ use elevator_model::{Aboard, Call, CarState};
 fn is_unmoving(state: CarState) -> bool
     ensures { IsTrue result ↔ IsUnmoving state }
 {
-    match state {
-        CarState::Idle { floor: _, free: _ } => true,
-        CarState::Coming {
-            floor: _,
-            arrives: _,
-        } => true,
-        CarState::Moving {
-            from: _,
-            up: _,
-            left: _,
-        } => false,
-    }
+    !state.is_moving()
 }
 
 /// Whether no car is moving.

@@ -10,7 +10,7 @@ use Rattle.std.proofs.Math.Nat.{mod-lt, mod-eq_of_lt, mod-one, pow-succ'}
 use Rattle.std.proofs.Math.Pow.{pow_mono, pow_pos}
 use Rattle.std.proofs.lemmas.Nat.Bits.{bit_at-lt}
 use Rattle.elevator_model.specs.declared.CarSpec.{CarSpec}
-use Rattle.elevator_model.specs.Counting.{has}
+use Rattle.call_sets.specs.Counting.{has}
 use Rattle.elevator_model.specs.Building.{IsCarSpec}
 use Rattle.canonical_text.specs.Text.{newline, word, words, floors_in, served_words, car_line}
 use Rattle.canonical_text.specs.Reading.{set_of, served_at, car_at}

@@ -10,7 +10,7 @@ use Rattle.elevator_model.specs.declared.CarState.{CarState}
 use Rattle.elevator_model.specs.declared.CarState.TheVariants.{Idle, Coming, Moving}
 use Rattle.elevator_model.specs.declared.Call.{Call}
 use Rattle.elevator_model.specs.Travel.{Square}
-use Rattle.elevator_model.specs.Counting.{has}
+use Rattle.call_sets.specs.Counting.{has}
 use Rattle.elevator_model.specs.Building.{Building, IsCarSpec, floor_count}
 use Rattle.elevator_model.specs.Snapshot.{Snapshot, IsSmall, IsCarPlaced, no_call}
 use Rattle.canonical_text.specs.Text.{newline, word, words, line, floors_in, served_words, car_line, state_line, pin_word, call_line, snapshot_text, case_text}

@@ -2,7 +2,7 @@
 use Rattle.std.proofs.Common.{◌≡◌, ℕ, zero, suc, ◌<◌, Bool, true, false, not, eqb, ◌&&◌, ◌||◌, Option, Some, refl, subst, arith, ◌⊎◌, inl, inr}
 use Rattle.std.proofs.lemmas.Bool.{eqb-true, false≢true}
 use Rattle.elevator_model.specs.declared.Call.{Call}
-use Rattle.elevator_model.specs.Counting.{any_below}
+use Rattle.call_sets.specs.Counting.{any_below}
 use Rattle.elevator_model.specs.Snapshot.{Snapshot, car_count, call_count, call_of, is_pinned_elsewhere, is_possible, can_take, IsAccepted}
 
 or_cases : (a b : Bool) → (a || b) ≡ true → (a ≡ true) ⊎ (b ≡ true)

@@ -8,7 +8,7 @@ use Rattle.elevator_model.specs.declared.CarState.TheVariants.{Idle, Coming, Mov
 use Rattle.elevator_model.specs.declared.Aboard.{Aboard}
 use Rattle.elevator_model.specs.declared.Call.{Call}
 use Rattle.elevator_model.specs.declared.Stop.{Stop}
-use Rattle.elevator_model.specs.Counting.{has}
+use Rattle.call_sets.specs.Counting.{has}
 use Rattle.elevator_model.specs.Building.{Building, floor_count, car_of}
 use Rattle.elevator_model.specs.Snapshot.{Snapshot, car_count, call_of, spec_of, state_of}
 use Rattle.elevator_model.specs.Plans.{tour_of}

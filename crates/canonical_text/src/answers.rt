@@ -2,7 +2,7 @@
 
 ghost use Rattle.std.specs.Prelude.{◌≡◌, ◌++◌, ◌<◌, ◌≤◌, map, length, OnOk, IfOk};
 ghost use Rattle.std.specs.List.{flat_map, range_with_len};
-ghost use Rattle.elevator_model.specs.Counting.{is_among};
+ghost use Rattle.call_sets.specs.Counting.{is_among};
 ghost use Rattle.elevator_model.specs.Snapshot.{car_count, call_of};
 ghost use Rattle.elevator_model.specs.Plans.{tour_of};
 ghost use Rattle.elevator_model.specs.Partial.{rising_boards};

@@ -17,6 +17,3 @@ pub use answers::write_solved;
 pub use cases::read_case;
 pub use fault::ReadFault;
 pub use writing::write_case;
-
-#[cfg(test)]
-mod tests;

@@ -6,6 +6,7 @@ ghost use Rattle.canonical_text.specs.Numbers.{building_view, snapshot_view, cas
 
 use crate::fault::ReadFault;
 use crate::numbers::{BuildingNumbers, CaseNumbers, SnapshotNumbers};
+use call_sets::FloorSet;
 use elevator_model::{Call, CarSpec, CarState};
 use std::alloc::Global;
 
@@ -111,27 +112,18 @@ fn set_of(floors: &[u64]) -> Result<u64, ReadFault>
     Ok(set)
 }
 
-/// The set of so many floors.
-pub(crate) fn every_floor(floors: usize) -> u64
-    requires low { 1 ≤ floors }
-    requires high { floors ≤ 64 }
-    ensures { result ≡ 2 ^ floors - 1 }
-{
-    u64::MAX >> (64 - floors)
-}
-
 #[tactic(auto, unfolding(crate::specs::Reading::served_at))]
-fn served_at(alloc: Global, floors: usize, bytes: &[u8]) -> Result<(u64, &[u8]), ReadFault>
+fn served_at(alloc: Global, floors: usize, bytes: &[u8]) -> Result<(FloorSet, &[u8]), ReadFault>
     requires low { 1 ≤ floors }
     requires high { floors ≤ 64 }
     ensures { Gives (λ x. (x.0, x.1.now)) result (served_at floors bytes.now) }
 {
     if bytes.starts_with(b" all") {
         let rest = literal_at(b" all\n", bytes)?;
-        return Ok((every_floor(floors), rest));
+        return Ok((FloorSet::lowest(floors as u32), rest));
     }
     let (numbers, rest) = numbers_line_at(alloc, bytes)?;
-    let set = set_of(&numbers)?;
+    let set = FloorSet::from_bits(set_of(&numbers)?);
     Ok((set, rest))
 }
 

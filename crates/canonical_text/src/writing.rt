@@ -2,11 +2,10 @@
 
 ghost use Rattle.std.specs.Prelude.{◌≡◌, ◌++◌, ◌<◌, ◌≤◌, length, OnOk, IfOk};
 ghost use Rattle.std.specs.List.{flat_map};
-ghost use Rattle.elevator_model.specs.Counting.{has};
 ghost use Rattle.std.specs.Option.{ForSome};
 ghost use Rattle.canonical_text.specs.Text.{newline, word, words, line, patience_line, floors_in, served_words, car_line, building_text, moving_words, state_line, state_lines, aboard_line, pin_word, call_line, snapshot_text, case_text};
 
-use crate::reading::every_floor;
+use call_sets::FloorSet;
 use call_state::{Aboard, Building, Call, CarSpec, CarState, Snapshot};
 use itoa::Buffer;
 use std::alloc::{AllocError, Global};
@@ -55,21 +54,13 @@ fn put_patience(out: &mut Vec<u8>, building: &Building) -> Result<(), AllocError
     put_line(out, b"patience", &numbers)
 }
 
-/// Whether the floor is in the set.
-fn has_floor(set: u64, floor: usize) -> bool
-    requires { floor < 64 }
-    ensures { result ≡ has set floor }
-{
-    set >> floor & 1 == 1
-}
-
 /// Writes the floors of a set, rising.
-fn put_floors(out: &mut Vec<u8>, floors: usize, set: u64) -> Result<(), AllocError>
+fn put_floors(out: &mut Vec<u8>, floors: usize, set: FloorSet) -> Result<(), AllocError>
     requires { floors ≤ 64 }
     ensures { OnOk result (out.new.items ≡ out.old.items ++ flat_map word (floors_in floors set)) }
 {
     for floor in 0..floors {
-        if has_floor(set, floor) {
+        if set.contains(floor as u32) {
             put_word(out, floor as u64)?;
         }
     }
@@ -78,12 +69,12 @@ fn put_floors(out: &mut Vec<u8>, floors: usize, set: u64) -> Result<(), AllocErr
 
 /// Writes the served floors of a building with so many floors.
 #[tactic(auto, unfolding(crate::specs::Text::served_words))]
-fn put_served(out: &mut Vec<u8>, floors: usize, set: u64) -> Result<(), AllocError>
+fn put_served(out: &mut Vec<u8>, floors: usize, set: FloorSet) -> Result<(), AllocError>
     requires low { 1 ≤ floors }
     requires high { floors ≤ 64 }
     ensures { OnOk result (out.new.items ≡ out.old.items ++ served_words floors set) }
 {
-    if set == every_floor(floors) {
+    if set.bits() == FloorSet::lowest(floors as u32).bits() {
         return out.extend_from_slice(b" all");
     }
     put_floors(out, floors, set)

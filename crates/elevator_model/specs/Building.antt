@@ -1,7 +1,7 @@
 -- Buildings.
 use Rattle.std.specs.Prelude.{◌≡◌, ℕ, ◌+◌, ◌^◌, ◌≤◌, ◌<◌, ◌==◌, List, length, slice_index, slice_index_or, if◌then◌else◌}
 use Rattle.elevator_model.specs.declared.CarSpec.{CarSpec}
-use Rattle.elevator_model.specs.Counting.{has, sum_where}
+use Rattle.call_sets.specs.Counting.{has, sum_where}
 use Rattle.elevator_model.specs.Travel.{Square, IsTravelSquare}
 
 pub record Building : Type 0 where

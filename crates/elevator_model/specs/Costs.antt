@@ -2,7 +2,7 @@
 use Rattle.std.specs.Prelude.{ℕ, ◌+◌, ◌-◌, ◌*◌, ◌&&◌, ◌||◌, not, List, [], ◌∷◌, Bool, nat_lt, if◌then◌else◌}
 use Rattle.elevator_model.specs.declared.Stop.{Stop}
 use Rattle.elevator_model.specs.declared.Times.{Times}
-use Rattle.elevator_model.specs.Counting.{sum_where}
+use Rattle.call_sets.specs.Counting.{sum_where}
 use Rattle.elevator_model.specs.Building.{Building}
 use Rattle.elevator_model.specs.Snapshot.{Snapshot, call_count, call_of}
 use Rattle.elevator_model.specs.Tours.{Progress, start_of, make_stop, after_stops, arrival, is_aboard, rider_count, persons_of}

@@ -8,7 +8,7 @@ use Rattle.elevator_model.specs.declared.Aboard.{Aboard}
 use Rattle.elevator_model.specs.declared.Call.{Call}
 use Rattle.elevator_model.specs.declared.Fault.{Fault}
 use Rattle.elevator_model.specs.declared.Fault.TheVariants.{OutOfRange, NotRising, IdUsedBefore, NoSuchFloor, OriginIsDestination, NoPossibleCar, PinCannotTake, WrongSide, OverCapacity, MomentOutOfRange, TooManyCalls, TooManyCars, NotServed, PersonsOutOfRange, NoOpenFloor}
-use Rattle.elevator_model.specs.Counting.{has, any_below, sum_where}
+use Rattle.call_sets.specs.Counting.{has, any_below, sum_where}
 use Rattle.elevator_model.specs.Building.{Building, floor_count, car_of, most_calls, most_cars}
 use Rattle.elevator_model.specs.Snapshot.{Snapshot, floor_of, serves, is_open, can_take, no_state}
 

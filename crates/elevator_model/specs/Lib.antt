@@ -1,4 +1,3 @@
-pub mod Counting
 pub mod Travel
 pub mod Building
 pub mod Snapshot
@@ -8,3 +7,4 @@ pub mod Costs
 pub mod Plans
 pub mod Partial
 pub mod Worked
+pub mod Printed

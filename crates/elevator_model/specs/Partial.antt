@@ -4,7 +4,7 @@ use Rattle.std.specs.List.{list_all, range_with_len}
 use Rattle.elevator_model.specs.declared.Stop.{Stop}
 use Rattle.elevator_model.specs.declared.Move.{Move}
 use Rattle.elevator_model.specs.declared.Move.TheVariants.{Board, Leave, End}
-use Rattle.elevator_model.specs.Counting.{is_among}
+use Rattle.call_sets.specs.Counting.{is_among}
 use Rattle.elevator_model.specs.Building.{floor_count}
 use Rattle.elevator_model.specs.Snapshot.{Snapshot, call_count}
 use Rattle.elevator_model.specs.Costs.{settled_cost}

@@ -5,7 +5,7 @@ use Rattle.elevator_model.specs.declared.Stop.{Stop}
 use Rattle.elevator_model.specs.declared.Broken.{Broken}
 use Rattle.elevator_model.specs.declared.BadPlan.{BadPlan}
 use Rattle.elevator_model.specs.declared.Rule.TheVariants.{Unserved}
-use Rattle.elevator_model.specs.Counting.{sum_below, sum_where, is_among}
+use Rattle.call_sets.specs.Counting.{sum_below, sum_where, is_among}
 use Rattle.elevator_model.specs.Snapshot.{Snapshot, call_count, car_count}
 use Rattle.elevator_model.specs.Tours.{IsFeasible, first_broken_from, start_of, none_taken}
 use Rattle.elevator_model.specs.Costs.{cost_of}

@@ -5,7 +5,7 @@ use Rattle.elevator_model.specs.declared.CarState.{CarState}
 use Rattle.elevator_model.specs.declared.CarState.TheVariants.{Idle, Coming, Moving}
 use Rattle.elevator_model.specs.declared.Aboard.{Aboard}
 use Rattle.elevator_model.specs.declared.Call.{Call}
-use Rattle.elevator_model.specs.Counting.{has, any_below, sum_where}
+use Rattle.call_sets.specs.Counting.{has, any_below, sum_where}
 use Rattle.elevator_model.specs.Travel.{can_stop, difference, time_between}
 use Rattle.elevator_model.specs.Building.{Building, IsBuilding, floor_count, car_of, most_calls}
 
@@ -67,6 +67,11 @@ abbrev pub is_idle : CarState → Bool
 is_idle (Idle floor free) = true
 is_idle (Coming floor arrives) = false
 is_idle (Moving from up left) = false
+
+abbrev pub is_moving : CarState → Bool
+is_moving (Idle floor free) = false
+is_moving (Coming floor arrives) = false
+is_moving (Moving from up left) = true
 
 -- the car serves this floor of the building
 abbrev pub serves : Building → ℕ → ℕ → Bool

@@ -6,7 +6,7 @@ use Rattle.elevator_model.specs.declared.Stop.{Stop}
 use Rattle.elevator_model.specs.declared.Broken.{Broken}
 use Rattle.elevator_model.specs.declared.Rule.{Rule}
 use Rattle.elevator_model.specs.declared.Rule.TheVariants.{FirstStop, SameFloorTwice, UselessStop, TurnWithPassengers, Capacity, QueueOrder, Car, Floor, Delivery, CallTwice, Place}
-use Rattle.elevator_model.specs.Counting.{any_below, sum_where, is_among}
+use Rattle.call_sets.specs.Counting.{any_below, sum_where, is_among}
 use Rattle.elevator_model.specs.Travel.{time_between}
 use Rattle.elevator_model.specs.Snapshot.{Snapshot, call_count, call_of, group_of, spec_of, state_of, floor_of, moment_of, is_coming, is_idle, is_possible, serves, may_stop_first}
 

@@ -6,9 +6,18 @@
 //! the texts; here they are named by their index, from 0, in the order of the text.
 #![tactic(auto)]
 
-ghost use Rattle.std.specs.Prelude.{◌≡◌, ℕ, List, [], ◌∷◌, ◌++◌, length, OnOk, OnErr, IfOk, IfErr};
+ghost use Rattle.std.specs.Prelude.{◌≡◌, ◌↔◌, ◌≤◌, ℕ, List, [], ◌∷◌, ◌++◌, length, IsTrue, OnOk, OnErr, IfOk, IfErr};
 
+mod limits;
+
+pub use limits::{
+    LATEST_MOMENT, LONGEST_WORK, MOST_CALL_COST, MOST_CALLS, MOST_CARS, MOST_COST, MOST_FLOORS,
+    MOST_GROUPS_COST, MOST_MOVES, MOST_NEXT_MOVES, MOST_STOP_TIME, most_calls, most_cars,
+};
+
+use call_sets::FloorSet;
 use std::alloc::{AllocError, AllocFailed, Global};
+use std::fmt;
 use std::marker::Model;
 
 /// A car as a building has it.
@@ -26,8 +35,8 @@ pub struct CarSpec {
     pub boarding: u64,
     /// Time for each person that gets off, in ms.
     pub alighting: u64,
-    /// The served floors: bit `f` stands for floor `f`.
-    pub serves: u64,
+    /// The floors that it serves.
+    pub serves: FloorSet,
 }
 
 /// Where a car is.
@@ -39,6 +48,53 @@ pub enum CarState {
     Coming { floor: u32, arrives: u64 },
     /// It left the floor `from` at the moment `left`, and may still choose where it stops first.
     Moving { from: u32, up: bool, left: u64 },
+}
+
+impl CarState {
+    ghost use Rattle.std.specs.Prelude.{◌≡◌};
+    ghost use Rattle.elevator_model.specs.Snapshot.{floor_of, moment_of, is_idle, is_coming, is_moving};
+
+    /// The floor where the car stands, comes to or left.
+    pub fn floor(&self) -> u32
+        ensures { result ≡ floor_of self.now }
+    {
+        match *self {
+            CarState::Idle { floor, .. } | CarState::Coming { floor, .. } => floor,
+            CarState::Moving { from, .. } => from,
+        }
+    }
+
+    /// The moment from which the car's tour is timed, in ms: it may leave, arrives or left.
+    pub fn moment(&self) -> u64
+        ensures { result ≡ moment_of self.now }
+    {
+        match *self {
+            CarState::Idle { free, .. } => free,
+            CarState::Coming { arrives, .. } => arrives,
+            CarState::Moving { left, .. } => left,
+        }
+    }
+
+    /// Whether it stands.
+    pub fn is_idle(&self) -> bool
+        ensures { result ≡ is_idle self.now }
+    {
+        matches!(*self, CarState::Idle { .. })
+    }
+
+    /// Whether it is on its way to a stop that is fixed.
+    pub fn is_coming(&self) -> bool
+        ensures { result ≡ is_coming self.now }
+    {
+        matches!(*self, CarState::Coming { .. })
+    }
+
+    /// Whether it moves and may still choose where it stops first.
+    pub fn is_moving(&self) -> bool
+        ensures { result ≡ is_moving self.now }
+    {
+        matches!(*self, CarState::Moving { .. })
+    }
 }
 
 /// A group of passengers aboard a car.
@@ -66,6 +122,35 @@ pub struct Call {
     pub released: u64,
     /// The index of the one car that may serve it, where the call is pinned.
     pub pin: Option<u32>,
+}
+
+impl Call {
+    ghost use Rattle.std.specs.Prelude.{◌≡◌};
+    ghost use Rattle.elevator_model.specs.Tours.{is_upward, is_later, is_later_in_queue};
+
+    /// Whether it goes to a higher floor.
+    pub fn is_upward(&self) -> bool
+        ensures { result ≡ is_upward self.now }
+    {
+        self.origin < self.destination
+    }
+
+    /// Whether it was released later than `other`, or with it and has the greater id.
+    pub fn is_later(&self, other: &Call) -> bool
+        ensures { result ≡ is_later self.now other.now }
+    {
+        self.released > other.released || self.released == other.released && self.id > other.id
+    }
+
+    /// Whether it is a later call of the queue of `other`: of the same origin and direction, and later by the
+    /// moment of release, then by id.
+    pub fn is_later_in_queue(&self, other: &Call) -> bool
+        ensures { result ≡ is_later_in_queue self.now other.now }
+    {
+        self.origin == other.origin
+            && self.is_upward() == other.is_upward()
+            && self.is_later(other)
+    }
 }
 
 /// What is wrong with a building, a snapshot or a square of travel times.
@@ -103,8 +188,58 @@ pub enum Fault {
     NoTravelSquare,
     /// A moving car has no floor open at which it could stop first.
     NoOpenFloor,
-    /// Accepted, but of a kind that is not solved yet.
-    NotYet,
+}
+
+impl Fault {
+    ghost use Rattle.std.specs.Prelude.{◌≡◌};
+    ghost use Rattle.elevator_model.specs.Printed.{code_of};
+
+    /// The code that is printed for it.
+    pub fn code(self) -> u8
+        ensures { result ≡ code_of self }
+    {
+        match self {
+            Fault::OutOfRange => 7,
+            Fault::NotRising => 10,
+            Fault::IdUsedBefore => 11,
+            Fault::NoSuchFloor => 12,
+            Fault::OriginIsDestination => 13,
+            Fault::NoPossibleCar => 14,
+            Fault::PinCannotTake => 15,
+            Fault::WrongSide => 16,
+            Fault::OverCapacity => 17,
+            Fault::MomentOutOfRange => 18,
+            Fault::TooManyCalls => 19,
+            Fault::TooManyCars => 20,
+            Fault::NotServed => 21,
+            Fault::PersonsOutOfRange => 22,
+            Fault::NoTravelSquare => 28,
+            Fault::NoOpenFloor => 51,
+        }
+    }
+}
+
+impl fmt::Display for Fault {
+    fn fmt<W: fmt::Write>(&self, f: &mut fmt::Formatter<W>) -> fmt::Result {
+        f.write_str(match self {
+            Fault::OutOfRange => "a number is outside its range",
+            Fault::NotRising => "heights or served floors do not rise",
+            Fault::IdUsedBefore => "the id was used before",
+            Fault::NoSuchFloor => "the building has no such floor",
+            Fault::OriginIsDestination => "the origin is the destination",
+            Fault::NoPossibleCar => "no car can take the call",
+            Fault::PinCannotTake => "the pinned car cannot take the call",
+            Fault::WrongSide => "the car cannot deliver the group without a turn",
+            Fault::OverCapacity => "more persons are aboard than the capacity",
+            Fault::MomentOutOfRange => "the moment is too early or too late",
+            Fault::TooManyCalls => "there are too many calls",
+            Fault::TooManyCars => "there are too many cars",
+            Fault::NotServed => "the car does not serve the floor, or serves too few",
+            Fault::PersonsOutOfRange => "the persons are not 1 to 8",
+            Fault::NoTravelSquare => "the times are no travel square",
+            Fault::NoOpenFloor => "no floor is open for the moving car",
+        })
+    }
 }
 
 /// A rule that a tour or a plan can break, in the order in which they are tested at one stop.
@@ -134,6 +269,31 @@ pub enum Rule {
     Place,
     /// A call that no tour boards.
     Unserved,
+}
+
+impl Rule {
+    ghost use Rattle.std.specs.Prelude.{◌≡◌};
+    ghost use Rattle.elevator_model.specs.Printed.{number_of};
+
+    /// The number that is printed for it, 1 to 12.
+    pub fn number(self) -> u8
+        ensures { result ≡ number_of self }
+    {
+        match self {
+            Rule::FirstStop => 1,
+            Rule::SameFloorTwice => 2,
+            Rule::UselessStop => 3,
+            Rule::TurnWithPassengers => 4,
+            Rule::Capacity => 5,
+            Rule::QueueOrder => 6,
+            Rule::Car => 7,
+            Rule::Floor => 8,
+            Rule::Delivery => 9,
+            Rule::CallTwice => 10,
+            Rule::Place => 11,
+            Rule::Unserved => 12,
+        }
+    }
 }
 
 /// The first bad stop of a tour, counted from 1, and the lowest rule broken there.
@@ -198,6 +358,20 @@ impl Boards {
         ensures { result ≡ calls.items }
     {
         Boards { calls }
+    }
+
+    /// How many calls board.
+    pub fn len(&self) -> usize
+        ensures { result ≡ length self.now }
+    {
+        self.calls.len()
+    }
+
+    /// Whether no call boards.
+    pub fn is_empty(&self) -> bool
+        ensures { IsTrue result ↔ (self.now ≡ []) }
+    {
+        self.calls.is_empty()
     }
 
     /// The calls.
@@ -334,6 +508,24 @@ impl Model for Plan {
 }
 
 impl Plan {
+    /// No tour.
+    pub fn new(alloc: Global) -> Self
+        ensures { result ≡ [] }
+    {
+        Plan {
+            tours: Vec::new(alloc),
+        }
+    }
+
+    /// Adds the tour of the next car. After an `Err` the plan is as before.
+    pub fn push(&mut self, tour: Tour) -> Result<(), AllocFailed<Tour>>
+        ensures ok { OnOk result (self.new ≡ self.old ++ tour ∷ []) }
+        ensures err { OnErr result (self.new ≡ self.old) }
+        ensures returned { IfErr result (λ e. e.value ≡ tour) }
+    {
+        self.tours.push(tour)
+    }
+
     /// These tours, in this order.
     pub fn from_vec(tours: Vec<Tour>) -> Self
         ensures { result ≡ tours.items }

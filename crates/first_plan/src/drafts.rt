@@ -3,9 +3,9 @@
 ghost use Rattle.std.specs.Prelude.{◌<◌};
 ghost use Rattle.elevator_model.specs.Snapshot.{call_count, car_count};
 
-use crate::choosing::is_possible;
 use crate::ride::Ride;
 use crate::visits::Visit;
+use call_sets::CallSet;
 use call_state::{Call, Snapshot};
 use std::alloc::{AllocError, Global};
 
@@ -33,7 +33,7 @@ pub(crate) struct Place {
 pub(crate) fn settled(
     alloc: Global,
     snapshot: &Snapshot,
-    later: &[u128],
+    later: &[CallSet],
     start: &Ride,
     visits: &[Visit],
 ) -> Result<Draft, AllocError> {
@@ -60,7 +60,7 @@ fn is_on_way(last: u32, floor: u32, destination: u32) -> bool {
 /// off: the car may not turn before that. None where a rule is broken.
 fn tried(
     snapshot: &Snapshot,
-    later: &[u128],
+    later: &[CallSet],
     ride: &Ride,
     visits: &[Visit],
     call: u32,
@@ -99,7 +99,7 @@ fn cheaper(best: Option<Place>, next: Place) -> Place {
 /// The cheapest place of a call in the draft of a car, if it is cheaper than the best so far.
 fn best_in(
     snapshot: &Snapshot,
-    later: &[u128],
+    later: &[CallSet],
     draft: &Draft,
     car: u32,
     call: u32,
@@ -132,7 +132,7 @@ fn best_in(
 /// The cheapest place of a call in all drafts.
 pub(crate) fn best_place(
     snapshot: &Snapshot,
-    later: &[u128],
+    later: &[CallSet],
     drafts: &[Draft],
     call: u32,
 ) -> Option<Place>
@@ -141,7 +141,7 @@ pub(crate) fn best_place(
     let cars = snapshot.building().cars().len();
     let mut best = None;
     for (car, draft) in drafts.iter().enumerate() {
-        if car < cars && is_possible(snapshot, car as u32, call) {
+        if car < cars && snapshot.may_take(car as u32, call) {
             best = best_in(snapshot, later, draft, car as u32, call, best);
         }
     }

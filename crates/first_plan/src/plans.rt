@@ -5,10 +5,10 @@ ghost use Rattle.elevator_model.specs.declared.Stop.{Stop};
 ghost use Rattle.elevator_model.specs.Snapshot.{call_count};
 ghost use Rattle.elevator_model.specs.Plans.{IsFeasiblePlan, plan_cost_of};
 
-use crate::plain::plain_plan;
 use crate::proposing::{proposal, with_call_put};
 use call_state::Snapshot;
 use elevator_model::Plan;
+use plain_plan::plan_of;
 use std::alloc::{AllocError, Global};
 use tour_cost::{judge_plan, plan_cost};
 
@@ -43,7 +43,7 @@ fn better_plan(snapshot: &Snapshot, plain: Plan, proposed: Option<Plan>) -> Plan
 fn feasible_plan(alloc: Global, snapshot: &Snapshot) -> Result<Plan, AllocError>
     ensures { IfOk result (λ plan. IsFeasiblePlan snapshot.now plan) }
 {
-    let plain = plain_plan(alloc, snapshot)?;
+    let plain = plan_of(alloc, snapshot)?;
     let proposed = proposal(alloc, snapshot)?;
     Ok(better_plan(snapshot, plain, proposed))
 }

@@ -4,12 +4,12 @@ ghost use Rattle.std.specs.Prelude.{◌<◌, length, slice_index, EachIndex, IfS
 ghost use Rattle.elevator_model.specs.Snapshot.{call_count, car_count};
 
 use crate::drafts::{Draft, best_place, settled, with_call, without_call};
-use crate::opening::opening_floors;
-use crate::ride::Ride;
-use crate::sorting::{calls_in_order, later_calls};
+use crate::ride::{Ride, later_calls};
 use crate::visits::{Visit, tour_of, visits_of};
+use call_sets::CallSet;
 use call_state::Snapshot;
 use elevator_model::Plan;
+use plain_plan::{calls_in_order, opening_floors};
 use std::alloc::{AllocError, Global};
 use std::mem;
 
@@ -23,7 +23,7 @@ const ROUNDS: u32 = 2;
 fn opening_draft(
     alloc: Global,
     snapshot: &Snapshot,
-    later: &[u128],
+    later: &[CallSet],
     car: u32,
 ) -> Result<Draft, AllocError>
     requires { car < car_count snapshot.now }
@@ -41,7 +41,7 @@ fn opening_draft(
 fn opening_drafts(
     alloc: Global,
     snapshot: &Snapshot,
-    later: &[u128],
+    later: &[CallSet],
 ) -> Result<Vec<Draft>, AllocError> {
     let mut drafts = Vec::new(alloc);
     for car in 0..snapshot.building().cars().len() as u32 {
@@ -55,7 +55,7 @@ fn opening_drafts(
 fn drafts_of(
     alloc: Global,
     snapshot: &Snapshot,
-    later: &[u128],
+    later: &[CallSet],
     plan: &Plan,
 ) -> Result<Vec<Draft>, AllocError> {
     let cars = snapshot.building().cars().len();
@@ -83,7 +83,7 @@ fn plan_of(alloc: Global, drafts: &[Draft]) -> Result<Plan, AllocError> {
 fn put_call(
     alloc: Global,
     snapshot: &Snapshot,
-    later: &[u128],
+    later: &[CallSet],
     drafts: &mut [Draft],
     call: u32,
     limit: u64,
@@ -126,7 +126,7 @@ fn home_of(drafts: &[Draft], call: u32) -> Option<usize>
 fn move_call(
     alloc: Global,
     snapshot: &Snapshot,
-    later: &[u128],
+    later: &[CallSet],
     drafts: &mut [Draft],
     call: u32,
 ) -> Result<bool, AllocError>
@@ -151,7 +151,7 @@ fn move_call(
 fn move_calls(
     alloc: Global,
     snapshot: &Snapshot,
-    later: &[u128],
+    later: &[CallSet],
     drafts: &mut [Draft],
     order: &[u32],
     left: &mut u64,
@@ -177,7 +177,7 @@ fn move_calls(
 fn drafts_with(
     alloc: Global,
     snapshot: &Snapshot,
-    later: &[u128],
+    later: &[CallSet],
     order: &[u32],
     left: &mut u64,
 ) -> Result<Option<Vec<Draft>>, AllocError>

@@ -6,9 +6,10 @@
 ghost use Rattle.std.specs.Prelude.{◌<◌};
 ghost use Rattle.elevator_model.specs.Snapshot.{car_count};
 
-use crate::opening::first_floors;
 use crate::visits::Visit;
-use call_state::{CarSpec, CarState, Snapshot};
+use call_sets::{CallSet, FloorSet};
+use call_state::{CarSpec, CarState, Snapshot, is_open};
+use std::alloc::{AllocError, Global};
 
 /// How far a car is in its draft tour. Moments are in ms, costs in cost units.
 #[derive(Clone, Copy)]
@@ -19,8 +20,8 @@ pub(crate) struct Ride {
     /// Before its first stop: whether that stop is due, and whether a leg leads there.
     due: bool,
     has_leg: bool,
-    /// The floors where it may stop first: bit `f` stands for floor `f`.
-    first: u64,
+    /// The floors where it may stop first.
+    first: FloorSet,
     /// The floor of its last stop, or where it stands, comes to or comes from.
     floor: u32,
     /// The moments at which the doors of its last stop are open and at which it leaves.
@@ -29,13 +30,13 @@ pub(crate) struct Ride {
     /// The persons carried.
     load: u64,
     /// The floors where someone carried goes.
-    bound_for: u64,
+    bound_for: FloorSet,
     /// For each floor the persons carried there, and the sum of the moments at which they boarded.
     persons: [u64; 64],
     since: [u64; 64],
     /// The calls that boarded at earlier stops, and at this one.
-    before: u128,
-    here: u128,
+    before: CallSet,
+    here: CallSet,
     /// What the riders cost who boarded and got off so far.
     cost: u64,
     is_broken: bool,
@@ -60,32 +61,64 @@ fn cost_of_wait(snapshot: &Snapshot, wait: u64) -> u64 {
         .saturating_add(building.patience_weight().saturating_mul(past))
 }
 
+/// The floors where the car may stop first.
+fn first_floors(snapshot: &Snapshot, car: u32) -> FloorSet
+    requires { car < car_count snapshot.now }
+{
+    let state = snapshot.car(car);
+    match state {
+        CarState::Idle { .. } => FloorSet::lowest(64),
+        CarState::Coming { floor, .. } => FloorSet::empty().with(floor % 64),
+        CarState::Moving { .. } => {
+            let mut open = FloorSet::empty();
+            for floor in 0..snapshot.building().heights().len() as u32 {
+                if is_open(snapshot.building(), car, snapshot.now(), state, floor) {
+                    open = open.with(floor % 64);
+                }
+            }
+            open
+        }
+    }
+}
+
+/// For each call the later ones of its queue.
+pub(crate) fn later_calls(alloc: Global, snapshot: &Snapshot) -> Result<Vec<CallSet>, AllocError> {
+    let calls = snapshot.calls();
+    let mut later = Vec::new(alloc);
+    for call in calls {
+        let mut set = CallSet::empty();
+        for (j, other) in calls.iter().enumerate() {
+            if other.is_later_in_queue(call) {
+                set = set.with(j as u32 % 128);
+            }
+        }
+        later.push(set)?;
+    }
+    Ok(later)
+}
+
 impl Ride {
     /// The car at the start of its tour.
     pub(crate) fn start(snapshot: &Snapshot, car: u32) -> Self
         requires { car < car_count snapshot.now }
     {
         let state = snapshot.car(car);
-        let (floor, moment) = match state {
-            CarState::Idle { floor, free } => (floor, free),
-            CarState::Coming { floor, arrives } => (floor, arrives),
-            CarState::Moving { from, up: _, left } => (from, left),
-        };
+        let moment = state.moment();
         let mut ride = Self {
-            spec: snapshot.building().cars()[car as usize],
+            spec: *snapshot.spec(car),
             begun: false,
-            due: !matches!(state, CarState::Idle { .. }),
-            has_leg: !matches!(state, CarState::Coming { .. }),
+            due: !state.is_idle(),
+            has_leg: !state.is_coming(),
             first: first_floors(snapshot, car),
-            floor,
+            floor: state.floor(),
             opened: moment,
             leaves: moment,
             load: 0,
-            bound_for: 0,
+            bound_for: FloorSet::empty(),
             persons: [0; 64],
             since: [0; 64],
-            before: 0,
-            here: 0,
+            before: CallSet::empty(),
+            here: CallSet::empty(),
             cost: 0,
             is_broken: false,
         };
@@ -104,14 +137,14 @@ impl Ride {
 
     /// What the tour costs if it ends here. None where it breaks a rule.
     pub(crate) fn cost_at_end(&self) -> Option<u64> {
-        if self.is_broken || self.bound_for != 0 {
+        if self.is_broken || !self.bound_for.is_empty() {
             return None;
         }
         Some(self.cost)
     }
 
     /// The car visits a floor, if that is of use. Whether it is.
-    pub(crate) fn visit(&mut self, snapshot: &Snapshot, later: &[u128], visit: Visit) -> bool {
+    pub(crate) fn visit(&mut self, snapshot: &Snapshot, later: &[CallSet], visit: Visit) -> bool {
         if !self.begun || visit.floor != self.floor {
             if visit.call.is_none() && !self.has_use_at(visit.floor) {
                 return false;
@@ -128,12 +161,12 @@ impl Ride {
 
     /// Whether a stop at the floor is of use though nobody boards.
     fn has_use_at(&self, floor: u32) -> bool {
-        !self.begun && self.due || self.bound_for >> (floor % 64) & 1 == 1
+        !self.begun && self.due || self.bound_for.contains(floor)
     }
 
     /// Whether the way to the floor is not allowed.
     fn goes_wrong(&self, floor: u32) -> bool {
-        if !self.begun && self.first >> (floor % 64) & 1 == 0 {
+        if !self.begun && !self.first.contains(floor) {
             return true;
         }
         (self.begun || self.has_leg) && self.turns(floor)
@@ -141,8 +174,8 @@ impl Ride {
 
     /// Whether someone carried would ride past or away from the destination on the way to the floor.
     fn turns(&self, floor: u32) -> bool {
-        self.floor < floor && self.bound_for.trailing_zeros() < floor
-            || floor < self.floor && self.bound_for >> (floor % 64) > 1
+        self.floor < floor && self.bound_for.least().is_some_and(|lowest| lowest < floor)
+            || floor < self.floor && !self.bound_for.above(floor).is_empty()
     }
 
     /// The car stops at another floor, and all get off that go there.
@@ -162,8 +195,8 @@ impl Ride {
         self.leaves = self.opened.saturating_add(self.spec.closing);
         self.begun = true;
         self.floor = floor;
-        self.before |= self.here;
-        self.here = 0;
+        self.before = self.before.union(self.here);
+        self.here = CallSet::empty();
         self.let_off(snapshot.building().travel_weight());
     }
 
@@ -183,19 +216,22 @@ impl Ride {
         self.load = self.load.saturating_sub(persons);
         self.persons[place] = 0;
         self.since[place] = 0;
-        self.bound_for &= !(1 << place);
+        self.bound_for = self.bound_for.without(self.floor % 64);
     }
 
     /// A call boards where the car is.
-    fn board(&mut self, snapshot: &Snapshot, later: &[u128], call: u32) {
+    fn board(&mut self, snapshot: &Snapshot, later: &[CallSet], call: u32) {
         let Some(wanted) = snapshot.calls().get(call as usize).copied() else {
             self.is_broken = true;
             return;
         };
-        let later = later.get(call as usize).copied().unwrap_or(0);
+        let later = later
+            .get(call as usize)
+            .copied()
+            .unwrap_or(CallSet::empty());
         let persons = wanted.persons as u64;
         let load = self.load.saturating_add(persons);
-        if self.before & later != 0 || load > self.spec.capacity as u64 {
+        if !self.before.intersection(later).is_empty() || load > self.spec.capacity as u64 {
             self.is_broken = true;
         }
         let wait = self.opened.saturating_sub(wanted.released);
@@ -204,7 +240,7 @@ impl Ride {
         self.leaves = self
             .leaves
             .saturating_add(self.spec.boarding.saturating_mul(persons));
-        self.here |= 1 << (call % 128);
+        self.here = self.here.with(call % 128);
         self.take_up(wanted.destination, persons, self.opened);
     }
 
@@ -214,6 +250,6 @@ impl Ride {
         self.load = self.load.saturating_add(persons);
         self.persons[place] = self.persons[place].saturating_add(persons);
         self.since[place] = self.since[place].saturating_add(persons.saturating_mul(boarded));
-        self.bound_for |= 1 << place;
+        self.bound_for = self.bound_for.with(destination % 64);
     }
 }

@@ -6,7 +6,7 @@ use Rattle.std.proofs.lemmas.Bool.{cases_Bool, leb-true, leb-false, false≢true
 use Rattle.elevator_model.specs.declared.Stop.{Stop}
 use Rattle.elevator_model.specs.declared.Broken.{Broken}
 use Rattle.elevator_model.specs.declared.BadPlan.{BadPlan}
-use Rattle.elevator_model.specs.Counting.{has, sum_below}
+use Rattle.call_sets.specs.Counting.{has, sum_below}
 use Rattle.elevator_model.specs.Snapshot.{Snapshot, car_count, call_count}
 use Rattle.elevator_model.specs.Tours.{Progress, IsFeasible, after_stops, start_of, first_broken_from, none_taken}
 use Rattle.elevator_model.specs.Costs.{cost_of}
@@ -14,14 +14,14 @@ use Rattle.elevator_model.specs.Plans.{IsFeasiblePlan, IsOptimal, is_boarded_in,
 use Rattle.elevator_model.specs.Partial.{moves_of}
 use Rattle.tour_rules.proofs.BoundedTests.{same_function}
 use Rattle.tour_rules.proofs.Taken.{tour_alone, tour_apart, tour_beside}
-use Rattle.tour_rules.proofs.BoundedTests.{sum_below-split}
+use Rattle.call_sets.proofs.Sums.{sum_below-split}
 use Rattle.tour_cost.proofs.Judged.{is_served, clear_first, clear_car, without_served, without_all, without_none, feasible_where_clear, clear_where_feasible, clear_unserved}
-use Rattle.plain_solver.specs.Listed.{tour_at, AreAllTours}
+use Rattle.partial_tours.specs.Listed.{tour_at, AreAllTours}
 use Rattle.plain_solver.specs.declared.choices.Sums.{Sums}
 use Rattle.plain_solver.specs.declared.choices.Choices.{Choices}
 use Rattle.plain_solver.specs.Rests.{AreChoices, AreChoicesFrom, IsSmallCost, sums_at, Completes, with_tour, rest_cost, Chosen, IsLeast, IsCheapest, IsLeastOf, IsCheapestOf, begun_with, better_of}
-use Rattle.plain_solver.proofs.Boarded.{boarded_in}
-use Rattle.plain_solver.proofs.Listed.{same_end, same_cost}
+use Rattle.partial_tours.proofs.Boarded.{boarded_in}
+use Rattle.partial_tours.proofs.Listed.{same_end, same_cost}
 
 -- ---- one more tour of the list
 

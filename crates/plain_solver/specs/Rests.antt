@@ -1,12 +1,12 @@
 -- Tours of the cars from one on.
 use Rattle.std.specs.Prelude.{◌≡◌, ℕ, ◌+◌, ◌*◌, ◌<◌, ◌≤◌, ◌||◌, List, [], ◌∷◌, length, Bool, true, false, nat_le, slice_index_or, if◌then◌else◌, Option, Some, None}
 use Rattle.elevator_model.specs.declared.Stop.{Stop}
-use Rattle.elevator_model.specs.Counting.{has}
+use Rattle.call_sets.specs.Counting.{has}
 use Rattle.elevator_model.specs.Snapshot.{Snapshot, car_count, call_count}
 use Rattle.elevator_model.specs.Tours.{IsFeasible}
 use Rattle.elevator_model.specs.Costs.{cost_of}
 use Rattle.elevator_model.specs.Plans.{is_boarded_in}
-use Rattle.plain_solver.specs.Listed.{tour_at, AreAllTours}
+use Rattle.partial_tours.specs.Listed.{tour_at, AreAllTours}
 use Rattle.plain_solver.specs.declared.choices.Sums.{Sums}
 use Rattle.plain_solver.specs.declared.choices.Choices.{Choices}
 

@@ -1,7 +1,7 @@
 //! The tours among which each car has a choice, and the cheapest choice.
 
 ghost use Rattle.std.specs.Prelude.{◌≡◌, ℕ, ◌+◌, ◌*◌, ◌-◌, ◌^◌, ◌≤◌, ◌<◌, ◌↔◌, [], length, IsTrue, IfOk, IfSome, true, false, slice_index_or};
-ghost use Rattle.elevator_model.specs.Counting.{has};
+ghost use Rattle.call_sets.specs.Counting.{has};
 ghost use Rattle.elevator_model.specs.Snapshot.{car_count, call_count};
 ghost use Rattle.elevator_model.specs.Tours.{IsFeasible};
 ghost use Rattle.elevator_model.specs.Costs.{cost_of};
@@ -9,17 +9,18 @@ ghost use Rattle.elevator_model.specs.Plans.{is_boarded_in};
 ghost use Rattle.plain_solver.specs.Rests.{AreChoices, AreChoicesFrom, IsCheapest, better_of, begun_with, IsSmallCost};
 
 use crate::tours::feasible_tours;
+use call_sets::CallSet;
 use call_state::Snapshot;
-use elevator_model::Tour;
+use elevator_model::{MOST_CALLS, MOST_COST, Tour};
 use std::alloc::{AllocError, Global};
 use std::marker::Model;
-use tour_cost::{calls_of, cost, sets};
+use tour_cost::{calls_of, cost};
 
 /// What a tour costs, in cost units, and the calls that it takes.
 #[derive(Clone, Copy)]
 pub(crate) struct Sums {
     pub(crate) cost: u64,
-    pub(crate) calls: u128,
+    pub(crate) calls: CallSet,
 }
 
 /// Every feasible tour of a car, and beside each its sums.
@@ -50,7 +51,7 @@ fn sums_of(snapshot: &Snapshot, car: u32, tour: &Tour) -> Sums
     requires car { car < car_count snapshot.now }
     requires feasible { IsFeasible snapshot.now car tour.now }
     ensures cost { result.cost ≡ cost_of snapshot.now car tour.now }
-    ensures small { result.cost ≤ 1000000000000000000 }
+    ensures small { result.cost ≤ MOST_COST }
     ensures calls { (j : ℕ) → has result.calls j ≡ is_boarded_in tour.now j }
 {
     prove!(snapshot.calls().len() <= 128);
@@ -121,11 +122,11 @@ impl Rest {
 }
 
 /// Whether no call is in both sets.
-fn are_apart(left: u128, right: u128) -> bool
+fn are_apart(left: CallSet, right: CallSet) -> bool
     ensures { IsTrue result ↔ ((k : ℕ) → k < 128 → has left k ≡ true → has right k ≡ false) }
 {
-    for call in 0..128 {
-        if sets::contains(left, call) && sets::contains(right, call) {
+    for call in 0..MOST_CALLS {
+        if left.contains(call) && right.contains(call) {
             return false;
         }
     }
@@ -133,12 +134,12 @@ fn are_apart(left: u128, right: u128) -> bool
 }
 
 /// Whether each of the first calls is in the set.
-fn has_all(set: u128, calls: usize) -> bool
+fn has_all(set: CallSet, calls: usize) -> bool
     requires { calls ≤ 128 }
     ensures { IsTrue result ↔ ((k : ℕ) → k < calls → has set k ≡ true) }
 {
     for call in 0..calls {
-        if !sets::contains(set, call) {
+        if !set.contains(call as u32) {
             return false;
         }
     }
@@ -164,7 +165,7 @@ fn better(
 }
 
 /// No tours, where each call is taken: what the cars after the last one need.
-fn end_of(alloc: Global, snapshot: &Snapshot, taken: u128) -> Option<Rest>
+fn end_of(alloc: Global, snapshot: &Snapshot, taken: CallSet) -> Option<Rest>
     ensures cheapest { (c : ℕ) → c ≡ car_count snapshot.now → IsCheapest snapshot.now (has taken) c result }
     ensures small { IsSmallCost 0 result }
 {
@@ -183,7 +184,7 @@ pub(crate) fn cheapest_rest(
     snapshot: &Snapshot,
     choices: &[Choices],
     car: usize,
-    taken: u128,
+    taken: CallSet,
 ) -> Result<Option<Rest>, AllocError>
     requires choices { AreChoicesFrom snapshot.now car choices.now }
     requires few { car + length choices.now ≤ 16 }
@@ -197,7 +198,7 @@ pub(crate) fn cheapest_rest(
     for place in 0..first.tours.len() {
         let next = first.sums[place];
         if are_apart(next.calls, taken) {
-            let with_next = sets::either(taken, next.calls);
+            let with_next = taken.union(next.calls);
             let rest = cheapest_rest(alloc, snapshot, later, car + 1, with_next)?;
             best = better(alloc, best, &first.tours[place], next.cost, rest)?;
         }

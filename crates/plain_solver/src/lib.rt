@@ -11,6 +11,3 @@ mod tours;
 pub use elevator_model::{Plan, Tour};
 pub use plans::{Cheapest, cheapest_plan};
 pub use tours::feasible_tours;
-
-#[cfg(test)]
-mod tests;

@@ -6,10 +6,10 @@ ghost use Rattle.elevator_model.specs.Plans.{IsOptimal, plan_cost_of};
 ghost use Rattle.plain_solver.specs.Rests.{AreChoicesFrom};
 
 use crate::choices::{Choices, cheapest_rest};
+use call_sets::CallSet;
 use call_state::Snapshot;
 use elevator_model::Plan;
 use std::alloc::{AllocError, Global};
-use tour_cost::sets;
 
 /// An optimal plan and its cost.
 #[derive(Debug, Drop)]
@@ -27,7 +27,7 @@ pub fn cheapest_plan(alloc: Global, snapshot: &Snapshot) -> Result<Cheapest, All
     ensures cost { IfOk result (λ cheapest. cheapest.cost ≡ plan_cost_of snapshot.now cheapest.plan) }
 {
     let choices = all_choices(alloc, snapshot)?;
-    let cheapest = cheapest_rest(alloc, snapshot, choices.as_slice(), 0, sets::NONE)?;
+    let cheapest = cheapest_rest(alloc, snapshot, choices.as_slice(), 0, CallSet::empty())?;
     let Some(cheapest) = cheapest else {
         unreachable!()
     };

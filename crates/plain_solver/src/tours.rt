@@ -3,13 +3,14 @@
 ghost use Rattle.std.specs.Prelude.{◌≡◌, ℕ, ◌≤◌, ◌<◌, ◌++◌, ◌∷◌, [], OnOk, IfOk, Some, true, length};
 ghost use Rattle.elevator_model.specs.Snapshot.{car_count, call_count};
 ghost use Rattle.elevator_model.specs.Partial.{Course, IsLawful};
-ghost use Rattle.tour_rules.specs.PartialTour.{course, with_move};
-ghost use Rattle.plain_solver.specs.Listed.{AreAllTours, AddsTours, ends_tour};
+ghost use Rattle.partial_tours.specs.PartialTour.{course, with_move};
+ghost use Rattle.partial_tours.specs.Listed.{AreAllTours, AddsTours, ends_tour};
 
+use call_sets::CallSet;
 use call_state::Snapshot;
 use elevator_model::{Move, Tour};
+use partial_tours::{Moves, Prefix, next_moves};
 use std::alloc::{AllocError, Global};
-use tour_rules::{Moves, Prefix, next_moves};
 
 /// The feasible tours of a car: every way to stop and to let calls board that breaks no rule, each once.
 /// The order in which calls board at a stop makes no other tour.
@@ -20,7 +21,7 @@ pub fn feasible_tours(alloc: Global, snapshot: &Snapshot, car: u32) -> Result<Ve
     requires { car < car_count snapshot.now }
     ensures { IfOk result (λ tours. AreAllTours snapshot.now car tours.items) }
 {
-    // So `u128::MAX` has each call.
+    // So the set of all ones has each call.
     prove!(snapshot.calls().len() <= 128);
     let mut prefix = Prefix::new(alloc, snapshot, car)?;
     let mut found = Vec::new(alloc);
@@ -66,7 +67,7 @@ fn add_tours(alloc: Global, prefix: &mut Prefix, found: &mut Vec<Tour>) -> Resul
         return add_tour(alloc, prefix, found);
     }
     let mut moves = Moves::new(alloc)?;
-    next_moves(prefix, u128::MAX, &mut moves);
+    next_moves(prefix, CallSet::from_bits(u128::MAX), &mut moves);
     for next in moves.items() {
         add_tours_after(alloc, prefix, *next, found)?;
     }

@@ -8,14 +8,14 @@ use Rattle.std.specs.List.{list_any}
 use Rattle.elevator_model.specs.declared.Stop.{Stop}
 use Rattle.elevator_model.specs.declared.BadPlan.{BadPlan}
 use Rattle.elevator_model.specs.declared.Broken.{Broken}
-use Rattle.elevator_model.specs.Counting.{sum_below}
+use Rattle.call_sets.specs.Counting.{sum_below}
 use Rattle.elevator_model.specs.Snapshot.{Snapshot, call_count, car_count}
 use Rattle.elevator_model.specs.Tours.{first_broken_from, start_of, none_taken, IsFeasible}
 use Rattle.elevator_model.specs.Plans.{IsFeasiblePlan, is_boarded_in, tour_of, times_served, first_of, first_unserved, first_bad, first_bad_tour, broken_of_car, unserved_of}
-use Rattle.tour_rules.proofs.BoundedTests.{same_function, sum_below-same}
+use Rattle.call_sets.proofs.Sums.{sum_below-same, sum_below-split}
+use Rattle.tour_rules.proofs.BoundedTests.{same_function}
 use Rattle.tour_rules.proofs.Taken.{tour_alone, tour_apart, tour_beside}
 use Rattle.tour_cost.specs.Unserved.{first_without}
-use Rattle.tour_rules.proofs.BoundedTests.{sum_below-split}
 
 some≢none : {X : Type 0} {x : X} → Some x ≡ None → ⊥
 some≢none e = false≢true (sym (ap is_there e))

@@ -1,4 +1,3 @@
-pub mod Bits
 pub mod Stops
 pub mod Short
 pub mod Walked

@@ -4,16 +4,15 @@ use Rattle.std.proofs.Math.Nat.{mul-le-mul_left}
 use Rattle.std.proofs.lemmas.Bool.{and_parts, or_cases, both_ways}
 use Rattle.elevator_model.specs.declared.Stop.{Stop}
 use Rattle.elevator_model.specs.Building.{most_cars}
-use Rattle.elevator_model.specs.Counting.{is_among, sum_below, sum_where}
+use Rattle.call_sets.specs.Counting.{is_among, sum_below, sum_where}
 use Rattle.elevator_model.specs.Snapshot.{Snapshot, call_count, group_of, car_count, IsAccepted}
 use Rattle.elevator_model.specs.Tours.{Progress, is_aboard, make_stop, after_stops, start_of}
 use Rattle.elevator_model.specs.Costs.{cost_of_rider, is_delivered, settled_cost, cost_of}
 use Rattle.elevator_model.specs.Plans.{IsFeasiblePlan, is_boarded_in, tour_of}
-use Rattle.tour_rules.proofs.Counts.{count-same}
+use Rattle.call_sets.proofs.Counts.{count-same}
 use Rattle.tour_rules.specs.Leaving.{IsKept, AreEarly}
 use Rattle.tour_cost.specs.Served.{calls_served}
-use Rattle.tour_rules.proofs.BoundedTests.{sum_below-split}
-use Rattle.tour_rules.proofs.Sums.{sum_below-add, sum_where-times}
+use Rattle.call_sets.proofs.Sums.{sum_below-split, sum_below-add, sum_where-times}
 use Rattle.tour_rules.proofs.RiderSums.{is_aboard-call, is_aboard-group}
 use Rattle.tour_rules.proofs.GettingOff.{boards_at-call}
 use Rattle.tour_cost.proofs.Short.{calls-le}

@@ -6,7 +6,7 @@ use Rattle.elevator_model.specs.Snapshot.{Snapshot, call_count, call_of}
 use Rattle.elevator_model.specs.Tours.{rider_count, persons_of, after_stops, start_of}
 use Rattle.elevator_model.specs.Costs.{cost_of_wait, cost_of_rider, is_delivered, cost_of}
 use Rattle.tour_cost.specs.ShortForm.{short_cost_of_rider, short_cost_of}
-use Rattle.tour_rules.proofs.Sums.{sum_where-same}
+use Rattle.call_sets.proofs.Sums.{sum_where-same}
 
 no_weight : (b : Building) → IsBuilding b → b.version ≡ 1 → b.patience_weight ≡ 0
 no_weight b built first = let none = built.patient first in omega (arith, none)

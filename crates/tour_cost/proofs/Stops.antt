@@ -1,7 +1,7 @@
 -- What a stop does to the sets of a ride.
 use Rattle.std.proofs.Common.{◌≡◌, ℕ, ◌+◌, ◌*◌, ◌<◌, Bool, true, false, not, ◌&&◌, ◌||◌, eqb, length, refl, sym, ap, ◌∙◌, arith}
 use Rattle.elevator_model.specs.declared.Stop.{Stop}
-use Rattle.elevator_model.specs.Counting.{has, is_among}
+use Rattle.call_sets.specs.Counting.{has, is_among}
 use Rattle.elevator_model.specs.Snapshot.{Snapshot, call_count, call_of, group_of}
 use Rattle.elevator_model.specs.Tours.{Progress, destination_of, boards_at, make_stop, start_of}
 use Rattle.tour_cost.specs.declared.rides.Ride.{Ride}

@@ -5,12 +5,13 @@ use Rattle.std.proofs.lemmas.Bool.{and_parts, false≢true, ltb-true, not-false,
 use Rattle.tour_rules.proofs.RiderSums.{is_aboard-call}
 use Rattle.elevator_model.specs.declared.Stop.{Stop}
 use Rattle.elevator_model.specs.declared.Times.{Times}
-use Rattle.elevator_model.specs.Counting.{has, is_among}
+use Rattle.call_sets.specs.Counting.{has, is_among}
 use Rattle.elevator_model.specs.Building.{floor_count}
 use Rattle.elevator_model.specs.Snapshot.{Snapshot, call_count, call_of, car_count, serves, is_possible, IsAccepted}
 use Rattle.elevator_model.specs.Tours.{Progress, is_aboard, boards_at, make_stop, after_stops, start_of, breaks, broken_at, none_taken, rules_of_stop, is_call_for, IsFeasible, destination_of, arrival}
 use Rattle.elevator_model.specs.Costs.{settled_cost, times_from}
-use Rattle.tour_rules.proofs.BoundedTests.{AllClear-from, list_any-false}
+use Rattle.call_sets.proofs.ListTests.{list_any-false}
+use Rattle.tour_rules.proofs.BoundedTests.{AllClear-from}
 use Rattle.tour_rules.proofs.Sound.{AllFine, after_stops-push}
 use Rattle.tour_cost.specs.declared.rides.Ride.{Ride}
 use Rattle.tour_cost.specs.Rides.{Tracks, IsStopOf}

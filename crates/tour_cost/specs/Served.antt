@@ -1,7 +1,7 @@
 -- How many calls a tour serves.
 use Rattle.std.specs.Prelude.{ℕ, List}
 use Rattle.elevator_model.specs.declared.Stop.{Stop}
-use Rattle.elevator_model.specs.Counting.{sum_where}
+use Rattle.call_sets.specs.Counting.{sum_where}
 use Rattle.elevator_model.specs.Snapshot.{Snapshot, call_count}
 use Rattle.elevator_model.specs.Plans.{is_boarded_in}
 

@@ -1,7 +1,7 @@
 -- The cost of a tour in a building without patience, as version 1 has it.
 use Rattle.std.specs.Prelude.{ℕ, ◌+◌, ◌-◌, ◌*◌, List, nat_lt, if◌then◌else◌}
 use Rattle.elevator_model.specs.declared.Stop.{Stop}
-use Rattle.elevator_model.specs.Counting.{sum_where}
+use Rattle.call_sets.specs.Counting.{sum_where}
 use Rattle.elevator_model.specs.Snapshot.{Snapshot, call_count, call_of}
 use Rattle.elevator_model.specs.Tours.{Progress, rider_count, persons_of, after_stops, start_of}
 use Rattle.elevator_model.specs.Costs.{is_delivered}

@@ -1,7 +1,7 @@
 //! The cost of a tour: what each rider's wait and ride cost, as the riders get off.
 
 ghost use Rattle.std.specs.Prelude.{◌≡◌, ℕ, ◌+◌, ◌*◌, ◌≤◌, ◌<◌, slice_index, if◌then◌else◌};
-ghost use Rattle.elevator_model.specs.Counting.{has};
+ghost use Rattle.call_sets.specs.Counting.{has};
 ghost use Rattle.elevator_model.specs.Snapshot.{car_count};
 ghost use Rattle.elevator_model.specs.Tours.{IsFeasible};
 ghost use Rattle.elevator_model.specs.Costs.{cost_of};
@@ -9,13 +9,13 @@ ghost use Rattle.tour_cost.specs.Served.{calls_served};
 ghost use Rattle.tour_cost.specs.ShortForm.{short_cost_of};
 
 use crate::rides::{self, Ride};
-use crate::sets;
+use call_sets::CallSet;
 use call_state::Snapshot;
-use elevator_model::Tour;
+use elevator_model::{MOST_CALL_COST, MOST_COST, MOST_GROUPS_COST, Tour};
 use tour_rules::riding::cost_of_leaving;
 
-/// The most calls that a snapshot can have.
-const MOST_CALLS: usize = 128;
+/// One moment for each call that a snapshot can have.
+const MOMENTS: usize = 128;
 
 /// The cost of a feasible tour of the car: that of the calls that it takes and of the groups aboard.
 ///
@@ -26,8 +26,8 @@ pub fn cost(snapshot: &Snapshot, car: u32, tour: &Tour) -> u64
     requires car { car < car_count snapshot.now }
     requires feasible { IsFeasible snapshot.now car tour.now }
     ensures cost { result ≡ cost_of snapshot.now car tour.now }
-    ensures bounded { result ≤ 1000000000000000000 }
-    ensures per_call { result ≤ 2400000000000000 * calls_served snapshot.now tour.now + 6400000000000000 }
+    ensures bounded { result ≤ MOST_COST }
+    ensures per_call { result ≤ MOST_CALL_COST * calls_served snapshot.now tour.now + MOST_GROUPS_COST }
     ensures short { snapshot.now.building.version ≡ 1 → result ≡ short_cost_of snapshot.now car tour.now }
 {
     let mut ride = Ride::start(snapshot, car);
@@ -52,18 +52,18 @@ pub fn cost(snapshot: &Snapshot, car: u32, tour: &Tour) -> u64
 }
 
 /// The moments before anyone boarded.
-fn no_moments() -> [u64; MOST_CALLS]
+fn no_moments() -> [u64; MOMENTS]
     ensures { (j : ℕ) → slice_index result j ≡ 0 }
 {
-    [0; MOST_CALLS]
+    [0; MOMENTS]
 }
 
 /// Notes the moment at which these calls boarded.
-fn note_boarding(boarded: &mut [u64; MOST_CALLS], boards: u128, opened: u64)
+fn note_boarding(boarded: &mut [u64; MOMENTS], boards: CallSet, opened: u64)
     ensures { (j : ℕ) → j < 128 → slice_index boarded.new j ≡ (if has boards j then opened else slice_index boarded.old j) }
 {
-    for j in 0..MOST_CALLS {
-        if sets::contains(boards, j) {
+    for j in 0..MOMENTS {
+        if boards.contains(j as u32) {
             boarded[j] = opened;
         }
     }

@@ -7,13 +7,9 @@
 mod costs;
 mod plans;
 mod rides;
-pub mod sets;
 mod timelines;
 
 pub use costs::cost;
 pub use elevator_model::{BadPlan, Plan, Times};
 pub use plans::{calls_of, judge_plan, plan_cost};
 pub use timelines::timeline;
-
-#[cfg(test)]
-mod tests;

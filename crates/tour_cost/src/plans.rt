@@ -1,22 +1,22 @@
 //! Plans: whether one is feasible, and its cost.
 
 ghost use Rattle.std.specs.Prelude.{◌≡◌, ◌↔◌, ◌≤◌, ◌<◌, ℕ, length, true, IsOk, MatchResult, Some, None};
-ghost use Rattle.elevator_model.specs.Counting.{has, is_among};
+ghost use Rattle.call_sets.specs.Counting.{has, is_among};
 ghost use Rattle.elevator_model.specs.Snapshot.{car_count};
 ghost use Rattle.elevator_model.specs.Plans.{IsFeasiblePlan, plan_cost_of, first_bad, is_boarded_in};
 ghost use Rattle.tour_cost.specs.Unserved.{first_without as first_without_lem};
 
 use crate::costs::cost;
-use crate::sets;
+use call_sets::CallSet;
 use call_state::Snapshot;
-use elevator_model::{BadPlan, Plan, Rule, Tour};
+use elevator_model::{BadPlan, MOST_COST, Plan, Rule, Tour};
 use tour_rules::judge_after;
 
 /// The cost of a feasible plan: that of its tours. It is below 10^18.
 pub fn plan_cost(snapshot: &Snapshot, plan: &Plan) -> u64
     requires { IsFeasiblePlan snapshot.now plan.now }
     ensures cost { result ≡ plan_cost_of snapshot.now plan.now }
-    ensures bounded { result < 1000000000000000000 }
+    ensures bounded { result < MOST_COST }
 {
     let mut total = 0;
     let cars = snapshot.building().cars().len();
@@ -36,7 +36,7 @@ pub fn judge_plan(snapshot: &Snapshot, plan: &Plan) -> Result<(), BadPlan>
 {
     let tours = plan.tours();
     let calls = snapshot.calls().len();
-    let mut taken = sets::NONE;
+    let mut taken = CallSet::empty();
     for car in 0..tours.len() {
         let tour = &tours[car];
         if let Err(broken) = judge_after(snapshot, car as u32, taken, tour) {
@@ -46,7 +46,7 @@ pub fn judge_plan(snapshot: &Snapshot, plan: &Plan) -> Result<(), BadPlan>
                 rule: broken.rule,
             });
         }
-        taken = sets::either(taken, calls_of(tour));
+        taken = taken.union(calls_of(tour));
     }
     match first_without(calls, taken) {
         Some(call) => Err(BadPlan {
@@ -59,36 +59,36 @@ pub fn judge_plan(snapshot: &Snapshot, plan: &Plan) -> Result<(), BadPlan>
 }
 
 /// The calls that board at a stop.
-fn calls_at(boards: &[u32]) -> u128
+fn calls_at(boards: &[u32]) -> CallSet
     requires { (j : ℕ) → is_among j boards.now ≡ true → j < 128 }
     ensures { (j : ℕ) → has result j ≡ is_among j boards.now }
 {
-    let mut calls = sets::NONE;
+    let mut calls = CallSet::empty();
     for call in boards {
-        calls = sets::with(calls, *call as usize);
+        calls = calls.with(*call);
     }
     calls
 }
 
-/// The calls that a tour takes: bit `j` stands for call `j`. Its boards have to be calls.
-pub fn calls_of(tour: &Tour) -> u128
+/// The calls that a tour takes. Its boards have to be calls.
+pub fn calls_of(tour: &Tour) -> CallSet
     requires { (j : ℕ) → is_boarded_in tour.now j ≡ true → j < 128 }
     ensures { (j : ℕ) → has result j ≡ is_boarded_in tour.now j }
 {
-    let mut calls = sets::NONE;
+    let mut calls = CallSet::empty();
     for stop in tour.stops() {
-        calls = sets::either(calls, calls_at(stop.boards.as_slice()));
+        calls = calls.union(calls_at(stop.boards.as_slice()));
     }
     calls
 }
 
 /// The lowest of the first calls that is not in the set.
-fn first_without(calls: usize, set: u128) -> Option<u32>
+fn first_without(calls: usize, set: CallSet) -> Option<u32>
     requires { calls ≤ 128 }
     ensures { result ≡ first_without_lem (has set) calls }
 {
     for call in 0..calls {
-        if !sets::contains(set, call) {
+        if !set.contains(call as u32) {
             return Some(call as u32);
         }
     }

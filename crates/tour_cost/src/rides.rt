@@ -1,15 +1,15 @@
 //! How far a car is in its tour, in plain numbers and sets.
 
 ghost use Rattle.std.specs.Prelude.{◌≡◌, ℕ, ◌+◌, ◌*◌, ◌-◌, ◌≤◌, ◌<◌, ◌==◌, ◌&&◌, not, length, true};
-ghost use Rattle.elevator_model.specs.Counting.{has, is_among, sum_where};
+ghost use Rattle.call_sets.specs.Counting.{has, is_among, sum_where};
 ghost use Rattle.elevator_model.specs.Building.{floor_count};
 ghost use Rattle.elevator_model.specs.Snapshot.{IsAccepted, car_count, call_count, call_of, group_of, spec_of};
 ghost use Rattle.elevator_model.specs.Tours.{Progress, start_of, make_stop, arrival};
 ghost use Rattle.tour_rules.specs.Leaving.{is_group_off};
 ghost use Rattle.tour_cost.specs.Rides.{Tracks, IsStopOf};
 
-use crate::sets;
-use call_state::{CarState, Snapshot};
+use call_sets::{CallSet, FloorSet};
+use call_state::Snapshot;
 use elevator_model::Stop;
 use tour_rules::riding;
 
@@ -25,10 +25,10 @@ pub(crate) struct Ride {
     pub(crate) opened: u64,
     pub(crate) leaves: u64,
     /// The calls that are carried.
-    pub(crate) carried: u128,
+    pub(crate) carried: CallSet,
     /// The floors where the car has stopped: a group aboard is carried until the car stops at its
-    /// destination. Bit `f` stands for floor `f`.
-    pub(crate) visited: u64,
+    /// destination.
+    pub(crate) visited: FloorSet,
 }
 
 impl Ride {
@@ -40,18 +40,15 @@ impl Ride {
         ensures early { result.leaves ≤ 1100000000 }
         ensures accepted { IsAccepted snapshot.now }
     {
-        let (floor, moment) = match snapshot.car(car) {
-            CarState::Idle { floor, free } => (floor, free),
-            CarState::Coming { floor, arrives } => (floor, arrives),
-            CarState::Moving { from, up: _, left } => (from, left),
-        };
+        let state = snapshot.car(car);
+        let moment = state.moment();
         Self {
             begun: false,
-            floor,
+            floor: state.floor(),
             opened: moment,
             leaves: moment,
-            carried: sets::NONE,
-            visited: 0,
+            carried: CallSet::empty(),
+            visited: FloorSet::empty(),
         }
     }
 
@@ -79,7 +76,7 @@ impl Ride {
         ensures late { result.leaves ≤ self.now.leaves + 150000000 }
     {
         let boards = calls_boarding(snapshot, stop);
-        let off = sets::both(self.carried, calls_to(snapshot, stop.floor));
+        let off = self.carried.intersection(calls_to(snapshot, stop.floor));
         let persons_off = persons_of_calls(snapshot, off)
             + persons_of_groups_off(snapshot, car, self.visited, stop.floor);
         let opened = self.arrival(snapshot, car, stop.floor) + riding::opening_of(snapshot, car);
@@ -94,48 +91,48 @@ impl Ride {
             floor: stop.floor,
             opened,
             leaves: opened + dwell,
-            carried: sets::either(sets::without(self.carried, off), boards),
-            visited: self.visited | 1 << stop.floor,
+            carried: self.carried.minus(off).union(boards),
+            visited: self.visited.with(stop.floor),
         }
     }
 }
 
 /// The calls that board at a stop.
-pub(crate) fn calls_boarding(snapshot: &Snapshot, stop: &Stop) -> u128
+pub(crate) fn calls_boarding(snapshot: &Snapshot, stop: &Stop) -> CallSet
     requires { IsStopOf snapshot.now stop.now }
     ensures { (j : ℕ) → has result j ≡ is_among j stop.now.boards }
 {
-    let mut boards = sets::NONE;
+    let mut boards = CallSet::empty();
     let _accepted = snapshot.calls();
     for call in stop.boards.as_slice() {
-        boards = sets::with(boards, *call as usize);
+        boards = boards.with(*call);
     }
     boards
 }
 
 /// The calls whose destination is this floor.
-pub(crate) fn calls_to(snapshot: &Snapshot, floor: u32) -> u128
+pub(crate) fn calls_to(snapshot: &Snapshot, floor: u32) -> CallSet
     ensures { (j : ℕ) → j < call_count snapshot.now → has result j ≡ ((call_of snapshot.now j).destination == floor) }
 {
-    let mut to_floor = sets::NONE;
+    let mut to_floor = CallSet::empty();
     let calls = snapshot.calls();
     for j in 0..calls.len() {
         if calls[j].destination == floor {
-            to_floor = sets::with(to_floor, j);
+            to_floor = to_floor.with(j as u32);
         }
     }
     to_floor
 }
 
 /// The persons of a set of calls.
-fn persons_of_calls(snapshot: &Snapshot, set: u128) -> u64
+fn persons_of_calls(snapshot: &Snapshot, set: CallSet) -> u64
     ensures value { result ≡ sum_where (call_count snapshot.now) (has set) (λ j. (call_of snapshot.now j).persons) }
     ensures few { result ≤ 1024 }
 {
     let mut persons = 0;
     let calls = snapshot.calls();
     for j in 0..calls.len() {
-        if sets::contains(set, j) {
+        if set.contains(j as u32) {
             persons += calls[j].persons as u64;
         }
     }
@@ -143,7 +140,7 @@ fn persons_of_calls(snapshot: &Snapshot, set: u128) -> u64
 }
 
 /// The persons of the groups aboard that get off at this floor.
-fn persons_of_groups_off(snapshot: &Snapshot, car: u32, visited: u64, floor: u32) -> u64
+fn persons_of_groups_off(snapshot: &Snapshot, car: u32, visited: FloorSet, floor: u32) -> u64
     requires { car < car_count snapshot.now }
     ensures value { result ≡ sum_where (length snapshot.now.aboard) (is_group_off snapshot.now car visited floor) (λ k. (group_of snapshot.now k).persons) }
     ensures few { result ≤ 64 }

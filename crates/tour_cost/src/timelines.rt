@@ -7,7 +7,7 @@ ghost use Rattle.elevator_model.specs.Costs.{timeline_of};
 
 use crate::rides::Ride;
 use call_state::Snapshot;
-use elevator_model::{Times, Tour};
+use elevator_model::{LATEST_MOMENT, Times, Tour};
 use std::alloc::{AllocError, Global};
 
 /// The moments of each stop of a feasible tour of the car: the arrival, open doors, and the leaving. `Err`
@@ -21,7 +21,7 @@ pub fn timeline(
     requires car { car < car_count snapshot.now }
     requires feasible { IsFeasible snapshot.now car tour.now }
     ensures timeline { IfOk result (λ times. times.items ≡ timeline_of snapshot.now car tour.now) }
-    ensures early { IfOk result (λ times. All (λ t. t.leaves < 10000000000) times.items) }
+    ensures early { IfOk result (λ times. All (λ t. t.leaves < LATEST_MOMENT) times.items) }
 {
     let mut ride = Ride::start(snapshot, car);
     let mut times = Vec::new(alloc);

@@ -3,14 +3,14 @@ use Rattle.std.proofs.Common.{◌≡◌, ℕ, ◌+◌, ◌-◌, ◌*◌, ◌<◌
 use Rattle.std.proofs.Math.Nat.{mul-le-mul_left, mul-le-mul_right}
 use Rattle.std.proofs.lemmas.Bool.{and_parts, or_cases, or_left, or_right, cases_Bool, ltb-true, ltb-false, lt-ltb, cond_both}
 use Rattle.elevator_model.specs.declared.Stop.{Stop}
-use Rattle.elevator_model.specs.Counting.{sum_where}
+use Rattle.call_sets.specs.Counting.{sum_where}
 use Rattle.elevator_model.specs.Building.{Building, IsBuilding}
 use Rattle.elevator_model.specs.Snapshot.{Snapshot, call_count, call_of, group_of, car_count, persons_aboard, IsAccepted}
 use Rattle.elevator_model.specs.Tours.{Progress, rider_count, persons_of, is_aboard, start_of, make_stop, boards_at, gets_off}
 use Rattle.elevator_model.specs.Costs.{cost_of_wait, cost_of_rider, is_delivered, settled_cost}
-use Rattle.tour_rules.proofs.Counts.{count-le}
+use Rattle.call_sets.proofs.Counts.{count-le}
 use Rattle.tour_rules.specs.Leaving.{IsKept, AreEarly}
-use Rattle.tour_rules.proofs.Sums.{sum_where-times}
+use Rattle.call_sets.proofs.Sums.{sum_where-times}
 use Rattle.tour_rules.proofs.RiderSums.{is_call, is_no_call, is_aboard-call, is_aboard-group, sum_riders}
 use Rattle.tour_rules.proofs.Stops.{most_calls_few, groups_few}
 

@@ -2,11 +2,11 @@
 use Rattle.std.proofs.Common.{◌≡◌, ℕ, ◌+◌, ◌<◌, Bool, false, ◌&&◌, eqb, ltb, length, refl, sym, ap, ◌∙◌, arith}
 use Rattle.std.proofs.lemmas.Bool.{and_left}
 use Rattle.elevator_model.specs.declared.Stop.{Stop}
-use Rattle.elevator_model.specs.Counting.{has, is_among, sum_where}
+use Rattle.call_sets.specs.Counting.{has, is_among, sum_where}
 use Rattle.elevator_model.specs.Snapshot.{Snapshot, call_count, call_of, group_of}
 use Rattle.elevator_model.specs.Tours.{Progress, destination_of, persons_of, gets_off, boards_at, persons_where}
 use Rattle.tour_rules.specs.Leaving.{AreCarried, is_call_off, is_group_carried, is_group_off}
-use Rattle.tour_rules.proofs.Sums.{sum_where-none}
+use Rattle.call_sets.proofs.Sums.{sum_where-none}
 use Rattle.tour_rules.proofs.RiderSums.{is_call, is_no_call, destination_of-call, destination_of-group, persons_of-call, persons_of-group, sum_riders}
 
 -- the calls of a set get off at this floor

@@ -3,13 +3,12 @@ use Rattle.std.proofs.Common.{◌≡◌, ℕ, zero, suc, ◌*◌, ◌<◌, ◌�
 use Rattle.std.proofs.lemmas.Bool.{and_parts, or_left, or_right, eq-eqb}
 use Rattle.std.proofs.Math.Nat.{mul-le-mul_left}
 use Rattle.elevator_model.specs.declared.Aboard.{Aboard}
-use Rattle.elevator_model.specs.Counting.{has, is_among, sum_where}
+use Rattle.call_sets.specs.Counting.{has, is_among, sum_where}
 use Rattle.elevator_model.specs.Building.{Building, IsBuilding}
 use Rattle.elevator_model.specs.Snapshot.{Snapshot, group_of, no_group, car_count, IsAccepted}
 use Rattle.tour_rules.specs.Leaving.{is_group_off, is_group_carried, group_cost, cost_of_group}
-use Rattle.tour_rules.proofs.BoundedTests.{sum_below-up}
+use Rattle.call_sets.proofs.Sums.{sum_below-up, sum_where-times}
 use Rattle.tour_rules.proofs.Bounds.{ride-le, aboard-le}
-use Rattle.tour_rules.proofs.Sums.{sum_where-times}
 
 pub among-at : (xs : List ℕ) (i : ℕ) → i < length xs → is_among (get_or xs i 0) xs ≡ true
 among-at [] i h = absurd (omega arith)

@@ -5,13 +5,15 @@ use Rattle.std.proofs.lemmas.Bool.{or_left, or_right, or_from, and_parts, and_fr
 use Rattle.elevator_model.specs.declared.Stop.{Stop}
 use Rattle.elevator_model.specs.declared.Move.{Move}
 use Rattle.elevator_model.specs.declared.Move.TheVariants.{Board, Leave, End}
-use Rattle.elevator_model.specs.Counting.{any_below, is_among}
+use Rattle.call_sets.specs.Counting.{any_below, is_among}
 use Rattle.elevator_model.specs.Snapshot.{Snapshot, call_count, call_of, state_of, is_idle, is_possible}
 use Rattle.elevator_model.specs.Tours.{Progress, breaks, rules_but_useless, rules_of_stop, boards_at, broken_at, none_taken, make_stop, gets_off, stays_on, rider_count, is_call_for, destination_of}
 use Rattle.elevator_model.specs.Partial.{Course, course_start, may_stand, may_be_left, go_on, board_on, end_on, move_on, moves_on, course_of}
 use Rattle.tour_rules.specs.Measure.{count_below, most_moves, boards_here, spare, moves_left}
-use Rattle.tour_rules.proofs.BoundedTests.{AllClear-from, none-from, list_any-append, list_any-false, any_below-false}
-use Rattle.tour_rules.proofs.Counts.{count-same, count-none, count-le, count-any, count-less_one, count-split, count-joined, count-beyond}
+use Rattle.call_sets.proofs.BelowTests.{any_below-false}
+use Rattle.call_sets.proofs.ListTests.{list_any-append, list_any-false}
+use Rattle.tour_rules.proofs.BoundedTests.{AllClear-from, none-from}
+use Rattle.call_sets.proofs.Counts.{count-same, count-none, count-le, count-any, count-less_one, count-split, count-joined, count-beyond}
 use Rattle.tour_rules.proofs.Sound.{course_if-some, cond-some, leads_on}
 
 -- ---- at a stop

@@ -8,7 +8,7 @@ use Rattle.elevator_model.specs.declared.Stop.{Stop}
 use Rattle.elevator_model.specs.declared.Broken.{Broken}
 use Rattle.elevator_model.specs.declared.Move.{Move}
 use Rattle.elevator_model.specs.declared.Move.TheVariants.{Board, End}
-use Rattle.elevator_model.specs.Counting.{any_below, is_among}
+use Rattle.call_sets.specs.Counting.{any_below, is_among}
 use Rattle.elevator_model.specs.Snapshot.{Snapshot, call_count, is_idle, state_of}
 use Rattle.elevator_model.specs.Tours.{Progress, breaks, first_rule, rules_but_useless, rules_of_stop, broken_at, broken_at_end, broken_or, first_broken_from, IsFeasible, none_taken, make_stop, stop_at, after_stops, start_of, gets_off, rider_count}
 use Rattle.elevator_model.specs.Partial.{Course, course_if, may_stand, may_be_left, may_end, go_on, end_on, move_on_from, moves_on, course_of, rising_boards, moves_of_stop, moves_of}

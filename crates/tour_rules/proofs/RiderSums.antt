@@ -1,11 +1,10 @@
 -- Sums over riders: over the calls, and over the groups aboard.
 use Rattle.std.proofs.Common.{◌≡◌, ℕ, ◌+◌, ◌-◌, ◌<◌, Bool, true, false, cond, ◌&&◌, eqb, ltb, leb, length, ap, ◌∙◌, arith}
 use Rattle.std.proofs.lemmas.Bool.{lt-ltb, le-ltb, lt-leb, le-leb, and_left}
-use Rattle.elevator_model.specs.Counting.{sum_where}
+use Rattle.call_sets.specs.Counting.{sum_where}
 use Rattle.elevator_model.specs.Snapshot.{Snapshot, call_count, call_of, group_of}
 use Rattle.elevator_model.specs.Tours.{rider_count, destination_of, persons_of, is_aboard}
-use Rattle.tour_rules.proofs.BoundedTests.{sum_below-split}
-use Rattle.tour_rules.proofs.Sums.{sum_where-same}
+use Rattle.call_sets.proofs.Sums.{sum_below-split, sum_where-same}
 
 pub is_call : (s : Snapshot) (j : ℕ) → j < call_count s → ltb j (call_count s) ≡ true
 is_call s j b = lt-ltb j (call_count s) b

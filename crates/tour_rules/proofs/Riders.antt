@@ -3,14 +3,15 @@ use Rattle.std.proofs.Common.{◌==◌, ◌≡◌, ℕ, ◌+◌, ◌-◌, ◌<�
 use Rattle.std.proofs.lemmas.Bool.{false≢true, eqb-true, eqb-false, and_left, ltb-true, lt-ltb, le-ltb, le-leb, lt-leb, cases_Bool, ltb-false}
 use Rattle.std.proofs.lemmas.Nat.Bits.{bit_at-zero}
 use Rattle.elevator_model.specs.declared.Stop.{Stop}
-use Rattle.elevator_model.specs.Counting.{any_below, sum_where, has, is_among}
+use Rattle.call_sets.specs.Counting.{any_below, sum_where, has, is_among}
 use Rattle.elevator_model.specs.Snapshot.{Snapshot, call_count, call_of, group_of, floor_of, state_of}
 use Rattle.elevator_model.specs.Tours.{Progress, rider_count, destination_of, persons_of, is_aboard, stays_on, persons_where, boards_at, stop_at, start_of}
 use Rattle.tour_rules.specs.declared.places.Place.{Place}
 use Rattle.tour_rules.specs.declared.places.Heading.{Heading}
 use Rattle.tour_rules.specs.declared.places.Heading.TheVariants.{Anywhere}
 use Rattle.tour_rules.specs.Places.{heads, call_in, group_in, call_heads, group_heads, group_carried, rider_heads, carries, Tracks, IsBoardSet}
-use Rattle.tour_rules.proofs.BoundedTests.{any_below-same, any_below-split, sum_below-same, sum_below-split, sum_below-zero}
+use Rattle.call_sets.proofs.BelowTests.{any_below-same, any_below-split}
+use Rattle.call_sets.proofs.Sums.{sum_below-same, sum_below-split, sum_below-zero}
 
 -- a choice between calls and groups, at a call and at a group
 pub at_call : {X : Type 0} (r n : ℕ) (x y : X) → r < n → cond (ltb r n) x y ≡ x

@@ -4,11 +4,12 @@ use Rattle.std.specs.List.{list_all, filter, range_with_len, count_by}
 use Rattle.std.proofs.lemmas.Bool.{or_parts, or_cases, or_left, or_right, and_parts, and_from, and_left, false≢true, false_from_ne_true, both_ways, ltb-true, lt-ltb, eqb-true, eq-eqb, leb-true, le-leb, cases_Bool}
 use Rattle.std.proofs.Math.Nat.{eq-or-lt_of_le}
 use Rattle.std.proofs.lemmas.List.Sums.{sum_by-cons, sum_by-append}
-use Rattle.elevator_model.specs.Counting.{is_among}
+use Rattle.call_sets.specs.Counting.{is_among}
 use Rattle.elevator_model.specs.Snapshot.{Snapshot, call_count}
 use Rattle.elevator_model.specs.Tours.{boards_at}
 use Rattle.elevator_model.specs.Partial.{rising_boards}
-use Rattle.tour_rules.proofs.BoundedTests.{list_any-append, same_function}
+use Rattle.call_sets.proofs.ListTests.{list_any-append}
+use Rattle.tour_rules.proofs.BoundedTests.{same_function}
 use Rattle.tour_rules.proofs.Stands.{ArePart}
 
 abbrev chosen : (ℕ → Bool) → (a m : ℕ) → List ℕ

@@ -3,13 +3,14 @@ use Rattle.std.proofs.Common.{◌==◌, ◌≡◌, ℕ, ◌+◌, ◌-◌, ◌*�
 use Rattle.std.specs.List.{count_by}
 use Rattle.std.proofs.lemmas.Bool.{and_left, and_parts, or_cases, false≢true, ltb-true, cases_Bool, both_ways}
 use Rattle.elevator_model.specs.declared.Stop.{Stop}
-use Rattle.elevator_model.specs.Counting.{any_below, is_among, sum_where}
+use Rattle.call_sets.specs.Counting.{any_below, is_among, sum_where}
 use Rattle.elevator_model.specs.Snapshot.{Snapshot, call_count, call_of, group_of, spec_of}
 use Rattle.elevator_model.specs.Tours.{Progress, rider_count, destination_of, is_aboard, gets_off, boards_at, make_stop, start_of, arrival, breaks, broken_at, none_taken, rules_of_stop}
 use Rattle.elevator_model.specs.Costs.{cost_of_wait, cost_of_rider, is_delivered, settled_cost}
-use Rattle.tour_rules.proofs.BoundedTests.{AllClear, AllClear-from, any_below-false, sum_below-same}
+use Rattle.call_sets.proofs.BelowTests.{any_below-false}
+use Rattle.call_sets.proofs.Sums.{sum_below-same, sum_where-none, sum_below-add}
+use Rattle.tour_rules.proofs.BoundedTests.{AllClear, AllClear-from}
 use Rattle.tour_rules.specs.Leaving.{AreCarried, IsKept, AreBoarded, is_call_off, is_group_off, leaving_cost, cost_of_call, cost_of_group}
-use Rattle.tour_rules.proofs.Sums.{sum_where-none, sum_below-add}
 use Rattle.tour_rules.proofs.RiderSums.{is_call, is_no_call, is_aboard-call, group_index, persons_of-call, persons_of-group, sum_riders}
 use Rattle.tour_rules.proofs.GettingOff.{off-call, off-group}
 

@@ -3,10 +3,13 @@ use Rattle.std.proofs.Common.{◌==◌, ◌≡◌, ℕ, ◌≤◌, Bool, true, f
 use Rattle.std.specs.List.{count_by}
 use Rattle.std.proofs.lemmas.Bool.{or_cases, or_left, or_right, and_parts, and_from, ltb-false, le-ltb}
 use Rattle.elevator_model.specs.declared.Stop.{Stop}
-use Rattle.elevator_model.specs.Counting.{is_among}
+use Rattle.call_sets.specs.Counting.{is_among}
 use Rattle.elevator_model.specs.Snapshot.{Snapshot, call_count, call_of, spec_of}
 use Rattle.elevator_model.specs.Tours.{Progress, breaks, rules_but_useless, boards_at, overtakes, is_call_for, rider_count, persons_of}
-use Rattle.tour_rules.proofs.BoundedTests.{any_below-less, sum_where-less, list_any-false, list_any-none, AllClear}
+use Rattle.call_sets.proofs.BelowTests.{any_below-less}
+use Rattle.call_sets.proofs.ListTests.{list_any-false, list_any-none}
+use Rattle.call_sets.proofs.Sums.{sum_where-less}
+use Rattle.tour_rules.proofs.BoundedTests.{AllClear}
 
 -- each board of the one list is in the other, and one that stands twice in it stands twice in the other
 pub record ArePart (fewer more : List ℕ) : Type 0 where

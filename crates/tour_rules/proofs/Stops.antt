@@ -3,13 +3,15 @@ use Rattle.std.proofs.Common.{get_or, drop, ◌==◌, ◌≡◌, ℕ, ◌+◌, �
 use Rattle.std.proofs.lemmas.Bool.{and_parts, and_left, false≢true, ltb-true, lt-ltb, le-leb, lt-leb, not-false, not_from_false}
 use Rattle.std.proofs.lemmas.List.{drop_more}
 use Rattle.elevator_model.specs.declared.Stop.{Stop}
-use Rattle.elevator_model.specs.Counting.{is_among, has}
+use Rattle.call_sets.specs.Counting.{is_among, has}
 use Rattle.elevator_model.specs.Building.{floor_count}
 use Rattle.elevator_model.specs.Snapshot.{Snapshot, call_count, car_count, group_of, state_of, is_idle, IsAccepted, serves}
 use Rattle.elevator_model.specs.Tours.{Progress, breaks, broken_at, rules_of_stop, none_taken, make_stop, broken_or, first_broken_from, boards_at, rider_count, is_aboard, start_of}
 use Rattle.tour_rules.specs.Measure.{groups_of, stops_left, spare}
-use Rattle.tour_rules.proofs.BoundedTests.{AllClear-from, any_below-false, is_none-at, sum_below-le, sum_below-split, sum_below-same, sum_below-zero, same_function}
-use Rattle.tour_rules.proofs.Counts.{count-same, count-le, count-joined}
+use Rattle.call_sets.proofs.BelowTests.{any_below-false}
+use Rattle.call_sets.proofs.Sums.{sum_below-le, sum_below-split, sum_below-same, sum_below-zero}
+use Rattle.tour_rules.proofs.BoundedTests.{AllClear-from, is_none-at, same_function}
+use Rattle.call_sets.proofs.Counts.{count-same, count-le, count-joined}
 use Rattle.tour_rules.proofs.Measure.{boards_count, boards_same, carried_split, after_carried, useful}
 use Rattle.tour_rules.proofs.Riders.{zero_has}
 

@@ -5,11 +5,13 @@ use Rattle.elevator_model.specs.declared.Rule.{Rule}
 use Rattle.elevator_model.specs.declared.Rule.TheVariants.{CallTwice}
 use Rattle.elevator_model.specs.declared.Stop.{Stop}
 use Rattle.elevator_model.specs.declared.Broken.{Broken}
-use Rattle.elevator_model.specs.Counting.{is_among}
+use Rattle.call_sets.specs.Counting.{is_among}
 use Rattle.elevator_model.specs.Snapshot.{Snapshot, call_count, is_possible, call_of}
 use Rattle.elevator_model.specs.Tours.{Progress, breaks, broken_at, broken_or, first_broken_from, make_stop, none_taken, boards_at, is_call_for, rules_of_stop}
 use Rattle.elevator_model.specs.Plans.{is_boarded_in}
-use Rattle.tour_rules.proofs.BoundedTests.{AllClear-from, any_below-false, any_below-none, first_rule-clear, list_any-false}
+use Rattle.call_sets.proofs.BelowTests.{any_below-false, any_below-none}
+use Rattle.call_sets.proofs.ListTests.{list_any-false}
+use Rattle.tour_rules.proofs.BoundedTests.{AllClear-from, first_rule-clear}
 
 -- the other rules do not see who is taken
 retaken : (s : Snapshot) (c : ℕ) (taken other : ℕ → Bool) (p : Progress) (st : Stop) → broken_at s c taken p st ≡ None → breaks s c other p st CallTwice ≡ false → broken_at s c other p st ≡ None

@@ -1,7 +1,7 @@
 -- A number that falls with each lawful move, so that partial tours are short.
 use Rattle.std.specs.Prelude.{ℕ, ◌+◌, ◌*◌, ◌&&◌, ◌||◌, not, Bool, false, if◌then◌else◌, Option, Some, None}
 use Rattle.elevator_model.specs.declared.Stop.{Stop}
-use Rattle.elevator_model.specs.Counting.{sum_where, is_among}
+use Rattle.call_sets.specs.Counting.{sum_where, is_among}
 use Rattle.elevator_model.specs.Snapshot.{Snapshot, call_count, state_of, is_idle}
 use Rattle.elevator_model.specs.Tours.{Progress, rider_count, is_aboard}
 use Rattle.elevator_model.specs.Partial.{Course}

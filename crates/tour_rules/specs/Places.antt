@@ -3,7 +3,7 @@ use Rattle.std.specs.Prelude.{◌≡◌, ℕ, ◌-◌, ◌<◌, ◌≤◌, ◌==
 use Rattle.elevator_model.specs.declared.Call.{Call}
 use Rattle.elevator_model.specs.declared.Aboard.{Aboard}
 use Rattle.elevator_model.specs.declared.Stop.{Stop}
-use Rattle.elevator_model.specs.Counting.{has, is_among}
+use Rattle.call_sets.specs.Counting.{has, is_among}
 use Rattle.elevator_model.specs.Snapshot.{Snapshot, call_count, no_call, no_group}
 use Rattle.elevator_model.specs.Tours.{Progress, rider_count, destination_of}
 use Rattle.tour_rules.specs.declared.places.Place.{Place}

@@ -2,7 +2,7 @@
 
 ghost use Rattle.std.specs.Prelude.{◌≡◌, ◌<◌, ◌≤◌, ◌+◌, ℕ, None, Some, MatchResult, length};
 ghost use Rattle.elevator_model.specs.declared.Stop.{Stop};
-ghost use Rattle.elevator_model.specs.Counting.{has};
+ghost use Rattle.call_sets.specs.Counting.{has};
 ghost use Rattle.elevator_model.specs.Snapshot.{car_count, call_count};
 ghost use Rattle.elevator_model.specs.Tours.{Progress, breaks as breaks_lem, broken_at as broken_at_lem, broken_at_end as broken_at_end_lem, first_broken, first_broken_from, start_of, none_taken};
 ghost use Rattle.tour_rules.specs.Places.{Tracks, HasBoards};
@@ -10,9 +10,10 @@ ghost use Rattle.tour_rules.specs.Places.{Tracks, HasBoards};
 use crate::places::{Heading, Place, after_stop, any_carried, at_start};
 use crate::rules::{
     any_elsewhere, any_foreign, any_overtakes, any_twice, board_set, is_overfull, is_useless,
-    needs_use, serves_floor, starts_wrong, stays_put, turns_away,
+    needs_use, starts_wrong, stays_put, turns_away,
 };
-use call_state::Snapshot;
+use call_sets::CallSet;
+use call_state::{Snapshot, serves_floor};
 use elevator_model::{Broken, Rule, Stop, Tour};
 
 /// The rules of a stop, in the order in which they are tested.
@@ -33,10 +34,10 @@ const STOP_RULES: [Rule; 10] = [
 fn breaks(
     snapshot: &Snapshot,
     car: u32,
-    taken: u128,
+    taken: CallSet,
     place: &Place,
     stop: &Stop,
-    boards: u128,
+    boards: CallSet,
     rule: Rule,
 ) -> bool
     requires car { car < car_count snapshot.now }
@@ -69,10 +70,10 @@ fn breaks(
 fn broken_at(
     snapshot: &Snapshot,
     car: u32,
-    taken: u128,
+    taken: CallSet,
     place: &Place,
     stop: &Stop,
-    boards: u128,
+    boards: CallSet,
 ) -> Option<Rule>
     requires car { car < car_count snapshot.now }
     requires boards { HasBoards snapshot.now boards stop.now }
@@ -87,7 +88,7 @@ fn broken_at(
 }
 
 /// The rule that is broken where the tour ends here.
-pub(crate) fn broken_at_end(snapshot: &Snapshot, car: u32, place: &Place) -> Option<Rule>
+pub fn broken_at_end(snapshot: &Snapshot, car: u32, place: &Place) -> Option<Rule>
     requires { car < car_count snapshot.now }
     ensures { (p : Progress) → Tracks snapshot.now car place.now p → result ≡ broken_at_end_lem snapshot.now car p }
 {
@@ -106,12 +107,12 @@ pub fn judge(snapshot: &Snapshot, car: u32, tour: &Tour) -> Result<(), Broken>
     requires { car < car_count snapshot.now }
     ensures { MatchResult result (λ _. first_broken snapshot.now car tour.now ≡ None) (λ b. first_broken snapshot.now car tour.now ≡ Some b) }
 {
-    judge_after(snapshot, car, 0, tour)
+    judge_after(snapshot, car, CallSet::empty(), tour)
 }
 
 /// The same, where the calls of the set `taken` boarded in tours of other cars: such a call boards a second
-/// time. Bit `j` stands for call `j`.
-pub fn judge_after(snapshot: &Snapshot, car: u32, taken: u128, tour: &Tour) -> Result<(), Broken>
+/// time.
+pub fn judge_after(snapshot: &Snapshot, car: u32, taken: CallSet, tour: &Tour) -> Result<(), Broken>
     requires { car < car_count snapshot.now }
     ensures { MatchResult result (λ _. first_broken_from snapshot.now car (has taken) (start_of snapshot.now car) 1 tour.now ≡ None) (λ b. first_broken_from snapshot.now car (has taken) (start_of snapshot.now car) 1 tour.now ≡ Some b) }
 {

@@ -1,20 +1,11 @@
-//! The rules of tours: which tour is feasible, and where a tour first breaks a rule; and partial tours
-//! with the moves that may follow.
+//! The rules of tours: which tour is feasible, and where a tour first breaks a rule.
 #![tactic(auto)]
 
 mod judging;
-mod partial;
-mod places;
-mod points;
-mod prefix;
+pub mod places;
 pub mod riding;
-mod rules;
-mod sets;
-mod tally;
+pub mod rules;
 
-pub use elevator_model::{Boards, Broken, Move, Rule, Stop, Tour};
-pub use judging::{judge, judge_after};
-pub use prefix::{Moves, Prefix, next_moves};
-
-#[cfg(test)]
-mod tests;
+pub use call_sets::{CallSet, FloorSet};
+pub use elevator_model::{Boards, Broken, Rule, Stop, Tour};
+pub use judging::{broken_at_end, judge, judge_after};

@@ -4,14 +4,14 @@
 //! building's weights, and a wait past the patience counts once more.
 
 ghost use Rattle.std.specs.Prelude.{◌≡◌, ℕ, ◌+◌, ◌*◌, ◌≤◌, ◌<◌, ◌==◌, ◌&&◌, not, length, slice_index};
-ghost use Rattle.elevator_model.specs.Counting.{has, sum_where};
+ghost use Rattle.call_sets.specs.Counting.{has, sum_where};
 ghost use Rattle.elevator_model.specs.Building.{IsBuilding, floor_count};
 ghost use Rattle.elevator_model.specs.Snapshot.{IsAccepted, car_count, call_count, spec_of};
 ghost use Rattle.elevator_model.specs.Tours.{Progress, arrival as arrival_lem};
 ghost use Rattle.tour_rules.specs.Leaving.{AreCarried, IsKept, AreBoarded, is_call_off, is_group_off, leaving_cost, call_cost, cost_of_call as cost_of_call_lem, group_cost, cost_of_group as cost_of_group_lem};
 
 use crate::places::is_carried;
-use crate::sets::contains;
+use call_sets::{CallSet, FloorSet};
 use call_state::{Aboard, Building, Call, CarState, Snapshot};
 
 /// The moment at which a car that leaves the floor `from` at the moment `leaves` arrives at a next stop at
@@ -24,8 +24,7 @@ pub fn arrival(snapshot: &Snapshot, car: u32, begun: bool, from: u32, leaves: u6
     ensures value { (p : Progress) → begun ≡ p.begun → from ≡ p.floor → leaves ≡ p.leaves → result ≡ arrival_lem snapshot.now car p to }
     ensures late { result ≤ leaves + 20000000 }
 {
-    let is_coming = matches!(snapshot.car(car), CarState::Coming { .. });
-    if begun || !is_coming {
+    if begun || !snapshot.car(car).is_coming() {
         leaves + snapshot.building().travel().time(from, to)
     } else {
         leaves
@@ -39,7 +38,7 @@ pub fn opening_of(snapshot: &Snapshot, car: u32) -> u64
     ensures short { result ≤ 60000 }
     ensures accepted { IsAccepted snapshot.now }
 {
-    snapshot.building().cars()[car as usize].opening
+    snapshot.spec(car).opening
 }
 
 /// How long the doors stay open and take to close, in ms, where so many persons get off and on.
@@ -50,13 +49,13 @@ pub fn dwell_of(snapshot: &Snapshot, car: u32, off: u64, on: u64) -> u64
     ensures value { result ≡ (spec_of snapshot.now car).alighting * off + (spec_of snapshot.now car).boarding * on + (spec_of snapshot.now car).closing }
     ensures short { result ≤ 129000000 }
 {
-    let spec = snapshot.building().cars()[car as usize];
+    let spec = snapshot.spec(car);
     spec.alighting * off + spec.boarding * on + spec.closing
 }
 
 /// Whether a group of the car, not yet delivered, gets off at this floor. `visited` has the floors where
 /// the car has stopped.
-pub fn is_off(group: &Aboard, car: u32, visited: u64, floor: u32) -> bool
+pub fn is_off(group: &Aboard, car: u32, visited: FloorSet, floor: u32) -> bool
     requires { group.now.destination < 64 }
     ensures { result ≡ (((group.now.car == car) && not (has visited group.now.destination)) && (group.now.destination == floor)) }
 {
@@ -70,8 +69,8 @@ pub fn is_off(group: &Aboard, car: u32, visited: u64, floor: u32) -> bool
 pub fn cost_of_leaving(
     snapshot: &Snapshot,
     car: u32,
-    carried: u128,
-    visited: u64,
+    carried: CallSet,
+    visited: FloorSet,
     floor: u32,
     opened: u64,
     moments: &[u64],
@@ -90,7 +89,7 @@ pub fn cost_of_leaving(
 /// The cost of the calls of a set that get off at this floor.
 fn cost_of_calls_off(
     snapshot: &Snapshot,
-    carried: u128,
+    carried: CallSet,
     floor: u32,
     delivered: u64,
     moments: &[u64],
@@ -105,7 +104,7 @@ fn cost_of_calls_off(
     let building = snapshot.building();
     let calls = snapshot.calls();
     for j in 0..calls.len() {
-        if contains(carried, j as u32) && calls[j].destination == floor {
+        if carried.contains(j as u32) && calls[j].destination == floor {
             cost += cost_of_call(building, &calls[j], moments[j], delivered);
         }
     }
@@ -116,7 +115,7 @@ fn cost_of_calls_off(
 fn cost_of_groups_off(
     snapshot: &Snapshot,
     car: u32,
-    visited: u64,
+    visited: FloorSet,
     floor: u32,
     delivered: u64,
 ) -> u64

@@ -1,5 +1,5 @@
 use Rattle.std.proofs.Common.{◌≡◌}
-use Rattle.elevator_model.specs.Counting.{any_below}
+use Rattle.call_sets.specs.Counting.{any_below}
 use Rattle.elevator_model.specs.Snapshot.{can_take}
 use Rattle.call_state.proofs.call_faults.any_can_take.Given as goal
 

@@ -1,5 +1,5 @@
 use Rattle.std.proofs.Common.{◌≡◌}
-use Rattle.elevator_model.specs.Counting.{any_below}
+use Rattle.call_sets.specs.Counting.{any_below}
 use Rattle.elevator_model.specs.Snapshot.{is_open}
 use Rattle.call_state.proofs.state_faults.any_open.Given as goal
 

@@ -1,5 +1,5 @@
 use Rattle.std.proofs.Common.{◌≡◌, ◌++◌, get_or, refl, sym, ◌∙◌, ap, ℕ}
-use Rattle.elevator_model.specs.Counting.{is_among}
+use Rattle.call_sets.specs.Counting.{is_among}
 use Rattle.elevator_model.specs.Snapshot.{call_of, no_call}
 use Rattle.canonical_text.specs.Text.{word}
 use Rattle.canonical_text.proofs.Lists.{wrote_passed, text_of_failed}

@@ -1,5 +1,5 @@
 use Rattle.std.proofs.Common.{sym, ◌∙◌}
-use Rattle.elevator_model.specs.Counting.{has}
+use Rattle.call_sets.specs.Counting.{has}
 use Rattle.canonical_text.specs.Text.{word}
 use Rattle.canonical_text.proofs.Lists.{wrote_passed, text_of_failed}
 use Rattle.canonical_text.proofs.writing.put_floors.Goals as goal

@@ -1,4 +1,4 @@
-use Rattle.first_plan.proofs.PlainPlan.{plan_exists}
+use Rattle.plain_plan.proofs.PlainPlan.{plan_exists}
 use Rattle.first_plan.proofs.plans.first.Goals as goal
 
 pub returns-clause-exists : goal.returns-clause-exists

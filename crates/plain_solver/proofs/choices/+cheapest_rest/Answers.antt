@@ -1,13 +1,13 @@
 use Rattle.std.proofs.Common.{◌≡◌, ◌+◌, ◌<◌, ◌≤◌, ◌∙◌, ◌||◌, ◌∷◌, [], ℕ, List, Bool, Option, length, get_or, true, false, sym, ap, subst, arith}
 use Rattle.std.proofs.lemmas.Bool.{both_ways}
 use Rattle.std.proofs.lemmas.List.{get_or_read}
-use Rattle.elevator_model.specs.Counting.{has}
+use Rattle.call_sets.specs.Counting.{has}
 use Rattle.elevator_model.specs.Snapshot.{car_count}
 use Rattle.elevator_model.specs.declared.Stop.{Stop}
 use Rattle.elevator_model.specs.Tours.{IsFeasible}
 use Rattle.elevator_model.specs.Costs.{cost_of}
 use Rattle.elevator_model.specs.Plans.{is_boarded_in}
-use Rattle.plain_solver.specs.Listed.{tour_at}
+use Rattle.partial_tours.specs.Listed.{tour_at}
 use Rattle.plain_solver.specs.Rests.{AreChoices, AreChoicesFrom, Chosen, IsCheapest, IsCheapestOf, IsSmallCost, better_of, no_sums, sums_at, with_tour}
 use Rattle.plain_solver.proofs.RestLemmas.{skipped, taken_up, all_tried, choice_free, choice_apart, choice_with, better_small}
 use Rattle.plain_solver.proofs.choices.+cheapest_rest.Goals as goal
@@ -42,8 +42,8 @@ loop-place-preserved t c =
           let free = subst (λ (u : List Stop). (j : ℕ) → is_boarded_in u j ≡ true → taken j ≡ false) (sym at) (choice_free s car tours sums place taken are within apart) in
           let feasible = subst (IsFeasible s car) (sym at) (are.all.feasible place within) in
           let costs : cost ≡ cost_of s car tour = ap (λ x. x.cost) next ∙ are.cost place within ∙ ap (cost_of s car) (sym at) in
-          let joined = λ (j : ℕ). w.either-with_next.ensures j ∙ ap (λ x. has c.args.taken j || has x.calls j) next in
-          let set = choice_with s car tours sums place c.args.taken w.either-with_next.result are within joined ∙ ap (with_tour taken) (sym at) in
+          let joined = λ (j : ℕ). w.union-with_next.ensures j ∙ ap (λ x. has c.args.taken j || has x.calls j) next in
+          let set = choice_with s car tours sums place c.args.taken w.union-with_next.result are within joined ∙ ap (with_tour taken) (sym at) in
           let cheapest = subst (λ (held : ℕ → Bool). IsCheapest s held (car + 1) rest) set w.in_ok-rest.ensures.cheapest in
           let up = taken_up s taken car tours place tour cost best rest at feasible free costs iv.cheapest cheapest in
           let low = subst (λ (n : ℕ). n ≤ 1000000000000000000) (ap (λ x. x.cost) (sym next)) (are.small place within) in

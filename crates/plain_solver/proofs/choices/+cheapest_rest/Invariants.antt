@@ -1,6 +1,6 @@
 -- The cheapest of the tours so far, each with the cheapest rest.
 use Rattle.std.proofs.Common.{length}
-use Rattle.elevator_model.specs.Counting.{has}
+use Rattle.call_sets.specs.Counting.{has}
 use Rattle.plain_solver.specs.Rests.{IsCheapestOf, IsSmallCost}
 use Rattle.plain_solver.proofs.choices.+cheapest_rest.Given as goal
 

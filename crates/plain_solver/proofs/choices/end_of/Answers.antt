@@ -1,7 +1,7 @@
 use Rattle.std.proofs.Common.{◌≡◌, ◌<◌, ℕ, List, length, true, sym, subst}
 use Rattle.std.proofs.lemmas.Bool.{both_ways}
 use Rattle.elevator_model.specs.declared.Call.{Call}
-use Rattle.elevator_model.specs.Counting.{has}
+use Rattle.call_sets.specs.Counting.{has}
 use Rattle.plain_solver.proofs.RestLemmas.{not_served}
 use Rattle.plain_solver.proofs.choices.end_of.Goals as goal
 

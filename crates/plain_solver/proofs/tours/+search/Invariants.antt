@@ -1,7 +1,7 @@
 -- How many moves are left, and for each of them one call of each function. In the loop the tours to which
 -- the moves so far can lead have been added.
 use Rattle.std.proofs.Common.{◌≡◌, ◌+◌, ◌*◌}
-use Rattle.plain_solver.proofs.Search.{left_in, AddsFirst}
+use Rattle.partial_tours.proofs.Search.{left_in, AddsFirst}
 use Rattle.plain_solver.proofs.tours.+search.Given as goal
 
 abbrev pub decreases-add_tours : goal.decreases-add_tours

@@ -1,7 +1,7 @@
 use Rattle.std.proofs.Common.{sym, subst, List}
 use Rattle.elevator_model.specs.declared.Stop.{Stop}
-use Rattle.plain_solver.specs.Listed.{AddsTours}
-use Rattle.plain_solver.proofs.Search.{adds_tour}
+use Rattle.partial_tours.specs.Listed.{AddsTours}
+use Rattle.partial_tours.proofs.Search.{adds_tour}
 use Rattle.plain_solver.proofs.tours.add_tour.Goals as goal
 
 pub returns : goal.returns

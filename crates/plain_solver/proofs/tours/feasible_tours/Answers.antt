@@ -1,8 +1,8 @@
 use Rattle.std.proofs.Common.{◌≤◌, sym, ap, subst}
 use Rattle.elevator_model.specs.Snapshot.{Snapshot, call_count}
-use Rattle.tour_rules.specs.PartialTour.{PartialTour}
-use Rattle.plain_solver.proofs.Search.{few_calls}
-use Rattle.plain_solver.proofs.Listed.{all_tours}
+use Rattle.partial_tours.specs.PartialTour.{PartialTour}
+use Rattle.partial_tours.proofs.Search.{few_calls}
+use Rattle.partial_tours.proofs.Listed.{all_tours}
 use Rattle.plain_solver.proofs.tours.feasible_tours.Goals as goal
 
 pub add_tours-requires : goal.add_tours-requires

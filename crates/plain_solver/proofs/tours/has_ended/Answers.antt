@@ -2,7 +2,7 @@
 use Rattle.std.proofs.Common.{◌≡◌, ◌-◌, ◌∙◌, sym, subst, length, List, Some, None}
 use Rattle.std.specs.List.{slice_get}
 use Rattle.elevator_model.specs.declared.Move.{Move}
-use Rattle.plain_solver.proofs.Search.{ended_last, ended_none}
+use Rattle.partial_tours.proofs.Search.{ended_last, ended_none}
 use Rattle.plain_solver.proofs.tours.has_ended.Goals as goal
 
 pub returns-in-Some : goal.returns-in-Some

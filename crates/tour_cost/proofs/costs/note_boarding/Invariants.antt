@@ -1,6 +1,6 @@
 -- So far the moments of the calls below this one are noted.
 use Rattle.std.proofs.Common.{◌≡◌, ℕ, ◌<◌, ◌≤◌, get_or, cond}
-use Rattle.elevator_model.specs.Counting.{has}
+use Rattle.call_sets.specs.Counting.{has}
 use Rattle.tour_cost.proofs.costs.note_boarding.Given as goal
 
 abbrev pub invariant-loop-j : goal.invariant-loop-j

@@ -1,6 +1,6 @@
 -- The set has the calls so far.
 use Rattle.std.proofs.Common.{◌≡◌, ℕ, ◌||◌, drop}
-use Rattle.elevator_model.specs.Counting.{has, is_among}
+use Rattle.call_sets.specs.Counting.{has, is_among}
 use Rattle.tour_cost.proofs.plans.calls_at.Given as goal
 
 abbrev pub invariant-loop-call : goal.invariant-loop-call

@@ -1,6 +1,6 @@
 -- The set has the calls of the stops so far.
 use Rattle.std.proofs.Common.{◌≡◌, ℕ, ◌||◌, drop}
-use Rattle.elevator_model.specs.Counting.{has}
+use Rattle.call_sets.specs.Counting.{has}
 use Rattle.elevator_model.specs.Plans.{is_boarded_in}
 use Rattle.tour_cost.proofs.plans.calls_of.Given as goal
 

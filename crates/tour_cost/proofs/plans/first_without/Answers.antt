@@ -1,5 +1,5 @@
 use Rattle.std.proofs.Common.{◌≡◌, ◌∙◌, ◌+◌, ◌-◌, sym, ap, arith}
-use Rattle.elevator_model.specs.Counting.{has}
+use Rattle.call_sets.specs.Counting.{has}
 use Rattle.tour_cost.specs.Unserved.{first_without}
 use Rattle.tour_cost.proofs.Judged.{without_all, without_up}
 use Rattle.tour_cost.proofs.plans.first_without.Goals as goal

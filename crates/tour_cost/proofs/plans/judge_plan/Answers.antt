@@ -3,7 +3,7 @@ use Rattle.elevator_model.specs.declared.Stop.{Stop}
 use Rattle.elevator_model.specs.declared.Call.{Call}
 use Rattle.elevator_model.specs.declared.BadPlan.{BadPlan}
 use Rattle.elevator_model.specs.declared.Rule.TheVariants.{Unserved}
-use Rattle.elevator_model.specs.Counting.{has}
+use Rattle.call_sets.specs.Counting.{has}
 use Rattle.elevator_model.specs.Snapshot.{car_count}
 use Rattle.elevator_model.specs.Tours.{start_of}
 use Rattle.elevator_model.specs.Plans.{first_bad, unserved_of}
@@ -43,11 +43,11 @@ loop-car-preserved c =
     let car = c.loop-car.car in
     let tour = c.index-tours-car.result in
     let taken = has c.loop-car.taken in
-    let new = has c.either-taken.result in
+    let new = has c.union-taken.result in
     let tours = c.tours-tours.ensures in
     let within = subst (λ (l : List (List Stop)). car < length l) tours c.loop-car-test.true in
     let is = subst (λ (l : List (List Stop)). tour ≡ get_or l car tour) tours c.index-tours-car.is in
-    let new_is = λ (j : ℕ). c.either-taken.ensures j ∙ ap (λ (b : Bool). taken j || b) (c.calls_of.ensures j) in
+    let new_is = λ (j : ℕ). c.union-taken.ensures j ∙ ap (λ (b : Bool). taken j || b) (c.calls_of.ensures j) in
     record {
       clear = clear_on s taken new car plan tour within is c.in_default.ensures new_is c.loop-car.invariant.clear;
       served = served_on taken new car plan tour within is new_is c.loop-car.invariant.served;

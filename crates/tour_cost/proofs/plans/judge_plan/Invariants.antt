@@ -1,6 +1,6 @@
 -- No tour so far is bad, and the set has the calls that they take.
 use Rattle.std.proofs.Common.{◌≡◌, ℕ, ◌||◌, drop}
-use Rattle.elevator_model.specs.Counting.{has}
+use Rattle.call_sets.specs.Counting.{has}
 use Rattle.elevator_model.specs.Tours.{none_taken}
 use Rattle.elevator_model.specs.Plans.{first_bad_tour}
 use Rattle.tour_cost.proofs.Judged.{is_served}

@@ -1,6 +1,6 @@
 -- So far the cost of the tours of the cars below this one.
 use Rattle.std.proofs.Common.{◌≡◌, ◌+◌, ◌*◌, ◌≤◌}
-use Rattle.elevator_model.specs.Counting.{sum_below}
+use Rattle.call_sets.specs.Counting.{sum_below}
 use Rattle.elevator_model.specs.Plans.{tour_of}
 use Rattle.elevator_model.specs.Costs.{cost_of}
 use Rattle.tour_cost.specs.Served.{calls_served}

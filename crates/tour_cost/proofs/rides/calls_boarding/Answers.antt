@@ -1,5 +1,5 @@
 use Rattle.std.proofs.Common.{◌≡◌, ℕ, List, get_or, true, arith, subst}
-use Rattle.elevator_model.specs.Counting.{is_among}
+use Rattle.call_sets.specs.Counting.{is_among}
 use Rattle.tour_cost.proofs.Short.{calls-le}
 use Rattle.tour_rules.proofs.Groups.{among-at}
 use Rattle.tour_cost.proofs.rides.calls_boarding.Goals as goal

@@ -1,6 +1,6 @@
 -- So far the set has the calls that come first in the list.
 use Rattle.std.proofs.Common.{◌≡◌, ℕ, take}
-use Rattle.elevator_model.specs.Counting.{has, is_among}
+use Rattle.call_sets.specs.Counting.{has, is_among}
 use Rattle.tour_cost.proofs.rides.calls_boarding.Given as goal
 
 abbrev pub invariant-loop-call : goal.invariant-loop-call

@@ -1,6 +1,6 @@
 -- So far the set is right for the calls below this one.
 use Rattle.std.proofs.Common.{◌≡◌, ◌==◌, ℕ, ◌<◌, ◌≤◌, false}
-use Rattle.elevator_model.specs.Counting.{has}
+use Rattle.call_sets.specs.Counting.{has}
 use Rattle.elevator_model.specs.Snapshot.{call_of}
 use Rattle.tour_cost.proofs.rides.calls_to.Given as goal
 

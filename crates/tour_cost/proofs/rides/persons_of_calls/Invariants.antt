@@ -1,6 +1,6 @@
 -- So far the persons of the calls of the set below this one.
 use Rattle.std.proofs.Common.{◌≡◌, ◌*◌, ◌≤◌}
-use Rattle.elevator_model.specs.Counting.{has, sum_where}
+use Rattle.call_sets.specs.Counting.{has, sum_where}
 use Rattle.elevator_model.specs.Snapshot.{call_of}
 use Rattle.tour_cost.proofs.rides.persons_of_calls.Given as goal
 

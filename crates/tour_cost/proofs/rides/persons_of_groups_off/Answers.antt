@@ -2,7 +2,7 @@ use Rattle.std.proofs.Common.{◌≡◌, ◌+◌, List, get_or, length, ap, sym,
 use Rattle.elevator_model.specs.declared.Aboard.{Aboard}
 use Rattle.elevator_model.specs.Snapshot.{group_of, no_group}
 use Rattle.tour_rules.specs.Leaving.{is_group_off}
-use Rattle.tour_rules.proofs.Sums.{sum_where-take, sum_where-skip}
+use Rattle.call_sets.proofs.Sums.{sum_where-take, sum_where-skip}
 use Rattle.tour_rules.proofs.Groups.{off-here, persons_off-le}
 use Rattle.tour_cost.proofs.rides.persons_of_groups_off.Goals as goal
 use Rattle.tour_cost.proofs.rides.persons_of_groups_off.Goals.{then-is_off, else-is_off}

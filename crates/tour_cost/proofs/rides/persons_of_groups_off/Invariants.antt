@@ -1,6 +1,6 @@
 -- So far the persons of the groups below this one that get off.
 use Rattle.std.proofs.Common.{◌≡◌}
-use Rattle.elevator_model.specs.Counting.{sum_where}
+use Rattle.call_sets.specs.Counting.{sum_where}
 use Rattle.elevator_model.specs.Snapshot.{group_of}
 use Rattle.tour_rules.specs.Leaving.{is_group_off}
 use Rattle.tour_cost.proofs.rides.persons_of_groups_off.Given as goal

@@ -1,5 +1,5 @@
 use Rattle.std.proofs.Common.{◌∙◌, sym, ap}
-use Rattle.elevator_model.specs.Counting.{has}
+use Rattle.call_sets.specs.Counting.{has}
 use Rattle.elevator_model.specs.Tours.{breaks}
 use Rattle.tour_rules.proofs.RuleLemmas.{queue_same, twice_same, place_same}
 use Rattle.tour_rules.proofs.judging.breaks.Goals as goal

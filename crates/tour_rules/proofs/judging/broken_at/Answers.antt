@@ -1,5 +1,5 @@
 use Rattle.std.proofs.Common.{◌∙◌, sym}
-use Rattle.elevator_model.specs.Counting.{has}
+use Rattle.call_sets.specs.Counting.{has}
 use Rattle.elevator_model.specs.Tours.{breaks, rules_of_stop}
 use Rattle.tour_rules.proofs.RuleLemmas.{first_rule_more, first_rule_here}
 use Rattle.tour_rules.proofs.judging.broken_at.Goals as goal

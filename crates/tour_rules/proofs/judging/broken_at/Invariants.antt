@@ -1,5 +1,5 @@
 use Rattle.std.proofs.Common.{◌≡◌, drop}
-use Rattle.elevator_model.specs.Counting.{has}
+use Rattle.call_sets.specs.Counting.{has}
 use Rattle.elevator_model.specs.Tours.{Progress, breaks, first_rule, broken_at}
 use Rattle.tour_rules.specs.Places.{Tracks}
 use Rattle.tour_rules.proofs.judging.broken_at.Given as goal

@@ -1,6 +1,6 @@
 use Rattle.std.proofs.Common.{◌+◌, ◌∙◌, sym, ap, refl, arith, drop, Option}
 use Rattle.elevator_model.specs.declared.Rule.{Rule}
-use Rattle.elevator_model.specs.Counting.{has}
+use Rattle.call_sets.specs.Counting.{has}
 use Rattle.elevator_model.specs.Tours.{start_of, make_stop, broken_or, first_broken_from, boards_at}
 use Rattle.tour_rules.proofs.Stops.{fine_floor, stop_falls, stops_few, judge_step}
 use Rattle.tour_rules.proofs.Taken.{stop_alone}

@@ -1,5 +1,5 @@
 use Rattle.std.proofs.Common.{◌≡◌, ◌+◌, ◌≤◌, drop}
-use Rattle.elevator_model.specs.Counting.{has}
+use Rattle.call_sets.specs.Counting.{has}
 use Rattle.elevator_model.specs.Tours.{Progress, first_broken_from, start_of}
 use Rattle.tour_rules.specs.Measure.{stops_left}
 use Rattle.tour_rules.specs.Places.{Tracks}

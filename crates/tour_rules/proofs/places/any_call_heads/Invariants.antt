@@ -1,5 +1,5 @@
 use Rattle.std.proofs.Common.{◌≡◌, false}
-use Rattle.elevator_model.specs.Counting.{any_below}
+use Rattle.call_sets.specs.Counting.{any_below}
 use Rattle.tour_rules.specs.Places.{call_heads}
 use Rattle.tour_rules.proofs.places.any_call_heads.Given as goal
 

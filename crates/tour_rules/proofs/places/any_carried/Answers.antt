@@ -1,6 +1,6 @@
 use Rattle.std.proofs.Common.{◌||◌, Bool, sym, ◌∙◌, ap, refl, length}
 use Rattle.std.proofs.lemmas.Bool.{or_left}
-use Rattle.elevator_model.specs.Counting.{any_below}
+use Rattle.call_sets.specs.Counting.{any_below}
 use Rattle.tour_rules.specs.Places.{group_heads}
 use Rattle.tour_rules.proofs.Riders.{carried_any}
 use Rattle.tour_rules.proofs.places.any_carried.Goals as goal

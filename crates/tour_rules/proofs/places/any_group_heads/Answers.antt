@@ -1,7 +1,7 @@
 use Rattle.std.proofs.Common.{sym, length, arith}
 use Rattle.std.proofs.lemmas.Bool.{and_from}
 use Rattle.tour_rules.specs.Places.{group_heads}
-use Rattle.tour_rules.proofs.BoundedTests.{any_below-at}
+use Rattle.call_sets.proofs.BelowTests.{any_below-at}
 use Rattle.tour_rules.proofs.places.any_group_heads.Goals as goal
 
 pub returns-then-includes : goal.returns-then-includes

@@ -1,5 +1,5 @@
 use Rattle.std.proofs.Common.{◌≡◌, false}
-use Rattle.elevator_model.specs.Counting.{any_below}
+use Rattle.call_sets.specs.Counting.{any_below}
 use Rattle.tour_rules.specs.Places.{group_heads}
 use Rattle.tour_rules.proofs.places.any_group_heads.Given as goal
 

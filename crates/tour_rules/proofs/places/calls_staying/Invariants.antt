@@ -1,5 +1,5 @@
 use Rattle.std.proofs.Common.{◌≡◌, ◌<◌, ◌≤◌, ◌&&◌, ◌==◌, not, ℕ, false}
-use Rattle.elevator_model.specs.Counting.{has}
+use Rattle.call_sets.specs.Counting.{has}
 use Rattle.tour_rules.specs.Places.{call_in}
 use Rattle.tour_rules.proofs.places.calls_staying.Given as goal
 

@@ -1,7 +1,7 @@
 use Rattle.std.proofs.Common.{◌==◌, sym, length, arith}
 use Rattle.std.proofs.lemmas.Bool.{and_from, and_parts}
 use Rattle.tour_rules.specs.Places.{group_heads, group_in}
-use Rattle.tour_rules.proofs.BoundedTests.{sum_where-up, sum_where-step}
+use Rattle.call_sets.proofs.Sums.{sum_where-up, sum_where-step}
 use Rattle.tour_rules.proofs.places.persons_of_groups.Goals as goal
 
 pub overflow_add-persons : goal.overflow_add-persons

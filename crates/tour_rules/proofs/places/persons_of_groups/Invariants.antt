@@ -1,5 +1,5 @@
 use Rattle.std.proofs.Common.{◌≡◌}
-use Rattle.elevator_model.specs.Counting.{sum_where}
+use Rattle.call_sets.specs.Counting.{sum_where}
 use Rattle.tour_rules.specs.Places.{group_heads, group_in}
 use Rattle.tour_rules.proofs.places.persons_of_groups.Given as goal
 

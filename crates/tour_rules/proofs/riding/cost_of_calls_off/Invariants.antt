@@ -1,6 +1,6 @@
 -- So far the cost of the calls below this one that get off.
 use Rattle.std.proofs.Common.{◌≡◌, ◌*◌, ◌≤◌, get_or}
-use Rattle.elevator_model.specs.Counting.{sum_where}
+use Rattle.call_sets.specs.Counting.{sum_where}
 use Rattle.tour_rules.specs.Leaving.{cost_of_call, is_call_off}
 use Rattle.tour_rules.proofs.riding.cost_of_calls_off.Given as goal
 

@@ -2,9 +2,8 @@ use Rattle.std.proofs.Common.{◌≡◌, ℕ, ◌+◌, List, get_or, length, ap,
 use Rattle.elevator_model.specs.declared.Aboard.{Aboard}
 use Rattle.elevator_model.specs.Building.{Building}
 use Rattle.elevator_model.specs.Snapshot.{Snapshot, no_group}
-use Rattle.tour_rules.specs.Leaving.{is_group_off}
-use Rattle.tour_rules.specs.Leaving.{group_cost, cost_of_group}
-use Rattle.tour_rules.proofs.Sums.{sum_where-take, sum_where-skip}
+use Rattle.tour_rules.specs.Leaving.{is_group_off, group_cost, cost_of_group}
+use Rattle.call_sets.proofs.Sums.{sum_where-take, sum_where-skip}
 use Rattle.tour_rules.proofs.Groups.{off-here, groups_cost-le}
 use Rattle.tour_rules.proofs.riding.cost_of_groups_off.Goals as goal
 use Rattle.tour_rules.proofs.riding.cost_of_groups_off.Goals.{then-is_off, else-is_off}

@@ -1,8 +1,7 @@
 -- So far the cost of the groups below this one that get off.
 use Rattle.std.proofs.Common.{◌≡◌}
-use Rattle.elevator_model.specs.Counting.{sum_where}
-use Rattle.tour_rules.specs.Leaving.{is_group_off}
-use Rattle.tour_rules.specs.Leaving.{cost_of_group}
+use Rattle.call_sets.specs.Counting.{sum_where}
+use Rattle.tour_rules.specs.Leaving.{is_group_off, cost_of_group}
 use Rattle.tour_rules.proofs.riding.cost_of_groups_off.Given as goal
 
 abbrev pub invariant-loop-k : goal.invariant-loop-k

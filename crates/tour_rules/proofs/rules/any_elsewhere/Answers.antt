@@ -1,8 +1,8 @@
 use Rattle.std.proofs.Common.{◌==◌, ◌&&◌, not, sym, ap, length, arith}
 use Rattle.std.proofs.lemmas.Bool.{and_from, ne_eqb}
-use Rattle.elevator_model.specs.Counting.{has}
+use Rattle.call_sets.specs.Counting.{has}
 use Rattle.tour_rules.specs.Places.{call_in}
-use Rattle.tour_rules.proofs.BoundedTests.{any_below-at}
+use Rattle.call_sets.proofs.BelowTests.{any_below-at}
 use Rattle.tour_rules.proofs.rules.any_elsewhere.Goals as goal
 
 pub returns-then-call-floor : goal.returns-then-call-floor

@@ -1,5 +1,5 @@
 use Rattle.std.proofs.Common.{◌≡◌, ◌==◌, ◌&&◌, not, false}
-use Rattle.elevator_model.specs.Counting.{any_below, has}
+use Rattle.call_sets.specs.Counting.{any_below, has}
 use Rattle.tour_rules.specs.Places.{call_in}
 use Rattle.tour_rules.proofs.rules.any_elsewhere.Given as goal
 

@@ -1,9 +1,9 @@
 use Rattle.std.proofs.Common.{◌&&◌, sym, length, arith}
 use Rattle.std.proofs.lemmas.Bool.{and_from}
-use Rattle.elevator_model.specs.Counting.{any_below, has}
+use Rattle.call_sets.specs.Counting.{any_below, has}
 use Rattle.elevator_model.specs.Tours.{is_later_in_queue}
 use Rattle.tour_rules.specs.Places.{call_in}
-use Rattle.tour_rules.proofs.BoundedTests.{any_below-at}
+use Rattle.call_sets.proofs.BelowTests.{any_below-at}
 use Rattle.tour_rules.proofs.rules.any_overtakes.Goals as goal
 
 pub returns-then-overtakes : goal.returns-then-overtakes

@@ -1,8 +1,8 @@
 use Rattle.std.proofs.Common.{◌==◌, ◌&&◌, ◌||◌, sym, arith, count_by}
 use Rattle.std.specs.Prelude.{nat_le}
 use Rattle.std.proofs.lemmas.Bool.{and_from}
-use Rattle.elevator_model.specs.Counting.{has}
-use Rattle.tour_rules.proofs.BoundedTests.{any_below-at}
+use Rattle.call_sets.specs.Counting.{has}
+use Rattle.call_sets.proofs.BelowTests.{any_below-at}
 use Rattle.tour_rules.proofs.rules.any_twice.Goals as goal
 
 pub returns-then-is_again : goal.returns-then-is_again

@@ -1,6 +1,6 @@
 use Rattle.std.proofs.Common.{◌≡◌, ◌==◌, ◌&&◌, ◌||◌, false, count_by}
 use Rattle.std.specs.Prelude.{nat_le}
-use Rattle.elevator_model.specs.Counting.{any_below, has}
+use Rattle.call_sets.specs.Counting.{any_below, has}
 use Rattle.tour_rules.proofs.rules.any_twice.Given as goal
 
 abbrev pub invariant-loop-j : goal.invariant-loop-j

@@ -1,5 +1,5 @@
 use Rattle.std.proofs.Common.{◌≡◌, ◌<◌, ℕ, take}
-use Rattle.elevator_model.specs.Counting.{has, is_among}
+use Rattle.call_sets.specs.Counting.{has, is_among}
 use Rattle.tour_rules.proofs.rules.board_set.Given as goal
 
 abbrev pub invariant-loop-call : goal.invariant-loop-call

@@ -1,5 +1,5 @@
 use Rattle.std.proofs.Common.{◌≡◌, ◌&&◌, false}
-use Rattle.elevator_model.specs.Counting.{any_below, has}
+use Rattle.call_sets.specs.Counting.{any_below, has}
 use Rattle.elevator_model.specs.Tours.{is_later_in_queue}
 use Rattle.tour_rules.specs.Places.{call_in}
 use Rattle.tour_rules.proofs.rules.overtakes.Given as goal

@@ -1,4 +1,4 @@
-use Rattle.std.proofs.Common.{ℕ, map, List, sym, subst, ◌∙◌}
+use Rattle.std.proofs.Common.{ℕ, map, List, sym, subst, ap, ◌∙◌}
 use Rattle.elevator_model.specs.declared.CarSpec.{CarSpec}
 use Rattle.call_state.specs.BuildingParts.{building_of}
 use Rattle.call_state.specs.Ids.{AreDifferent}
@@ -21,7 +21,7 @@ of_cars-requires c =
 pub invariant_of-result : goal.invariant_of-result
 invariant_of-result c =
     let f : List CarSpec → List ℕ = map (λ x. x.id) in
-    (faultless-IsBuilding (building_of c.args.parts) c.first_fault.ensures.square (sym c.first_fault.ensures.value ∙ c.in_default.is), c.in-Ok.ensures ∙ (λ i. f (c.deref.ensures.value i)))
+    (faultless-IsBuilding (building_of c.args.parts) c.first_fault.ensures.square (sym c.first_fault.ensures.value ∙ c.in_default.is), c.in_ok-ids.ensures ∙ ap f c.deref.ensures.value)
 
 pub returns-clause-valid : goal.returns-clause-valid
 returns-clause-valid c = faultless-IsBuilding (building_of c.args.parts) c.first_fault.ensures.square (sym c.first_fault.ensures.value ∙ c.in_default.is)

@@ -3,6 +3,7 @@ use Rattle.elevator_model.specs.declared.Call.{Call}
 use Rattle.elevator_model.specs.Snapshot.{IsAccepted}
 use Rattle.call_state.specs.SnapshotParts.{snapshot_of}
 use Rattle.call_state.specs.Ids.{AreDifferent}
+use Rattle.call_state.specs.Possible.{ArePossible}
 use Rattle.call_state.proofs.Accepted.{ids-IsAccepted}
 use Rattle.call_state.proofs.snapshots.Snapshot.copy.Goals as goal
 
@@ -15,4 +16,4 @@ of_calls-requires c =
 pub invariant_of-result : goal.invariant_of-result
 invariant_of-result c =
     let f : List Call → List ℕ = map (λ x. x.id) in
-    (subst IsAccepted (sym c.in_ok-parts.ensures) c.self.invariant.0, c.in_ok-ids.ensures ∙ ap f c.deref.ensures.value)
+    (subst IsAccepted (sym c.in_ok-parts.ensures) c.self.invariant.0, c.in_ok-ids.ensures ∙ ap f c.deref.ensures.value, subst (λ (calls : List Call). ArePossible c.in_ok-parts.parts.building calls c.in_ok-possible.possible.items) c.deref-2.ensures.value c.in_ok-possible.ensures)

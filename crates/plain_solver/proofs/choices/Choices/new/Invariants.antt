@@ -1,9 +1,9 @@
 -- The sums of the tours so far.
 use Rattle.std.proofs.Common.{◌≡◌, ◌<◌, ◌≤◌, ℕ, length}
-use Rattle.elevator_model.specs.Counting.{has}
+use Rattle.call_sets.specs.Counting.{has}
 use Rattle.elevator_model.specs.Costs.{cost_of}
 use Rattle.elevator_model.specs.Plans.{is_boarded_in}
-use Rattle.plain_solver.specs.Listed.{tour_at}
+use Rattle.partial_tours.specs.Listed.{tour_at}
 use Rattle.plain_solver.specs.Rests.{sums_at}
 use Rattle.plain_solver.proofs.choices.Choices.new.Given as goal
 

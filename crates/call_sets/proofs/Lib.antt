@@ -1,0 +1,6 @@
+pub mod Bits
+pub mod Members
+pub mod BelowTests
+pub mod ListTests
+pub mod Sums
+pub mod Counts

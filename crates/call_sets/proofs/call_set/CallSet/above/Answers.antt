@@ -1,0 +1,13 @@
+use Rattle.std.proofs.Common.{◌≡◌, ◌+◌, ltb, leb, arith}
+use Rattle.std.proofs.lemmas.Bool.Decides.{nat_tests}
+use Rattle.call_sets.proofs.Bits.{has_past, has_from, has_zero}
+use Rattle.call_sets.proofs.call_set.CallSet.above.Goals as goal
+
+pub returns-then-index-ge127 : goal.returns-then-index-ge127
+returns-then-index-ge127 c = λ k. let e = has_past 128 c.self.inside.bits c.args.index k c.self.invariant (omega arith) in let z = has_zero k in cc
+
+pub returns : goal.returns
+returns c = λ k.
+    let e = has_from 128 c.self.inside.bits (c.args.index + 1) k c.self.invariant (omega arith) in
+    let t : leb (c.args.index + 1) k ≡ ltb c.args.index k = grind (arith, nat_tests) in
+    cc

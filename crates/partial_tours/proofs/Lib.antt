@@ -1,0 +1,11 @@
+pub mod BoardLemmas
+pub mod Next
+pub mod Follow
+pub mod Prefixes
+pub mod Told
+pub mod Tallied
+pub mod Boarded
+pub mod Lawful
+pub mod Distinct
+pub mod Listed
+pub mod Search

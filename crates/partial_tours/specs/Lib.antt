@@ -1,0 +1,5 @@
+pub mod PartialTour
+pub mod Courses
+pub mod Prefixes
+pub mod Tallies
+pub mod Listed

@@ -1,0 +1,54 @@
+-- The running sums of a partial tour, against the definition.
+use Rattle.std.specs.Prelude.{◌≡◌, ℕ, ◌+◌, ◌*◌, ◌≤◌, ◌<◌, List, length, take, true, Some, slice_index, slice_index_or, slice_set}
+use Rattle.elevator_model.specs.declared.Move.{Move}
+use Rattle.elevator_model.specs.declared.Move.TheVariants.{Board, Leave, End}
+use Rattle.elevator_model.specs.Building.{floor_count}
+use Rattle.elevator_model.specs.Snapshot.{Snapshot, call_count}
+use Rattle.elevator_model.specs.Tours.{Progress}
+use Rattle.elevator_model.specs.Costs.{settled_cost}
+use Rattle.elevator_model.specs.Partial.{Course, course_of, progress_after, move_on}
+use Rattle.partial_tours.specs.declared.points.Point.{Point}
+use Rattle.partial_tours.specs.declared.points.Step.{Step}
+use Rattle.partial_tours.specs.declared.tally.Tally.{Tally}
+use Rattle.partial_tours.specs.Courses.{TracksCourse}
+use Rattle.tour_rules.specs.Leaving.{IsKept, AreEarly}
+
+-- where the car is with the present stop made by those who boarded there so far
+abbrev pub reached : Snapshot → ℕ → Course → Progress
+reached s c x = progress_after s c x.before x.present
+
+-- the moments and the cost of a progress
+pub record Counts (s : Snapshot) (c : ℕ) (tally : Tally) (p : Progress) : Type 0 where
+  pub opened : tally.opened ≡ p.opened
+  pub leaves : tally.leaves ≡ p.leaves
+  pub settled : tally.settled ≡ settled_cost s c p
+
+-- the tally stands for where so many moves lead
+pub record IsTally (s : Snapshot) (c count : ℕ) (tally : Tally) (x : Course) : Type 0 where
+  pub counts : Counts s c tally (reached s c x)
+  pub timely : tally.opened ≤ tally.leaves
+  pub late : tally.leaves ≤ 1100000000 + 150000000 * count
+  pub floor : (reached s c x).floor < floor_count s.building
+  pub kept : IsKept s c x.before
+  pub early : AreEarly s x.before
+
+-- the moments in the list are those at which the calls boarded
+pub record AreNoted (s : Snapshot) (c : ℕ) (moments : List ℕ) (x : Course) : Type 0 where
+  pub each : (j : ℕ) → j < call_count s → (reached s c x).boarded j ≡ true → (reached s c x).boarded_at j ≡ slice_index moments j
+
+-- the moments with that of the call that boards
+abbrev pub with_moment : Move → (opened : ℕ) → List ℕ → List ℕ
+with_moment (Board j) opened moments = slice_set moments j opened
+with_moment (Leave g) opened moments = moments
+with_moment End opened moments = moments
+
+-- the move is lawful where the point and the tally stand
+abbrev pub LeadsOnTallied : Snapshot → ℕ → Point → Tally → List ℕ → Move → Type 0
+LeadsOnTallied s c point tally moments m = (x : Course) × (y : Course) × (count : ℕ) × TracksCourse s c point x × IsTally s c count tally x × AreNoted s c moments x × (count < 450) × (move_on s c x m ≡ Some y)
+
+-- What a partial tour keeps: a tally after each of its moves, and the moments at which calls boarded.
+pub record IsTallied (s : Snapshot) (c : ℕ) (moves : List Move) (steps : List Step) (moments : List ℕ) : Type 0 where
+  pub room : length moments ≡ 128
+  pub low : (j : ℕ) → slice_index moments j ≤ 100000000000
+  pub tallied : (k : ℕ) (x : Course) (d : Step) → k ≤ length moves → course_of s c (take k moves) ≡ Some x → IsTally s c k (slice_index_or steps k d).tally x
+  pub noted : (k : ℕ) (x : Course) → k ≤ length moves → course_of s c (take k moves) ≡ Some x → AreNoted s c moments x

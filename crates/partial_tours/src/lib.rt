@@ -1,0 +1,12 @@
+//! Partial tours: the beginning of a tour as a list of moves, the moves that may follow, and what the
+//! partial tour has cost so far.
+#![tactic(auto)]
+
+mod partial;
+mod points;
+mod prefix;
+mod tally;
+
+pub use call_sets::CallSet;
+pub use elevator_model::{Boards, Move, Stop, Tour};
+pub use prefix::{Moves, Prefix, next_moves};

@@ -1,0 +1,230 @@
+//! Partial tours and the moves that may follow.
+
+ghost use Rattle.std.specs.Prelude.{true, OnOk, ◌≡◌, ◌<◌, ◌≤◌, ◌++◌, ◌∷◌, [], IfOk, MatchOption, Some, ℕ, length};
+ghost use Rattle.call_sets.specs.Counting.{has};
+ghost use Rattle.elevator_model.specs.Partial.{Course, lawful_moves, moves_of, settled_of, moment_in};
+ghost use Rattle.partial_tours.specs.PartialTour.{course, with_move_made, stops_made};
+
+use crate::partial::{advance, fill, place_after, start};
+use crate::points::Step;
+use crate::tally::{Tally, note};
+use call_sets::CallSet;
+use call_state::Snapshot;
+use elevator_model::{Boards, Move, Stop, Tour};
+use std::alloc::{AllocError, Global};
+use std::marker::Model;
+
+/// The most moves of a partial tour: three for each of 128 calls, one for each of 64 groups, and two.
+const MOST_MOVES: usize = 450;
+
+/// The most calls that a snapshot can have.
+const MOST_CALLS: usize = 128;
+
+/// The most moves that may follow: 128 boards, 64 leaves and the end.
+const MOST_NEXT: usize = 193;
+
+/// The moves that may follow a partial tour, with room for all of them.
+#[derive(Drop, Debug)]
+pub struct Moves {
+    items: Vec<Move>,
+}
+
+impl Model for Moves {
+    ghost use Rattle.std.specs.Prelude.{List, ◌≤◌, vec_capacity};
+    ghost use Rattle.elevator_model.specs.declared.Move.{Move};
+
+    ghost Value = { List Move };
+
+    ghost view = { λ m. m.items.items };
+
+    ghost invariant = { λ m. 193 ≤ vec_capacity m.items };
+}
+
+impl Moves {
+    /// No moves, with room for all that may follow any partial tour.
+    pub fn new(alloc: Global) -> Result<Self, AllocError>
+        ensures { IfOk result (λ m. m ≡ []) }
+    {
+        Ok(Moves {
+            items: Vec::with_capacity(alloc, MOST_NEXT)?,
+        })
+    }
+
+    /// The moves, in their order.
+    pub fn items(&self) -> &[Move]
+        ensures { result.now ≡ self.now }
+    {
+        self.items.as_slice()
+    }
+}
+
+/// The beginning of a car's tour, as a list of lawful moves, with where each of them leads and what it
+/// costs until there.
+#[derive(Drop)]
+pub struct Prefix<'a> {
+    snapshot: &'a Snapshot,
+    car: u32,
+    moves: Vec<Move>,
+    /// Where the moves lead: the start, and what follows each move.
+    steps: Vec<Step>,
+    /// For each call that boarded the moment of it. One that was taken back is overwritten when the call
+    /// boards again.
+    moments: Vec<u64>,
+}
+
+impl<'a> Model for Prefix<'a> {
+    ghost use Rattle.std.specs.Prelude.{◌≤◌, vec_capacity};
+    ghost use Rattle.partial_tours.specs.PartialTour.{PartialTour};
+
+    ghost Value = { PartialTour };
+
+    ghost use Rattle.partial_tours.specs.Prefixes.{IsPrefix};
+    ghost use Rattle.partial_tours.specs.Tallies.{IsTallied};
+
+    ghost view = { λ p. record { snapshot = p.snapshot.now; car = p.car; moves = p.moves.items } };
+
+    ghost invariant = { λ p. IsPrefix p.snapshot.now p.car p.moves.items p.steps.items × (450 ≤ vec_capacity p.moves) × (451 ≤ vec_capacity p.steps) × IsTallied p.snapshot.now p.car p.moves.items p.steps.items p.moments.items };
+}
+
+impl<'a> Prefix<'a> {
+    ghost use Rattle.elevator_model.specs.Snapshot.{car_count};
+    ghost use Rattle.elevator_model.specs.Partial.{IsLawful};
+    ghost use Rattle.partial_tours.specs.PartialTour.{with_move};
+    ghost use Rattle.tour_rules.specs.Measure.{most_moves};
+
+    /// The empty partial tour of the car, with room for the longest.
+    pub fn new(alloc: Global, snapshot: &'a Snapshot, car: u32) -> Result<Self, AllocError>
+        requires { car < car_count snapshot.now }
+        ensures { IfOk result (λ p. p ≡ record { snapshot = snapshot.now; car = car; moves = [] }) }
+    {
+        let _calls = snapshot.calls();
+        let moves = Vec::with_capacity(alloc, MOST_MOVES)?;
+        let mut steps = Vec::with_capacity(alloc, MOST_MOVES + 1)?;
+        steps.push_reserved(Step {
+            point: start(snapshot, car),
+            tally: Tally::start(snapshot, car),
+        });
+        let moments = Vec::from_array(alloc, [0; MOST_CALLS])?;
+        Ok(Prefix {
+            snapshot,
+            car,
+            moves,
+            steps,
+            moments,
+        })
+    }
+
+    /// The moves: at most three for each call, one for each group aboard the car, and two.
+    pub fn moves(&self) -> &[Move]
+        ensures value { result.now ≡ self.now.moves }
+        ensures lawful { IsLawful self.now.snapshot self.now.car self.now.moves }
+        ensures short { length self.now.moves ≤ most_moves self.now.snapshot self.now.car }
+    {
+        self.moves.as_slice()
+    }
+
+    /// Adds a move. The longer partial tour has to be lawful.
+    pub fn push(&mut self, next: Move)
+        requires { IsLawful self.old.snapshot self.old.car (self.old.moves ++ next ∷ []) }
+        ensures { self.new ≡ with_move self.old next }
+    {
+        let step = self.steps[self.moves.len()];
+        let tally = step.tally.after(
+            self.snapshot,
+            self.car,
+            &step.point,
+            next,
+            self.moments.as_slice(),
+        );
+        let point = advance(self.snapshot, self.car, &step.point, next);
+        note(self.moments.as_mut_slice(), next, tally.opened);
+        self.moves.push_reserved(next);
+        self.steps.push_reserved(Step { point, tally });
+    }
+
+    /// Takes the last move away. None where there is none, and then nothing changes.
+    pub fn pop(&mut self) -> Option<Move>
+        ensures { MatchOption result ((self.old.moves ≡ []) × (self.new ≡ self.old)) (λ m. self.old ≡ with_move self.new m) }
+    {
+        let last = self.moves.pop()?;
+        let _ = self.steps.pop();
+        Some(last)
+    }
+
+    /// The cost in cost units of those who got off within the partial tour. The present stop counts: those
+    /// who are to get off there have done so.
+    pub fn settled(&self) -> u64
+        ensures { (x : Course) → course self.now ≡ Some x → result ≡ settled_of self.now.snapshot self.now.car x }
+    {
+        self.steps[self.moves.len()].tally.settled
+    }
+
+    /// The moment in ms at which the doors of the last stop are open. None where no stop has begun.
+    pub fn moment(&self) -> Option<u64>
+        ensures { (x : Course) → course self.now ≡ Some x → result ≡ moment_in self.now.snapshot self.now.car x }
+    {
+        let step = self.steps[self.moves.len()];
+        if place_after(&step.point).begun {
+            Some(step.tally.opened)
+        } else {
+            None
+        }
+    }
+
+    /// The tour whose move list this is. The partial tour has to have ended.
+    pub fn tour(&self, alloc: Global) -> Result<Tour, AllocError>
+        requires { (x : Course) × (course self.now ≡ Some x) × (x.ended ≡ true) }
+        ensures stops { IfOk result (λ tour. (x : Course) → course self.now ≡ Some x → tour ≡ x.left) }
+        ensures moves { IfOk result (λ tour. moves_of self.now.snapshot tour ≡ self.now.moves) }
+    {
+        stops_of(alloc, self.moves.as_slice())
+    }
+}
+
+/// Fills the list with the moves after which the partial tour is lawful, boards of allowed calls only,
+/// in order.
+pub fn next_moves(prefix: &Prefix, allowed: CallSet, out: &mut Moves)
+    ensures { (x : Course) → course prefix.now ≡ Some x → out.new ≡ lawful_moves prefix.now.snapshot prefix.now.car x (has allowed) }
+{
+    let step = prefix.steps[prefix.moves.len()];
+    fill(
+        prefix.snapshot,
+        prefix.car,
+        &step.point,
+        allowed,
+        &mut out.items,
+    );
+}
+
+/// Adds what the move does to the stops: a new one, or a board at the last one.
+fn add_move(alloc: Global, stops: &mut Vec<Stop>, next: Move) -> Result<(), AllocError>
+    ensures { OnOk result (stops.new.items ≡ with_move_made stops.old.items next) }
+{
+    match next {
+        Move::Leave(floor) => {
+            stops.push(Stop {
+                floor,
+                boards: Boards::new(alloc),
+            })?;
+        }
+        Move::Board(call) => {
+            if let Some(mut stop) = stops.pop() {
+                stop.boards.push(call)?;
+                stops.push(stop)?;
+            }
+        }
+        Move::End => {}
+    }
+    Ok(())
+}
+
+/// The stops that the moves make.
+fn stops_of(alloc: Global, moves: &[Move]) -> Result<Tour, AllocError>
+    ensures { IfOk result (λ tour. tour ≡ stops_made moves.now) }
+{
+    let mut stops = Vec::new(alloc);
+    for next in moves {
+        add_move(alloc, &mut stops, *next)?;
+    }
+    Ok(Tour::from_vec(stops))
+}

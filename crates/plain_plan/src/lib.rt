@@ -1,0 +1,15 @@
+//! The plain plan: a feasible plan of every accepted snapshot, found without a search, and what it is made
+//! of.
+//!
+//! Floors, cars and calls are named by their index, from 0.
+#![tactic(auto)]
+
+mod choosing;
+mod opening;
+mod plain;
+mod sorting;
+
+pub use elevator_model::Plan;
+pub use opening::opening_floors;
+pub use plain::plan_of;
+pub use sorting::calls_in_order;

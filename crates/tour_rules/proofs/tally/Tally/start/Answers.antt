@@ -1,9 +1,0 @@
-use Rattle.std.proofs.Common.{refl, ap, ◌∙◌}
-use Rattle.elevator_model.specs.Snapshot.{moment_of}
-use Rattle.tour_rules.proofs.Tallied.{tally_start}
-use Rattle.tour_rules.proofs.tally.Tally.start.Goals as goal
-
-pub returns : goal.returns
-returns c =
-    let moment = c.moment_of-moment.ensures ∙ ap moment_of c.car.ensures.value in
-    tally_start c.args.snapshot.now c.args.car _ c.car.ensures.accepted c.requires moment moment refl
