@@ -334,3 +334,46 @@ pub record AreCallFaults : Type 0 where
   pub nine_in_a_large_car : FaultIs (shown 1 0 9 (Idle 0 0) [] (call 1 0 2 9 ∷ [])) PersonsOutOfRange 2
   pub full : first_fault_of_snapshot (lower at_one [] (calls_to 64)) ≡ None
   pub one_more : FaultIs (lower at_one [] (calls_to 65)) TooManyCalls 66
+
+abbrev pub uneven_square : Square
+uneven_square = record {
+  floors = 4;
+  times = 0 ∷ 3875 ∷ 7875 ∷ 8542 ∷ 3875 ∷ 0 ∷ 5875 ∷ 6542 ∷ 7875 ∷ 5875 ∷ 0 ∷ 2237 ∷ 8542 ∷ 6542 ∷ 2237 ∷ 0 ∷ [];
+}
+
+-- floors 3000, 6000 and 1000 mm apart, 1500 mm/s, 800 mm/s², weights 3 and 2, doors 1100 and 700 ms, 300 ms on and 900 ms off
+abbrev pub uneven : (version patience weight capacity moment : ℕ) → CarState → List Aboard → List Call → Snapshot
+uneven version patience weight capacity moment state aboard calls = record {
+  version = 2;
+  building = record {
+    version = version;
+    heights = 0 ∷ 3000 ∷ 9000 ∷ 10000 ∷ [];
+    speed = 1500;
+    accel = 800;
+    wait_weight = 3;
+    travel_weight = 2;
+    patience = patience;
+    patience_weight = weight;
+    cars = record { id = 7; capacity = capacity; opening = 1100; closing = 700; boarding = 300; alighting = 900; serves = 15 } ∷ [];
+    travel = uneven_square;
+  };
+  moment = moment;
+  states = state ∷ [];
+  aboard = aboard;
+  calls = calls;
+}
+
+abbrev pub riders_down : Snapshot
+riders_down = uneven 2 2000 5 5 1000 (Idle 2 5000) (group 30 0 3 400 ∷ []) (call_from 5 1 3 2 900 None ∷ call_from 2 1 3 1 950 None ∷ [])
+
+-- where no two numbers of a car or a building are the same
+pub record AreUneven : Type 0 where
+  pub together : Costs riders_down (stop 0 [] ∷ stop 1 (0 ∷ 1 ∷ []) ∷ stop 3 [] ∷ []) 621302
+  pub in_turn : Costs riders_down (stop 0 [] ∷ stop 1 (0 ∷ []) ∷ stop 3 [] ∷ stop 1 (1 ∷ []) ∷ stop 3 [] ∷ []) 771574
+  pub released_first : Breaks riders_down (stop 0 [] ∷ stop 1 (1 ∷ []) ∷ stop 3 [] ∷ stop 1 (0 ∷ []) ∷ stop 3 [] ∷ []) 4 QueueOrder
+  pub with_who_stays : Breaks (uneven 1 0 0 4 1000 (Idle 0 1000) (group 30 3 3 400 ∷ []) (call_from 5 1 3 2 900 None ∷ [])) (stop 1 (0 ∷ []) ∷ stop 3 [] ∷ []) 1 Capacity
+  pub coming : Costs (uneven 1 0 0 5 1000 (Coming 0 1000) (group 30 3 3 400 ∷ []) (call_from 5 1 3 2 900 None ∷ [])) (stop 0 [] ∷ stop 1 (0 ∷ []) ∷ stop 3 [] ∷ []) 174920
+  pub two_queues : Costs (uneven 1 0 0 5 1000 (Idle 1 1000) [] (call_from 1 1 3 1 900 None ∷ call_from 2 1 0 1 950 None ∷ [])) (stop 1 (1 ∷ []) ∷ stop 0 [] ∷ stop 1 (0 ∷ []) ∷ stop 3 [] ∷ []) 73934
+  pub at_full_speed : Costs (uneven 1 0 0 5 5000 (Moving 0 true 2500) [] (call_from 1 2 0 1 900 None ∷ [])) (stop 2 (0 ∷ []) ∷ stop 0 [] ∷ []) 51675
+  pub braking_late : Costs (uneven 1 0 0 5 5000 (Moving 0 true 1000) [] (call_from 1 2 0 1 900 None ∷ [])) (stop 2 (0 ∷ []) ∷ stop 0 [] ∷ []) 47175
+  pub would_have_passed : Breaks (record { version = 2; building = record { version = 3; heights = 0 ∷ 3000 ∷ 9000 ∷ 10000 ∷ []; speed = 1500; accel = 800; wait_weight = 3; travel_weight = 2; patience = 0; patience_weight = 0; cars = car_named 7 5 15 ∷ []; travel = record { floors = 4; times = 0 ∷ 3000 ∷ 3000 ∷ 5000 ∷ 3000 ∷ 0 ∷ 3000 ∷ 3000 ∷ 3000 ∷ 3000 ∷ 0 ∷ 2237 ∷ 5000 ∷ 3000 ∷ 2237 ∷ 0 ∷ [] } }; moment = 4500; states = Moving 0 true 1000 ∷ []; aboard = []; calls = call_from 1 2 0 1 900 None ∷ [] }) (stop 2 (0 ∷ []) ∷ stop 0 [] ∷ []) 1 FirstStop

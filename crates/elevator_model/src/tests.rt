@@ -1,4 +1,4 @@
-ghost use Rattle.elevator_model.specs.Worked.{AreCosts, AreBroken, ArePatient, ArePlans, AreFaults, AreBuildingFaults, AreStateFaults, AreGroupFaults, AreCallFaults};
+ghost use Rattle.elevator_model.specs.Worked.{AreCosts, AreBroken, ArePatient, ArePlans, AreFaults, AreBuildingFaults, AreStateFaults, AreGroupFaults, AreCallFaults, AreUneven};
 
 // The costs that the definitions give to the worked cases.
 fn worked_costs()
@@ -41,6 +41,10 @@ fn call_faults()
     ensures { AreCallFaults }
 {}
 
+fn uneven_numbers()
+    ensures { AreUneven }
+{}
+
 #[test]
 fn definitions_give_the_worked_cases() {
     worked_costs();
@@ -52,4 +56,5 @@ fn definitions_give_the_worked_cases() {
     state_faults();
     group_faults();
     call_faults();
+    uneven_numbers();
 }
