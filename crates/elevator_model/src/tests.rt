@@ -1,4 +1,4 @@
-ghost use Rattle.elevator_model.specs.Worked.{AreCosts, AreBroken, ArePatient, ArePlans, AreFaults, AreBuildingFaults, AreStateFaults, AreGroupFaults, AreCallFaults, AreUneven};
+ghost use Rattle.elevator_model.specs.Worked.{AreCosts, AreBroken, ArePatient, ArePlans, AreFaults, AreBuildingFaults, AreStateFaults, AreGroupFaults, AreCallFaults, AreUneven, AreUnevenPlans, AreMoves};
 
 // The costs that the definitions give to the worked cases.
 fn worked_costs()
@@ -41,8 +41,18 @@ fn call_faults()
     ensures { AreCallFaults }
 {}
 
+// Costs, rules and open floors where no two numbers are the same.
 fn uneven_numbers()
     ensures { AreUneven }
+{}
+
+fn plans_of_three_cars()
+    ensures { AreUnevenPlans }
+{}
+
+// What moves settle, and the moments of their stops.
+fn settled_by_moves()
+    ensures { AreMoves }
 {}
 
 #[test]
@@ -57,4 +67,6 @@ fn definitions_give_the_worked_cases() {
     group_faults();
     call_faults();
     uneven_numbers();
+    plans_of_three_cars();
+    settled_by_moves();
 }
