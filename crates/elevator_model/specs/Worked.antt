@@ -7,6 +7,7 @@ use Rattle.elevator_model.specs.declared.CarState.TheVariants.{Idle, Coming, Mov
 use Rattle.elevator_model.specs.declared.Aboard.{Aboard}
 use Rattle.elevator_model.specs.declared.Call.{Call}
 use Rattle.elevator_model.specs.declared.Stop.{Stop}
+use Rattle.elevator_model.specs.declared.Times.{Times}
 use Rattle.elevator_model.specs.declared.Move.{Move}
 use Rattle.elevator_model.specs.declared.Move.TheVariants.{Board, Leave, End}
 use Rattle.elevator_model.specs.declared.Fault.{Fault}
@@ -18,7 +19,7 @@ use Rattle.elevator_model.specs.Snapshot.{Snapshot}
 use Rattle.elevator_model.specs.declared.Fault.TheVariants.{OutOfRange, NotRising, IdUsedBefore, NoSuchFloor, OriginIsDestination, NoPossibleCar, PinCannotTake, WrongSide, OverCapacity, MomentOutOfRange, TooManyCalls, TooManyCars, NotServed, PersonsOutOfRange, NoOpenFloor}
 use Rattle.elevator_model.specs.Faults.{first_fault_of_building, first_fault_of_snapshot}
 use Rattle.elevator_model.specs.Tours.{first_broken}
-use Rattle.elevator_model.specs.Costs.{cost_of}
+use Rattle.elevator_model.specs.Costs.{cost_of, timeline_of}
 use Rattle.elevator_model.specs.Plans.{first_bad, plan_cost_of}
 use Rattle.elevator_model.specs.Partial.{course_of, settled_of, moment_in}
 
@@ -376,9 +377,9 @@ uneven version patience weight capacity moment state aboard calls = record {
 abbrev pub riders_down : Snapshot
 riders_down = uneven 2 2000 5 5 1000 (Idle 2 5000) (group 30 0 3 400 ∷ []) (call_from 5 1 3 2 900 None ∷ call_from 2 1 3 1 950 None ∷ [])
 
--- a moving car that would have been at floor 2 before the moment 4500, though it could still stop there
-abbrev pub passed_by : Snapshot
-passed_by = record {
+-- a moving car that can still stop at floor 2, where it would have been at the moment 4000
+abbrev pub quick_at : ℕ → Snapshot
+quick_at moment = record {
   version = 2;
   building = record {
     version = 3;
@@ -395,11 +396,14 @@ passed_by = record {
       times = 0 ∷ 3000 ∷ 3000 ∷ 5000 ∷ 3000 ∷ 0 ∷ 3000 ∷ 3000 ∷ 3000 ∷ 3000 ∷ 0 ∷ 2237 ∷ 5000 ∷ 3000 ∷ 2237 ∷ 0 ∷ [];
     };
   };
-  moment = 4500;
+  moment = moment;
   states = Moving 0 true 1000 ∷ [];
   aboard = [];
   calls = call_from 1 2 0 1 900 None ∷ [];
 }
+
+abbrev pub times : (arrival opened leaves : ℕ) → Times
+times arrival opened leaves = record { arrival = arrival; opened = opened; leaves = leaves }
 
 -- where no two numbers of a car or a building are the same
 pub record AreUneven : Type 0 where
@@ -415,7 +419,12 @@ pub record AreUneven : Type 0 where
   pub too_fast : Breaks (uneven 1 0 0 5 5000 (Moving 2 true 3881) [] (call_from 1 3 0 1 900 None ∷ [])) (stop 3 (0 ∷ []) ∷ stop 0 [] ∷ []) 1 FirstStop
   pub at_full_speed : Costs (uneven 1 0 0 5 5000 (Moving 0 true 2500) [] (call_from 1 2 0 1 900 None ∷ [])) (stop 2 (0 ∷ []) ∷ stop 0 [] ∷ []) 51675
   pub braking_late : Costs (uneven 1 0 0 5 5000 (Moving 0 true 1000) [] (call_from 1 2 0 1 900 None ∷ [])) (stop 2 (0 ∷ []) ∷ stop 0 [] ∷ []) 47175
-  pub would_have_passed : Breaks passed_by (stop 2 (0 ∷ []) ∷ stop 0 [] ∷ []) 1 FirstStop
+  pub last_at_full_speed : Costs (uneven 1 0 0 5 7000 (Moving 0 true 1000) [] (call_from 1 2 0 1 900 None ∷ [])) (stop 2 (0 ∷ []) ∷ stop 0 [] ∷ []) 47175
+  pub too_near : Breaks (uneven 1 0 0 5 7001 (Moving 0 true 1000) [] (call_from 1 2 0 1 900 None ∷ [])) (stop 2 (0 ∷ []) ∷ stop 0 [] ∷ []) 1 FirstStop
+  pub there_now : Costs (quick_at 4000) (stop 2 (0 ∷ []) ∷ stop 0 [] ∷ []) 23300
+  pub would_have_passed : Breaks (quick_at 4001) (stop 2 (0 ∷ []) ∷ stop 0 [] ∷ []) 1 FirstStop
+  pub timeline : timeline_of riders_down 0 (stop 0 [] ∷ stop 1 (0 ∷ 1 ∷ []) ∷ stop 3 [] ∷ []) ≡ times 12875 13975 17375 ∷ times 21250 22350 23950 ∷ times 30492 31592 34992 ∷ []
+  pub without_a_leg : timeline_of (uneven 1 0 0 5 1000 (Coming 0 1000) (group 30 3 3 400 ∷ []) []) 0 (stop 3 [] ∷ []) ≡ times 1000 2100 5500 ∷ []
 
 -- three cars of different numbers, the second of which has a group aboard
 abbrev pub three_cars : Snapshot
@@ -443,6 +452,17 @@ pub record AreUnevenPlans : Type 0 where
   pub taken_by_the_first : BadAt three_cars (from_one ∷ (stop 3 (2 ∷ []) ∷ stop 0 [] ∷ []) ∷ from_one ∷ []) 2 1 CallTwice
   pub first_of_two : BadAt three_cars (from_one ∷ (stop 3 (2 ∷ []) ∷ []) ∷ (stop 1 [] ∷ []) ∷ []) 1 2 Delivery
   pub lowest_left_out : BadAt three_cars (from_one ∷ (stop 3 [] ∷ stop 0 [] ∷ []) ∷ [] ∷ []) 3 1 Unserved
+
+-- of two rules that a stop breaks, the lower one is told
+pub record AreLowest : Type 0 where
+  pub useless : Breaks riders_down (stop 0 [] ∷ stop 1 (0 ∷ []) ∷ stop 0 [] ∷ []) 3 UselessStop
+  pub turn : Breaks riders_down (stop 3 (0 ∷ 1 ∷ []) ∷ []) 1 TurnWithPassengers
+  pub capacity : Breaks (uneven 2 2000 5 3 1000 (Idle 2 5000) [] (call_from 5 1 3 2 900 None ∷ call_from 2 1 3 1 950 None ∷ call_from 8 3 0 2 700 None ∷ [])) (stop 1 (1 ∷ []) ∷ stop 3 (2 ∷ []) ∷ stop 1 (0 ∷ []) ∷ []) 3 Capacity
+  pub queue : Breaks riders_down (stop 0 [] ∷ stop 1 (1 ∷ []) ∷ stop 3 [] ∷ stop 1 (0 ∷ 9 ∷ []) ∷ []) 4 QueueOrder
+  pub car : BadAt three_cars ([] ∷ (stop 3 [] ∷ stop 0 [] ∷ stop 1 (0 ∷ []) ∷ []) ∷ [] ∷ []) 1 3 Car
+  pub floor : BadAt three_cars ([] ∷ (stop 3 [] ∷ stop 0 [] ∷ stop 1 (1 ∷ 1 ∷ []) ∷ []) ∷ [] ∷ []) 1 3 Floor
+  pub twice : BadAt three_cars ((stop 1 (1 ∷ 1 ∷ []) ∷ []) ∷ [] ∷ [] ∷ []) 0 1 CallTwice
+  pub nowhere : BadAt three_cars ([] ∷ [] ∷ [] ∷ []) 1 1 FirstStop
 
 -- what the moves have settled, and the moment of their last stop
 abbrev pub Settles : Snapshot → List Move → (cost : ℕ) → (moment : Option ℕ) → Type 0

@@ -1,4 +1,4 @@
-ghost use Rattle.elevator_model.specs.Worked.{AreCosts, AreBroken, ArePatient, ArePlans, AreFaults, AreBuildingFaults, AreStateFaults, AreGroupFaults, AreCallFaults, AreUneven, AreUnevenPlans, AreMoves};
+ghost use Rattle.elevator_model.specs.Worked.{AreCosts, AreBroken, ArePatient, ArePlans, AreFaults, AreBuildingFaults, AreStateFaults, AreGroupFaults, AreCallFaults, AreUneven, AreUnevenPlans, AreLowest, AreMoves};
 
 // The costs that the definitions give to the worked cases.
 fn worked_costs()
@@ -50,6 +50,10 @@ fn plans_of_three_cars()
     ensures { AreUnevenPlans }
 {}
 
+fn lowest_rules()
+    ensures { AreLowest }
+{}
+
 // What moves settle, and the moments of their stops.
 fn settled_by_moves()
     ensures { AreMoves }
@@ -68,5 +72,6 @@ fn definitions_give_the_worked_cases() {
     call_faults();
     uneven_numbers();
     plans_of_three_cars();
+    lowest_rules();
     settled_by_moves();
 }
