@@ -481,3 +481,6 @@ pub record AreMoves : Type 0 where
   -- where the other call did not board, the car arrives its boarding time earlier
   pub one_off : Settles riders_down (Leave 0 ∷ Leave 1 ∷ Board 0 ∷ Leave 3 ∷ []) 440418 (Some 31292)
   pub falling : course_of riders_down 0 (Leave 0 ∷ Leave 1 ∷ Board 1 ∷ Board 0 ∷ []) ≡ None
+  pub useless : course_of riders_down 0 (Leave 0 ∷ Leave 2 ∷ Leave 1 ∷ []) ≡ None
+  pub still_aboard : course_of riders_down 0 (Leave 0 ∷ Leave 1 ∷ Board 0 ∷ End ∷ []) ≡ None
+  pub after_the_end : course_of riders_down 0 (Leave 0 ∷ End ∷ Leave 1 ∷ []) ≡ None
