@@ -1,12 +1,15 @@
 -- Worked cases, against which the definitions are checked: four floors 4000 mm apart, 2000 mm/s,
 -- 1000 mm/s², weights 1 and 1, doors 1000 ms each way, 500 ms for each person on or off.
-use Rattle.std.specs.Prelude.{◌≡◌, ℕ, zero, suc, ◌+◌, List, [], ◌∷◌, ◌++◌, true, Option, Some, None}
+use Rattle.std.specs.Prelude.{◌≡◌, ℕ, zero, suc, ◌+◌, List, [], ◌∷◌, ◌++◌, true, Option, Some, None, option_map}
 use Rattle.elevator_model.specs.declared.CarSpec.{CarSpec}
 use Rattle.elevator_model.specs.declared.CarState.{CarState}
 use Rattle.elevator_model.specs.declared.CarState.TheVariants.{Idle, Coming, Moving}
 use Rattle.elevator_model.specs.declared.Aboard.{Aboard}
 use Rattle.elevator_model.specs.declared.Call.{Call}
 use Rattle.elevator_model.specs.declared.Stop.{Stop}
+use Rattle.elevator_model.specs.declared.Times.{Times}
+use Rattle.elevator_model.specs.declared.Move.{Move}
+use Rattle.elevator_model.specs.declared.Move.TheVariants.{Board, Leave, End}
 use Rattle.elevator_model.specs.declared.Fault.{Fault}
 use Rattle.elevator_model.specs.declared.Rule.{Rule}
 use Rattle.elevator_model.specs.declared.Rule.TheVariants.{FirstStop, SameFloorTwice, UselessStop, TurnWithPassengers, Capacity, QueueOrder, Car, Floor, Delivery, CallTwice, Place, Unserved}
@@ -16,8 +19,9 @@ use Rattle.elevator_model.specs.Snapshot.{Snapshot}
 use Rattle.elevator_model.specs.declared.Fault.TheVariants.{OutOfRange, NotRising, IdUsedBefore, NoSuchFloor, OriginIsDestination, NoPossibleCar, PinCannotTake, WrongSide, OverCapacity, MomentOutOfRange, TooManyCalls, TooManyCars, NotServed, PersonsOutOfRange, NoOpenFloor}
 use Rattle.elevator_model.specs.Faults.{first_fault_of_building, first_fault_of_snapshot}
 use Rattle.elevator_model.specs.Tours.{first_broken}
-use Rattle.elevator_model.specs.Costs.{cost_of}
+use Rattle.elevator_model.specs.Costs.{cost_of, timeline_of}
 use Rattle.elevator_model.specs.Plans.{first_bad, plan_cost_of}
+use Rattle.elevator_model.specs.Partial.{course_of, settled_of, moment_in}
 
 abbrev pub four_floors : Square
 four_floors = record {
@@ -334,3 +338,149 @@ pub record AreCallFaults : Type 0 where
   pub nine_in_a_large_car : FaultIs (shown 1 0 9 (Idle 0 0) [] (call 1 0 2 9 ∷ [])) PersonsOutOfRange 2
   pub full : first_fault_of_snapshot (lower at_one [] (calls_to 64)) ≡ None
   pub one_more : FaultIs (lower at_one [] (calls_to 65)) TooManyCalls 66
+
+abbrev pub uneven_square : Square
+uneven_square = record {
+  floors = 4;
+  times = 0 ∷ 3875 ∷ 7875 ∷ 8542 ∷ 3875 ∷ 0 ∷ 5875 ∷ 6542 ∷ 7875 ∷ 5875 ∷ 0 ∷ 2237 ∷ 8542 ∷ 6542 ∷ 2237 ∷ 0 ∷ [];
+}
+
+-- floors 3000, 6000 and 1000 mm apart, 1500 mm/s, 800 mm/s², weights 3 and 2
+abbrev pub uneven_building : (version patience weight : ℕ) → List CarSpec → Building
+uneven_building version patience weight cars = record {
+  version = version;
+  heights = 0 ∷ 3000 ∷ 9000 ∷ 10000 ∷ [];
+  speed = 1500;
+  accel = 800;
+  wait_weight = 3;
+  travel_weight = 2;
+  patience = patience;
+  patience_weight = weight;
+  cars = cars;
+  travel = uneven_square;
+}
+
+-- doors 1100 and 700 ms, 300 ms on and 900 ms off
+abbrev pub uneven_car : ℕ → CarSpec
+uneven_car capacity = record { id = 7; capacity = capacity; opening = 1100; closing = 700; boarding = 300; alighting = 900; serves = 15 }
+
+abbrev pub uneven : (version patience weight capacity moment : ℕ) → CarState → List Aboard → List Call → Snapshot
+uneven version patience weight capacity moment state aboard calls = record {
+  version = 2;
+  building = uneven_building version patience weight (uneven_car capacity ∷ []);
+  moment = moment;
+  states = state ∷ [];
+  aboard = aboard;
+  calls = calls;
+}
+
+abbrev pub riders_down : Snapshot
+riders_down = uneven 2 2000 5 5 1000 (Idle 2 5000) (group 30 0 3 400 ∷ []) (call_from 5 1 3 2 900 None ∷ call_from 2 1 3 1 950 None ∷ [])
+
+-- a moving car that can still stop at floor 2, where it would have been at the moment 4000
+abbrev pub quick_at : ℕ → Snapshot
+quick_at moment = record {
+  version = 2;
+  building = record {
+    version = 3;
+    heights = 0 ∷ 3000 ∷ 9000 ∷ 10000 ∷ [];
+    speed = 1500;
+    accel = 800;
+    wait_weight = 3;
+    travel_weight = 2;
+    patience = 0;
+    patience_weight = 0;
+    cars = car_named 7 5 15 ∷ [];
+    travel = record {
+      floors = 4;
+      times = 0 ∷ 3000 ∷ 3000 ∷ 5000 ∷ 3000 ∷ 0 ∷ 3000 ∷ 3000 ∷ 3000 ∷ 3000 ∷ 0 ∷ 2237 ∷ 5000 ∷ 3000 ∷ 2237 ∷ 0 ∷ [];
+    };
+  };
+  moment = moment;
+  states = Moving 0 true 1000 ∷ [];
+  aboard = [];
+  calls = call_from 1 2 0 1 900 None ∷ [];
+}
+
+abbrev pub times : (arrival opened leaves : ℕ) → Times
+times arrival opened leaves = record { arrival = arrival; opened = opened; leaves = leaves }
+
+-- where no two numbers of a car or a building are the same
+pub record AreUneven : Type 0 where
+  pub accepted : first_fault_of_snapshot riders_down ≡ None
+  pub together : Costs riders_down (stop 0 [] ∷ stop 1 (0 ∷ 1 ∷ []) ∷ stop 3 [] ∷ []) 621302
+  pub in_turn : Costs riders_down (stop 0 [] ∷ stop 1 (0 ∷ []) ∷ stop 3 [] ∷ stop 1 (1 ∷ []) ∷ stop 3 [] ∷ []) 771574
+  pub released_first : Breaks riders_down (stop 0 [] ∷ stop 1 (1 ∷ []) ∷ stop 3 [] ∷ stop 1 (0 ∷ []) ∷ stop 3 [] ∷ []) 4 QueueOrder
+  pub with_who_stays : Breaks (uneven 1 0 0 4 1000 (Idle 0 1000) (group 30 3 3 400 ∷ []) (call_from 5 1 3 2 900 None ∷ [])) (stop 1 (0 ∷ []) ∷ stop 3 [] ∷ []) 1 Capacity
+  pub coming : Costs (uneven 1 0 0 5 1000 (Coming 0 1000) (group 30 3 3 400 ∷ []) (call_from 5 1 3 2 900 None ∷ [])) (stop 0 [] ∷ stop 1 (0 ∷ []) ∷ stop 3 [] ∷ []) 174920
+  pub two_queues : Costs (uneven 1 0 0 5 1000 (Idle 1 1000) [] (call_from 1 1 3 1 900 None ∷ call_from 2 1 0 1 950 None ∷ [])) (stop 1 (1 ∷ []) ∷ stop 0 [] ∷ stop 1 (0 ∷ []) ∷ stop 3 [] ∷ []) 73934
+  pub two_origins : Costs (uneven 1 0 0 5 1000 (Idle 1 1000) [] (call_from 1 0 3 1 900 None ∷ call_from 2 1 3 1 950 None ∷ [])) (stop 1 (1 ∷ []) ∷ stop 3 [] ∷ stop 0 (0 ∷ []) ∷ stop 3 [] ∷ []) 105270
+  pub speeding_up : Costs (uneven 1 0 0 5 5000 (Moving 2 true 3882) [] (call_from 1 3 0 1 900 None ∷ [])) (stop 3 (0 ∷ []) ∷ stop 0 [] ∷ []) 40241
+  pub too_fast : Breaks (uneven 1 0 0 5 5000 (Moving 2 true 3881) [] (call_from 1 3 0 1 900 None ∷ [])) (stop 3 (0 ∷ []) ∷ stop 0 [] ∷ []) 1 FirstStop
+  pub at_full_speed : Costs (uneven 1 0 0 5 5000 (Moving 0 true 2500) [] (call_from 1 2 0 1 900 None ∷ [])) (stop 2 (0 ∷ []) ∷ stop 0 [] ∷ []) 51675
+  pub braking_late : Costs (uneven 1 0 0 5 5000 (Moving 0 true 1000) [] (call_from 1 2 0 1 900 None ∷ [])) (stop 2 (0 ∷ []) ∷ stop 0 [] ∷ []) 47175
+  pub last_at_full_speed : Costs (uneven 1 0 0 5 7000 (Moving 0 true 1000) [] (call_from 1 2 0 1 900 None ∷ [])) (stop 2 (0 ∷ []) ∷ stop 0 [] ∷ []) 47175
+  pub too_near : Breaks (uneven 1 0 0 5 7001 (Moving 0 true 1000) [] (call_from 1 2 0 1 900 None ∷ [])) (stop 2 (0 ∷ []) ∷ stop 0 [] ∷ []) 1 FirstStop
+  pub there_now : Costs (quick_at 4000) (stop 2 (0 ∷ []) ∷ stop 0 [] ∷ []) 23300
+  pub would_have_passed : Breaks (quick_at 4001) (stop 2 (0 ∷ []) ∷ stop 0 [] ∷ []) 1 FirstStop
+  pub timeline : timeline_of riders_down 0 (stop 0 [] ∷ stop 1 (0 ∷ 1 ∷ []) ∷ stop 3 [] ∷ []) ≡ times 12875 13975 17375 ∷ times 21250 22350 23950 ∷ times 30492 31592 34992 ∷ []
+  pub without_a_leg : timeline_of (uneven 1 0 0 5 1000 (Coming 0 1000) (group 30 3 3 400 ∷ []) []) 0 (stop 3 [] ∷ []) ≡ times 1000 2100 5500 ∷ []
+
+-- three cars of different numbers, the second of which has a group aboard
+abbrev pub three_cars : Snapshot
+three_cars = record {
+  version = 2;
+  building =
+      uneven_building 2 2000 5
+      (uneven_car 5
+      ∷ record { id = 4; capacity = 3; opening = 800; closing = 1300; boarding = 600; alighting = 400; serves = 13 }
+      ∷ record { id = 9; capacity = 2; opening = 500; closing = 1700; boarding = 200; alighting = 1000; serves = 11 }
+      ∷ []);
+  moment = 1000;
+  states = Idle 2 1500 ∷ Coming 3 2600 ∷ Idle 1 1200 ∷ [];
+  aboard = record { id = 30; car = 1; destination = 0; persons = 1; boarded = 400 } ∷ [];
+  calls = call_from 5 1 3 2 900 None ∷ call_from 2 0 3 1 950 None ∷ call_from 8 3 0 2 700 None ∷ [];
+}
+
+abbrev pub from_one : List Stop
+from_one = stop 1 (0 ∷ []) ∷ stop 3 [] ∷ []
+
+-- plans of three cars: a cost, and which bad place is the first
+pub record AreUnevenPlans : Type 0 where
+  pub accepted : first_fault_of_snapshot three_cars ≡ None
+  pub cost : PlanCosts three_cars (from_one ∷ (stop 3 (2 ∷ []) ∷ stop 0 [] ∷ []) ∷ (stop 0 (1 ∷ []) ∷ stop 3 [] ∷ []) ∷ []) 286104
+  pub taken_by_the_first : BadAt three_cars (from_one ∷ (stop 3 (2 ∷ []) ∷ stop 0 [] ∷ []) ∷ from_one ∷ []) 2 1 CallTwice
+  pub first_of_two : BadAt three_cars (from_one ∷ (stop 3 (2 ∷ []) ∷ []) ∷ (stop 1 [] ∷ []) ∷ []) 1 2 Delivery
+  pub lowest_left_out : BadAt three_cars (from_one ∷ (stop 3 [] ∷ stop 0 [] ∷ []) ∷ [] ∷ []) 3 1 Unserved
+
+-- of two rules that a stop breaks, the lower one is told
+pub record AreLowest : Type 0 where
+  pub useless : Breaks riders_down (stop 0 [] ∷ stop 1 (0 ∷ []) ∷ stop 0 [] ∷ []) 3 UselessStop
+  pub turn : Breaks riders_down (stop 3 (0 ∷ 1 ∷ []) ∷ []) 1 TurnWithPassengers
+  pub capacity : Breaks (uneven 2 2000 5 3 1000 (Idle 2 5000) [] (call_from 5 1 3 2 900 None ∷ call_from 2 1 3 1 950 None ∷ call_from 8 3 0 2 700 None ∷ [])) (stop 1 (1 ∷ []) ∷ stop 3 (2 ∷ []) ∷ stop 1 (0 ∷ []) ∷ []) 3 Capacity
+  pub queue : Breaks riders_down (stop 0 [] ∷ stop 1 (1 ∷ []) ∷ stop 3 [] ∷ stop 1 (0 ∷ 9 ∷ []) ∷ []) 4 QueueOrder
+  pub car : BadAt three_cars ([] ∷ (stop 3 [] ∷ stop 0 [] ∷ stop 1 (0 ∷ []) ∷ []) ∷ [] ∷ []) 1 3 Car
+  pub floor : BadAt three_cars ([] ∷ (stop 3 [] ∷ stop 0 [] ∷ stop 1 (1 ∷ 1 ∷ []) ∷ []) ∷ [] ∷ []) 1 3 Floor
+  pub twice : BadAt three_cars ((stop 1 (1 ∷ 1 ∷ []) ∷ []) ∷ [] ∷ [] ∷ []) 0 1 CallTwice
+  pub nowhere : BadAt three_cars ([] ∷ [] ∷ [] ∷ []) 1 1 FirstStop
+
+-- what the moves have settled, and the moment of their last stop
+abbrev pub Settles : Snapshot → List Move → (cost : ℕ) → (moment : Option ℕ) → Type 0
+Settles s moves cost moment =
+    (option_map (settled_of s 0) (course_of s 0 moves) ≡ Some cost) × (option_map (moment_in s 0) (course_of s 0 moves) ≡ Some moment)
+
+-- the moves of a tour, one after another: the group gets off, two calls board at one stop, and they get off
+pub record AreMoves : Type 0 where
+  pub none : Settles riders_down [] 0 None
+  pub group_off : Settles riders_down (Leave 0 ∷ []) 81450 (Some 13975)
+  pub next_stop : Settles riders_down (Leave 0 ∷ Leave 1 ∷ []) 81450 (Some 22350)
+  pub one_on : Settles riders_down (Leave 0 ∷ Leave 1 ∷ Board 0 ∷ []) 81450 (Some 22350)
+  pub both_on : Settles riders_down (Leave 0 ∷ Leave 1 ∷ Board 0 ∷ Board 1 ∷ []) 81450 (Some 22350)
+  pub both_off : Settles riders_down (Leave 0 ∷ Leave 1 ∷ Board 0 ∷ Board 1 ∷ Leave 3 ∷ []) 621302 (Some 31592)
+  pub ended : Settles riders_down (Leave 0 ∷ Leave 1 ∷ Board 0 ∷ Board 1 ∷ Leave 3 ∷ End ∷ []) 621302 (Some 31592)
+  -- where the other call did not board, the car arrives its boarding time earlier
+  pub one_off : Settles riders_down (Leave 0 ∷ Leave 1 ∷ Board 0 ∷ Leave 3 ∷ []) 440418 (Some 31292)
+  pub falling : course_of riders_down 0 (Leave 0 ∷ Leave 1 ∷ Board 1 ∷ Board 0 ∷ []) ≡ None
+  pub useless : course_of riders_down 0 (Leave 0 ∷ Leave 2 ∷ Leave 1 ∷ []) ≡ None
+  pub still_aboard : course_of riders_down 0 (Leave 0 ∷ Leave 1 ∷ Board 0 ∷ End ∷ []) ≡ None
+  pub after_the_end : course_of riders_down 0 (Leave 0 ∷ End ∷ Leave 1 ∷ []) ≡ None

@@ -1,4 +1,4 @@
-ghost use Rattle.elevator_model.specs.Worked.{AreCosts, AreBroken, ArePatient, ArePlans, AreFaults, AreBuildingFaults, AreStateFaults, AreGroupFaults, AreCallFaults};
+ghost use Rattle.elevator_model.specs.Worked.{AreCosts, AreBroken, ArePatient, ArePlans, AreFaults, AreBuildingFaults, AreStateFaults, AreGroupFaults, AreCallFaults, AreUneven, AreUnevenPlans, AreLowest, AreMoves};
 
 // The costs that the definitions give to the worked cases.
 fn worked_costs()
@@ -41,6 +41,24 @@ fn call_faults()
     ensures { AreCallFaults }
 {}
 
+// Costs, rules and open floors where no two numbers are the same.
+fn uneven_numbers()
+    ensures { AreUneven }
+{}
+
+fn plans_of_three_cars()
+    ensures { AreUnevenPlans }
+{}
+
+fn lowest_rules()
+    ensures { AreLowest }
+{}
+
+// What moves settle, and the moments of their stops.
+fn settled_by_moves()
+    ensures { AreMoves }
+{}
+
 #[test]
 fn definitions_give_the_worked_cases() {
     worked_costs();
@@ -52,4 +70,8 @@ fn definitions_give_the_worked_cases() {
     state_faults();
     group_faults();
     call_faults();
+    uneven_numbers();
+    plans_of_three_cars();
+    lowest_rules();
+    settled_by_moves();
 }

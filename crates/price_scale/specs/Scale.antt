@@ -1,9 +1,13 @@
 -- Scaled sums: whole numbers of thousandths of a cost unit.
-use Rattle.std.specs.Prelude.{ℤ, pos, neg_ℤ, ◌+ℤ◌, ◌*ℤ◌, ◌≤ℤ◌, ◌^◌, List, [], ◌∷◌}
+use Rattle.std.specs.Prelude.{ℤ, pos, neg_ℤ, ◌+ℤ◌, ◌*ℤ◌, ◌≤ℤ◌, ◌*◌, ◌^◌, List, [], ◌∷◌}
 
 -- the value lies from -10^24 to 10^24
 abbrev pub IsPrice : ℤ → Type 0
 IsPrice value = (neg_ℤ (pos (10 ^ 24)) ≤ℤ value) × (value ≤ℤ pos (10 ^ 24))
+
+-- The value lies from -1.28 * 10^26 to 1.28 * 10^26, as the sum of 128 prices of at most 10^24 each does.
+abbrev pub IsPriceSum : ℤ → Type 0
+IsPriceSum value = (neg_ℤ (pos (128 * 10 ^ 24)) ≤ℤ value) × (value ≤ℤ pos (128 * 10 ^ 24))
 
 -- the prices, added up
 abbrev pub price_sum : List ℤ → ℤ

@@ -4,7 +4,7 @@
 #![tactic(auto)]
 
 ghost use Rattle.std.specs.Prelude.{◌≡◌, ◌≤◌, ◌^◌, ◌*ℤ◌, ◌≤ℤ◌, pos, neg_ℤ, length, SomeIff};
-ghost use Rattle.price_scale.specs.Scale.{IsPrice, price_sum, RoundsUp};
+ghost use Rattle.price_scale.specs.Scale.{IsPrice, IsPriceSum, price_sum, RoundsUp};
 
 use std::marker::Model;
 
@@ -73,10 +73,11 @@ pub fn unscale_up(sum: i128) -> i128
     -(-sum).div_euclid(SCALE)
 }
 
-/// The sum of at most 128 prices, in thousandths of a cost unit.
+/// The sum of at most 128 prices, in thousandths of a cost unit. `unscale_up` takes each such sum.
 pub fn sum_prices(prices: &[Price]) -> i128
     requires { length prices.now ≤ 128 }
-    ensures { result ≡ price_sum prices.now }
+    ensures sum { result ≡ price_sum prices.now }
+    ensures range { IsPriceSum result }
 {
     let mut sum = 0;
     for price in prices {
@@ -88,6 +89,15 @@ pub fn sum_prices(prices: &[Price]) -> i128
 #[cfg(test)]
 mod tests {
     use super::*;
+    use std::test::Fail;
+
+    // The sum of the prices of 128 calls in whole cost units, rounded up once.
+    fn units_of(prices: &[Price]) -> i128
+        requires { length prices.now ≤ 128 }
+        ensures { RoundsUp SCALE (price_sum prices.now) result }
+    {
+        unscale_up(sum_prices(prices))
+    }
 
     #[test]
     fn accepts_exactly_the_range(rt: HostRuntime) {
@@ -104,5 +114,13 @@ mod tests {
         assert_eq!(rt; unscale_up(1000), 1);
         assert_eq!(rt; unscale_up(-999), 0);
         assert_eq!(rt; unscale_up(-1000), -1);
+    }
+
+    #[test]
+    fn a_sum_is_rounded_up_once(rt: HostRuntime) -> Result<(), Fail> {
+        let first = Price::new(1700).ok_or("no price")?;
+        let second = Price::new(1701).ok_or("no price")?;
+        assert_eq!(rt; units_of(&[first, second, second]), 6);
+        Ok(())
     }
 }

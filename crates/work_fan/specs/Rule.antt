@@ -12,7 +12,10 @@ share drawn allowance = record { drawn = drawn; allowance = allowance }
 
 -- each share fits its allowance: it has drawn at most so many numbers at or past the count, and none where it has no allowance
 abbrev pub Fitting : ℕ → List Share → Type 0
-Fitting count shares = (id : ℕ) (s : Share) → get_elem? shares id ≡ some s → (past count s.drawn ≤ s.allowance) × (s.allowance ≡ 0 → s.drawn ≡ [])
+Fitting count shares =
+    (id : ℕ) (s : Share)
+    → get_elem? shares id ≡ some s
+    → (past count s.drawn ≤ s.allowance) × (s.allowance ≡ 0 → s.drawn ≡ [])
 
 -- The numbers below the word are each in exactly one share, once, and no other number is in any share.
 -- The allowances sum to the number of workers, and each share fits its allowance.

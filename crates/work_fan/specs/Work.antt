@@ -16,7 +16,10 @@ module _ {A : Type 0} where
   -- the worker draws from this line, stands for so many workers, and has drawn and done nothing
   abbrev pub Starts : LineView → ℕ → Worker A → Type 0
   Starts line allowance worker =
-      (worker.seat.line ≡ line.name) × (worker.seat.allowance ≡ allowance) × (worker.seat.drawn ≡ []) × (worker.done.items ≡ [])
+      (worker.seat.line ≡ line.name)
+      × (worker.seat.allowance ≡ allowance)
+      × (worker.seat.drawn ≡ [])
+      × (worker.done.items ≡ [])
 
   -- the worker draws from the same line, and stands for as many workers
   abbrev pub SameSeat : Worker A → Worker A → Type 0

@@ -96,9 +96,16 @@ impl Model for JobLine {
 
     ghost coded = { line_code };
 
-    ghost view = { λ l. record { name = l.table.shared.table_id; count = l.table.shared.key.count; workers = l.table.shared.key.workers } };
+    ghost view = { λ l. record {
+      name = l.table.shared.table_id;
+      count = l.table.shared.key.count;
+      workers = l.table.shared.key.workers;
+    } };
 
-    ghost invariant = { λ l. (l.count ≡ l.table.shared.key.count) × (l.table.shared.table_id.words ≡ 1) × (l.table.shared.table_id.slots ≡ 0) };
+    ghost invariant = { λ l.
+        (l.count ≡ l.table.shared.key.count)
+        × (l.table.shared.table_id.words ≡ 1)
+        × (l.table.shared.table_id.slots ≡ 0) };
 }
 
 /// The right to draw from one line. It has no bytes, and may move to a thread.
@@ -118,7 +125,11 @@ impl Model for JobSeat {
 
     ghost coded = { seat_code };
 
-    ghost view = { λ s. record { line = s.seat.table_id; drawn = s.seat.me.0.drawn; allowance = s.seat.me.0.allowance } };
+    ghost view = { λ s. record {
+      line = s.seat.table_id;
+      drawn = s.seat.me.0.drawn;
+      allowance = s.seat.me.0.allowance;
+    } };
 
     ghost invariant = { λ s. s.seat.me.1 ≡ [] };
 }
@@ -128,7 +139,8 @@ impl JobLine {
     pub fn begin(alloc: Global, count: u32, workers: u32) -> Result<(JobLine, JobSeat), AllocError>
         requires { (1 ≤ workers) × (workers ≤ 16) }
         ensures line { IfOk result (λ r. (r.0.count ≡ count) × (r.0.workers ≡ workers)) }
-        ensures seat { IfOk result (λ r. (r.1.line ≡ r.0.name) × (r.1.drawn ≡ []) × (r.1.allowance ≡ workers)) }
+        ensures seat { IfOk result (λ r.
+            (r.1.line ≡ r.0.name) × (r.1.drawn ≡ []) × (r.1.allowance ≡ workers)) }
     {
         let (table, seat) = Table::of_words(alloc, &[0], &Limits { count, workers })?;
         Ok((JobLine { table, count }, JobSeat { seat }))
@@ -142,7 +154,10 @@ impl JobLine {
         requires line { seat.old.line ≡ self.now.name }
         requires goes_on { All (λ n. n < self.now.count) seat.old.drawn }
         requires allowance { 0 < seat.old.allowance }
-        ensures number { (n : ℕ) × (seat.new.drawn ≡ seat.old.drawn ++ n ∷ []) × SomeIff result (n < self.now.count) n × All (λ k. k < n) seat.old.drawn }
+        ensures number { (n : ℕ)
+            × (seat.new.drawn ≡ seat.old.drawn ++ n ∷ [])
+            × SomeIff result (n < self.now.count) n
+            × All (λ k. k < n) seat.old.drawn }
         ensures once { EachOnce seat.new.drawn }
         ensures kept { (seat.new.line ≡ seat.old.line) × (seat.new.allowance ≡ seat.old.allowance) }
     {
@@ -159,7 +174,9 @@ impl JobLine {
         requires line { seat.old.line ≡ self.now.name }
         requires empty { seat.old.drawn ≡ [] }
         requires part { part ≤ seat.old.allowance }
-        ensures kept { (seat.new.line ≡ seat.old.line) × (seat.new.drawn ≡ []) × (seat.new.allowance + part ≡ seat.old.allowance) }
+        ensures kept { (seat.new.line ≡ seat.old.line)
+            × (seat.new.drawn ≡ [])
+            × (seat.new.allowance + part ≡ seat.old.allowance) }
         ensures made { (result.line ≡ seat.old.line) × (result.drawn ≡ []) × (result.allowance ≡ part) }
     {
         self.split_by::<Brand>(seat, part)
@@ -170,7 +187,9 @@ impl JobLine {
         requires empty { seat.old.drawn ≡ [] }
         requires part { part ≤ seat.old.allowance }
         requires picked { part ≡ P.part }
-        ensures kept { (seat.new.line ≡ seat.old.line) × (seat.new.drawn ≡ []) × (seat.new.allowance + part ≡ seat.old.allowance) }
+        ensures kept { (seat.new.line ≡ seat.old.line)
+            × (seat.new.drawn ≡ [])
+            × (seat.new.allowance + part ≡ seat.old.allowance) }
         ensures made { (result.line ≡ seat.old.line) × (result.drawn ≡ []) × (result.allowance ≡ part) }
     {
         let _ = part;
@@ -204,7 +223,8 @@ impl JobLine {
         requires whole { seat.allowance ≡ self.workers }
         ensures numbers { EachBelow result seat.drawn }
         ensures draws { result ≡ length seat.drawn }
-        ensures complete { Any (λ n. self.count ≤ n) seat.drawn → (k : ℕ) → k < self.count → times k seat.drawn ≡ 1 }
+        ensures complete { Any (λ n. self.count ≤ n) seat.drawn
+            → (k : ℕ) → k < self.count → times k seat.drawn ≡ 1 }
     {
         let JobLine { table, count: _ } = self;
         let JobSeat { seat } = seat;

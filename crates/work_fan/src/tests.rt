@@ -74,6 +74,42 @@ impl<const N: usize> Gate for Lookout<N> {
     }
 }
 
+// Three jobs that are their own gate. The gate raises a job's flag, and the job answers whether it found the flag
+// raised.
+#[derive(Drop)]
+struct Told {
+    flags: [AtomicBool; 3],
+}
+
+impl Gate for Told {
+    fn enter(&self, job: u32) {
+        if let Some(flag) = self.flags.get(job as usize) {
+            flag.store(true, Ordering::SeqCst);
+        }
+    }
+}
+
+impl Jobs for Told {
+    type Desk = u32;
+
+    type Answer = bool;
+
+    ghost number = { λ _. 3 };
+
+    ghost serves = { λ _ _. Unit {0} };
+
+    ghost is_right = { λ _ _ _. Unit {0} };
+
+    fn count(&self) -> u32 {
+        3
+    }
+
+    fn work(&self, k: u32, _desk: &mut u32) -> Result<bool, AllocError> {
+        let flag = self.flags.get(k as usize);
+        Ok(flag.is_some_and(|flag| flag.load(Ordering::SeqCst)))
+    }
+}
+
 fn flag() -> AtomicBool {
     AtomicBool::new(false)
 }
@@ -91,6 +127,16 @@ fn answers_in_the_order_of_the_jobs(rt: HostRuntime) -> Result<(), Fail> {
         )?;
         assert_eq!(rt; answers.as_slice(), [10, 11, 12, 13, 14].as_slice());
     }
+    Ok(())
+}
+
+#[test]
+fn the_gate_is_told_of_a_job_before_it_begins(rt: HostRuntime) -> Result<(), Fail> {
+    let told = Told {
+        flags: [flag(), flag(), flag()],
+    };
+    let found = fan(&rt, rt.alloc(), &told, &mut [0, 0], &told)?;
+    assert_eq!(rt; found.as_slice(), [true, true, true].as_slice());
     Ok(())
 }
 

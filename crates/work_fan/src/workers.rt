@@ -184,8 +184,11 @@ fn empty_places<A: Drop>(alloc: Global, count: usize) -> Result<Vec<Option<A>>, 
 fn place_all<A: Drop>(places: &mut Vec<Option<A>>, mut done: Vec<Done<A>>)
     requires { All (λ d. d.job < length places.old.items) done.items }
     ensures count { length places.new.items ≡ length places.old.items }
-    ensures each { (k : ℕ) → 0 < times k (jobs_of done.items) → IsSome (slice_index_or places.new.items k None) }
-    ensures from { places.old.items ≡ replicate (length places.old.items) None → (k : ℕ) (a : A) → slice_index_or places.new.items k None ≡ Some a → Contains done.items (record { job = k; answer = a }) }
+    ensures each { (k : ℕ) → 0 < times k (jobs_of done.items)
+        → IsSome (slice_index_or places.new.items k None) }
+    ensures from { places.old.items ≡ replicate (length places.old.items) None
+        → (k : ℕ) (a : A) → slice_index_or places.new.items k None ≡ Some a
+        → Contains done.items (record { job = k; answer = a }) }
 {
     while let Some(Done { job, answer }) = done.pop() {
         places[job as usize] = Some(answer);
@@ -204,7 +207,9 @@ fn in_order<A: Drop>(alloc: Global, count: u32, done: Vec<Done<A>>) -> Result<Ve
     requires range { All (λ d. d.job < count) done.items }
     requires each { (k : ℕ) → k < count → 0 < times k (jobs_of done.items) }
     ensures count { IfOk result (λ answers. length answers.items ≡ count) }
-    ensures from { IfOk result (λ answers. (k : ℕ) (a : A) → slice_get answers.items k ≡ Some a → Contains done.items (record { job = k; answer = a })) }
+    ensures from { IfOk result (λ answers.
+        (k : ℕ) (a : A) → slice_get answers.items k ≡ Some a
+        → Contains done.items (record { job = k; answer = a })) }
 {
     let mut places = empty_places(alloc, count as usize)?;
     place_all(&mut places, done);
@@ -225,7 +230,8 @@ pub fn fan<J: Jobs, G: Gate + Sync>(
 ) -> Result<Vec<J::Answer>, AllocError>
     requires { Serving (J.serves jobs.now) desks.old }
     ensures count { IfOk result (λ answers. length answers.items ≡ J.number jobs.now) }
-    ensures right { IfOk result (λ answers. (k : ℕ) (a : J.Answer) → slice_get answers.items k ≡ Some a → J.is_right jobs.now k a) }
+    ensures right { IfOk result (λ answers.
+        (k : ℕ) (a : J.Answer) → slice_get answers.items k ≡ Some a → J.is_right jobs.now k a) }
     ensures desks { All (J.serves jobs.now) desks.new }
 {
     let (line, seat) = JobLine::begin(alloc, jobs.count(), desks.len() as u32)?;
