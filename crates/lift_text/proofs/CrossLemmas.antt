@@ -3,7 +3,7 @@ use Rattle.std.proofs.Common.{◌≡◌, ℕ, ◌+◌, ◌-◌, ◌⊎◌, inl, 
 use Rattle.std.specs.Io.KnownBytes.{prepend_known, IsAtEnd}
 use Rattle.std.proofs.lemmas.List.{drop-drop}
 use Rattle.lift_text.specs.Lines.{pieces_of}
-use Rattle.lift_text.specs.Streams.{Took}
+use Rattle.byte_streams.specs.Streams.{Took}
 use Rattle.lift_text.specs.Found.{AreLines, IsWholeLine}
 use Rattle.lift_text.specs.Reading.{TextState, Passed, NextLine, BadLineShows, EndShows, past_quota}
 use Rattle.lift_text.specs.Page.{PageState, PageTook, StepEnds, Crossed, Continues, ReadLine}

@@ -4,7 +4,7 @@ use Rattle.std.specs.Io.KnownBytes.{prepend_known, IsAtEnd}
 use Rattle.std.specs.Io.BufRead.{ends_with_byte}
 use Rattle.std.proofs.lemmas.List.{take-append-drop, drop-drop, get_or-drop}
 use Rattle.lift_text.specs.Lines.{pieces_of}
-use Rattle.lift_text.specs.Streams.{Took}
+use Rattle.byte_streams.specs.Streams.{Took}
 use Rattle.lift_text.specs.Found.{Gathered, FoundShows, IsWholeLine, AreLines, NoLineFeed}
 use Rattle.lift_text.specs.Reading.{EndShows}
 use Rattle.lift_text.specs.Page.{PageState, LineEnds}

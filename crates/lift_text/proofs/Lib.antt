@@ -1,4 +1,3 @@
-pub mod KnownBytes
 pub mod NumberLemmas
 pub mod WordLemmas
 pub mod PlaceLemmas

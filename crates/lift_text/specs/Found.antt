@@ -3,8 +3,8 @@
 use Rattle.std.specs.Prelude.{◌≡◌, ◌≢◌, ℕ, ◌+◌, ◌<◌, ◌≤◌, List, [], ◌∷◌, ◌++◌, length, take, drop, ◌⊎◌, Option, IfSome, IsSomeAnd, Result, Ok, Err, slice_index}
 use Rattle.std.specs.Io.KnownBytes.{prepend_known, IsAtEnd}
 use Rattle.lift_text.specs.Lines.{pieces_of, line_of}
-use Rattle.lift_text.specs.Streams.{Took}
-use Rattle.lift_text.specs.declared.sources.SourceFault.{SourceFault}
+use Rattle.byte_streams.specs.Streams.{Took}
+use Rattle.byte_streams.specs.declared.sources.SourceFault.{SourceFault}
 use Rattle.lift_text.specs.declared.window.Fill.{Fill}
 use Rattle.lift_text.specs.declared.window.Fill.TheVariants.{More as MoreBytes, End as NoBytes, Limit}
 use Rattle.lift_text.specs.declared.window.Found.{Found}

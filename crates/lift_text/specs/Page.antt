@@ -4,7 +4,7 @@ use Rattle.std.specs.Prelude.{◌≡◌, ℕ, Bool, true, false, ◌+◌, ◌*�
 use Rattle.std.specs.Io.KnownBytes.{prepend_known, IsAtEnd}
 use Rattle.lift_text.specs.Lines.{pieces_of, line_of}
 use Rattle.lift_text.specs.Window.{WindowState}
-use Rattle.lift_text.specs.Streams.{Took}
+use Rattle.byte_streams.specs.Streams.{Took}
 use Rattle.lift_text.specs.Found.{Gathered, IsWholeLine, AreLines, NoLineFeed}
 use Rattle.lift_text.specs.declared.words.Span.{Span}
 use Rattle.lift_text.specs.declared.judge.Flaw.{Flaw}

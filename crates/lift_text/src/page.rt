@@ -1,13 +1,13 @@
 //! The line of a text that is being read, and what is read of the text behind it.
 ghost use Rattle.std.specs.Prelude.{◌≡◌, ◌≢◌, ℕ, ◌+◌, ◌<◌, ◌≤◌, List, [], ◌∷◌, ◌++◌, Some, None, true, false, length, take, drop, IfOk, IfErr, IfSome, OnOk, OnErr, IsErrOf};
-ghost use Rattle.lift_text.specs.Streams.{Rose};
+ghost use Rattle.byte_streams.specs.Streams.{Rose};
 ghost use Rattle.lift_text.specs.Page.{IfBad, step_of};
 
 use crate::faults::{RawLine, TextFault};
 use crate::judge::{Flaw, LINE_LIMIT, judge};
-use crate::sources::{Source, SourceFault};
 use crate::window::{Found, LONGEST, Skipped, Window};
 use crate::words::Span;
+use byte_streams::{Source, SourceFault};
 use std::alloc::{AllocError, Global};
 use std::marker::Model;
 
@@ -59,7 +59,7 @@ impl Model for Page {
 impl Page {
     ghost use Rattle.std.specs.Prelude.{◌≡◌, ◌≢◌, ℕ, ◌+◌, ◌<◌, ◌≤◌, List, [], ◌∷◌, ◌++◌, Some, None, true, false, length, take, drop, IfOk, IfErr, IfSome, OnOk, OnErr, IsErrOf, slice_index_or};
     ghost use Rattle.std.specs.Io.KnownBytes.{IsAtEnd};
-    ghost use Rattle.lift_text.specs.Streams.{Rose, Took};
+    ghost use Rattle.byte_streams.specs.Streams.{Rose, Took};
     ghost use Rattle.lift_text.specs.Found.{past_found};
     ghost use Rattle.lift_text.specs.Reading.{NextLine, NextRaw, BadLineShows, past_quota};
     ghost use Rattle.lift_text.specs.Page.{text_at, limit_of, Advanced, Forward, IfBad, JudgedAs, LineEnds, PageTook, ReadLine, SkippedLine, StepEnds};

@@ -1,14 +1,14 @@
 //! Reading a text line by line.
 ghost use Rattle.std.specs.Prelude.{◌≡◌, ◌≢◌, ℕ, ◌<◌, ◌≤◌, List, [], ◌++◌, Some, None, true, false, length, IfOk, IfErr, IfSome, OnOk, IsErrOf, option_map, slice_index_or};
 ghost use Rattle.std.specs.Io.KnownBytes.{IsAtEnd};
-ghost use Rattle.lift_text.specs.Streams.{Rose, Took};
+ghost use Rattle.byte_streams.specs.Streams.{Rose, Took};
 ghost use Rattle.lift_text.specs.Numbers.{number_answer, read_number};
 ghost use Rattle.lift_text.specs.Reading.{NextLine, NextRaw, BadLineShows, past_quota, whole_text};
 
 use crate::faults::{RawLine, TextFault};
 use crate::numbers::number_in;
 use crate::page::Page;
-use crate::sources::Source;
+use byte_streams::Source;
 use std::alloc::{AllocError, Global};
 
 /// Reads the lines of a source.

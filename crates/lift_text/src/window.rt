@@ -2,11 +2,11 @@
 ghost use Rattle.std.specs.Prelude.{◌≡◌, ◌≢◌, ℕ, ◌+◌, ◌<◌, ◌≤◌, List, [], ◌∷◌, ◌++◌, length, take, drop, IfOk, OnErr, slice_index};
 ghost use Rattle.std.specs.Io.KnownBytes.{prepend_known, IsAtEnd};
 ghost use Rattle.std.specs.Io.BufRead.{strip_last};
-ghost use Rattle.lift_text.specs.Streams.{Rose, Took};
+ghost use Rattle.byte_streams.specs.Streams.{Rose, Took};
 ghost use Rattle.lift_text.specs.Found.{Filled, FoundIn, Gathered, FoundShows, NoLineFeedBelow, SkippedIn, past_found, past_skipped};
 
 use crate::places::place_of;
-use crate::sources::{Source, SourceFault};
+use byte_streams::{Source, SourceFault};
 use std::alloc::{AllocError, Global};
 use std::marker::Model;
 

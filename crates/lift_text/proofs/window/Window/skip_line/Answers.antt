@@ -3,7 +3,7 @@ use Rattle.std.proofs.Math.Seq.{drop-length}
 use Rattle.std.specs.Io.KnownBytes.{prepend_known}
 use Rattle.lift_text.specs.Found.{SkippedIn}
 use Rattle.lift_text.specs.declared.window.Skipped.TheVariants.{Whole}
-use Rattle.lift_text.proofs.KnownBytes.{given_more}
+use Rattle.byte_streams.proofs.KnownBytes.{given_more}
 use Rattle.lift_text.proofs.TakenLemmas.{took_last}
 use Rattle.lift_text.proofs.SkipLemmas.{skipped_line, skipped_end, skipped_cut, no_line_feed-append, all_searched}
 use Rattle.lift_text.proofs.window.Window.skip_line.Goals as goal

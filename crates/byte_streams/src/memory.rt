@@ -1,7 +1,7 @@
 //! Sources and sinks in memory, for tests and for whoever has the text at hand.
 ghost use Rattle.std.specs.Prelude.{◌≡◌, ℕ, ◌+◌, ◌-◌, ◌^◌, ◌<◌, ◌≤◌, ◌↔◌, ◌⊎◌, List, [], Some, Option, length, take, drop, min, Contains, IsTrue, IsErr, IsOk, IfOk, OnOk, OnErr, vec_len, vec_capacity};
 ghost use Rattle.std.specs.Io.KnownBytes.{prepend_known, append_known, IsAtEnd};
-ghost use Rattle.lift_text.specs.Streams.{Rose, last_count};
+ghost use Rattle.byte_streams.specs.Streams.{Rose, last_count};
 
 use crate::sinks::{Sink, SinkFault};
 use crate::sources::{Source, SourceFault};
@@ -22,7 +22,7 @@ pub struct MemorySource {
 
 impl Model for MemorySource {
     ghost use Rattle.std.specs.Prelude.{◌≤◌, ◌<◌, drop, vec_len};
-    ghost use Rattle.lift_text.specs.Memory.{SourceState};
+    ghost use Rattle.byte_streams.specs.Memory.{SourceState};
 
     ghost Value = { SourceState };
 
@@ -151,7 +151,7 @@ pub struct MemorySink {
 
 impl Model for MemorySink {
     ghost use Rattle.std.specs.Prelude.{◌+◌, ◌≤◌, ◌<◌, vec_len, vec_capacity};
-    ghost use Rattle.lift_text.specs.Memory.{SinkState};
+    ghost use Rattle.byte_streams.specs.Memory.{SinkState};
 
     ghost Value = { SinkState };
 
@@ -251,7 +251,7 @@ pub struct SureSink {
 
 impl Model for SureSink {
     ghost use Rattle.std.specs.Prelude.{◌+◌, ◌≤◌, vec_len, vec_capacity};
-    ghost use Rattle.lift_text.specs.Memory.{SureSinkState};
+    ghost use Rattle.byte_streams.specs.Memory.{SureSinkState};
 
     ghost Value = { SureSinkState };
 

@@ -1,6 +1,6 @@
 use Rattle.std.proofs.Common.{ap, sym, ◌∙◌, Some}
-use Rattle.lift_text.proofs.KnownBytes.{drop-copied}
-use Rattle.lift_text.proofs.memory.MemorySourceSource.read.Goals as goal
+use Rattle.byte_streams.proofs.KnownBytes.{drop-copied}
+use Rattle.byte_streams.proofs.memory.MemorySourceSource.read.Goals as goal
 
 pub returns-clause-given : goal.returns-clause-given
 returns-clause-given c =

@@ -1,6 +1,6 @@
 use Rattle.std.proofs.Common.{length, take, ◌-◌, ◌≡◌, ◌≤◌}
 use Rattle.std.specs.Io.KnownBytes.{append_known}
-use Rattle.lift_text.proofs.sinks.put_all.Given as goal
+use Rattle.byte_streams.proofs.sinks.put_all.Given as goal
 
 -- the sink has taken the first `done` bytes
 abbrev pub invariant-loop-done : goal.invariant-loop-done

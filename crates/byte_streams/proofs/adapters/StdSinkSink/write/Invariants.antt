@@ -1,5 +1,5 @@
 use Rattle.std.proofs.Common.{◌≡◌}
-use Rattle.lift_text.proofs.adapters.StdSourceSource.read.Given as goal
+use Rattle.byte_streams.proofs.adapters.StdSinkSink.write.Given as goal
 
 -- no fault is counted before the last try
 abbrev pub invariant-loop : goal.invariant-loop

@@ -1,7 +1,7 @@
 use Rattle.std.proofs.Common.{arith, rules, ap, sym, ◌∙◌}
 use Rattle.std.specs.Io.KnownBytes.{prepend_known}
-use Rattle.lift_text.proofs.KnownBytes.{given_more, take-overwritten}
-use Rattle.lift_text.proofs.sources.read_full.Goals as goal
+use Rattle.byte_streams.proofs.KnownBytes.{given_more, take-overwritten}
+use Rattle.byte_streams.proofs.sources.read_full.Goals as goal
 
 pub loop-filled-preserved : goal.loop-filled-preserved
 loop-filled-preserved g c =

@@ -1,6 +1,6 @@
 use Rattle.std.proofs.Common.{length, take, ◌-◌, ◌≡◌, ◌≤◌}
 use Rattle.std.specs.Io.KnownBytes.{prepend_known}
-use Rattle.lift_text.proofs.sources.read_full.Given as goal
+use Rattle.byte_streams.proofs.sources.read_full.Given as goal
 
 -- the first `filled` bytes of the slice are the first that the source gave
 abbrev pub invariant-loop-filled : goal.invariant-loop-filled

@@ -1,7 +1,7 @@
 //! Byte sources.
 ghost use Rattle.std.specs.Prelude.{◌≡◌, ℕ, ◌<◌, ◌≤◌, List, Option, length, take, IfOk, OnErr};
 ghost use Rattle.std.specs.Io.KnownBytes.{prepend_known, IsAtEnd};
-ghost use Rattle.lift_text.specs.Streams.{Rose};
+ghost use Rattle.byte_streams.specs.Streams.{Rose};
 
 use std::error::Error;
 use std::fmt;

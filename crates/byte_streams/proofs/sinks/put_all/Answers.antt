@@ -1,6 +1,6 @@
 use Rattle.std.proofs.Common.{arith, rules}
-use Rattle.lift_text.proofs.KnownBytes.{gained_more}
-use Rattle.lift_text.proofs.sinks.put_all.Goals as goal
+use Rattle.byte_streams.proofs.KnownBytes.{gained_more}
+use Rattle.byte_streams.proofs.sinks.put_all.Goals as goal
 
 pub loop-done-preserved : goal.loop-done-preserved
 loop-done-preserved g c =
