@@ -10,3 +10,4 @@ pub mod TakenLemmas
 pub mod EndLemmas
 pub mod CrossLemmas
 pub mod PrefixLemmas
+pub mod TextLemmas

@@ -1,3 +1,4 @@
+pub mod Text
 pub mod Numbers
 pub mod Lines
 pub mod Words

@@ -1,4 +1,4 @@
-//! The lines, words and numbers of a text, read from a source of bytes.
+//! The lines, words and numbers of a text: read from a source of bytes, and written.
 #![tactic(auto)]
 
 mod faults;
@@ -9,11 +9,12 @@ mod places;
 mod reader;
 mod window;
 mod words;
+mod writers;
 
 pub use byte_streams::{Source, SourceFault};
 pub use faults::{RawLine, TextFault};
-pub use numbers::put_number;
 pub use reader::LineReader;
+pub use writers::{put_line, put_number, put_word, put_words};
 
 #[cfg(test)]
 mod tests;
