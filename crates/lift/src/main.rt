@@ -4,7 +4,7 @@
 ghost use Rattle.std.specs.Prelude.{◌≡◌, IfErr};
 
 use lift_commands::{Status, run};
-use lift_text::{OpenGate, StdSink, StdSource};
+use byte_streams::{OpenGate, StdSink, StdSource};
 use std::process::ExitCode;
 use std::{env, io};
 

@@ -6,7 +6,7 @@ use Rattle.elevator_model.specs.Snapshot.{Snapshot}
 use Rattle.elevator_model.specs.Plans.{IsOptimal, plan_cost_of}
 use Rattle.canonical_text.specs.Case.{IsCase}
 use Rattle.canonical_text.specs.Text.{solved_text}
-use Rattle.lift_text.specs.Streams.{Rose}
+use Rattle.byte_streams.specs.Streams.{Rose}
 use Rattle.lift_commands.specs.declared.status.Status.{Status}
 use Rattle.lift_commands.specs.declared.status.Status.TheVariants.{Done, Words, Stopped, Refused, Input, Read, Write, Memory}
 use Rattle.lift_commands.specs.Words.{AreTaken, usage_line}

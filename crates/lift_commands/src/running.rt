@@ -4,14 +4,14 @@ ghost use Rattle.std.specs.Prelude.{◌≡◌, ℕ, ◌⊎◌, ◌<◌, ◌≤�
 ghost use Rattle.std.specs.Io.KnownBytes.{append_known};
 ghost use Rattle.elevator_model.specs.Snapshot.{Snapshot};
 ghost use Rattle.canonical_text.specs.Case.{IsCase};
-ghost use Rattle.lift_text.specs.Streams.{Rose};
+ghost use Rattle.byte_streams.specs.Streams.{Rose};
 ghost use Rattle.lift_commands.specs.Words.{AreTaken};
 ghost use Rattle.lift_commands.specs.Outcome.{IsOutcome, IsSolution, Puts, streams};
 
 use crate::status::Status;
 use crate::words::are_taken;
 use canonical_text::{ReadFault, read_case, write_solved};
-use lift_text::{Gate, Sink, Source, put_all, read_full};
+use byte_streams::{Gate, Sink, Source, put_all, read_full};
 use plain_solver::cheapest_plan;
 use std::alloc::{AllocError, Global};
 

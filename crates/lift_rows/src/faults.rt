@@ -1,6 +1,6 @@
 use crate::solve::{case, words};
 use lift_commands::{Status, run};
-use lift_text::{MemorySink, MemorySource, OpenGate, SureSink};
+use byte_streams::{MemorySink, MemorySource, OpenGate, SureSink};
 use std::test::Fail;
 
 #[test]

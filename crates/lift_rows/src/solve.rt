@@ -1,5 +1,5 @@
 use lift_commands::{Status, run};
-use lift_text::{MemorySource, OpenGate, SureSink};
+use byte_streams::{MemorySource, OpenGate, SureSink};
 use std::alloc::Global;
 use std::test::Fail;
 

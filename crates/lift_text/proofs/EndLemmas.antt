@@ -1,16 +1,20 @@
 -- How the ends of lines show in the bytes that were taken.
 use Rattle.std.proofs.Common.{◌≡◌, ◌≢◌, ℕ, ◌+◌, ◌<◌, ◌⊎◌, inl, inr, List, [], ◌∷◌, ◌++◌, Option, None, Some, length, take, drop, get_or, arith, ap, sym, ◌∙◌, refl, subst, append_assoc}
+use Rattle.std.specs.Prelude.{◌==◌}
+use Rattle.std.specs.List.{position_or_len}
 use Rattle.std.specs.Io.KnownBytes.{prepend_known, IsAtEnd}
 use Rattle.std.specs.Io.BufRead.{ends_with_byte}
 use Rattle.std.proofs.lemmas.List.{take-append-drop, drop-drop, get_or-drop}
-use Rattle.lift_text.specs.Lines.{pieces_of}
-use Rattle.lift_text.specs.Streams.{Took}
-use Rattle.lift_text.specs.Found.{Gathered, FoundShows, IsWholeLine, AreLines, NoLineFeed}
-use Rattle.lift_text.specs.Reading.{EndShows}
+use Rattle.std.proofs.lemmas.List.Sums.{fails_before_first, passes_at_first}
+use Rattle.std.proofs.lemmas.Bool.{cases_lt, false≢true, eqb-true}
+use Rattle.lift_text.specs.Lines.{pieces_of, AreLines, HasWholeLine}
+use Rattle.byte_streams.specs.Streams.{Took}
+use Rattle.lift_text.specs.Found.{Gathered, FoundShows, IsWholeLine, NoLineFeed}
+use Rattle.lift_text.specs.Reading.{EndShows, HasWholeAnswer}
 use Rattle.lift_text.specs.Page.{PageState, LineEnds}
 use Rattle.lift_text.specs.declared.window.Found.{Found}
 use Rattle.lift_text.specs.declared.window.Found.TheVariants.{Line, Long, Cut, End}
-use Rattle.lift_text.proofs.PieceLemmas.{pieces_of-append, pieces_of-last, ends_with_byte-push}
+use Rattle.lift_text.proofs.PieceLemmas.{pieces_of-append, pieces_of-last, ends_with_byte-push, ends_with_byte-none}
 
 -- what was taken, where the page says the same of the bytes in other words
 pub gathered_same : (past quota quota' size : ℕ) (held held' taken : List ℕ) (left left' : Option (List ℕ)) (number : ℕ) (bytes : List ℕ)
@@ -30,7 +34,7 @@ line_ends_other End page left other shows = tt
 pub are_lines-none : AreLines [] 0
 are_lines-none tail = refl
 
-pieces_of-whole : (piece tail : List ℕ) → IsWholeLine piece → pieces_of (piece ++ tail) ≡ piece ∷ pieces_of tail
+pub pieces_of-whole : (piece tail : List ℕ) → IsWholeLine piece → pieces_of (piece ++ tail) ≡ piece ∷ pieces_of tail
 pieces_of-whole piece tail whole =
     ap (λ l. pieces_of (l ++ tail)) whole.is ∙ ap pieces_of (append_assoc whole.front (10 ∷ []) tail) ∙ pieces_of-append whole.front tail whole.none ∙ ap (λ l. l ∷ pieces_of tail) (sym whole.is)
 
@@ -70,3 +74,18 @@ end_shows_behind front current unread count left (inl lines) ends =
     let behind = ap (λ n. get_or (pieces_of (front ++ bytes)) n []) same ∙ sym (get_or-drop count (pieces_of (front ++ bytes)) 0 []) ∙ ap (λ l. get_or l 0 []) (lines bytes) in
     subst (λ piece. EndShows piece left) (sym behind) (end_shows_first current unread left ends)
 end_shows_behind front current unread count left (inr end) ends = inr (inl end)
+
+no_answer : (bytes : List ℕ) → NoLineFeed bytes → HasWholeAnswer (pieces_of bytes) → ⊥
+no_answer [] none answer = answer
+no_answer (x ∷ bytes) none answer =
+    let first = subst HasWholeAnswer (pieces_of-last x bytes none) answer in
+    false≢true (sym (ends_with_byte-none x bytes none) ∙ first.0)
+
+-- where the next answer's line is whole, there is a whole line
+pub answer_whole : (bytes : List ℕ) → HasWholeAnswer (pieces_of bytes) → HasWholeLine bytes
+answer_whole bytes answer =
+    let place = position_or_len (λ b. b == 10) bytes in
+    elim (cases_lt place (length bytes)) [
+      | inl inside ↦ (place, inside, eqb-true _ 10 (passes_at_first (λ b. b == 10) bytes 10 inside))
+      | inr outside ↦ absurd (no_answer bytes (λ k below is. false≢true (sym (fails_before_first (λ b. b == 10) bytes k 0 (omega arith)) ∙ ap (λ b. b == 10) is)) answer)
+    ]

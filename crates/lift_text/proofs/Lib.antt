@@ -1,4 +1,3 @@
-pub mod KnownBytes
 pub mod NumberLemmas
 pub mod WordLemmas
 pub mod PlaceLemmas
@@ -11,3 +10,4 @@ pub mod TakenLemmas
 pub mod EndLemmas
 pub mod CrossLemmas
 pub mod PrefixLemmas
+pub mod TextLemmas

@@ -1,12 +1,12 @@
 -- Going on to the next line of a text.
-use Rattle.std.proofs.Common.{◌≡◌, ◌≢◌, ℕ, ◌+◌, ◌-◌, ◌<◌, ◌≤◌, List, [], ◌∷◌, ◌++◌, Option, None, Some, length, take, drop, arith, ap, sym, ◌∙◌, refl, subst, append_assoc, append-nil, length-append, length-drop, IfSome}
+use Rattle.std.proofs.Common.{◌≡◌, ◌≢◌, ℕ, ◌+◌, ◌-◌, ◌<◌, ◌≤◌, List, [], ◌∷◌, ◌++◌, Option, None, Some, Ok, length, take, drop, arith, ap, sym, ◌∙◌, refl, subst, append_assoc, append-nil, length-append, length-drop, IfSome}
 use Rattle.std.specs.Prelude.{option_map}
 use Rattle.std.specs.Io.KnownBytes.{prepend_known, IsAtEnd}
 use Rattle.std.proofs.lemmas.List.{take-append-le, drop-append-le, take-take, length-take-le}
 use Rattle.lift_text.specs.Lines.{pieces_of, line_of}
-use Rattle.lift_text.specs.Found.{BeginsWithLine, NoLineFeed, FoundIn}
+use Rattle.lift_text.specs.Found.{BeginsWithLine, NoLineFeed, FoundIn, FoundWhole}
 use Rattle.lift_text.specs.Reading.{TextState}
-use Rattle.lift_text.specs.Page.{PageState, IsLine, Advanced, FirstPiece, Forward}
+use Rattle.lift_text.specs.Page.{PageState, IsLine, Advanced, FirstPiece, Forward, CurrentOne}
 use Rattle.lift_text.specs.Words.{parts_of}
 use Rattle.lift_text.specs.declared.words.Span.{Span}
 use Rattle.lift_text.specs.declared.window.Found.{Found}
@@ -130,3 +130,16 @@ at_end (Line line size) known left unread quota found is = absurd cc
 at_end Long known left unread quota found is = absurd cc
 at_end Cut known left unread quota found is = absurd cc
 at_end End known left unread quota found is = found.2
+
+-- no line was found, so none that is whole
+pub no_other_whole : (found : Found) (unread : List ℕ) → ((line size : ℕ) → found ≢ Line line size) → FoundWhole (Ok found) unread → ⊥
+no_other_whole (Line line size) unread other whole = other line size refl
+no_other_whole Long unread other whole = whole
+no_other_whole Cut unread other whole = whole
+no_other_whole End unread other whole = whole
+
+pub current_one_other : (found : Found) (current : List ℕ) → ((line size : ℕ) → found ≢ Line line size) → CurrentOne found current
+current_one_other (Line line size) current other = absurd (other line size refl)
+current_one_other Long current other = tt
+current_one_other Cut current other = tt
+current_one_other End current other = tt

@@ -5,12 +5,13 @@ use Rattle.std.specs.List.{onto_first, position_or_len}
 use Rattle.std.specs.Io.KnownBytes.{prepend_known, IsAtEnd}
 use Rattle.std.specs.Io.BufRead.{ends_with_byte, strip_last}
 use Rattle.std.proofs.lemmas.Bool.Decides.{nat_tests}
-use Rattle.std.proofs.lemmas.List.{take-append-le, take-append-drop, length-take-le, take_at, take_rest, get_or_at, get_or-drop, get_or-take, length-drop, length-take}
+use Rattle.std.proofs.lemmas.List.{take-append-le, take-append-drop, length-take-le, take_at, take_rest, get_or_at, get_or_append_left, get_or-drop, get_or-take, get_or_default, length-drop, length-take, take_more}
+use Rattle.std.proofs.lemmas.List.Elements.{Contains-append_left}
 use Rattle.std.proofs.lemmas.List.Sums.{fails_before_first, passes_at_first}
 use Rattle.std.proofs.lemmas.Bool.{cases_lt, false≢true, eqb-true}
 use Rattle.std.proofs.Math.Seq.{take-append-add, drop-append-add, take-length, drop-length}
-use Rattle.lift_text.specs.Lines.{pieces_of, line_of}
-use Rattle.lift_text.specs.Found.{BeginsWithLine, NoLineFeed, FoundIn}
+use Rattle.lift_text.specs.Lines.{pieces_of, line_of, HasWholeLine}
+use Rattle.lift_text.specs.Found.{BeginsWithLine, NoLineFeed, FoundIn, FoundOne, IsOneLine, IsWholeLine}
 use Rattle.lift_text.specs.declared.window.Found.{Found}
 use Rattle.lift_text.specs.declared.window.Found.TheVariants.{Line, End}
 
@@ -39,7 +40,7 @@ pieces_of-last x (y ∷ bytes) none =
 last_place : (b : ℕ) (xs : List ℕ) → length (xs ++ b ∷ []) - 1 ≡ length xs
 last_place b xs = omega (arith, length-append xs (b ∷ []))
 
-ends_with_byte-none : (x : ℕ) (bytes : List ℕ) → NoLineFeed (x ∷ bytes) → ends_with_byte 10 (x ∷ bytes) ≡ false
+pub ends_with_byte-none : (x : ℕ) (bytes : List ℕ) → NoLineFeed (x ∷ bytes) → ends_with_byte 10 (x ∷ bytes) ≡ false
 ends_with_byte-none x bytes none =
     let last = not_equal (get_or (x ∷ bytes) (length (x ∷ bytes) - 1) 0) 10 (none (length (x ∷ bytes) - 1) (omega arith)) in
     grind (arith, nat_tests)
@@ -76,6 +77,55 @@ begins_at front tail line none within stripped =
       pieces = pieces_of-append front tail none ∙ ap (λ p. p ∷ pieces_of tail) (sym piece) ∙ ap (λ t. take (length front + 1) (front ++ 10 ∷ tail) ∷ pieces_of t) (sym rest);
       content = ap line_of piece ∙ line_of-push front ∙ sym stripped ∙ sym (take-append-le line front (10 ∷ tail) within);
     }
+
+-- the line before an LF, and a last line
+pub one_line_at : (unread : List ℕ) (place line : ℕ) → place < length unread → ((k : ℕ) → k < place → get_or unread k 0 ≢ 10) → get_or unread place 0 ≡ 10
+    → take line (take place unread) ≡ strip_last 13 (take place unread) → line ≤ place → IsOneLine (take (place + 1) unread) line
+one_line_at unread place line inside none here stripped within =
+    let front = take place unread in
+    let size = length-take-le place unread (omega arith) in
+    let none_in_front : NoLineFeed front = λ k below is. none k (omega arith) (sym (get_or-take place unread k 0 (omega arith)) ∙ is) in
+    let whole : take (place + 1) unread ≡ front ++ 10 ∷ [] = take_more unread place 0 inside ∙ ap (λ b. front ++ b ∷ []) here in
+    subst (λ piece. IsOneLine piece line) (sym whole) (record {
+      pieces = pieces_of-append front [] none_in_front;
+      content = line_of-push front ∙ sym stripped ∙ sym (take-append-le line front (10 ∷ []) (omega arith));
+    })
+
+one_line_last : (bytes : List ℕ) → NoLineFeed bytes → 0 < length bytes → IsOneLine (take (length bytes) bytes) (length bytes)
+one_line_last [] none some = absurd (omega arith)
+one_line_last (x ∷ bytes) none some =
+    let all = x ∷ bytes in
+    subst (λ piece. IsOneLine piece (length all)) (sym (take-length all)) (record { pieces = pieces_of-last x bytes none; content = line_of-last all none ∙ sym (take-length all) })
+
+pub found_one_last : (found : Found) (unread : List ℕ) (size : ℕ) → (size ≡ 0 → found ≡ End) → (0 < size → found ≡ Line size size) → size ≡ length unread → NoLineFeed unread
+    → FoundOne found unread
+found_one_last found unread size is_end is_line whole none = elim (cases_lt 0 size) [
+  | inl some ↦ subst (λ f. FoundOne f unread) (sym (is_line some)) (subst (λ n. FoundOne (Line n n) unread) (sym whole) (one_line_last unread none (omega arith)))
+  | inr nothing ↦ subst (λ f. FoundOne f unread) (sym (is_end (omega arith))) tt
+]
+
+pub whole_line_at : (unread : List ℕ) (place : ℕ) → place < length unread → ((k : ℕ) → k < place → get_or unread k 0 ≢ 10) → get_or unread place 0 ≡ 10 → IsWholeLine (take (place + 1) unread)
+whole_line_at unread place inside none here =
+    let size = length-take-le place unread (omega arith) in
+    record {
+      front = take place unread;
+      none = λ k below is. none k (omega arith) (sym (get_or-take place unread k 0 (omega arith)) ∙ is);
+      is = take_more unread place 0 inside ∙ ap (λ b. take place unread ++ b ∷ []) here;
+    }
+
+-- nothing changes at the front where more comes behind it
+pub none_more : (bytes more both : List ℕ) (place : ℕ) → both ≡ bytes ++ more → place ≤ length bytes → ((k : ℕ) → k < place → get_or bytes k 0 ≢ 10) → (k : ℕ) → k < place → get_or both k 0 ≢ 10
+none_more bytes more both place joined within none k below is =
+    none k below (sym (get_or_append_left bytes more 0 k (omega arith)) ∙ ap (λ l. get_or l k 0) (sym joined) ∙ is)
+
+-- no line ends where there is no LF
+pub no_whole_line : (bytes : List ℕ) → NoLineFeed bytes → ¬ HasWholeLine bytes
+no_whole_line bytes none has = none has.0 has.1 (sym (get_or_default bytes has.0 10 0 has.1) ∙ has.2)
+
+-- nor in the front of what was searched
+pub no_whole_front : (front more bytes : List ℕ) (place : ℕ) → front ++ more ≡ bytes → length bytes ≤ place → ((k : ℕ) → k < place → get_or bytes k 0 ≢ 10) → ¬ HasWholeLine front
+no_whole_front front more bytes place joined past none has =
+    no_whole_line bytes (λ k below. none k (omega arith)) (subst HasWholeLine joined (Contains-append_left front more 10 has))
 
 pub begins_last : (bytes : List ℕ) → NoLineFeed bytes → 0 < length bytes → BeginsWithLine bytes (length bytes) (length bytes)
 begins_last [] none some = absurd (omega arith)

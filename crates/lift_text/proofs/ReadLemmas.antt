@@ -1,11 +1,13 @@
 -- What one line turns out to be.
-use Rattle.std.proofs.Common.{◌≡◌, ℕ, ◌+◌, ◌-◌, ◌<◌, ◌≤◌, Bool, true, false, cond, List, [], ◌∷◌, Option, None, Some, Result, Ok, Err, OnErr, length, take, arith, ap, sym, ◌∙◌, refl}
+use Rattle.std.proofs.Common.{◌≡◌, ℕ, ◌+◌, ◌-◌, ◌<◌, ◌≤◌, Bool, true, false, cond, List, [], ◌∷◌, Option, None, Some, Result, Ok, Err, OnErr, length, length-take, take, arith, ap, sym, ◌∙◌, refl}
 use Rattle.std.specs.Prelude.{nat_lt}
 use Rattle.std.proofs.lemmas.Bool.Decides.{nat_tests}
 use Rattle.std.proofs.lemmas.Bool.{false≢true}
+use Rattle.std.proofs.lemmas.List.{length-take-le}
 use Rattle.lift_text.specs.Lines.{pieces_of, line_of, words_of, is_clean}
 use Rattle.lift_text.specs.Judge.{Judged}
-use Rattle.lift_text.specs.Reading.{TextState, Reading, reading, reading_of, judged, cut_short, line_with, bad_line}
+use Rattle.lift_text.specs.Reading.{TextState, Reading, reading, reading_of, judged, cut_short, line_with, bad_line, IsBlankLine, NextRaw}
+use Rattle.lift_text.specs.declared.faults.RawLine.TheVariants.{Line as RawLine, Long as RawLong}
 use Rattle.lift_text.specs.Page.{IsLine, Advanced, JudgedAs, ReadLine, step_of}
 use Rattle.lift_text.specs.declared.judge.Flaw.{Flaw}
 use Rattle.lift_text.specs.declared.page.Step.{Step}
@@ -41,8 +43,10 @@ no_words : (words : List (List ℕ)) → false ≡ nat_lt 0 (length words) → w
 no_words [] none = refl
 no_words (word ∷ words) none = absurd (false≢true (none ∙ below 0 (length (word ∷ words)) (omega arith)))
 
-pub judged_blank : (line : ℕ) (text : List ℕ) (words : List (List ℕ)) → Judged text (Ok false) words → ((after : Reading) → judged line text after ≡ after) × (words ≡ [])
-judged_blank line text words h = ((λ after. judged_clean line text after false h.0 h.1 h.3), h.2 ∙ no_words (words_of text) h.3)
+pub judged_blank : (line : ℕ) (text : List ℕ) (words : List (List ℕ)) → Judged text (Ok false) words → ((after : Reading) → judged line text after ≡ after) × (words ≡ []) × IsBlankLine text
+judged_blank line text words h =
+    let none = no_words (words_of text) h.3 in
+    ((λ after. judged_clean line text after false h.0 h.1 h.3), h.2 ∙ none, record { short = h.0; clean = h.1; wordless = none })
 
 pub judged_long : (line : ℕ) (text : List ℕ) → 4096 < length text → (after : Reading) → judged line text after ≡ bad_line line 2
 judged_long line text long after = ap (λ b. cond b (bad_line line 2) (cond (is_clean text) (cond (nat_lt 0 (length (words_of text))) (line_with line (words_of text) after) after) (bad_line line 1))) (below 4096 (length text) long)
@@ -90,3 +94,18 @@ read_found None number limit known piece line size answer words found judgement 
 read_found (Some before) number limit None piece line size answer words found judgement = absurd found
 read_found (Some before) number limit (Some bytes) piece line size answer words found judgement =
     read_one before (record { line = number; limit = limit; bytes = bytes }) piece line answer words found judgement
+
+-- a line as it stands, and an over-long one
+pub raw_line_found : (before after : Option TextState) (current : List ℕ) (line size : ℕ) → line ≤ 4096 → Advanced (Line line size) before current after
+    → NextRaw before (Ok RawLine) (take line current) after
+raw_line_found None after current line size short found = tt
+raw_line_found (Some text) None current line size short found = absurd found
+raw_line_found (Some text) (Some rest) current line size short found =
+    (current, found.pieces, found.within, found.content, omega (arith, length-take line current), found.number, found.passed)
+
+pub raw_long_found : (before after : Option TextState) (current raw : List ℕ) (line size : ℕ) → line ≤ length current → 4096 < line → Advanced (Line line size) before current after
+    → NextRaw before (Ok RawLong) raw after
+raw_long_found None after current raw line size inside long found = tt
+raw_long_found (Some text) None current raw line size inside long found = absurd found
+raw_long_found (Some text) (Some rest) current raw line size inside long found =
+    (current, found.pieces, found.within, omega (arith, ap length found.content, length-take-le line current inside), found.number, found.passed)

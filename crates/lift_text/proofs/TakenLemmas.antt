@@ -1,9 +1,9 @@
 -- What was taken of a source.
 use Rattle.std.proofs.Common.{◌≡◌, ℕ, ◌+◌, List, [], ◌∷◌, ◌++◌, Option, length, arith, ap, length-append}
 use Rattle.std.specs.Io.KnownBytes.{prepend_known}
-use Rattle.lift_text.specs.Streams.{Took}
+use Rattle.byte_streams.specs.Streams.{Took}
 use Rattle.lift_text.specs.Found.{Gathered}
-use Rattle.lift_text.proofs.KnownBytes.{given_more, prepend_known-nil}
+use Rattle.byte_streams.proofs.KnownBytes.{given_more, prepend_known-nil}
 
 pub took_nothing : (quota : ℕ) (left : Option (List ℕ)) → Took 0 quota quota [] left left
 took_nothing quota left = record { given = prepend_known-nil left; counted = omega arith; spent = λ past. absurd (omega arith) }

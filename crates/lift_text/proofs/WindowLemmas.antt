@@ -3,7 +3,7 @@ use Rattle.std.proofs.Common.{◌≡◌, ℕ, ◌+◌, ◌≤◌, List, ◌++◌
 use Rattle.std.specs.Prelude.{slice_range}
 use Rattle.std.proofs.lemmas.List.{drop-drop, drop-append-le, length-take-le, take-take}
 use Rattle.std.proofs.lemmas.Slice.{between_is}
-use Rattle.lift_text.proofs.KnownBytes.{take-overwritten}
+use Rattle.byte_streams.proofs.KnownBytes.{take-overwritten}
 
 pub slice_range-drop : (bytes : List ℕ) (start end count : ℕ) → slice_range bytes (start + count) end ≡ drop count (slice_range bytes start end)
 slice_range-drop bytes start end count =

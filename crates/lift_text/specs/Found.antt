@@ -3,8 +3,8 @@
 use Rattle.std.specs.Prelude.{◌≡◌, ◌≢◌, ℕ, ◌+◌, ◌<◌, ◌≤◌, List, [], ◌∷◌, ◌++◌, length, take, drop, ◌⊎◌, Option, IfSome, IsSomeAnd, Result, Ok, Err, slice_index}
 use Rattle.std.specs.Io.KnownBytes.{prepend_known, IsAtEnd}
 use Rattle.lift_text.specs.Lines.{pieces_of, line_of}
-use Rattle.lift_text.specs.Streams.{Took}
-use Rattle.lift_text.specs.declared.sources.SourceFault.{SourceFault}
+use Rattle.byte_streams.specs.Streams.{Took}
+use Rattle.byte_streams.specs.declared.sources.SourceFault.{SourceFault}
 use Rattle.lift_text.specs.declared.window.Fill.{Fill}
 use Rattle.lift_text.specs.declared.window.Fill.TheVariants.{More as MoreBytes, End as NoBytes, Limit}
 use Rattle.lift_text.specs.declared.window.Found.{Found}
@@ -71,9 +71,25 @@ pub record IsWholeLine (piece : List ℕ) : Type 0 where
   pub none : NoLineFeed front
   pub is : piece ≡ front ++ 10 ∷ []
 
--- so many whole lines
-abbrev pub AreLines : List ℕ → ℕ → Type 0
-AreLines front count = (tail : List ℕ) → drop count (pieces_of (front ++ tail)) ≡ pieces_of tail
+-- one line and nothing else, of this length without its end
+pub record IsOneLine (piece : List ℕ) (line : ℕ) : Type 0 where
+  pub pieces : pieces_of piece ≡ piece ∷ []
+  pub content : line_of piece ≡ take line piece
+
+-- the line that was found, with its end
+abbrev pub FoundOne : Found → List ℕ → Type 0
+FoundOne (Line line size) unread = IsOneLine (take size unread) line
+FoundOne Long unread = Unit {0}
+FoundOne Cut unread = Unit {0}
+FoundOne End unread = Unit {0}
+
+-- a line was found that has its LF
+abbrev pub FoundWhole : Result Found SourceFault → List ℕ → Type 0
+FoundWhole (Ok (Line line size)) unread = IsWholeLine (take size unread)
+FoundWhole (Ok Long) unread = ⊥
+FoundWhole (Ok Cut) unread = ⊥
+FoundWhole (Ok End) unread = ⊥
+FoundWhole (Err fault) unread = ⊥
 
 -- how the end of the line that was found shows: by its LF, by the end of the source, or by its size
 abbrev pub FoundShows : Found → List ℕ → Option (List ℕ) → Type 0

@@ -1,5 +1,4 @@
-pub mod Streams
-pub mod Memory
+pub mod Text
 pub mod Numbers
 pub mod Lines
 pub mod Words

@@ -1,5 +1,5 @@
 -- The lines of a text, and the words of a line.
-use Rattle.std.specs.Prelude.{ℕ, Bool, ◌&&◌, ◌||◌, ◌==◌, nat_le, nat_lt, List, [], ◌∷◌, length, filter, if◌then◌else◌}
+use Rattle.std.specs.Prelude.{◌≡◌, ℕ, Bool, ◌&&◌, ◌||◌, ◌==◌, nat_le, nat_lt, List, [], ◌∷◌, ◌++◌, length, drop, filter, Contains, if◌then◌else◌}
 use Rattle.std.specs.List.{list_all, before_first, onto_first, slice_split}
 use Rattle.std.specs.Io.BufRead.{ends_with_byte, strip_last}
 
@@ -7,6 +7,14 @@ use Rattle.std.specs.Io.BufRead.{ends_with_byte, strip_last}
 abbrev pub pieces_of : List ℕ → List (List ℕ)
 pieces_of [] = []
 pieces_of (b ∷ bs) = if b == 10 then (b ∷ []) ∷ pieces_of bs else onto_first b (pieces_of bs)
+
+-- bytes have an LF, with which a line ends
+abbrev pub HasWholeLine : List ℕ → Type 0
+HasWholeLine bytes = Contains bytes 10
+
+-- so many whole lines
+abbrev pub AreLines : List ℕ → ℕ → Type 0
+AreLines front count = (tail : List ℕ) → drop count (pieces_of (front ++ tail)) ≡ pieces_of tail
 
 -- a line without its end, which is LF or CR LF
 abbrev pub line_of : List ℕ → List ℕ

@@ -1,17 +1,19 @@
 -- What clauses see of the lines that are read and their place in the text. No public clause cites this
 -- module.
 use Rattle.std.specs.Prelude.{◌≡◌, ℕ, Bool, true, false, ◌+◌, ◌*◌, ◌<◌, ◌≤◌, List, [], ◌∷◌, ◌++◌, length, take, drop, All, ◌⊎◌, Option, None, Some, option_map, IfSome, IsSomeAnd, Result, Ok, Err}
+use Rattle.std.specs.List.{concat}
 use Rattle.std.specs.Io.KnownBytes.{prepend_known, IsAtEnd}
-use Rattle.lift_text.specs.Lines.{pieces_of, line_of}
+use Rattle.lift_text.specs.Lines.{pieces_of, line_of, AreLines, HasWholeLine}
 use Rattle.lift_text.specs.Window.{WindowState}
-use Rattle.lift_text.specs.Streams.{Took}
-use Rattle.lift_text.specs.Found.{Gathered, IsWholeLine, AreLines, NoLineFeed}
+use Rattle.byte_streams.specs.Streams.{Took}
+use Rattle.lift_text.specs.Found.{Gathered, IsOneLine, IsWholeLine, NoLineFeed}
+use Rattle.byte_streams.specs.declared.sources.SourceFault.{SourceFault}
 use Rattle.lift_text.specs.declared.words.Span.{Span}
 use Rattle.lift_text.specs.declared.judge.Flaw.{Flaw}
 use Rattle.lift_text.specs.declared.judge.Flaw.TheVariants.{OverLong, ForbiddenByte}
 use Rattle.lift_text.specs.declared.page.Step.{Step}
 use Rattle.lift_text.specs.declared.page.Step.TheVariants.{WithWords, Blank, AtEnd}
-use Rattle.lift_text.specs.Reading.{TextState, Reading, reading, judged, line_with, bad_line, past_limit, Passed}
+use Rattle.lift_text.specs.Reading.{TextState, Reading, reading, judged, line_with, bad_line, past_limit, Passed, IsBlankLine, IsPassedOver}
 use Rattle.lift_text.specs.declared.faults.TextFault.{TextFault}
 use Rattle.lift_text.specs.declared.faults.TextFault.TheVariants.{Read, TooLong, Bad, NoMemory}
 use Rattle.lift_text.specs.declared.faults.RawLine.{RawLine}
@@ -86,6 +88,21 @@ LineEnds Long page left = NoLineFeed page.unread × (4097 < length page.unread)
 LineEnds Cut page left = Unit {0}
 LineEnds End page left = Unit {0}
 
+-- a line was found that has its LF, and it is the current one
+abbrev pub CurrentWhole : Result Found SourceFault → List ℕ → Type 0
+CurrentWhole (Ok (Line line size)) current = IsWholeLine current
+CurrentWhole (Ok Long) current = ⊥
+CurrentWhole (Ok Cut) current = ⊥
+CurrentWhole (Ok End) current = ⊥
+CurrentWhole (Err fault) current = ⊥
+
+-- the line that was found is the current one
+abbrev pub CurrentOne : Found → List ℕ → Type 0
+CurrentOne (Line line size) current = IsOneLine current line
+CurrentOne Long current = Unit {0}
+CurrentOne Cut current = Unit {0}
+CurrentOne End current = Unit {0}
+
 -- the step that a judgement makes of the line with this number
 abbrev pub step_of : ℕ → Result Bool Flaw → Result Step TextFault
 step_of line (Ok true) = Ok WithWords
@@ -96,7 +113,7 @@ step_of line (Err ForbiddenByte) = Err (Bad line 1)
 -- what the current line was judged to be
 abbrev pub JudgedAs : ℕ → List ℕ → Result Step TextFault → List (List ℕ) → Type 0
 JudgedAs line text (Ok WithWords) words = (after : Reading) → judged line text after ≡ line_with line words after
-JudgedAs line text (Ok Blank) words = ((after : Reading) → judged line text after ≡ after) × (words ≡ [])
+JudgedAs line text (Ok Blank) words = ((after : Reading) → judged line text after ≡ after) × (words ≡ []) × IsBlankLine text
 JudgedAs line text (Ok AtEnd) words = ⊥
 JudgedAs line text (Err (Bad number code)) words = ((after : Reading) → judged line text after ≡ bad_line number code) × (words ≡ [])
 JudgedAs line text (Err TooLong) words = ⊥
@@ -121,15 +138,16 @@ ReadLine (Some before) (Err TooLong) words after = reading before ≡ past_limit
 ReadLine (Some before) (Err Read) words after = Unit {0}
 ReadLine (Some before) (Err NoMemory) words after = ⊥
 
--- how the end of a line shows that has no words or is bad, and that it is the next one
+-- how the end of a line shows that has no words or is bad, and that it is the next one; and that no line is
+-- whole where a read failed
 abbrev pub StepEnds : Result Step TextFault → PageState → PageState → Option (List ℕ) → Type 0
 StepEnds (Ok WithWords) old new left = Unit {0}
-StepEnds (Ok Blank) old new left = (new.line ≡ old.line + 1) × (IsWholeLine new.current ⊎ IsAtEnd left)
+StepEnds (Ok Blank) old new left = (new.line ≡ old.line + 1) × (IsWholeLine new.current ⊎ IsAtEnd left) × IsPassedOver new.current
 StepEnds (Ok AtEnd) old new left = Unit {0}
 StepEnds (Err (Bad line code)) old new left = (line ≡ old.line + 1)
     × (IsWholeLine new.current ⊎ (IsAtEnd left ⊎ (NoLineFeed (new.current ++ new.unread) × (4097 < length (new.current ++ new.unread)))))
 StepEnds (Err TooLong) old new left = Unit {0}
-StepEnds (Err Read) old new left = Unit {0}
+StepEnds (Err Read) old new left = (new.line ≡ old.line) × (¬ HasWholeLine (new.current ++ new.unread))
 StepEnds (Err NoMemory) old new left = Unit {0}
 
 -- from one state to a later one, over lines without words
@@ -143,10 +161,14 @@ pub record Crossed (old new : PageState) (left left' : Option (List ℕ)) : Type
   pub taken : List ℕ
   pub front : List ℕ
   pub count : ℕ
+  pub passed : List (List ℕ)
   pub took : Took 0 old.quota new.quota taken left left'
   pub held : old.unread ++ taken ≡ front ++ new.unread
   pub line : new.line ≡ old.line + count
   pub lines : AreLines front count ⊎ IsAtEnd left'
+  pub joined : front ≡ concat passed
+  pub number : count ≡ length passed
+  pub each : All IsPassedOver passed
 
 -- what was passed over of a line, by the answer and the state after it
 abbrev pub SkippedLine : Option TextState → Result RawLine TextFault → Option TextState → Type 0

@@ -1,8 +1,9 @@
 -- What is read of a text, line by line.
-use Rattle.std.specs.Prelude.{◌≡◌, ℕ, ◌+◌, ◌-◌, ◌≤◌, ◌<◌, Bool, true, false, nat_lt, List, [], ◌∷◌, length, drop, slice_index_or, ◌⊎◌, IsTrue, Option, None, Some, IsSomeAnd, Result, Ok, Err, if◌then◌else◌}
+use Rattle.std.specs.Prelude.{◌≡◌, ℕ, ◌+◌, ◌-◌, ◌≤◌, ◌<◌, Bool, true, false, nat_lt, List, [], ◌∷◌, ◌++◌, length, drop, All, slice_index_or, ◌⊎◌, IsTrue, Option, None, Some, IsSomeAnd, Result, Ok, Err, if◌then◌else◌}
+use Rattle.std.specs.List.{concat}
 use Rattle.std.specs.Io.KnownBytes.{IsAtEnd}
 use Rattle.std.specs.Io.BufRead.{ends_with_byte}
-use Rattle.lift_text.specs.Lines.{pieces_of, line_of, words_of, is_clean}
+use Rattle.lift_text.specs.Lines.{pieces_of, line_of, words_of, is_clean, AreLines, HasWholeLine}
 use Rattle.lift_text.specs.declared.faults.TextFault.{TextFault}
 use Rattle.lift_text.specs.declared.faults.TextFault.TheVariants.{Read, TooLong, Bad, NoMemory}
 use Rattle.lift_text.specs.declared.faults.RawLine.{RawLine}
@@ -83,6 +84,40 @@ NextRaw (Some before) (Err TooLong) raw after = (piece : List ℕ) × (pieces : 
 NextRaw (Some before) (Err Read) raw after = Unit {0}
 NextRaw (Some before) (Err (Bad line code)) raw after = ⊥
 NextRaw (Some before) (Err NoMemory) raw after = ⊥
+
+-- a line that may stand in a text and has no word
+pub record IsBlankLine (line : List ℕ) : Type 0 where
+  pub short : length line ≤ line_limit
+  pub clean : is_clean line ≡ true
+  pub wordless : words_of line ≡ []
+
+-- one line with its end that is passed over on the way to a line with a word
+pub record IsPassedOver (piece : List ℕ) : Type 0 where
+  pub one : pieces_of piece ≡ piece ∷ []
+  pub blank : IsBlankLine (line_of piece)
+
+-- the first of these lines that has a word or is bad is whole, and so are those before it
+abbrev pub HasWholeAnswer : List (List ℕ) → Type 0
+HasWholeAnswer [] = ⊥
+HasWholeAnswer (piece ∷ pieces) = IsTrue (ends_with_byte 10 piece) × (IsBlankLine (line_of piece) → HasWholeAnswer pieces)
+
+-- bytes that were taken before a read failed: lines that were passed over, each counted, and then no whole
+-- line; `left` is what the source has left behind them
+pub record StoppedBehind (lines lines' : ℕ) (bytes : List ℕ) (left : Option (List ℕ)) : Type 0 where
+  pub passed : List (List ℕ)
+  pub rest : List ℕ
+  pub held : bytes ≡ concat passed ++ rest
+  pub each : All IsPassedOver passed
+  pub whole : AreLines (concat passed) (length passed) ⊎ IsAtEnd left
+  pub line : lines' ≡ lines + length passed
+  pub none : ¬ HasWholeLine rest
+
+-- how many lines are counted with an answer
+abbrev pub lines_counted : Result RawLine TextFault → ℕ
+lines_counted (Ok Line) = 1
+lines_counted (Ok Long) = 1
+lines_counted (Ok End) = 0
+lines_counted (Err fault) = 0
 
 -- how many bytes a call takes past the quota, by the fault that was answered before it and by its answer: one
 -- where it is the first to answer that the text is too long

@@ -1,29 +1,20 @@
-//! Where text comes from and where it goes: byte sources, byte sinks, and the lines, words and
-//! numbers of a text.
+//! The lines, words and numbers of a text: read from a source of bytes, and written.
 #![tactic(auto)]
 
-mod adapters;
 mod faults;
-mod gates;
 mod judge;
-mod memory;
 mod numbers;
 mod page;
 mod places;
 mod reader;
-mod sinks;
-mod sources;
 mod window;
 mod words;
+mod writers;
 
-pub use adapters::{StdSink, StdSource};
+pub use byte_streams::{Source, SourceFault};
 pub use faults::{RawLine, TextFault};
-pub use gates::{Gate, OpenGate};
-pub use memory::{MemorySink, MemorySource, SureSink, SureSource};
-pub use numbers::put_number;
 pub use reader::LineReader;
-pub use sinks::{Sink, SinkFault, put_all};
-pub use sources::{Source, SourceFault, read_full};
+pub use writers::{put_line, put_number, put_word, put_words};
 
 #[cfg(test)]
 mod tests;

@@ -1,15 +1,11 @@
-//! Numbers in decimal digits: read from words, and written.
-ghost use Rattle.std.specs.Prelude.{◌≡◌, FitsSigned, ◌<◌, ◌^◌, ◌++◌, length, pos, neg_ℤ, IsTrue, OnOk, OnErr, if◌then◌else◌};
+//! Numbers in decimal digits, read from words.
+ghost use Rattle.std.specs.Prelude.{◌≡◌, FitsSigned, ◌<◌, ◌^◌, length, pos, neg_ℤ, IsTrue, if◌then◌else◌};
 ghost use Rattle.std.specs.List.{list_all};
 ghost use Rattle.std.specs.Char.{is_ascii_digit};
 ghost use Rattle.std.specs.Str.Parse.{digits_value};
 ghost use Rattle.std.specs.Option.{SomeIff};
-ghost use Rattle.std.specs.Fmt.{signed_decimal};
 ghost use Rattle.std.specs.Int.{w128};
 ghost use Rattle.lift_text.specs.Numbers.{read_number, starts_with_minus};
-
-use itoa::Buffer;
-use std::alloc::AllocError;
 
 /// Why a word is not read as a number.
 #[derive(Clone, Copy, Debug, PartialEq, Eq)]
@@ -86,14 +82,4 @@ fn signed(is_negative: bool, magnitude: u128) -> Option<i128>
     } else {
         0i128.checked_add_unsigned(magnitude)
     }
-}
-
-/// Appends a number in decimal digits, with a `-` in front where it is negative and no leading
-/// zeros. The only error is want of memory, which leaves `out` as it was.
-pub fn put_number(out: &mut Vec<u8>, value: i128) -> Result<(), AllocError>
-    ensures ok { OnOk result (out.new.items ≡ out.old.items ++ signed_decimal value) }
-    ensures err { OnErr result (out.new.items ≡ out.old.items) }
-{
-    let mut buffer = Buffer::new();
-    out.extend_from_slice(buffer.format(value).as_bytes())
 }

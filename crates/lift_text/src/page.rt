@@ -1,13 +1,13 @@
 //! The line of a text that is being read, and what is read of the text behind it.
 ghost use Rattle.std.specs.Prelude.{◌≡◌, ◌≢◌, ℕ, ◌+◌, ◌<◌, ◌≤◌, List, [], ◌∷◌, ◌++◌, Some, None, true, false, length, take, drop, IfOk, IfErr, IfSome, OnOk, OnErr, IsErrOf};
-ghost use Rattle.lift_text.specs.Streams.{Rose};
+ghost use Rattle.byte_streams.specs.Streams.{Rose};
 ghost use Rattle.lift_text.specs.Page.{IfBad, step_of};
 
 use crate::faults::{RawLine, TextFault};
 use crate::judge::{Flaw, LINE_LIMIT, judge};
-use crate::sources::{Source, SourceFault};
 use crate::window::{Found, LONGEST, Skipped, Window};
 use crate::words::Span;
+use byte_streams::{Source, SourceFault};
 use std::alloc::{AllocError, Global};
 use std::marker::Model;
 
@@ -59,10 +59,11 @@ impl Model for Page {
 impl Page {
     ghost use Rattle.std.specs.Prelude.{◌≡◌, ◌≢◌, ℕ, ◌+◌, ◌<◌, ◌≤◌, List, [], ◌∷◌, ◌++◌, Some, None, true, false, length, take, drop, IfOk, IfErr, IfSome, OnOk, OnErr, IsErrOf, slice_index_or};
     ghost use Rattle.std.specs.Io.KnownBytes.{IsAtEnd};
-    ghost use Rattle.lift_text.specs.Streams.{Rose, Took};
-    ghost use Rattle.lift_text.specs.Found.{past_found};
-    ghost use Rattle.lift_text.specs.Reading.{NextLine, NextRaw, BadLineShows, past_quota};
-    ghost use Rattle.lift_text.specs.Page.{text_at, limit_of, Advanced, Forward, IfBad, JudgedAs, LineEnds, PageTook, ReadLine, SkippedLine, StepEnds};
+    ghost use Rattle.byte_streams.specs.Streams.{Rose, Took};
+    ghost use Rattle.lift_text.specs.Lines.{pieces_of, HasWholeLine};
+    ghost use Rattle.lift_text.specs.Found.{IsWholeLine, past_found};
+    ghost use Rattle.lift_text.specs.Reading.{NextLine, NextRaw, BadLineShows, HasWholeAnswer, StoppedBehind, lines_counted, past_quota};
+    ghost use Rattle.lift_text.specs.Page.{text_at, limit_of, Advanced, CurrentOne, CurrentWhole, Forward, IfBad, JudgedAs, LineEnds, PageTook, ReadLine, SkippedLine, StepEnds};
 
     /// A page before the first line.
     pub(crate) fn new(alloc: Global) -> Result<Page, AllocError>
@@ -109,6 +110,11 @@ impl Page {
         ensures taken { (taken : List ℕ) × PageTook (past_found result) self.old self.new taken
             (S.left source.old) (S.left source.new) }
         ensures shows { IfOk result (λ found. LineEnds found self.new (S.left source.new)) }
+        ensures unasked { HasWholeLine self.old.unread → (source.new ≡ source.old)
+            × (self.old.unread ≡ self.new.current ++ self.new.unread) × CurrentWhole result self.new.current }
+        ensures one { IfOk result (λ found. CurrentOne found self.new.current) }
+        ensures none { OnErr result ((self.new.line ≡ self.old.line)
+            × (¬ HasWholeLine (self.new.current ++ self.new.unread))) }
         ensures end { result ≡ Ok Found.End → IsAtEnd (S.left source.new) }
         ensures counted { S.faults source.old ≤ S.faults source.new }
         ensures fault { OnErr result (Rose (S.faults source.old) (S.faults source.new)) }
@@ -148,6 +154,8 @@ impl Page {
         ensures taken { (taken : List ℕ) × PageTook (past_quota None result) self.old self.new taken
             (S.left source.old) (S.left source.new) }
         ensures shows { StepEnds result self.old self.new (S.left source.new) }
+        ensures unasked { HasWholeLine self.old.unread → (source.new ≡ source.old)
+            × (self.old.unread ≡ self.new.current ++ self.new.unread) × IsWholeLine self.new.current }
         ensures bad { IfErr result (λ fault. IfBad fault (λ line. self.new.line ≡ line)) }
         ensures raw { self.new.raw ≡ [] }
         ensures failure { self.new.failure ≡ self.old.failure }
@@ -180,7 +188,10 @@ impl Page {
         ensures end { result ≡ Ok false → IsAtEnd (S.left source.new) }
         ensures taken { (taken : List ℕ) × Took (past_quota None result) self.old.quota self.new.quota taken
             (S.left source.old) (S.left source.new)
-            × BadLineShows None result self.old.line (self.old.unread ++ taken) (S.left source.new) }
+            × BadLineShows None result self.old.line (self.old.unread ++ taken) (S.left source.new)
+            × (IsErrOf result TextFault.Read
+            → StoppedBehind self.old.line self.new.line (self.old.unread ++ taken) (S.left source.new)) }
+        ensures unasked { HasWholeAnswer (pieces_of self.old.unread) → source.new ≡ source.old }
         ensures raw { self.new.raw ≡ [] }
         ensures failure { self.new.failure ≡ self.old.failure }
         ensures read { IsErrOf result TextFault.Read → Rose (S.faults source.old) (S.faults source.new) }
@@ -209,7 +220,11 @@ impl Page {
         ensures taken { (taken : List ℕ) × Took (past_quota self.old.failure result) self.old.quota self.new.quota taken
             (S.left source.old) (S.left source.new)
             × IfSome self.old.failure (λ _. taken ≡ [])
-            × BadLineShows self.old.failure result self.old.line (self.old.unread ++ taken) (S.left source.new) }
+            × BadLineShows self.old.failure result self.old.line (self.old.unread ++ taken) (S.left source.new)
+            × (self.old.failure ≡ None → IsErrOf result TextFault.Read
+            → StoppedBehind self.old.line self.new.line (self.old.unread ++ taken) (S.left source.new)) }
+        ensures unasked { HasWholeAnswer (pieces_of self.old.unread) → source.new ≡ source.old }
+        ensures again_line { IfSome self.old.failure (λ _. self.new.line ≡ self.old.line) }
         ensures raw { self.new.raw ≡ [] }
         ensures ok { OnOk result (self.new.failure ≡ None) }
         ensures err { IfErr result (λ fault. self.new.failure ≡ Some fault) }
@@ -253,7 +268,10 @@ impl Page {
         requires raw { self.old.raw ≡ [] }
         ensures skipped { SkippedLine (text_at self.old (S.left source.old)) result (text_at self.new (S.left source.new)) }
         ensures taken { (taken : List ℕ) × Took (past_quota None result) self.old.quota self.new.quota taken
-            (S.left source.old) (S.left source.new) }
+            (S.left source.old) (S.left source.new)
+            × (IsErrOf result TextFault.Read → ¬ HasWholeLine (self.old.unread ++ taken)) }
+        ensures line { self.new.line ≡ self.old.line + lines_counted result }
+        ensures no_memory { result ≢ Err TextFault.NoMemory }
         ensures words { self.new.words ≡ [] }
         ensures raw { self.new.raw ≡ [] }
         ensures failure { self.new.failure ≡ self.old.failure }
@@ -280,7 +298,11 @@ impl Page {
         ensures raw { result ≢ Ok RawLine.Line → self.new.raw ≡ [] }
         ensures end { result ≡ Ok RawLine.End → IsAtEnd (S.left source.new) }
         ensures taken { (taken : List ℕ) × Took (past_quota None result) self.old.quota self.new.quota taken
-            (S.left source.old) (S.left source.new) }
+            (S.left source.old) (S.left source.new)
+            × (IsErrOf result TextFault.Read → ¬ HasWholeLine (self.old.unread ++ taken)) }
+        ensures unasked { HasWholeLine self.old.unread → source.new ≡ source.old }
+        ensures line { self.new.line ≡ self.old.line + lines_counted result }
+        ensures no_memory { result ≢ Err TextFault.NoMemory }
         ensures words { self.new.words ≡ [] }
         ensures failure { self.new.failure ≡ self.old.failure }
         ensures read { IsErrOf result TextFault.Read → Rose (S.faults source.old) (S.faults source.new) }
@@ -304,7 +326,12 @@ impl Page {
         ensures end { result ≡ Ok RawLine.End → IsAtEnd (S.left source.new) }
         ensures taken { (taken : List ℕ) × Took (past_quota self.old.failure result) self.old.quota self.new.quota taken
             (S.left source.old) (S.left source.new)
-            × IfSome self.old.failure (λ _. taken ≡ []) }
+            × IfSome self.old.failure (λ _. taken ≡ [])
+            × (self.old.failure ≡ None → IsErrOf result TextFault.Read
+            → ¬ HasWholeLine (self.old.unread ++ taken)) }
+        ensures unasked { HasWholeLine self.old.unread → source.new ≡ source.old }
+        ensures line { self.new.line ≡ self.old.line + lines_counted result }
+        ensures no_memory { self.old.failure ≡ None → result ≢ Err TextFault.NoMemory }
         ensures words { self.new.words ≡ [] }
         ensures ok { OnOk result (self.new.failure ≡ None) }
         ensures err { IfErr result (λ fault. self.new.failure ≡ Some fault) }

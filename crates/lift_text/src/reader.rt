@@ -1,14 +1,15 @@
 //! Reading a text line by line.
-ghost use Rattle.std.specs.Prelude.{◌≡◌, ◌≢◌, ℕ, ◌<◌, ◌≤◌, List, [], ◌++◌, Some, None, true, false, length, IfOk, IfErr, IfSome, OnOk, IsErrOf, option_map, slice_index_or};
+ghost use Rattle.std.specs.Prelude.{◌≡◌, ◌≢◌, ℕ, ◌+◌, ◌<◌, ◌≤◌, List, [], ◌++◌, Some, None, true, false, length, IfOk, IfErr, IfSome, OnOk, IsErrOf, option_map, slice_index_or};
 ghost use Rattle.std.specs.Io.KnownBytes.{IsAtEnd};
-ghost use Rattle.lift_text.specs.Streams.{Rose, Took};
+ghost use Rattle.byte_streams.specs.Streams.{Rose, Took};
+ghost use Rattle.lift_text.specs.Lines.{pieces_of, HasWholeLine};
 ghost use Rattle.lift_text.specs.Numbers.{number_answer, read_number};
-ghost use Rattle.lift_text.specs.Reading.{NextLine, NextRaw, BadLineShows, past_quota, whole_text};
+ghost use Rattle.lift_text.specs.Reading.{NextLine, NextRaw, BadLineShows, HasWholeAnswer, StoppedBehind, lines_counted, past_quota, whole_text};
 
 use crate::faults::{RawLine, TextFault};
 use crate::numbers::number_in;
 use crate::page::Page;
-use crate::sources::Source;
+use byte_streams::Source;
 use std::alloc::{AllocError, Global};
 
 /// Reads the lines of a source.
@@ -49,8 +50,9 @@ impl<'a, S: Source> LineReader<'a, S> {
     ///
     /// A line is bad with code 2 where it is over 4,096 bytes, and else with code 1 where a byte
     /// outside its comment is not allowed; this is answered only when its LF, the end of the source or
-    /// more than 4,097 of its bytes were seen. `Read` comes only where a read of the source failed. An
-    /// `Err` is answered from then on, and nothing more is taken from the source.
+    /// more than 4,097 of its bytes were seen. `Read` comes only where a read of the source failed, which
+    /// is asked only where the line is not whole among the bytes that were read. An `Err` is answered
+    /// from then on, and nothing more is taken from the source.
     pub fn next_line(&mut self) -> Result<bool, TextFault>
         ensures same_source { self.new.source.ghost_name ≡ self.old.source.ghost_name }
         ensures next { failure self.old ≡ None → NextLine (text S.left self.old) result (words self.new)
@@ -68,7 +70,13 @@ impl<'a, S: Source> LineReader<'a, S> {
             (S.left self.old.source.now) (S.left self.new.source.now)
             × IfSome (failure self.old) (λ _. taken ≡ [])
             × BadLineShows (failure self.old) result (line self.old) (unread self.old ++ taken)
-            (S.left self.new.source.now) }
+            (S.left self.new.source.now)
+            × (failure self.old ≡ None → IsErrOf result TextFault.Read
+            → StoppedBehind (line self.old) (line self.new) (unread self.old ++ taken)
+            (S.left self.new.source.now)) }
+        ensures unasked { HasWholeAnswer (pieces_of (unread self.old))
+            → self.new.source.now ≡ self.old.source.now }
+        ensures again_line { IfSome (failure self.old) (λ _. line self.new ≡ line self.old) }
 
         ensures ok { OnOk result (failure self.new ≡ None) }
         ensures err { IfErr result (λ fault. failure self.new ≡ Some fault) }
@@ -120,8 +128,9 @@ impl<'a, S: Source> LineReader<'a, S> {
         }
     }
 
-    /// Reads the next line as it stands. `Read` comes only where a read of the source failed. An
-    /// `Err` is answered from then on, and nothing more is taken from the source.
+    /// Reads the next line as it stands. `Read` comes only where a read of the source failed, which is
+    /// asked only where no whole line is among the bytes that were read. An `Err` is answered from then
+    /// on, and nothing more is taken from the source.
     pub fn raw_line(&mut self) -> Result<RawLine, TextFault>
         ensures same_source { self.new.source.ghost_name ≡ self.old.source.ghost_name }
         ensures next { failure self.old ≡ None → NextRaw (text S.left self.old) result (raw self.new)
@@ -136,12 +145,17 @@ impl<'a, S: Source> LineReader<'a, S> {
         ensures taken { (taken : List ℕ)
             × Took (past_quota (failure self.old) result) (quota self.old) (quota self.new) taken
             (S.left self.old.source.now) (S.left self.new.source.now)
-            × IfSome (failure self.old) (λ _. taken ≡ []) }
+            × IfSome (failure self.old) (λ _. taken ≡ [])
+            × (failure self.old ≡ None → IsErrOf result TextFault.Read
+            → ¬ HasWholeLine (unread self.old ++ taken)) }
+        ensures unasked { HasWholeLine (unread self.old) → self.new.source.now ≡ self.old.source.now }
+        ensures line { line self.new ≡ line self.old + lines_counted result }
 
         ensures ok { OnOk result (failure self.new ≡ None) }
         ensures err { IfErr result (λ fault. failure self.new ≡ Some fault) }
         ensures read { failure self.old ≡ None → IsErrOf result TextFault.Read
             → Rose (S.faults self.old.source.now) (S.faults self.new.source.now) }
+        ensures no_memory { failure self.old ≡ None → result ≢ Err TextFault.NoMemory }
         ensures counted { S.faults self.old.source.now ≤ S.faults self.new.source.now }
     {
         self.page.raw_line(self.source)

@@ -1,110 +1,7 @@
-ghost use Rattle.std.specs.Prelude.{◌≡◌, None, IfOk};
-
-use crate::{
-    Gate, LineReader, MemorySink, MemorySource, OpenGate, RawLine, Sink, SinkFault, Source,
-    SourceFault, StdSink, StdSource, SureSink, SureSource, TextFault, put_all, put_number,
-    read_full,
-};
+use crate::{LineReader, RawLine, TextFault, put_line, put_number};
+use byte_streams::{MemorySource, Source, SureSource};
 use std::alloc::Global;
-use std::io;
-use std::io::{ErrorKind, Read, Write};
 use std::test::Fail;
-
-/// A stream whose first calls are interrupted and whose later calls find the end.
-#[derive(Drop)]
-struct Interrupted {
-    times: u32,
-}
-
-impl Interrupted {
-    fn call(&mut self) -> io::Result<usize>
-        ensures { IfOk result (λ count. count ≡ 0) }
-    {
-        if self.times == 0 {
-            return Ok(0);
-        }
-        self.times -= 1;
-        Err(io::Error::from(ErrorKind::Interrupted))
-    }
-}
-
-impl Read for Interrupted {
-    fn read(&mut self, _buf: &mut [u8]) -> io::Result<usize> {
-        self.call()
-    }
-}
-
-impl Write for Interrupted {
-    fn write(&mut self, _buf: &[u8]) -> io::Result<usize> {
-        self.call()
-    }
-
-    fn flush(&mut self) -> io::Result<()> {
-        Ok(())
-    }
-}
-
-#[test]
-fn std_source_repeats_a_thousand_interrupted_reads(rt: HostRuntime) {
-    let mut into = [0; 4];
-    let mut source = StdSource::new(Interrupted { times: 1000 });
-    assert_eq!(rt; source.read(&mut into), Ok(0));
-    let mut source = StdSource::new(Interrupted { times: 1001 });
-    assert_eq!(rt; source.read(&mut into), Err(SourceFault));
-    assert_eq!(rt; source.read(&mut into), Ok(0));
-    let mut source = StdSource::new(b"lift".as_slice());
-    assert_eq!(rt; source.read(&mut into[..3]), Ok(3));
-    assert_eq!(rt; into, *b"lif\0");
-}
-
-#[test]
-fn std_sink_repeats_a_thousand_interrupted_writes(rt: HostRuntime) {
-    let mut sink = StdSink::new(Interrupted { times: 1000 });
-    assert_eq!(rt; sink.write(b""), Ok(0));
-    let mut sink = StdSink::new(Interrupted { times: 1001 });
-    assert_eq!(rt; sink.write(b""), Err(SinkFault));
-    assert_eq!(rt; sink.write(b""), Ok(0));
-    assert_eq!(rt;
-        sink.write(b"lift"),
-        Err(SinkFault),
-        "none of a piece is taken"
-    );
-    let mut sink = StdSink::new(Vec::new(rt.alloc()));
-    assert_eq!(rt; sink.write(b"lift"), Ok(4));
-}
-
-#[test]
-fn sources_in_memory_give_their_bytes(rt: HostRuntime) -> Result<(), Fail> {
-    let alloc = rt.alloc();
-    let failing = Vec::from_slice(alloc, &[3])?;
-    let mut source = MemorySource::new(Vec::from_slice(alloc, b"elevator")?, 3, failing);
-    let mut into = [0; 7];
-    assert_eq!(rt; source.read(&mut into), Ok(3));
-    assert_eq!(rt; read_full(&mut source, &mut into), Err(SourceFault));
-    assert_eq!(rt; into, *b"vat\0\0\0\0");
-    assert_eq!(rt; read_full(&mut source, &mut into), Ok(2));
-    assert_eq!(rt; into, *b"ort\0\0\0\0");
-    let mut source = SureSource::new(Vec::from_slice(alloc, b"elevator")?);
-    assert_eq!(rt; read_full(&mut source, &mut into), Ok(7));
-    assert_eq!(rt; into, *b"elevato");
-    Ok(())
-}
-
-#[test]
-fn sinks_in_memory_take_what_they_have_room_for(rt: HostRuntime) -> Result<(), Fail> {
-    let alloc = rt.alloc();
-    let mut sink = MemorySink::new(alloc, 9, 3, Vec::from_slice(alloc, &[2])?)?;
-    assert_eq!(rt; put_all(&mut sink, b"lifts"), Err(SinkFault));
-    assert_eq!(rt; sink.taken(), b"lif".as_slice());
-    assert_eq!(rt; put_all(&mut sink, b"elevator"), Err(SinkFault));
-    assert_eq!(rt; sink.taken(), b"lifelevat".as_slice());
-    let mut sink = SureSink::new(alloc, 6)?;
-    assert_eq!(rt; put_all(&mut sink, b"lift"), Ok(()));
-    assert_eq!(rt; put_all(&mut sink, b"lift"), Err(SinkFault));
-    assert_eq!(rt; sink.taken(), b"liftli".as_slice());
-    OpenGate.enter(0);
-    Ok(())
-}
 
 /// What a reader answers, each line in a row: its number and its words or its text.
 fn heard<S: Source>(alloc: Global, source: &mut S, raw: bool) -> Result<String, Fail> {
@@ -162,7 +59,7 @@ const MIXED: &[u8] = b"# \x00\xff any\r\n\r\n \t\nab  7\t-0 # x\x1f\x7f\n-\n007 
 #[test]
 fn lines_are_the_same_in_any_pieces(rt: HostRuntime) -> Result<(), Fail> {
     let alloc = rt.alloc();
-    let table: [(&[u8], bool, &str); 11] = [
+    let table: [(&[u8], bool, &str); 6] = [
         (
             MIXED,
             false,
@@ -173,15 +70,10 @@ fn lines_are_the_same_in_any_pieces(rt: HostRuntime) -> Result<(), Fail> {
             true,
             "1 Ok(Line) 8;2 Ok(Line) 0;3 Ok(Line) 2;4 Ok(Line) 14;5 Ok(Line) 1;6 Ok(Line) 135;6 Ok(End) 0;",
         ),
-        (b"", false, "0 Ok(false)"),
         (b"a\n\x1f\n", false, "1 1/6;2 Err(Bad { line: 2, code: 1 })"),
-        (b"\x7f", false, "1 Err(Bad { line: 1, code: 1 })"),
         (b"#\x7f\n~", false, "2 1/6;2 Ok(false)"),
-        (b"a\rb\n", false, "1 Err(Bad { line: 1, code: 1 })"),
         (b"\na\r", false, "2 Err(Bad { line: 2, code: 1 })"),
-        (b"a\r", true, "1 Ok(Line) 2;1 Ok(End) 0;"),
         (b"a\r\r\n", true, "1 Ok(Line) 2;1 Ok(End) 0;"),
-        (b"\r\n\n", true, "1 Ok(Line) 0;2 Ok(Line) 0;2 Ok(End) 0;"),
     ];
     for (bytes, raw, want) in table {
         for each in [1usize, 3, 100_000] {
@@ -201,16 +93,6 @@ fn longest_lines_are_taken(rt: HostRuntime) -> Result<(), Fail> {
     let table = [
         (4096usize, false, "3 7;4 4096/6;5 1/6;5 Ok(false)"),
         (4097, false, "3 7;4 Err(Bad { line: 4, code: 2 })"),
-        (
-            4096,
-            true,
-            "1 Ok(Line) 2;2 Ok(Line) 0;3 Ok(Line) 2;4 Ok(Line) 4096;5 Ok(Line) 1;5 Ok(End) 0;",
-        ),
-        (
-            4097,
-            true,
-            "1 Ok(Line) 2;2 Ok(Line) 0;3 Ok(Line) 2;4 Ok(Long) 0;5 Ok(Line) 1;5 Ok(End) 0;",
-        ),
         (
             200_000,
             true,
@@ -260,11 +142,23 @@ fn numbers_have_up_to_128_bits(rt: HostRuntime) -> Result<(), Fail> {
         assert!(rt; word < reader.words());
         assert_eq!(rt; reader.number(word, low, i128::MAX), want, "at word {word}");
     }
+    Ok(())
+}
+
+#[test]
+fn numbers_and_lines_are_appended(rt: HostRuntime) -> Result<(), Fail> {
+    let alloc = rt.alloc();
     let mut out = Vec::from_slice(alloc, b"x ")?;
     put_number(&mut out, i128::MIN)?;
     assert_eq!(rt;
         out.as_slice(),
         b"x -170141183460469231731687303715884105728".as_slice()
+    );
+    let mut line = Vec::from_slice(alloc, b"x\n")?;
+    put_line(&mut line, b"floors", &[0, 18_446_744_073_709_551_615])?;
+    assert_eq!(rt;
+        line.as_slice(),
+        b"x\nfloors 0 18446744073709551615\n".as_slice()
     );
     Ok(())
 }
@@ -276,14 +170,8 @@ fn a_failed_read_is_answered_ever_after(rt: HostRuntime) -> Result<(), Fail> {
     // many lines, and how many of them with a word.
     let table = [
         (1u64, 0u64, 0u32),
-        (2, 0, 0),
-        (3, 0, 0),
         (4, 1, 1),
-        (5, 1, 1),
-        (6, 2, 1),
         (7, 3, 1),
-        (8, 3, 1),
-        (9, 3, 1),
         (10, 3, 1),
         (11, 4, 2),
     ];
@@ -321,51 +209,5 @@ fn a_failed_read_is_answered_ever_after(rt: HostRuntime) -> Result<(), Fail> {
             assert_eq!(rt; reader.line(), lines, "at read {failing}");
         }
     }
-    Ok(())
-}
-
-#[test]
-fn a_bad_line_is_answered_when_its_end_was_taken(rt: HostRuntime) -> Result<(), Fail> {
-    let alloc = rt.alloc();
-    for (size, left) in [(1usize, 1usize), (4096, 1), (4097, 2), (5000, 905)] {
-        let mut bytes = Vec::from_slice(alloc, b"a\n")?;
-        bytes.resize(2 + size, b'\r')?;
-        bytes.extend_from_slice(b"\x7f\nb")?;
-        let mut source = MemorySource::new(bytes, 1, Vec::new(alloc));
-        let mut reader = LineReader::new(alloc, &mut source)?;
-        assert_eq!(rt; reader.next_line(), Ok(true));
-        assert!(rt; matches!(reader.next_line(), Err(TextFault::Bad { line: 2, .. })));
-        let mut rest = vec![in alloc; 0; 6000]?;
-        assert_eq!(rt; read_full(reader.into_source(), &mut rest), Ok(left));
-    }
-    Ok(())
-}
-
-/// A source without an end, of bytes that are no LF: it leaves `into` as it was made. It counts the
-/// bytes that it gave.
-#[derive(Drop)]
-struct Endless {
-    given: u64,
-}
-
-impl Source for Endless {
-    ghost left = { λ _. None };
-
-    ghost faults = { λ _. 0 };
-
-    fn read(&mut self, into: &mut [u8]) -> Result<usize, SourceFault> {
-        self.given = self.given.saturating_add(into.len() as u64);
-        Ok(into.len())
-    }
-}
-
-#[test]
-fn a_text_past_the_limit_is_too_long(rt: HostRuntime) -> Result<(), Fail> {
-    let mut source = Endless { given: 0 };
-    let mut reader = LineReader::new(rt.alloc(), &mut source)?;
-    assert_eq!(rt; reader.raw_line(), Err(TextFault::TooLong));
-    assert_eq!(rt; reader.next_line(), Err(TextFault::TooLong));
-    assert_eq!(rt; reader.line(), 0);
-    assert_eq!(rt; reader.into_source().given, 67_108_865);
     Ok(())
 }

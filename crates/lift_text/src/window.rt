@@ -2,11 +2,12 @@
 ghost use Rattle.std.specs.Prelude.{◌≡◌, ◌≢◌, ℕ, ◌+◌, ◌<◌, ◌≤◌, List, [], ◌∷◌, ◌++◌, length, take, drop, IfOk, OnErr, slice_index};
 ghost use Rattle.std.specs.Io.KnownBytes.{prepend_known, IsAtEnd};
 ghost use Rattle.std.specs.Io.BufRead.{strip_last};
-ghost use Rattle.lift_text.specs.Streams.{Rose, Took};
-ghost use Rattle.lift_text.specs.Found.{Filled, FoundIn, Gathered, FoundShows, NoLineFeedBelow, SkippedIn, past_found, past_skipped};
+ghost use Rattle.byte_streams.specs.Streams.{Rose, Took};
+ghost use Rattle.lift_text.specs.Lines.{HasWholeLine};
+ghost use Rattle.lift_text.specs.Found.{Filled, FoundIn, FoundOne, FoundWhole, Gathered, FoundShows, NoLineFeedBelow, SkippedIn, past_found, past_skipped};
 
 use crate::places::place_of;
-use crate::sources::{Source, SourceFault};
+use byte_streams::{Source, SourceFault};
 use std::alloc::{AllocError, Global};
 use std::marker::Model;
 
@@ -168,6 +169,10 @@ impl Window {
         ensures taken { (taken : List ℕ) × Gathered (past_found result) self.old.quota self.new.quota
             self.old.unread self.new.unread taken (S.left source.old) (S.left source.new) }
         ensures shows { IfOk result (λ found. FoundShows found self.new.unread (S.left source.new)) }
+        ensures unasked { HasWholeLine self.old.unread → (source.new ≡ source.old)
+            × (self.new.unread ≡ self.old.unread) × FoundWhole result self.new.unread }
+        ensures one { IfOk result (λ found. FoundOne found self.new.unread) }
+        ensures none { OnErr result (¬ HasWholeLine self.new.unread) }
         ensures counted { S.faults source.old ≤ S.faults source.new }
         ensures fault { OnErr result (Rose (S.faults source.old) (S.faults source.new)) }
     {
@@ -201,7 +206,8 @@ impl Window {
         ensures one { result ≡ Ok Skipped.Whole
             → self.new.quota + length self.new.unread < self.old.quota + length self.old.unread }
         ensures taken { (taken : List ℕ) × Took (past_skipped result) self.old.quota self.new.quota taken
-            (S.left source.old) (S.left source.new) }
+            (S.left source.old) (S.left source.new)
+            × OnErr result (¬ HasWholeLine (self.old.unread ++ taken)) }
         ensures counted { S.faults source.old ≤ S.faults source.new }
         ensures fault { OnErr result (Rose (S.faults source.old) (S.faults source.new)) }
     {

@@ -1,5 +1,5 @@
 use crate::{JobLine, Jobs, fan};
-use lift_text::{Gate, OpenGate};
+use byte_streams::{Gate, OpenGate};
 use std::alloc::AllocError;
 use std::sync::atomic::{AtomicBool, Ordering};
 use std::test::Fail;

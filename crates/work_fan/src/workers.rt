@@ -6,7 +6,7 @@ ghost use Rattle.work_fan.specs.Line.{times};
 ghost use Rattle.work_fan.specs.Work.{Finished, SameSeat, Serving, Starts, jobs_of};
 
 use crate::line::{JobLine, JobSeat};
-use lift_text::Gate;
+use byte_streams::Gate;
 use std::alloc::{AllocError, Global};
 use std::marker::{Send, Sync};
 use std::thread::{Threads, join_mut};

@@ -1,11 +1,12 @@
 use Rattle.std.proofs.Common.{◌≤◌, All, rules, length-drop, ◌≡◌, ◌+◌, [], length, take, drop, arith, sym, ap, subst, ◌∙◌}
 use Rattle.std.proofs.lemmas.List.{length-take-le}
 use Rattle.std.specs.Io.KnownBytes.{prepend_known}
+use Rattle.lift_text.specs.Lines.{HasWholeLine}
 use Rattle.lift_text.specs.Words.{parts_of}
 use Rattle.lift_text.specs.Found.{FoundIn, FoundShows}
 use Rattle.lift_text.specs.Page.{PageState, Advanced, limit_of, text_at}
 use Rattle.lift_text.specs.declared.window.Found.TheVariants.{Line, End}
-use Rattle.lift_text.proofs.PageLemmas.{state, advanced_line, advanced_other, empty_front, no_parts, nothing_behind, forward_other, at_end}
+use Rattle.lift_text.proofs.PageLemmas.{state, advanced_line, advanced_other, empty_front, no_parts, nothing_behind, forward_other, at_end, no_other_whole, current_one_other}
 use Rattle.lift_text.proofs.EndLemmas.{gathered_same, line_ends_other}
 use Rattle.lift_text.proofs.page.Page.advance.Goals as goal
 
@@ -85,7 +86,22 @@ returns-in_default g c =
       );
       shows = line_ends_other found _ (left c.find.new.source) c.in_default.not-Line
           (subst (λ n. FoundShows found (drop n window.unread) (left c.find.new.source)) (sym zero) c.in_ok-found.ensures.shows);
+      unasked = λ has. absurd (no_other_whole found window.unread c.in_default.not-Line
+          (c.in_ok-found.ensures.unasked (subst HasWholeLine (sym (ap (λ (p : PageState). p.unread) c.self.view_is) ∙ ap (λ n. drop n page.window.unread) zero) has)).2);
+      one = current_one_other found _ c.in_default.not-Line;
+      none = tt;
       end = λ is. (let same : found ≡ End = cc in at_end found _ _ _ _ c.in_ok-found.ensures.ok same);
       counted = omega arith;
       fault = tt;
     }
+
+pub returns-in-Line-clause-taken : goal.returns-in-Line-clause-taken
+returns-in-Line-clause-taken g c =
+    let page = c.self.inside in
+    let zero = empty_front page.size page.window.unread c.self.invariant.size_within (ap (λ (p : PageState). p.current) c.self.view_is ∙ c.requires.current) in
+    let found = rw c.in-Line.is at c.in_ok-found.ensures in (
+      found.taken.0,
+      gathered_same _ _ _ c.in-Line.size _ _ _ _ _ _ _ found.taken.1
+          (sym (ap (λ (p : PageState). p.quota) c.self.view_is))
+          (sym (ap (λ (p : PageState). p.unread) c.self.view_is) ∙ ap (λ n. drop n page.window.unread) zero),
+    )

@@ -1,9 +1,12 @@
-use Rattle.std.proofs.Common.{Ok, true, refl, arith, rules, subst}
+use Rattle.std.proofs.Common.{Ok, true, false, refl, arith, rules, ap, sym, subst, ◌∙◌}
 use Rattle.std.proofs.lemmas.Result.{err_from_is_err_and}
 use Rattle.std.specs.Io.KnownBytes.{prepend_known}
 use Rattle.lift_text.specs.Page.{PageState, ReadLine, limit_of, text_at}
 use Rattle.lift_text.specs.declared.page.Step.TheVariants.{WithWords, Blank}
-use Rattle.lift_text.proofs.CrossLemmas.{crossed_none, crossed_cleared, crossed_more, crossed_ok, crossed_err, continues_same, continues_more, next_words}
+use Rattle.lift_text.proofs.CrossLemmas.{crossed_none, crossed_cleared, crossed_more, crossed_ok, crossed_err, continues_same, continues_more, next_words, answer_behind}
+use Rattle.lift_text.proofs.EndLemmas.{answer_whole}
+use Rattle.lift_text.specs.Lines.{pieces_of}
+use Rattle.lift_text.specs.Reading.{HasWholeAnswer}
 use Rattle.lift_text.proofs.page.Page.read_on.Goals as goal
 
 pub lines-init : goal.lines-init
@@ -11,6 +14,7 @@ lines-init g c = record {
   continues = continues_same _;
   failure = refl;
   crossed = crossed_none _ _;
+  unasked = λ has. (refl, has);
   counted = omega arith;
 }
 
@@ -41,7 +45,7 @@ pub returns-in-AtEnd-clause-taken : goal.returns-in-AtEnd-clause-taken
 returns-in-AtEnd-clause-taken g c =
     let read = rw c.in-AtEnd.is at c.in_ok-read_line.ensures in
     let cleared = crossed_cleared c.args.self.now c.lines.self c.clear.new.self _ _ c.clear.ensures c.lines.invariant.crossed in
-    crossed_ok c.args.self.now c.clear.new.self c.read_line.new.self _ _ _ read.taken.0 true cleared read.taken.1
+    crossed_ok c.args.self.now c.clear.new.self c.read_line.new.self _ _ _ read.taken.0 false cleared read.taken.1
 
 pub lines-preserved : goal.lines-preserved
 lines-preserved g c =
@@ -54,5 +58,27 @@ lines-preserved g c =
       continues = continues_more _ _ _ page.words c.lines.invariant.continues same;
       failure = search rules;
       crossed = crossed_more c.args.self.now c.clear.new.self page _ _ _ read.taken.0 cleared read.taken.1 read.shows;
+      unasked = λ has. (let before = c.lines.invariant.unasked has in
+          let answer = subst (λ bytes. HasWholeAnswer (pieces_of bytes)) (sym (ap (λ (p : PageState). p.unread) c.clear.ensures)) before.1 in
+          let kept = read.unasked (answer_whole c.clear.new.self.unread answer) in
+          (kept.0 ∙ before.0, answer_behind page.current page.unread kept.2 read.shows.2 (subst (λ bytes. HasWholeAnswer (pieces_of bytes)) kept.1 answer)));
       counted = omega (arith, read.counted, c.lines.invariant.counted);
     }
+
+pub returns-in_err-read_line-clause-unasked : goal.returns-in_err-read_line-clause-unasked
+returns-in_err-read_line-clause-unasked g c =
+    λ has. (let before = c.lines.invariant.unasked has in
+    let answer = subst (λ bytes. HasWholeAnswer (pieces_of bytes)) (sym (ap (λ (p : PageState). p.unread) c.clear.ensures)) before.1 in
+    (c.read_line.ensures.unasked (answer_whole c.clear.new.self.unread answer)).0 ∙ before.0)
+
+pub returns-in-WithWords-clause-unasked : goal.returns-in-WithWords-clause-unasked
+returns-in-WithWords-clause-unasked g c =
+    λ has. (let before = c.lines.invariant.unasked has in
+    let answer = subst (λ bytes. HasWholeAnswer (pieces_of bytes)) (sym (ap (λ (p : PageState). p.unread) c.clear.ensures)) before.1 in
+    (c.read_line.ensures.unasked (answer_whole c.clear.new.self.unread answer)).0 ∙ before.0)
+
+pub returns-in-AtEnd-clause-unasked : goal.returns-in-AtEnd-clause-unasked
+returns-in-AtEnd-clause-unasked g c =
+    λ has. (let before = c.lines.invariant.unasked has in
+    let answer = subst (λ bytes. HasWholeAnswer (pieces_of bytes)) (sym (ap (λ (p : PageState). p.unread) c.clear.ensures)) before.1 in
+    (c.read_line.ensures.unasked (answer_whole c.clear.new.self.unread answer)).0 ∙ before.0)

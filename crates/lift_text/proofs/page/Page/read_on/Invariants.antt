@@ -1,4 +1,6 @@
 use Rattle.std.proofs.Common.{◌≡◌, ◌≤◌}
+use Rattle.lift_text.specs.Lines.{pieces_of}
+use Rattle.lift_text.specs.Reading.{HasWholeAnswer}
 use Rattle.lift_text.specs.Page.{Continues, Crossed, limit_of, text_at}
 use Rattle.lift_text.proofs.page.Page.read_on.Given as goal
 
@@ -8,6 +10,7 @@ invariant-lines g l = record {
   continues : Continues (text_at l.initial.self (g.S.Source.left l.initial.source)) (text_at l.self (g.S.Source.left l.source));
   failure : l.self.failure ≡ l.initial.self.failure;
   crossed : Crossed l.initial.self l.self (g.S.Source.left l.initial.source) (g.S.Source.left l.source);
+  unasked : HasWholeAnswer (pieces_of l.initial.self.unread) → (l.source ≡ l.initial.source) × HasWholeAnswer (pieces_of l.self.unread);
   counted : g.S.Source.faults l.initial.source ≤ g.S.Source.faults l.source;
 }
 

@@ -1,4 +1,4 @@
-use Rattle.std.proofs.Common.{◌+◌, Ok, Err, None, length, drop, ap, sym, subst, ◌∙◌}
+use Rattle.std.proofs.Common.{◌≡◌, ◌+◌, Ok, Err, None, length, take, drop, arith, ap, sym, subst, ◌∙◌}
 use Rattle.std.specs.Io.KnownBytes.{prepend_known}
 use Rattle.lift_text.specs.Found.{SkippedIn}
 use Rattle.lift_text.specs.Page.{PageState, SkippedLine, text_at}
@@ -36,3 +36,10 @@ returns-in-Ok-Cut-clause-skipped g c =
     let cut = cut_text page.line limit window.quota (prepend_known start before) window.unread after None skipped in
     subst (λ (p : PageState). SkippedLine (text_at p before) (Err TooLong) None) c.self.view_is
     (subst (λ n. SkippedLine (state page.line (page.window.quota + length (drop n start)) (prepend_known (drop n start) before)) (Err TooLong) None) (sym zero) cut)
+
+pub returns-in-Err-clause-raw : goal.returns-in-Err-clause-raw
+returns-in-Err-clause-raw g c =
+    let page = c.self.inside in
+    let zero = empty_front page.size page.window.unread c.self.invariant.size_within (ap (λ (p : PageState). p.current) c.self.view_is ∙ c.requires.current) in
+    let none : page.raw ≡ 0 = omega (arith, zero, c.self.invariant.raw_within) in
+    ap (λ n. take n c.skip_line.new.self.unread) none

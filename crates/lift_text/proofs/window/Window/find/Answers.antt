@@ -1,8 +1,11 @@
-use Rattle.std.proofs.Common.{◌≡◌, ◌≢◌, ◌<◌, ℕ, [], ◌∷◌, ◌++◌, length, get_or, arith, sym, ap, subst, ◌∙◌, refl}
+use Rattle.std.proofs.Common.{◌≡◌, ◌≢◌, ◌<◌, rules, ℕ, [], ◌∷◌, ◌++◌, length, get_or, arith, sym, ap, subst, ◌∙◌, refl, append_assoc}
 use Rattle.std.specs.Io.KnownBytes.{prepend_known}
+use Rattle.std.proofs.lemmas.Result.{err_from_is_err_and}
+use Rattle.byte_streams.proofs.KnownBytes.{given_more, prepend_known-append}
+use Rattle.lift_text.specs.Lines.{HasWholeLine}
 use Rattle.lift_text.specs.Found.{NoLineFeed}
 use Rattle.lift_text.proofs.TakenLemmas.{gathered_cut}
-use Rattle.lift_text.proofs.PieceLemmas.{begins_in_window, begins_found, found_last}
+use Rattle.lift_text.proofs.PieceLemmas.{begins_in_window, begins_found, found_last, found_one_last, no_whole_front, no_whole_line, none_more, one_line_at, whole_line_at}
 use Rattle.lift_text.proofs.window.Window.find.Goals as goal
 
 pub returns-then-place-len-clause-ok : goal.returns-then-place-len-clause-ok
@@ -37,3 +40,65 @@ returns-in-Limit-clause-taken g c =
       before.0 ++ filled.ok.0 ∷ [],
       gathered_cut _ _ _ _ _ _ _ _ _ before.1 filled.ok.1 (before.2 ∙ sym (filled.kept (λ is. cc))) (omega (arith, filled.quota, c.search.invariant.quota)) (filled.limit refl),
     )
+
+pub returns-then-place-len-clause-one : goal.returns-then-place-len-clause-one
+returns-then-place-len-clause-one g c =
+    let place = c.line_feed_from-place.ensures in
+    let line = c.line_before.ensures in
+    one_line_at c.search.self.unread c.line_feed_from-place.result c.line_before.result (omega arith) place.none (place.found (omega arith)) line.front line.within
+
+pub returns-then-place-len-clause-unasked : goal.returns-then-place-len-clause-unasked
+returns-then-place-len-clause-unasked g c =
+    λ has. (let same = c.search.invariant.unasked has in
+    let place = c.line_feed_from-place.ensures in
+    (same.0, same.1, whole_line_at c.search.self.unread c.line_feed_from-place.result (omega arith) place.none (place.found (omega arith))))
+
+pub returns-in_err-fill-clause-unasked : goal.returns-in_err-fill-clause-unasked
+returns-in_err-fill-clause-unasked g c =
+    let before = c.search.invariant.taken in
+    λ has. absurd (no_whole_front c.args.self.now.unread before.0 c.search.self.unread c.line_feed_from-place.result before.2 (omega arith) c.line_feed_from-place.ensures.none has)
+
+pub returns-in_err-fill-clause-none : goal.returns-in_err-fill-clause-none
+returns-in_err-fill-clause-none g c =
+    let same = err_from_is_err_and c.from_residual.result c.from_residual.ensures.1 in
+    let kept = c.in_err-fill.ensures.kept (λ is. cc) in
+    rw same.1 (subst (λ unread. ¬ HasWholeLine unread) (sym kept) (no_whole_line c.search.self.unread (λ k below. c.line_feed_from-place.ensures.none k (omega arith))))
+
+pub search-preserved : goal.search-preserved
+search-preserved g c =
+    let before = c.search.invariant in
+    let place = c.line_feed_from-place.ensures in
+    let filled = rw c.in-More.is at c.in_ok-fill.ensures in
+    let more = filled.more refl in
+    record {
+      within = search rules;
+      none = none_more c.search.self.unread more.0 c.fill.new.self.unread c.line_feed_from-place.result more.2 place.within place.none;
+      known = before.known ∙ ap (prepend_known c.search.self.unread) more.3 ∙ prepend_known-append c.search.self.unread more.0 _ ∙ ap (λ unread. prepend_known unread (g.S.Source.left c.fill.new.source)) (sym more.2);
+      quota = search rules;
+      taken = (
+        before.taken.0 ++ more.0,
+        given_more _ _ _ before.taken.0 more.0 before.taken.1 more.3,
+        sym (append_assoc c.args.self.now.unread before.taken.0 more.0) ∙ ap (λ l. l ++ more.0) before.taken.2 ∙ sym more.2,
+      );
+      counted = search rules;
+      unasked = λ has. absurd (no_whole_front c.args.self.now.unread before.taken.0 c.search.self.unread c.line_feed_from-place.result before.taken.2 (omega arith) place.none has);
+    }
+
+pub returns-in-End-clause-unasked : goal.returns-in-End-clause-unasked
+returns-in-End-clause-unasked g c =
+    let before = c.search.invariant.taken in
+    λ has. absurd (no_whole_front c.args.self.now.unread before.0 c.search.self.unread c.line_feed_from-place.result before.2 (omega arith) c.line_feed_from-place.ensures.none has)
+
+pub returns-in-End-clause-one : goal.returns-in-End-clause-one
+returns-in-End-clause-one g c =
+    let place = c.line_feed_from-place.ensures in
+    let filled = rw c.in-End.is at c.in_ok-fill.ensures in
+    let kept = filled.kept (λ is. cc) in
+    let whole : c.line_feed_from-place.result ≡ length c.search.self.unread = omega arith in
+    found_one_last c.last_found.result c.fill.new.self.unread c.line_feed_from-place.result c.last_found.ensures.none c.last_found.ensures.line (whole ∙ ap length (sym kept))
+    (subst (λ unread. NoLineFeed unread) (sym kept) (subst (λ n. (k : ℕ) → k < n → get_or c.search.self.unread k 0 ≢ 10) whole place.none))
+
+pub returns-in-Limit-clause-unasked : goal.returns-in-Limit-clause-unasked
+returns-in-Limit-clause-unasked g c =
+    let before = c.search.invariant.taken in
+    λ has. absurd (no_whole_front c.args.self.now.unread before.0 c.search.self.unread c.line_feed_from-place.result before.2 (omega arith) c.line_feed_from-place.ensures.none has)

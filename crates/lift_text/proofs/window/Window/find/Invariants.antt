@@ -1,8 +1,10 @@
 use Rattle.std.proofs.Common.{◌≡◌, ◌≢◌, ℕ, List, ◌++◌, ◌+◌, ◌<◌, ◌≤◌, length, get_or}
 use Rattle.std.specs.Io.KnownBytes.{prepend_known}
+use Rattle.lift_text.specs.Lines.{HasWholeLine}
 use Rattle.lift_text.proofs.window.Window.find.Given as goal
 
--- no LF is among the first `searched` bytes, and nothing of what was left is used
+-- no LF is among the first `searched` bytes, nothing of what was left is used, and the source was not asked where
+-- a whole line was there
 abbrev pub invariant-search : goal.invariant-search
 invariant-search g l = record {
   within : l.searched ≤ length l.self.unread;
@@ -12,6 +14,7 @@ invariant-search g l = record {
   taken : (taken : List ℕ) × (g.S.Source.left l.initial.source ≡ prepend_known taken (g.S.Source.left l.source))
       × (l.initial.self.unread ++ taken ≡ l.self.unread);
   counted : g.S.Source.faults l.initial.source ≤ g.S.Source.faults l.source;
+  unasked : HasWholeLine l.initial.self.unread → (l.source ≡ l.initial.source) × (l.self.unread ≡ l.initial.self.unread);
 }
 
 abbrev pub decreases-search : goal.decreases-search

@@ -1,9 +1,12 @@
-use Rattle.std.proofs.Common.{◌≢◌, ◌+◌, ◌<◌, ◌++◌, ℕ, [], ◌∷◌, length, drop, get_or, arith, ap, sym, subst, ◌∙◌, length-append, refl}
+use Rattle.std.proofs.Common.{◌≢◌, ◌+◌, ◌<◌, ◌++◌, ℕ, [], ◌∷◌, length, drop, get_or, arith, ap, sym, subst, ◌∙◌, length-append, refl, rules, append_assoc, append-nil}
 use Rattle.std.proofs.Math.Seq.{drop-length}
 use Rattle.std.specs.Io.KnownBytes.{prepend_known}
+use Rattle.std.proofs.lemmas.Result.{err_from_is_err_and}
+use Rattle.lift_text.specs.Lines.{HasWholeLine}
+use Rattle.lift_text.proofs.PieceLemmas.{no_whole_line}
 use Rattle.lift_text.specs.Found.{SkippedIn}
 use Rattle.lift_text.specs.declared.window.Skipped.TheVariants.{Whole}
-use Rattle.lift_text.proofs.KnownBytes.{given_more}
+use Rattle.byte_streams.proofs.KnownBytes.{given_more, prepend_known-nil}
 use Rattle.lift_text.proofs.TakenLemmas.{took_last}
 use Rattle.lift_text.proofs.SkipLemmas.{skipped_line, skipped_end, skipped_cut, no_line_feed-append, all_searched}
 use Rattle.lift_text.proofs.window.Window.skip_line.Goals as goal
@@ -42,8 +45,38 @@ skip-preserved g c =
         given_more _ _ _ c.skip.invariant.taken.0 more.0 c.skip.invariant.taken.1 more.3,
         omega (arith, c.skip.invariant.taken.2, filled.quota, c.consume-in-skip.ensures.quota, ap length same, length-append c.skip.invariant.taken.0 more.0, ap length empty),
       );
+      joined = sym (append_assoc c.args.self.now.unread c.skip.invariant.taken.0 more.0) ∙ ap (λ l. l ++ more.0) c.skip.invariant.joined ∙ ap (λ l. (front.0 ++ unread) ++ l) (sym same);
       counted = omega (arith, filled.counted);
     }
+
+pub skip-init : goal.skip-init
+skip-init g c = record {
+  some = search rules;
+  front = ([], λ k below. absurd (omega arith), refl, omega arith);
+  taken = ([], prepend_known-nil _, omega arith);
+  joined = append-nil _;
+  counted = omega arith;
+}
+
+pub returns-in_err-fill-clause-taken : goal.returns-in_err-fill-clause-taken
+returns-in_err-fill-clause-taken g c =
+    let front = c.skip.invariant.front in
+    let taken = c.skip.invariant.taken in
+    let unread = c.skip.self.unread in
+    let filled = c.in_err-fill.ensures in
+    let empty = c.consume-in-skip.ensures.unread ∙ ap (λ n. drop n unread) c.len-len.ensures ∙ drop-length unread in
+    let kept = filled.kept (λ is. cc) ∙ empty in
+    let none = no_line_feed-append front.0 unread front.1 (subst (λ n. (k : ℕ) → k < n → get_or unread k 0 ≢ 10) (all_searched _ _ _ c.if-place-len.false c.line_feed_from-place.ensures.within c.len-len.ensures) c.line_feed_from-place.ensures.none) in
+    let same = err_from_is_err_and c.from_residual.result c.from_residual.ensures.1 in
+    rw same.1 (
+      taken.0,
+      record {
+        given = taken.1 ∙ ap (prepend_known taken.0) (sym filled.err);
+        counted = omega (arith, taken.2, filled.quota, c.consume-in-skip.ensures.quota, ap length empty, ap length kept);
+        spent = λ past. absurd (omega arith);
+      },
+      λ has. no_whole_line (front.0 ++ unread) none (subst HasWholeLine c.skip.invariant.joined has),
+    )
 
 pub returns-in-End-clause-ok : goal.returns-in-End-clause-ok
 returns-in-End-clause-ok g c =
@@ -84,4 +117,5 @@ returns-in-Limit-clause-taken g c =
     let same = filled.kept (λ is. cc) in (
       before.0 ++ filled.ok.0 ∷ [],
       took_last _ _ _ _ _ _ _ before.1 filled.ok.1 (omega (arith, before.2, filled.quota, c.consume-in-skip.ensures.quota, ap length same)) (filled.limit refl),
+      tt,
     )

@@ -12,6 +12,7 @@ invariant-skip g l = record {
       × (l.self.quota + length l.self.unread + length front ≡ l.initial.self.quota + length l.initial.self.unread);
   taken : (taken : List ℕ) × (g.S.Source.left l.initial.source ≡ prepend_known taken (g.S.Source.left l.source))
       × (l.self.quota + length taken ≡ l.initial.self.quota);
+  joined : l.initial.self.unread ++ taken.0 ≡ front.0 ++ l.self.unread;
   counted : g.S.Source.faults l.initial.source ≤ g.S.Source.faults l.source;
 }
 

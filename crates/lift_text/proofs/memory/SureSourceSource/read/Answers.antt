@@ -1,8 +1,0 @@
-use Rattle.std.proofs.Common.{ap, sym, ◌∙◌, Some}
-use Rattle.lift_text.proofs.KnownBytes.{drop-copied}
-use Rattle.lift_text.proofs.memory.SureSourceSource.read.Goals as goal
-
-pub returns-clause-given : goal.returns-clause-given
-returns-clause-given c =
-    let copied = rw c.deref.ensures.value at c.copy_front-count.ensures.front in
-    ap Some (sym c.self.view_is) ∙ ap Some (drop-copied _ _ _ _ copied)
