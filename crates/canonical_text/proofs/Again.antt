@@ -9,7 +9,7 @@ use Rattle.std.proofs.lemmas.Bool.Decides.{Decides-eqb, nat_tests}
 use Rattle.std.proofs.lemmas.Slice.Eq.{slice_eq-Decides}
 use lib.Pointwise.{pointwise}
 use Rattle.std.proofs.lemmas.Fmt.{decimal_by_steps}
-use Rattle.canonical_text.specs.Text.{newline, word, words, line}
+use Rattle.lift_text.specs.Text.{newline, word, words, line}
 use Rattle.canonical_text.specs.Reading.{◌>>=◌, Read, literal_at, digits_at, number_at, short_at, number_line_at, many_at, numbers_line_at}
 
 -- ---- steps

@@ -12,7 +12,8 @@ use Rattle.std.proofs.lemmas.Nat.Bits.{bit_at-lt}
 use Rattle.elevator_model.specs.declared.CarSpec.{CarSpec}
 use Rattle.call_sets.specs.Counting.{has}
 use Rattle.elevator_model.specs.Building.{IsCarSpec}
-use Rattle.canonical_text.specs.Text.{newline, word, words, floors_in, served_words, car_line}
+use Rattle.canonical_text.specs.Text.{floors_in, served_words, car_line}
+use Rattle.lift_text.specs.Text.{newline, word, words}
 use Rattle.canonical_text.specs.Reading.{set_of, served_at, car_at}
 use Rattle.canonical_text.proofs.Again.{IsEnd, IsLong, end_word, literal_again, number_again, short_again, numbers_line_again, words_then}
 

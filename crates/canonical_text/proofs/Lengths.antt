@@ -13,7 +13,8 @@ use Rattle.elevator_model.specs.Travel.{Square}
 use Rattle.call_sets.specs.Counting.{has}
 use Rattle.elevator_model.specs.Building.{Building, IsCarSpec, floor_count}
 use Rattle.elevator_model.specs.Snapshot.{Snapshot, IsSmall, IsCarPlaced, no_call}
-use Rattle.canonical_text.specs.Text.{newline, word, words, line, floors_in, served_words, car_line, state_line, pin_word, call_line, snapshot_text, case_text}
+use Rattle.canonical_text.specs.Text.{floors_in, served_words, car_line, state_line, pin_word, call_line, snapshot_text, case_text}
+use Rattle.lift_text.specs.Text.{newline, word, words, line}
 use Rattle.canonical_text.specs.Case.{IsCase}
 use Rattle.canonical_text.specs.Reading.{BuildingNumbers}
 use Rattle.canonical_text.specs.Numbers.{building_from, snapshot_from, numbers_of, HaveShortIds}

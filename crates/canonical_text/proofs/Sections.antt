@@ -12,7 +12,8 @@ use Rattle.elevator_model.specs.declared.Call.{Call}
 use Rattle.elevator_model.specs.Travel.{Square}
 use Rattle.elevator_model.specs.Building.{Building, IsBuilding, floor_count, car_of, no_car}
 use Rattle.elevator_model.specs.Snapshot.{Snapshot, IsSmall, IsCarPlaced, car_count, call_count, call_of, spec_of, state_of, no_state, no_call}
-use Rattle.canonical_text.specs.Text.{newline, word, words, line, patience_line, car_line, building_text, state_line, pin_word, call_line, snapshot_text, case_text}
+use Rattle.canonical_text.specs.Text.{patience_line, car_line, building_text, state_line, pin_word, call_line, snapshot_text, case_text}
+use Rattle.lift_text.specs.Text.{newline, word, words, line}
 use Rattle.canonical_text.specs.Reading.{weights_at, heights_at, BuildingNumbers, building_at, state_at, call_at, snapshot_at, CaseNumbers, case_at}
 use Rattle.canonical_text.specs.Numbers.{building_from, snapshot_from, numbers_of}
 use Rattle.canonical_text.proofs.Again.{IsLong, IsReadEach, end_word, literal_again, number_again, short_again, number_line_again, numbers_line_again, many_again, words_then, line_then}

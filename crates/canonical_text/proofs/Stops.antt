@@ -2,7 +2,7 @@
 use Rattle.std.proofs.Common.{◌≡◌, ℕ, List, [], ◌∷◌, ◌++◌, map, ap, ◌∙◌, append_assoc}
 use Rattle.std.specs.List.{flat_map}
 use Rattle.std.proofs.lemmas.List.{append-nil}
-use Rattle.canonical_text.specs.Text.{newline, word, words, line}
+use Rattle.lift_text.specs.Text.{newline, word, words, line}
 use Rattle.canonical_text.proofs.Lists.{flat_map-map}
 
 -- a line of a name, a number and the numbers made from others

@@ -9,7 +9,7 @@ use Rattle.elevator_model.specs.declared.CarState.TheVariants.{Idle}
 use Rattle.elevator_model.specs.declared.Call.{Call}
 use Rattle.canonical_text.specs.declared.fault.ReadFault.{ReadFault}
 use Rattle.canonical_text.specs.declared.fault.ReadFault.TheVariants.{NotCanonical, NoMemory}
-use Rattle.canonical_text.specs.Text.{newline}
+use Rattle.lift_text.specs.Text.{newline}
 
 infixl 10 ◌>>=◌
 abbrev pub ◌>>=◌ : {A B : Type 0} → Option A → (A → Option B) → Option B

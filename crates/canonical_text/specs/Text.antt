@@ -13,20 +13,7 @@ use Rattle.elevator_model.specs.Building.{Building, floor_count, car_of}
 use Rattle.elevator_model.specs.Snapshot.{Snapshot, car_count, call_of, spec_of, state_of}
 use Rattle.elevator_model.specs.Plans.{tour_of}
 use Rattle.elevator_model.specs.Partial.{rising_boards}
-
-abbrev pub newline : List ℕ
-newline = 10 ∷ []
-
--- a number after a space
-unfoldable pub word : ℕ → List ℕ
-word n = 32 ∷ decimal n
-
--- a name, and numbers after it
-unfoldable pub words : List ℕ → List ℕ → List ℕ
-words name numbers = name ++ flat_map word numbers
-
-unfoldable pub line : List ℕ → List ℕ → List ℕ
-line name numbers = words name numbers ++ newline
+use Rattle.lift_text.specs.Text.{newline, word, words, line}
 
 -- ---- buildings of version 1 and 2
 

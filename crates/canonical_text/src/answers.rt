@@ -6,11 +6,12 @@ ghost use Rattle.call_sets.specs.Counting.{is_among};
 ghost use Rattle.elevator_model.specs.Snapshot.{car_count, call_of};
 ghost use Rattle.elevator_model.specs.Plans.{tour_of};
 ghost use Rattle.elevator_model.specs.Partial.{rising_boards};
-ghost use Rattle.canonical_text.specs.Text.{word, stop_line, tour_text, tour_texts, answer_text, solved_text};
+ghost use Rattle.canonical_text.specs.Text.{stop_line, tour_text, tour_texts, answer_text, solved_text};
+ghost use Rattle.lift_text.specs.Text.{word};
 
-use crate::writing::{put_line, put_word, put_words};
 use call_state::Snapshot;
 use elevator_model::{Plan, Stop, Tour};
+use lift_text::{put_line, put_word, put_words};
 use std::alloc::{AllocError, Global};
 
 /// Whether the call is one of those that board.

@@ -113,17 +113,17 @@ fn set_of(floors: &[u64]) -> Result<u64, ReadFault>
 }
 
 #[tactic(auto, unfolding(crate::specs::Reading::served_at))]
-fn served_at(alloc: Global, floors: usize, bytes: &[u8]) -> Result<(FloorSet, &[u8]), ReadFault>
+fn served_at(alloc: Global, floors: usize, bytes: &[u8]) -> Result<(u64, &[u8]), ReadFault>
     requires low { 1 ≤ floors }
     requires high { floors ≤ 64 }
     ensures { Gives (λ x. (x.0, x.1.now)) result (served_at floors bytes.now) }
 {
     if bytes.starts_with(b" all") {
         let rest = literal_at(b" all\n", bytes)?;
-        return Ok((FloorSet::lowest(floors as u32), rest));
+        return Ok((FloorSet::lowest(floors as u32).bits(), rest));
     }
     let (numbers, rest) = numbers_line_at(alloc, bytes)?;
-    let set = FloorSet::from_bits(set_of(&numbers)?);
+    let set = set_of(&numbers)?;
     Ok((set, rest))
 }
 
@@ -149,7 +149,7 @@ fn car_at(alloc: Global, floors: usize, bytes: &[u8]) -> Result<(CarSpec, &[u8])
         closing,
         boarding,
         alighting,
-        serves,
+        serves: FloorSet::from_bits(serves),
     };
     Ok((car, rest))
 }
@@ -189,7 +189,10 @@ fn building_at(alloc: Global, bytes: &[u8]) -> Result<(BuildingNumbers, &[u8]), 
     let (accel, rest) = number_line_at(b"accel", rest)?;
     let ((wait_weight, travel_weight), rest) = weights_at(rest)?;
     let (heights, rest) = heights_at(alloc, rest)?;
-    let (car, rest) = car_at(alloc, heights.len(), rest)?;
+    let (car, rest) = match car_at(alloc, heights.len(), rest) {
+        Ok(read) => read,
+        Err(fault) => return Err(fault),
+    };
     let rest = literal_at(b"end\n", rest)?;
     let building = BuildingNumbers {
         speed,

@@ -3,44 +3,13 @@
 ghost use Rattle.std.specs.Prelude.{◌≡◌, ◌++◌, ◌<◌, ◌≤◌, length, OnOk, IfOk};
 ghost use Rattle.std.specs.List.{flat_map};
 ghost use Rattle.std.specs.Option.{ForSome};
-ghost use Rattle.canonical_text.specs.Text.{newline, word, words, line, patience_line, floors_in, served_words, car_line, building_text, moving_words, state_line, state_lines, aboard_line, pin_word, call_line, snapshot_text, case_text};
+ghost use Rattle.canonical_text.specs.Text.{patience_line, floors_in, served_words, car_line, building_text, moving_words, state_line, state_lines, aboard_line, pin_word, call_line, snapshot_text, case_text};
+ghost use Rattle.lift_text.specs.Text.{newline, word, words, line};
 
 use call_sets::FloorSet;
 use call_state::{Aboard, Building, Call, CarSpec, CarState, Snapshot};
-use itoa::Buffer;
+use lift_text::{put_line, put_word, put_words};
 use std::alloc::{AllocError, Global};
-
-/// Writes a number after a space.
-#[tactic(auto, unfolding(crate::specs::Text::word))]
-pub(crate) fn put_word(out: &mut Vec<u8>, number: u64) -> Result<(), AllocError>
-    ensures { OnOk result (out.new.items ≡ out.old.items ++ word number) }
-{
-    let mut buffer = Buffer::new();
-    out.push(b' ')?;
-    out.extend_from_slice(buffer.format(number).as_bytes())
-}
-
-/// Writes a name, and numbers after it.
-#[tactic(auto, unfolding(crate::specs::Text::words))]
-pub(crate) fn put_words(out: &mut Vec<u8>, name: &[u8], numbers: &[u64]) -> Result<(), AllocError>
-    ensures { OnOk result (out.new.items ≡ out.old.items ++ words name.now numbers.now) }
-{
-    out.extend_from_slice(name)?;
-    for number in numbers {
-        put_word(out, *number)?;
-    }
-    Ok(())
-}
-
-/// Writes a line of a name and numbers.
-#[tactic(auto, unfolding(crate::specs::Text::line))]
-pub(crate) fn put_line(out: &mut Vec<u8>, name: &[u8], numbers: &[u64]) -> Result<(), AllocError>
-    ensures { OnOk result (out.new.items ≡ out.old.items ++ line name.now numbers.now) }
-{
-    put_words(out, name, numbers)?;
-    out.push(b'\n')?;
-    Ok(())
-}
 
 /// Writes a patience, which version 1 has not.
 #[tactic(auto, unfolding(crate::specs::Text::patience_line))]
@@ -157,8 +126,8 @@ fn put_states(out: &mut Vec<u8>, snapshot: &Snapshot) -> Result<(), AllocError>
     ensures { OnOk result (out.new.items ≡ out.old.items ++ state_lines snapshot.now) }
 {
     let cars = snapshot.building().cars();
-    for c in 0..cars.len() {
-        put_state(out, cars[c].id, snapshot.car(c as u32))?;
+    for c in 0..cars.len() as u32 {
+        put_state(out, snapshot.spec(c).id, snapshot.car(c))?;
     }
     Ok(())
 }

@@ -3,8 +3,8 @@
 
 ghost use Rattle.std.specs.Prelude.{◌≡◌, IfErr};
 
-use lift_commands::{Status, run};
 use byte_streams::{OpenGate, StdSink, StdSource};
+use lift_commands::{Status, run};
 use std::process::ExitCode;
 use std::{env, io};
 
@@ -25,6 +25,7 @@ fn main(rt: HostRuntime) -> ExitCode {
     let mut sink = StdSink::new(io::writer(&rt));
     let status = match words(&rt) {
         Ok(words) => run(
+            &rt,
             rt.alloc(),
             words.as_slice(),
             &mut source,

@@ -10,10 +10,12 @@ ghost use Rattle.lift_commands.specs.Outcome.{IsOutcome, IsSolution, Puts, strea
 
 use crate::status::Status;
 use crate::words::are_taken;
-use canonical_text::{ReadFault, read_case, write_solved};
 use byte_streams::{Gate, Sink, Source, put_all, read_full};
+use canonical_text::{ReadFault, read_case, write_solved};
 use plain_solver::cheapest_plan;
 use std::alloc::{AllocError, Global};
+use std::marker::Sync;
+use std::thread::Threads;
 
 /// One byte more than the longest text that can be solved yet.
 const MOST_BYTES: usize = 4097;
@@ -57,6 +59,7 @@ fn put<K: Sink>(sink: &mut K, text: &[u8], status: Status) -> Status
 /// The words `solve --brief` alone are taken yet, and of the cases the canonical texts of small
 /// snapshots: one idle car, nobody aboard, at most three open calls. At most 4,097 bytes are read.
 pub fn run<S: Source, K: Sink, G: Gate + Sync>(
+    _rt: &(impl Threads + Sync),
     alloc: Global,
     words: &[String],
     source: &mut S,

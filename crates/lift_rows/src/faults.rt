@@ -1,6 +1,6 @@
 use crate::solve::{case, words};
-use lift_commands::{Status, run};
 use byte_streams::{MemorySink, MemorySource, OpenGate, SureSink};
+use lift_commands::{Status, run};
 use std::test::Fail;
 
 #[test]
@@ -11,7 +11,14 @@ fn a_failing_read_writes_nothing(rt: HostRuntime) -> Result<(), Fail> {
     let bytes = input.as_bytes().to_vec(alloc)?;
     let mut source = MemorySource::new(bytes, 4096, [1].to_vec(alloc)?);
     let mut sink = SureSink::new(alloc, 8192)?;
-    let status = run(alloc, words.as_slice(), &mut source, &mut sink, &OpenGate);
+    let status = run(
+        &rt,
+        alloc,
+        words.as_slice(),
+        &mut source,
+        &mut sink,
+        &OpenGate,
+    );
     assert_eq!(rt; status, Status::Read);
     assert_eq!(rt; sink.taken().len(), 0);
     Ok(())
@@ -25,7 +32,14 @@ fn a_failing_write_leaves_a_prefix(rt: HostRuntime) -> Result<(), Fail> {
     let bytes = input.as_bytes().to_vec(alloc)?;
     let mut source = MemorySource::new(bytes, 4096, Vec::new(alloc));
     let mut sink = MemorySink::new(alloc, 8192, 3, [2].to_vec(alloc)?)?;
-    let status = run(alloc, words.as_slice(), &mut source, &mut sink, &OpenGate);
+    let status = run(
+        &rt,
+        alloc,
+        words.as_slice(),
+        &mut source,
+        &mut sink,
+        &OpenGate,
+    );
     assert_eq!(rt; status, Status::Write);
     assert_eq!(rt; sink.taken(), b"ans".as_slice());
     Ok(())

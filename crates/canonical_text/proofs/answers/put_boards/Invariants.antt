@@ -2,7 +2,7 @@ use Rattle.std.proofs.Common.{◌≡◌, ◌++◌}
 use Rattle.std.specs.List.{flat_map, filter, range_with_len}
 use Rattle.call_sets.specs.Counting.{is_among}
 use Rattle.elevator_model.specs.Snapshot.{call_of}
-use Rattle.canonical_text.specs.Text.{word}
+use Rattle.lift_text.specs.Text.{word}
 use Rattle.canonical_text.proofs.answers.put_boards.Given as goal
 
 abbrev pub invariant-loop-j : goal.invariant-loop-j

@@ -1,15 +1,15 @@
 use Rattle.std.proofs.Common.{sym, ◌∙◌}
 use Rattle.call_sets.specs.Counting.{has}
-use Rattle.canonical_text.specs.Text.{word}
+use Rattle.lift_text.specs.Text.{word}
 use Rattle.canonical_text.proofs.Lists.{wrote_passed, text_of_failed}
 use Rattle.canonical_text.proofs.writing.put_floors.Goals as goal
-use Rattle.canonical_text.proofs.writing.put_floors.Goals.{then-has_floor+in_ok-put_word, else-has_floor}
+use Rattle.canonical_text.proofs.writing.put_floors.Goals.{then-contains+in_ok-put_word, else-contains}
 
 pub loop-floor-preserved : goal.loop-floor-preserved
 loop-floor-preserved c =
-    elim c.if-has_floor.branch [
-      | then-has_floor+in_ok-put_word w ↦
-          rw w.out-is (wrote_passed (has c.args.set) word c.args.out.now.items c.loop-floor.out.items w.put_word.new.out.items c.loop-floor.floor c.loop-floor.invariant w.in_ok-put_word.ensures (sym c.has_floor.ensures ∙ w.if-has_floor.true))
-      | else-has_floor w ↦
-          rw w.out-is (c.loop-floor.invariant ∙ text_of_failed (has c.args.set) word c.args.out.now.items c.loop-floor.floor (sym c.has_floor.ensures ∙ w.if-has_floor.false))
+    elim c.if-contains.branch [
+      | then-contains+in_ok-put_word w ↦
+          rw w.out-is (wrote_passed (has c.args.set) word c.args.out.now.items c.loop-floor.out.items w.put_word.new.out.items c.loop-floor.floor c.loop-floor.invariant w.in_ok-put_word.ensures.ok (sym c.contains.ensures ∙ w.if-contains.true))
+      | else-contains w ↦
+          rw w.out-is (c.loop-floor.invariant ∙ text_of_failed (has c.args.set) word c.args.out.now.items c.loop-floor.floor (sym c.contains.ensures ∙ w.if-contains.false))
     ]

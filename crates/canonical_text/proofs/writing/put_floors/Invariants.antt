@@ -1,6 +1,7 @@
 use Rattle.std.proofs.Common.{◌≡◌, ◌++◌}
 use Rattle.std.specs.List.{flat_map}
-use Rattle.canonical_text.specs.Text.{word, floors_in}
+use Rattle.canonical_text.specs.Text.{floors_in}
+use Rattle.lift_text.specs.Text.{word}
 use Rattle.canonical_text.proofs.writing.put_floors.Given as goal
 
 abbrev pub invariant-loop-floor : goal.invariant-loop-floor

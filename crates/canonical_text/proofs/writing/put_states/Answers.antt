@@ -1,5 +1,4 @@
-use Rattle.std.proofs.Common.{◌≡◌, get_or, refl}
-use Rattle.elevator_model.specs.Building.{no_car}
+use Rattle.std.proofs.Common.{◌≡◌, refl}
 use Rattle.elevator_model.specs.Snapshot.{spec_of, state_of}
 use Rattle.canonical_text.specs.Text.{state_line}
 use Rattle.canonical_text.proofs.Lists.{wrote_one}
@@ -8,6 +7,6 @@ use Rattle.canonical_text.proofs.writing.put_states.Goals as goal
 pub loop-c-preserved : goal.loop-c-preserved
 loop-c-preserved c =
     let s = c.args.snapshot.now in
-    let line : state_line (get_or c.cars-cars.result.now c.loop-c.c no_car).id c.car.result ≡ state_line (spec_of s c.loop-c.c).id (state_of s c.loop-c.c) =
-    rw (c.cars-cars.ensures.value, c.building.ensures.value, c.car.ensures.value) refl in
+    let line : state_line c.spec.result.now.id c.car.result ≡ state_line (spec_of s c.loop-c.c).id (state_of s c.loop-c.c) =
+    rw (c.spec.ensures.value, c.car.ensures.value) refl in
     wrote_one (λ k. state_line (spec_of s k).id (state_of s k)) c.args.out.now.items c.loop-c.out.items c.put_state.new.out.items _ c.loop-c.c c.loop-c.invariant c.in_ok-put_state.ensures line
