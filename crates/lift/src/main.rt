@@ -3,8 +3,8 @@
 
 ghost use Rattle.std.specs.Prelude.{◌≡◌, IfErr};
 
-use lift_commands::{Status, run};
 use byte_streams::{OpenGate, StdSink, StdSource};
+use lift_commands::{Status, run};
 use std::process::ExitCode;
 use std::{env, io};
 

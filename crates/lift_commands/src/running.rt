@@ -10,8 +10,8 @@ ghost use Rattle.lift_commands.specs.Outcome.{IsOutcome, IsSolution, Puts, strea
 
 use crate::status::Status;
 use crate::words::are_taken;
-use canonical_text::{ReadFault, read_case, write_solved};
 use byte_streams::{Gate, Sink, Source, put_all, read_full};
+use canonical_text::{ReadFault, read_case, write_solved};
 use plain_solver::cheapest_plan;
 use std::alloc::{AllocError, Global};
 

@@ -1,6 +1,6 @@
 use crate::solve::{case, words};
-use lift_commands::{Status, run};
 use byte_streams::{MemorySink, MemorySource, OpenGate, SureSink};
+use lift_commands::{Status, run};
 use std::test::Fail;
 
 #[test]

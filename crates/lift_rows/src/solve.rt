@@ -1,5 +1,5 @@
-use lift_commands::{Status, run};
 use byte_streams::{MemorySource, OpenGate, SureSink};
+use lift_commands::{Status, run};
 use std::alloc::Global;
 use std::test::Fail;
 
