@@ -8,3 +8,4 @@ pub mod Plans
 pub mod Partial
 pub mod Worked
 pub mod Printed
+pub mod Equal

@@ -406,8 +406,24 @@ impl Boards {
     }
 }
 
+impl PartialEq for Boards {
+    ghost use Rattle.std.specs.Prelude.{◌==◌};
+    ghost use Rattle.std.specs.Cmp.Rules.{comparing};
+    ghost use Rattle.std.proofs.Common.{rules};
+    ghost use Rattle.std.specs.Cmp.Lexicographic.{pointwise};
+
+    ghost eq = { pointwise ◌==◌ };
+
+    ghost laws = { Prim.search (comparing, rules) };
+
+    /// Whether the same calls stand in the same order.
+    fn eq(&self, other: &Boards) -> bool {
+        self.calls == other.calls
+    }
+}
+
 /// A stop of a tour: a floor, and the calls that board there.
-#[derive(Debug, Drop)]
+#[derive(Debug, Drop, PartialEq)]
 pub struct Stop {
     pub floor: u32,
     pub boards: Boards,
@@ -492,6 +508,20 @@ impl Tour {
     }
 }
 
+impl PartialEq for Tour {
+    ghost use Rattle.std.specs.Cmp.Lexicographic.{pointwise, lists_per};
+    ghost use Rattle.elevator_model.specs.Equal.{same_stop, same_stop_law};
+
+    ghost eq = { pointwise same_stop };
+
+    ghost laws = { lists_per same_stop_law };
+
+    /// Whether the stops are the same, one by one.
+    fn eq(&self, other: &Tour) -> bool {
+        self.stops == other.stops
+    }
+}
+
 /// One tour per car, in the building's order.
 #[derive(Debug, Drop)]
 pub struct Plan {
@@ -505,6 +535,20 @@ impl Model for Plan {
     ghost Value = { List (List Stop) };
 
     ghost view = { λ p. p.tours.items };
+}
+
+impl PartialEq for Plan {
+    ghost use Rattle.std.specs.Cmp.Lexicographic.{pointwise, lists_per};
+    ghost use Rattle.elevator_model.specs.Equal.{same_stop, same_stop_law};
+
+    ghost eq = { pointwise (pointwise same_stop) };
+
+    ghost laws = { lists_per (lists_per same_stop_law) };
+
+    /// Whether the tours are the same, one by one.
+    fn eq(&self, other: &Plan) -> bool {
+        self.tours == other.tours
+    }
 }
 
 impl Plan {
