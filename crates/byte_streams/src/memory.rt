@@ -65,15 +65,19 @@ impl Source for MemorySource {
 
     fn read(&mut self, into: &mut [u8]) -> Result<usize, SourceFault>
         ensures bound { IfOk result (λ count. count ≤ length into.new) }
-        ensures given { IfOk result (λ count. Some self.old.left ≡ prepend_known (take count into.new) (Some self.new.left)) }
-        ensures end { IfOk result (λ count. count ≡ 0 → 0 < length into.new → IsAtEnd (Some self.new.left)) }
+        ensures given { IfOk result
+            (λ count. Some self.old.left ≡ prepend_known (take count into.new)
+            (Some self.new.left)) }
+        ensures end { IfOk result (λ count. count ≡ 0 → 0 < length into.new
+            → IsAtEnd (Some self.new.left)) }
         ensures kept { OnErr result (Some self.new.left ≡ Some self.old.left) }
         ensures counted { self.old.faults ≤ self.new.faults }
         ensures fault { OnErr result (Rose self.old.faults self.new.faults) }
 
         // The reads that are listed fail, and no others.
         ensures listed { IsErr result ↔ Contains self.old.failing (self.old.reads + 1) }
-        ensures count { IfOk result (λ count. count ≡ min self.old.each (min (length into.old) (length self.old.left))) }
+        ensures count { IfOk result
+            (λ count. count ≡ min self.old.each (min (length into.old) (length self.old.left))) }
         ensures ok { OnOk result (self.new.faults ≡ self.old.faults) }
         ensures err { OnErr result (self.new.faults ≡ self.old.faults + 1) }
         ensures reads { self.new.reads ≡ min (self.old.reads + 1) last_count }
@@ -125,8 +129,10 @@ impl Source for SureSource {
 
     fn read(&mut self, into: &mut [u8]) -> Result<usize, SourceFault>
         ensures bound { IfOk result (λ count. count ≤ length into.new) }
-        ensures given { IfOk result (λ count. Some self.old ≡ prepend_known (take count into.new) (Some self.new)) }
-        ensures end { IfOk result (λ count. count ≡ 0 → 0 < length into.new → IsAtEnd (Some self.new)) }
+        ensures given { IfOk result
+            (λ count. Some self.old ≡ prepend_known (take count into.new) (Some self.new)) }
+        ensures end { IfOk result (λ count. count ≡ 0 → 0 < length into.new
+            → IsAtEnd (Some self.new)) }
         ensures sure { IsOk result }
         ensures count { IfOk result (λ count. count ≡ min (length into.old) (length self.old)) }
     {
@@ -211,16 +217,23 @@ impl Sink for MemorySink {
     fn write(&mut self, piece: &[u8]) -> Result<usize, SinkFault>
         ensures bound { IfOk result (λ count. count ≤ length piece.now) }
         ensures progress { IfOk result (λ count. 0 < length piece.now → 0 < count) }
-        ensures gained { IfOk result (λ count. Some self.new.taken ≡ append_known (Some self.old.taken) (take count piece.now)) }
+        ensures gained { IfOk result
+            (λ count. Some self.new.taken ≡ append_known (Some self.old.taken)
+            (take count piece.now)) }
         ensures kept { OnErr result (Some self.new.taken ≡ Some self.old.taken) }
         ensures counted { self.old.faults ≤ self.new.faults }
         ensures fault { OnErr result (Rose self.old.faults self.new.faults) }
 
         // The writes that are listed fail, those of a piece that finds no room, and no others.
-        ensures fails { IsErr result ↔ (Contains self.old.failing (self.old.writes + 1) ⊎ ((0 < length piece.now) × (self.old.room ≡ 0))) }
-        ensures count { IfOk result (λ count. count ≡ min (length piece.now) (min self.old.each self.old.room)) }
-        ensures ok { IfOk result (λ count. (self.new.room + count ≡ self.old.room) × (self.new.faults ≡ self.old.faults)) }
-        ensures err { OnErr result ((self.new.room ≡ self.old.room) × (self.new.faults ≡ min (self.old.faults + 1) last_count)) }
+        ensures fails { IsErr result
+            ↔ (Contains self.old.failing (self.old.writes + 1)
+            ⊎ ((0 < length piece.now) × (self.old.room ≡ 0))) }
+        ensures count { IfOk result
+            (λ count. count ≡ min (length piece.now) (min self.old.each self.old.room)) }
+        ensures ok { IfOk result (λ count. (self.new.room + count ≡ self.old.room)
+            × (self.new.faults ≡ self.old.faults)) }
+        ensures err { OnErr result ((self.new.room ≡ self.old.room)
+            × (self.new.faults ≡ min (self.old.faults + 1) last_count)) }
         ensures writes { self.new.writes ≡ min (self.old.writes + 1) last_count }
         ensures each { self.new.each ≡ self.old.each }
         ensures failing { self.new.failing ≡ self.old.failing }
@@ -292,7 +305,9 @@ impl Sink for SureSink {
     fn write(&mut self, piece: &[u8]) -> Result<usize, SinkFault>
         ensures bound { IfOk result (λ count. count ≤ length piece.now) }
         ensures progress { IfOk result (λ count. 0 < length piece.now → 0 < count) }
-        ensures gained { IfOk result (λ count. Some self.new.taken ≡ append_known (Some self.old.taken) (take count piece.now)) }
+        ensures gained { IfOk result
+            (λ count. Some self.new.taken ≡ append_known (Some self.old.taken)
+            (take count piece.now)) }
         ensures kept { OnErr result (Some self.new.taken ≡ Some self.old.taken) }
         ensures counted { self.old.faults ≤ self.new.faults }
         ensures fault { OnErr result (Rose self.old.faults self.new.faults) }
@@ -300,8 +315,10 @@ impl Sink for SureSink {
         // A write fails where a piece finds no room, and nowhere else.
         ensures fails { IsErr result ↔ ((0 < length piece.now) × (self.old.room ≡ 0)) }
         ensures count { IfOk result (λ count. count ≡ min (length piece.now) self.old.room) }
-        ensures ok { IfOk result (λ count. (self.new.room + count ≡ self.old.room) × (self.new.faults ≡ self.old.faults)) }
-        ensures err { OnErr result ((self.new.room ≡ self.old.room) × (self.new.faults ≡ min (self.old.faults + 1) last_count)) }
+        ensures ok { IfOk result (λ count. (self.new.room + count ≡ self.old.room)
+            × (self.new.faults ≡ self.old.faults)) }
+        ensures err { OnErr result ((self.new.room ≡ self.old.room)
+            × (self.new.faults ≡ min (self.old.faults + 1) last_count)) }
     {
         if self.room == 0 && !piece.is_empty() {
             self.faults = self.faults.saturating_add(1);

@@ -30,7 +30,8 @@ pub trait Sink {
     fn write(&mut self, piece: &[u8]) -> Result<usize, SinkFault>
         ensures bound { IfOk result (λ count. count ≤ length piece.now) }
         ensures progress { IfOk result (λ count. 0 < length piece.now → 0 < count) }
-        ensures gained { IfOk result (λ count. taken self.new ≡ append_known (taken self.old) (take count piece.now)) }
+        ensures gained { IfOk result
+            (λ count. taken self.new ≡ append_known (taken self.old) (take count piece.now)) }
         ensures kept { OnErr result (taken self.new ≡ taken self.old) }
         ensures counted { faults self.old ≤ faults self.new }
         ensures fault { OnErr result (Rose (faults self.old) (faults self.new)) };

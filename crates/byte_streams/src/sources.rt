@@ -30,8 +30,10 @@ pub trait Source {
     /// count of faults rose.
     fn read(&mut self, into: &mut [u8]) -> Result<usize, SourceFault>
         ensures bound { IfOk result (λ count. count ≤ length into.new) }
-        ensures given { IfOk result (λ count. left self.old ≡ prepend_known (take count into.new) (left self.new)) }
-        ensures end { IfOk result (λ count. count ≡ 0 → 0 < length into.new → IsAtEnd (left self.new)) }
+        ensures given { IfOk result
+            (λ count. left self.old ≡ prepend_known (take count into.new) (left self.new)) }
+        ensures end { IfOk result (λ count. count ≡ 0 → 0 < length into.new
+            → IsAtEnd (left self.new)) }
         ensures kept { OnErr result (left self.new ≡ left self.old) }
         ensures counted { faults self.old ≤ faults self.new }
         ensures fault { OnErr result (Rose (faults self.old) (faults self.new)) };

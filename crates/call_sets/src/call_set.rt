@@ -128,8 +128,10 @@ impl CallSet {
 
     /// The least member.
     pub fn least(self) -> Option<u32>
-        ensures member { MatchOption result ((k : ℕ) → has self k ≡ false) (λ call. (has self call ≡ true) × (call < 128)) }
-        ensures least { MatchOption result (self ≡ 0) (λ call. (k : ℕ) → k < call → has self k ≡ false) }
+        ensures member { MatchOption result ((k : ℕ) → has self k ≡ false)
+            (λ call. (has self call ≡ true) × (call < 128)) }
+        ensures least { MatchOption result (self ≡ 0) (λ call. (k : ℕ) → k < call
+            → has self k ≡ false) }
     {
         if self.bits == 0 {
             return None;

@@ -128,8 +128,10 @@ impl CarSet {
 
     /// The least member.
     pub fn least(self) -> Option<u32>
-        ensures member { MatchOption result ((k : ℕ) → has self k ≡ false) (λ car. (has self car ≡ true) × (car < 16)) }
-        ensures least { MatchOption result (self ≡ 0) (λ car. (k : ℕ) → k < car → has self k ≡ false) }
+        ensures member { MatchOption result ((k : ℕ) → has self k ≡ false)
+            (λ car. (has self car ≡ true) × (car < 16)) }
+        ensures least { MatchOption result (self ≡ 0) (λ car. (k : ℕ) → k < car
+            → has self k ≡ false) }
     {
         if self.bits == 0 {
             return None;

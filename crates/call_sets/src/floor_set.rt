@@ -164,8 +164,10 @@ impl FloorSet {
 
     /// The least member.
     pub fn least(self) -> Option<u32>
-        ensures member { MatchOption result ((k : ℕ) → has self k ≡ false) (λ floor. (has self floor ≡ true) × (floor < 64)) }
-        ensures least { MatchOption result (self ≡ 0) (λ floor. (k : ℕ) → k < floor → has self k ≡ false) }
+        ensures member { MatchOption result ((k : ℕ) → has self k ≡ false)
+            (λ floor. (has self floor ≡ true) × (floor < 64)) }
+        ensures least { MatchOption result (self ≡ 0) (λ floor. (k : ℕ) → k < floor
+            → has self k ≡ false) }
     {
         if self.bits == 0 {
             return None;

@@ -25,7 +25,9 @@ fn are_apart(floor: u32, one: u32, other: u32) -> bool
 
 /// Whether a group of the car goes to the other side of the floor than this destination.
 fn any_apart(groups: &[Aboard], car: u32, floor: u32, destination: u32) -> bool
-    ensures { result ≡ list_any (λ (x : Aboard). (x.car == car) && are_apart_lem floor x.destination destination) groups.now }
+    ensures { result ≡ list_any
+        (λ (x : Aboard).
+        (x.car == car) && are_apart_lem floor x.destination destination) groups.now }
 {
     groups.iter().any(|group| group.car == car && are_apart(floor, group.destination, destination))
 }

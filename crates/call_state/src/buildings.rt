@@ -84,7 +84,9 @@ impl Building {
 
     /// The index of the car with this id, and `None` exactly where no car has it.
     pub fn car_of(&self, id: u32) -> Option<u32>
-        ensures car { MatchOption result ((c : ℕ) → c < length self.now.cars → (car_of self.now c).id ≡ id → ⊥) (λ c. (c < length self.now.cars) × ((car_of self.now c).id ≡ id)) }
+        ensures car { MatchOption result ((c : ℕ) → c < length self.now.cars
+            → (car_of self.now c).id ≡ id → ⊥) (λ c. (c < length self.now.cars)
+            × ((car_of self.now c).id ≡ id)) }
         ensures building { IsBuilding self.now }
     {
         match self.ids.place_of(id) {

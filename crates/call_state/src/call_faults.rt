@@ -31,7 +31,8 @@ fn has_call(calls: &[Call], id: u32) -> bool
 
 /// Whether some car of the building can take the call.
 fn any_can_take(building: &Building, call: &Call) -> bool
-    ensures { result ≡ any_below (length building.now.cars) (λ c. can_take building.now c call.now) }
+    ensures { result ≡ any_below (length building.now.cars)
+        (λ c. can_take building.now c call.now) }
 {
     let mut found = false;
     for car in 0..building.cars().len() as u32 {

@@ -225,7 +225,9 @@ impl Snapshot {
 
     /// The index of the open call with this id, and `None` exactly where no call has it.
     pub fn call_of(&self, id: u32) -> Option<u32>
-        ensures call { MatchOption result ((j : ℕ) → j < call_count self.now → (call_of self.now j).id ≡ id → ⊥) (λ j. (j < call_count self.now) × ((call_of self.now j).id ≡ id)) }
+        ensures call { MatchOption result ((j : ℕ) → j < call_count self.now
+            → (call_of self.now j).id ≡ id → ⊥) (λ j. (j < call_count self.now)
+            × ((call_of self.now j).id ≡ id)) }
         ensures accepted { IsAccepted self.now }
     {
         match self.ids.place_of(id) {

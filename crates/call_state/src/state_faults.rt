@@ -94,7 +94,8 @@ pub fn is_open(building: &Building, car: u32, now: u64, state: CarState, floor: 
 
 /// Whether a floor is open for the state.
 fn any_open(building: &Building, car: u32, now: u64, state: CarState) -> bool
-    ensures { result ≡ any_below (floor_count building.now) (is_open_lem building.now car now state) }
+    ensures { result ≡ any_below (floor_count building.now)
+        (is_open_lem building.now car now state) }
 {
     let mut found = false;
     for floor in 0..building.heights().len() as u32 {

@@ -13,7 +13,8 @@ fn is_unmoving(state: CarState) -> bool
 
 /// Whether no car is moving.
 pub(crate) fn are_unmoving(states: &[CarState]) -> bool
-    ensures { IsTrue result ↔ ((c : ℕ) → c < length states.now → IsUnmoving (slice_index_or states.now c no_state)) }
+    ensures { IsTrue result
+        ↔ ((c : ℕ) → c < length states.now → IsUnmoving (slice_index_or states.now c no_state)) }
 {
     for state in states {
         if !is_unmoving(*state) {
@@ -25,7 +26,8 @@ pub(crate) fn are_unmoving(states: &[CarState]) -> bool
 
 /// Whether each group's car is one of so many.
 pub(crate) fn ride_in_cars(groups: &[Aboard], cars: usize) -> bool
-    ensures { IsTrue result ↔ ((k : ℕ) → k < length groups.now → (slice_index_or groups.now k no_group).car < cars) }
+    ensures { IsTrue result
+        ↔ ((k : ℕ) → k < length groups.now → (slice_index_or groups.now k no_group).car < cars) }
 {
     for group in groups {
         if group.car as usize >= cars {
@@ -46,7 +48,9 @@ fn is_free_or_below(pin: Option<u32>, cars: usize) -> bool
 
 /// Whether each pin is one of so many cars.
 pub(crate) fn are_pinned_to_cars(calls: &[Call], cars: usize) -> bool
-    ensures { IsTrue result ↔ ((j : ℕ) → j < length calls.now → IfSome (slice_index_or calls.now j no_call).pin (λ c. c < cars)) }
+    ensures { IsTrue result
+        ↔ ((j : ℕ) → j < length calls.now → IfSome (slice_index_or calls.now j no_call).pin
+        (λ c. c < cars)) }
 {
     for call in calls {
         if !is_free_or_below(call.pin, cars) {

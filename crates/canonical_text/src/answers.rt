@@ -46,7 +46,8 @@ fn put_stop(out: &mut Vec<u8>, snapshot: &Snapshot, stop: &Stop) -> Result<(), A
 }
 
 fn put_stops(out: &mut Vec<u8>, snapshot: &Snapshot, stops: &[Stop]) -> Result<(), AllocError>
-    ensures { OnOk result (out.new.items ≡ out.old.items ++ flat_map (stop_line snapshot.now) stops.now) }
+    ensures { OnOk result
+        (out.new.items ≡ out.old.items ++ flat_map (stop_line snapshot.now) stops.now) }
 {
     for stop in stops {
         put_stop(out, snapshot, stop)?;
@@ -85,7 +86,8 @@ fn put_answer(
     bound: u64,
 ) -> Result<(), AllocError>
     requires { length plan.now ≡ car_count snapshot.now }
-    ensures { OnOk result (out.new.items ≡ out.old.items ++ answer_text snapshot.now plan.now cost bound) }
+    ensures { OnOk result
+        (out.new.items ≡ out.old.items ++ answer_text snapshot.now plan.now cost bound) }
 {
     put_line(out, b"answer", &[1])?;
     put_line(out, b"cost", &[cost])?;

@@ -18,7 +18,8 @@ use car_motion::travel_of;
 use std::alloc::{AllocError, Global};
 
 fn are_low(heights: &[u64]) -> bool
-    ensures { IsTrue result ↔ ((f : ℕ) → f < length heights.now → slice_index heights.now f ≤ 1000000) }
+    ensures { IsTrue result
+        ↔ ((f : ℕ) → f < length heights.now → slice_index heights.now f ≤ 1000000) }
 {
     heights.iter().all(|height| *height <= 1_000_000)
 }
@@ -67,8 +68,10 @@ fn building_of(
     numbers: BuildingNumbers,
     travel: Travel,
 ) -> Result<Building, ReadFault>
-    ensures value { IfOk result (λ building. building ≡ building_from (building_view numbers) travel) }
-    ensures refused { result ≡ Err NotCanonical → IsBuilding (building_from (building_view numbers) travel) → ⊥ }
+    ensures value { IfOk result
+        (λ building. building ≡ building_from (building_view numbers) travel) }
+    ensures refused { result ≡ Err NotCanonical
+        → IsBuilding (building_from (building_view numbers) travel) → ⊥ }
 {
     let cars = only(alloc, numbers.car)?;
     let parts = BuildingParts {
@@ -91,7 +94,8 @@ fn building_of(
 }
 
 fn are_unpinned(calls: &[Call]) -> bool
-    ensures { IsTrue result ↔ ((j : ℕ) → j < length calls.now → (slice_index_or calls.now j no_call).pin ≡ None) }
+    ensures { IsTrue result
+        ↔ ((j : ℕ) → j < length calls.now → (slice_index_or calls.now j no_call).pin ≡ None) }
 {
     for call in calls {
         if call.pin.is_some() {
@@ -116,9 +120,11 @@ fn snapshot_of(
     numbers: SnapshotNumbers,
 ) -> Result<Snapshot, ReadFault>
     requires { length building.cars ≡ 1 }
-    ensures value { IfOk result (λ snapshot. snapshot ≡ snapshot_in building (snapshot_view numbers)) }
+    ensures value { IfOk result
+        (λ snapshot. snapshot ≡ snapshot_in building (snapshot_view numbers)) }
     ensures small { IfOk result IsSmall }
-    ensures refused { result ≡ Err NotCanonical → IsSmall (snapshot_in building (snapshot_view numbers)) → ⊥ }
+    ensures refused { result ≡ Err NotCanonical
+        → IsSmall (snapshot_in building (snapshot_view numbers)) → ⊥ }
 {
     if !may_be_small(&numbers) {
         return Err(ReadFault::NotCanonical);
@@ -142,7 +148,8 @@ fn snapshot_of(
 /// The small snapshot with these numbers.
 fn case_of(alloc: Global, numbers: CaseNumbers) -> Result<Snapshot, ReadFault>
     ensures made { IfOk result (IsCaseOf (case_view numbers)) }
-    ensures refused { result ≡ Err NotCanonical → (s : SnapshotRecord) → IsCaseOf (case_view numbers) s → ⊥ }
+    ensures refused { result ≡ Err NotCanonical → (s : SnapshotRecord)
+        → IsCaseOf (case_view numbers) s → ⊥ }
 {
     let CaseNumbers { building, snapshot } = numbers;
     if !has_travel(&building) {
@@ -160,9 +167,11 @@ fn case_of(alloc: Global, numbers: CaseNumbers) -> Result<Snapshot, ReadFault>
 /// It answers `NotCanonical` exactly where the bytes are not such a text. None is over 4,096 bytes.
 pub fn read_case(alloc: Global, bytes: &[u8]) -> Result<Snapshot, ReadFault>
     ensures read { IfOk result (λ snapshot. IsCase snapshot bytes.now) }
-    ensures only { (s : SnapshotRecord) → IsCase s bytes.now → IfOk result (λ snapshot. snapshot ≡ s) }
+    ensures only { (s : SnapshotRecord) → IsCase s bytes.now
+        → IfOk result (λ snapshot. snapshot ≡ s) }
     ensures short { IfOk result (λ _. length bytes.now ≤ 4096) }
-    ensures not_canonical { result ≡ Err NotCanonical → (s : SnapshotRecord) → IsCase s bytes.now → ⊥ }
+    ensures not_canonical { result ≡ Err NotCanonical → (s : SnapshotRecord) → IsCase s bytes.now
+        → ⊥ }
 {
     let numbers = case_at(alloc, bytes)?;
     let snapshot = case_of(alloc, numbers)?;

@@ -10,12 +10,12 @@ ghost use Rattle.std.specs.Prelude.{◌≡◌, ◌↔◌, ◌≤◌, ℕ, List, 
 
 mod limits;
 
-pub use limits::{
-    LATEST_MOMENT, LONGEST_WORK, MOST_CALL_COST, MOST_CALLS, MOST_CARS, MOST_COST, MOST_FLOORS,
-    MOST_GROUPS_COST, MOST_MOVES, MOST_NEXT_MOVES, MOST_STOP_TIME, most_calls, most_cars,
-};
-
 use call_sets::FloorSet;
+pub use limits::{
+    LATEST_MOMENT, LONGEST_WORK, MOMENT_LIMIT, MOST_CALL_COST, MOST_CALLS, MOST_CARS, MOST_COST,
+    MOST_FLOORS, MOST_GROUPS_COST, MOST_MOVES, MOST_NEXT_MOVES, MOST_STOP_TIME, most_calls,
+    most_cars,
+};
 use std::alloc::{AllocError, AllocFailed, Global};
 use std::fmt;
 use std::marker::Model;
@@ -147,9 +147,7 @@ impl Call {
     pub fn is_later_in_queue(&self, other: &Call) -> bool
         ensures { result ≡ is_later_in_queue self.now other.now }
     {
-        self.origin == other.origin
-            && self.is_upward() == other.is_upward()
-            && self.is_later(other)
+        self.origin == other.origin && self.is_upward() == other.is_upward() && self.is_later(other)
     }
 }
 

@@ -10,7 +10,7 @@ pub const MOST_FLOORS: u32 = 64;
 pub const MOST_CARS: u32 = 16;
 
 /// The most open calls of a snapshot, in the versions that have most.
-pub const MOST_CALLS: u32 = 128;
+pub const MOST_CALLS: usize = 128;
 
 /// The most moves of a partial tour: three for each of 128 calls (it boards, and two legs end at its
 /// floors), one for each of 64 groups aboard, and two.
@@ -30,11 +30,16 @@ pub const MOST_STOP_TIME: u64 = 150_000_000;
 /// and each group aboard adds less than its share of what is left.
 pub const LATEST_MOMENT: u64 = 10_000_000_000;
 
+/// Moments that a running state may hold stay at most this, in ms: ten times the latest one, so that what the
+/// code adds and multiplies stays in 64 bits before a moment is known to be early.
+pub const MOMENT_LIMIT: u64 = 100_000_000_000;
+
 /// One call costs at most this much, in cost units: 8 persons, weights of 1,000 for waiting, for waiting past the
-/// patience and for riding, over 10^11 ms, which no moment that a running state reaches exceeds.
+/// patience and for riding, over `MOMENT_LIMIT`.
 pub const MOST_CALL_COST: u64 = 2_400_000_000_000_000;
 
-/// The groups aboard one car cost at most this much, in cost units: 64 persons, weight 1,000, over 10^11 ms.
+/// The groups aboard one car cost at most this much, in cost units: 64 persons, weight 1,000, over
+/// `MOMENT_LIMIT`.
 pub const MOST_GROUPS_COST: u64 = 6_400_000_000_000_000;
 
 /// No feasible plan costs more, in cost units: 128 calls and the groups of 16 cars.

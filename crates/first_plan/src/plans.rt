@@ -27,7 +27,8 @@ fn better_plan(snapshot: &Snapshot, plain: Plan, proposed: Option<Plan>) -> Plan
     requires { IsFeasiblePlan snapshot.now plain }
     ensures feasible { IsFeasiblePlan snapshot.now result }
     ensures plain { plan_cost_of snapshot.now result ≤ plan_cost_of snapshot.now plain }
-    ensures proposed { IfSome proposed (λ plan. IsFeasiblePlan snapshot.now plan → plan_cost_of snapshot.now result ≤ plan_cost_of snapshot.now plan) }
+    ensures proposed { IfSome proposed (λ plan. IsFeasiblePlan snapshot.now plan
+        → plan_cost_of snapshot.now result ≤ plan_cost_of snapshot.now plan) }
 {
     if let Some(proposed) = proposed {
         if is_feasible(snapshot, &proposed) {

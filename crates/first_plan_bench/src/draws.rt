@@ -18,7 +18,8 @@ impl Draws {
 
     /// The top 32 bits of the next state.
     fn next(&mut self) -> u32
-        ensures state { self.new.state ≡ (self.old.state * 6364136223846793005 + 1442695040888963407) % 2 ^ 64 }
+        ensures state { self.new.state ≡
+            (self.old.state * 6364136223846793005 + 1442695040888963407) % 2 ^ 64 }
         ensures value { result ≡ self.new.state / 2 ^ 32 }
     {
         let product = self.state.wrapping_mul(6_364_136_223_846_793_005);
@@ -30,7 +31,8 @@ impl Draws {
     pub fn below(&mut self, count: u32) -> u32
         requires { 0 < count }
         ensures below { result < count }
-        ensures state { self.new.state ≡ (self.old.state * 6364136223846793005 + 1442695040888963407) % 2 ^ 64 }
+        ensures state { self.new.state ≡
+            (self.old.state * 6364136223846793005 + 1442695040888963407) % 2 ^ 64 }
         ensures value { result ≡ self.new.state / 2 ^ 32 % count }
     {
         self.next() % count

@@ -22,8 +22,10 @@ pub struct Costs {
 /// What a first plan and a cheapest plan of the snapshot cost. Both are feasible, and no feasible plan costs
 /// less than the cheapest. `Err` means that there is no memory left.
 pub fn costs_of(alloc: Global, snapshot: &Snapshot) -> Result<Costs, AllocError>
-    ensures cheapest { IfOk result (λ costs. (plan : List (List Stop)) × (IsOptimal snapshot.now plan × (costs.cheapest ≡ plan_cost_of snapshot.now plan))) }
-    ensures first { IfOk result (λ costs. (plan : List (List Stop)) × (IsFeasiblePlan snapshot.now plan × (costs.first ≡ plan_cost_of snapshot.now plan))) }
+    ensures cheapest { IfOk result (λ costs. (plan : List (List Stop))
+        × (IsOptimal snapshot.now plan × (costs.cheapest ≡ plan_cost_of snapshot.now plan))) }
+    ensures first { IfOk result (λ costs. (plan : List (List Stop))
+        × (IsFeasiblePlan snapshot.now plan × (costs.first ≡ plan_cost_of snapshot.now plan))) }
     ensures order { IfOk result (λ costs. costs.cheapest ≤ costs.first) }
 {
     let plan = first(alloc, snapshot)?;
@@ -38,7 +40,8 @@ impl Costs {
     /// By how many thousandths of the cheapest plan's cost the first plan costs more, rounded down, and 0
     /// where the cheapest costs 0.
     fn excess_permille(self) -> u128
-        ensures excess { 0 < self.cheapest → result ≡ (self.first - self.cheapest) * 1000 / self.cheapest }
+        ensures excess { 0 < self.cheapest
+            → result ≡ (self.first - self.cheapest) * 1000 / self.cheapest }
         ensures free { self.cheapest ≡ 0 → result ≡ 0 }
     {
         if self.cheapest == 0 {
@@ -94,9 +97,11 @@ impl Score {
     fn add(&mut self, costs: Costs)
         ensures made { self.old.made < u64.MAX → self.new.made ≡ self.old.made + 1 }
         ensures skipped { self.new.skipped ≡ self.old.skipped }
-        ensures equal { costs.first ≡ costs.cheapest → self.old.equal < u64.MAX → self.new.equal ≡ self.old.equal + 1 }
+        ensures equal { costs.first ≡ costs.cheapest → self.old.equal < u64.MAX
+            → self.new.equal ≡ self.old.equal + 1 }
         ensures dearer { costs.cheapest < costs.first → self.new.equal ≡ self.old.equal }
-        ensures worst { 0 < costs.cheapest → (costs.first - costs.cheapest) * 1000 / costs.cheapest ≤ self.new.worst }
+        ensures worst { 0 < costs.cheapest
+            → (costs.first - costs.cheapest) * 1000 / costs.cheapest ≤ self.new.worst }
         ensures kept { self.old.worst ≤ self.new.worst }
     {
         let excess = costs.excess_permille();
@@ -110,7 +115,8 @@ impl Score {
 
     /// Counts a snapshot whose plans have these costs, or one that was skipped.
     pub fn count(&mut self, costs: Option<Costs>)
-        ensures { self.old.made + self.old.skipped < u64.MAX → self.new.made + self.new.skipped ≡ self.old.made + self.old.skipped + 1 }
+        ensures { self.old.made + self.old.skipped < u64.MAX
+            → self.new.made + self.new.skipped ≡ self.old.made + self.old.skipped + 1 }
     {
         match costs {
             Some(costs) => self.add(costs),

@@ -29,9 +29,11 @@ const REFUSAL: &[u8] = b"refused line 0 code 90\n";
 /// The text of an optimal plan for the case that the bytes are: None exactly where they are no canonical
 /// text of a small snapshot.
 fn answer_to(alloc: Global, bytes: &[u8]) -> Result<Option<Vec<u8>>, AllocError>
-    ensures solved { IfOk result (λ answer. IfSome answer (λ text. IsSolution bytes.now text.items)) }
+    ensures solved { IfOk result
+        (λ answer. IfSome answer (λ text. IsSolution bytes.now text.items)) }
     ensures short { IfOk result (λ answer. IfSome answer (λ _. length bytes.now ≤ 4096)) }
-    ensures refused { IfOk result (λ answer. answer ≡ None → (s : Snapshot) → IsCase s bytes.now → ⊥) }
+    ensures refused { IfOk result (λ answer. answer ≡ None → (s : Snapshot) → IsCase s bytes.now
+        → ⊥) }
 {
     let snapshot = match read_case(alloc, bytes) {
         Ok(snapshot) => snapshot,
@@ -45,7 +47,8 @@ fn answer_to(alloc: Global, bytes: &[u8]) -> Result<Option<Vec<u8>>, AllocError>
 
 /// Writes the text and answers the status, or `Write` where the sink fails.
 fn put<K: Sink>(sink: &mut K, text: &[u8], status: Status) -> Status
-    ensures { Puts text.now status result (K.taken sink.old) (K.taken sink.new) (K.faults sink.old) (K.faults sink.new) }
+    ensures { Puts text.now status result (K.taken sink.old) (K.taken sink.new) (K.faults sink.old)
+        (K.faults sink.new) }
 {
     match put_all(sink, text) {
         Ok(()) => status,
@@ -67,13 +70,24 @@ pub fn run<S: Source, K: Sink, G: Gate + Sync>(
     _gate: &G,
 ) -> Status
     // What was read and written, and why it ended.
-    ensures outcome { IsOutcome (map string_bytes words.now) (streams (S.left source.old) (K.taken sink.old) (S.faults source.old) (K.faults sink.old)) (streams (S.left source.new) (K.taken sink.new) (S.faults source.new) (K.faults sink.new)) result }
+    ensures outcome { IsOutcome (map string_bytes words.now)
+        (streams (S.left source.old) (K.taken sink.old) (S.faults source.old) (K.faults sink.old))
+        (streams (S.left source.new) (K.taken sink.new) (S.faults source.new)
+        (K.faults sink.new)) result }
 
     // A case is solved, unless the source or the sink fails or memory is wanting.
-    ensures solves { (input : List ℕ) (s : Snapshot) → AreTaken (map string_bytes words.now) → S.left source.old ≡ Some input → IsCase s input → (Rose (S.faults source.old) (S.faults source.new) → ⊥) → (Rose (K.faults sink.old) (K.faults sink.new) → ⊥) → (result ≡ Status.Done) ⊎ (result ≡ Status.Memory) }
+    ensures solves { (input : List ℕ) (s : Snapshot) → AreTaken (map string_bytes words.now)
+        → S.left source.old ≡ Some input → IsCase s input
+        → (Rose (S.faults source.old) (S.faults source.new) → ⊥)
+        → (Rose (K.faults sink.old) (K.faults sink.new) → ⊥) → (result ≡ Status.Done)
+        ⊎ (result ≡ Status.Memory) }
 
     // Whatever else is read is refused, unless the source or the sink fails or memory is wanting.
-    ensures refuses { (input : List ℕ) → AreTaken (map string_bytes words.now) → S.left source.old ≡ Some input → ((s : Snapshot) → IsCase s (take 4097 input) → ⊥) → (Rose (S.faults source.old) (S.faults source.new) → ⊥) → (Rose (K.faults sink.old) (K.faults sink.new) → ⊥) → (result ≡ Status.Input) ⊎ (result ≡ Status.Memory) }
+    ensures refuses { (input : List ℕ) → AreTaken (map string_bytes words.now)
+        → S.left source.old ≡ Some input → ((s : Snapshot) → IsCase s (take 4097 input) → ⊥)
+        → (Rose (S.faults source.old) (S.faults source.new) → ⊥)
+        → (Rose (K.faults sink.old) (K.faults sink.new) → ⊥) → (result ≡ Status.Input)
+        ⊎ (result ≡ Status.Memory) }
 {
     if !are_taken(words) {
         return put(sink, USAGE, Status::Words);

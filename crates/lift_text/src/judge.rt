@@ -37,7 +37,8 @@ pub(crate) fn judge(line: &[u8], spans: &mut Vec<Span>) -> Result<bool, Flaw>
     ensures some { result ≡ Ok true → 0 < vec_len spans.new }
     ensures err { OnErr result (spans.new.items ≡ []) }
     ensures capacity { vec_capacity spans.old ≤ vec_capacity spans.new }
-    ensures inside { All (λ span. (span.start ≤ span.end) × (span.end ≤ length line.now)) spans.new.items }
+    ensures inside { All (λ span. (span.start ≤ span.end)
+        × (span.end ≤ length line.now)) spans.new.items }
 {
     if line.len() > LINE_LIMIT {
         return Err(Flaw::OverLong);

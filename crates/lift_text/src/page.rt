@@ -131,7 +131,8 @@ impl Page {
     fn judge_line(&mut self, count: usize) -> Result<Step, TextFault>
         requires within { count ≤ length self.old.current }
         requires words { self.old.words ≡ [] }
-        ensures judged { JudgedAs self.old.line (take count self.old.current) result self.new.words }
+        ensures judged { JudgedAs self.old.line
+            (take count self.old.current) result self.new.words }
         ensures some { result ≡ Ok Step.WithWords → 0 < length self.new.words }
         ensures bad { IfErr result (λ fault. IfBad fault (λ line. self.new.line ≡ line)) }
         ensures same { self.new ≡ record self.old { words = self.new.words } }
@@ -159,7 +160,8 @@ impl Page {
         ensures bad { IfErr result (λ fault. IfBad fault (λ line. self.new.line ≡ line)) }
         ensures raw { self.new.raw ≡ [] }
         ensures failure { self.new.failure ≡ self.old.failure }
-        ensures read { IsErrOf result TextFault.Read → Rose (S.faults source.old) (S.faults source.new) }
+        ensures read { IsErrOf result TextFault.Read
+            → Rose (S.faults source.old) (S.faults source.new) }
         ensures no_memory { result ≢ Err TextFault.NoMemory }
         ensures counted { S.faults source.old ≤ S.faults source.new }
     {
@@ -194,7 +196,8 @@ impl Page {
         ensures unasked { HasWholeAnswer (pieces_of self.old.unread) → source.new ≡ source.old }
         ensures raw { self.new.raw ≡ [] }
         ensures failure { self.new.failure ≡ self.old.failure }
-        ensures read { IsErrOf result TextFault.Read → Rose (S.faults source.old) (S.faults source.new) }
+        ensures read { IsErrOf result TextFault.Read
+            → Rose (S.faults source.old) (S.faults source.new) }
         ensures no_memory { result ≢ Err TextFault.NoMemory }
         ensures counted { S.faults source.old ≤ S.faults source.new }
     {
@@ -266,7 +269,8 @@ impl Page {
         requires current { self.old.current ≡ [] }
         requires words { self.old.words ≡ [] }
         requires raw { self.old.raw ≡ [] }
-        ensures skipped { SkippedLine (text_at self.old (S.left source.old)) result (text_at self.new (S.left source.new)) }
+        ensures skipped { SkippedLine (text_at self.old (S.left source.old)) result
+            (text_at self.new (S.left source.new)) }
         ensures taken { (taken : List ℕ) × Took (past_quota None result) self.old.quota self.new.quota taken
             (S.left source.old) (S.left source.new)
             × (IsErrOf result TextFault.Read → ¬ HasWholeLine (self.old.unread ++ taken)) }
@@ -275,7 +279,8 @@ impl Page {
         ensures words { self.new.words ≡ [] }
         ensures raw { self.new.raw ≡ [] }
         ensures failure { self.new.failure ≡ self.old.failure }
-        ensures read { IsErrOf result TextFault.Read → Rose (S.faults source.old) (S.faults source.new) }
+        ensures read { IsErrOf result TextFault.Read
+            → Rose (S.faults source.old) (S.faults source.new) }
         ensures counted { S.faults source.old ≤ S.faults source.new }
     {
         match self.window.skip_line(source) {
@@ -305,7 +310,8 @@ impl Page {
         ensures no_memory { result ≢ Err TextFault.NoMemory }
         ensures words { self.new.words ≡ [] }
         ensures failure { self.new.failure ≡ self.old.failure }
-        ensures read { IsErrOf result TextFault.Read → Rose (S.faults source.old) (S.faults source.new) }
+        ensures read { IsErrOf result TextFault.Read
+            → Rose (S.faults source.old) (S.faults source.new) }
         ensures counted { S.faults source.old ≤ S.faults source.new }
     {
         match self.advance(source) {

@@ -32,9 +32,11 @@ impl<'a, S: Source> LineReader<'a, S> {
 
     /// A reader before the first line. The only error is want of memory.
     pub fn new(alloc: Global, source: &'a mut S) -> Result<LineReader<'a, S>, AllocError>
-        ensures same_source { IfOk result (λ reader. reader.source.ghost_name ≡ source.entry.ghost_name) }
+        ensures same_source { IfOk result
+            (λ reader. reader.source.ghost_name ≡ source.entry.ghost_name) }
         ensures source { IfOk result (λ reader. reader.source.now ≡ source.old) }
-        ensures text { IfOk result (λ reader. text S.left reader ≡ option_map whole_text (S.left source.old)) }
+        ensures text { IfOk result
+            (λ reader. text S.left reader ≡ option_map whole_text (S.left source.old)) }
         ensures quota { IfOk result (λ reader. quota reader ≡ 67108864) }
         ensures unread { IfOk result (λ reader. unread reader ≡ []) }
         ensures line { IfOk result (λ reader. line reader ≡ 0) }
@@ -62,7 +64,8 @@ impl<'a, S: Source> LineReader<'a, S> {
         ensures some { result ≡ Ok true → 0 < length (words self.new) }
         ensures words { result ≢ Ok true → words self.new ≡ [] }
         ensures raw { raw self.new ≡ [] }
-        ensures end { failure self.old ≡ None → result ≡ Ok false → IsAtEnd (S.left self.new.source.now) }
+        ensures end { failure self.old ≡ None → result ≡ Ok false
+            → IsAtEnd (S.left self.new.source.now) }
 
         // The bytes that this call took are counted off the quota, but for one with the first `TooLong`.
         ensures taken { (taken : List ℕ)
@@ -117,7 +120,8 @@ impl<'a, S: Source> LineReader<'a, S> {
     /// where the word is no number, and else with code 7 where it is outside the range.
     pub fn number(&self, k: u32, low: i128, high: i128) -> Result<i128, TextFault>
         requires { k < length (words self.now) }
-        ensures { result ≡ number_answer (line self.now) (read_number low high (slice_index_or (words self.now) k [])) }
+        ensures { result ≡ number_answer (line self.now)
+            (read_number low high (slice_index_or (words self.now) k [])) }
     {
         match number_in(self.word(k), low, high) {
             Ok(value) => Ok(value),
@@ -139,7 +143,8 @@ impl<'a, S: Source> LineReader<'a, S> {
 
         ensures raw { result ≢ Ok RawLine.Line → raw self.new ≡ [] }
         ensures words { words self.new ≡ [] }
-        ensures end { failure self.old ≡ None → result ≡ Ok RawLine.End → IsAtEnd (S.left self.new.source.now) }
+        ensures end { failure self.old ≡ None → result ≡ Ok RawLine.End
+            → IsAtEnd (S.left self.new.source.now) }
 
         // The bytes that this call took are counted off the quota, but for one with the first `TooLong`.
         ensures taken { (taken : List ℕ)
@@ -148,7 +153,8 @@ impl<'a, S: Source> LineReader<'a, S> {
             × IfSome (failure self.old) (λ _. taken ≡ [])
             × (failure self.old ≡ None → IsErrOf result TextFault.Read
             → ¬ HasWholeLine (unread self.old ++ taken)) }
-        ensures unasked { HasWholeLine (unread self.old) → self.new.source.now ≡ self.old.source.now }
+        ensures unasked { HasWholeLine (unread self.old)
+            → self.new.source.now ≡ self.old.source.now }
         ensures line { line self.new ≡ line self.old + lines_counted result }
 
         ensures ok { OnOk result (failure self.new ≡ None) }

@@ -141,7 +141,8 @@ impl Window {
         ensures more { result ≡ Ok Fill.More → (more : List ℕ) × (0 < length more)
             × (self.new.unread ≡ self.old.unread ++ more)
             × (S.left source.old ≡ prepend_known more (S.left source.new)) }
-        ensures quota { self.new.quota + length self.new.unread ≡ self.old.quota + length self.old.unread }
+        ensures quota { self.new.quota + length self.new.unread
+            ≡ self.old.quota + length self.old.unread }
         ensures less { result ≡ Ok Fill.More → self.new.quota < self.old.quota }
         ensures kept { result ≢ Ok Fill.More → self.new.unread ≡ self.old.unread }
         ensures ok { IfOk result (λ fill. Filled fill (S.left source.old) (S.left source.new)) }
@@ -165,10 +166,12 @@ impl Window {
     pub(crate) fn find<S: Source>(&mut self, source: &mut S) -> Result<Found, SourceFault>
         ensures ok { IfOk result (λ found. FoundIn found (prepend_known self.old.unread (S.left source.old))
             self.new.unread (S.left source.new) self.new.quota) }
-        ensures quota { self.new.quota + length self.new.unread ≡ self.old.quota + length self.old.unread }
+        ensures quota { self.new.quota + length self.new.unread
+            ≡ self.old.quota + length self.old.unread }
         ensures taken { (taken : List ℕ) × Gathered (past_found result) self.old.quota self.new.quota
             self.old.unread self.new.unread taken (S.left source.old) (S.left source.new) }
-        ensures shows { IfOk result (λ found. FoundShows found self.new.unread (S.left source.new)) }
+        ensures shows { IfOk result
+            (λ found. FoundShows found self.new.unread (S.left source.new)) }
         ensures unasked { HasWholeLine self.old.unread → (source.new ≡ source.old)
             × (self.new.unread ≡ self.old.unread) × FoundWhole result self.new.unread }
         ensures one { IfOk result (λ found. FoundOne found self.new.unread) }
@@ -202,7 +205,8 @@ impl Window {
         requires { 0 < length self.old.unread }
         ensures ok { IfOk result (λ skipped. SkippedIn skipped (prepend_known self.old.unread (S.left source.old))
             (self.old.quota + length self.old.unread) self.new.unread (S.left source.new) self.new.quota) }
-        ensures less { self.new.quota + length self.new.unread ≤ self.old.quota + length self.old.unread }
+        ensures less { self.new.quota + length self.new.unread
+            ≤ self.old.quota + length self.old.unread }
         ensures one { result ≡ Ok Skipped.Whole
             → self.new.quota + length self.new.unread < self.old.quota + length self.old.unread }
         ensures taken { (taken : List ℕ) × Took (past_skipped result) self.old.quota self.new.quota taken
@@ -248,7 +252,8 @@ impl Window {
     /// The length of the line before the LF at this place.
     fn line_before(&self, place: usize) -> usize
         requires { place ≤ length self.now.unread }
-        ensures front { take result (take place self.now.unread) ≡ strip_last 13 (take place self.now.unread) }
+        ensures front { take result (take place self.now.unread) ≡ strip_last 13
+            (take place self.now.unread) }
         ensures within { result ≤ place }
     {
         length_without_cr(&self.unread()[..place])

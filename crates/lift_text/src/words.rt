@@ -44,7 +44,8 @@ pub(crate) fn find_words(text: &[u8], spans: &mut Vec<Span>)
     ensures words { parts_of text.now spans.new.items ≡ words_in text.now }
     ensures count { 2 * vec_len spans.new ≤ length text.now + 1 }
     ensures capacity { vec_capacity spans.old ≤ vec_capacity spans.new }
-    ensures inside { All (λ span. (span.start ≤ span.end) × (span.end ≤ length text.now)) spans.new.items }
+    ensures inside { All (λ span. (span.start ≤ span.end)
+        × (span.end ≤ length text.now)) spans.new.items }
 {
     let mut start = 0;
     for (i, byte) in text.iter().enumerate() {

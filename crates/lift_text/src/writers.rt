@@ -33,7 +33,8 @@ pub fn put_word(out: &mut Vec<u8>, number: u64) -> Result<(), AllocError>
 #[tactic(auto, unfolding(crate::specs::Text::words))]
 pub fn put_words(out: &mut Vec<u8>, name: &[u8], numbers: &[u64]) -> Result<(), AllocError>
     ensures ok { OnOk result (out.new.items ≡ out.old.items ++ words name.now numbers.now) }
-    ensures err { OnErr result (BeginsAfter out.old.items out.new.items (words name.now numbers.now)) }
+    ensures err { OnErr result
+        (BeginsAfter out.old.items out.new.items (words name.now numbers.now)) }
 {
     out.extend_from_slice(name)?;
     for number in numbers {
@@ -47,7 +48,8 @@ pub fn put_words(out: &mut Vec<u8>, name: &[u8], numbers: &[u64]) -> Result<(), 
 #[tactic(auto, unfolding(crate::specs::Text::line))]
 pub fn put_line(out: &mut Vec<u8>, name: &[u8], numbers: &[u64]) -> Result<(), AllocError>
     ensures ok { OnOk result (out.new.items ≡ out.old.items ++ line name.now numbers.now) }
-    ensures err { OnErr result (BeginsAfter out.old.items out.new.items (line name.now numbers.now)) }
+    ensures err { OnErr result
+        (BeginsAfter out.old.items out.new.items (line name.now numbers.now)) }
 {
     put_words(out, name, numbers)?;
     out.push(b'\n')?;

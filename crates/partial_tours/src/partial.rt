@@ -22,7 +22,8 @@ use tour_rules::rules::{is_overfull, is_useless, overtakes, starts_wrong, stays_
 /// Whether the car may go to this floor.
 fn may_stand(snapshot: &Snapshot, car: u32, place: &Place, floor: u32) -> bool
     requires { car < car_count snapshot.now }
-    ensures { (p : Progress) → Tracks snapshot.now car place.now p → result ≡ may_stand_lem snapshot.now car p (empty_stop floor) }
+    ensures { (p : Progress) → Tracks snapshot.now car place.now p
+        → result ≡ may_stand_lem snapshot.now car p (empty_stop floor) }
 {
     if stays_put(place, floor) {
         return false;
@@ -52,7 +53,10 @@ fn is_after(last: Option<u32>, call: u32) -> bool
 /// Whether the call may board at the stop begun.
 fn may_board(snapshot: &Snapshot, car: u32, before: &Place, begun: &Begun, call: u32) -> bool
     requires { car < car_count snapshot.now }
-    ensures { (q : Progress) (stop : Stop) → Tracks snapshot.now car before.now q → IsBegun snapshot.now car q begun.now stop → result ≡ (list_all (λ i. nat_lt i call) stop.boards && board_test snapshot.now car q stop call) }
+    ensures { (q : Progress) (stop : Stop) → Tracks snapshot.now car before.now q
+        → IsBegun snapshot.now car q begun.now stop
+        → result ≡
+        (list_all (λ i. nat_lt i call) stop.boards && board_test snapshot.now car q stop call) }
 {
     let calls = snapshot.calls();
     if call as usize >= calls.len() {
@@ -77,7 +81,8 @@ fn passes(
     is_overtaken: bool,
     fits: bool,
 ) -> bool
-    ensures { result ≡ (is_next && ((((is_for_car && not is_again) && is_here) && not is_overtaken) && fits)) }
+    ensures { result ≡
+        (is_next && ((((is_for_car && not is_again) && is_here) && not is_overtaken) && fits)) }
 {
     is_next && is_for_car && !is_again && is_here && !is_overtaken && fits
 }
@@ -85,7 +90,8 @@ fn passes(
 /// Whether the present stop may be left: somebody got off or boards there, or it needs no use.
 fn may_leave(snapshot: &Snapshot, car: u32, point: &Point) -> bool
     requires { car < car_count snapshot.now }
-    ensures { (x : Course) → TracksCourse snapshot.now car point.now x → result ≡ may_leave_lem snapshot.now car x.before x.present }
+    ensures { (x : Course) → TracksCourse snapshot.now car point.now x
+        → result ≡ may_leave_lem snapshot.now car x.before x.present }
 {
     match point.stop {
         None => true,
@@ -95,7 +101,8 @@ fn may_leave(snapshot: &Snapshot, car: u32, point: &Point) -> bool
 
 /// Where the car is once it leaves the present stop.
 pub(crate) fn place_after(point: &Point) -> Place
-    ensures { (s : Snapshot) (c : ℕ) (x : Course) → TracksCourse s c point.now x → Tracks s c result (progress_after s c x.before x.present) }
+    ensures { (s : Snapshot) (c : ℕ) (x : Course) → TracksCourse s c point.now x
+        → Tracks s c result (progress_after s c x.before x.present) }
 {
     match point.stop {
         None => point.before,
@@ -106,7 +113,8 @@ pub(crate) fn place_after(point: &Point) -> Place
 /// Whether and from where the car leaves the present stop.
 fn departure(snapshot: &Snapshot, car: u32, point: &Point) -> Departure
     requires { car < car_count snapshot.now }
-    ensures { (x : Course) → TracksCourse snapshot.now car point.now x → IsDeparture snapshot.now car result x }
+    ensures { (x : Course) → TracksCourse snapshot.now car point.now x
+        → IsDeparture snapshot.now car result x }
 {
     Departure {
         leaves: may_leave(snapshot, car, point),
@@ -124,7 +132,9 @@ fn may_follow(
     next: Move,
 ) -> bool
     requires { car < car_count snapshot.now }
-    ensures { (x : Course) → TracksCourse snapshot.now car point.now x → IsDeparture snapshot.now car departure.now x → result ≡ may_be_next snapshot.now car x (has allowed) next }
+    ensures { (x : Course) → TracksCourse snapshot.now car point.now x
+        → IsDeparture snapshot.now car departure.now x
+        → result ≡ may_be_next snapshot.now car x (has allowed) next }
 {
     if point.ended {
         return false;
@@ -151,7 +161,8 @@ fn push_if(out: &mut Vec<Move>, next: Move, passes: bool)
 /// Whether the call may board now.
 fn may_board_now(snapshot: &Snapshot, car: u32, point: &Point, call: u32) -> bool
     requires { car < car_count snapshot.now }
-    ensures { (x : Course) → TracksCourse snapshot.now car point.now x → x.ended ≡ false → result ≡ is_some (move_on snapshot.now car x (Move.Board call)) }
+    ensures { (x : Course) → TracksCourse snapshot.now car point.now x → x.ended ≡ false
+        → result ≡ is_some (move_on snapshot.now car x (Move.Board call)) }
 {
     match point.stop {
         None => false,
@@ -170,7 +181,10 @@ fn push_boards(
 )
     requires car { car < car_count snapshot.now }
     requires room { vec_len out.old + 128 ≤ vec_capacity out.old }
-    ensures items { (x : Course) → TracksCourse snapshot.now car point.now x → IsDeparture snapshot.now car departure.now x → out.new.items ≡ out.old.items ++ filter (may_be_next snapshot.now car x (has allowed)) (map Move.Board (range_with_len 0 (call_count snapshot.now))) }
+    ensures items { (x : Course) → TracksCourse snapshot.now car point.now x
+        → IsDeparture snapshot.now car departure.now x
+        → out.new.items ≡ out.old.items ++ filter (may_be_next snapshot.now car x (has allowed))
+        (map Move.Board (range_with_len 0 (call_count snapshot.now))) }
     ensures len { vec_len out.new ≤ vec_len out.old + 128 }
     ensures capacity { vec_capacity out.new ≡ vec_capacity out.old }
 {
@@ -193,7 +207,10 @@ fn push_leaves(
 )
     requires car { car < car_count snapshot.now }
     requires room { vec_len out.old + 64 ≤ vec_capacity out.old }
-    ensures items { (x : Course) → TracksCourse snapshot.now car point.now x → IsDeparture snapshot.now car departure.now x → out.new.items ≡ out.old.items ++ filter (may_be_next snapshot.now car x (has allowed)) (map Move.Leave (range_with_len 0 (floor_count snapshot.now.building))) }
+    ensures items { (x : Course) → TracksCourse snapshot.now car point.now x
+        → IsDeparture snapshot.now car departure.now x
+        → out.new.items ≡ out.old.items ++ filter (may_be_next snapshot.now car x (has allowed))
+        (map Move.Leave (range_with_len 0 (floor_count snapshot.now.building))) }
     ensures len { vec_len out.new ≤ vec_len out.old + 64 }
     ensures capacity { vec_capacity out.new ≡ vec_capacity out.old }
 {
@@ -215,7 +232,8 @@ pub(crate) fn fill(
 )
     requires car { car < car_count snapshot.now }
     requires room { 193 ≤ vec_capacity out.old }
-    ensures items { (x : Course) → TracksCourse snapshot.now car point.now x → out.new.items ≡ lawful_moves snapshot.now car x (has allowed) }
+    ensures items { (x : Course) → TracksCourse snapshot.now car point.now x
+        → out.new.items ≡ lawful_moves snapshot.now car x (has allowed) }
     ensures capacity { vec_capacity out.new ≡ vec_capacity out.old }
 {
     let departure = departure(snapshot, car, point);
@@ -231,7 +249,10 @@ fn with_board(snapshot: &Snapshot, before: &Place, begun: &Begun, call: u32) -> 
     requires call { call < call_count snapshot.now }
     requires few { begun.now.load + (call_of snapshot.now call).persons ≤ 64 }
     requires floor { begun.now.floor < 64 }
-    ensures { (c : ℕ) (q : Progress) (stop : Stop) → Tracks snapshot.now c before.now q → IsBegun snapshot.now c q begun.now stop → list_all (λ i. nat_lt i call) stop.boards ≡ true → may_stand_lem snapshot.now c q (with_call_on stop call) ≡ true → IsBegun snapshot.now c q result (with_call_on stop call) }
+    ensures { (c : ℕ) (q : Progress) (stop : Stop) → Tracks snapshot.now c before.now q
+        → IsBegun snapshot.now c q begun.now stop → list_all (λ i. nat_lt i call) stop.boards ≡ true
+        → may_stand_lem snapshot.now c q (with_call_on stop call) ≡ true
+        → IsBegun snapshot.now c q result (with_call_on stop call) }
 {
     let calls = snapshot.calls();
     let boards = begun.boards.with(call);
@@ -249,8 +270,11 @@ fn begin_stop(snapshot: &Snapshot, car: u32, before: &Place, floor: u32) -> Begu
     requires car { car < car_count snapshot.now }
     requires accepted { IsAccepted snapshot.now }
     requires floor { floor < 64 }
-    requires few { (p : Progress) × Tracks snapshot.now car before.now p × (may_stand_lem snapshot.now car p (empty_stop floor) ≡ true) }
-    ensures { (q : Progress) → Tracks snapshot.now car before.now q → may_stand_lem snapshot.now car q (empty_stop floor) ≡ true → IsBegun snapshot.now car q result (empty_stop floor) }
+    requires few { (p : Progress) × Tracks snapshot.now car before.now p
+        × (may_stand_lem snapshot.now car p (empty_stop floor) ≡ true) }
+    ensures { (q : Progress) → Tracks snapshot.now car before.now q
+        → may_stand_lem snapshot.now car q (empty_stop floor) ≡ true
+        → IsBegun snapshot.now car q result (empty_stop floor) }
 {
     Begun {
         floor,
@@ -266,7 +290,9 @@ fn advance_board(snapshot: &Snapshot, car: u32, point: &Point, call: u32) -> Poi
     requires car { car < car_count snapshot.now }
     requires accepted { IsAccepted snapshot.now }
     requires lawful { LeadsOn snapshot.now car point.now (Move.Board call) }
-    ensures { (x y : Course) → TracksCourse snapshot.now car point.now x → move_on snapshot.now car x (Move.Board call) ≡ Some y → TracksCourse snapshot.now car result y }
+    ensures { (x y : Course) → TracksCourse snapshot.now car point.now x
+        → move_on snapshot.now car x (Move.Board call) ≡ Some y
+        → TracksCourse snapshot.now car result y }
 {
     match point.stop {
         Some(begun) => Point {
@@ -283,7 +309,9 @@ fn advance_leave(snapshot: &Snapshot, car: u32, point: &Point, floor: u32) -> Po
     requires car { car < car_count snapshot.now }
     requires accepted { IsAccepted snapshot.now }
     requires lawful { LeadsOn snapshot.now car point.now (Move.Leave floor) }
-    ensures { (x y : Course) → TracksCourse snapshot.now car point.now x → move_on snapshot.now car x (Move.Leave floor) ≡ Some y → TracksCourse snapshot.now car result y }
+    ensures { (x y : Course) → TracksCourse snapshot.now car point.now x
+        → move_on snapshot.now car x (Move.Leave floor) ≡ Some y
+        → TracksCourse snapshot.now car result y }
 {
     let before = place_after(point);
     Point {
@@ -298,7 +326,8 @@ pub(crate) fn advance(snapshot: &Snapshot, car: u32, point: &Point, next: Move) 
     requires car { car < car_count snapshot.now }
     requires accepted { IsAccepted snapshot.now }
     requires lawful { LeadsOn snapshot.now car point.now next }
-    ensures { (x y : Course) → TracksCourse snapshot.now car point.now x → move_on snapshot.now car x next ≡ Some y → TracksCourse snapshot.now car result y }
+    ensures { (x y : Course) → TracksCourse snapshot.now car point.now x
+        → move_on snapshot.now car x next ≡ Some y → TracksCourse snapshot.now car result y }
 {
     match next {
         Move::Board(call) => advance_board(snapshot, car, point, call),

@@ -10,18 +10,9 @@ use crate::points::Step;
 use crate::tally::{Tally, note};
 use call_sets::CallSet;
 use call_state::Snapshot;
-use elevator_model::{Boards, Move, Stop, Tour};
+use elevator_model::{Boards, MOST_CALLS, MOST_MOVES, MOST_NEXT_MOVES, Move, Stop, Tour};
 use std::alloc::{AllocError, Global};
 use std::marker::Model;
-
-/// The most moves of a partial tour: three for each of 128 calls, one for each of 64 groups, and two.
-const MOST_MOVES: usize = 450;
-
-/// The most calls that a snapshot can have.
-const MOST_CALLS: usize = 128;
-
-/// The most moves that may follow: 128 boards, 64 leaves and the end.
-const MOST_NEXT: usize = 193;
 
 /// The moves that may follow a partial tour, with room for all of them.
 #[derive(Drop, Debug)]
@@ -46,7 +37,7 @@ impl Moves {
         ensures { IfOk result (λ m. m ≡ []) }
     {
         Ok(Moves {
-            items: Vec::with_capacity(alloc, MOST_NEXT)?,
+            items: Vec::with_capacity(alloc, MOST_NEXT_MOVES)?,
         })
     }
 
@@ -144,7 +135,8 @@ impl<'a> Prefix<'a> {
 
     /// Takes the last move away. None where there is none, and then nothing changes.
     pub fn pop(&mut self) -> Option<Move>
-        ensures { MatchOption result ((self.old.moves ≡ []) × (self.new ≡ self.old)) (λ m. self.old ≡ with_move self.new m) }
+        ensures { MatchOption result ((self.old.moves ≡ []) × (self.new ≡ self.old))
+            (λ m. self.old ≡ with_move self.new m) }
     {
         let last = self.moves.pop()?;
         let _ = self.steps.pop();
@@ -154,14 +146,16 @@ impl<'a> Prefix<'a> {
     /// The cost in cost units of those who got off within the partial tour. The present stop counts: those
     /// who are to get off there have done so.
     pub fn settled(&self) -> u64
-        ensures { (x : Course) → course self.now ≡ Some x → result ≡ settled_of self.now.snapshot self.now.car x }
+        ensures { (x : Course) → course self.now ≡ Some x
+            → result ≡ settled_of self.now.snapshot self.now.car x }
     {
         self.steps[self.moves.len()].tally.settled
     }
 
     /// The moment in ms at which the doors of the last stop are open. None where no stop has begun.
     pub fn moment(&self) -> Option<u64>
-        ensures { (x : Course) → course self.now ≡ Some x → result ≡ moment_in self.now.snapshot self.now.car x }
+        ensures { (x : Course) → course self.now ≡ Some x
+            → result ≡ moment_in self.now.snapshot self.now.car x }
     {
         let step = self.steps[self.moves.len()];
         if place_after(&step.point).begun {
@@ -174,7 +168,8 @@ impl<'a> Prefix<'a> {
     /// The tour whose move list this is. The partial tour has to have ended.
     pub fn tour(&self, alloc: Global) -> Result<Tour, AllocError>
         requires { (x : Course) × (course self.now ≡ Some x) × (x.ended ≡ true) }
-        ensures stops { IfOk result (λ tour. (x : Course) → course self.now ≡ Some x → tour ≡ x.left) }
+        ensures stops { IfOk result (λ tour. (x : Course) → course self.now ≡ Some x
+            → tour ≡ x.left) }
         ensures moves { IfOk result (λ tour. moves_of self.now.snapshot tour ≡ self.now.moves) }
     {
         stops_of(alloc, self.moves.as_slice())
@@ -184,7 +179,8 @@ impl<'a> Prefix<'a> {
 /// Fills the list with the moves after which the partial tour is lawful, boards of allowed calls only,
 /// in order.
 pub fn next_moves(prefix: &Prefix, allowed: CallSet, out: &mut Moves)
-    ensures { (x : Course) → course prefix.now ≡ Some x → out.new ≡ lawful_moves prefix.now.snapshot prefix.now.car x (has allowed) }
+    ensures { (x : Course) → course prefix.now ≡ Some x
+        → out.new ≡ lawful_moves prefix.now.snapshot prefix.now.car x (has allowed) }
 {
     let step = prefix.steps[prefix.moves.len()];
     fill(

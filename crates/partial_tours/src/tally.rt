@@ -15,7 +15,7 @@ ghost use Rattle.partial_tours.specs.Tallies.{Counts, IsTally, AreNoted, LeadsOn
 use crate::partial::place_after;
 use crate::points::Point;
 use call_state::Snapshot;
-use elevator_model::Move;
+use elevator_model::{MOMENT_LIMIT, Move};
 use tour_rules::places::{Heading, Place, persons_carried};
 use tour_rules::riding;
 
@@ -50,7 +50,12 @@ impl Tally {
         requires car { car < car_count snapshot.now }
         requires call { call < call_count snapshot.now }
         requires early { self.now.leaves ≤ 90000000000 }
-        ensures counts { (p : Progress) (stop : Stop) → IsKept snapshot.now car p → list_all (λ i. nat_lt i call) stop.boards ≡ true → may_stand snapshot.now car p (with_call_on stop call) ≡ true → Counts snapshot.now car self.now (make_stop snapshot.now car p stop) → Counts snapshot.now car result (make_stop snapshot.now car p (with_call_on stop call)) }
+        ensures counts { (p : Progress) (stop : Stop) → IsKept snapshot.now car p
+            → list_all (λ i. nat_lt i call) stop.boards ≡ true
+            → may_stand snapshot.now car p (with_call_on stop call) ≡ true
+            → Counts snapshot.now car self.now (make_stop snapshot.now car p stop)
+            → Counts snapshot.now car result
+            (make_stop snapshot.now car p (with_call_on stop call)) }
         ensures opened { result.opened ≡ self.now.opened }
         ensures later { self.now.leaves ≤ result.leaves }
         ensures late { result.leaves ≤ self.now.leaves + 150000000 }
@@ -79,8 +84,11 @@ impl Tally {
         requires early { self.now.leaves ≤ 90000000000 }
         requires small { self.now.settled ≤ 460800000000000000 }
         requires counted { call_count snapshot.now ≤ length moments.now }
-        requires low { (j : ℕ) → slice_index moments.now j ≤ 100000000000 }
-        ensures counts { (p : Progress) → Tracks snapshot.now car place.now p → IsKept snapshot.now car p → AreBoarded snapshot.now p moments.now → Counts snapshot.now car self.now p → Counts snapshot.now car result (make_stop snapshot.now car p (empty_stop floor)) }
+        requires low { (j : ℕ) → slice_index moments.now j ≤ MOMENT_LIMIT }
+        ensures counts { (p : Progress) → Tracks snapshot.now car place.now p
+            → IsKept snapshot.now car p → AreBoarded snapshot.now p moments.now
+            → Counts snapshot.now car self.now p
+            → Counts snapshot.now car result (make_stop snapshot.now car p (empty_stop floor)) }
         ensures timely { result.opened ≤ result.leaves }
         ensures late { result.leaves ≤ self.now.leaves + 150000000 }
     {
@@ -115,9 +123,12 @@ impl Tally {
         requires car { car < car_count snapshot.now }
         requires accepted { IsAccepted snapshot.now }
         requires counted { length moments.now ≡ 128 }
-        requires low { (j : ℕ) → slice_index moments.now j ≤ 100000000000 }
+        requires low { (j : ℕ) → slice_index moments.now j ≤ MOMENT_LIMIT }
         requires lawful { LeadsOnTallied snapshot.now car point.now self.now moments.now next }
-        ensures { (x y : Course) (count : ℕ) → TracksCourse snapshot.now car point.now x → IsTally snapshot.now car count self.now x → AreNoted snapshot.now car moments.now x → count < 450 → move_on snapshot.now car x next ≡ Some y → IsTally snapshot.now car (count + 1) result y }
+        ensures { (x y : Course) (count : ℕ) → TracksCourse snapshot.now car point.now x
+            → IsTally snapshot.now car count self.now x → AreNoted snapshot.now car moments.now x
+            → count < 450 → move_on snapshot.now car x next ≡ Some y
+            → IsTally snapshot.now car (count + 1) result y }
     {
         match next {
             Move::Board(call) => self.after_board(snapshot, car, call),

@@ -28,7 +28,9 @@ fn add_destination(
     floor: u32,
     floors: &mut Vec<u32>,
 ) -> Result<(), AllocError>
-    ensures { OnOk result (floors.new.items ≡ floors.old.items ++ (if is_destination_lem snapshot.now car floor then floor ∷ [] else [])) }
+    ensures { OnOk result
+        (floors.new.items ≡ floors.old.items ++
+        (if is_destination_lem snapshot.now car floor then floor ∷ [] else [])) }
 {
     if is_destination(snapshot, car, floor) {
         floors.push(floor)?;
@@ -61,7 +63,8 @@ fn floors_below(
     car: u32,
     floor: u32,
 ) -> Result<Vec<u32>, AllocError>
-    ensures { IfOk result (λ floors. floors.items ≡ falling (is_destination_lem snapshot.now car) floor) }
+    ensures { IfOk result
+        (λ floors. floors.items ≡ falling (is_destination_lem snapshot.now car) floor) }
 {
     let mut floors = Vec::new(alloc);
     for other in (0..floor).rev() {
@@ -99,8 +102,11 @@ fn nearest_open(snapshot: &Snapshot, car: u32, from: u32, up: bool, left: u64) -
     requires car { car < car_count snapshot.now }
     requires from { from < floor_count snapshot.now.building }
     requires left { left ≤ snapshot.now.moment }
-    requires some { any_below (floor_count snapshot.now.building) (is_open_lem snapshot.now.building car snapshot.now.moment (CarState.Moving from up left)) ≡ true }
-    ensures { is_open_lem snapshot.now.building car snapshot.now.moment (CarState.Moving from up left) result ≡ true }
+    requires some { any_below (floor_count snapshot.now.building)
+        (is_open_lem snapshot.now.building car snapshot.now.moment (CarState.Moving from up left))
+        ≡ true }
+    ensures { is_open_lem snapshot.now.building car snapshot.now.moment
+        (CarState.Moving from up left) result ≡ true }
 {
     let state = CarState::Moving { from, up, left };
     let mut nearest = None;

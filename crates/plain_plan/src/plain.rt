@@ -40,7 +40,8 @@ fn add_pending(
     pending: Option<u32>,
     next: u32,
 ) -> Result<(), AllocError>
-    ensures { OnOk result ((later : List Stop) → stops.new.items ++ later ≡ stops.old.items ++ after_pending pending next later) }
+    ensures { OnOk result ((later : List Stop)
+        → stops.new.items ++ later ≡ stops.old.items ++ after_pending pending next later) }
 {
     if let Some(floor) = pending {
         if floor != next {
@@ -60,7 +61,8 @@ fn add_served(
     calls: &[u32],
 ) -> Result<(), AllocError>
     requires { EachIndex calls.now (λ k. slice_index calls.now k < call_count snapshot.now) }
-    ensures { OnOk result (stops.new.items ≡ stops.old.items ++ served snapshot.now pending calls.now) }
+    ensures { OnOk result
+        (stops.new.items ≡ stops.old.items ++ served snapshot.now pending calls.now) }
 {
     let mut pending = pending;
     for call in calls {

@@ -34,7 +34,8 @@ impl Choices {
     /// The choices of a car. The error is want of memory alone.
     pub(crate) fn new(alloc: Global, snapshot: &Snapshot, car: u32) -> Result<Self, AllocError>
         requires { car < car_count snapshot.now }
-        ensures { IfOk result (λ choices. AreChoices snapshot.now car choices.tours.items choices.sums.items) }
+        ensures { IfOk result
+            (λ choices. AreChoices snapshot.now car choices.tours.items choices.sums.items) }
     {
         prove!(snapshot.calls().len() <= 128);
         let tours = feasible_tours(alloc, snapshot, car)?;
@@ -125,7 +126,7 @@ impl Rest {
 fn are_apart(left: CallSet, right: CallSet) -> bool
     ensures { IsTrue result ↔ ((k : ℕ) → k < 128 → has left k ≡ true → has right k ≡ false) }
 {
-    for call in 0..MOST_CALLS {
+    for call in 0..MOST_CALLS as u32 {
         if left.contains(call) && right.contains(call) {
             return false;
         }
@@ -166,7 +167,8 @@ fn better(
 
 /// No tours, where each call is taken: what the cars after the last one need.
 fn end_of(alloc: Global, snapshot: &Snapshot, taken: CallSet) -> Option<Rest>
-    ensures cheapest { (c : ℕ) → c ≡ car_count snapshot.now → IsCheapest snapshot.now (has taken) c result }
+    ensures cheapest { (c : ℕ) → c ≡ car_count snapshot.now
+        → IsCheapest snapshot.now (has taken) c result }
     ensures small { IsSmallCost 0 result }
 {
     prove!(snapshot.calls().len() <= 128);

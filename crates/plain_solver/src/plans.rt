@@ -24,7 +24,8 @@ pub struct Cheapest {
 /// It tries every choice of one feasible tour for each car: this is for a few calls only.
 pub fn cheapest_plan(alloc: Global, snapshot: &Snapshot) -> Result<Cheapest, AllocError>
     ensures optimal { IfOk result (λ cheapest. IsOptimal snapshot.now cheapest.plan) }
-    ensures cost { IfOk result (λ cheapest. cheapest.cost ≡ plan_cost_of snapshot.now cheapest.plan) }
+    ensures cost { IfOk result
+        (λ cheapest. cheapest.cost ≡ plan_cost_of snapshot.now cheapest.plan) }
 {
     let choices = all_choices(alloc, snapshot)?;
     let cheapest = cheapest_rest(alloc, snapshot, choices.as_slice(), 0, CallSet::empty())?;

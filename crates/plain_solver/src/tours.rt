@@ -85,7 +85,8 @@ fn add_tours_after(
     requires few { call_count prefix.old.snapshot ≤ 128 }
     requires lawful { IsLawful prefix.old.snapshot prefix.old.car (prefix.old.moves ++ next ∷ []) }
     ensures prefix { OnOk result (prefix.new ≡ prefix.old) }
-    ensures found { OnOk result (AddsTours (with_move prefix.old next) found.old.items found.new.items) }
+    ensures found { OnOk result
+        (AddsTours (with_move prefix.old next) found.old.items found.new.items) }
 {
     prefix.push(next);
     add_tours(alloc, prefix, found)?;

@@ -11,11 +11,8 @@ ghost use Rattle.tour_cost.specs.ShortForm.{short_cost_of};
 use crate::rides::{self, Ride};
 use call_sets::CallSet;
 use call_state::Snapshot;
-use elevator_model::{MOST_CALL_COST, MOST_COST, MOST_GROUPS_COST, Tour};
+use elevator_model::{MOST_CALL_COST, MOST_CALLS, MOST_COST, MOST_GROUPS_COST, Tour};
 use tour_rules::riding::cost_of_leaving;
-
-/// One moment for each call that a snapshot can have.
-const MOMENTS: usize = 128;
 
 /// The cost of a feasible tour of the car: that of the calls that it takes and of the groups aboard.
 ///
@@ -27,8 +24,10 @@ pub fn cost(snapshot: &Snapshot, car: u32, tour: &Tour) -> u64
     requires feasible { IsFeasible snapshot.now car tour.now }
     ensures cost { result ≡ cost_of snapshot.now car tour.now }
     ensures bounded { result ≤ MOST_COST }
-    ensures per_call { result ≤ MOST_CALL_COST * calls_served snapshot.now tour.now + MOST_GROUPS_COST }
-    ensures short { snapshot.now.building.version ≡ 1 → result ≡ short_cost_of snapshot.now car tour.now }
+    ensures per_call { result
+        ≤ MOST_CALL_COST * calls_served snapshot.now tour.now + MOST_GROUPS_COST }
+    ensures short { snapshot.now.building.version ≡ 1
+        → result ≡ short_cost_of snapshot.now car tour.now }
 {
     let mut ride = Ride::start(snapshot, car);
     let mut boarded = no_moments();
@@ -52,17 +51,18 @@ pub fn cost(snapshot: &Snapshot, car: u32, tour: &Tour) -> u64
 }
 
 /// The moments before anyone boarded.
-fn no_moments() -> [u64; MOMENTS]
+fn no_moments() -> [u64; MOST_CALLS]
     ensures { (j : ℕ) → slice_index result j ≡ 0 }
 {
-    [0; MOMENTS]
+    [0; MOST_CALLS]
 }
 
 /// Notes the moment at which these calls boarded.
-fn note_boarding(boarded: &mut [u64; MOMENTS], boards: CallSet, opened: u64)
-    ensures { (j : ℕ) → j < 128 → slice_index boarded.new j ≡ (if has boards j then opened else slice_index boarded.old j) }
+fn note_boarding(boarded: &mut [u64; MOST_CALLS], boards: CallSet, opened: u64)
+    ensures { (j : ℕ) → j < 128
+        → slice_index boarded.new j ≡ (if has boards j then opened else slice_index boarded.old j) }
 {
-    for j in 0..MOMENTS {
+    for j in 0..MOST_CALLS {
         if boards.contains(j as u32) {
             boarded[j] = opened;
         }

@@ -31,7 +31,8 @@ pub fn plan_cost(snapshot: &Snapshot, plan: &Plan) -> u64
 /// tour boards last. A call that a tour of an earlier car took boards a second time.
 pub fn judge_plan(snapshot: &Snapshot, plan: &Plan) -> Result<(), BadPlan>
     requires { length plan.now ≡ car_count snapshot.now }
-    ensures first { MatchResult result (λ _. first_bad snapshot.now plan.now ≡ None) (λ bad. first_bad snapshot.now plan.now ≡ Some bad) }
+    ensures first { MatchResult result (λ _. first_bad snapshot.now plan.now ≡ None)
+        (λ bad. first_bad snapshot.now plan.now ≡ Some bad) }
     ensures feasible { IsOk result ↔ IsFeasiblePlan snapshot.now plan.now }
 {
     let tours = plan.tours();

@@ -10,7 +10,7 @@ ghost use Rattle.tour_cost.specs.Rides.{Tracks, IsStopOf};
 
 use call_sets::{CallSet, FloorSet};
 use call_state::Snapshot;
-use elevator_model::Stop;
+use elevator_model::{MOMENT_LIMIT, Stop};
 use tour_rules::riding;
 
 /// How far a car is in its tour.
@@ -57,8 +57,9 @@ impl Ride {
         requires car { car < car_count snapshot.now }
         requires from { self.now.floor < floor_count snapshot.now.building }
         requires to { floor < floor_count snapshot.now.building }
-        requires early { self.now.leaves ≤ 100000000000 }
-        ensures value { (p : Progress) → Tracks snapshot.now car self.now p → result ≡ arrival snapshot.now car p floor }
+        requires early { self.now.leaves ≤ MOMENT_LIMIT }
+        ensures value { (p : Progress) → Tracks snapshot.now car self.now p
+            → result ≡ arrival snapshot.now car p floor }
         ensures late { result ≤ self.now.leaves + 20000000 }
     {
         riding::arrival(snapshot, car, self.begun, self.floor, self.leaves, floor)
@@ -68,9 +69,10 @@ impl Ride {
     pub(crate) fn make_stop(&self, snapshot: &Snapshot, car: u32, stop: &Stop) -> Self
         requires car { car < car_count snapshot.now }
         requires from { self.now.floor < floor_count snapshot.now.building }
-        requires early { self.now.leaves ≤ 100000000000 }
+        requires early { self.now.leaves ≤ MOMENT_LIMIT }
         requires stop { IsStopOf snapshot.now stop.now }
-        ensures stops { (p : Progress) → Tracks snapshot.now car self.now p → Tracks snapshot.now car result (make_stop snapshot.now car p stop.now) }
+        ensures stops { (p : Progress) → Tracks snapshot.now car self.now p
+            → Tracks snapshot.now car result (make_stop snapshot.now car p stop.now) }
         ensures floor { result.floor ≡ stop.now.floor }
         ensures opened { result.opened ≤ result.leaves }
         ensures late { result.leaves ≤ self.now.leaves + 150000000 }
@@ -112,7 +114,8 @@ pub(crate) fn calls_boarding(snapshot: &Snapshot, stop: &Stop) -> CallSet
 
 /// The calls whose destination is this floor.
 pub(crate) fn calls_to(snapshot: &Snapshot, floor: u32) -> CallSet
-    ensures { (j : ℕ) → j < call_count snapshot.now → has result j ≡ ((call_of snapshot.now j).destination == floor) }
+    ensures { (j : ℕ) → j < call_count snapshot.now
+        → has result j ≡ ((call_of snapshot.now j).destination == floor) }
 {
     let mut to_floor = CallSet::empty();
     let calls = snapshot.calls();
@@ -126,7 +129,8 @@ pub(crate) fn calls_to(snapshot: &Snapshot, floor: u32) -> CallSet
 
 /// The persons of a set of calls.
 fn persons_of_calls(snapshot: &Snapshot, set: CallSet) -> u64
-    ensures value { result ≡ sum_where (call_count snapshot.now) (has set) (λ j. (call_of snapshot.now j).persons) }
+    ensures value { result ≡ sum_where (call_count snapshot.now) (has set)
+        (λ j. (call_of snapshot.now j).persons) }
     ensures few { result ≤ 1024 }
 {
     let mut persons = 0;
@@ -142,7 +146,8 @@ fn persons_of_calls(snapshot: &Snapshot, set: CallSet) -> u64
 /// The persons of the groups aboard that get off at this floor.
 fn persons_of_groups_off(snapshot: &Snapshot, car: u32, visited: FloorSet, floor: u32) -> u64
     requires { car < car_count snapshot.now }
-    ensures value { result ≡ sum_where (length snapshot.now.aboard) (is_group_off snapshot.now car visited floor) (λ k. (group_of snapshot.now k).persons) }
+    ensures value { result ≡ sum_where (length snapshot.now.aboard)
+        (is_group_off snapshot.now car visited floor) (λ k. (group_of snapshot.now k).persons) }
     ensures few { result ≤ 64 }
 {
     let mut persons = 0;

@@ -5,7 +5,8 @@ use Rattle.elevator_model.specs.declared.Stop.{Stop}
 use Rattle.call_sets.specs.Counting.{has, is_among, sum_where}
 use Rattle.elevator_model.specs.Snapshot.{Snapshot, call_count, call_of, group_of}
 use Rattle.elevator_model.specs.Tours.{Progress, destination_of, persons_of, gets_off, boards_at, persons_where}
-use Rattle.tour_rules.specs.Leaving.{AreCarried, is_call_off, is_group_carried, is_group_off}
+use Rattle.tour_rules.specs.Places.{group_carried}
+use Rattle.tour_rules.specs.Leaving.{AreCarried, is_call_off, is_group_off}
 use Rattle.call_sets.proofs.Sums.{sum_where-none}
 use Rattle.tour_rules.proofs.RiderSums.{is_call, is_no_call, destination_of-call, destination_of-group, persons_of-call, persons_of-group, sum_riders}
 
@@ -22,7 +23,7 @@ off-call s c p g carried visited t j b =
 
 pub off-group : (s : Snapshot) (c : ℕ) (p : Progress) (g carried visited : ℕ) → AreCarried s c carried visited p → (k : ℕ) → k < length s.aboard → gets_off s p g (call_count s + k) ≡ is_group_off s c visited g k
 off-group s c p g carried visited t k b =
-    ap (λ (x : Bool). x && eqb (destination_of s (call_count s + k)) g) (t.groups k b) ∙ ap (λ (d : ℕ). is_group_carried s c visited k && eqb d g) (destination_of-group s k)
+    ap (λ (x : Bool). x && eqb (destination_of s (call_count s + k)) g) (t.groups k b) ∙ ap (λ (d : ℕ). group_carried s.aboard c visited k && eqb d g) (destination_of-group s k)
 
 pub persons_off : (s : Snapshot) (c : ℕ) (p : Progress) (g carried visited off : ℕ) → AreCarried s c carried visited p → AreOff s g carried off → persons_where s (gets_off s p g) ≡ sum_where (call_count s) (has off) (λ j. (call_of s j).persons) + sum_where (length s.aboard) (is_group_off s c visited g) (λ k. (group_of s k).persons)
 persons_off s c p g carried visited off t o =

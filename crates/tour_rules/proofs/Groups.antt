@@ -6,7 +6,8 @@ use Rattle.elevator_model.specs.declared.Aboard.{Aboard}
 use Rattle.call_sets.specs.Counting.{has, is_among, sum_where}
 use Rattle.elevator_model.specs.Building.{Building, IsBuilding}
 use Rattle.elevator_model.specs.Snapshot.{Snapshot, group_of, no_group, car_count, IsAccepted}
-use Rattle.tour_rules.specs.Leaving.{is_group_off, is_group_carried, group_cost, cost_of_group}
+use Rattle.tour_rules.specs.Places.{group_carried}
+use Rattle.tour_rules.specs.Leaving.{is_group_off, group_cost, cost_of_group}
 use Rattle.call_sets.proofs.Sums.{sum_below-up, sum_where-times}
 use Rattle.tour_rules.proofs.Bounds.{ride-le, aboard-le}
 
@@ -21,7 +22,7 @@ off-here s c visited g k groups r same tested = cc
 
 pub off-aboard : (s : Snapshot) (c visited g k : ℕ) → is_group_off s c visited g k ≡ true → eqb (group_of s k).car c ≡ true
 off-aboard s c visited g k h =
-    let carried = (and_parts (is_group_carried s c visited k) (eqb (group_of s k).destination g) h).0 in
+    let carried = (and_parts (group_carried s.aboard c visited k) (eqb (group_of s k).destination g) h).0 in
     (and_parts (eqb (group_of s k).car c) (not (has visited (group_of s k).destination)) carried).0
 
 -- the groups of a car have few persons, and so a sum of values for each person that get off is small

@@ -6,24 +6,21 @@ use Rattle.call_sets.specs.Counting.{has, sum_where}
 use Rattle.elevator_model.specs.Building.{Building}
 use Rattle.elevator_model.specs.Snapshot.{Snapshot, call_count, call_of, group_of}
 use Rattle.elevator_model.specs.Tours.{Progress, rider_count, gets_off, is_aboard}
+use Rattle.tour_rules.specs.Places.{group_carried}
 use Rattle.elevator_model.specs.Costs.{cost_of_wait, cost_of_rider}
 
 -- a call of the set that gets off at floor g
 abbrev pub is_call_off : Snapshot → (carried g j : ℕ) → Bool
 is_call_off s carried g j = has carried j && ((call_of s j).destination == g)
 
--- a group of the car is carried until the car stops at its destination
-abbrev pub is_group_carried : Snapshot → ℕ → (visited k : ℕ) → Bool
-is_group_carried s c visited k = ((group_of s k).car == c) && not (has visited (group_of s k).destination)
-
 -- a group that gets off at floor g
 abbrev pub is_group_off : Snapshot → ℕ → (visited g k : ℕ) → Bool
-is_group_off s c visited g k = is_group_carried s c visited k && ((group_of s k).destination == g)
+is_group_off s c visited g k = group_carried s.aboard c visited k && ((group_of s k).destination == g)
 
 -- who is carried: the calls of a set, and the groups at whose destinations the car has not stopped
 pub record AreCarried (s : Snapshot) (c carried visited : ℕ) (p : Progress) : Type 0 where
   pub calls : (j : ℕ) → j < call_count s → p.carried j ≡ has carried j
-  pub groups : (k : ℕ) → k < length s.aboard → p.carried (call_count s + k) ≡ is_group_carried s c visited k
+  pub groups : (k : ℕ) → k < length s.aboard → p.carried (call_count s + k) ≡ group_carried s.aboard c visited k
 
 -- what a call costs that boards and gets off at these moments
 abbrev pub call_cost : Building → Call → (boarded delivered : ℕ) → ℕ

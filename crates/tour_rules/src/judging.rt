@@ -42,7 +42,8 @@ fn breaks(
 ) -> bool
     requires car { car < car_count snapshot.now }
     requires boards { HasBoards snapshot.now boards stop.now }
-    ensures { (p : Progress) → Tracks snapshot.now car place.now p → result ≡ breaks_lem snapshot.now car (has taken) p stop.now rule }
+    ensures { (p : Progress) → Tracks snapshot.now car place.now p
+        → result ≡ breaks_lem snapshot.now car (has taken) p stop.now rule }
 {
     let calls = snapshot.calls();
     match rule {
@@ -77,7 +78,8 @@ fn broken_at(
 ) -> Option<Rule>
     requires car { car < car_count snapshot.now }
     requires boards { HasBoards snapshot.now boards stop.now }
-    ensures { (p : Progress) → Tracks snapshot.now car place.now p → result ≡ broken_at_lem snapshot.now car (has taken) p stop.now }
+    ensures { (p : Progress) → Tracks snapshot.now car place.now p
+        → result ≡ broken_at_lem snapshot.now car (has taken) p stop.now }
 {
     for rule in STOP_RULES {
         if breaks(snapshot, car, taken, place, stop, boards, rule) {
@@ -90,7 +92,8 @@ fn broken_at(
 /// The rule that is broken where the tour ends here.
 pub fn broken_at_end(snapshot: &Snapshot, car: u32, place: &Place) -> Option<Rule>
     requires { car < car_count snapshot.now }
-    ensures { (p : Progress) → Tracks snapshot.now car place.now p → result ≡ broken_at_end_lem snapshot.now car p }
+    ensures { (p : Progress) → Tracks snapshot.now car place.now p
+        → result ≡ broken_at_end_lem snapshot.now car p }
 {
     if !needs_use(snapshot, car, place) {
         return Some(Rule::FirstStop);
@@ -105,7 +108,8 @@ pub fn broken_at_end(snapshot: &Snapshot, car: u32, place: &Place) -> Option<Rul
 /// counted from 1; where someone is carried at the end, the stop is the number of stops plus 1.
 pub fn judge(snapshot: &Snapshot, car: u32, tour: &Tour) -> Result<(), Broken>
     requires { car < car_count snapshot.now }
-    ensures { MatchResult result (λ _. first_broken snapshot.now car tour.now ≡ None) (λ b. first_broken snapshot.now car tour.now ≡ Some b) }
+    ensures { MatchResult result (λ _. first_broken snapshot.now car tour.now ≡ None)
+        (λ b. first_broken snapshot.now car tour.now ≡ Some b) }
 {
     judge_after(snapshot, car, CallSet::empty(), tour)
 }
@@ -114,7 +118,10 @@ pub fn judge(snapshot: &Snapshot, car: u32, tour: &Tour) -> Result<(), Broken>
 /// time.
 pub fn judge_after(snapshot: &Snapshot, car: u32, taken: CallSet, tour: &Tour) -> Result<(), Broken>
     requires { car < car_count snapshot.now }
-    ensures { MatchResult result (λ _. first_broken_from snapshot.now car (has taken) (start_of snapshot.now car) 1 tour.now ≡ None) (λ b. first_broken_from snapshot.now car (has taken) (start_of snapshot.now car) 1 tour.now ≡ Some b) }
+    ensures { MatchResult result
+        (λ _. first_broken_from snapshot.now car (has taken) (start_of snapshot.now car) 1 tour.now
+        ≡ None) (λ b. first_broken_from snapshot.now car (has taken)
+        (start_of snapshot.now car) 1 tour.now ≡ Some b) }
 {
     let calls = snapshot.calls();
     let mut place = at_start(snapshot, car);

@@ -107,7 +107,8 @@ fn persons_of_calls(calls: &[Call], set: CallSet, heading: Heading) -> u32
 /// The persons of the groups that are still aboard and have such a destination.
 fn persons_of_groups(groups: &[Aboard], car: u32, visited: FloorSet, heading: Heading) -> u32
     requires floors { (k : ℕ) → k < length groups.now → (group_in groups.now k).destination < 64 }
-    requires few { sum_where (length groups.now) (λ k. (group_in groups.now k).car == car) (λ k. (group_in groups.now k).persons) ≤ 64 }
+    requires few { sum_where (length groups.now) (λ k. (group_in groups.now k).car == car)
+        (λ k. (group_in groups.now k).persons) ≤ 64 }
     ensures value { result
         ≡ sum_where (length groups.now) (group_heads groups.now car visited heading) (λ k. (group_in groups.now k).persons) }
     ensures small { result ≤ 64 }
@@ -124,7 +125,8 @@ fn persons_of_groups(groups: &[Aboard], car: u32, visited: FloorSet, heading: He
 /// The calls of the set that have another destination than this floor.
 fn calls_staying(calls: &[Call], set: CallSet, floor: u32) -> CallSet
     requires { length calls.now ≤ 128 }
-    ensures { (j : ℕ) → j < length calls.now → has result j ≡ (has set j && not ((call_in calls.now j).destination == floor)) }
+    ensures { (j : ℕ) → j < length calls.now
+        → has result j ≡ (has set j && not ((call_in calls.now j).destination == floor)) }
 {
     let mut staying = CallSet::empty();
     for (j, call) in calls.iter().enumerate() {
@@ -157,7 +159,8 @@ pub fn persons_carried(snapshot: &Snapshot, car: u32, place: &Place, heading: He
 
 /// The persons of the calls that board.
 pub fn persons_boarding(snapshot: &Snapshot, boards: CallSet) -> u32
-    ensures value { (test : ℕ → Bool) → IsBoardSet snapshot.now boards test → result ≡ persons_where snapshot.now test }
+    ensures value { (test : ℕ → Bool) → IsBoardSet snapshot.now boards test
+        → result ≡ persons_where snapshot.now test }
     ensures small { result ≤ 1024 }
 {
     persons_of_calls(snapshot.calls(), boards, Heading::Anywhere)
@@ -180,7 +183,9 @@ pub fn at_start(snapshot: &Snapshot, car: u32) -> Place
 /// The car after a stop at this floor, where these calls board.
 pub fn after_stop(snapshot: &Snapshot, place: &Place, floor: u32, boards: CallSet) -> Place
     requires { floor < 64 }
-    ensures { (c : ℕ) (p : Progress) (test : ℕ → Bool) → Tracks snapshot.now c place.now p → IsBoardSet snapshot.now boards test → Tracks snapshot.now c result (stop_at snapshot.now c p floor test) }
+    ensures { (c : ℕ) (p : Progress) (test : ℕ → Bool) → Tracks snapshot.now c place.now p
+        → IsBoardSet snapshot.now boards test
+        → Tracks snapshot.now c result (stop_at snapshot.now c p floor test) }
 {
     let staying = calls_staying(snapshot.calls(), place.carried, floor);
     Place {

@@ -13,6 +13,7 @@ ghost use Rattle.tour_rules.specs.Leaving.{AreCarried, IsKept, AreBoarded, is_ca
 use crate::places::is_carried;
 use call_sets::{CallSet, FloorSet};
 use call_state::{Aboard, Building, Call, CarState, Snapshot};
+use elevator_model::{MOMENT_LIMIT, MOST_CALL_COST, MOST_GROUPS_COST};
 
 /// The moment at which a car that leaves the floor `from` at the moment `leaves` arrives at a next stop at
 /// the floor `to`. `begun` says whether it has made a stop: before that a coming car arrives at `leaves`.
@@ -20,8 +21,9 @@ pub fn arrival(snapshot: &Snapshot, car: u32, begun: bool, from: u32, leaves: u6
     requires car { car < car_count snapshot.now }
     requires from { from < floor_count snapshot.now.building }
     requires to { to < floor_count snapshot.now.building }
-    requires early { leaves ≤ 100000000000 }
-    ensures value { (p : Progress) → begun ≡ p.begun → from ≡ p.floor → leaves ≡ p.leaves → result ≡ arrival_lem snapshot.now car p to }
+    requires early { leaves ≤ MOMENT_LIMIT }
+    ensures value { (p : Progress) → begun ≡ p.begun → from ≡ p.floor → leaves ≡ p.leaves
+        → result ≡ arrival_lem snapshot.now car p to }
     ensures late { result ≤ leaves + 20000000 }
 {
     if begun || !snapshot.car(car).is_coming() {
@@ -46,7 +48,8 @@ pub fn dwell_of(snapshot: &Snapshot, car: u32, off: u64, on: u64) -> u64
     requires car { car < car_count snapshot.now }
     requires off { off ≤ 1088 }
     requires on { on ≤ 1024 }
-    ensures value { result ≡ (spec_of snapshot.now car).alighting * off + (spec_of snapshot.now car).boarding * on + (spec_of snapshot.now car).closing }
+    ensures value { result ≡ (spec_of snapshot.now car).alighting * off +
+        (spec_of snapshot.now car).boarding * on + (spec_of snapshot.now car).closing }
     ensures short { result ≤ 129000000 }
 {
     let spec = snapshot.spec(car);
@@ -57,7 +60,8 @@ pub fn dwell_of(snapshot: &Snapshot, car: u32, off: u64, on: u64) -> u64
 /// the car has stopped.
 pub fn is_off(group: &Aboard, car: u32, visited: FloorSet, floor: u32) -> bool
     requires { group.now.destination < 64 }
-    ensures { result ≡ (((group.now.car == car) && not (has visited group.now.destination)) && (group.now.destination == floor)) }
+    ensures { result ≡ (((group.now.car == car) && not (has visited group.now.destination)) &&
+        (group.now.destination == floor)) }
 {
     is_carried(group, car, visited) && group.destination == floor
 }
@@ -77,9 +81,12 @@ pub fn cost_of_leaving(
 ) -> u64
     requires car { car < car_count snapshot.now }
     requires counted { call_count snapshot.now ≤ length moments.now }
-    requires boarded { (j : ℕ) → j < call_count snapshot.now → slice_index moments.now j ≤ 100000000000 }
-    requires early { opened ≤ 100000000000 }
-    ensures cost { (p : Progress) → AreCarried snapshot.now car carried visited p → IsKept snapshot.now car p → AreBoarded snapshot.now p moments.now → result ≡ leaving_cost snapshot.now p floor opened }
+    requires boarded { (j : ℕ) → j < call_count snapshot.now
+        → slice_index moments.now j ≤ MOMENT_LIMIT }
+    requires early { opened ≤ MOMENT_LIMIT }
+    ensures cost { (p : Progress) → AreCarried snapshot.now car carried visited p
+        → IsKept snapshot.now car p → AreBoarded snapshot.now p moments.now
+        → result ≡ leaving_cost snapshot.now p floor opened }
     ensures bounded { result ≤ 400000000000000000 }
 {
     cost_of_calls_off(snapshot, carried, floor, opened, moments)
@@ -95,9 +102,12 @@ fn cost_of_calls_off(
     moments: &[u64],
 ) -> u64
     requires counted { call_count snapshot.now ≤ length moments.now }
-    requires boarded { (j : ℕ) → j < call_count snapshot.now → slice_index moments.now j ≤ 100000000000 }
-    requires delivered { delivered ≤ 100000000000 }
-    ensures cost { result ≡ sum_where (call_count snapshot.now) (is_call_off snapshot.now carried floor) (λ j. cost_of_call_lem snapshot.now j (slice_index moments.now j) delivered) }
+    requires boarded { (j : ℕ) → j < call_count snapshot.now
+        → slice_index moments.now j ≤ MOMENT_LIMIT }
+    requires delivered { delivered ≤ MOMENT_LIMIT }
+    ensures cost { result ≡ sum_where (call_count snapshot.now)
+        (is_call_off snapshot.now carried floor)
+        (λ j. cost_of_call_lem snapshot.now j (slice_index moments.now j) delivered) }
     ensures bounded { result ≤ 310000000000000000 }
 {
     let mut cost = 0;
@@ -120,9 +130,11 @@ fn cost_of_groups_off(
     delivered: u64,
 ) -> u64
     requires car { car < car_count snapshot.now }
-    requires delivered { delivered ≤ 100000000000 }
-    ensures cost { result ≡ sum_where (length snapshot.now.aboard) (is_group_off snapshot.now car visited floor) (λ k. cost_of_group_lem snapshot.now k delivered) }
-    ensures bounded { result ≤ 6400000000000000 }
+    requires delivered { delivered ≤ MOMENT_LIMIT }
+    ensures cost { result ≡ sum_where (length snapshot.now.aboard)
+        (is_group_off snapshot.now car visited floor)
+        (λ k. cost_of_group_lem snapshot.now k delivered) }
+    ensures bounded { result ≤ MOST_GROUPS_COST }
 {
     let mut cost = 0;
     let building = snapshot.building();
@@ -138,10 +150,10 @@ fn cost_of_groups_off(
 /// The cost of a call that boards and gets off at these moments.
 fn cost_of_call(building: &Building, call: &Call, boarded: u64, delivered: u64) -> u64
     requires persons { call.now.persons ≤ 8 }
-    requires boarded { boarded ≤ 100000000000 }
-    requires delivered { delivered ≤ 100000000000 }
+    requires boarded { boarded ≤ MOMENT_LIMIT }
+    requires delivered { delivered ≤ MOMENT_LIMIT }
     ensures cost { result ≡ call_cost building.now call.now boarded delivered }
-    ensures bounded { result ≤ 2400000000000000 }
+    ensures bounded { result ≤ MOST_CALL_COST }
 {
     let wait = boarded.saturating_sub(call.released);
     let over = wait.saturating_sub(building.patience());
@@ -155,7 +167,7 @@ fn cost_of_call(building: &Building, call: &Call, boarded: u64, delivered: u64) 
 /// The cost of a group aboard that gets off at this moment.
 fn cost_of_group(building: &Building, group: &Aboard, delivered: u64) -> u64
     requires persons { group.now.persons ≤ 8 }
-    requires delivered { delivered ≤ 100000000000 }
+    requires delivered { delivered ≤ MOMENT_LIMIT }
     ensures cost { result ≡ group_cost building.now group.now delivered }
     ensures bounded { result ≤ 100000000000000 * group.now.persons }
 {

@@ -34,7 +34,8 @@ pub fn board_set(boards: &[u32], calls: usize) -> CallSet
 /// Whether a call of the set is a later one of the queue of `call`.
 pub fn overtakes(calls: &[Call], boarded: CallSet, call: &Call) -> bool
     requires { length calls.now ≤ 128 }
-    ensures { result ≡ any_below (length calls.now) (λ k. has boarded k && is_later_in_queue_lem (call_in calls.now k) call.now) }
+    ensures { result ≡ any_below (length calls.now)
+        (λ k. has boarded k && is_later_in_queue_lem (call_in calls.now k) call.now) }
 {
     for (k, other) in calls.iter().enumerate() {
         if boarded.contains(k as u32) && other.is_later_in_queue(call) {
@@ -47,7 +48,9 @@ pub fn overtakes(calls: &[Call], boarded: CallSet, call: &Call) -> bool
 /// Whether a call that boards is overtaken by one that boarded before.
 pub fn any_overtakes(calls: &[Call], boards: CallSet, boarded: CallSet) -> bool
     requires { length calls.now ≤ 128 }
-    ensures { result ≡ any_below (length calls.now) (λ j. has boards j && any_below (length calls.now) (λ k. has boarded k && is_later_in_queue_lem (call_in calls.now k) (call_in calls.now j))) }
+    ensures { result ≡ any_below (length calls.now)
+        (λ j. has boards j && any_below (length calls.now)
+        (λ k. has boarded k && is_later_in_queue_lem (call_in calls.now k) (call_in calls.now j))) }
 {
     for (j, call) in calls.iter().enumerate() {
         if boards.contains(j as u32) && overtakes(calls, boarded, call) {
@@ -60,7 +63,8 @@ pub fn any_overtakes(calls: &[Call], boards: CallSet, boarded: CallSet) -> bool
 /// Whether a call that boards waits at another floor.
 pub fn any_elsewhere(calls: &[Call], boards: CallSet, floor: u32) -> bool
     requires { length calls.now ≤ 128 }
-    ensures { result ≡ any_below (length calls.now) (λ j. has boards j && not ((call_in calls.now j).origin == floor)) }
+    ensures { result ≡ any_below (length calls.now)
+        (λ j. has boards j && not ((call_in calls.now j).origin == floor)) }
 {
     for (j, call) in calls.iter().enumerate() {
         if boards.contains(j as u32) && call.origin != floor {
@@ -80,7 +84,8 @@ fn times_in(boards: &[u32], call: u32) -> usize
 /// Whether a call boarded before, is taken by another car, or stands in the list twice.
 fn is_again(call: u32, boarded: CallSet, taken: CallSet, boards: &[u32]) -> bool
     requires { call < 128 }
-    ensures { result ≡ ((has boarded call || has taken call) || nat_le 2 (count_by (λ x. x == call) boards.now)) }
+    ensures { result ≡
+        ((has boarded call || has taken call) || nat_le 2 (count_by (λ x. x == call) boards.now)) }
 {
     boarded.contains(call) || taken.contains(call) || times_in(boards, call) >= 2
 }
@@ -94,7 +99,9 @@ pub fn any_twice(
     boards: &[u32],
 ) -> bool
     requires { calls ≤ 128 }
-    ensures { result ≡ any_below calls (λ j. has set j && ((has boarded j || has taken j) || nat_le 2 (count_by (λ x. x == j) boards.now))) }
+    ensures { result ≡ any_below calls
+        (λ j. has set j &&
+        ((has boarded j || has taken j) || nat_le 2 (count_by (λ x. x == j) boards.now))) }
 {
     for j in 0..calls as u32 {
         if set.contains(j) && is_again(j, boarded, taken, boards) {
@@ -115,7 +122,8 @@ pub fn any_foreign(snapshot: &Snapshot, car: u32, boards: &[u32]) -> bool
 /// Whether the car may make its first stop at this floor.
 fn may_stop_first(snapshot: &Snapshot, car: u32, floor: u32) -> bool
     requires { car < car_count snapshot.now }
-    ensures { result ≡ may_stop_first_lem snapshot.now.building car snapshot.now.moment (state_of snapshot.now car) floor }
+    ensures { result ≡ may_stop_first_lem snapshot.now.building car snapshot.now.moment
+        (state_of snapshot.now car) floor }
 {
     match snapshot.car(car) {
         CarState::Idle { .. } => true,
@@ -149,7 +157,9 @@ fn has_leg(snapshot: &Snapshot, car: u32, place: &Place) -> bool
 /// Whether nobody gets off and no call boards where the stop has to be of use.
 pub fn is_useless(snapshot: &Snapshot, car: u32, place: &Place, floor: u32, boards: CallSet) -> bool
     requires { car < car_count snapshot.now }
-    ensures { (p : Progress) (stop : Stop) → Tracks snapshot.now car place.now p → stop.floor ≡ floor → HasBoards snapshot.now boards stop → result ≡ breaks_lem snapshot.now car none_taken p stop Rule.UselessStop }
+    ensures { (p : Progress) (stop : Stop) → Tracks snapshot.now car place.now p
+        → stop.floor ≡ floor → HasBoards snapshot.now boards stop
+        → result ≡ breaks_lem snapshot.now car none_taken p stop Rule.UselessStop }
 {
     let needs_use = needs_use(snapshot, car, place);
     let anyone_off = any_carried(snapshot, car, place, Heading::To(floor));
@@ -166,7 +176,8 @@ fn lacks_use(needs_use: bool, anyone_off: bool, anyone_on: bool) -> bool
 /// Whether someone carried would ride past or away from the destination on the leg to this floor.
 pub fn turns_away(snapshot: &Snapshot, car: u32, place: &Place, floor: u32) -> bool
     requires { car < car_count snapshot.now }
-    ensures { (p : Progress) → Tracks snapshot.now car place.now p → result ≡ (has_leg_lem snapshot.now car p && turns_with snapshot.now p p.floor floor) }
+    ensures { (p : Progress) → Tracks snapshot.now car place.now p
+        → result ≡ (has_leg_lem snapshot.now car p && turns_with snapshot.now p p.floor floor) }
 {
     let has_leg = has_leg(snapshot, car, place);
     let any_below = any_carried(snapshot, car, place, Heading::Below(floor));
@@ -177,7 +188,8 @@ pub fn turns_away(snapshot: &Snapshot, car: u32, place: &Place, floor: u32) -> b
 /// Whether a leg leads upwards with someone for a floor below its end, or downwards with someone for one
 /// above it.
 fn is_turn(has_leg: bool, from: u32, to: u32, any_below: bool, any_above: bool) -> bool
-    ensures { result ≡ (has_leg && ((nat_lt from to && any_below) || (nat_lt to from && any_above))) }
+    ensures { result ≡
+        (has_leg && ((nat_lt from to && any_below) || (nat_lt to from && any_above))) }
 {
     has_leg && (from < to && any_below || to < from && any_above)
 }
@@ -191,7 +203,9 @@ pub fn is_overfull(
     boards: CallSet,
 ) -> bool
     requires { car < car_count snapshot.now }
-    ensures { (p : Progress) (stop : Stop) → Tracks snapshot.now car place.now p → stop.floor ≡ floor → HasBoards snapshot.now boards stop → result ≡ breaks_lem snapshot.now car none_taken p stop Rule.Capacity }
+    ensures { (p : Progress) (stop : Stop) → Tracks snapshot.now car place.now p
+        → stop.floor ≡ floor → HasBoards snapshot.now boards stop
+        → result ≡ breaks_lem snapshot.now car none_taken p stop Rule.Capacity }
 {
     let staying = persons_carried(snapshot, car, place, Heading::Elsewhere(floor));
     let boarding = persons_boarding(snapshot, boards);
@@ -208,7 +222,10 @@ pub fn stays_put(place: &Place, floor: u32) -> bool
 /// Whether the car may not make its first stop at this floor.
 pub fn starts_wrong(snapshot: &Snapshot, car: u32, place: &Place, floor: u32) -> bool
     requires { car < car_count snapshot.now }
-    ensures { result ≡ (not place.now.begun && not (may_stop_first_lem snapshot.now.building car snapshot.now.moment (state_of snapshot.now car) floor)) }
+    ensures { result ≡
+        (not place.now.begun && not
+        (may_stop_first_lem snapshot.now.building car snapshot.now.moment
+        (state_of snapshot.now car) floor)) }
 {
     !place.begun && !may_stop_first(snapshot, car, floor)
 }

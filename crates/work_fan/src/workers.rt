@@ -149,20 +149,24 @@ fn both_halves<
     ensures desks { All (J.serves jobs.now) near.new × All (J.serves jobs.now) far.new }
 {
     let mut mine = || -> Result<(), AllocError>
-        requires threads { IsSync R.row × IsSync J.row × IsSync G.row × IsSend D.row × IsSend A.row }
+        requires threads { IsSync R.row × IsSync J.row × IsSync G.row × IsSend D.row
+            × IsSend A.row }
         requires jobs { line.now.count ≡ J.number jobs.now }
         requires worker { Starts line.now (length near.now) worker.now }
         requires desks { Serving (J.serves jobs.now) near.now }
-        ensures done { OnOk result (Finished (J.is_right jobs.entry.now) line.entry.now.count worker.exit.now) }
+        ensures done { OnOk result
+            (Finished (J.is_right jobs.entry.now) line.entry.now.count worker.exit.now) }
         ensures seat { SameSeat worker.entry.now worker.exit.now }
         ensures desks { All (J.serves jobs.entry.now) near.exit.now }
     { work_at(rt, alloc, line, jobs, gate, worker, near) };
     let mut theirs = || -> Result<(), AllocError>
-        requires threads { IsSync R.row × IsSync J.row × IsSync G.row × IsSend D.row × IsSend A.row }
+        requires threads { IsSync R.row × IsSync J.row × IsSync G.row × IsSend D.row
+            × IsSend A.row }
         requires jobs { line.now.count ≡ J.number jobs.now }
         requires worker { Starts line.now (length far.now) other.now }
         requires desks { Serving (J.serves jobs.now) far.now }
-        ensures done { OnOk result (Finished (J.is_right jobs.entry.now) line.entry.now.count other.exit.now) }
+        ensures done { OnOk result
+            (Finished (J.is_right jobs.entry.now) line.entry.now.count other.exit.now) }
         ensures seat { SameSeat other.entry.now other.exit.now }
         ensures desks { All (J.serves jobs.entry.now) far.exit.now }
     { work_at(rt, alloc, line, jobs, gate, other, far) };

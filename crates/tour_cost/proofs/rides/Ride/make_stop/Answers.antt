@@ -27,6 +27,8 @@ returns-clause-stops c = λ p t.
       floor = refl;
       opened = opened;
       leaves = leaves ∙ ap (λ (n : ℕ). n + spec.alighting * persons_where s (gets_off s p stop.floor) + spec.boarding * persons_where s (boards_at s stop) + spec.closing) opened;
-      calls = carried-call s car ride p stop c.intersection-off.result c.calls_boarding-boards.result c.minus.result c.union.result t off c.calls_boarding-boards.ensures c.minus.ensures c.union.ensures;
-      groups = carried-group s car ride p stop _ t c.with.ensures;
+      carried = record {
+        calls = carried-call s car ride p stop c.intersection-off.result c.calls_boarding-boards.result c.minus.result c.union.result t off c.calls_boarding-boards.ensures c.minus.ensures c.union.ensures;
+        groups = carried-group s car ride p stop _ t c.with.ensures;
+      };
     }
