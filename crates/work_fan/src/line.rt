@@ -177,7 +177,9 @@ impl JobLine {
         ensures kept { (seat.new.line ≡ seat.old.line)
             × (seat.new.drawn ≡ [])
             × (seat.new.allowance + part ≡ seat.old.allowance) }
-        ensures made { (result.line ≡ seat.old.line) × (result.drawn ≡ []) × (result.allowance ≡ part) }
+        ensures made { (result.line ≡ seat.old.line)
+            × (result.drawn ≡ [])
+            × (result.allowance ≡ part) }
     {
         self.split_by::<Brand>(seat, part)
     }
@@ -190,7 +192,9 @@ impl JobLine {
         ensures kept { (seat.new.line ≡ seat.old.line)
             × (seat.new.drawn ≡ [])
             × (seat.new.allowance + part ≡ seat.old.allowance) }
-        ensures made { (result.line ≡ seat.old.line) × (result.drawn ≡ []) × (result.allowance ≡ part) }
+        ensures made { (result.line ≡ seat.old.line)
+            × (result.drawn ≡ [])
+            × (result.allowance ≡ part) }
     {
         let _ = part;
         let new = self.table.shared.split_seat::<Cutting<P>>(&mut seat.seat);

@@ -153,7 +153,8 @@ fn both_halves<
         requires jobs { line.now.count ≡ J.number jobs.now }
         requires worker { Starts line.now (length near.now) worker.now }
         requires desks { Serving (J.serves jobs.now) near.now }
-        ensures done { OnOk result (Finished (J.is_right jobs.entry.now) line.entry.now.count worker.exit.now) }
+        ensures done { OnOk result
+            (Finished (J.is_right jobs.entry.now) line.entry.now.count worker.exit.now) }
         ensures seat { SameSeat worker.entry.now worker.exit.now }
         ensures desks { All (J.serves jobs.entry.now) near.exit.now }
     { work_at(rt, alloc, line, jobs, gate, worker, near) };
@@ -162,7 +163,8 @@ fn both_halves<
         requires jobs { line.now.count ≡ J.number jobs.now }
         requires worker { Starts line.now (length far.now) other.now }
         requires desks { Serving (J.serves jobs.now) far.now }
-        ensures done { OnOk result (Finished (J.is_right jobs.entry.now) line.entry.now.count other.exit.now) }
+        ensures done { OnOk result
+            (Finished (J.is_right jobs.entry.now) line.entry.now.count other.exit.now) }
         ensures seat { SameSeat other.entry.now other.exit.now }
         ensures desks { All (J.serves jobs.entry.now) far.exit.now }
     { work_at(rt, alloc, line, jobs, gate, other, far) };
