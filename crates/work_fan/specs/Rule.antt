@@ -23,11 +23,13 @@ Fitting count shares =
 pub record IsKept {S : Type 0} (limits : Limits) (state : State S Share) : Type 0 where
   pub small : limits.count + limits.workers < 2 ^ 63
   pub one_word : length state.words ≡ 1
-  pub once : (x : ℕ) → sum_by (λ (s : Share). times x s.drawn) state.views ≡ times_below x (slice_index state.words 0)
+  pub once : (x : ℕ)
+      → sum_by (λ (s : Share). times x s.drawn) state.views ≡ times_below x (slice_index state.words 0)
   pub allowances : sum_by (λ (s : Share). s.allowance) state.views ≡ limits.workers
   pub fitting : Fitting limits.count state.views
   pub draws : sum_by (λ (s : Share). length s.drawn) state.views ≡ slice_index state.words 0
-  pub past_draws : sum_by (λ (s : Share). past limits.count s.drawn) state.views ≡ slice_index state.words 0 - limits.count
+  pub past_draws :
+      sum_by (λ (s : Share). past limits.count s.drawn) state.views ≡ slice_index state.words 0 - limits.count
 
 module _ {S : Type 0} where
   -- the number found is drawn; all that the seat drew before is below it

@@ -177,7 +177,8 @@ impl JobLine {
         ensures kept { (seat.new.line ≡ seat.old.line)
             × (seat.new.drawn ≡ [])
             × (seat.new.allowance + part ≡ seat.old.allowance) }
-        ensures made { (result.line ≡ seat.old.line) × (result.drawn ≡ [])
+        ensures made { (result.line ≡ seat.old.line)
+            × (result.drawn ≡ [])
             × (result.allowance ≡ part) }
     {
         self.split_by::<Brand>(seat, part)
@@ -191,7 +192,8 @@ impl JobLine {
         ensures kept { (seat.new.line ≡ seat.old.line)
             × (seat.new.drawn ≡ [])
             × (seat.new.allowance + part ≡ seat.old.allowance) }
-        ensures made { (result.line ≡ seat.old.line) × (result.drawn ≡ [])
+        ensures made { (result.line ≡ seat.old.line)
+            × (result.drawn ≡ [])
             × (result.allowance ≡ part) }
     {
         let _ = part;
