@@ -4,3 +4,4 @@ pub mod BelowTests
 pub mod ListTests
 pub mod Sums
 pub mod Counts
+pub mod Listed

@@ -2,7 +2,7 @@
 
 ghost use Rattle.std.specs.Prelude.{true, false, ◌≡◌, ℕ, ◌<◌, ◌==◌, ◌&&◌, ◌||◌, ◌↔◌, not, nat_lt, IsTrue, MatchOption};
 ghost use Rattle.std.specs.Iterator.{YieldsFirst, item_count};
-ghost use Rattle.call_sets.specs.Counting.{has, members};
+ghost use Rattle.call_sets.specs.Counting.{has, is_among, members};
 
 use std::marker::Model;
 
@@ -39,6 +39,19 @@ impl CallSet {
         ensures { result ≡ bits }
     {
         Self { bits }
+    }
+
+    /// The calls of a list, each once. Numbers from 128 on are left out.
+    pub fn of_list(calls: &[u32]) -> Self
+        ensures { (k : ℕ) → has result k ≡ (nat_lt k 128 && is_among k calls.now) }
+    {
+        let mut set = Self::empty();
+        for call in calls {
+            if *call < 128 {
+                set = set.with(*call);
+            }
+        }
+        set
     }
 
     /// The number that has ones at the places of the members.

@@ -61,9 +61,10 @@ pub fn first(alloc: Global, snapshot: &Snapshot) -> Result<Plan, AllocError>
     feasible_plan(alloc, snapshot)
 }
 
-/// The plan with one call more, put where the cost rises least. This is so where the plan lacks this call
-/// alone and is feasible otherwise; any other plan gives some feasible plan of the snapshot. The error is
-/// want of memory alone.
+/// A feasible plan of the snapshot, made from a plan that lacks this call. The error is want of memory alone.
+///
+/// The call is put where the cost rises least, if the given plan with it is feasible; else the plan is made anew.
+/// Only that the plan is feasible is promised, nothing of its cost or of what it keeps of the given one.
 pub fn insert(
     alloc: Global,
     snapshot: &Snapshot,

@@ -60,15 +60,11 @@ pub fn judge_plan(snapshot: &Snapshot, plan: &Plan) -> Result<(), BadPlan>
 }
 
 /// The calls that board at a stop.
-fn calls_at(boards: &[u32]) -> CallSet
+pub(crate) fn calls_at(boards: &[u32]) -> CallSet
     requires { (j : ℕ) → is_among j boards.now ≡ true → j < 128 }
     ensures { (j : ℕ) → has result j ≡ is_among j boards.now }
 {
-    let mut calls = CallSet::empty();
-    for call in boards {
-        calls = calls.with(*call);
-    }
-    calls
+    CallSet::of_list(boards)
 }
 
 /// The calls that a tour takes. Its boards have to be calls.

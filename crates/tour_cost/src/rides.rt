@@ -8,6 +8,7 @@ ghost use Rattle.elevator_model.specs.Tours.{Progress, start_of, make_stop, arri
 ghost use Rattle.tour_rules.specs.Leaving.{is_group_off};
 ghost use Rattle.tour_cost.specs.Rides.{Tracks, IsStopOf};
 
+use crate::plans::calls_at;
 use call_sets::{CallSet, FloorSet};
 use call_state::Snapshot;
 use elevator_model::{MOMENT_LIMIT, Stop};
@@ -104,12 +105,8 @@ pub(crate) fn calls_boarding(snapshot: &Snapshot, stop: &Stop) -> CallSet
     requires { IsStopOf snapshot.now stop.now }
     ensures { (j : ℕ) → has result j ≡ is_among j stop.now.boards }
 {
-    let mut boards = CallSet::empty();
     let _accepted = snapshot.calls();
-    for call in stop.boards.as_slice() {
-        boards = boards.with(*call);
-    }
-    boards
+    calls_at(stop.boards.as_slice())
 }
 
 /// The calls whose destination is this floor.

@@ -7,6 +7,8 @@ use Rattle.call_sets.specs.Counting.{is_among, has}
 use Rattle.elevator_model.specs.Building.{floor_count}
 use Rattle.elevator_model.specs.Snapshot.{Snapshot, call_count, car_count, group_of, state_of, is_idle, IsAccepted, serves}
 use Rattle.elevator_model.specs.Tours.{Progress, breaks, broken_at, rules_of_stop, none_taken, make_stop, broken_or, first_broken_from, boards_at, rider_count, is_aboard, start_of}
+use Rattle.call_sets.proofs.Listed.{HasListed, listed-below}
+use Rattle.tour_rules.specs.Places.{HasBoards}
 use Rattle.tour_rules.specs.Measure.{groups_of, stops_left, spare}
 use Rattle.call_sets.proofs.BelowTests.{any_below-false}
 use Rattle.call_sets.proofs.Sums.{sum_below-le, sum_below-split, sum_below-same, sum_below-zero}
@@ -87,6 +89,11 @@ most_calls_few s ok = let h = ok.calls_high in let m = at_most_128 (s.building.v
     at_most_128 : (b : Bool) → cond {A = ℕ} b 64 128 ≤ 128
     at_most_128 true = omega arith
     at_most_128 false = omega arith
+
+-- the set of a stop's list has the calls that board
+pub listed_boards : (s : Snapshot) (set : ℕ) (stop : Stop) (xs : List ℕ) → IsAccepted s → xs ≡ stop.boards → HasListed set xs → HasBoards s set stop
+listed_boards s set stop xs ok same listed j lt =
+    listed-below xs set listed j (let few = most_calls_few s ok in omega (arith, few, lt)) ∙ ap (is_among j) same
 
 pub stops_few : (s : Snapshot) (c : ℕ) → IsAccepted s → c < car_count s → stops_left s (start_of s c) ≤ 321
 stops_few s c ok lt =

@@ -9,8 +9,8 @@ ghost use Rattle.tour_rules.specs.Places.{Tracks, HasBoards};
 
 use crate::places::{Heading, Place, after_stop, any_carried, at_start};
 use crate::rules::{
-    any_elsewhere, any_foreign, any_overtakes, any_twice, board_set, is_overfull, is_useless,
-    needs_use, starts_wrong, stays_put, turns_away,
+    any_elsewhere, any_foreign, any_overtakes, any_twice, is_overfull, is_useless, needs_use,
+    starts_wrong, stays_put, turns_away,
 };
 use call_sets::CallSet;
 use call_state::{Snapshot, serves_floor};
@@ -123,11 +123,11 @@ pub fn judge_after(snapshot: &Snapshot, car: u32, taken: CallSet, tour: &Tour) -
         ≡ None) (λ b. first_broken_from snapshot.now car (has taken)
         (start_of snapshot.now car) 1 tour.now ≡ Some b) }
 {
-    let calls = snapshot.calls();
+    let _accepted = snapshot.calls();
     let mut place = at_start(snapshot, car);
     let mut number = 1;
     for stop in tour.stops() {
-        let boards = board_set(stop.boards.as_slice(), calls.len());
+        let boards = CallSet::of_list(stop.boards.as_slice());
         match broken_at(snapshot, car, taken, &place, stop, boards) {
             Some(rule) => return Err(Broken { stop: number, rule }),
             None => {}

@@ -17,20 +17,6 @@ use call_sets::CallSet;
 use call_state::{Call, CarState, Snapshot, is_open};
 use elevator_model::{Rule, Stop};
 
-/// The calls of a list, each once; what is no call is left out.
-pub fn board_set(boards: &[u32], calls: usize) -> CallSet
-    requires { calls ≤ 128 }
-    ensures { (j : ℕ) → j < calls → has result j ≡ is_among j boards.now }
-{
-    let mut set = CallSet::empty();
-    for call in boards {
-        if (*call as usize) < calls {
-            set = set.with(*call);
-        }
-    }
-    set
-}
-
 /// Whether a call of the set is a later one of the queue of `call`.
 pub fn overtakes(calls: &[Call], boarded: CallSet, call: &Call) -> bool
     requires { length calls.now ≤ 128 }
