@@ -1,0 +1,14 @@
+pub mod Orders
+pub mod Sums
+pub mod Nodes
+pub mod Prices
+pub mod Certificates
+pub mod Extending
+pub mod Bounds
+pub mod Kept
+pub mod Verdicts
+pub mod WorkedNodes
+pub mod WorkedVerdicts
+pub mod Uneven
+pub mod WorkedOrders
+pub mod WorkedBounds

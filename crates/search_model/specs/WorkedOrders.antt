@@ -1,0 +1,61 @@
+-- Worked cases of partial tours: their order, and which can be extended.
+use Rattle.std.specs.Prelude.{◌≡◌, ℕ, List, [], ◌∷◌, length, Bool, true, false, nat_lt, Option, Some, None}
+use Rattle.elevator_model.specs.declared.Move.{Move}
+use Rattle.elevator_model.specs.declared.Move.TheVariants.{Board, Leave, End}
+use Rattle.elevator_model.specs.Snapshot.{Snapshot, call_count}
+use Rattle.elevator_model.specs.Partial.{Course, course_of}
+use Rattle.elevator_model.specs.Worked.{one_call, two_ways, one_queue}
+use Rattle.search_model.specs.Orders.{comes_before, partial_tours, move_limit}
+use Rattle.search_model.specs.Extending.{can_be_extended}
+use Rattle.search_model.specs.Uneven.{uneven_pair, first_two}
+
+abbrev pub all_of : Snapshot → ℕ → Bool
+all_of s j = nat_lt j (call_count s)
+
+abbrev pub none_of : ℕ → Bool
+none_of j = false
+
+pub record AreOrders : Type 0 where
+  pub boards : comes_before (Board 1) (Board 2) ≡ true
+  pub same : comes_before (Leave 1) (Leave 1) ≡ false
+  pub board_first : comes_before (Board 9) (Leave 0) ≡ true
+  pub end_last : comes_before (Leave 9) End ≡ true
+  pub leaves : comes_before (Leave 2) (Leave 1) ≡ false
+  -- all partial tours of the car, with one call from its floor to the next
+  pub all :
+      partial_tours one_call 0 (all_of one_call)
+      ≡ []
+      ∷ (Leave 0 ∷ [])
+      ∷ (Leave 0 ∷ Board 0 ∷ [])
+      ∷ (Leave 0 ∷ Board 0 ∷ Leave 1 ∷ [])
+      ∷ (Leave 0 ∷ Board 0 ∷ Leave 1 ∷ Leave 0 ∷ [])
+      ∷ (Leave 0 ∷ Board 0 ∷ Leave 1 ∷ Leave 2 ∷ [])
+      ∷ (Leave 0 ∷ Board 0 ∷ Leave 1 ∷ Leave 3 ∷ [])
+      ∷ (Leave 0 ∷ Board 0 ∷ Leave 1 ∷ End ∷ [])
+      ∷ (Leave 1 ∷ [])
+      ∷ (Leave 2 ∷ [])
+      ∷ (Leave 3 ∷ [])
+      ∷ (End ∷ [])
+      ∷ []
+  pub boards_nothing : length (partial_tours one_call 0 none_of) ≡ 6
+  pub uneven : length (partial_tours uneven_pair 0 first_two) ≡ 38
+  pub limit : move_limit uneven_pair 0 ≡ 12
+  pub limit_of_the_other : move_limit uneven_pair 1 ≡ 11
+
+abbrev pub extends_at : Snapshot → (required : ℕ → Bool) → Option Course → Bool
+extends_at s required None = false
+extends_at s required (Some x) = can_be_extended s 0 (all_of s) required x
+
+abbrev pub extends : Snapshot → (required : ℕ → Bool) → List Move → Bool
+extends s required moves = extends_at s required (course_of s 0 moves)
+
+pub record AreExtendable : Type 0 where
+  -- the earlier call of a queue has to board first
+  pub earlier : extends one_queue (all_of one_queue) (Leave 0 ∷ Board 0 ∷ []) ≡ true
+  pub later : extends one_queue (all_of one_queue) (Leave 0 ∷ Board 1 ∷ []) ≡ false
+  pub optional : extends one_queue none_of (Leave 0 ∷ Board 1 ∷ []) ≡ true
+  pub both_ways : extends two_ways none_of (Leave 1 ∷ Board 0 ∷ Board 1 ∷ []) ≡ false
+  pub one_way : extends two_ways (all_of two_ways) (Leave 1 ∷ Board 1 ∷ []) ≡ true
+  pub of_no_use : extends one_call none_of (Leave 2 ∷ []) ≡ false
+  pub ends_without : extends one_call (all_of one_call) (End ∷ []) ≡ false
+  pub ends : extends one_call none_of (End ∷ []) ≡ true
