@@ -12,3 +12,11 @@ pub mod WorkedVerdicts
 pub mod Uneven
 pub mod WorkedOrders
 pub mod WorkedBounds
+pub mod Solving
+pub mod WorkedSolving
+pub mod Advancing
+pub mod Days
+pub mod Reports
+pub mod Cases
+pub mod WorkedDays
+pub mod WorkedCases

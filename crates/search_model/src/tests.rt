@@ -2,6 +2,9 @@ ghost use Rattle.search_model.specs.WorkedOrders.{AreOrders, AreExtendable};
 ghost use Rattle.search_model.specs.WorkedNodes.{AreSplits};
 ghost use Rattle.search_model.specs.WorkedBounds.{AreValues, AreBounds, AreKept};
 ghost use Rattle.search_model.specs.WorkedVerdicts.{AreVerdicts, AreClaims, AreEnough};
+ghost use Rattle.search_model.specs.WorkedSolving.{AreFloors, AreTurns, AreRootWorths, AreTreeBounds};
+ghost use Rattle.search_model.specs.WorkedDays.{AreAdvanced, AreMoving, IsDay, AreRows, AreOpenings};
+ghost use Rattle.search_model.specs.WorkedCases.{AreReports, AreDraws};
 
 fn orders()
     ensures { AreOrders }
@@ -39,6 +42,50 @@ fn enough_limits()
     ensures { AreEnough }
 {}
 
+fn floors()
+    ensures { AreFloors }
+{}
+
+fn turns()
+    ensures { AreTurns }
+{}
+
+fn root_worths()
+    ensures { AreRootWorths }
+{}
+
+fn tree_bounds()
+    ensures { AreTreeBounds }
+{}
+
+fn advanced()
+    ensures { AreAdvanced }
+{}
+
+fn moving()
+    ensures { AreMoving }
+{}
+
+fn whole_day()
+    ensures { IsDay }
+{}
+
+fn rows()
+    ensures { AreRows }
+{}
+
+fn openings()
+    ensures { AreOpenings }
+{}
+
+fn reports()
+    ensures { AreReports }
+{}
+
+fn draws()
+    ensures { AreDraws }
+{}
+
 #[test]
 fn definitions_give_the_worked_cases() {
     orders();
@@ -50,4 +97,15 @@ fn definitions_give_the_worked_cases() {
     verdicts();
     claims();
     enough_limits();
+    floors();
+    turns();
+    root_worths();
+    tree_bounds();
+    advanced();
+    moving();
+    whole_day();
+    rows();
+    openings();
+    reports();
+    draws();
 }
