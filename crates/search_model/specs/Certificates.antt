@@ -1,5 +1,6 @@
 -- Certificates: trees that prove that no feasible plan costs less than a bound.
-use Rattle.std.specs.Prelude.{◌≡◌, ℕ, ◌<◌, ◌==◌, ◌&&◌, not, ℤ, pos, ◌+ℤ◌, ◌-ℤ◌, ◌*ℤ◌, ◌≤ℤ◌, List, [], ◌∷◌, length, map, count_by, sum_by, All, Bool, true, false, IsTrue, if◌then◌else◌}
+use Rattle.std.specs.List.{list_all}
+use Rattle.std.specs.Prelude.{◌≡◌, ℕ, ◌<◌, ◌==◌, ◌&&◌, not, ℤ, pos, ◌+ℤ◌, ◌-ℤ◌, ◌*ℤ◌, ◌≤ℤ◌, List, [], ◌∷◌, map, count_by, nat_lt, sum_by, All, Bool, true, false, IsTrue, if◌then◌else◌}
 use Rattle.elevator_model.specs.declared.Stop.{Stop}
 use Rattle.call_sets.specs.Counting.{any_below}
 use Rattle.elevator_model.specs.Snapshot.{Snapshot, call_count, car_count}
@@ -10,14 +11,14 @@ use Rattle.search_model.specs.declared.Leaf.{Leaf}
 use Rattle.search_model.specs.declared.Twig.{Twig}
 use Rattle.search_model.specs.declared.Twig.TheVariants.{Split, Leaf as Tip}
 use Rattle.search_model.specs.Sums.{int_sum_by}
-use Rattle.search_model.specs.Nodes.{Node, root_of, set_of, is_part, first_of_split, second_of_split}
+use Rattle.search_model.specs.Nodes.{Node, root_of, set_of, is_plan_in, is_part, first_of_split, second_of_split}
 use Rattle.search_model.specs.Prices.{IsWorth}
 
 -- ---- leaves
 
--- each number below n stands once in the list, and no other number
+-- the list has each number below n once, and no other number
 abbrev pub are_each_once : ℕ → List ℕ → Bool
-are_each_once n keys = (length keys == n) && not (any_below n (λ k. not (count_by (λ x. x == k) keys == 1)))
+are_each_once n keys = list_all (λ k. nat_lt k n) keys && not (any_below n (λ k. not (count_by (λ x. x == k) keys == 1)))
 
 -- the leaf has one price for each call and one worth for each car
 abbrev pub has_whole_lists : Snapshot → Leaf → Bool
@@ -101,3 +102,12 @@ pub record Proves (s : Snapshot) (plan : List (List Stop)) (cost bound : ℕ) (t
   pub costs : plan_cost_of s plan ≡ cost
   pub whole : IsTrue (is_whole s tree)
   pub sound : All (λ (p : Placed). IsSound s bound p.place p.twig) (placed_twigs s tree)
+
+-- a leaf in whose node the plan is
+abbrev pub is_leaf_with : List (List Stop) → Place → Twig → Bool
+is_leaf_with plan place (Split j part) = false
+is_leaf_with plan place (Tip leaf) = is_plan_in place.node plan
+
+-- in how many of the leaves' nodes the plan is: in a certificate that proves, in exactly one
+abbrev pub leaves_with : List (List Stop) → List Placed → ℕ
+leaves_with plan placed = count_by (λ (p : Placed). is_leaf_with plan p.place p.twig) placed

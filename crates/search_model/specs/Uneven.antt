@@ -4,6 +4,7 @@ use Rattle.std.specs.Prelude.{ℕ, ℤ, pos, negsuc, List, [], ◌∷◌, None, 
 use Rattle.elevator_model.specs.declared.CarSpec.{CarSpec}
 use Rattle.elevator_model.specs.declared.CarState.TheVariants.{Idle, Coming}
 use Rattle.elevator_model.specs.declared.Call.{Call}
+use Rattle.elevator_model.specs.declared.Stop.{Stop}
 use Rattle.elevator_model.specs.Travel.{Square}
 use Rattle.elevator_model.specs.Building.{Building}
 use Rattle.elevator_model.specs.Snapshot.{Snapshot}
@@ -47,6 +48,13 @@ uneven_pair = record {
   aboard = record { id = 30; car = 0; destination = 0; persons = 3; boarded = 400 } ∷ [];
   calls = called 5 1 3 2 900 ∷ called 2 1 3 1 950 ∷ called 9 2 0 1 400 ∷ [];
 }
+
+abbrev pub halt : ℕ → List ℕ → Stop
+halt floor boards = record { floor = floor; boards = boards }
+
+-- the large car delivers its group and takes two calls, the small one stops where it comes to and takes one
+abbrev pub uneven_plan : List (List Stop)
+uneven_plan = (halt 0 [] ∷ halt 1 (0 ∷ 1 ∷ []) ∷ halt 3 [] ∷ []) ∷ (halt 0 [] ∷ halt 2 (2 ∷ []) ∷ halt 0 [] ∷ []) ∷ []
 
 abbrev pub uneven_price : ℕ → ℤ
 uneven_price j = if j == 0 then pos 123456789 else (if j == 1 then pos 98765432 else negsuc 7654320)

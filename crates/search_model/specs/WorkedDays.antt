@@ -12,7 +12,7 @@ use Rattle.search_model.specs.declared.Event.TheVariants.{Board, Deliver}
 use Rattle.search_model.specs.declared.RowFault.{RowFault}
 use Rattle.search_model.specs.declared.RowFault.TheVariants.{NoRow, BeforeNow, Full, NoCar}
 use Rattle.search_model.specs.declared.Served.{Served}
-use Rattle.search_model.specs.Uneven.{uneven_building, large_car, small_car, uneven_pair, called}
+use Rattle.search_model.specs.Uneven.{uneven_building, large_car, small_car, uneven_pair, uneven_plan, called}
 use Rattle.search_model.specs.Advancing.{World, advanced, events_by, last_events}
 use Rattle.search_model.specs.Days.{Row, Printed, Run, opening_world, opening_tour, fault_of_row, day_run, served_of, delivered_count, code_of_row}
 use Rattle.search_model.specs.Days.RowLog.{Refused, Accepted}
@@ -21,10 +21,6 @@ abbrev pub world : Snapshot → List (List Stop) → World
 world s plan = record { snapshot = s; plan = plan }
 
 -- ---- two cars with uneven numbers
-
--- the large car delivers its group and takes two calls, the small one stops where it comes to and takes one
-abbrev pub uneven_plan : List (List Stop)
-uneven_plan = (stop 0 [] ∷ stop 1 (0 ∷ 1 ∷ []) ∷ stop 3 [] ∷ []) ∷ (stop 0 [] ∷ stop 2 (2 ∷ []) ∷ stop 0 [] ∷ []) ∷ []
 
 abbrev pub uneven_world : World
 uneven_world = world uneven_pair uneven_plan

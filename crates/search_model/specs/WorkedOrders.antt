@@ -4,8 +4,9 @@ use Rattle.elevator_model.specs.declared.Move.{Move}
 use Rattle.elevator_model.specs.declared.Move.TheVariants.{Board, Leave, End}
 use Rattle.elevator_model.specs.Snapshot.{Snapshot, call_count}
 use Rattle.elevator_model.specs.Partial.{Course, course_of}
-use Rattle.elevator_model.specs.Worked.{one_call, two_ways, one_queue}
-use Rattle.search_model.specs.Orders.{comes_before, partial_tours, move_limit}
+use Rattle.elevator_model.specs.Worked.{one_call, two_ways, one_queue, shown, group}
+use Rattle.elevator_model.specs.declared.CarState.TheVariants.{Coming}
+use Rattle.search_model.specs.Orders.{comes_before, IsBefore, partial_tours, move_limit}
 use Rattle.search_model.specs.Extending.{can_be_extended}
 use Rattle.search_model.specs.Uneven.{uneven_pair, first_two}
 
@@ -15,12 +16,19 @@ all_of s j = nat_lt j (call_count s)
 abbrev pub none_of : ℕ → Bool
 none_of j = false
 
+abbrev pub coming_group : Snapshot
+coming_group = shown 1 0 8 (Coming 1 3000) (group 9 3 1 0 ∷ []) []
+
 pub record AreOrders : Type 0 where
   pub boards : comes_before (Board 1) (Board 2) ≡ true
   pub same : comes_before (Leave 1) (Leave 1) ≡ false
   pub board_first : comes_before (Board 9) (Leave 0) ≡ true
   pub end_last : comes_before (Leave 9) End ≡ true
   pub leaves : comes_before (Leave 2) (Leave 1) ≡ false
+  -- a list comes before its extensions, and else the first move that differs decides
+  pub shorter_first : IsBefore (Leave 0 ∷ []) (Leave 0 ∷ Board 0 ∷ [])
+  pub differing : IsBefore (Leave 0 ∷ Board 0 ∷ Leave 3 ∷ End ∷ []) (Leave 0 ∷ Leave 1 ∷ [])
+  pub not_longer_first : IsBefore (Leave 0 ∷ Board 0 ∷ []) (Leave 0 ∷ []) → ⊥
   -- all partial tours of the car, with one call from its floor to the next
   pub all :
       partial_tours one_call 0 (all_of one_call)
@@ -39,6 +47,9 @@ pub record AreOrders : Type 0 where
       ∷ []
   pub boards_nothing : length (partial_tours one_call 0 none_of) ≡ 6
   pub uneven : length (partial_tours uneven_pair 0 first_two) ≡ 38
+  -- a coming car may stop of no use first, so three moves are the most here
+  pub coming_with_a_group : length (partial_tours coming_group 0 none_of) ≡ 8
+  pub limit_of_coming : move_limit coming_group 0 ≡ 3
   pub limit : move_limit uneven_pair 0 ≡ 12
   pub limit_of_the_other : move_limit uneven_pair 1 ≡ 11
 

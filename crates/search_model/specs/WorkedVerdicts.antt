@@ -5,15 +5,18 @@ use Rattle.elevator_model.specs.declared.Stop.{Stop}
 use Rattle.elevator_model.specs.declared.Rule.{Rule}
 use Rattle.elevator_model.specs.declared.Rule.TheVariants.{UselessStop, TurnWithPassengers, Delivery, CallTwice, Floor}
 use Rattle.elevator_model.specs.Snapshot.{Snapshot}
-use Rattle.elevator_model.specs.Worked.{one_call, two_ways, stop}
+use Rattle.elevator_model.specs.Worked.{one_call, two_ways, rising_group, stop}
 use Rattle.search_model.specs.declared.PriceOf.{PriceOf}
 use Rattle.search_model.specs.declared.WorthOf.{WorthOf}
 use Rattle.search_model.specs.declared.Leaf.{Leaf}
+use Rattle.search_model.specs.declared.Twig.{Twig}
 use Rattle.search_model.specs.declared.Twig.TheVariants.{Split, Leaf as Tip}
 use Rattle.search_model.specs.declared.Reason.{Reason}
 use Rattle.search_model.specs.declared.Reason.TheVariants.{Plan, Cost, Split as BadSplit, Sum, Under, Claim, Lists}
+use Rattle.search_model.specs.declared.Verdict.{Verdict}
 use Rattle.search_model.specs.declared.Verdict.TheVariants.{Yes, No}
 use Rattle.search_model.specs.Nodes.{root_of}
+use Rattle.search_model.specs.Uneven.{uneven_pair, uneven_plan}
 use Rattle.search_model.specs.Verdicts.{verdict_of, kept_at, rounds_enough, moves_enough}
 
 abbrev pub one_leaf : List PriceOf → List WorthOf → Leaf
@@ -68,3 +71,32 @@ pub record AreClaims : Type 0 where
 pub record AreEnough : Type 0 where
   pub rounds : rounds_enough one_call ≡ 40
   pub moves : moves_enough one_call ≡ 16807
+  pub rounds_of_two : rounds_enough uneven_pair ≡ 320
+  -- one group aboard of one car: 9 ^ 12
+  pub moves_of_two : moves_enough uneven_pair ≡ 282429536481
+  pub moves_of_one : moves_enough rising_group ≡ 117649
+
+-- ---- two cars with uneven numbers, and a split of the last call
+
+abbrev pub uneven_leaf : (first second : WorthOf) → Twig
+uneven_leaf first second = Tip (one_leaf (price_of 2 (pos 40000000) ∷ price_of 0 (pos 60000000) ∷ price_of 1 (pos 30000000) ∷ []) (second ∷ first ∷ []))
+
+-- in the first part the small car takes the call, in the second one the large car; the worths of the small
+-- car are given with their claims
+abbrev pub uneven_tree : (first second : WorthOf) → List Twig
+uneven_tree first second =
+    Split 2 2 ∷ uneven_leaf (worth_of 0 (pos 81450000) 1) first ∷ uneven_leaf (worth_of 0 (pos 109600000) 3) second ∷ []
+
+abbrev pub SaysUneven : (bound : ℕ) → List Twig → Verdict → Type 0
+SaysUneven bound tree verdict = verdict_of uneven_pair uneven_plan 727052 bound tree ≡ verdict
+
+-- the claims of `yes` are the lengths of the kept lists
+pub record AreUnevenVerdicts : Type 0 where
+  pub yes : SaysUneven 239600 (uneven_tree (worth_of 1 (pos 65750000) 6) (worth_of 1 (pos 0) 3)) Yes
+  pub sum_of_second : SaysUneven 239601 (uneven_tree (worth_of 1 (pos 65750000) 6) (worth_of 1 (pos 0) 3)) (No (Sum 3 (pos 239600001) (pos 239600000)))
+  pub claim_of_first : SaysUneven 239600 (uneven_tree (worth_of 1 (pos 65750000) 5) (worth_of 1 (pos 0) 3)) (No (Claim 2 1 5))
+  pub claim_of_second : SaysUneven 239600 (uneven_tree (worth_of 1 (pos 65750000) 6) (worth_of 1 (pos 0) 2)) (No (Claim 3 1 2))
+  pub under_in_first : SaysUneven 239600 (uneven_tree (worth_of 1 (pos 65750001) 9) (worth_of 1 (pos 0) 3)) (No (Under 2 1 (pos 65750001) (pos 65750000) (stop 0 [] ∷ stop 2 (2 ∷ []) ∷ stop 0 [] ∷ [])))
+  pub claim_before_it : SaysUneven 239600 (uneven_tree (worth_of 1 (pos 65750001) 8) (worth_of 1 (pos 0) 3)) (No (Claim 2 1 8))
+  -- the first car is named first
+  pub first_car : SaysUneven 239600 (Split 2 2 ∷ uneven_leaf (worth_of 0 (pos 81450001) 4) (worth_of 1 (pos 65750001) 9) ∷ uneven_leaf (worth_of 0 (pos 109600000) 3) (worth_of 1 (pos 0) 3) ∷ []) (No (Under 2 0 (pos 81450001) (pos 81450000) (stop 0 [] ∷ [])))

@@ -1,7 +1,7 @@
 ghost use Rattle.search_model.specs.WorkedOrders.{AreOrders, AreExtendable};
-ghost use Rattle.search_model.specs.WorkedNodes.{AreSplits};
+ghost use Rattle.search_model.specs.WorkedNodes.{AreSplits, AreTrees};
 ghost use Rattle.search_model.specs.WorkedBounds.{AreValues, AreBounds, AreKept};
-ghost use Rattle.search_model.specs.WorkedVerdicts.{AreVerdicts, AreClaims, AreEnough};
+ghost use Rattle.search_model.specs.WorkedVerdicts.{AreVerdicts, AreClaims, AreEnough, AreUnevenVerdicts};
 ghost use Rattle.search_model.specs.WorkedSolving.{AreFloors, AreTurns, AreRootWorths, AreTreeBounds};
 ghost use Rattle.search_model.specs.WorkedDays.{AreAdvanced, AreMoving, IsDay, AreRows, AreOpenings};
 ghost use Rattle.search_model.specs.WorkedCases.{AreReports, AreDraws};
@@ -16,6 +16,14 @@ fn extendable()
 
 fn splits()
     ensures { AreSplits }
+{}
+
+fn trees()
+    ensures { AreTrees }
+{}
+
+fn uneven_verdicts()
+    ensures { AreUnevenVerdicts }
 {}
 
 fn values()
@@ -91,6 +99,8 @@ fn definitions_give_the_worked_cases() {
     orders();
     extendable();
     splits();
+    trees();
+    uneven_verdicts();
     values();
     bounds();
     kept();
