@@ -4,3 +4,4 @@ pub mod NodeLemmas
 pub mod FeasibleLemmas
 pub mod LeafLemmas
 pub mod TreeLemmas
+pub mod RoundLemmas

@@ -14,6 +14,7 @@ use Rattle.search_model.specs.declared.Event.TheVariants.{Board, Deliver}
 use Rattle.search_model.specs.declared.RowFault.{RowFault}
 use Rattle.search_model.specs.declared.RowFault.TheVariants.{NoRow, BeforeNow, Full, NoCar}
 use Rattle.search_model.specs.declared.Served.{Served}
+use Rattle.search_model.specs.declared.Stated.{Stated}
 use Rattle.search_model.specs.Sums.{least_where}
 use Rattle.search_model.specs.Advancing.{World, advanced, events_by, last_events}
 
@@ -84,12 +85,6 @@ code_of_row NoCar = 44
 
 -- ---- the day
 
--- what is printed for an accepted row
-pub record Printed : Type 0 where
-  pub plan : List (List Stop)
-  pub cost : ℕ
-  pub bound : ℕ
-
 -- an accepted call, and the moments at which it boarded and was delivered, once they have come
 pub record DayCall : Type 0 where
   pub id : ℕ
@@ -127,7 +122,7 @@ with_call w call plan =
     }
 
 -- An accepted row advances the world to its time, adds the call, and takes the printed plan.
-abbrev pub day_after_accepted : Day → (n : ℕ) → Row → Printed → Day
+abbrev pub day_after_accepted : Day → (n : ℕ) → Row → Stated → Day
 day_after_accepted day n row printed =
     record {
       world = with_call (advanced day.world row.time) (call_of_row n row) printed.plan;
@@ -142,20 +137,20 @@ day_after_refused day = record { world = day.world; refused = day.refused + 1; u
 -- what the log says of a row
 pub data RowLog : Type 0 where
   Refused : (number : ℕ) → RowFault → RowLog
-  Accepted : (number : ℕ) → List Event → Printed → RowLog
+  Accepted : (number : ℕ) → List Event → Stated → RowLog
 
 -- the day after a row, and what the log says of it
 pub record Step : Type 0 where
   pub day : Day
   pub log : RowLog
 
-abbrev pub step_by : Day → (n : ℕ) → Option Row → Printed → Option RowFault → Step
+abbrev pub step_by : Day → (n : ℕ) → Option Row → Stated → Option RowFault → Step
 step_by day n row printed (Some fault) = record { day = day_after_refused day; log = Refused n fault }
 step_by day n None printed None = record { day = day_after_refused day; log = Refused n NoRow }
 step_by day n (Some row) printed None = record { day = day_after_accepted day n row printed; log = Accepted n (events_by day.world row.time) printed }
 
 -- Row n, with what is printed where it is accepted.
-abbrev pub day_step : Day → (n : ℕ) → Option Row → Printed → Step
+abbrev pub day_step : Day → (n : ℕ) → Option Row → Stated → Step
 day_step day n row printed = step_by day n row printed (fault_of_row day.world n row)
 
 -- a day's end, and the log of its rows
@@ -164,7 +159,7 @@ pub record Run : Type 0 where
   pub log : List RowLog
 
 -- The rows from row n on; `printed` has what is printed for each accepted row.
-abbrev pub run_from : (printed : ℕ → Printed) → Day → (n : ℕ) → List (Option Row) → Run
+abbrev pub run_from : (printed : ℕ → Stated) → Day → (n : ℕ) → List (Option Row) → Run
 run_from printed day n [] = record { day = day; log = [] }
 run_from printed day n (row ∷ rows) =
     let step = day_step day n row (printed n) in
@@ -172,7 +167,7 @@ run_from printed day n (row ∷ rows) =
     record { day = later.day; log = step.log ∷ later.log }
 
 -- The run of a day over all rows.
-abbrev pub day_run : Snapshot → (printed : ℕ → Printed) → List (Option Row) → Run
+abbrev pub day_run : Snapshot → (printed : ℕ → Stated) → List (Option Row) → Run
 day_run opening printed rows = run_from printed (opening_day opening) 1 rows
 
 -- the calls once the last plan is run to its end

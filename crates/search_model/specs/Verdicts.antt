@@ -1,11 +1,11 @@
 -- What a checker says of a plan, its cost, a bound and a certificate's tree.
-use Rattle.std.specs.Prelude.{ℕ, zero, suc, ◌+◌, ◌*◌, ◌^◌, ◌≤◌, ◌<◌, ◌==◌, ◌&&◌, not, nat_lt, ℤ, int_lt, List, [], ◌∷◌, length, take, Bool, if◌then◌else◌, Option, Some, None, max}
+use Rattle.std.specs.Prelude.{◌≡◌, All, IsTrue, ℕ, zero, suc, ◌+◌, ◌*◌, ◌^◌, ◌≤◌, ◌<◌, ◌==◌, ◌&&◌, not, nat_lt, ℤ, int_lt, List, [], ◌∷◌, length, take, Bool, if◌then◌else◌, Option, Some, None, max}
 use Rattle.elevator_model.specs.declared.Stop.{Stop}
 use Rattle.elevator_model.specs.declared.Move.{Move}
 use Rattle.elevator_model.specs.declared.BadPlan.{BadPlan}
 use Rattle.call_sets.specs.Counting.{sum_where}
 use Rattle.elevator_model.specs.Building.{floor_count}
-use Rattle.elevator_model.specs.Snapshot.{Snapshot, car_count, call_count, group_of}
+use Rattle.elevator_model.specs.Snapshot.{Snapshot, IsAccepted, car_count, call_count, group_of}
 use Rattle.elevator_model.specs.Partial.{Course, course_of}
 use Rattle.elevator_model.specs.Plans.{first_bad, first_of, plan_cost_of}
 use Rattle.search_model.specs.declared.Leaf.{Leaf}
@@ -17,7 +17,8 @@ use Rattle.search_model.specs.declared.Verdict.{Verdict}
 use Rattle.search_model.specs.declared.Verdict.TheVariants.{Yes, No}
 use Rattle.search_model.specs.Nodes.{Node, set_of, is_part, allows, requires_of}
 use Rattle.search_model.specs.Prices.{value_of}
-use Rattle.search_model.specs.Certificates.{Place, Placed, placed_twigs, has_whole_lists, sum_of_leaf, sum_needed, price_in, worth_in, claim_in}
+use Rattle.search_model.specs.Certificates.{Place, Placed, is_whole, placed_twigs, has_whole_lists, sum_of_leaf, sum_needed, price_in, worth_in, claim_in, Proves}
+use Rattle.search_model.specs.Orders.{partial_tours}
 use Rattle.search_model.specs.Kept.{kept_list}
 
 -- the tour that the moves end, where its value is below the worth
@@ -87,6 +88,16 @@ abbrev pub FitsClaims : Snapshot → Place → Twig → Type 0
 FitsClaims s place (Split j part) = Unit {0}
 FitsClaims s place (Tip leaf) = (c : ℕ) → c < car_count s → length (kept_at s place.node leaf c) ≤ claim_in leaf c
 
+pub record VerdictMeans (s : Snapshot) (plan : List (List Stop)) (cost bound : ℕ) (tree : List Twig) : Type 0 where
+  pub proof : verdict_of s plan cost bound tree ≡ Yes → Proves s plan cost bound tree
+  pub claims : verdict_of s plan cost bound tree ≡ Yes → All (λ (p : Placed). FitsClaims s p.place p.twig) (placed_twigs s tree)
+  pub yes : Proves s plan cost bound tree → All (λ (p : Placed). FitsClaims s p.place p.twig) (placed_twigs s tree) → verdict_of s plan cost bound tree ≡ Yes
+
+-- The verdict is yes exactly where the tree proves the plan, its cost and the bound, and no kept list is
+-- longer than its claim.
+abbrev pub VerdictLaw : Type 0
+VerdictLaw = (s : Snapshot) (plan : List (List Stop)) (cost bound : ℕ) (tree : List Twig) → IsAccepted s → length plan ≡ car_count s → IsTrue (is_whole s tree) → VerdictMeans s plan cost bound tree
+
 -- ---- sufficient limits
 
 -- the most groups aboard of one of the first n cars
@@ -100,3 +111,7 @@ rounds_enough s = 40 * car_count s ^ call_count s
 
 abbrev pub moves_enough : Snapshot → ℕ
 moves_enough s = (call_count s + floor_count s.building + 2) ^ (3 * call_count s + most_aboard s (car_count s) + 2)
+
+-- A car has fewer partial tours than that.
+abbrev pub MovesLaw : Type 0
+MovesLaw = (s : Snapshot) (c : ℕ) (allowed : ℕ → Bool) → IsAccepted s → c < car_count s → length (partial_tours s c allowed) < moves_enough s

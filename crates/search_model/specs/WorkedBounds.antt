@@ -2,14 +2,15 @@
 use Rattle.std.specs.Prelude.{◌≡◌, ℕ, ◌^◌, ℤ, pos, negsuc, List, [], ◌∷◌, length, Bool, Option, Some, None}
 use Rattle.elevator_model.specs.declared.Move.{Move}
 use Rattle.elevator_model.specs.declared.Move.TheVariants.{Board, Leave}
+use Rattle.elevator_model.specs.declared.CarState.TheVariants.{Idle}
 use Rattle.elevator_model.specs.Snapshot.{Snapshot}
 use Rattle.elevator_model.specs.Partial.{Course, course_of}
 use Rattle.elevator_model.specs.Worked.{one_call, two_ways, one_queue, coming, rising_group, stop}
 use Rattle.search_model.specs.Sums.{rounded_up}
 use Rattle.search_model.specs.Prices.{value_of}
-use Rattle.search_model.specs.Bounds.{completion_bound}
+use Rattle.search_model.specs.Bounds.{completion_bound, cost_if_alone}
 use Rattle.search_model.specs.Kept.{kept_list}
-use Rattle.search_model.specs.Uneven.{uneven_pair, uneven_price, first_two, first_three, only}
+use Rattle.search_model.specs.Uneven.{uneven_pair, called, uneven_price, first_two, first_three, only}
 use Rattle.search_model.specs.WorkedOrders.{all_of, none_of}
 
 abbrev pub bound_at : (c : ℕ) → (allowed required : ℕ → Bool) → Option Course → Option ℤ
@@ -29,7 +30,31 @@ pub record AreValues : Type 0 where
   pub up_to_zero : rounded_up (negsuc 998) ≡ pos 0
   pub less : rounded_up (negsuc 1998) ≡ negsuc 0
 
+-- where the way down takes longer than the way up: 5000 ms up, 7000 ms down
+abbrev pub slow_down : Snapshot
+slow_down = record {
+  version = 1;
+  building = record {
+    version = 3;
+    heights = 0 ∷ 4000 ∷ [];
+    speed = 2000;
+    accel = 1000;
+    wait_weight = 1;
+    travel_weight = 2;
+    patience = 0;
+    patience_weight = 0;
+    cars = record { id = 1; capacity = 8; opening = 1000; closing = 1000; boarding = 500; alighting = 500; serves = 3 } ∷ [];
+    travel = record { floors = 2; times = 0 ∷ 5000 ∷ 7000 ∷ 0 ∷ [] };
+  };
+  moment = 0;
+  states = Idle 0 0 ∷ [];
+  aboard = [];
+  calls = called 1 0 1 1 0 ∷ called 2 1 0 1 0 ∷ [];
+}
+
 pub record AreBounds : Type 0 where
+  pub alone_up : cost_if_alone slow_down 0 300 ≡ 10300
+  pub alone_down : cost_if_alone slow_down 1 300 ≡ 14300
   pub start : BoundIs 0 first_three (only 1) [] (negsuc 40120220)
   pub begun : BoundIs 0 first_three (only 1) (Leave 0 ∷ []) (pos 89968568)
   pub one_call_waits : BoundIs 0 first_three (only 1) (Leave 0 ∷ Leave 1 ∷ []) (pos 156968568)

@@ -12,9 +12,10 @@ use Rattle.search_model.specs.declared.Event.TheVariants.{Board, Deliver}
 use Rattle.search_model.specs.declared.RowFault.{RowFault}
 use Rattle.search_model.specs.declared.RowFault.TheVariants.{NoRow, BeforeNow, Full, NoCar}
 use Rattle.search_model.specs.declared.Served.{Served}
+use Rattle.search_model.specs.declared.Stated.{Stated}
 use Rattle.search_model.specs.Uneven.{uneven_building, large_car, small_car, uneven_pair, uneven_plan, called}
 use Rattle.search_model.specs.Advancing.{World, advanced, events_by, last_events}
-use Rattle.search_model.specs.Days.{Row, Printed, Run, opening_world, opening_tour, fault_of_row, day_run, served_of, delivered_count, code_of_row}
+use Rattle.search_model.specs.Days.{Row, Run, opening_world, opening_tour, fault_of_row, day_run, served_of, delivered_count, code_of_row}
 use Rattle.search_model.specs.Days.RowLog.{Refused, Accepted}
 
 abbrev pub world : Snapshot → List (List Stop) → World
@@ -98,10 +99,10 @@ opening = shown 1 0 8 (Idle 0 0) [] []
 abbrev pub row : (time origin destination persons : ℕ) → Option Row
 row time origin destination persons = Some (record { time = time; origin = origin; destination = destination; persons = persons })
 
-abbrev pub solved : List Stop → ℕ → Printed
+abbrev pub solved : List Stop → ℕ → Stated
 solved tour cost = record { plan = tour ∷ []; cost = cost; bound = cost }
 
-abbrev pub printed : ℕ → Printed
+abbrev pub printed : ℕ → Stated
 printed n =
     if n == 1 then solved (stop 0 (0 ∷ []) ∷ stop 1 [] ∷ []) 7500 else (if n == 2 then solved (stop 1 (0 ∷ []) ∷ stop 2 [] ∷ []) 10000 else solved (stop 1 (0 ∷ []) ∷ stop 2 [] ∷ stop 3 [] ∷ []) 25000)
 

@@ -4,11 +4,11 @@ use Rattle.elevator_model.specs.declared.Move.{Move}
 use Rattle.elevator_model.specs.declared.Move.TheVariants.{Board, Leave, End}
 use Rattle.elevator_model.specs.Snapshot.{Snapshot, call_count}
 use Rattle.elevator_model.specs.Partial.{Course, course_of}
-use Rattle.elevator_model.specs.Worked.{one_call, two_ways, one_queue, shown, group}
-use Rattle.elevator_model.specs.declared.CarState.TheVariants.{Coming}
+use Rattle.elevator_model.specs.Worked.{one_call, two_ways, one_queue, together, shown, group, call}
+use Rattle.elevator_model.specs.declared.CarState.TheVariants.{Idle, Coming}
 use Rattle.search_model.specs.Orders.{comes_before, IsBefore, partial_tours, move_limit}
 use Rattle.search_model.specs.Extending.{can_be_extended}
-use Rattle.search_model.specs.Uneven.{uneven_pair, first_two}
+use Rattle.search_model.specs.Uneven.{uneven_pair, first_two, only}
 
 abbrev pub all_of : Snapshot → ℕ → Bool
 all_of s j = nat_lt j (call_count s)
@@ -60,11 +60,30 @@ extends_at s required (Some x) = can_be_extended s 0 (all_of s) required x
 abbrev pub extends : Snapshot → (required : ℕ → Bool) → List Move → Bool
 extends s required moves = extends_at s required (course_of s 0 moves)
 
+-- the later call of the queue has the lower index
+abbrev pub later_first : (capacity : ℕ) → Snapshot
+later_first capacity = shown 1 0 capacity (Idle 0 0) [] (call 2 0 1 1 ∷ call 1 0 1 1 ∷ [])
+
+-- a car for two that carries one, and one queue of two persons and then one
+abbrev pub one_aboard : Snapshot
+one_aboard = shown 1 0 2 (Idle 0 0) (group 9 3 1 0 ∷ []) (call 1 1 2 2 ∷ call 2 1 2 1 ∷ [])
+
 pub record AreExtendable : Type 0 where
   -- the earlier call of a queue has to board first
   pub earlier : extends one_queue (all_of one_queue) (Leave 0 ∷ Board 0 ∷ []) ≡ true
   pub later : extends one_queue (all_of one_queue) (Leave 0 ∷ Board 1 ∷ []) ≡ false
   pub optional : extends one_queue none_of (Leave 0 ∷ Board 1 ∷ []) ≡ true
+  -- a call that has to be served was passed at an earlier stop
+  pub passed : extends one_queue (only 0) (Leave 0 ∷ Board 1 ∷ Leave 1 ∷ []) ≡ false
+  pub passed_by_none : extends one_queue (only 1) (Leave 0 ∷ Board 1 ∷ Leave 1 ∷ []) ≡ true
+  -- calls board by rising index, so a lower one can board here no more
+  pub skipped : extends together (only 0) (Leave 0 ∷ Board 1 ∷ []) ≡ false
+  pub fits_not : extends (later_first 1) (only 1) (Leave 0 ∷ Board 0 ∷ []) ≡ false
+  pub fits : extends (later_first 2) (only 1) (Leave 0 ∷ Board 0 ∷ []) ≡ true
+  -- a stop is of use only if a call can board that passes none that has to be served
+  pub of_use : extends one_aboard none_of (Leave 1 ∷ []) ≡ true
+  pub of_no_use_then : extends one_aboard (only 0) (Leave 1 ∷ []) ≡ false
+  pub of_use_then : extends one_aboard (only 1) (Leave 1 ∷ []) ≡ true
   pub both_ways : extends two_ways none_of (Leave 1 ∷ Board 0 ∷ Board 1 ∷ []) ≡ false
   pub one_way : extends two_ways (all_of two_ways) (Leave 1 ∷ Board 1 ∷ []) ≡ true
   pub of_no_use : extends one_call none_of (Leave 2 ∷ []) ≡ false

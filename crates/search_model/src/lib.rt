@@ -11,7 +11,7 @@
 mod items;
 
 use call_sets::CarSet;
-use elevator_model::{BadPlan, Tour};
+use elevator_model::{BadPlan, Plan, Tour};
 pub use items::Items;
 use price_scale::Price;
 
@@ -46,6 +46,14 @@ pub enum Twig {
     Split { call: u32, part: CarSet },
     /// A leaf.
     Leaf(Leaf),
+}
+
+/// An answer: a plan, its cost, and a bound that no feasible plan's cost is below, as someone states them.
+#[derive(Debug, Drop)]
+pub struct Stated {
+    pub plan: Plan,
+    pub cost: u64,
+    pub bound: u64,
 }
 
 /// Why a checker says no.
