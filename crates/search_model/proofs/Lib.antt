@@ -5,3 +5,5 @@ pub mod FeasibleLemmas
 pub mod LeafLemmas
 pub mod TreeLemmas
 pub mod RoundLemmas
+pub mod ManyLemmas
+pub mod BoundLemmas

@@ -18,7 +18,6 @@ use Rattle.search_model.specs.declared.Verdict.TheVariants.{Yes, No}
 use Rattle.search_model.specs.Nodes.{Node, set_of, is_part, allows, requires_of}
 use Rattle.search_model.specs.Prices.{value_of}
 use Rattle.search_model.specs.Certificates.{Place, Placed, is_whole, placed_twigs, has_whole_lists, sum_of_leaf, sum_needed, price_in, worth_in, claim_in, Proves}
-use Rattle.search_model.specs.Orders.{partial_tours}
 use Rattle.search_model.specs.Kept.{kept_list}
 
 -- the tour that the moves end, where its value is below the worth
@@ -105,13 +104,10 @@ abbrev pub most_aboard : Snapshot → ℕ → ℕ
 most_aboard s zero = 0
 most_aboard s (suc n) = max (most_aboard s n) (sum_where (length s.aboard) (λ k. (group_of s k).car == n) (λ _. 1))
 
--- With these limits a search ends solved: so many rounds, and so many partial tours in a pricing.
+-- With these limits a search ends solved: so many rounds, and so many partial tours in a pricing, more than a
+-- car has.
 abbrev pub rounds_enough : Snapshot → ℕ
 rounds_enough s = 40 * car_count s ^ call_count s
 
 abbrev pub moves_enough : Snapshot → ℕ
 moves_enough s = (call_count s + floor_count s.building + 2) ^ (3 * call_count s + most_aboard s (car_count s) + 2)
-
--- A car has fewer partial tours than that.
-abbrev pub MovesLaw : Type 0
-MovesLaw = (s : Snapshot) (c : ℕ) (allowed : ℕ → Bool) → IsAccepted s → c < car_count s → length (partial_tours s c allowed) < moves_enough s
