@@ -1,13 +1,13 @@
 -- Completion bounds with fewer allowed and more required calls.
-use Rattle.std.proofs.Common.{◌≡◌, ℕ, ◌<◌, Bool, true, false, not, ◌&&◌, cond, refl, arith}
+use Rattle.std.proofs.Common.{◌≡◌, ℕ, Bool, true, false, not, ◌&&◌, cond, refl, arith}
 use Rattle.std.specs.Prelude.{ℤ, pos, ◌+ℤ◌, ◌-ℤ◌, ◌≤ℤ◌, int_lt}
 use Rattle.std.proofs.lemmas.Int.{ints}
 use Rattle.std.proofs.lemmas.Bool.{cond_both, both_ways}
-use Rattle.elevator_model.specs.Snapshot.{Snapshot, call_count}
+use Rattle.elevator_model.specs.Snapshot.{call_count}
 use Rattle.elevator_model.specs.Tours.{Progress}
-use Rattle.elevator_model.specs.Partial.{Course, progress_after}
+use Rattle.elevator_model.specs.Partial.{progress_after}
 use Rattle.search_model.specs.Prices.{scaled}
-use Rattle.search_model.specs.Bounds.{cost_if_alone, waiting_term, bound_after, completion_bound, positive_part, NarrowLaw, LeastLaw}
+use Rattle.search_model.specs.Bounds.{cost_if_alone, waiting_term, positive_part, NarrowLaw, LeastLaw}
 use Rattle.search_model.proofs.SumLemmas.{int_sum-le, int_sum-add, int_sum-zero}
 
 -- a call that is not required counts only where it lowers the bound

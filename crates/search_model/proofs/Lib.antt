@@ -7,3 +7,5 @@ pub mod TreeLemmas
 pub mod RoundLemmas
 pub mod ManyLemmas
 pub mod BoundLemmas
+pub mod KeptLemmas
+pub mod SplitLemmas

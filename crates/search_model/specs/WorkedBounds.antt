@@ -56,6 +56,8 @@ pub record AreBounds : Type 0 where
   pub alone_up : cost_if_alone slow_down 0 300 ≡ 10300
   pub alone_down : cost_if_alone slow_down 1 300 ≡ 14300
   pub start : BoundIs 0 first_three (only 1) [] (negsuc 40120220)
+  -- a call that is not allowed counts nothing
+  pub not_allowed : BoundIs 0 (only 1) (only 1) [] (pos 11568568)
   pub begun : BoundIs 0 first_three (only 1) (Leave 0 ∷ []) (pos 89968568)
   pub one_call_waits : BoundIs 0 first_three (only 1) (Leave 0 ∷ Leave 1 ∷ []) (pos 156968568)
   pub other_is_required : BoundIs 0 first_two (only 0) (Leave 0 ∷ Leave 1 ∷ []) (pos 307361211)
