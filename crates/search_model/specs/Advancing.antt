@@ -1,5 +1,5 @@
 -- What has happened by a moment: stops done, events, and the snapshot and tours that are left.
-use Rattle.std.specs.Prelude.{ℕ, ◌+◌, ◌-◌, ◌==◌, ◌&&◌, not, nat_le, nat_lt, List, [], ◌∷◌, ◌++◌, length, map, flat_map, filter, drop, Bool, if◌then◌else◌}
+use Rattle.std.specs.Prelude.{ℕ, ◌≤◌, ◌+◌, ◌-◌, ◌==◌, ◌&&◌, not, nat_le, nat_lt, List, [], ◌∷◌, ◌++◌, length, map, flat_map, filter, drop, Bool, if◌then◌else◌}
 use Rattle.std.specs.List.{range_with_len}
 use Rattle.elevator_model.specs.declared.Stop.{Stop}
 use Rattle.elevator_model.specs.declared.Aboard.{Aboard}
@@ -7,9 +7,9 @@ use Rattle.elevator_model.specs.declared.Call.{Call}
 use Rattle.elevator_model.specs.declared.CarState.{CarState}
 use Rattle.elevator_model.specs.declared.CarState.TheVariants.{Idle, Coming, Moving}
 use Rattle.call_sets.specs.Counting.{any_below, sum_where}
-use Rattle.elevator_model.specs.Snapshot.{Snapshot, car_count, call_count, call_of, group_of, spec_of, state_of, is_open}
+use Rattle.elevator_model.specs.Snapshot.{Snapshot, IsAccepted, car_count, call_count, call_of, group_of, spec_of, state_of, is_open}
 use Rattle.elevator_model.specs.Tours.{Progress, rider_count, destination_of, persons_of, is_aboard, start_of, arrival, make_stop, after_stops}
-use Rattle.elevator_model.specs.Plans.{tour_of}
+use Rattle.elevator_model.specs.Plans.{IsFeasiblePlan, tour_of}
 use Rattle.elevator_model.specs.Partial.{rising_boards}
 use Rattle.search_model.specs.declared.Event.{Event}
 use Rattle.search_model.specs.declared.Event.TheVariants.{Board, Deliver}
@@ -182,3 +182,11 @@ advanced w t =
       };
       plan = map (λ c. map (stop_then w t) (left_at w t c)) (range_with_len 0 (car_count s));
     }
+
+-- A feasible plan of an accepted snapshot leaves an accepted snapshot, and the rest of it is feasible there.
+pub record StaysAccepted (w : World) (t : ℕ) : Type 0 where
+  pub accepted : IsAccepted (advanced w t).snapshot
+  pub feasible : IsFeasiblePlan (advanced w t).snapshot (advanced w t).plan
+
+abbrev pub AdvanceLaw : Type 0
+AdvanceLaw = (w : World) (t : ℕ) → IsAccepted w.snapshot → IsFeasiblePlan w.snapshot w.plan → w.snapshot.moment ≤ t → t ≤ 1000000000 → StaysAccepted w t

@@ -1,7 +1,8 @@
 -- The run of a day: rows come, each accepted one is answered by a plan, and the last plan is run to its end.
 use Rattle.std.specs.Prelude.{ℕ, ◌+◌, ◌-◌, ◌==◌, ◌&&◌, not, nat_le, nat_lt, List, [], ◌∷◌, ◌++◌, map, count_by, Bool, if◌then◌else◌, Option, Some, None, is_some, unwrap_or}
-use Rattle.std.specs.List.{range_with_len}
+use Rattle.std.specs.List.{list_all, range_with_len}
 use Rattle.elevator_model.specs.declared.Stop.{Stop}
+use Rattle.elevator_model.specs.declared.Aboard.{Aboard}
 use Rattle.elevator_model.specs.declared.Call.{Call}
 use Rattle.elevator_model.specs.declared.CarState.{CarState}
 use Rattle.elevator_model.specs.declared.CarState.TheVariants.{Idle, Coming, Moving}
@@ -187,3 +188,29 @@ served_from x = record { call = x.id; released = x.released; boarded = unwrap_or
 -- The served calls of a day, in the order of their ids.
 abbrev pub served_of : Day → List Served
 served_of day = map served_from (calls_at_end day)
+
+-- ---- right plans, and no call lost
+
+-- where the row was accepted, what was printed is right in the world that it left
+abbrev pub IsRightLog : (right : Snapshot → Stated → Type 0) → World → RowLog → Type 0
+IsRightLog right w (Refused n fault) = Unit {0}
+IsRightLog right w (Accepted n events printed) = right w.snapshot printed
+
+abbrev pub ArePlannedFrom : (right : Snapshot → Stated → Type 0) → (printed : ℕ → Stated) → Day → (n : ℕ) → List (Option Row) → Type 0
+ArePlannedFrom right printed day n [] = Unit {0}
+ArePlannedFrom right printed day n (row ∷ rows) =
+    let step = day_step day n row (printed n) in
+    IsRightLog right step.day.world step.log × ArePlannedFrom right printed step.day (n + 1) rows
+
+-- For each accepted row what is printed is right for the snapshot in which it is.
+abbrev pub ArePlanned : (right : Snapshot → Stated → Type 0) → Snapshot → (printed : ℕ → Stated) → List (Option Row) → Type 0
+ArePlanned right opening printed rows = ArePlannedFrom right printed (opening_day opening) 1 rows
+
+-- in how many places a call is: open, aboard, delivered
+abbrev pub places_of_call : Snapshot → DayCall → ℕ
+places_of_call s x =
+    count_by (λ (call : Call). call.id == x.id) s.calls + count_by (λ (group : Aboard). group.id == x.id) s.aboard + (if is_some x.delivered then 1 else 0)
+
+-- Each accepted call is open, aboard one car, or delivered, and only one of these.
+abbrev pub loses_none : Day → Bool
+loses_none day = list_all (λ (x : DayCall). places_of_call day.world.snapshot x == 1) day.calls

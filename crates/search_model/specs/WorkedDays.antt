@@ -1,5 +1,5 @@
 -- Worked cases of days: what has happened by a moment, rows, and a whole day.
-use Rattle.std.specs.Prelude.{◌≡◌, ℕ, ◌==◌, List, [], ◌∷◌, true, false, if◌then◌else◌, Option, Some, None}
+use Rattle.std.specs.Prelude.{◌≡◌, map, ℕ, ◌==◌, List, [], ◌∷◌, true, false, if◌then◌else◌, Option, Some, None}
 use Rattle.elevator_model.specs.declared.Stop.{Stop}
 use Rattle.elevator_model.specs.declared.Aboard.{Aboard}
 use Rattle.elevator_model.specs.declared.Call.{Call}
@@ -15,7 +15,7 @@ use Rattle.search_model.specs.declared.Served.{Served}
 use Rattle.search_model.specs.declared.Stated.{Stated}
 use Rattle.search_model.specs.Uneven.{uneven_building, large_car, small_car, uneven_pair, uneven_plan, called}
 use Rattle.search_model.specs.Advancing.{World, advanced, events_by, last_events}
-use Rattle.search_model.specs.Days.{Row, Run, opening_world, opening_tour, fault_of_row, day_run, served_of, delivered_count, code_of_row}
+use Rattle.search_model.specs.Days.{Row, DayCall, Run, loses_none, opening_world, opening_tour, fault_of_row, day_run, served_of, delivered_count, code_of_row}
 use Rattle.search_model.specs.Days.RowLog.{Refused, Accepted}
 
 abbrev pub world : Snapshot → List (List Stop) → World
@@ -129,6 +129,11 @@ pub record IsDay : Type 0 where
   pub third : the_day.day.world.snapshot ≡ shown 1 9500 8 (Idle 1 11500) (group 2 2 1 10000 ∷ []) (call_from 3 1 3 1 9500 None ∷ [])
   pub second_cost : PlanCosts (shown 1 6500 8 (Idle 1 9000) [] (call_from 2 1 2 1 6500 None ∷ [])) (printed 2).plan 10000
   pub third_cost : PlanCosts the_day.day.world.snapshot (printed 3).plan 25000
+  -- the first call is delivered, the second aboard, the third open
+  pub boarded : map (λ (x : DayCall). x.boarded) the_day.day.calls ≡ Some 1000 ∷ Some 10000 ∷ None ∷ []
+  pub delivered_so_far : map (λ (x : DayCall). x.delivered) the_day.day.calls ≡ Some 7500 ∷ None ∷ None ∷ []
+  pub none_lost : loses_none the_day.day ≡ true
+  pub lost : loses_none (record { world = opening_world opening; refused = 0; unsolved = 0; calls = the_day.day.calls }) ≡ false
   -- a bound below the cost counts
   pub counted : (day_run opening (λ n. record { plan = (printed n).plan; cost = (printed n).cost; bound = 7500 }) rows).day.unsolved ≡ 2
 
