@@ -9,3 +9,4 @@ pub mod ManyLemmas
 pub mod BoundLemmas
 pub mod KeptLemmas
 pub mod SplitLemmas
+pub mod OrderLemmas

@@ -80,7 +80,19 @@ joined version state = shown version 2000 8 state [] (call 1 2 3 1 ∷ call_from
 abbrev pub both_up : List (List Stop)
 both_up = (stop 1 (1 ∷ []) ∷ stop 2 (0 ∷ []) ∷ stop 3 [] ∷ []) ∷ []
 
+-- two calls from the two lower floors to the top, taken one after the other
+abbrev pub both_to_the_top : World
+both_to_the_top = world (shown 1 0 8 (Idle 0 0) [] (call 1 0 3 1 ∷ call 2 1 3 1 ∷ [])) ((stop 0 (0 ∷ []) ∷ stop 1 (1 ∷ []) ∷ stop 3 [] ∷ []) ∷ [])
+
+-- someone goes to the second floor, and the first stop is the third one, as in no feasible tour
+abbrev pub past_a_destination : World
+past_a_destination = world (shown 2 1000 8 (Moving 0 true 0) (group 9 1 1 0 ∷ []) []) ((stop 2 [] ∷ stop 1 [] ∷ []) ∷ [])
+
 pub record AreMoving : Type 0 where
+  -- a group boarded at the stop where its call did
+  pub boarded : (advanced both_to_the_top 7000).snapshot.aboard ≡ group 1 3 1 1000 ∷ group 2 3 1 7500 ∷ []
+  pub open_for_all : (advanced past_a_destination 2000).snapshot.states ≡ Moving 0 true 0 ∷ []
+  pub not_for_all : (advanced past_a_destination 2001).snapshot.states ≡ Coming 2 6000 ∷ []
   pub first : PlanCosts (started 2).snapshot (started 2).plan 13500
   pub moves : (advanced (started 2) 2000).snapshot.states ≡ Moving 0 true 0 ∷ []
   pub comes : (advanced (started 1) 2000).snapshot.states ≡ Coming 2 6000 ∷ []
