@@ -10,3 +10,4 @@ pub mod BoundLemmas
 pub mod KeptLemmas
 pub mod SplitLemmas
 pub mod OrderLemmas
+pub mod SnapshotNodes
