@@ -1,0 +1,13 @@
+pub mod SumLemmas
+pub mod SetLemmas
+pub mod NodeLemmas
+pub mod FeasibleLemmas
+pub mod LeafLemmas
+pub mod TreeLemmas
+pub mod RoundLemmas
+pub mod ManyLemmas
+pub mod BoundLemmas
+pub mod KeptLemmas
+pub mod SplitLemmas
+pub mod OrderLemmas
+pub mod SnapshotNodes
