@@ -6,6 +6,9 @@ ghost use Rattle.search_model.specs.WorkedSolving.{AreFloors, AreTurns, AreRootW
 ghost use Rattle.search_model.specs.WorkedDays.{AreAdvanced, AreMoving, IsDay, AreRows, AreOpenings};
 ghost use Rattle.search_model.specs.WorkedCases.{AreReports, AreDraws};
 
+use super::*;
+use std::test::Fail;
+
 fn orders()
     ensures { AreOrders }
 {}
@@ -118,4 +121,22 @@ fn definitions_give_the_worked_cases() {
     openings();
     reports();
     draws();
+}
+
+#[test]
+fn lists_keep_their_items(rt: HostRuntime) -> Result<(), Fail> {
+    let mut prices = Items::new(rt.alloc());
+    prices.push(PriceOf {
+        call: 3,
+        price: Price::new(-5).ok_or("a price")?,
+    })?;
+    let worths = Items::from_vec([].to_vec(rt.alloc())?);
+    let leaf = Leaf { prices, worths };
+    assert_eq!(rt; leaf.prices.as_slice().len(), 1);
+    assert_eq!(rt; leaf.worths.as_slice().len(), 0);
+    let calls = leaf.prices.into_vec();
+    assert_eq!(rt; calls.len(), 1);
+    assert_eq!(rt; calls[0].call, 3);
+    assert_eq!(rt; calls[0].price.value(), -5);
+    Ok(())
 }
