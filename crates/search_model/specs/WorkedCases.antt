@@ -22,3 +22,6 @@ pub record AreDraws : Type 0 where
   pub second : draw 0 2 ≡ 436792849
   pub third : draw 0 3 ≡ 2599843874
   pub case : case_snapshot four_floors 0 4 1 1 ≡ shown 1 600000 8 (Idle 2 600000) [] (record { id = 1; origin = 1; destination = 3; persons = 2; released = 574000; pin = None } ∷ [])
+  -- two cars and three calls, from the number 7
+  pub cars_of_two : (case_snapshot four_floors 7 4 2 3).states ≡ Idle 0 600000 ∷ Idle 3 600000 ∷ []
+  pub calls_of_three : (case_snapshot four_floors 7 4 2 3).calls ≡ record { id = 1; origin = 2; destination = 1; persons = 1; released = 593000; pin = None } ∷ record { id = 2; origin = 0; destination = 1; persons = 1; released = 555000; pin = None } ∷ record { id = 3; origin = 3; destination = 0; persons = 2; released = 567000; pin = None } ∷ []

@@ -149,6 +149,21 @@ pub record IsDay : Type 0 where
   -- a bound below the cost counts
   pub counted : (day_run opening (λ n. record { plan = (printed n).plan; cost = (printed n).cost; bound = 7500 }) rows).day.unsolved ≡ 2
 
+-- ---- the day of the car that moves
+
+abbrev pub printed_then : ℕ → Stated
+printed_then n = if n == 1 then solved (stop 2 (0 ∷ []) ∷ stop 3 [] ∷ []) 13500 else record { plan = both_up; cost = 28000; bound = 28000 }
+
+abbrev pub moving_day : Run
+moving_day = day_run (shown 2 0 8 (Idle 0 0) [] []) printed_then (row 0 2 3 1 ∷ row 2000 1 2 1 ∷ [])
+
+pub record IsMovingDay : Type 0 where
+  pub log : moving_day.log ≡ Accepted 1 [] (printed_then 1) ∷ Accepted 2 [] (printed_then 2) ∷ []
+  -- the new call comes last
+  pub snapshot : moving_day.day.world.snapshot ≡ joined 2 (Moving 0 true 0)
+  pub last : last_events moving_day.day.world ≡ Board 2 1 5000 ∷ Deliver 2 1 11500 ∷ Board 1 1 11500 ∷ Deliver 1 1 18500 ∷ []
+  pub delivered : delivered_count moving_day.day ≡ 2
+
 -- a car that serves the two lower floors only
 abbrev pub two_floors : Snapshot
 two_floors = record {
@@ -182,6 +197,8 @@ pub record AreRows : Type 0 where
   pub no_car : FaultOf (opening_world two_floors) (row 0 0 3 1) NoCar
   pub room_for_one : Taken (waiting 1 63) (row 0 0 1 1)
   pub full : FaultOf (waiting 1 64) (row 0 0 1 1) Full
+  -- one of the calls has boarded by the time of the row
+  pub room_by_then : Taken (world (shown 1 0 8 (Idle 0 0) [] (calls_to 64)) ((stop 0 (63 ∷ []) ∷ []) ∷ [])) (row 0 0 1 1)
   pub room_in_two : Taken (waiting 2 64) (row 0 0 1 1)
   pub before_now : FaultOf (world (shown 1 5 8 (Idle 0 5) [] []) ([] ∷ [])) (row 4 0 1 1) BeforeNow
   pub now : Taken (world (shown 1 5 8 (Idle 0 5) [] []) ([] ∷ [])) (row 5 0 1 1)

@@ -3,7 +3,7 @@ ghost use Rattle.search_model.specs.WorkedNodes.{AreSplits, AreTrees};
 ghost use Rattle.search_model.specs.WorkedBounds.{AreValues, AreBounds, AreKept};
 ghost use Rattle.search_model.specs.WorkedVerdicts.{AreVerdicts, AreClaims, AreEnough, AreUnevenVerdicts};
 ghost use Rattle.search_model.specs.WorkedSolving.{AreFloors, AreTurns, AreRootWorths, AreTreeBounds};
-ghost use Rattle.search_model.specs.WorkedDays.{AreAdvanced, AreMoving, IsDay, AreRows, AreOpenings};
+ghost use Rattle.search_model.specs.WorkedDays.{AreAdvanced, AreMoving, IsDay, IsMovingDay, AreRows, AreOpenings};
 ghost use Rattle.search_model.specs.WorkedCases.{AreReports, AreDraws};
 
 use super::*;
@@ -81,6 +81,10 @@ fn whole_day()
     ensures { IsDay }
 {}
 
+fn moving_day()
+    ensures { IsMovingDay }
+{}
+
 fn rows()
     ensures { AreRows }
 {}
@@ -117,6 +121,7 @@ fn definitions_give_the_worked_cases() {
     advanced();
     moving();
     whole_day();
+    moving_day();
     rows();
     openings();
     reports();
