@@ -1,12 +1,26 @@
-//! Tests of snapshots and their plans: what is refused and why, what the cheapest plans cost, and that the
-//! start plans of small and large snapshots are feasible.
+//! Tests of snapshots and their plans: what plans cost and which rules they break, what the texts of cases are, and
+//! that each call that may answer want of memory has enough of it here. The crates below have few tests of
+//! their own, since a crate with tests is proved twice.
+//!
+//! A helper that says whether something is so says no where memory is wanting, so that its test fails. With few
+//! early returns, and few values to drop at them, the tests are proved fast.
 #![tactic(auto)]
 
 #[cfg(test)]
-mod makers;
+mod broken;
 #[cfg(test)]
-mod plans;
+mod copies;
+#[cfg(test)]
+mod costs;
+#[cfg(test)]
+mod makers;
 #[cfg(test)]
 mod refusals;
 #[cfg(test)]
+mod served;
+#[cfg(test)]
 mod sizes;
+#[cfg(test)]
+mod texts;
+#[cfg(test)]
+mod written;

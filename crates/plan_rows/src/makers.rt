@@ -1,9 +1,11 @@
+//! The buildings and snapshots of the tests.
+
+use call_sets::FloorSet;
 use call_state::{
-    Aboard, Building, BuildingParts, Call, CarSpec, CarState, Snapshot, SnapshotParts, StateFault,
-    Travel,
+    Aboard, Building, BuildingParts, Call, CarSpec, CarState, Fault, Snapshot, SnapshotParts,
+    StateFault, Travel,
 };
-use std::alloc::Global;
-use std::test::Fail;
+use std::alloc::{AllocError, Global};
 
 /// A car with doors of 1000 ms each way and 500 ms a person. Bit `f` of `serves` is floor `f`.
 pub(crate) fn car(id: u32, capacity: u32, serves: u64) -> CarSpec {
@@ -14,8 +16,28 @@ pub(crate) fn car(id: u32, capacity: u32, serves: u64) -> CarSpec {
         closing: 1000,
         boarding: 500,
         alighting: 500,
-        serves,
+        serves: FloorSet::from_bits(serves),
     }
+}
+
+/// A car for each capacity, with the ids from 1 on, that serves all four floors.
+pub(crate) fn cars_for(alloc: Global, capacities: &[u32]) -> Result<Vec<CarSpec>, AllocError> {
+    let mut cars = Vec::new(alloc);
+    for (place, capacity) in capacities.iter().enumerate() {
+        let id = u32::try_from(1 + place).unwrap_or(u32::MAX);
+        cars.push(car(id, *capacity, 15))?;
+    }
+    Ok(cars)
+}
+
+/// A car that stands there with closed doors from the moment 0 on.
+pub(crate) fn idle(floor: u32) -> CarState {
+    CarState::Idle { floor, free: 0 }
+}
+
+/// A car that stops there next.
+pub(crate) fn coming(floor: u32, arrives: u64) -> CarState {
+    CarState::Coming { floor, arrives }
 }
 
 /// A call that is not pinned.
@@ -49,14 +71,17 @@ pub(crate) fn group(id: u32, destination: u32, persons: u32, boarded: u64) -> Ab
     }
 }
 
-/// Four floors 4000 mm apart, 2000 mm/s and 1000 mm/s², weights 1 and 1.
+/// The group, aboard another car.
+pub(crate) fn riding_in(group: Aboard, car: u32) -> Aboard {
+    Aboard { car, ..group }
+}
+
+/// Four floors 4000 mm apart, 2000 mm/s and 1000 mm/s², weights 1 and 1, no patience.
 pub(crate) fn four_floors(
     alloc: Global,
     version: u8,
-    patience: u64,
-    patience_weight: u64,
     cars: &[CarSpec],
-) -> Result<BuildingParts, Fail> {
+) -> Result<BuildingParts, StateFault> {
     let times = [
         0, 4000, 6000, 8000, 4000, 0, 4000, 6000, 6000, 4000, 0, 4000, 8000, 6000, 4000, 0,
     ];
@@ -67,25 +92,43 @@ pub(crate) fn four_floors(
         accel: 1000,
         wait_weight: 1,
         travel_weight: 1,
-        patience,
-        patience_weight,
+        patience: 0,
+        patience_weight: 0,
         cars: cars.to_vec(alloc)?,
         travel: Travel::build(4, times.to_vec(alloc)?)?,
     })
 }
 
-/// What `Snapshot::build` answers to the parts.
-pub(crate) fn judged(
-    alloc: Global,
-    parts: SnapshotParts,
-) -> Result<Result<Snapshot, StateFault>, Fail> {
+/// What `Snapshot::build` answers to the parts, and a fault of no item where they do not fit together.
+fn judged(alloc: Global, parts: SnapshotParts) -> Result<Snapshot, StateFault> {
     if !parts.are_whole() {
-        return Err(Fail::from("the parts do not fit together"));
+        let fault = Fault::OutOfRange;
+        return Err(StateFault::Bad { fault, item: 0 });
     }
-    Ok(Snapshot::build(alloc, parts))
+    Snapshot::build(alloc, parts)
 }
 
-/// A snapshot of a building of version 1 whose cars serve all four floors.
+/// A snapshot of the building, or why it is refused.
+pub(crate) fn shown(
+    alloc: Global,
+    building: BuildingParts,
+    now: u64,
+    states: &[CarState],
+    aboard: &[Aboard],
+    calls: &[Call],
+) -> Result<Snapshot, StateFault> {
+    let parts = SnapshotParts {
+        version: 2,
+        building: Building::build(alloc, building)?,
+        now,
+        cars: states.to_vec(alloc)?,
+        aboard: aboard.to_vec(alloc)?,
+        calls: calls.to_vec(alloc)?,
+    };
+    judged(alloc, parts)
+}
+
+/// A snapshot of the four floors of version 1 with cars of these capacities.
 pub(crate) fn snapshot(
     alloc: Global,
     now: u64,
@@ -93,20 +136,58 @@ pub(crate) fn snapshot(
     states: &[CarState],
     aboard: &[Aboard],
     calls: &[Call],
-) -> Result<Snapshot, Fail> {
-    let mut cars = Vec::new(alloc);
-    for (place, capacity) in capacities.iter().enumerate() {
-        let id = u32::try_from(1 + place)?;
-        cars.push(car(id, *capacity, 15))?;
-    }
-    let building = Building::build(alloc, four_floors(alloc, 1, 0, 0, cars.as_slice())?)?;
-    let parts = SnapshotParts {
-        version: 2,
-        building,
-        now,
-        cars: states.to_vec(alloc)?,
-        aboard: aboard.to_vec(alloc)?,
-        calls: calls.to_vec(alloc)?,
+) -> Result<Snapshot, StateFault> {
+    let cars = cars_for(alloc, capacities)?;
+    let building = four_floors(alloc, 1, cars.as_slice())?;
+    shown(alloc, building, now, states, aboard, calls)
+}
+
+/// One car that stands at floor 0, where a person wants to go to floor 1.
+pub(crate) fn one_call(alloc: Global) -> Result<Snapshot, StateFault> {
+    snapshot(alloc, 0, &[8], &[idle(0)], &[], &[call(1, 0, 1, 1, 0)])
+}
+
+/// Two persons wait at floor 0 for floor 1. One car stands there, and another comes there late with a group
+/// for floor 1.
+pub(crate) fn two_calls(alloc: Global) -> Result<Snapshot, StateFault> {
+    snapshot(
+        alloc,
+        0,
+        &[8, 8],
+        &[idle(0), coming(0, 60000)],
+        &[riding_in(group(3, 1, 2, 0), 1)],
+        &[call(1, 0, 1, 1, 0), call(2, 0, 1, 1, 0)],
+    )
+}
+
+/// A building where a ms of waiting costs 3 and one of riding 2. The first car lacks the top floor.
+fn three_cars(alloc: Global) -> Result<BuildingParts, StateFault> {
+    let cars = [car(1, 2, 7), car(2, 8, 15), car(3, 3, 15)];
+    Ok(BuildingParts {
+        wait_weight: 3,
+        travel_weight: 2,
+        ..four_floors(alloc, 1, &cars)?
+    })
+}
+
+/// Two cars stand, and the third comes to floor 1 with a person for floor 3. Of the four calls the first two
+/// are of one queue, in which the second one comes first; the third is pinned to the first car.
+pub(crate) fn four_calls(alloc: Global) -> Result<Snapshot, StateFault> {
+    let first = CarState::Idle {
+        floor: 2,
+        free: 2000,
     };
-    Ok(judged(alloc, parts)??)
+    let second = CarState::Idle {
+        floor: 0,
+        free: 1500,
+    };
+    let calls = [
+        call(17, 1, 3, 1, 950),
+        call(5, 1, 3, 2, 900),
+        pinned(call(8, 2, 0, 2, 600), 0),
+        call(11, 0, 1, 2, 1100),
+    ];
+    let aboard = [riding_in(group(31, 3, 1, 700), 2)];
+    let states = [first, second, coming(1, 4321)];
+    shown(alloc, three_cars(alloc)?, 1234, &states, &aboard, &calls)
 }

@@ -1,0 +1,109 @@
+//! Plans that break a rule.
+
+use crate::makers::four_calls;
+use crate::written::plan_in;
+use call_state::Snapshot;
+use elevator_model::{BadPlan, Fault, Plan, Rule};
+use std::alloc::Global;
+use std::test::Fail;
+use tour_cost::{judge_plan, plan_cost};
+
+/// The first bad place of a plan, and `None` where it breaks no rule or lacks a tour.
+fn bad_place(snapshot: &Snapshot, plan: &Plan) -> Option<BadPlan> {
+    if plan.tours().len() != snapshot.building().cars().len() {
+        return None;
+    }
+    judge_plan(snapshot, plan).err()
+}
+
+/// The car, the stop and the rule's number of the first bad place of a plan in this text.
+fn broken_in(alloc: Global, snapshot: &Snapshot, text: &str) -> Option<(u32, u32, u8)> {
+    let plan = plan_in(alloc, text)?;
+    let bad = bad_place(snapshot, &plan)?;
+    Some((bad.car, bad.stop, bad.rule.number()))
+}
+
+/// What a feasible plan costs, and `None` for another one.
+pub(crate) fn price(snapshot: &Snapshot, plan: &Plan) -> Option<u64> {
+    if plan.tours().len() != snapshot.building().cars().len() {
+        return None;
+    }
+    match judge_plan(snapshot, plan) {
+        Ok(()) => Some(plan_cost(snapshot, plan)),
+        Err(_) => None,
+    }
+}
+
+#[test]
+fn each_rule_of_a_plan_is_broken_once(rt: HostRuntime) -> Result<(), Fail> {
+    let snapshot = four_calls(rt.alloc())?;
+    for (text, car, stop, number) in [
+        ("2:2 0 / 0:3 1 / 3 1:01 3", 2, 1, 1),
+        ("2:2 0 / 0:3 1 1 / 1:01 3", 1, 3, 2),
+        ("2:2 0 1 / 0:3 1 / 1:01 3", 0, 3, 3),
+        ("2:2 0 / / 1:0 0:3 1 3", 2, 2, 4),
+        ("2:2 0 / 0:3 1 / 1:01 3", 2, 1, 5),
+        ("2:2 0 / 0:3 1:0 3 1:1 3 / 1 3", 1, 4, 6),
+        ("/ 0:3 1:01 3 2:2 0 / 1 3", 1, 4, 7),
+        ("2:2 0 3:3 1 / 1:01 3 / 1 3", 0, 3, 8),
+        ("2:2 0 / 0:3 1:01 / 1 3", 1, 3, 9),
+        ("2:2 0:3 1 / 1:01 3 0:3 1 / 1 3", 1, 3, 10),
+        ("2:2 0 / 0:3 1:1 3 / 1 2:0 3", 2, 2, 11),
+        ("2:2 0 / 0:3 1:0 3 / 1 3", 3, 1, 12),
+    ] {
+        let place = broken_in(rt.alloc(), &snapshot, text);
+        assert_eq!(rt; place, Some((car, stop, number)), "{text}");
+    }
+    Ok(())
+}
+
+#[test]
+fn a_plan_that_breaks_no_rule_has_a_cost(rt: HostRuntime) -> Result<(), Fail> {
+    let plan = plan_in(rt.alloc(), "2:2 0 / 0:3 1:01 3 / 1 3").ok_or("no plan")?;
+    let snapshot = four_calls(rt.alloc())?;
+    assert!(rt; price(&snapshot, &plan) == Some(252_292));
+    Ok(())
+}
+
+#[test]
+fn faults_have_their_codes(rt: HostRuntime) {
+    for (fault, code) in [
+        (Fault::OutOfRange, 7),
+        (Fault::NotRising, 10),
+        (Fault::IdUsedBefore, 11),
+        (Fault::NoSuchFloor, 12),
+        (Fault::OriginIsDestination, 13),
+        (Fault::NoPossibleCar, 14),
+        (Fault::PinCannotTake, 15),
+        (Fault::WrongSide, 16),
+        (Fault::OverCapacity, 17),
+        (Fault::MomentOutOfRange, 18),
+        (Fault::TooManyCalls, 19),
+        (Fault::TooManyCars, 20),
+        (Fault::NotServed, 21),
+        (Fault::PersonsOutOfRange, 22),
+        (Fault::NoTravelSquare, 28),
+        (Fault::NoOpenFloor, 51),
+    ] {
+        assert!(rt; fault.code() == code);
+    }
+}
+
+#[test]
+fn rules_have_their_numbers(rt: HostRuntime) {
+    let rules = [
+        Rule::FirstStop,
+        Rule::SameFloorTwice,
+        Rule::UselessStop,
+        Rule::TurnWithPassengers,
+        Rule::Capacity,
+        Rule::QueueOrder,
+        Rule::Car,
+        Rule::Floor,
+        Rule::Delivery,
+        Rule::CallTwice,
+        Rule::Place,
+        Rule::Unserved,
+    ];
+    assert!(rt; rules.iter().map(|rule| rule.number()).eq(1..=12));
+}

@@ -1,0 +1,117 @@
+//! Copies, which have memory enough here.
+
+use crate::makers::four_calls;
+use crate::written::{plan_in, tour_in};
+use call_sets::CarSet;
+use call_state::{Building, Snapshot, Travel};
+use elevator_model::{Plan, Stop, Tour};
+use std::alloc::{AllocError, Global};
+use std::test::Fail;
+
+fn is_plan_copied(alloc: Global, plan: &Plan) -> bool {
+    match plan.copy(alloc) {
+        Ok(copy) => copy == *plan,
+        Err(_) => false,
+    }
+}
+
+/// The plan once more, with its tours pushed one after another.
+fn pushed(alloc: Global, plan: &Plan) -> Option<Plan> {
+    let mut pushed = Plan::new(alloc);
+    for tour in plan.tours() {
+        pushed.push(tour.copy(alloc).ok()?).ok()?;
+    }
+    Some(pushed)
+}
+
+fn is_plan_pushed(alloc: Global, plan: &Plan) -> bool {
+    match pushed(alloc, plan) {
+        Some(copy) => copy == *plan,
+        None => false,
+    }
+}
+
+#[test]
+fn plans_are_copied(rt: HostRuntime) -> Result<(), Fail> {
+    let plan = plan_in(rt.alloc(), "2:2 0 / 0:3 1:01 3 / 1 3").ok_or("no plan")?;
+    assert!(rt; is_plan_copied(rt.alloc(), &plan));
+    assert!(rt; is_plan_pushed(rt.alloc(), &plan));
+    Ok(())
+}
+
+/// Whether a copy of the stop is the same, and one of those who board there.
+fn is_stop_copied(alloc: Global, stop: &Stop) -> Result<bool, AllocError> {
+    let boards = stop.boards.copy(alloc)?;
+    Ok(stop.copy(alloc)? == *stop && boards == stop.boards)
+}
+
+/// Whether this is so at each stop.
+fn are_stops_copied(alloc: Global, tour: &Tour) -> Result<bool, AllocError> {
+    for stop in tour.stops() {
+        if !is_stop_copied(alloc, stop)? {
+            return Ok(false);
+        }
+    }
+    Ok(true)
+}
+
+#[test]
+fn stops_are_copied(rt: HostRuntime) -> Result<(), Fail> {
+    let tour = tour_in(rt.alloc(), "0:3 1:01 3").ok_or("no plan")?;
+    assert!(rt; are_stops_copied(rt.alloc(), &tour) == Ok(true));
+    Ok(())
+}
+
+fn are_four_floors(travel: &Travel) -> bool {
+    travel.floors() == 4 && travel.time(0, 1) == 4000 && travel.time(3, 1) == 6000
+}
+
+fn has_three_cars(building: &Building) -> bool {
+    building.heights() == [0, 4000, 8000, 12000].as_slice()
+        && building.wait_weight() == 3
+        && building.travel_weight() == 2
+        && building.car_of(3) == Some(2)
+        && building.car_of(4).is_none()
+        && are_four_floors(building.travel())
+}
+
+fn has_four_calls(snapshot: &Snapshot) -> bool {
+    has_three_cars(snapshot.building())
+        && snapshot.now() == 1234
+        && snapshot.aboard().len() == 1
+        && snapshot.call_of(8) == Some(2)
+        && snapshot.call_of(9).is_none()
+        && snapshot.calls().len() == 4
+        && snapshot.possible(0) == CarSet::from_bits(6)
+        && snapshot.possible(2) == CarSet::from_bits(1)
+}
+
+fn is_travel_copied(alloc: Global, travel: &Travel) -> bool {
+    match travel.copy(alloc) {
+        Ok(copy) => are_four_floors(&copy),
+        Err(_) => false,
+    }
+}
+
+fn is_building_copied(alloc: Global, building: &Building) -> bool {
+    match building.copy(alloc) {
+        Ok(copy) => has_three_cars(&copy),
+        Err(_) => false,
+    }
+}
+
+fn is_copied(alloc: Global, snapshot: &Snapshot) -> bool {
+    match snapshot.copy(alloc) {
+        Ok(copy) => has_four_calls(&copy),
+        Err(_) => false,
+    }
+}
+
+#[test]
+fn snapshots_are_copied(rt: HostRuntime) -> Result<(), Fail> {
+    let snapshot = four_calls(rt.alloc())?;
+    assert!(rt; is_copied(rt.alloc(), &snapshot));
+    assert!(rt; is_building_copied(rt.alloc(), snapshot.building()));
+    assert!(rt; is_travel_copied(rt.alloc(), snapshot.building().travel()));
+    Ok(())
+}

@@ -1,0 +1,205 @@
+//! Plans, tours and moves that are found.
+
+use crate::makers::{four_calls, one_call, two_calls};
+use crate::written::{plan_in, tour_in};
+use call_sets::CallSet;
+use call_state::Snapshot;
+use car_motion::travel_of;
+use elevator_model::{Move, Plan, Times, Tour};
+use first_plan::{first, insert};
+use partial_tours::{Moves, Prefix, next_moves};
+use plain_plan::{calls_in_order, opening_floors, plan_of};
+use plain_solver::{cheapest_plan, feasible_tours};
+use std::alloc::{AllocError, Global};
+use std::test::Fail;
+use tour_cost::timeline;
+use tour_rules::judge;
+
+/// Whether these are the plan's tours.
+fn has_tours(alloc: Global, plan: &Plan, text: &str) -> bool {
+    match plan_in(alloc, text) {
+        Some(due) => *plan == due,
+        None => false,
+    }
+}
+
+/// Whether the cheapest plan of one call fetches it.
+fn is_fetched(alloc: Global, snapshot: &Snapshot) -> bool {
+    match cheapest_plan(alloc, snapshot) {
+        Ok(cheapest) => has_tours(alloc, &cheapest.plan, "0:0 1"),
+        Err(_) => false,
+    }
+}
+
+/// Whether the car may fetch one call or stay.
+fn may_stay(alloc: Global, snapshot: &Snapshot) -> bool {
+    if snapshot.building().cars().is_empty() {
+        return false;
+    }
+    match feasible_tours(alloc, snapshot, 0) {
+        Ok(tours) => has_tours(alloc, &Plan::from_vec(tours), "0:0 1 /"),
+        Err(_) => false,
+    }
+}
+
+/// The first moves of the first car.
+fn first_moves(alloc: Global, snapshot: &Snapshot) -> Result<Moves, AllocError> {
+    let mut moves = Moves::new(alloc)?;
+    if snapshot.building().cars().is_empty() {
+        return Ok(moves);
+    }
+    let prefix = Prefix::new(alloc, snapshot, 0)?;
+    next_moves(&prefix, CallSet::from_bits(u128::MAX), &mut moves);
+    Ok(moves)
+}
+
+/// Whether a tour may begin at each of the four floors, and end.
+fn may_begin_anywhere(alloc: Global, snapshot: &Snapshot) -> bool {
+    let due = [
+        Move::Leave(0),
+        Move::Leave(1),
+        Move::Leave(2),
+        Move::Leave(3),
+        Move::End,
+    ];
+    match first_moves(alloc, snapshot) {
+        Ok(moves) => moves.items() == due.as_slice(),
+        Err(_) => false,
+    }
+}
+
+#[test]
+fn one_call_is_served(rt: HostRuntime) -> Result<(), Fail> {
+    let snapshot = one_call(rt.alloc())?;
+    assert!(rt; is_fetched(rt.alloc(), &snapshot));
+    assert!(rt; may_stay(rt.alloc(), &snapshot));
+    assert!(rt; may_begin_anywhere(rt.alloc(), &snapshot));
+    Ok(())
+}
+
+/// Whether the first of two cars fetches both calls at once. The order in which they board has no meaning.
+fn fetches_both(alloc: Global, plan: &Plan) -> bool {
+    has_tours(alloc, plan, "0:01 1 / 0 1") || has_tours(alloc, plan, "0:10 1 / 0 1")
+}
+
+/// Whether the start plan of two calls does so.
+fn starts_with_both(alloc: Global, snapshot: &Snapshot) -> bool {
+    match first(alloc, snapshot) {
+        Ok(plan) => fetches_both(alloc, &plan),
+        Err(_) => false,
+    }
+}
+
+/// Whether the plan does so with the second of two calls put into it.
+fn comes_to_both(alloc: Global, snapshot: &Snapshot, plan: &Plan) -> bool {
+    if snapshot.calls().len() != 2 {
+        return false;
+    }
+    match insert(alloc, snapshot, plan, 1) {
+        Ok(longer) => fetches_both(alloc, &longer),
+        Err(_) => false,
+    }
+}
+
+/// Whether this is so of the plan that fetches the first call.
+fn takes_the_second(alloc: Global, snapshot: &Snapshot) -> bool {
+    match plan_in(alloc, "0:0 1 / 0 1") {
+        Some(plan) => comes_to_both(alloc, snapshot, &plan),
+        None => false,
+    }
+}
+
+#[test]
+fn two_calls_are_fetched_together(rt: HostRuntime) -> Result<(), Fail> {
+    let snapshot = two_calls(rt.alloc())?;
+    assert!(rt; starts_with_both(rt.alloc(), &snapshot));
+    assert!(rt; takes_the_second(rt.alloc(), &snapshot));
+    Ok(())
+}
+
+/// Whether the plain plan serves the four calls one after another.
+fn is_plain(alloc: Global, snapshot: &Snapshot) -> bool {
+    match plan_of(alloc, snapshot) {
+        Ok(plan) => has_tours(alloc, &plan, "2:2 0:3 1 / 1:0 3 / 1 3 1:1 3"),
+        Err(_) => false,
+    }
+}
+
+/// Whether the calls that were placed earlier come first.
+fn is_in_order(alloc: Global, snapshot: &Snapshot) -> bool {
+    match calls_in_order(alloc, snapshot) {
+        Ok(order) => order.as_slice() == [2, 1, 0, 3].as_slice(),
+        Err(_) => false,
+    }
+}
+
+/// Whether the coming car opens where it comes to and where its group gets off.
+fn opens_twice(alloc: Global, snapshot: &Snapshot) -> bool {
+    if snapshot.building().cars().len() != 3 {
+        return false;
+    }
+    match opening_floors(alloc, snapshot, 2) {
+        Ok(floors) => floors.as_slice() == [1, 3].as_slice(),
+        Err(_) => false,
+    }
+}
+
+/// The moments of a feasible tour of the second of three cars.
+fn moments(alloc: Global, snapshot: &Snapshot, tour: &Tour) -> Result<Vec<Times>, AllocError> {
+    if snapshot.building().cars().len() != 3 {
+        return Ok(Vec::new(alloc));
+    }
+    match judge(snapshot, 1, tour) {
+        Ok(()) => timeline(alloc, snapshot, 1, tour),
+        Err(_) => Ok(Vec::new(alloc)),
+    }
+}
+
+fn times(arrival: u64, opened: u64, leaves: u64) -> Times {
+    Times {
+        arrival,
+        opened,
+        leaves,
+    }
+}
+
+/// Whether the tour arrives, opens and leaves at these moments.
+fn is_timed(alloc: Global, snapshot: &Snapshot, tour: &Tour) -> bool {
+    let due = [
+        times(1500, 2500, 4500),
+        times(8500, 9500, 13000),
+        times(19000, 20000, 22500),
+    ];
+    match moments(alloc, snapshot, tour) {
+        Ok(moments) => moments.as_slice() == due.as_slice(),
+        Err(_) => false,
+    }
+}
+
+/// Whether this is so of the tour that takes three calls.
+fn is_second_timed(alloc: Global, snapshot: &Snapshot) -> bool {
+    match tour_in(alloc, "0:3 1:01 3") {
+        Some(tour) => is_timed(alloc, snapshot, &tour),
+        None => false,
+    }
+}
+
+#[test]
+fn four_calls_are_served(rt: HostRuntime) -> Result<(), Fail> {
+    let snapshot = four_calls(rt.alloc())?;
+    assert!(rt; is_plain(rt.alloc(), &snapshot));
+    assert!(rt; is_in_order(rt.alloc(), &snapshot));
+    assert!(rt; opens_twice(rt.alloc(), &snapshot));
+    assert!(rt; is_second_timed(rt.alloc(), &snapshot));
+    Ok(())
+}
+
+#[test]
+fn travel_times_between_uneven_floors(rt: HostRuntime) -> Result<(), Fail> {
+    let travel = travel_of(rt.alloc(), &[0, 4001, 12001], 2000, 1000)?;
+    assert!(rt; travel.floors() == 3);
+    assert!(rt;
+        travel.time(0, 1) == 4001 && travel.time(2, 1) == 6000 && travel.time(2, 0) == 8001
+    );
+    Ok(())
+}
