@@ -63,6 +63,3 @@ impl From<AllocError> for StateFault {
         StateFault::NoMemory
     }
 }
-
-#[cfg(test)]
-mod tests;

@@ -4,6 +4,7 @@
 ghost use Rattle.std.specs.Prelude.{◌≤◌};
 
 use crate::kinds::Kind;
+use call_sets::FloorSet;
 use call_state::{Building, BuildingParts, CarSpec, StateFault, Travel};
 use car_motion::least_time;
 use std::alloc::{AllocError, Global};
@@ -40,7 +41,7 @@ fn car_of(kind: Kind, id: u32) -> CarSpec {
         closing: 1000,
         boarding: 500,
         alighting: 500,
-        serves: 15,
+        serves: FloorSet::from_bits(15),
     }
 }
 
