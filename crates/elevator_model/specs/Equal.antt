@@ -1,7 +1,7 @@
 -- When stops are the same.
 use Rattle.std.specs.Prelude.{Bool, ◌==◌}
 use Rattle.std.specs.Ordering.{on, eq_of_both}
-use Rattle.std.specs.Cmp.{IsPartialEquivalence, IsEquivalence, nat_eq_equiv, partial_equiv_from_equiv, on_per, and_per}
+use Rattle.std.specs.Cmp.{IsPartialEquivalence, nat_eq_equiv, partial_equiv_from_equiv, on_per, and_per}
 use Rattle.std.specs.Cmp.Lexicographic.{pointwise, lists_per}
 use Rattle.elevator_model.specs.declared.Stop.{Stop}
 

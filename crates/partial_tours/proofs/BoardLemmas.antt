@@ -1,21 +1,16 @@
 -- The tests of one board against the definition.
-use Rattle.std.proofs.Common.{◌-◌, Some, None, get_or, drop, ◌==◌, ◌≡◌, ℕ, ◌+◌, ◌<◌, Bool, true, false, cond, not, ◌&&◌, ◌||◌, ltb, leb, List, length, count_by, refl, sym, ap, ◌∙◌}
-use Rattle.std.proofs.lemmas.List.{drop_more}
+use Rattle.std.proofs.Common.{◌-◌, ◌==◌, ◌≡◌, ℕ, ◌+◌, ◌<◌, Bool, not, ◌&&◌, ltb, leb, sym, ap, ◌∙◌}
 use Rattle.std.specs.List.{list_all}
 use Rattle.elevator_model.specs.declared.Stop.{Stop}
 use Rattle.call_sets.specs.Counting.{any_below, has}
-use Rattle.elevator_model.specs.Snapshot.{Snapshot, call_count, call_of, group_of, spec_of, state_of, is_coming, is_idle}
-use Rattle.elevator_model.specs.Tours.{Progress, rider_count, destination_of, persons_where, boards_at, gets_off, stays_on, overtakes, turns_with, has_leg, is_later_in_queue, breaks, broken_at_end, first_rule, none_taken, is_call_for}
-use Rattle.elevator_model.specs.declared.Rule.TheVariants.{FirstStop, UselessStop, Delivery, QueueOrder, CallTwice, Capacity, Place as AtPlace}
-use Rattle.elevator_model.specs.declared.Rule.{Rule}
+use Rattle.elevator_model.specs.Snapshot.{Snapshot, call_count, call_of, group_of, spec_of}
+use Rattle.elevator_model.specs.Tours.{Progress, persons_where, boards_at, stays_on, overtakes, is_later_in_queue, is_call_for}
 use Rattle.tour_rules.proofs.RuleLemmas.{overtakes_same}
 use Rattle.tour_rules.specs.declared.places.Place.{Place}
-use Rattle.tour_rules.specs.declared.places.Heading.TheVariants.{To, Elsewhere, Below, Above, Anywhere}
-use Rattle.tour_rules.specs.Places.{call_in, call_heads, heads, Tracks, HasBoards}
-use Rattle.call_sets.proofs.BelowTests.{any_below-same}
+use Rattle.tour_rules.specs.Places.{call_in, Tracks}
 use Rattle.partial_tours.specs.declared.points.Begun.{Begun}
 use Rattle.partial_tours.specs.Courses.{IsBegun, is_after, board_test}
-use Rattle.tour_rules.proofs.Riders.{boards_set, at_call}
+use Rattle.tour_rules.proofs.Riders.{at_call}
 
 -- the tests of a board, on sets
 pub board_same : (s : Snapshot) (c : ℕ) (before : Place) (begun : Begun) (q : Progress) (stop : Stop) (j : ℕ) (next for_car again here over fits : Bool) → j < call_count s → Tracks s c before q → IsBegun s c q begun stop → next ≡ is_after begun.last j → for_car ≡ is_call_for s c j → again ≡ has before.boarded j → here ≡ ((call_of s j).origin == begun.floor) → over ≡ any_below (call_count s) (λ k. has before.boarded k && is_later_in_queue (call_in s.calls k) (call_in s.calls j)) → fits ≡ leb (begun.load + (call_of s j).persons) (spec_of s c).capacity → (next && ((((for_car && not again) && here) && not over) && fits)) ≡ (list_all (λ i. ltb i j) stop.boards && board_test s c q stop j)

@@ -1,12 +1,11 @@
 -- Which calls board in a tour.
-use Rattle.std.proofs.Common.{◌≡◌, ℕ, ◌+◌, ◌<◌, Bool, true, false, cond, ◌&&◌, ◌||◌, List, [], ◌∷◌, refl, sym, ap, ◌∙◌, subst, arith, zero-add}
+use Rattle.std.proofs.Common.{◌≡◌, ℕ, ◌<◌, Bool, true, false, ◌&&◌, ◌||◌, List, [], ◌∷◌, refl, ap, ◌∙◌}
 use Rattle.std.proofs.lemmas.Bool.{lt-ltb}
 use Rattle.elevator_model.specs.declared.Stop.{Stop}
-use Rattle.call_sets.specs.Counting.{sum_below, sum_where, is_among}
-use Rattle.elevator_model.specs.Snapshot.{Snapshot, car_count, call_count}
-use Rattle.elevator_model.specs.Tours.{Progress, IsFeasible, after_stops, start_of, make_stop, boards_at}
-use Rattle.elevator_model.specs.Costs.{cost_of}
-use Rattle.elevator_model.specs.Plans.{is_boarded_in, tour_of, IsFeasiblePlan, plan_cost_of}
+use Rattle.call_sets.specs.Counting.{is_among}
+use Rattle.elevator_model.specs.Snapshot.{Snapshot, call_count}
+use Rattle.elevator_model.specs.Tours.{Progress, after_stops, start_of, make_stop, boards_at}
+use Rattle.elevator_model.specs.Plans.{is_boarded_in}
 
 or_grouped : (a b d : Bool) → ((a || b) || d) ≡ (a || (b || d))
 or_grouped true b d = refl

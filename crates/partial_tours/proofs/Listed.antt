@@ -14,7 +14,6 @@ use Rattle.tour_rules.proofs.Rising.{rising_same}
 use Rattle.tour_rules.proofs.Reached.{risen, moves_reach}
 use Rattle.partial_tours.specs.PartialTour.{PartialTour}
 use Rattle.partial_tours.specs.Listed.{AddsTours, AreAllTours}
-use Rattle.partial_tours.proofs.Boarded.{boarded_in}
 
 filter_same : (t u : ℕ → Bool) (a n : ℕ) → ((j : ℕ) → j < a + n → t j ≡ u j) → filter t (range_with_len a n) ≡ filter u (range_with_len a n)
 filter_same t u a zero h = refl

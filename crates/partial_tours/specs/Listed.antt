@@ -3,9 +3,8 @@ use Rattle.std.specs.Prelude.{◌≡◌, ℕ, ◌<◌, ◌≤◌, ◌++◌, List
 use Rattle.elevator_model.specs.declared.Stop.{Stop}
 use Rattle.elevator_model.specs.declared.Move.{Move}
 use Rattle.elevator_model.specs.declared.Move.TheVariants.{Board, Leave, End}
-use Rattle.elevator_model.specs.Snapshot.{Snapshot, call_count}
+use Rattle.elevator_model.specs.Snapshot.{Snapshot}
 use Rattle.elevator_model.specs.Tours.{IsFeasible}
-use Rattle.elevator_model.specs.Plans.{is_boarded_in}
 use Rattle.elevator_model.specs.Partial.{Course, course_of, moves_of}
 use Rattle.partial_tours.specs.PartialTour.{PartialTour}
 

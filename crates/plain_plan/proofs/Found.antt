@@ -1,8 +1,8 @@
 -- What a loop keeps: a number found that passes a test, and facts of each element of a list.
 use Rattle.call_sets.proofs.BelowTests.{any_below-more}
 use Rattle.std.specs.Option.{unwrap_or}
-use Rattle.std.proofs.Common.{below_more, get_or, length, List, [], ◌∷◌, ◌++◌, cond, ◌⊎◌, inl, inr, ◌≡◌, ℕ, suc, ◌+◌, ◌<◌, Bool, true, false, sym, subst, arith, Option, Some, None, ◌∙◌, ap}
-use Rattle.std.proofs.lemmas.Bool.{or_from, both_ways}
+use Rattle.std.proofs.Common.{below_more, get_or, length, List, [], ◌∷◌, ◌++◌, cond, ◌⊎◌, inl, inr, ◌≡◌, ℕ, ◌+◌, ◌<◌, Bool, true, false, sym, subst, arith, Option, Some, None}
+use Rattle.std.proofs.lemmas.Bool.{both_ways}
 use Rattle.std.proofs.lemmas.List.{get_or_append_left}
 use Rattle.std.proofs.Math.Seq.{get_or-append_seam}
 use Rattle.elevator_model.specs.declared.Stop.{Stop}

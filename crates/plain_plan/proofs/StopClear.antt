@@ -1,11 +1,10 @@
 -- Stops that break no rule: one where nobody boards, and one where a call boards alone.
-use Rattle.std.proofs.Common.{◌==◌, ◌≡◌, ℕ, zero, suc, ◌+◌, ◌-◌, ◌<◌, ◌≤◌, Bool, true, false, cond, not, ◌&&◌, ◌||◌, eqb, ltb, leb, List, [], ◌∷◌, refl, sym, ap, ◌∙◌, subst, inl, inr, arith, None}
+use Rattle.std.proofs.Common.{◌==◌, ◌≡◌, ℕ, ◌+◌, ◌-◌, ◌<◌, ◌≤◌, Bool, true, false, cond, not, ◌&&◌, ◌||◌, eqb, ltb, leb, List, [], ◌∷◌, refl, sym, ap, ◌∙◌, subst, inl, inr, arith, None}
 use Rattle.std.specs.List.{count_by}
 use Rattle.std.proofs.lemmas.Bool.{or_from, or_left, and_parts, and_from, and_left, and_right, ltb-true, lt-ltb, le-ltb, leb-true, lt-leb, eqb-true, eq-eqb, ne_eqb, cases_Bool, not_from_true, cond-true}
-use Rattle.std.proofs.Math.Nat.{eq-or-lt_of_le}
 use Rattle.std.proofs.lemmas.List.Sums.{sum_by-cons}
 use Rattle.elevator_model.specs.declared.Rule.TheVariants.{FirstStop, SameFloorTwice, UselessStop, Capacity, QueueOrder, Car, Floor, CallTwice, Place}
-use Rattle.call_sets.specs.Counting.{any_below, sum_where}
+use Rattle.call_sets.specs.Counting.{any_below}
 use Rattle.elevator_model.specs.Snapshot.{Snapshot, call_count, call_of, group_of, spec_of, state_of, is_idle, is_possible, serves, can_take, is_pinned_elsewhere}
 use Rattle.elevator_model.specs.Tours.{Progress, breaks, rules_of_stop, boards_at, persons_where, stays_on, gets_off, overtakes, is_call_for, is_later_in_queue, rider_count, persons_of, destination_of, turns_with, broken_at, none_taken, make_stop}
 use Rattle.call_sets.proofs.BelowTests.{any_below-at, any_below-none}

@@ -1,16 +1,16 @@
 -- The cheapest tours of the cars from one on.
-use Rattle.std.proofs.Common.{◌≡◌, ℕ, zero, suc, ◌+◌, ◌*◌, ◌<◌, ◌≤◌, Bool, true, false, cond, leb, ◌||◌, List, [], ◌∷◌, length, length-append, ◌++◌, get_or, refl, sym, ap, ◌∙◌, subst, inl, inr, arith, Option, Some, None}
+use Rattle.std.proofs.Common.{◌≡◌, ℕ, suc, ◌+◌, ◌<◌, ◌≤◌, Bool, true, false, cond, leb, ◌||◌, List, [], ◌∷◌, length, length-append, ◌++◌, get_or, refl, sym, ap, ◌∙◌, subst, inl, inr, arith, Option, Some, None}
 use Rattle.std.proofs.Math.Nat.{eq-or-lt_of_le}
 use Rattle.std.proofs.lemmas.List.{get_or_push, get_or_append_left}
-use Rattle.std.proofs.lemmas.Bool.{cases_Bool, leb-true, leb-false, false≢true, false_from_ne_true, both_ways}
+use Rattle.std.proofs.lemmas.Bool.{cases_Bool, leb-true, leb-false}
 use Rattle.elevator_model.specs.declared.Stop.{Stop}
 use Rattle.elevator_model.specs.declared.Broken.{Broken}
 use Rattle.elevator_model.specs.declared.BadPlan.{BadPlan}
 use Rattle.call_sets.specs.Counting.{has, sum_below}
 use Rattle.elevator_model.specs.Snapshot.{Snapshot, car_count, call_count}
-use Rattle.elevator_model.specs.Tours.{Progress, IsFeasible, after_stops, start_of, first_broken_from, none_taken}
+use Rattle.elevator_model.specs.Tours.{Progress, IsFeasible, start_of, first_broken_from, none_taken}
 use Rattle.elevator_model.specs.Costs.{cost_of}
-use Rattle.elevator_model.specs.Plans.{IsFeasiblePlan, IsOptimal, is_boarded_in, tour_of, plan_cost_of, first_bad, first_bad_tour, first_of, broken_of_car, first_unserved, unserved_of}
+use Rattle.elevator_model.specs.Plans.{IsFeasiblePlan, IsOptimal, is_boarded_in, tour_of, plan_cost_of, first_bad_tour, first_of, broken_of_car, first_unserved, unserved_of}
 use Rattle.elevator_model.specs.Partial.{moves_of}
 use Rattle.tour_rules.proofs.BoundedTests.{same_function}
 use Rattle.tour_rules.proofs.Taken.{tour_alone, tour_apart, tour_beside}

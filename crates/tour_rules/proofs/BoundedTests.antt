@@ -1,11 +1,8 @@
 -- Tests over numbers below a bound and over lists.
-use Rattle.std.proofs.Common.{◌≡◌, ℕ, zero, suc, ◌+◌, ◌<◌, ◌≤◌, Bool, true, false, cond, ◌||◌, eqb, List, [], ◌∷◌, ◌++◌, refl, sym, ap, ◌∙◌, subst, inl, inr, arith, Option, Some, None}
-use Rattle.std.specs.List.{list_any}
+use Rattle.std.proofs.Common.{◌≡◌, Bool, true, false, List, [], ◌∷◌, refl, inl, inr, arith, Option, Some, None}
 use Rattle.std.specs.Option.{is_none}
-use Rattle.std.proofs.lemmas.Bool.{or_parts, or_from, or_cases, or_left, or_right, false≢true, false_from_ne_true, both_ways, eqb-true, eq-eqb, cases_Bool}
-use Rattle.std.proofs.Math.Nat.{eq-or-lt_of_le}
+use Rattle.std.proofs.lemmas.Bool.{false≢true, cases_Bool}
 use Rattle.elevator_model.specs.declared.Rule.{Rule}
-use Rattle.call_sets.specs.Counting.{any_below, sum_below, sum_where, is_among}
 use Rattle.elevator_model.specs.Tours.{first_rule}
 
 -- two functions that agree everywhere are one

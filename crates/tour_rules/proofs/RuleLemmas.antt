@@ -1,18 +1,17 @@
 -- The rules, tested on sets, against the definition.
-use Rattle.std.proofs.Common.{◌-◌, Some, None, get_or, drop, ◌==◌, ◌≡◌, ℕ, ◌+◌, ◌<◌, Bool, true, false, cond, not, ◌&&◌, ◌||◌, ltb, leb, List, length, count_by, refl, sym, ap, ◌∙◌}
+use Rattle.std.proofs.Common.{Some, None, get_or, drop, ◌==◌, ◌≡◌, ℕ, ◌+◌, ◌<◌, Bool, true, false, cond, not, ◌&&◌, ◌||◌, ltb, leb, List, length, count_by, refl, ap, ◌∙◌}
 use Rattle.std.proofs.lemmas.List.{drop_more}
-use Rattle.std.specs.List.{list_all}
 use Rattle.elevator_model.specs.declared.Stop.{Stop}
 use Rattle.call_sets.specs.Counting.{any_below, has}
-use Rattle.elevator_model.specs.Snapshot.{Snapshot, call_count, call_of, group_of, spec_of, state_of, is_coming, is_idle}
-use Rattle.elevator_model.specs.Tours.{Progress, rider_count, destination_of, persons_where, boards_at, gets_off, stays_on, overtakes, turns_with, has_leg, is_later_in_queue, breaks, broken_at_end, first_rule, none_taken, is_call_for}
+use Rattle.elevator_model.specs.Snapshot.{Snapshot, call_count, call_of, spec_of, state_of, is_coming, is_idle}
+use Rattle.elevator_model.specs.Tours.{Progress, rider_count, destination_of, persons_where, boards_at, gets_off, stays_on, overtakes, turns_with, has_leg, is_later_in_queue, breaks, broken_at_end, first_rule, none_taken}
 use Rattle.elevator_model.specs.declared.Rule.TheVariants.{FirstStop, UselessStop, Delivery, QueueOrder, CallTwice, Capacity, Place as AtPlace}
 use Rattle.elevator_model.specs.declared.Rule.{Rule}
 use Rattle.tour_rules.specs.declared.places.Place.{Place}
 use Rattle.tour_rules.specs.declared.places.Heading.TheVariants.{To, Elsewhere, Below, Above, Anywhere}
 use Rattle.tour_rules.specs.Places.{call_in, call_heads, heads, Tracks, HasBoards}
 use Rattle.call_sets.proofs.BelowTests.{any_below-same}
-use Rattle.tour_rules.proofs.Riders.{boards_set, at_call}
+use Rattle.tour_rules.proofs.Riders.{boards_set}
 
 board_at : (s : Snapshot) (set : ℕ) (stop : Stop) → HasBoards s set stop → (j : ℕ) → j < call_count s → has set j ≡ boards_at s stop j
 board_at s set stop h j lt = (boards_set s set stop h).calls j lt

@@ -1,5 +1,4 @@
-use Rattle.std.proofs.Common.{◌<◌, ap, length, arith}
-use Rattle.elevator_model.specs.declared.CarSpec.{CarSpec}
+use Rattle.std.proofs.Common.{ap, length, arith}
 use Rattle.call_state.proofs.PossibleLemmas.{possible-taken, possible-left, possible-all}
 use Rattle.call_state.proofs.possible_cars.cars_for.Goals as goal
 use Rattle.call_state.proofs.possible_cars.cars_for.Goals.{then-is_possible_car, else-is_possible_car}

@@ -1,5 +1,4 @@
-use Rattle.std.proofs.Common.{ℕ, List, subst, sym}
-use Rattle.call_state.proofs.PossibleLemmas.{ArePossibleBefore, possible-next}
+use Rattle.call_state.proofs.PossibleLemmas.{possible-next}
 use Rattle.call_state.proofs.possible_cars.possible_cars.Goals as goal
 
 pub loop-call-preserved : goal.loop-call-preserved

@@ -1,7 +1,6 @@
-use Rattle.std.proofs.Common.{◌∙◌, ◌+◌, ap, leb, eqb, ◌<◌, length, arith, List, slice_index_or}
+use Rattle.std.proofs.Common.{◌∙◌, ◌+◌, ap, leb, eqb, ◌<◌, length, arith, List}
 use Rattle.elevator_model.specs.declared.CarSpec.{CarSpec}
 use Rattle.elevator_model.specs.declared.Call.{Call}
-use Rattle.elevator_model.specs.Building.{Building, no_car}
 use Rattle.elevator_model.specs.Snapshot.{call_count}
 use Rattle.tour_rules.specs.Places.{call_in}
 use Rattle.partial_tours.proofs.BoardLemmas.{board_same}

@@ -1,14 +1,13 @@
-use Rattle.std.proofs.Common.{◌≡◌, ◌+◌, ◌<◌, ◌≤◌, ◌∙◌, ◌||◌, ◌∷◌, [], ℕ, List, Bool, Option, length, get_or, true, false, sym, ap, subst, arith}
+use Rattle.std.proofs.Common.{◌≡◌, ◌+◌, ◌<◌, ◌≤◌, ◌∙◌, ◌||◌, [], ℕ, List, Bool, length, true, false, sym, ap, subst, arith}
 use Rattle.std.proofs.lemmas.Bool.{both_ways}
 use Rattle.std.proofs.lemmas.List.{get_or_read}
 use Rattle.call_sets.specs.Counting.{has}
-use Rattle.elevator_model.specs.Snapshot.{car_count}
 use Rattle.elevator_model.specs.declared.Stop.{Stop}
 use Rattle.elevator_model.specs.Tours.{IsFeasible}
 use Rattle.elevator_model.specs.Costs.{cost_of}
 use Rattle.elevator_model.specs.Plans.{is_boarded_in}
 use Rattle.partial_tours.specs.Listed.{tour_at}
-use Rattle.plain_solver.specs.Rests.{AreChoices, AreChoicesFrom, Chosen, IsCheapest, IsCheapestOf, IsSmallCost, better_of, no_sums, sums_at, with_tour}
+use Rattle.plain_solver.specs.Rests.{AreChoicesFrom, IsCheapest, IsCheapestOf, IsSmallCost, better_of, no_sums, sums_at, with_tour}
 use Rattle.plain_solver.proofs.RestLemmas.{skipped, taken_up, all_tried, choice_free, choice_apart, choice_with, better_small}
 use Rattle.plain_solver.proofs.choices.+cheapest_rest.Goals as goal
 use Rattle.plain_solver.proofs.choices.+cheapest_rest.Goals.{then-are_apart+in_ok-rest+in_ok-best, else-are_apart}

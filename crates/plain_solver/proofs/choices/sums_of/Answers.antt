@@ -1,4 +1,4 @@
-use Rattle.std.proofs.Common.{◌<◌, arith}
+use Rattle.std.proofs.Common.{arith}
 use Rattle.elevator_model.specs.Tours.{none_taken, start_of}
 use Rattle.tour_rules.proofs.Taken.{tour_apart}
 use Rattle.tour_cost.proofs.Short.{calls-le}

@@ -1,5 +1,4 @@
-use Rattle.std.proofs.Common.{◌≡◌, ◌∙◌, ℕ, Bool, List, Option, Some, None, sym, ap, subst}
-use Rattle.elevator_model.specs.declared.Stop.{Stop}
+use Rattle.std.proofs.Common.{◌∙◌, ℕ, Bool, Option, sym, ap, subst}
 use Rattle.call_sets.specs.Counting.{has}
 use Rattle.elevator_model.specs.Tours.{none_taken}
 use Rattle.elevator_model.specs.Plans.{IsOptimal, plan_cost_of}

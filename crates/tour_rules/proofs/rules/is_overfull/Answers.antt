@@ -1,6 +1,5 @@
-use Rattle.std.proofs.Common.{◌∙◌, ◌+◌, ap, ltb, List, slice_index_or}
+use Rattle.std.proofs.Common.{◌∙◌, ◌+◌, ap, ltb}
 use Rattle.elevator_model.specs.declared.CarSpec.{CarSpec}
-use Rattle.elevator_model.specs.Building.{Building, no_car}
 use Rattle.elevator_model.specs.Tours.{boards_at}
 use Rattle.tour_rules.proofs.RuleLemmas.{capacity_same}
 use Rattle.tour_rules.proofs.Riders.{boards_set}

@@ -1,7 +1,6 @@
-use Rattle.std.proofs.Common.{ap, eqb, ℕ, arith, ◌≡◌, subst}
+use Rattle.std.proofs.Common.{ap, eqb, ℕ, arith}
 use Rattle.std.specs.Int.{w128}
 use Rattle.std.proofs.lemmas.Nat.Bits.{bit_at-trailing_zeros}
-use Rattle.call_sets.specs.Counting.{has}
 use Rattle.call_sets.proofs.call_set.CallSet.least.Goals as goal
 
 pub returns-clause-member : goal.returns-clause-member

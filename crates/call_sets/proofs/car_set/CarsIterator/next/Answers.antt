@@ -1,5 +1,4 @@
-use Rattle.std.proofs.Common.{◌≡◌, ◌∷◌, List, ℕ, ap, length, arith}
-use Rattle.call_sets.specs.Counting.{members}
+use Rattle.std.proofs.Common.{ap, length, arith}
 use Rattle.call_sets.proofs.Members.{members-none, members-least}
 use Rattle.call_sets.proofs.car_set.CarsIterator.next.Goals as goal
 

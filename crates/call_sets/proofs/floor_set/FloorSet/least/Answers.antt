@@ -1,7 +1,6 @@
-use Rattle.std.proofs.Common.{ap, eqb, ℕ, arith, ◌≡◌, subst}
+use Rattle.std.proofs.Common.{ap, eqb, ℕ, arith}
 use Rattle.std.specs.Int.{w64}
 use Rattle.std.proofs.lemmas.Nat.Bits.{bit_at-trailing_zeros}
-use Rattle.call_sets.specs.Counting.{has}
 use Rattle.call_sets.proofs.floor_set.FloorSet.least.Goals as goal
 
 pub returns-clause-member : goal.returns-clause-member

@@ -1,7 +1,6 @@
 use Rattle.std.proofs.Common.{◌+◌, ◌*◌, ap, ◌∙◌, refl, List, slice_index_or}
 use Rattle.elevator_model.specs.declared.CarSpec.{CarSpec}
 use Rattle.elevator_model.specs.declared.Call.{Call}
-use Rattle.elevator_model.specs.Building.{Building, no_car}
 use Rattle.elevator_model.specs.Snapshot.{no_call, spec_of}
 use Rattle.partial_tours.proofs.Tallied.{counts_board}
 use Rattle.partial_tours.proofs.tally.Tally.after_board.Goals as goal

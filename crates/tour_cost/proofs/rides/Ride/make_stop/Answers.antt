@@ -1,4 +1,4 @@
-use Rattle.std.proofs.Common.{◌≡◌, ℕ, ◌+◌, ◌*◌, ◌<◌, ap, ◌∙◌, refl, arith}
+use Rattle.std.proofs.Common.{◌≡◌, ℕ, ◌+◌, ◌*◌, ap, ◌∙◌, refl, arith}
 use Rattle.elevator_model.specs.Snapshot.{spec_of}
 use Rattle.elevator_model.specs.Tours.{arrival, persons_where, gets_off, boards_at}
 use Rattle.tour_rules.proofs.GettingOff.{AreOff-both, persons_off, persons_on}
