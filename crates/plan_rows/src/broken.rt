@@ -8,6 +8,12 @@ use std::alloc::Global;
 use std::test::Fail;
 use tour_cost::{judge_plan, plan_cost};
 
+/// What a feasible plan in this text costs.
+pub(crate) fn price_in(alloc: Global, snapshot: &Snapshot, text: &str) -> Option<u64> {
+    let plan = plan_in(alloc, text)?;
+    price(snapshot, &plan)
+}
+
 /// The first bad place of a plan, and `None` where it breaks no rule or lacks a tour.
 fn bad_place(snapshot: &Snapshot, plan: &Plan) -> Option<BadPlan> {
     if plan.tours().len() != snapshot.building().cars().len() {
@@ -54,14 +60,6 @@ fn each_rule_of_a_plan_is_broken_once(rt: HostRuntime) -> Result<(), Fail> {
         let place = broken_in(rt.alloc(), &snapshot, text);
         assert_eq!(rt; place, Some((car, stop, number)), "{text}");
     }
-    Ok(())
-}
-
-#[test]
-fn a_plan_that_breaks_no_rule_has_a_cost(rt: HostRuntime) -> Result<(), Fail> {
-    let plan = plan_in(rt.alloc(), "2:2 0 / 0:3 1:01 3 / 1 3").ok_or("no plan")?;
-    let snapshot = four_calls(rt.alloc())?;
-    assert!(rt; price(&snapshot, &plan) == Some(252_292));
     Ok(())
 }
 

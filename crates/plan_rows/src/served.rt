@@ -1,5 +1,6 @@
 //! Plans, tours and moves that are found.
 
+use crate::broken::price_in;
 use crate::makers::{four_calls, one_call, two_calls};
 use crate::written::{plan_in, tour_in};
 use call_sets::CallSet;
@@ -191,6 +192,8 @@ fn four_calls_are_served(rt: HostRuntime) -> Result<(), Fail> {
     assert!(rt; is_in_order(rt.alloc(), &snapshot));
     assert!(rt; opens_twice(rt.alloc(), &snapshot));
     assert!(rt; is_second_timed(rt.alloc(), &snapshot));
+    let cost = price_in(rt.alloc(), &snapshot, "2:2 0 / 0:3 1:01 3 / 1 3");
+    assert!(rt; cost == Some(252_292));
     Ok(())
 }
 
