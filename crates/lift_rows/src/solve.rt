@@ -2,6 +2,7 @@ use byte_streams::{MemorySource, OpenGate, SureSink};
 use lift_commands::{Status, run};
 use std::alloc::Global;
 use std::test::Fail;
+use std::thread::Threads;
 
 const FRAME: &str = "building 1
 speed 2000
@@ -33,12 +34,12 @@ pub(crate) fn case(alloc: Global, capacity: &str, lines: &str) -> Result<String,
 
 /// What the program answers to the words and the input, where each read gives some bytes.
 fn answer(
-    rt: &HostRuntime,
+    rt: &(impl Threads + Sync),
+    alloc: Global,
     line: &[&str],
     input: &str,
     each: usize,
 ) -> Result<(Status, String), Fail> {
-    let alloc = rt.alloc();
     let words = words(alloc, line)?;
     let bytes = input.as_bytes().to_vec(alloc)?;
     let mut source = MemorySource::new(bytes, each.max(1), Vec::new(alloc));
@@ -85,7 +86,13 @@ fn small_cases_are_solved(rt: HostRuntime) -> Result<(), Fail> {
             "answer 1\ncost {cost}\nbound {cost}\ntour 1\n{stops}end\n# solved\n"
         )?;
         for each in [1, 3, 10000] {
-            let (status, text) = answer(&rt, &["lift", "solve", "--brief"], input.as_str(), each)?;
+            let (status, text) = answer(
+                &rt,
+                rt.alloc(),
+                &["lift", "solve", "--brief"],
+                input.as_str(),
+                each,
+            )?;
             assert_eq!(rt; status, Status::Done);
             assert_eq!(rt; text.as_str(), due.as_str());
         }
@@ -97,7 +104,13 @@ fn small_cases_are_solved(rt: HostRuntime) -> Result<(), Fail> {
 fn two_opposite_calls_come_in_either_order(rt: HostRuntime) -> Result<(), Fail> {
     let lines = "car 1 idle 1 0\ncall 1 1 2 1 0 any\ncall 2 1 0 1 0 any\n";
     let input = case(rt.alloc(), "8", lines)?;
-    let (status, text) = answer(&rt, &["lift", "solve", "--brief"], input.as_str(), 4096)?;
+    let (status, text) = answer(
+        &rt,
+        rt.alloc(),
+        &["lift", "solve", "--brief"],
+        input.as_str(),
+        4096,
+    )?;
     assert_eq!(rt; status, Status::Done);
     let head = "answer 1\ncost 28000\nbound 28000\ntour 1\n";
     let up_first = format!(in rt.alloc();
@@ -124,7 +137,7 @@ fn other_inputs_are_not_solved_yet(rt: HostRuntime) -> Result<(), Fail> {
         pinned.as_str(),
         no_car.as_str(),
     ] {
-        let (status, text) = answer(&rt, &["lift", "solve", "--brief"], input, 4096)?;
+        let (status, text) = answer(&rt, rt.alloc(), &["lift", "solve", "--brief"], input, 4096)?;
         assert_eq!(rt; status, Status::Input);
         assert_eq!(rt; text.as_str(), "refused line 0 code 90\n");
     }
@@ -140,7 +153,7 @@ fn other_words_are_refused(rt: HostRuntime) -> Result<(), Fail> {
         ["lift", "solve", "--brief", "--brief"].as_slice(),
         ["lift"].as_slice(),
     ] {
-        let (status, text) = answer(&rt, line, "building 1\n", 4096)?;
+        let (status, text) = answer(&rt, rt.alloc(), line, "building 1\n", 4096)?;
         assert_eq!(rt; status, Status::Words);
         assert_eq!(rt; text.as_str(), usage);
     }
