@@ -2,7 +2,7 @@
 
 use crate::makers::four_calls;
 use crate::written::plan_in;
-use call_state::Snapshot;
+use call_state::{Snapshot, StateFault};
 use elevator_model::{BadPlan, Fault, Plan, Rule};
 use std::alloc::Global;
 use std::test::Fail;
@@ -85,6 +85,22 @@ fn faults_have_their_codes(rt: HostRuntime) {
     ] {
         assert!(rt; fault.code() == code);
     }
+}
+
+/// Whether the fault is told in these words.
+fn is_told(alloc: Global, fault: StateFault, words: &str) -> bool {
+    match format!(in alloc; "{fault}") {
+        Ok(told) => told.as_str() == words,
+        Err(_) => false,
+    }
+}
+
+#[test]
+fn faults_are_told_in_words(rt: HostRuntime) {
+    let fault = Fault::NoSuchFloor;
+    let told = "item 3: the building has no such floor";
+    assert!(rt; is_told(rt.alloc(), StateFault::Bad { fault, item: 3 }, told));
+    assert!(rt; is_told(rt.alloc(), StateFault::NoMemory, "out of memory"));
 }
 
 #[test]
