@@ -63,28 +63,22 @@ fn may_board(snapshot: &Snapshot, car: u32, before: &Place, begun: &Begun, call:
         return false;
     }
     let boarding = &calls[call as usize];
-    let is_next = is_after(begun.last, call);
-    let is_for_car = snapshot.may_take(car, call);
-    let is_again = before.boarded.contains(call);
-    let is_here = boarding.origin == begun.floor;
-    let is_overtaken = overtakes(calls, before.boarded, boarding);
-    let fits = begun.load + boarding.persons <= snapshot.spec(car).capacity;
-    passes(is_next, is_for_car, is_again, is_here, is_overtaken, fits)
-}
-
-/// Whether a call passes each test of a board.
-fn passes(
-    is_next: bool,
-    is_for_car: bool,
-    is_again: bool,
-    is_here: bool,
-    is_overtaken: bool,
-    fits: bool,
-) -> bool
-    ensures { result ≡
-        (is_next && ((((is_for_car && not is_again) && is_here) && not is_overtaken) && fits)) }
-{
-    is_next && is_for_car && !is_again && is_here && !is_overtaken && fits
+    if !is_after(begun.last, call) {
+        return false;
+    }
+    if !snapshot.may_take(car, call) {
+        return false;
+    }
+    if before.boarded.contains(call) {
+        return false;
+    }
+    if boarding.origin != begun.floor {
+        return false;
+    }
+    if overtakes(calls, before.boarded, boarding) {
+        return false;
+    }
+    begun.load + boarding.persons <= snapshot.spec(car).capacity
 }
 
 /// Whether the present stop may be left: somebody got off or boards there, or it needs no use.

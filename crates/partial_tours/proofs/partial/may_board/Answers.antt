@@ -1,4 +1,5 @@
-use Rattle.std.proofs.Common.{◌∙◌, ◌+◌, ap, leb, eqb, ◌<◌, length, arith, List}
+use Rattle.std.proofs.Common.{◌∙◌, ◌+◌, ap, sym, refl, leb, eqb, ◌<◌, length, arith, List, true, false}
+use Rattle.std.proofs.lemmas.Bool.{eq-eqb}
 use Rattle.elevator_model.specs.declared.CarSpec.{CarSpec}
 use Rattle.elevator_model.specs.declared.Call.{Call}
 use Rattle.elevator_model.specs.Snapshot.{call_count}
@@ -6,11 +7,29 @@ use Rattle.tour_rules.specs.Places.{call_in}
 use Rattle.partial_tours.proofs.BoardLemmas.{board_same}
 use Rattle.partial_tours.proofs.partial.may_board.Goals as goal
 
+pub returns-then-overtakes : goal.returns-then-overtakes
+returns-then-overtakes c = λ q stop t b.
+    let s = c.args.snapshot.now in
+    let calls = c.calls-calls.ensures.value in
+    let size = ap length calls in
+    let lt : c.args.call < call_count s = omega (arith, size) in
+    let next = sym c.if-not-is_after.false ∙ c.is_after.ensures in
+    let for_car = sym c.if-not-may_take.false ∙ c.may_take.ensures.value in
+    let again = sym c.if-contains.false ∙ c.contains.ensures in
+    let here = sym (eq-eqb _ _ c.if-boarding-begun.false) ∙ ap (λ (xs : List Call). eqb (call_in xs c.args.call).origin c.args.begun.now.floor) calls in
+    let over = rw calls at c.overtakes.ensures in
+    board_same s c.args.car c.args.before.now c.args.begun.now q stop c.args.call true true false true true _ lt t b next for_car again here (sym c.if-overtakes.true ∙ over) refl
+
 pub returns : goal.returns
 returns c = λ q stop t b.
     let s = c.args.snapshot.now in
     let calls = c.calls-calls.ensures.value in
     let size = ap length calls in
     let lt : c.args.call < call_count s = omega (arith, size) in
-    let over = rw calls at c.overtakes-is_overtaken.ensures in
-    c.passes.ensures ∙ board_same s c.args.car c.args.before.now c.args.begun.now q stop c.args.call c.is_after-is_next.result c.may_take-is_for_car.result c.contains-is_again.result _ c.overtakes-is_overtaken.result _ lt t b c.is_after-is_next.ensures c.may_take-is_for_car.ensures.value c.contains-is_again.ensures (ap (λ (xs : List Call). eqb (call_in xs c.args.call).origin c.args.begun.now.floor) calls) over (ap (λ (xs : List Call). leb (c.args.begun.now.load + (call_in xs c.args.call).persons) c.spec.result.now.capacity) calls ∙ ap (λ (x : CarSpec). leb (c.args.begun.now.load + (call_in s.calls c.args.call).persons) x.capacity) c.spec.ensures.value)
+    let next = sym c.if-not-is_after.false ∙ c.is_after.ensures in
+    let for_car = sym c.if-not-may_take.false ∙ c.may_take.ensures.value in
+    let again = sym c.if-contains.false ∙ c.contains.ensures in
+    let here = sym (eq-eqb _ _ c.if-boarding-begun.false) ∙ ap (λ (xs : List Call). eqb (call_in xs c.args.call).origin c.args.begun.now.floor) calls in
+    let over = rw calls at c.overtakes.ensures in
+    let fits = ap (λ (xs : List Call). leb (c.args.begun.now.load + (call_in xs c.args.call).persons) c.spec.result.now.capacity) calls ∙ ap (λ (x : CarSpec). leb (c.args.begun.now.load + (call_in s.calls c.args.call).persons) x.capacity) c.spec.ensures.value in
+    board_same s c.args.car c.args.before.now c.args.begun.now q stop c.args.call true true false true false _ lt t b next for_car again here (sym c.if-overtakes.false ∙ over) fits
