@@ -1,11 +1,12 @@
 -- What the operations on bits do to a set.
-use Rattle.std.proofs.Common.{◌≡◌, ℕ, Decides, ◌+◌, ◌-◌, ◌*◌, ◌/◌, ◌%◌, ◌^◌, ◌<◌, ◌≤◌, Bool, true, false, not, ◌&&◌, ◌||◌, ◌⊎◌, eqb, leb, ltb, le-leb, min, max, refl, sym, ap, ◌∙◌, subst, inl, inr, arith}
+use Rattle.std.proofs.Common.{◌≡◌, ℕ, Decides, ◌+◌, ◌-◌, ◌*◌, ◌/◌, ◌%◌, ◌^◌, ◌<◌, ◌≤◌, suc, Bool, true, false, not, ◌&&◌, ◌||◌, ◌⊎◌, eqb, leb, ltb, le-leb, min, max, refl, sym, ap, ◌∙◌, subst, inl, inr, arith}
 use Rattle.std.specs.Int.{bit_at, bit_not, Width}
 use Rattle.std.specs.Int.RustNames.{bit_or, bit_and}
 use Rattle.std.proofs.lemmas.Nat.Bits.{bit_at_and, bit_at_or, bit_at_not, bit_at-lt, bit_at_above, bit_at_set_same, bit_at_set_other, bit_at_clear_same, bit_at_clear_other, bit_at_mask_below, bit_at_mask_inside, bit_at-zero, bit_at_ones, bit_at_ones_above, ones_shl}
 use Rattle.std.proofs.lemmas.Bool.{cases_eq, cases_lt, eq-eqb, ne_eqb}
-use Rattle.std.proofs.Math.Nat.{div-eq_of_lt, lt-div-mul-add}
-use Rattle.std.proofs.lemmas.Nat.{pow_pos}
+use Rattle.std.proofs.Math.Nat.{div-eq_of_lt, lt-div-mul-add, pow-suc}
+use Rattle.std.proofs.lemmas.Nat.{pow_pos, leading_top, div-mul-add}
+use Rattle.std.specs.Int.Count.{count_leading_zeros}
 use Rattle.std.proofs.lemmas.Bool.Decides.{nat_tests, Decides-like, Decides-eqb}
 use mir.Val.{bits}
 use Rattle.call_sets.specs.Counting.{has}
@@ -106,3 +107,18 @@ with-here set more one added = added one ∙ ap (λ (b : Bool). has set one || b
 
 pub with-others : (set more one : ℕ) → ((k : ℕ) → has more k ≡ (has set k || eqb k one)) → (other : ℕ) → (other ≡ one → ⊥) → has more other ≡ has set other
 with-others set more one added other ne = added other ∙ ap (λ (b : Bool). has set other || b) (ne_eqb other one ne) ∙ sym (or_false (has set other))
+
+-- the greatest bit of a number that is not 0
+pub greatest_bit : (width n : ℕ) → 0 < n → n < 2 ^ width → (j : ℕ) × (count_leading_zeros width n + (j + 1) ≡ width) × (bit_at n j ≡ 1) × ((i : ℕ) → j < i → bit_at n i ≡ 0)
+greatest_bit width n pos low =
+    let top = leading_top width n pos low in
+    let j = top.0 in
+    let sum : count_leading_zeros width n + (j + 1) ≡ width = omega (arith, top.1) in
+    let above : n < 2 ^ (j + 1) = subst (λ (k : ℕ). n < 2 ^ k) (next j) top.3 in
+    let twice : 2 ^ (j + 1) ≡ 2 ^ j * 2 = ap (λ (k : ℕ). 2 ^ k) (sym (next j)) ∙ pow-suc 2 j in
+    let front : 1 * 2 ^ j + (n - 2 ^ j) ≡ n = omega (arith, top.2) in
+    let one : n / 2 ^ j ≡ 1 = ap (λ (x : ℕ). x / 2 ^ j) (sym front) ∙ div-mul-add 1 (2 ^ j) (n - 2 ^ j) (omega (arith, top.2, above, twice)) in
+    (j, sum, ap (λ (x : ℕ). x % 2) one, λ i lt. bit_at_above n (j + 1) i above (omega (arith, lt)))
+  where
+    next : (j : ℕ) → suc j ≡ j + 1
+    next j = omega arith

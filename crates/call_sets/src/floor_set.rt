@@ -175,6 +175,19 @@ impl FloorSet {
         Some(self.bits.trailing_zeros())
     }
 
+    /// The greatest member.
+    pub fn greatest(self) -> Option<u32>
+        ensures member { MatchOption result ((k : ℕ) → has self k ≡ false)
+            (λ floor. (has self floor ≡ true) × (floor < 64)) }
+        ensures greatest { MatchOption result (self ≡ 0) (λ floor. (k : ℕ) → floor < k
+            → has self k ≡ false) }
+    {
+        if self.bits == 0 {
+            return None;
+        }
+        Some(63 - self.bits.leading_zeros())
+    }
+
     /// The members, rising.
     pub fn iter(self) -> Floors
         ensures { result.left ≡ self }
