@@ -1,0 +1,3 @@
+mod ScanLemmas
+mod TableLemmas
+mod GroupLemmas
