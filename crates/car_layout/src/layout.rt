@@ -108,7 +108,7 @@ impl<'a> Layout<'a> {
     /// The car that is laid out.
     pub fn car(&self) -> u32
         ensures value { result ≡ self.now.car }
-        ensures car { result < car_count self.now.snapshot }
+        ensures car { self.now.car < car_count self.now.snapshot }
     {
         self.car
     }
@@ -178,7 +178,8 @@ impl<'a> Layout<'a> {
     /// The persons aboard the car who go to a floor: at most 64.
     pub fn persons_to(&self, floor: u32) -> u32
         requires { floor < 64 }
-        ensures { result ≡ persons_to_lem self.now.snapshot.aboard self.now.car floor }
+        ensures value { result ≡ persons_to_lem self.now.snapshot.aboard self.now.car floor }
+        ensures few { result ≤ 64 }
     {
         self.persons[floor as usize]
     }

@@ -13,28 +13,13 @@ use Rattle.elevator_model.specs.Snapshot.{Snapshot, call_count, call_of, group_o
 use Rattle.elevator_model.specs.Building.{floor_count}
 use Rattle.elevator_model.specs.Tours.{Progress, breaks, rules_but_useless, none_taken, stop_at, boards_at, stays_on, persons_where, persons_of, rider_count}
 use Rattle.elevator_model.specs.Partial.{Course, course_start, course_if, may_stand, may_be_left, may_end, go_on, board_on, end_on, move_on, move_on_from, moves_on, course_of, progress_after}
-use Rattle.partial_tours.specs.declared.points.Point.{Point}
-use Rattle.tour_rules.specs.declared.places.Place.{Place}
-use Rattle.partial_tours.specs.declared.points.Begun.{Begun}
-use Rattle.tour_rules.specs.Places.{Tracks, IsBoardSet}
-use Rattle.partial_tours.specs.Courses.{IsBegun, StopTracked, TracksCourse, is_after, board_test, empty_stop, may_leave, with_call_on}
+use Rattle.partial_tours.specs.Courses.{board_test, empty_stop, may_leave}
 use Rattle.partial_tours.proofs.Next.{may_stand-more, stands_empty, persons_more}
 use Rattle.tour_rules.proofs.Measure.{among_last, among_other, not_among_below, may_board}
-use Rattle.tour_rules.proofs.Riders.{at_call, boards_set, zero_has}
 use Rattle.call_sets.proofs.Sums.{sum_below-same, sum_below-zero}
 use Rattle.tour_rules.proofs.BoundedTests.{AllClear-from, none-from}
 use Rattle.tour_rules.proofs.Reached.{moves_on-append, left_after}
 use Rattle.tour_rules.proofs.Sound.{course_if-some, cond-some, moves_on-none}
-
-pub present_of : (s : Snapshot) (c : ℕ) (q : Progress) (o : Option Begun) (present : Option Stop) (begun : Begun) → StopTracked s c q o present → o ≡ Some begun → (p : Stop) × (present ≡ Some p) × IsBegun s c q begun p
-present_of s c q None present begun t e = absurd (cc)
-present_of s c q (Some b) None begun t e = absurd t
-present_of s c q (Some b) (Some p) begun t e = let same : b ≡ begun = cc in (p, refl, subst (λ (x : Begun). IsBegun s c q x p) same t)
-
-pub none_of : (s : Snapshot) (c : ℕ) (q : Progress) (o : Option Begun) (present : Option Stop) → StopTracked s c q o present → o ≡ None → present ≡ None
-none_of s c q None None t e = refl
-none_of s c q None (Some p) t e = absurd t
-none_of s c q (Some b) present t e = absurd (cc)
 
 pub some_if : (b : Bool) (y : Course) → is_some (course_if b y) ≡ b
 some_if true y = refl
@@ -162,42 +147,12 @@ set_more : (n set new j : ℕ) (bs : List ℕ) → ((k : ℕ) → k < n → has 
 set_more n set new j bs old here others k lt =
     elim (cases_Bool (eqb k j)) [ inl e ↦ (let same = eqb-true k j e in ap (has new) same ∙ here ∙ sym (ap (λ (i : ℕ). is_among i (bs ++ j ∷ [])) same ∙ among_last bs j)) | inr e ↦ (let ne = eqb-false k j e in others k ne ∙ old k lt ∙ sym (among_other bs j k ne)) ]
 
-pub begun_more : (s : Snapshot) (c : ℕ) (q : Progress) (begun : Begun) (stop : Stop) (j : ℕ) (new : Begun) → IsBegun s c q begun stop → j < call_count s → list_all (λ i. ltb i j) stop.boards ≡ true → may_stand s c q (with_call_on stop j) ≡ true → new.floor ≡ begun.floor → has new.boards j ≡ true → ((k : ℕ) → (k ≡ j → ⊥) → has new.boards k ≡ has begun.boards k) → new.last ≡ Some j → new.load ≡ begun.load + (call_of s j).persons → ((test : ℕ → Bool) → IsBoardSet s new.boards test → Tracks s c new.after (stop_at s c q begun.floor test)) → IsBegun s c q new (with_call_on stop j)
-begun_more s c q begun stop j new b lt rises stands f here others l load after =
-    let boards = set_more (call_count s) begun.boards new.boards j stop.boards b.boards here others in
-    let more = persons_more s stop.floor stop.boards j lt (not_among_below stop.boards j rises) in
-    let persons = at_call j (call_count s) (call_of s j).persons (group_of s (j - call_count s)).persons lt in
-    let old = b.load in
-    record {
-      floor = f ∙ b.floor;
-      in_building = b.in_building;
-      boards = boards;
-      last = λ k. last_more stop.boards j k rises ∙ sym (ap (λ (o : Option ℕ). is_after o k) l);
-      after = subst (λ (g : ℕ). Tracks s c new.after (stop_at s c q g (boards_at s (with_call_on stop j)))) b.floor (after (boards_at s (with_call_on stop j)) (boards_set s new.boards (with_call_on stop j) boards));
-      stands = stands;
-      load = omega (arith, load, old, more, persons);
-    }
-
 pub no_boards_at : (s : Snapshot) (g : ℕ) → persons_where s (boards_at s (empty_stop g)) ≡ 0
 no_boards_at s g = sum_below-same (rider_count s) _ (λ r. 0) (λ r lt. ap (λ (b : Bool). cond b (persons_of s r) 0) (and_right (ltb r (call_count s)) false refl)) ∙ sum_below-zero (rider_count s)
 
 -- a stop without boards that stands is at a floor of the building
 pub stands_in : (s : Snapshot) (c : ℕ) (q : Progress) (g : ℕ) → may_stand s c q (empty_stop g) ≡ true → g < floor_count s.building
 stands_in s c q g ok = ltb-true g (floor_count s.building) (and_parts (ltb g (floor_count s.building)) _ (not-false (serves s.building c g) (stands_empty s c q g ok).served)).0
-
-pub begun_first : (s : Snapshot) (c : ℕ) (q : Progress) (g : ℕ) (new : Begun) → may_stand s c q (empty_stop g) ≡ true → new.floor ≡ g → new.boards ≡ 0 → new.last ≡ None → new.load ≡ persons_where s (stays_on s q g) → ((test : ℕ → Bool) → IsBoardSet s 0 test → Tracks s c new.after (stop_at s c q g test)) → IsBegun s c q new (empty_stop g)
-begun_first s c q g new stands f b l load after =
-    let boards = λ (j : ℕ) (lt : j < call_count s). ap (λ (x : ℕ). has x j) b ∙ zero_has j in
-    let none = no_boards_at s g in
-    record {
-      floor = f;
-      in_building = stands_in s c q g stands;
-      boards = boards;
-      last = λ k. sym (ap (λ (o : Option ℕ). is_after o k) l);
-      after = after (boards_at s (empty_stop g)) (boards_set s 0 (empty_stop g) (λ j lt. zero_has j));
-      stands = stands;
-      load = omega (arith, load, none);
-    }
 
 -- who stays on fits into the car
 pub stands_fit : (s : Snapshot) (c : ℕ) (q : Progress) (g : ℕ) → may_stand s c q (empty_stop g) ≡ true → persons_where s (stays_on s q g) ≤ (spec_of s c).capacity
@@ -206,55 +161,3 @@ stands_fit s c q g ok =
     let none = no_boards_at s g in
     omega (arith, fits, none)
 
--- a call that may board fits into the car
-pub board_fits : (s : Snapshot) (c : ℕ) (q : Progress) (begun : Begun) (stop : Stop) (j : ℕ) → IsBegun s c q begun stop → list_all (λ i. ltb i j) stop.boards ≡ true → may_stand s c q (with_call_on stop j) ≡ true → (j < call_count s) × (begun.load + (call_of s j).persons ≤ (spec_of s c).capacity)
-board_fits s c q begun stop j b rises stands =
-    let may = may_board s c q stop.floor stop.boards j rises stands in
-    let h = AllClear-from (breaks s c none_taken q (with_call_on stop j)) rules_but_useless (none-from _ stands) in
-    let room = ltb-false (spec_of s c).capacity _ h.1.1.1.0 in
-    let more = persons_more s stop.floor stop.boards j may.call may.above in
-    let persons = at_call j (call_count s) (call_of s j).persons (group_of s (j - call_count s)).persons may.call in
-    let load = b.load in
-    (may.call, omega (arith, room, more, persons, load))
-
--- the board of a lawful move, at the stop begun
-pub record BoardsHere (s : Snapshot) (c : ℕ) (x : Course) (begun : Begun) (j : ℕ) (y : Course) : Type 0 where
-  pub stop : Stop
-  pub here : IsBegun s c x.before begun stop
-  pub rises : list_all (λ i. ltb i j) stop.boards ≡ true
-  pub stands : may_stand s c x.before (with_call_on stop j) ≡ true
-  pub leads : y ≡ record { left = x.left; before = x.before; present = Some (with_call_on stop j); ended = false }
-
-pub boards_here_at : (s : Snapshot) (c : ℕ) (point : Point) (x : Course) (begun : Begun) (j : ℕ) (y : Course) → TracksCourse s c point x → point.stop ≡ Some begun → move_on s c x (Board j) ≡ Some y → BoardsHere s c x begun j y
-boards_here_at s c point x begun j y t e h =
-    let present = present_of s c x.before point.stop x.present begun t.stop e in
-    let boarded = board_leads_to s c x j y h in
-    let same : boarded.stop ≡ present.0 = some_same (sym boarded.present ∙ present.1) in
-    record {
-      stop = present.0;
-      here = present.2;
-      rises = subst (λ (p : Stop). list_all (λ i. ltb i j) p.boards ≡ true) same boarded.rises;
-      stands = subst (λ (p : Stop). may_stand s c x.before (with_call_on p j) ≡ true) same boarded.stands;
-      leads = subst (λ (p : Stop). y ≡ record { left = x.left; before = x.before; present = Some (with_call_on p j); ended = false }) same boarded.leads;
-    }
-  where
-    some_same : {a b : Stop} → Some a ≡ Some b → a ≡ b
-    some_same e = cc
-
-pub no_board_here : (s : Snapshot) (c : ℕ) (point : Point) (x : Course) (j : ℕ) (y : Course) → TracksCourse s c point x → point.stop ≡ None → move_on s c x (Board j) ≡ Some y → ⊥
-no_board_here s c point x j y t e h =
-    let boarded = board_leads_to s c x j y h in
-    let none = none_of s c x.before point.stop x.present t.stop e in
-    some_none (sym boarded.present ∙ none)
-  where
-    some_none : {a : Stop} → Some a ≡ None → ⊥
-    some_none e = cc
-
-pub tracks_board : (s : Snapshot) (c : ℕ) (before : Place) (begun : Begun) (x : Course) (stop : Stop) (y : Course) → Tracks s c before x.before → IsBegun s c x.before begun stop → y ≡ record { left = x.left; before = x.before; present = Some stop; ended = false } → TracksCourse s c (record { before = before; stop = Some begun; ended = false }) y
-tracks_board s c before begun x stop y t b e = subst (TracksCourse s c (record { before = before; stop = Some begun; ended = false })) (sym e) (record { before = t; ended = refl; stop = b })
-
-pub tracks_end : (s : Snapshot) (c : ℕ) (before : Place) (left : List Stop) (p : Progress) (y : Course) → Tracks s c before p → y ≡ record { left = left; before = p; present = None; ended = true } → TracksCourse s c (record { before = before; stop = None; ended = true }) y
-tracks_end s c before left p y t e = subst (TracksCourse s c (record { before = before; stop = None; ended = true })) (sym e) (record { before = t; ended = refl; stop = tt })
-
-pub tracks_leave : (s : Snapshot) (c : ℕ) (before : Place) (begun : Begun) (left : List Stop) (p : Progress) (g : ℕ) (y : Course) → Tracks s c before p → IsBegun s c p begun (empty_stop g) → y ≡ record { left = left; before = p; present = Some (empty_stop g); ended = false } → TracksCourse s c (record { before = before; stop = Some begun; ended = false }) y
-tracks_leave s c before begun left p g y t b e = subst (TracksCourse s c (record { before = before; stop = Some begun; ended = false })) (sym e) (record { before = t; ended = refl; stop = b })

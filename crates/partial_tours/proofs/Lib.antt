@@ -1,4 +1,3 @@
-pub mod BoardLemmas
 pub mod Next
 pub mod Follow
 pub mod Prefixes
@@ -9,3 +8,10 @@ pub mod Lawful
 pub mod Distinct
 pub mod Listed
 pub mod Search
+pub mod Carried
+pub mod Waits
+pub mod Advance
+pub mod Choices
+pub mod NextSets
+pub mod Filling
+pub mod Departing

@@ -8,8 +8,8 @@ use Rattle.elevator_model.specs.declared.Move.{Move}
 use Rattle.elevator_model.specs.declared.Move.TheVariants.{Board, Leave, End}
 use Rattle.elevator_model.specs.Snapshot.{Snapshot, IsAccepted, car_count}
 use Rattle.elevator_model.specs.Partial.{Course, course_start, course_of, move_on, moves_on, IsLawful}
-use Rattle.partial_tours.specs.declared.points.Step.{Step}
-use Rattle.partial_tours.specs.Courses.{TracksCourse, LeadsOn, with_call_on}
+use Rattle.partial_tours.specs.declared.steps.Step.{Step}
+use Rattle.partial_tours.specs.Courses.{TracksCourse, with_call_on}
 use Rattle.partial_tours.specs.Prefixes.{IsPrefix}
 use Rattle.partial_tours.specs.PartialTour.{with_board_made, with_move_made, stops_made}
 use Rattle.partial_tours.proofs.Follow.{last_move, lawful_front, is_some_has, has_is_some, leave_leads_to, ending_leads_to, board_leads_to}
@@ -56,17 +56,8 @@ IsPrefix-new s c moves front steps step a b t no_move empty pushed =
     let all = pushed ∙ ap (λ (ps : List Step). ps ++ step ∷ []) empty in
     subst (λ (ms : List Move). IsPrefix s c ms steps) (sym no_move) (subst (IsPrefix s c []) (sym all) (IsPrefix-start s c step a b t))
 
--- the next move is lawful at the last step
-pub leads_from_last : (s : Snapshot) (c : ℕ) (moves : List Move) (steps : List Step) (step : Step) (next : Move) → IsPrefix s c moves steps → step ≡ get_or steps (length moves) step → IsLawful s c (moves ++ next ∷ []) → LeadsOn s c step.point next
-leads_from_last s c moves steps step next p is lawful =
-    let y = is_some_has (course_of s c (moves ++ next ∷ [])) lawful in
-    let last = last_move s c moves next y.0 y.1 in
-    let whole = take_all (length moves) moves (omega arith) in
-    let tracked = p.tracked (length moves) last.front step (omega arith) (ap (course_of s c) whole ∙ last.lawful) in
-    (last.front, y.0, subst (λ (q : Step). TracksCourse s c q.point last.front) (sym is) tracked, last.leads)
-
-pub IsPrefix-push : (s : Snapshot) (c : ℕ) (moves : List Move) (steps : List Step) (next : Move) (step new : Step) → IsPrefix s c moves steps → step ≡ get_or steps (length moves) step → IsLawful s c (moves ++ next ∷ []) → ((x y : Course) → TracksCourse s c step.point x → move_on s c x next ≡ Some y → TracksCourse s c new.point y) → IsPrefix s c (moves ++ next ∷ []) (steps ++ new ∷ [])
-IsPrefix-push s c moves steps next step new p is lawful leads =
+pub IsPrefix-push : (s : Snapshot) (c : ℕ) (moves : List Move) (steps : List Step) (next : Move) (new : Step) → IsPrefix s c moves steps → IsLawful s c (moves ++ next ∷ []) → ((x y : Course) → course_of s c moves ≡ Some x → move_on s c x next ≡ Some y → TracksCourse s c new.point y) → IsPrefix s c (moves ++ next ∷ []) (steps ++ new ∷ [])
+IsPrefix-push s c moves steps next new p lawful leads =
     let one = length-append moves (next ∷ []) in
     let two = length-append steps (new ∷ []) in
     let counted = p.counted in
@@ -89,9 +80,7 @@ IsPrefix-push s c moves steps next step new p is lawful leads =
         let counted = p.counted in
         let whole = take_all k (moves ++ next ∷ []) (omega (arith, one, e)) in
         let last = last_move s c moves next x (ap (course_of s c) (sym whole) ∙ h) in
-        let all = take_all (length moves) moves (omega arith) in
-        let old = p.tracked (length moves) last.front step (omega arith) (ap (course_of s c) all ∙ last.lawful) in
-        subst (λ (q : Step). TracksCourse s c q.point x) (sym (get_or_push steps new d k (omega (arith, counted, e)))) (leads last.front x (subst (λ (q : Step). TracksCourse s c q.point last.front) (sym is) old) last.leads)
+        subst (λ (q : Step). TracksCourse s c q.point x) (sym (get_or_push steps new d k (omega (arith, counted, e)))) (leads last.front x last.lawful last.leads)
 
 pub IsPrefix-take : (s : Snapshot) (c : ℕ) (moves : List Move) (steps : List Step) (n : ℕ) → IsPrefix s c moves steps → n ≤ length moves → IsPrefix s c (take n moves) (take (n + 1) steps)
 IsPrefix-take s c moves steps n p le =

@@ -1,10 +1,10 @@
 -- The running sums of a partial tour, one move longer and one move shorter.
-use Rattle.std.proofs.Common.{◌≡◌, ℕ, ◌+◌, ◌-◌, ◌*◌, ◌<◌, ◌≤◌, Bool, true, false, cond, ◌||◌, eqb, ltb, List, [], ◌∷◌, ◌++◌, length, take, drop, get_or, set, replicate, refl, sym, ap, ◌∙◌, subst, inl, inr, arith, Option, Some, None, length-append}
+use Rattle.std.proofs.Common.{◌≡◌, ℕ, ◌+◌, ◌-◌, ◌*◌, ◌<◌, ◌≤◌, Bool, true, false, cond, not, ◌&&◌, ◌||◌, eqb, ltb, leb, List, [], ◌∷◌, ◌++◌, length, take, drop, get_or, set, replicate, refl, sym, ap, ◌∙◌, subst, inl, inr, arith, Option, Some, None, length-append}
 use Rattle.std.specs.List.{list_all}
 use Rattle.std.proofs.lemmas.List.{take-append-le, take-take, take_all, take-append-drop, length-take-le, get_or_append_left, get_or-take, get_or_push, get_or-set_same, get_or-set_other, length-set, get_or_past, get_or-replicate, length-replicate}
 use Rattle.std.proofs.lemmas.Grind.{get_or-set_at}
 use Rattle.std.proofs.Math.Nat.{eq-or-lt_of_le}
-use Rattle.std.proofs.lemmas.Bool.{and_parts, and_from, and_right, or_cases, or_left, or_right, or_from, both_ways, false≢true, false_from_ne_true, ltb-true, cases_eq, cases_lt}
+use Rattle.std.proofs.lemmas.Bool.{leb-true, not-false, and_parts, and_from, and_right, or_cases, or_left, or_right, or_from, both_ways, false≢true, false_from_ne_true, ltb-true, cases_eq, cases_lt}
 use Rattle.elevator_model.specs.declared.CarState.{CarState}
 use Rattle.elevator_model.specs.declared.CarState.TheVariants.{Idle, Coming, Moving}
 use Rattle.elevator_model.specs.declared.Stop.{Stop}
@@ -12,21 +12,22 @@ use Rattle.elevator_model.specs.declared.Move.{Move}
 use Rattle.elevator_model.specs.declared.Move.TheVariants.{Board, Leave, End}
 use Rattle.call_sets.specs.Counting.{has, is_among}
 use Rattle.elevator_model.specs.Building.{floor_count}
-use Rattle.elevator_model.specs.Snapshot.{Snapshot, IsAccepted, IsTimely, call_count, call_of, car_count, spec_of, state_of, floor_of, moment_of}
+use Rattle.elevator_model.specs.Travel.{time_between}
+use Rattle.elevator_model.specs.Snapshot.{Snapshot, IsAccepted, IsTimely, call_count, call_of, car_count, spec_of, state_of, floor_of, moment_of, is_coming, may_stop_first}
 use Rattle.elevator_model.specs.Tours.{Progress, breaks, rules_but_useless, none_taken, make_stop, arrival, boards_at, gets_off, persons_where, is_aboard}
 use Rattle.elevator_model.specs.Partial.{Course, course_start, course_of, moves_on, move_on, may_stand, progress_after, IsLawful}
-use Rattle.partial_tours.specs.declared.points.Step.{Step}
+use Rattle.partial_tours.specs.declared.steps.Step.{Step}
 use Rattle.tour_rules.specs.declared.places.Place.{Place}
 use Rattle.partial_tours.specs.declared.tally.Tally.{Tally}
 use Rattle.tour_rules.specs.Places.{Tracks, group_carried}
-use Rattle.partial_tours.specs.Courses.{TracksCourse, empty_stop, with_call_on}
+use Rattle.partial_tours.specs.Courses.{TracksCourse, reached, empty_stop, with_call_on}
 use Rattle.tour_rules.specs.Leaving.{AreCarried, IsKept, AreBoarded, AreEarly, leaving_cost}
 use Rattle.partial_tours.specs.Prefixes.{IsPrefix}
-use Rattle.partial_tours.specs.Tallies.{reached, Counts, IsTally, AreNoted, LeadsOnTallied, with_moment, IsTallied}
+use Rattle.partial_tours.specs.Tallies.{IsPunctual, Counts, IsTally, AreNoted, LeadsOnTallied, with_moment, IsTallied}
 use Rattle.call_sets.proofs.ListTests.{list_any-append}
 use Rattle.tour_rules.proofs.BoundedTests.{AllClear-from, none-from}
 use Rattle.tour_rules.proofs.Measure.{may_board, not_among_below}
-use Rattle.partial_tours.proofs.Next.{persons_more, board_more, board_other}
+use Rattle.partial_tours.proofs.Next.{persons_more, board_more, board_other, stands_empty}
 use Rattle.partial_tours.proofs.Follow.{leave_leads_to, board_leads_to, ending_leads_to, LastMove, last_move, is_some_has, stands_in, no_boards_at}
 use Rattle.partial_tours.proofs.Prefixes.{moves_few, no_moves}
 use Rattle.tour_rules.proofs.Reached.{moves_on-append}
@@ -74,10 +75,54 @@ boarded_reached s c count tally x moments t noted = record {
   each = λ j b h. noted.each j b (no_aboard ((reached s c x).boarded j) (is_aboard s c j) (is_aboard-call s c j b) ((kept_reached s c count tally x t).carried j h));
 }
 
+-- ---- no stop is made before the snapshot's moment
+
+-- the first leg ends after the snapshot's moment, where the car may make its first stop
+first_late : (s : Snapshot) (c g : ℕ) (state : CarState) (leg : Bool) → IsTimely s c state → leg ≡ not (is_coming state) → may_stop_first s.building c s.moment state g ≡ true → s.moment ≤ cond leg (moment_of state + time_between s.building.travel (floor_of state) g) (moment_of state)
+first_late s c g (Idle floor free) true t e h = let early = t.0 in omega (arith, early)
+first_late s c g (Idle floor free) false t e h = absurd (false≢true e)
+first_late s c g (Coming floor arrives) leg t e h = let early = t.0 in either leg early
+  where
+    either : (b : Bool) → s.moment ≤ arrives → s.moment ≤ cond b (arrives + time_between s.building.travel floor g) arrives
+    either true le = omega (arith, le)
+    either false le = le
+first_late s c g (Moving from up left) true t e h = leb-true s.moment (left + time_between s.building.travel from g) (and_parts _ (leb s.moment (left + time_between s.building.travel from g)) h).1
+first_late s c g (Moving from up left) false t e h = absurd (false≢true e)
+
+pub arrives_late : (s : Snapshot) (c : ℕ) (p : Progress) (g : ℕ) → IsAccepted s → c < car_count s → IsPunctual s c p → may_stand s c p (empty_stop g) ≡ true → s.moment ≤ arrival s c p g
+arrives_late s c p g a b punctual stands = by_begun p.begun refl
+  where
+    by_begun : (v : Bool) → p.begun ≡ v → s.moment ≤ arrival s c p g
+    by_begun true e =
+        let later = punctual.later e in
+        let same = ap (λ (x : Bool). cond (x || not (is_coming (state_of s c))) (p.leaves + time_between s.building.travel p.floor g) p.leaves) e in
+        omega (arith, later, same)
+    by_begun false e =
+        let floor = punctual.floor e in
+        let leaves = punctual.leaves e in
+        let first = not-false (may_stop_first s.building c s.moment (state_of s c) g) (sym (ap (λ (x : Bool). not x && not (may_stop_first s.building c s.moment (state_of s c) g)) e) ∙ (stands_empty s c p g stands).first) in
+        let late = first_late s c g (state_of s c) (not (is_coming (state_of s c))) (a.placed c b).timely refl first in
+        let same = ap (λ (x : Bool). cond (x || not (is_coming (state_of s c))) (p.leaves + time_between s.building.travel p.floor g) p.leaves) e ∙ ap (λ (n : ℕ). cond (not (is_coming (state_of s c))) (n + time_between s.building.travel p.floor g) n) leaves ∙ ap (λ (f : ℕ). cond (not (is_coming (state_of s c))) (moment_of (state_of s c) + time_between s.building.travel f g) (moment_of (state_of s c))) floor in
+        omega (arith, late, same)
+
+punctual_on : (s : Snapshot) (c : ℕ) (p : Progress) (g : ℕ) → IsAccepted s → c < car_count s → IsPunctual s c p → may_stand s c p (empty_stop g) ≡ true → IsPunctual s c (make_stop s c p (empty_stop g))
+punctual_on s c p g a b punctual stands = record {
+  later = λ e. let late = arrives_late s c p g a b punctual stands in omega (arith, late);
+  floor = λ e. absurd (false≢true (sym e));
+  leaves = λ e. absurd (false≢true (sym e));
+}
+
+punctual_more : (s : Snapshot) (c : ℕ) (before : Progress) (old new : Stop) → IsPunctual s c (make_stop s c before old) → (make_stop s c before old).leaves ≤ (make_stop s c before new).leaves → IsPunctual s c (make_stop s c before new)
+punctual_more s c before old new punctual more = record {
+  later = λ e. let late = punctual.later refl in omega (arith, late, more);
+  floor = λ e. absurd (false≢true (sym e));
+  leaves = λ e. absurd (false≢true (sym e));
+}
+
 -- ---- one move more
 
-pub tally_leave : (s : Snapshot) (c count : ℕ) (tally new : Tally) (x y : Course) (g : ℕ) → IsTally s c count tally x → count < 450 → move_on s c x (Leave g) ≡ Some y → Counts s c new (make_stop s c (reached s c x) (empty_stop g)) → new.opened ≤ new.leaves → new.leaves ≤ tally.leaves + 150000000 → IsTally s c (count + 1) new y
-tally_leave s c count tally new x y g t few h counts timely later =
+pub tally_leave : (s : Snapshot) (c count : ℕ) (tally new : Tally) (x y : Course) (g : ℕ) → IsAccepted s → c < car_count s → IsTally s c count tally x → count < 450 → move_on s c x (Leave g) ≡ Some y → Counts s c new (make_stop s c (reached s c x) (empty_stop g)) → new.opened ≤ new.leaves → new.leaves ≤ tally.leaves + 150000000 → IsTally s c (count + 1) new y
+tally_leave s c count tally new x y g a b t few h counts timely later =
     let at = leave_leads_to s c x g y h in
     let late = t.late in
     subst (IsTally s c (count + 1) new) (sym at.2) (record {
@@ -87,6 +132,7 @@ tally_leave s c count tally new x y g t few h counts timely later =
       floor = stands_in s c (reached s c x) g at.1;
       kept = kept_reached s c count tally x t;
       early = early_reached s c count tally x t (omega (arith, few));
+      punctual = punctual_on s c (reached s c x) g a b t.punctual at.1;
     })
 
 pub tally_end : (s : Snapshot) (c count : ℕ) (tally : Tally) (x y : Course) → IsTally s c count tally x → count < 450 → move_on s c x End ≡ Some y → IsTally s c (count + 1) tally y
@@ -99,6 +145,7 @@ tally_end s c count tally x y t few h =
       floor = t.floor;
       kept = kept_reached s c count tally x t;
       early = early_reached s c count tally x t (omega (arith, few));
+      punctual = t.punctual;
     })
 
 pub tally_board : (s : Snapshot) (c count : ℕ) (tally new : Tally) (x y : Course) (j : ℕ) → IsTally s c count tally x → count < 450 → move_on s c x (Board j) ≡ Some y → ((p : Progress) (stop : Stop) → IsKept s c p → list_all (λ i. ltb i j) stop.boards ≡ true → may_stand s c p (with_call_on stop j) ≡ true → Counts s c tally (make_stop s c p stop) → Counts s c new (make_stop s c p (with_call_on stop j))) → new.opened ≡ tally.opened → tally.leaves ≤ new.leaves → new.leaves ≤ tally.leaves + 150000000 → IsTally s c (count + 1) new y
@@ -114,6 +161,7 @@ tally_board s c count tally new x y j t few h counts opened later latest =
       floor = subst (λ (o : Option Stop). (progress_after s c x.before o).floor < floor_count s.building) at.present t.floor;
       kept = t.kept;
       early = t.early;
+      punctual = punctual_more s c x.before at.stop (with_call_on at.stop j) (subst (λ (o : Option Stop). IsPunctual s c (progress_after s c x.before o)) at.present t.punctual) (let new_leaves = (counts x.before at.stop t.kept at.rises at.stands old).leaves in let old_leaves = old.leaves in omega (arith, later, new_leaves, old_leaves));
     })
 
 -- a call that boards at a stop that stands did not board before
@@ -181,6 +229,7 @@ tally_start s c tally a b opened leaves settled =
       floor = ltb-true (floor_of (state_of s c)) (floor_count s.building) (and_parts (ltb (floor_of (state_of s c)) (floor_count s.building)) _ placed.served).0;
       kept = IsKept-start s c;
       early = AreEarly-start s c a;
+      punctual = record { later = λ e. absurd (false≢true e); floor = λ e. refl; leaves = λ e. refl };
     }
 
 -- ---- the place of the car
@@ -309,13 +358,19 @@ IsTallied-new s c moves front steps step moments t no_move empty pushed noted =
     let low = λ (j : ℕ). ap (λ (ms : List ℕ). get_or ms j 0) noted ∙ all_same 128 0 j in
     subst (λ (ms : List Move). IsTallied s c ms steps moments) (sym no_move) (subst (λ (ts : List Step). IsTallied s c [] ts moments) (sym all) (IsTallied-start s c step moments t room (λ j. let none = low j in omega (arith, none))))
 
+-- the same list of moments serves a partial tour without moves
+pub IsTallied-again : (s : Snapshot) (c : ℕ) (moves : List Move) (front steps : List Step) (step : Step) (moments : List ℕ) → IsTally s c 0 step.tally (course_start s c) → moves ≡ [] → front ≡ [] → steps ≡ front ++ step ∷ [] → length moments ≡ 128 → ((j : ℕ) → get_or moments j 0 ≤ 100000000000) → IsTallied s c moves steps moments
+IsTallied-again s c moves front steps step moments t no_move empty pushed room low =
+    let all = pushed ∙ ap (λ (ts : List Step). ts ++ step ∷ []) empty in
+    subst (λ (ms : List Move). IsTallied s c ms steps moments) (sym no_move) (subst (λ (ts : List Step). IsTallied s c [] ts moments) (sym all) (IsTallied-start s c step moments t room low))
+
 -- where the last step stands
-record StandsLast (s : Snapshot) (c : ℕ) (moves : List Move) (step : Step) (moments : List ℕ) (x : Course) : Type 0 where
+pub record StandsLast (s : Snapshot) (c : ℕ) (moves : List Move) (step : Step) (moments : List ℕ) (x : Course) : Type 0 where
   pub tracks : TracksCourse s c step.point x
   pub tallies : IsTally s c (length moves) step.tally x
   pub notes : AreNoted s c moments x
 
-stands_last : (s : Snapshot) (c : ℕ) (moves : List Move) (steps : List Step) (moments : List ℕ) (step : Step) (x : Course) → IsPrefix s c moves steps → IsTallied s c moves steps moments → step ≡ get_or steps (length moves) step → course_of s c moves ≡ Some x → StandsLast s c moves step moments x
+pub stands_last : (s : Snapshot) (c : ℕ) (moves : List Move) (steps : List Step) (moments : List ℕ) (step : Step) (x : Course) → IsPrefix s c moves steps → IsTallied s c moves steps moments → step ≡ get_or steps (length moves) step → course_of s c moves ≡ Some x → StandsLast s c moves step moments x
 stands_last s c moves steps moments step x p t is h =
     let at = ap (course_of s c) (take_all (length moves) moves (omega arith)) ∙ h in
     let le : length moves ≤ length moves = omega arith in
@@ -325,7 +380,7 @@ stands_last s c moves steps moments step x p t is h =
       notes = t.noted (length moves) x le at;
     }
 
-more_few : (s : Snapshot) (c : ℕ) (moves : List Move) (next : Move) → IsAccepted s → c < car_count s → IsLawful s c (moves ++ next ∷ []) → length moves < 450
+pub more_few : (s : Snapshot) (c : ℕ) (moves : List Move) (next : Move) → IsAccepted s → c < car_count s → IsLawful s c (moves ++ next ∷ []) → length moves < 450
 more_few s c moves next a b lawful =
     let few = moves_few s c (moves ++ next ∷ []) a b lawful in
     let one = length-append moves (next ∷ []) in

@@ -1,4 +1,5 @@
 pub mod PartialTour
+pub mod Orders
 pub mod Courses
 pub mod Prefixes
 pub mod Tallies

@@ -3,7 +3,7 @@ use Rattle.std.specs.Prelude.{◌≡◌, ℕ, ◌+◌, ◌≤◌, ◌<◌, List,
 use Rattle.elevator_model.specs.declared.Move.{Move}
 use Rattle.elevator_model.specs.Snapshot.{Snapshot, IsAccepted, car_count}
 use Rattle.elevator_model.specs.Partial.{Course, course_of, IsLawful}
-use Rattle.partial_tours.specs.declared.points.Step.{Step}
+use Rattle.partial_tours.specs.declared.steps.Step.{Step}
 use Rattle.partial_tours.specs.Courses.{TracksCourse}
 
 pub record IsPrefix (s : Snapshot) (c : ℕ) (moves : List Move) (steps : List Step) : Type 0 where

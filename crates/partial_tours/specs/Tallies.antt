@@ -1,27 +1,29 @@
 -- The running sums of a partial tour, against the definition.
-use Rattle.std.specs.Prelude.{◌≡◌, ℕ, ◌+◌, ◌*◌, ◌≤◌, ◌<◌, List, length, take, true, Some, slice_index, slice_index_or, slice_set}
+use Rattle.std.specs.Prelude.{◌≡◌, ℕ, ◌+◌, ◌*◌, ◌≤◌, ◌<◌, List, length, take, true, false, Some, slice_index, slice_index_or, slice_set}
 use Rattle.elevator_model.specs.declared.Move.{Move}
 use Rattle.elevator_model.specs.declared.Move.TheVariants.{Board, Leave, End}
 use Rattle.elevator_model.specs.Building.{floor_count}
-use Rattle.elevator_model.specs.Snapshot.{Snapshot, call_count}
+use Rattle.elevator_model.specs.Snapshot.{Snapshot, call_count, state_of, floor_of, moment_of}
 use Rattle.elevator_model.specs.Tours.{Progress}
 use Rattle.elevator_model.specs.Costs.{settled_cost}
-use Rattle.elevator_model.specs.Partial.{Course, course_of, progress_after, move_on}
+use Rattle.elevator_model.specs.Partial.{Course, course_of, move_on}
 use Rattle.partial_tours.specs.declared.points.Point.{Point}
-use Rattle.partial_tours.specs.declared.points.Step.{Step}
+use Rattle.partial_tours.specs.declared.steps.Step.{Step}
 use Rattle.partial_tours.specs.declared.tally.Tally.{Tally}
-use Rattle.partial_tours.specs.Courses.{TracksCourse}
+use Rattle.partial_tours.specs.Courses.{TracksCourse, reached}
 use Rattle.tour_rules.specs.Leaving.{IsKept, AreEarly}
-
--- where the car is with the present stop made by those who boarded there so far
-abbrev pub reached : Snapshot → ℕ → Course → Progress
-reached s c x = progress_after s c x.before x.present
 
 -- the moments and the cost of a progress
 pub record Counts (s : Snapshot) (c : ℕ) (tally : Tally) (p : Progress) : Type 0 where
   pub opened : tally.opened ≡ p.opened
   pub leaves : tally.leaves ≡ p.leaves
   pub settled : tally.settled ≡ settled_cost s c p
+
+-- a car that made a stop leaves after the snapshot's moment, and one that made none is where it was then
+pub record IsPunctual (s : Snapshot) (c : ℕ) (p : Progress) : Type 0 where
+  pub later : p.begun ≡ true → s.moment ≤ p.leaves
+  pub floor : p.begun ≡ false → p.floor ≡ floor_of (state_of s c)
+  pub leaves : p.begun ≡ false → p.leaves ≡ moment_of (state_of s c)
 
 -- the tally stands for where so many moves lead
 pub record IsTally (s : Snapshot) (c count : ℕ) (tally : Tally) (x : Course) : Type 0 where
@@ -31,6 +33,7 @@ pub record IsTally (s : Snapshot) (c count : ℕ) (tally : Tally) (x : Course) :
   pub floor : (reached s c x).floor < floor_count s.building
   pub kept : IsKept s c x.before
   pub early : AreEarly s x.before
+  pub punctual : IsPunctual s c (reached s c x)
 
 -- the moments in the list are those at which the calls boarded
 pub record AreNoted (s : Snapshot) (c : ℕ) (moments : List ℕ) (x : Course) : Type 0 where
@@ -45,6 +48,11 @@ with_moment End opened moments = moments
 -- the move is lawful where the point and the tally stand
 abbrev pub LeadsOnTallied : Snapshot → ℕ → Point → Tally → List ℕ → Move → Type 0
 LeadsOnTallied s c point tally moments m = (x : Course) × (y : Course) × (count : ℕ) × TracksCourse s c point x × IsTally s c count tally x × AreNoted s c moments x × (count < 450) × (move_on s c x m ≡ Some y)
+
+-- a lawful move leads from the one step to the other
+abbrev pub IsStepAfter : Snapshot → ℕ → Step → List ℕ → Move → Step → Type 0
+IsStepAfter s c step moments m new =
+    (x y : Course) (count : ℕ) → TracksCourse s c step.point x → IsTally s c count step.tally x → AreNoted s c moments x → count < 450 → move_on s c x m ≡ Some y → TracksCourse s c new.point y × IsTally s c (count + 1) new.tally y
 
 -- What a partial tour keeps: a tally after each of its moves, and the moments at which calls boarded.
 pub record IsTallied (s : Snapshot) (c : ℕ) (moves : List Move) (steps : List Step) (moments : List ℕ) : Type 0 where

@@ -2,9 +2,12 @@
 //! partial tour has cost so far.
 #![tactic(auto)]
 
-mod partial;
+mod advancing;
+mod following;
+mod leaving;
 mod points;
 mod prefix;
+mod steps;
 mod tally;
 
 pub use call_sets::CallSet;

@@ -1,46 +1,29 @@
-//! Where a partial tour is, as running sums.
+//! Where a partial tour is.
 
-ghost use Rattle.std.specs.Prelude.{◌≤◌};
+ghost use Rattle.std.specs.Prelude.{◌≤◌, ◌<◌};
 
-use crate::tally::Tally;
-use call_sets::CallSet;
+use call_sets::{CallSet, FloorSet};
 use tour_rules::places::Place;
-
-/// The stop begun: who boarded there so far.
-#[derive(Clone, Copy)]
-pub(crate) struct Begun {
-    pub(crate) floor: u32,
-    pub(crate) boards: CallSet,
-    /// The highest index that boarded there.
-    pub(crate) last: Option<u32>,
-    /// The persons carried when the car leaves it.
-    pub(crate) load: u32,
-    /// The car once it leaves the stop.
-    pub(crate) after: Place,
-    ghost few: { load ≤ 64 },
-}
 
 /// Where a partial tour is.
 #[derive(Clone, Copy)]
 pub(crate) struct Point {
-    /// The car after the stops that it left.
-    pub(crate) before: Place,
-    pub(crate) stop: Option<Begun>,
+    /// The car with the present stop made by those who boarded there so far.
+    pub(crate) place: Place,
     pub(crate) ended: bool,
-}
-
-/// Where a partial tour is, and its moments and cost until there.
-#[derive(Clone, Copy)]
-pub(crate) struct Step {
-    pub(crate) point: Point,
-    pub(crate) tally: Tally,
-}
-
-/// The departure from the present stop.
-#[derive(Clone, Copy)]
-pub(crate) struct Departure {
-    /// Whether the stop may be left.
-    pub(crate) leaves: bool,
-    /// The car once it left.
-    pub(crate) after: Place,
+    /// Whether the present stop may be left: somebody got off or boards there, or it needs no use.
+    pub(crate) useful: bool,
+    /// The highest index that boarded at the present stop.
+    pub(crate) last: Option<u32>,
+    /// How many more persons the car can carry.
+    pub(crate) room: u32,
+    /// The calls that the car may take, that have not boarded, and of whose queue no later call boarded at an
+    /// earlier stop.
+    pub(crate) waiting: CallSet,
+    /// The earlier calls of the queues of those that board at the present stop.
+    pub(crate) passed: CallSet,
+    /// The floors to which someone is carried.
+    pub(crate) bound_for: FloorSet,
+    ghost near: { place.floor < 64 },
+    ghost small: { room ≤ 64 },
 }

@@ -4,12 +4,14 @@ ghost use Rattle.std.specs.Prelude.{true, OnOk, ◌≡◌, ◌<◌, ◌≤◌, �
 ghost use Rattle.call_sets.specs.Counting.{has};
 ghost use Rattle.elevator_model.specs.Partial.{Course, lawful_moves, moves_of, settled_of, moment_in};
 ghost use Rattle.partial_tours.specs.PartialTour.{course, with_move_made, stops_made};
+ghost use Rattle.partial_tours.specs.Orders.{first_of, next_after};
 
-use crate::partial::{advance, fill, place_after, start};
-use crate::points::Step;
-use crate::tally::{Tally, note};
+use crate::following::{fill, first_move, move_after};
+use crate::steps::Step;
+use crate::tally::note;
 use call_sets::CallSet;
 use call_state::Snapshot;
+use car_layout::Layout;
 use elevator_model::{Boards, MOST_CALLS, MOST_MOVES, MOST_NEXT_MOVES, Move, Stop, Tour};
 use std::alloc::{AllocError, Global};
 use std::marker::Model;
@@ -53,10 +55,10 @@ impl Moves {
 /// costs until there.
 #[derive(Drop)]
 pub struct Prefix<'a> {
-    snapshot: &'a Snapshot,
-    car: u32,
+    layout: Layout<'a>,
     moves: Vec<Move>,
-    /// Where the moves lead: the start, and what follows each move.
+    /// Where the moves lead: the start, and what follows each move. A move that is taken back takes its step
+    /// with it.
     steps: Vec<Step>,
     /// For each call that boarded the moment of it. One that was taken back is overwritten when the call
     /// boards again.
@@ -72,9 +74,9 @@ impl<'a> Model for Prefix<'a> {
     ghost use Rattle.partial_tours.specs.Prefixes.{IsPrefix};
     ghost use Rattle.partial_tours.specs.Tallies.{IsTallied};
 
-    ghost view = { λ p. record { snapshot = p.snapshot.now; car = p.car; moves = p.moves.items } };
+    ghost view = { λ p. record { snapshot = p.layout.snapshot; car = p.layout.car; moves = p.moves.items } };
 
-    ghost invariant = { λ p. IsPrefix p.snapshot.now p.car p.moves.items p.steps.items × (450 ≤ vec_capacity p.moves) × (451 ≤ vec_capacity p.steps) × IsTallied p.snapshot.now p.car p.moves.items p.steps.items p.moments.items };
+    ghost invariant = { λ p. IsPrefix p.layout.snapshot p.layout.car p.moves.items p.steps.items × (450 ≤ vec_capacity p.moves) × (451 ≤ vec_capacity p.steps) × IsTallied p.layout.snapshot p.layout.car p.moves.items p.steps.items p.moments.items };
 }
 
 impl<'a> Prefix<'a> {
@@ -88,21 +90,36 @@ impl<'a> Prefix<'a> {
         requires { car < car_count snapshot.now }
         ensures { IfOk result (λ p. p ≡ record { snapshot = snapshot.now; car = car; moves = [] }) }
     {
-        let _calls = snapshot.calls();
+        let layout = Layout::new(alloc, snapshot, car)?;
         let moves = Vec::with_capacity(alloc, MOST_MOVES)?;
         let mut steps = Vec::with_capacity(alloc, MOST_MOVES + 1)?;
-        steps.push_reserved(Step {
-            point: start(snapshot, car),
-            tally: Tally::start(snapshot, car),
-        });
+        steps.push_reserved(Step::start(&layout));
         let moments = Vec::from_array(alloc, [0; MOST_CALLS])?;
         Ok(Prefix {
-            snapshot,
-            car,
+            layout,
             moves,
             steps,
             moments,
         })
+    }
+
+    /// Becomes the empty partial tour of a car of the snapshot, and takes no memory.
+    pub fn restart(&mut self, car: u32)
+        requires { car < car_count self.old.snapshot }
+        ensures { self.new ≡ record { snapshot = self.old.snapshot; car = car; moves = [] } }
+    {
+        self.layout.restart(car);
+        self.moves.clear();
+        self.steps.clear();
+        self.steps.push_reserved(Step::start(&self.layout));
+    }
+
+    /// The car.
+    pub fn car(&self) -> u32
+        ensures value { result ≡ self.now.car }
+        ensures car { result < car_count self.now.snapshot }
+    {
+        self.layout.car()
     }
 
     /// The moves: at most three for each call, one for each group aboard the car, and two.
@@ -119,18 +136,11 @@ impl<'a> Prefix<'a> {
         requires { IsLawful self.old.snapshot self.old.car (self.old.moves ++ next ∷ []) }
         ensures { self.new ≡ with_move self.old next }
     {
-        let step = self.steps[self.moves.len()];
-        let tally = step.tally.after(
-            self.snapshot,
-            self.car,
-            &step.point,
-            next,
-            self.moments.as_slice(),
-        );
-        let point = advance(self.snapshot, self.car, &step.point, next);
-        note(self.moments.as_mut_slice(), next, tally.opened);
+        let step =
+            self.steps[self.moves.len()].after(&self.layout, next, self.moments.as_slice());
+        note(self.moments.as_mut_slice(), next, step.tally.opened);
         self.moves.push_reserved(next);
-        self.steps.push_reserved(Step { point, tally });
+        self.steps.push_reserved(step);
     }
 
     /// Takes the last move away. None where there is none, and then nothing changes.
@@ -141,6 +151,28 @@ impl<'a> Prefix<'a> {
         let last = self.moves.pop()?;
         let _ = self.steps.pop();
         Some(last)
+    }
+
+    /// The first move after which the partial tour is lawful, of boards of allowed calls, leaves and the end.
+    /// None where there is none.
+    pub fn first_move(&self, allowed: CallSet) -> Option<Move>
+        ensures { (x : Course) → course self.now ≡ Some x → result
+            ≡ first_of (lawful_moves self.now.snapshot self.now.car x (has allowed)) }
+    {
+        first_move(&self.layout, &self.steps[self.moves.len()].point, allowed)
+    }
+
+    /// The first such move that comes after this one. None where there is none.
+    pub fn move_after(&self, allowed: CallSet, last: Move) -> Option<Move>
+        ensures { (x : Course) → course self.now ≡ Some x → result
+            ≡ next_after last (lawful_moves self.now.snapshot self.now.car x (has allowed)) }
+    {
+        move_after(
+            &self.layout,
+            &self.steps[self.moves.len()].point,
+            allowed,
+            last,
+        )
     }
 
     /// The cost in cost units of those who got off within the partial tour. The present stop counts: those
@@ -157,8 +189,8 @@ impl<'a> Prefix<'a> {
         ensures { (x : Course) → course self.now ≡ Some x
             → result ≡ moment_in self.now.snapshot self.now.car x }
     {
-        let step = self.steps[self.moves.len()];
-        if place_after(&step.point).begun {
+        let step = &self.steps[self.moves.len()];
+        if step.point.place.begun {
             Some(step.tally.opened)
         } else {
             None
@@ -182,11 +214,9 @@ pub fn next_moves(prefix: &Prefix, allowed: CallSet, out: &mut Moves)
     ensures { (x : Course) → course prefix.now ≡ Some x
         → out.new ≡ lawful_moves prefix.now.snapshot prefix.now.car x (has allowed) }
 {
-    let step = prefix.steps[prefix.moves.len()];
     fill(
-        prefix.snapshot,
-        prefix.car,
-        &step.point,
+        &prefix.layout,
+        &prefix.steps[prefix.moves.len()].point,
         allowed,
         &mut out.items,
     );

@@ -88,7 +88,7 @@ settled_start s c = sum_where-none (rider_count s) (is_delivered s c (start_of s
     nobody true = refl
     nobody false = refl
 
-cost_of_rider-call : (s : Snapshot) (j boarded delivered : ℕ) → j < call_count s → cost_of_rider s j boarded delivered ≡ cost_of_call s j boarded delivered
+pub cost_of_rider-call : (s : Snapshot) (j boarded delivered : ℕ) → j < call_count s → cost_of_rider s j boarded delivered ≡ cost_of_call s j boarded delivered
 cost_of_rider-call s j boarded delivered b =
     ap (λ (n : ℕ). n * (cond (ltb j (call_count s)) (cost_of_wait s.building (boarded - (call_of s j).released)) 0 + s.building.travel_weight * (delivered - boarded))) (persons_of-call s j b) ∙ ap (λ (x : Bool). (call_of s j).persons * (cond x (cost_of_wait s.building (boarded - (call_of s j).released)) 0 + s.building.travel_weight * (delivered - boarded))) (is_call s j b)
 

@@ -147,8 +147,8 @@ fn cost_of_groups_off(
     cost
 }
 
-/// The cost of a call that boards and gets off at these moments.
-fn cost_of_call(building: &Building, call: &Call, boarded: u64, delivered: u64) -> u64
+/// The cost in cost units of a call that boards and gets off at these moments, in ms.
+pub fn cost_of_call(building: &Building, call: &Call, boarded: u64, delivered: u64) -> u64
     requires persons { call.now.persons ≤ 8 }
     requires boarded { boarded ≤ MOMENT_LIMIT }
     requires delivered { delivered ≤ MOMENT_LIMIT }
@@ -164,8 +164,8 @@ fn cost_of_call(building: &Building, call: &Call, boarded: u64, delivered: u64) 
             + building.travel_weight() * ride)
 }
 
-/// The cost of a group aboard that gets off at this moment.
-fn cost_of_group(building: &Building, group: &Aboard, delivered: u64) -> u64
+/// The cost in cost units of a group aboard that gets off at this moment, in ms.
+pub fn cost_of_group(building: &Building, group: &Aboard, delivered: u64) -> u64
     requires persons { group.now.persons ≤ 8 }
     requires delivered { delivered ≤ MOMENT_LIMIT }
     ensures cost { result ≡ group_cost building.now group.now delivered }
