@@ -1,12 +1,11 @@
 -- Where a lawful move leads the point that stands for a course.
 use Rattle.std.proofs.Common.{◌==◌, ◌≡◌, ℕ, ◌+◌, ◌-◌, ◌<◌, ◌≤◌, Bool, true, false, cond, not, ◌&&◌, ◌||◌, eqb, ltb, ◌++◌, ◌∷◌, [], List, length, refl, sym, ap, ◌∙◌, subst, inl, inr, arith, Option, Some, None}
 use Rattle.std.specs.List.{list_all}
-use Rattle.std.proofs.lemmas.Bool.{cases_Bool, and_parts, and_right, and_left, lt-ltb, ltb-true, ltb-false, ne_eqb, not-true, both_ways}
+use Rattle.std.proofs.lemmas.Bool.{cases_Bool, and_parts, and_right, and_left, lt-ltb, ltb-true, ltb-false, ne_eqb, both_ways}
 use Rattle.elevator_model.specs.declared.Move.TheVariants.{Board, Leave, End}
-use Rattle.elevator_model.specs.declared.Rule.TheVariants.{UselessStop, Capacity}
 use Rattle.elevator_model.specs.declared.Stop.{Stop}
 use Rattle.call_sets.specs.Counting.{any_below, sum_where, has}
-use Rattle.elevator_model.specs.Snapshot.{Snapshot, IsAccepted, car_count, call_count, call_of, group_of, spec_of, state_of, is_idle, is_possible, persons_aboard}
+use Rattle.elevator_model.specs.Snapshot.{Snapshot, call_count, call_of, group_of, spec_of, state_of, is_idle, is_possible, persons_aboard}
 use Rattle.elevator_model.specs.Tours.{Progress, breaks, rules_but_useless, none_taken, start_of, make_stop, boards_at, gets_off, stays_on, rider_count, destination_of, persons_where, persons_of, is_call_for, overtakes}
 use Rattle.elevator_model.specs.Partial.{Course, course_start, may_stand, may_be_left, move_on, progress_after}
 use Rattle.car_layout.specs.Layouts.{is_earlier, ends_at, any_group_to}
@@ -18,9 +17,9 @@ use Rattle.partial_tours.specs.Courses.{TracksCourse, GoesOn, Stands, reached, i
 use Rattle.tour_rules.proofs.BoundedTests.{AllClear-from, none-from}
 use Rattle.tour_rules.proofs.Sound.{cond-some}
 use Rattle.tour_rules.proofs.Settled.{IsKept-start, IsKept-stop}
-use Rattle.tour_rules.proofs.Riders.{at_call, at_group, zero_has, Tracks-stop, IsAfterStop, boards_set}
+use Rattle.tour_rules.proofs.Riders.{zero_has, Tracks-stop, boards_set}
 use Rattle.partial_tours.proofs.Next.{board_more, leaves_unless}
-use Rattle.partial_tours.proofs.Follow.{Boarded, board_leads_to, leave_leads_to, ending_leads_to}
+use Rattle.partial_tours.proofs.Follow.{board_leads_to, leave_leads_to, ending_leads_to}
 use Rattle.partial_tours.proofs.Carried.{persons_with, persons_on, goes_with, goes_on_to, carried_more, boarded_more, carried_after, boarded_on}
 use Rattle.partial_tours.proofs.Waits.{passed_more, passed_none, passed_start, overtakes_after, overtakes_start, waits_less, waits_on}
 use Rattle.tour_rules.proofs.Measure.{may_board}

@@ -1,21 +1,21 @@
 -- Who is carried once a call boards or the car goes on, and how many persons they are.
-use Rattle.std.proofs.Common.{◌==◌, ◌≡◌, ℕ, zero, suc, ◌+◌, ◌-◌, ◌<◌, ◌≤◌, Bool, true, false, cond, not, ◌&&◌, ◌||◌, eqb, ltb, ◌++◌, ◌∷◌, [], refl, sym, ap, ◌∙◌, subst, inl, inr, arith}
-use Rattle.std.proofs.lemmas.Bool.{cases_Bool, or_cases, or_left, or_right, and_from, and_parts, and_right, both_ways, false_from_ne_true, eqb-true, eqb-false, ne_eqb, eq-eqb}
+use Rattle.std.proofs.Common.{◌==◌, ◌≡◌, ℕ, zero, suc, ◌+◌, ◌<◌, Bool, true, false, cond, not, ◌&&◌, ◌||◌, eqb, ltb, refl, sym, ap, ◌∙◌, inl, inr, arith}
+use Rattle.std.proofs.lemmas.Bool.{cases_Bool, or_cases, or_left, or_right, and_from, and_parts, and_right, both_ways, false_from_ne_true, eqb-true, eqb-false, eq-eqb}
 use Rattle.std.specs.List.{list_all}
 use Rattle.elevator_model.specs.declared.Stop.{Stop}
-use Rattle.call_sets.specs.Counting.{any_below, sum_where, has}
-use Rattle.elevator_model.specs.Snapshot.{Snapshot, call_count, call_of, spec_of}
+use Rattle.call_sets.specs.Counting.{sum_where}
+use Rattle.elevator_model.specs.Snapshot.{Snapshot, call_count, call_of}
 use Rattle.elevator_model.specs.Tours.{Progress, breaks, rules_but_useless, none_taken, make_stop, stays_on, gets_off, boards_at, rider_count, destination_of, persons_where, persons_of, is_aboard}
 use Rattle.elevator_model.specs.Partial.{may_stand}
 use Rattle.tour_rules.specs.Leaving.{IsKept}
 use Rattle.partial_tours.specs.Courses.{any_goes_to, empty_stop, with_call_on}
-use Rattle.call_sets.proofs.BelowTests.{any_below-at, any_below-none, any_below-same, any_below-true, any_below-false}
+use Rattle.call_sets.proofs.BelowTests.{any_below-at, any_below-none, any_below-same, any_below-true}
 use Rattle.call_sets.proofs.Sums.{sum_where-same}
 use Rattle.tour_rules.proofs.BoundedTests.{AllClear-from, none-from}
 use Rattle.tour_rules.proofs.Settled.{boards-call, boards_once_from}
 use Rattle.tour_rules.proofs.RiderSums.{is_aboard-call, persons_of-call, destination_of-call}
 use Rattle.partial_tours.proofs.Next.{board_more, board_other, persons_more, same_bool}
-use Rattle.tour_rules.proofs.Measure.{not_among_below, may_board}
+use Rattle.tour_rules.proofs.Measure.{not_among_below}
 
 cond_or : (a b : Bool) (x : ℕ) → (a && b) ≡ false → cond (a || b) x 0 ≡ cond a x 0 + cond b x 0
 cond_or true true x h = absurd (both_ways true h refl)

@@ -1,11 +1,11 @@
 -- Who gets off at a stop, and what they cost.
-use Rattle.std.proofs.Common.{◌==◌, ◌≡◌, ℕ, zero, suc, ◌+◌, ◌-◌, ◌*◌, ◌<◌, ◌≤◌, Bool, true, false, cond, not, ◌&&◌, eqb, List, [], ◌∷◌, length, get_or, refl, sym, ap, ◌∙◌, subst, inl, inr, arith}
+use Rattle.std.proofs.Common.{◌==◌, ◌≡◌, ℕ, zero, suc, ◌+◌, ◌-◌, ◌*◌, ◌<◌, ◌≤◌, Bool, true, false, cond, not, ◌&&◌, eqb, List, [], ◌∷◌, length, refl, sym, ap, ◌∙◌, subst, arith}
 use Rattle.std.specs.List.{filter, range_with_len, sum_by}
 use Rattle.std.proofs.lemmas.List.Sums.{sum_by-cons}
-use Rattle.std.proofs.lemmas.Bool.{cases_Bool, and_parts, and_right, both_ways, eqb-true, false_from_ne_true}
+use Rattle.std.proofs.lemmas.Bool.{and_parts, and_right, both_ways, eqb-true, false_from_ne_true}
 use Rattle.std.proofs.Math.Nat.{mul-le-mul_left, mul-le-mul_right}
 use Rattle.call_sets.specs.Counting.{has, members, sum_below, sum_where}
-use Rattle.elevator_model.specs.Snapshot.{Snapshot, IsAccepted, car_count, call_count, call_of, group_of, spec_of}
+use Rattle.elevator_model.specs.Snapshot.{Snapshot, IsAccepted, call_count, call_of, group_of, spec_of}
 use Rattle.tour_rules.specs.Leaving.{is_group_off, cost_of_call, cost_of_group}
 use Rattle.car_layout.specs.Layouts.{is_group_to, persons_to, moments_to}
 use Rattle.call_sets.proofs.Sums.{sum_below-split, sum_below-same, sum_below-zero, sum_below-each, sum_where-same, sum_where-none}

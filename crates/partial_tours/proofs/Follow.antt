@@ -1,5 +1,5 @@
 -- Moves that follow a partial tour, and where they lead.
-use Rattle.std.proofs.Common.{◌≡◌, ℕ, ◌+◌, ◌-◌, ◌<◌, ◌≤◌, Bool, true, false, cond, ◌&&◌, eqb, ltb, List, [], ◌∷◌, ◌++◌, map, refl, sym, ap, ◌∙◌, subst, inl, inr, arith, append_assoc, Option, Some, None}
+use Rattle.std.proofs.Common.{◌≡◌, ℕ, ◌+◌, ◌<◌, ◌≤◌, Bool, true, false, cond, ◌&&◌, eqb, ltb, List, [], ◌∷◌, ◌++◌, map, refl, sym, ap, ◌∙◌, inl, inr, arith, append_assoc, Option, Some, None}
 use Rattle.std.specs.List.{list_all, filter, range_with_len}
 use Rattle.std.specs.Option.{is_some, IsSome}
 use Rattle.std.proofs.lemmas.List.Elements.{filter-append}
@@ -9,15 +9,14 @@ use Rattle.elevator_model.specs.declared.Stop.{Stop}
 use Rattle.elevator_model.specs.declared.Move.{Move}
 use Rattle.elevator_model.specs.declared.Move.TheVariants.{Board, Leave, End}
 use Rattle.call_sets.specs.Counting.{is_among, has}
-use Rattle.elevator_model.specs.Snapshot.{Snapshot, call_count, call_of, group_of, spec_of, serves}
+use Rattle.elevator_model.specs.Snapshot.{Snapshot, call_count, spec_of, serves}
 use Rattle.elevator_model.specs.Building.{floor_count}
-use Rattle.elevator_model.specs.Tours.{Progress, breaks, rules_but_useless, none_taken, stop_at, boards_at, stays_on, persons_where, persons_of, rider_count}
+use Rattle.elevator_model.specs.Tours.{Progress, boards_at, stays_on, persons_where, persons_of, rider_count}
 use Rattle.elevator_model.specs.Partial.{Course, course_start, course_if, may_stand, may_be_left, may_end, go_on, board_on, end_on, move_on, move_on_from, moves_on, course_of, progress_after}
 use Rattle.partial_tours.specs.Courses.{board_test, empty_stop, may_leave}
-use Rattle.partial_tours.proofs.Next.{may_stand-more, stands_empty, persons_more}
-use Rattle.tour_rules.proofs.Measure.{among_last, among_other, not_among_below, may_board}
+use Rattle.partial_tours.proofs.Next.{may_stand-more, stands_empty}
+use Rattle.tour_rules.proofs.Measure.{among_last, among_other}
 use Rattle.call_sets.proofs.Sums.{sum_below-same, sum_below-zero}
-use Rattle.tour_rules.proofs.BoundedTests.{AllClear-from, none-from}
 use Rattle.tour_rules.proofs.Reached.{moves_on-append, left_after}
 use Rattle.tour_rules.proofs.Sound.{course_if-some, cond-some, moves_on-none}
 
@@ -160,4 +159,3 @@ stands_fit s c q g ok =
     let fits = ltb-false (spec_of s c).capacity _ (stands_empty s c q g ok).fits in
     let none = no_boards_at s g in
     omega (arith, fits, none)
-

@@ -2,14 +2,14 @@
 use Rattle.std.proofs.Common.{◌==◌, ◌≡◌, ℕ, ◌+◌, ◌<◌, ◌≤◌, Bool, true, false, cond, not, ◌&&◌, ◌||◌, eqb, ltb, leb, refl, sym, ap, ◌∙◌, subst, inl, inr, arith, Option, Some, None}
 use Rattle.std.specs.List.{list_all}
 use Rattle.std.specs.Option.{is_some, is_none}
-use Rattle.std.proofs.lemmas.Bool.{cases_Bool, or_cases, or_left, or_right, or_from, and_from, and_parts, and_left, and_right, both_ways, false_from_ne_true, lt-ltb, le-ltb, ltb-true, ltb-false, le-leb, lt-leb, leb-true, eqb-true, eqb-false, eq-eqb, ne_eqb, not-true, not-false, not_from_true, not_from_false, false≢true}
-use Rattle.elevator_model.specs.declared.Rule.TheVariants.{FirstStop, SameFloorTwice, TurnWithPassengers, Capacity, Floor, Delivery}
+use Rattle.std.proofs.lemmas.Bool.{cases_Bool, or_cases, or_left, or_right, or_from, and_from, and_parts, and_right, both_ways, false_from_ne_true, lt-ltb, le-ltb, ltb-true, ltb-false, le-leb, leb-true, eqb-true, eq-eqb, not-true, not-false, not_from_false, false≢true}
+use Rattle.elevator_model.specs.declared.Rule.TheVariants.{FirstStop, TurnWithPassengers, Capacity, Delivery}
 use Rattle.elevator_model.specs.declared.Move.TheVariants.{Board, Leave, End}
 use Rattle.elevator_model.specs.declared.Stop.{Stop}
 use Rattle.call_sets.specs.Counting.{any_below, has}
 use Rattle.elevator_model.specs.Building.{floor_count}
-use Rattle.elevator_model.specs.Snapshot.{Snapshot, IsAccepted, car_count, call_count, call_of, spec_of, state_of, is_idle, is_coming, is_possible, serves, may_stop_first}
-use Rattle.elevator_model.specs.Tours.{Progress, breaks, none_taken, make_stop, boards_at, gets_off, stays_on, rider_count, destination_of, persons_where, persons_of, is_call_for, overtakes, turns_with, has_leg, broken_at_end}
+use Rattle.elevator_model.specs.Snapshot.{Snapshot, IsAccepted, call_count, call_of, spec_of, state_of, is_idle, is_coming, is_possible, serves, may_stop_first}
+use Rattle.elevator_model.specs.Tours.{Progress, breaks, none_taken, make_stop, boards_at, gets_off, stays_on, rider_count, destination_of, persons_where, persons_of, is_call_for, overtakes, turns_with, has_leg}
 use Rattle.elevator_model.specs.Partial.{Course, may_stand, may_end, move_on, progress_after}
 use Rattle.car_layout.specs.Layouts.{starts_at, fits_in}
 use Rattle.partial_tours.specs.declared.points.Point.{Point}
@@ -17,7 +17,7 @@ use Rattle.partial_tours.specs.Courses.{TracksCourse, GoesOn, Stands, reached, i
 use Rattle.tour_rules.proofs.RiderSums.{persons_of-call}
 use Rattle.tour_rules.proofs.Measure.{not_among_below}
 use Rattle.call_sets.proofs.BelowTests.{any_below-at, any_below-none, any_below-true, any_below-false}
-use Rattle.partial_tours.proofs.Next.{same_bool, EmptyStands, empty_stands, stands_empty}
+use Rattle.partial_tours.proofs.Next.{same_bool, empty_stands, stands_empty}
 use Rattle.partial_tours.proofs.Follow.{ended_board, board_none, board_some, leave_some, end_some, no_boards_at, is_some_has, leave_leads_to, stands_in}
 use Rattle.partial_tours.proofs.Tallied.{board_call}
 use Rattle.partial_tours.proofs.Carried.{carried_after, off_or_on}

@@ -1,16 +1,16 @@
 -- Which calls wait, and which ones were passed.
-use Rattle.std.proofs.Common.{◌==◌, ◌≡◌, ℕ, ◌+◌, ◌<◌, ◌≤◌, Bool, true, false, not, ◌&&◌, ◌||◌, eqb, ltb, ◌++◌, ◌∷◌, [], refl, sym, ap, ◌∙◌, inl, inr, arith, Option, Some, None}
-use Rattle.std.proofs.lemmas.Bool.{cases_Bool, or_cases, or_left, or_right, and_from, and_parts, and_right, lt-ltb, eqb-true, eq-eqb}
+use Rattle.std.proofs.Common.{◌≡◌, ℕ, ◌<◌, Bool, true, false, not, ◌&&◌, ◌||◌, eqb, ltb, refl, sym, ap, ◌∙◌, inl, inr, Option, Some, None}
+use Rattle.std.proofs.lemmas.Bool.{or_cases, or_left, or_right, and_from, and_parts, and_right, lt-ltb, eqb-true, eq-eqb}
 use Rattle.elevator_model.specs.declared.Stop.{Stop}
 use Rattle.call_sets.specs.Counting.{any_below}
-use Rattle.elevator_model.specs.Snapshot.{Snapshot, call_count, call_of, is_possible}
-use Rattle.elevator_model.specs.Tours.{Progress, make_stop, boards_at, overtakes, is_later_in_queue, is_call_for}
+use Rattle.elevator_model.specs.Snapshot.{Snapshot, call_count, call_of}
+use Rattle.elevator_model.specs.Tours.{Progress, boards_at, overtakes, is_later_in_queue, is_call_for}
 use Rattle.elevator_model.specs.Partial.{progress_after}
 use Rattle.car_layout.specs.Layouts.{is_earlier}
-use Rattle.partial_tours.specs.Courses.{is_passed, boards_present, with_call_on, empty_stop}
+use Rattle.partial_tours.specs.Courses.{is_passed, with_call_on, empty_stop}
 use Rattle.call_sets.proofs.BelowTests.{any_below-at, any_below-none, any_below-same, any_below-true}
 use Rattle.partial_tours.proofs.Next.{same_bool}
-use Rattle.partial_tours.proofs.Carried.{boards_or, boarded_on}
+use Rattle.partial_tours.proofs.Carried.{boards_or}
 
 -- some number passes one of two tests, beside a third
 any_or : (n : ℕ) (a b t : ℕ → Bool) → any_below n (λ k. (a k || b k) && t k) ≡ (any_below n (λ k. a k && t k) || any_below n (λ k. b k && t k))

@@ -203,7 +203,11 @@ pub(crate) fn first_move(layout: &Layout, point: &Point, allowed: CallSet) -> Op
     if call.is_some() {
         return first_choice(call, None, false);
     }
-    first_choice(None, leaves_next(layout, point).least(), ends_next(layout, point))
+    first_choice(
+        None,
+        leaves_next(layout, point).least(),
+        ends_next(layout, point),
+    )
 }
 
 /// The first move that may follow and comes after the board of a call.
@@ -216,7 +220,11 @@ fn board_after(layout: &Layout, point: &Point, allowed: CallSet, last: u32) -> O
     if call.is_some() {
         return first_choice(call, None, false);
     }
-    first_choice(None, leaves_next(layout, point).least(), ends_next(layout, point))
+    first_choice(
+        None,
+        leaves_next(layout, point).least(),
+        ends_next(layout, point),
+    )
 }
 
 /// The first move that may follow and comes after the leave to a floor.

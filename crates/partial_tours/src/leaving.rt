@@ -80,7 +80,6 @@ fn groups_leaving(layout: &Layout, visited: FloorSet, floor: u32, opened: u64) -
     }
 }
 
-
 /// Those who get off at a next stop at this floor, whose doors are open at this moment. `moments` has those
 /// at which the calls boarded.
 pub(crate) fn leaving_at(

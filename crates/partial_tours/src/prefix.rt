@@ -136,8 +136,7 @@ impl<'a> Prefix<'a> {
         requires { IsLawful self.old.snapshot self.old.car (self.old.moves ++ next ∷ []) }
         ensures { self.new ≡ with_move self.old next }
     {
-        let step =
-            self.steps[self.moves.len()].after(&self.layout, next, self.moments.as_slice());
+        let step = self.steps[self.moves.len()].after(&self.layout, next, self.moments.as_slice());
         note(self.moments.as_mut_slice(), next, step.tally.opened);
         self.moves.push_reserved(next);
         self.steps.push_reserved(step);

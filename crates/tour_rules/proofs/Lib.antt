@@ -13,3 +13,4 @@ pub mod GettingOff
 pub mod Settled
 pub mod Bounds
 pub mod Groups
+pub mod Moments

@@ -1,6 +1,6 @@
 use Rattle.std.proofs.Common.{◌≡◌, ◌∷◌, ◌++◌, [], ◌∙◌, List, true, false, map, length, refl, ap, sym, arith}
 use Rattle.elevator_model.specs.declared.Move.{Move}
-use Rattle.elevator_model.specs.declared.Move.TheVariants.{Board, Leave, End}
+use Rattle.elevator_model.specs.declared.Move.TheVariants.{Board, Leave}
 use Rattle.std.specs.List.{range_with_len}
 use Rattle.call_sets.specs.Counting.{has, members}
 use Rattle.elevator_model.specs.Building.{floor_count}

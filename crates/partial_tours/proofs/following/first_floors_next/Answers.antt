@@ -1,4 +1,4 @@
-use Rattle.std.proofs.Common.{◌&&◌, ◌∙◌, Bool, not, true, ap, sym, eqb, refl}
+use Rattle.std.proofs.Common.{◌&&◌, ◌∙◌, Bool, true, ap, sym, refl}
 use Rattle.std.proofs.lemmas.Bool.{both_ways}
 use Rattle.call_sets.specs.Counting.{has}
 use Rattle.partial_tours.proofs.NextSets.{first_same, served_low, and_true}

@@ -1,7 +1,7 @@
-use Rattle.std.proofs.Common.{◌≡◌, ◌∙◌, arith}
+use Rattle.std.proofs.Common.{◌∙◌, arith}
 use Rattle.elevator_model.specs.declared.Move.TheVariants.{Leave}
 use Rattle.call_sets.specs.Counting.{members}
-use Rattle.partial_tours.proofs.Filling.{members_few, room_for, put_next, none_left}
+use Rattle.partial_tours.proofs.Filling.{members_few, room_for, put_next}
 use Rattle.partial_tours.proofs.following.push_leaves.Goals as goal
 
 pub push_reserved-requires : goal.push_reserved-requires

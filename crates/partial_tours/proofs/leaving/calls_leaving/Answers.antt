@@ -1,11 +1,10 @@
-use Rattle.std.proofs.Common.{◌≡◌, ◌+◌, ◌∙◌, ℕ, List, length, get_or, ap, sym, subst, arith}
+use Rattle.std.proofs.Common.{◌∙◌, ℕ, List, length, get_or, ap, sym, subst, arith}
 use Rattle.std.specs.List.{sum_by}
 use Rattle.elevator_model.specs.declared.Call.{Call}
-use Rattle.call_sets.specs.Counting.{has, members}
-use Rattle.elevator_model.specs.Building.{Building}
+use Rattle.call_sets.specs.Counting.{members}
 use Rattle.elevator_model.specs.Snapshot.{call_count, call_of}
 use Rattle.tour_rules.specs.Places.{call_in}
-use Rattle.tour_rules.specs.Leaving.{cost_of_call, call_cost}
+use Rattle.tour_rules.specs.Leaving.{cost_of_call}
 use Rattle.tour_rules.proofs.Stops.{most_calls_few}
 use Rattle.partial_tours.proofs.Departing.{AreBelow, members_sum, members_below, below_first, sum_step, calls_persons_few, calls_cost_small, call_small}
 use Rattle.partial_tours.proofs.leaving.calls_leaving.Goals as goal

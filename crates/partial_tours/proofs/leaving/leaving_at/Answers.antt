@@ -1,4 +1,4 @@
-use Rattle.std.proofs.Common.{◌≡◌, ◌<◌, ◌+◌, ◌∙◌, ◌&&◌, ◌==◌, ℕ, Bool, ltb, eqb, get_or, ap, sym, subst, refl, arith}
+use Rattle.std.proofs.Common.{◌≡◌, ◌<◌, ◌∙◌, ◌&&◌, ◌==◌, ℕ, Bool, ltb, eqb, get_or, ap, sym, subst, refl, arith}
 use Rattle.std.proofs.lemmas.Bool.{and_parts, ltb-true, lt-ltb}
 use Rattle.call_sets.specs.Counting.{has, sum_where}
 use Rattle.elevator_model.specs.Snapshot.{Snapshot, call_count, call_of}

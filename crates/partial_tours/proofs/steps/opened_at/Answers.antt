@@ -1,4 +1,4 @@
-use Rattle.std.proofs.Common.{◌∙◌, ◌+◌, ℕ, ap, arith}
+use Rattle.std.proofs.Common.{◌∙◌, ℕ, ap, arith}
 use Rattle.elevator_model.specs.Snapshot.{Snapshot, spec_of}
 use Rattle.elevator_model.specs.Tours.{arrival}
 use Rattle.partial_tours.proofs.steps.opened_at.Goals as goal

@@ -1,10 +1,10 @@
-use Rattle.std.proofs.Common.{◌≡◌, ◌-◌, ◌||◌, ◌∙◌, refl, ap, eqb, Bool, List, length, arith}
+use Rattle.std.proofs.Common.{◌-◌, ◌||◌, ◌∙◌, refl, ap, eqb, Bool, List, length, arith}
 use Rattle.elevator_model.specs.declared.Call.{Call}
 use Rattle.call_sets.specs.Counting.{has}
 use Rattle.elevator_model.specs.Snapshot.{Snapshot}
 use Rattle.tour_rules.specs.Places.{call_in}
 use Rattle.tour_rules.proofs.Stops.{most_calls_few}
-use Rattle.partial_tours.proofs.Advance.{HasBoard, board_persons, tracks_board}
+use Rattle.partial_tours.proofs.Advance.{board_persons, tracks_board}
 use Rattle.partial_tours.proofs.points.Point.after_board.Goals as goal
 
 pub bounds-calls-call : goal.bounds-calls-call

@@ -1,7 +1,7 @@
-use Rattle.std.proofs.Common.{◌<◌, ◌≡◌, refl, arith}
+use Rattle.std.proofs.Common.{refl, arith}
 use Rattle.partial_tours.specs.Courses.{reached}
 use Rattle.partial_tours.proofs.Follow.{leave_leads_to, stands_in}
-use Rattle.partial_tours.proofs.Advance.{HasLeave, off_fits, tracks_leave}
+use Rattle.partial_tours.proofs.Advance.{off_fits, tracks_leave}
 use Rattle.partial_tours.proofs.points.Point.after_leave.Goals as goal
 
 pub ending-ending-requires : goal.ending-ending-requires

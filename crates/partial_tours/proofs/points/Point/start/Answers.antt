@@ -1,4 +1,4 @@
-use Rattle.std.proofs.Common.{◌≡◌, ◌<◌, ◌∙◌, ◌&&◌, ℕ, true, refl, ap, sym, subst, arith}
+use Rattle.std.proofs.Common.{◌<◌, ◌∙◌, ◌&&◌, ℕ, true, refl, ap, sym, subst, arith}
 use Rattle.elevator_model.specs.declared.CarSpec.{CarSpec}
 use Rattle.elevator_model.specs.Snapshot.{Snapshot, car_count, spec_of}
 use Rattle.elevator_model.specs.Tours.{start_of, persons_where}

@@ -1,4 +1,3 @@
-use Rattle.std.proofs.Common.{arith}
 use Rattle.partial_tours.proofs.Tallied.{board_call, tally_board}
 use Rattle.partial_tours.proofs.steps.Step.after_board.Goals as goal
 

@@ -1,5 +1,4 @@
-use Rattle.std.proofs.Common.{ℕ, ◌≡◌, ◌≤◌, ◌<◌, ◌+◌, ◌*◌, ◌∙◌, ap, sym, arith}
-use Rattle.elevator_model.specs.Snapshot.{spec_of}
+use Rattle.std.proofs.Common.{ℕ, ◌∙◌, ap, sym, arith}
 use Rattle.tour_rules.specs.Leaving.{leaving_cost}
 use Rattle.partial_tours.specs.Courses.{reached}
 use Rattle.partial_tours.proofs.Follow.{leave_leads_to, stands_in}
