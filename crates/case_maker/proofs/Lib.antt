@@ -1,0 +1,4 @@
+pub mod DrawLemmas
+pub mod CaseLemmas
+pub mod RefusalLemmas
+pub mod AcceptedCases
