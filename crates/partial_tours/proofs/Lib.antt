@@ -15,3 +15,5 @@ pub mod Choices
 pub mod NextSets
 pub mod Filling
 pub mod Departing
+pub mod Early
+pub mod Chosen

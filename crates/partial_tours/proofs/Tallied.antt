@@ -213,7 +213,7 @@ counts_leave s c p g tally new off leaving kept counts opened gets_off_is leaves
 
 -- ---- the start
 
-timely_moment : (s : Snapshot) (c : ℕ) (state : CarState) → s.moment ≤ 1000000000 → IsTimely s c state → moment_of state ≤ 1100000000
+pub timely_moment : (s : Snapshot) (c : ℕ) (state : CarState) → s.moment ≤ 1000000000 → IsTimely s c state → moment_of state ≤ 1100000000
 timely_moment s c (Idle floor free) h t = let late = t.1 in omega (arith, late, h)
 timely_moment s c (Coming floor arrives) h t = let late = t.1 in omega (arith, late, h)
 timely_moment s c (Moving from up left) h t = let late = t.0 in omega (arith, late, h)

@@ -60,3 +60,12 @@ pub record IsTallied (s : Snapshot) (c : ℕ) (moves : List Move) (steps : List 
   pub low : (j : ℕ) → slice_index moments j ≤ 100000000000
   pub tallied : (k : ℕ) (x : Course) (d : Step) → k ≤ length moves → course_of s c (take k moves) ≡ Some x → IsTally s c k (slice_index_or steps k d).tally x
   pub noted : (k : ℕ) (x : Course) → k ≤ length moves → course_of s c (take k moves) ≡ Some x → AreNoted s c moments x
+
+-- the step stands for where the moves lead
+pub record StandsAt (s : Snapshot) (c : ℕ) (step : Step) (x : Course) : Type 0 where
+  pub tracks : TracksCourse s c step.point x
+  pub opened : step.tally.opened ≡ (reached s c x).opened
+  pub settled : step.tally.settled ≡ settled_cost s c (reached s c x)
+  pub small : step.tally.settled ≤ 460800000000000000
+  pub early : step.tally.opened < 10000000000
+  pub floor : step.point.place.floor < floor_count s.building

@@ -1,6 +1,6 @@
 //! Partial tours and the moves that may follow.
 
-ghost use Rattle.std.specs.Prelude.{true, OnOk, ◌≡◌, ◌<◌, ◌≤◌, ◌++◌, ◌∷◌, [], IfOk, MatchOption, Some, ℕ, length};
+ghost use Rattle.std.specs.Prelude.{true, OnOk, ◌≡◌, ◌+◌, ◌<◌, ◌≤◌, ◌++◌, ◌∷◌, [], IfOk, IfSome, MatchOption, Some, ℕ, length};
 ghost use Rattle.call_sets.specs.Counting.{has};
 ghost use Rattle.elevator_model.specs.Partial.{Course, lawful_moves, moves_of, settled_of, moment_in};
 ghost use Rattle.partial_tours.specs.PartialTour.{course, with_move_made, stops_made};
@@ -12,9 +12,12 @@ use crate::tally::note;
 use call_sets::CallSet;
 use call_state::Snapshot;
 use car_layout::Layout;
-use elevator_model::{Boards, MOST_CALLS, MOST_MOVES, MOST_NEXT_MOVES, Move, Stop, Tour};
+use elevator_model::{
+    Boards, LATEST_MOMENT, MOST_CALLS, MOST_COST, MOST_MOVES, MOST_NEXT_MOVES, Move, Stop, Tour,
+};
 use std::alloc::{AllocError, Global};
 use std::marker::Model;
+use tour_rules::places::is_carried;
 
 /// The moves that may follow a partial tour, with room for all of them.
 #[derive(Drop, Debug)]
@@ -80,7 +83,10 @@ impl<'a> Model for Prefix<'a> {
 }
 
 impl<'a> Prefix<'a> {
-    ghost use Rattle.elevator_model.specs.Snapshot.{car_count};
+    ghost use Rattle.elevator_model.specs.Building.{floor_count};
+    ghost use Rattle.elevator_model.specs.Snapshot.{car_count, call_count};
+    ghost use Rattle.partial_tours.specs.Courses.{reached};
+    ghost use Rattle.partial_tours.specs.Tallies.{StandsAt};
     ghost use Rattle.elevator_model.specs.Partial.{IsLawful};
     ghost use Rattle.partial_tours.specs.PartialTour.{with_move};
     ghost use Rattle.tour_rules.specs.Measure.{most_moves};
@@ -155,45 +161,122 @@ impl<'a> Prefix<'a> {
     /// The first move after which the partial tour is lawful, of boards of allowed calls, leaves and the end.
     /// None where there is none.
     pub fn first_move(&self, allowed: CallSet) -> Option<Move>
-        ensures { (x : Course) → course self.now ≡ Some x → result
+        ensures value { (x : Course) → course self.now ≡ Some x → result
             ≡ first_of (lawful_moves self.now.snapshot self.now.car x (has allowed)) }
+        ensures lawful { IfSome result
+            (λ m. IsLawful self.now.snapshot self.now.car (self.now.moves ++ m ∷ [])) }
     {
-        first_move(&self.layout, &self.steps[self.moves.len()].point, allowed)
+        first_move(&self.layout, &self.last_step().point, allowed)
     }
 
     /// The first such move that comes after this one. None where there is none.
     pub fn move_after(&self, allowed: CallSet, last: Move) -> Option<Move>
-        ensures { (x : Course) → course self.now ≡ Some x → result
+        ensures value { (x : Course) → course self.now ≡ Some x → result
             ≡ next_after last (lawful_moves self.now.snapshot self.now.car x (has allowed)) }
+        ensures lawful { IfSome result
+            (λ m. IsLawful self.now.snapshot self.now.car (self.now.moves ++ m ∷ [])) }
     {
-        move_after(
-            &self.layout,
-            &self.steps[self.moves.len()].point,
-            allowed,
-            last,
-        )
+        move_after(&self.layout, &self.last_step().point, allowed, last)
     }
 
     /// The cost in cost units of those who got off within the partial tour. The present stop counts: those
     /// who are to get off there have done so.
     pub fn settled(&self) -> u64
-        ensures { (x : Course) → course self.now ≡ Some x
+        ensures value { (x : Course) → course self.now ≡ Some x
             → result ≡ settled_of self.now.snapshot self.now.car x }
+        ensures bounded { result < MOST_COST }
     {
-        self.steps[self.moves.len()].tally.settled
+        self.last_step().tally.settled
     }
 
     /// The moment in ms at which the doors of the last stop are open. None where no stop has begun.
     pub fn moment(&self) -> Option<u64>
-        ensures { (x : Course) → course self.now ≡ Some x
+        ensures value { (x : Course) → course self.now ≡ Some x
             → result ≡ moment_in self.now.snapshot self.now.car x }
+        ensures early { IfSome result (λ moment. moment < LATEST_MOMENT) }
     {
-        let step = &self.steps[self.moves.len()];
+        let step = self.last_step();
         if step.point.place.begun {
             Some(step.tally.opened)
         } else {
             None
         }
+    }
+
+    /// The floor of the last stop, or where the car stands, comes to or comes from.
+    pub fn floor(&self) -> u32
+        ensures value { (x : Course) → course self.now ≡ Some x
+            → result ≡ (reached self.now.snapshot self.now.car x).floor }
+        ensures floor { result < floor_count self.now.snapshot.building }
+    {
+        self.last_step().point.place.floor
+    }
+
+    /// The moment in ms at which the doors of the last stop are open; where no stop has begun, that from which
+    /// the first arrival counts.
+    pub fn opened(&self) -> u64
+        ensures value { (x : Course) → course self.now ≡ Some x
+            → result ≡ (reached self.now.snapshot self.now.car x).opened }
+        ensures early { result < LATEST_MOMENT }
+    {
+        self.last_step().tally.opened
+    }
+
+    /// The calls that boarded.
+    pub fn boarded(&self) -> CallSet
+        ensures { (x : Course) → course self.now ≡ Some x → (j : ℕ)
+            → j < call_count self.now.snapshot
+            → has result j ≡ (reached self.now.snapshot self.now.car x).boarded j }
+    {
+        self.last_step().point.place.boarded
+    }
+
+    /// The calls that are carried, once those got off who get off at the last stop.
+    pub fn carried(&self) -> CallSet
+        ensures { (x : Course) → course self.now ≡ Some x → (j : ℕ)
+            → j < call_count self.now.snapshot
+            → has result j ≡ (reached self.now.snapshot self.now.car x).carried j }
+    {
+        self.last_step().point.place.carried
+    }
+
+    /// Whether a group aboard, by its place in the snapshot, is carried by the car and has not got off.
+    pub fn carries_group(&self, group: u32) -> bool
+        requires { group < length self.now.snapshot.aboard }
+        ensures { (x : Course) → course self.now ≡ Some x → result
+            ≡ (reached self.now.snapshot self.now.car x).carried
+            (call_count self.now.snapshot + group) }
+    {
+        let aboard = &self.layout.snapshot().aboard()[group as usize];
+        is_carried(
+            aboard,
+            self.layout.car(),
+            self.last_step().point.place.visited,
+        )
+    }
+
+    /// The moment in ms at which a call boarded. The call has to have boarded.
+    pub fn boarded_at(&self, call: u32) -> u64
+        requires call { call < call_count self.now.snapshot }
+        requires boarded { (x : Course) × (course self.now ≡ Some x)
+            × ((reached self.now.snapshot self.now.car x).boarded call ≡ true) }
+        ensures value { (x : Course) → course self.now ≡ Some x
+            → result ≡ (reached self.now.snapshot self.now.car x).boarded_at call }
+        ensures early { result < LATEST_MOMENT }
+    {
+        self.moments[call as usize]
+    }
+
+    /// Where the moves lead.
+    fn last_step(&self) -> &Step
+        ensures stands { (x : Course) → course self.now ≡ Some x
+            → StandsAt self.now.snapshot self.now.car result.now x }
+        ensures course { (x : Course) × (course self.now ≡ Some x) }
+        ensures small { result.now.tally.settled ≤ 460800000000000000 }
+        ensures early { result.now.tally.opened < 10000000000 }
+        ensures floor { result.now.point.place.floor < floor_count self.now.snapshot.building }
+    {
+        &self.steps[self.moves.len()]
     }
 
     /// The tour whose move list this is. The partial tour has to have ended.
@@ -215,7 +298,7 @@ pub fn next_moves(prefix: &Prefix, allowed: CallSet, out: &mut Moves)
 {
     fill(
         &prefix.layout,
-        &prefix.steps[prefix.moves.len()].point,
+        &prefix.last_step().point,
         allowed,
         &mut out.items,
     );
