@@ -1,0 +1,3 @@
+pub mod SectionLemmas
+pub mod NumberLemmas
+pub mod CanonicalLemmas

@@ -1,0 +1,4 @@
+pub mod Codes
+pub mod Sections
+pub mod Words
+pub mod Canonical

@@ -1,0 +1,10 @@
+//! One way to read a section of a text: line after line, the first bad line decides.
+#![tactic(auto)]
+
+mod codes;
+mod sections;
+mod words;
+
+pub use codes::{LineFault, TextCode};
+pub use sections::{Section, Turn, read_section};
+pub use words::{at_least, exactly, is_word, number, signed};

@@ -1,0 +1,65 @@
+//! Reading a section line by line.
+ghost use Rattle.std.specs.Prelude.{◌≡◌, ◌≢◌, ◌<◌, ◌≤◌, [], None, Some, length, IfErr, IfSome, OnErr, OnOk, IsErrOf};
+ghost use Rattle.std.specs.Io.KnownBytes.{IsAtEnd};
+ghost use Rattle.byte_streams.specs.Streams.{Rose};
+ghost use Rattle.lift_text.specs.LineReader.{text, words, failure};
+ghost use Rattle.text_sections.specs.Sections.{Line, Step, Did, ReadAs};
+
+use crate::codes::{LineFault, TextCode};
+use lift_text::{LineReader, Source, TextFault};
+
+/// More lines than a text can have.
+const MOST_LINES: u64 = 67_108_865;
+
+/// What a line that is taken does to its section.
+#[derive(Clone, Copy, Debug, PartialEq, Eq)]
+pub enum Turn {
+    /// The section goes on.
+    More,
+    /// The section is whole: this was its last line.
+    Whole,
+}
+
+/// A section of a text, as far as it was read. Contracts say what each line does to it by `after`.
+pub trait Section {
+    /// What a line of these words does to the section.
+    ghost after: { Self → Line → Step Self };
+
+    /// Takes the line that was read. After an `Err` nothing is known of the section.
+    fn take_line<S: Source>(&mut self, lines: &LineReader<S>) -> Result<Turn, LineFault>
+        requires { 0 < length (words lines.now) }
+        ensures { Did (after self.old (words lines.now)) result self.new };
+}
+
+/// Reads the lines of a section up to its last one. What stands behind it stays unread.
+///
+/// The first bad line decides, with its number and one code. Code 9 comes where the input ends before
+/// the section is whole, at the line behind the last. `Read` comes only where a read of the source
+/// failed. After an `Err` nothing is known of the section.
+pub fn read_section<S: Source, T: Section>(lines: &mut LineReader<S>, section: &mut T) -> Result<(), TextFault>
+    ensures same_source { lines.new.source.ghost_name ≡ lines.old.source.ghost_name }
+    ensures outcome { failure lines.old ≡ None → ReadAs T.after (text S.left lines.old) section.old result section.new (text S.left lines.new) }
+    ensures again { IfSome (failure lines.old) (λ fault. result ≡ Err fault) }
+    ensures ok { OnOk result (failure lines.new ≡ None) }
+    ensures fault { IfSome (failure lines.new) (λ fault. result ≡ Err fault) }
+    ensures cut { failure lines.old ≡ None → OnErr result (failure lines.new ≡ None → words lines.new ≡ [] → IsAtEnd (S.left lines.new.source.now)) }
+    ensures read { failure lines.old ≡ None → IsErrOf result TextFault.Read
+        → Rose (S.faults lines.old.source.now) (S.faults lines.new.source.now) }
+    ensures counted { S.faults lines.old.source.now ≤ S.faults lines.new.source.now }
+{
+    let _start = lines.line();
+    'lines: for _ in 0..MOST_LINES {
+        let found = lines.next_line()?;
+        let line = lines.line();
+        if !found {
+            return Err(TextFault::Bad { line: line + 1, code: TextCode::CutShort.code() });
+        }
+        match section.take_line(lines) {
+            Ok(Turn::More) => {}
+            Ok(Turn::Whole) => return Ok(()),
+            Err(LineFault::Bad(code)) => return Err(TextFault::Bad { line, code }),
+            Err(LineFault::NoMemory) => return Err(TextFault::NoMemory),
+        }
+    }
+    Err(TextFault::TooLong)
+}

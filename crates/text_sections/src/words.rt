@@ -1,0 +1,69 @@
+//! What the words of a line say.
+ghost use Rattle.std.specs.Prelude.{◌≡◌, ◌<◌, ◌≤◌, length};
+ghost use Rattle.lift_text.specs.LineReader.{words};
+ghost use Rattle.text_sections.specs.Words.{at_least, exactly, is_word, number, number_code, signed};
+
+use crate::codes::TextCode;
+use lift_text::{LineReader, Source, TextFault};
+
+/// The code with which a line is bad where a word is no number.
+const NO_NUMBER: u8 = 6;
+
+/// There are at least so many words on the line.
+pub fn at_least<S: Source>(lines: &LineReader<S>, count: u32) -> Result<(), TextCode>
+    ensures { result ≡ at_least (words lines.now) count }
+{
+    if lines.words() < count {
+        return Err(TextCode::Missing);
+    }
+    Ok(())
+}
+
+/// There are exactly so many words on the line.
+pub fn exactly<S: Source>(lines: &LineReader<S>, count: u32) -> Result<(), TextCode>
+    ensures { result ≡ exactly (words lines.now) count }
+{
+    at_least(lines, count)?;
+    if lines.words() > count {
+        return Err(TextCode::TooMany);
+    }
+    Ok(())
+}
+
+/// Whether word `k` is this text.
+pub fn is_word<S: Source>(lines: &LineReader<S>, k: u32, text: &[u8]) -> bool
+    requires { k < length (words lines.now) }
+    ensures { result ≡ is_word (words lines.now) k text.now }
+{
+    lines.word(k) == text
+}
+
+/// Word `k` as a number from `low` to `high`, which has no sign.
+pub fn number<S: Source>(lines: &LineReader<S>, k: u32, low: u64, high: u64) -> Result<u64, TextCode>
+    requires { k < length (words lines.now) }
+    ensures { result ≡ number (words lines.now) k low high }
+{
+    let value = signed(lines, k, i128::from(low), i128::from(high))?;
+    Ok(value as u64)
+}
+
+/// Word `k` as a number from `low` to `high`, which a `-` may begin where `low` is below 0.
+pub fn signed<S: Source>(lines: &LineReader<S>, k: u32, low: i128, high: i128) -> Result<i128, TextCode>
+    requires { k < length (words lines.now) }
+    ensures { result ≡ signed (words lines.now) k low high }
+{
+    match lines.number(k, low, high) {
+        Ok(value) => Ok(value),
+        Err(fault) => Err(number_code(fault)),
+    }
+}
+
+/// What is wrong with a word that is not read as a number.
+fn number_code(fault: TextFault) -> TextCode
+    ensures { result ≡ number_code fault }
+{
+    match fault {
+        TextFault::Bad { code, .. } if code == NO_NUMBER => TextCode::NoNumber,
+        _ => TextCode::OutOfRange,
+    }
+}
