@@ -1,16 +1,21 @@
 -- What is read of a number, with its code.
-use Rattle.std.proofs.Common.{◌≡◌, ℕ, ◌<◌, ◌≤◌, Bool, true, false, cond, List, Option, None, Some, Result, Ok, Err, ◌^◌, ap, refl, arith, ◌∙◌, sym, subst}
+use Rattle.std.proofs.Common.{◌≡◌, ℕ, ◌<◌, ◌≤◌, Bool, true, false, cond, List, length, rules, IfOk, Option, None, Some, Result, Ok, Err, ◌^◌, ap, refl, arith, ◌∙◌, sym, subst}
 use mir.Syntax.{w128}
 use mir.Val.{SFits, to_z, of_z}
 use Rattle.std.proofs.lemmas.Int.{to_z-of_z}
-use Rattle.std.specs.Prelude.{ℤ, pos, ◌||◌, nat_lt, int_lt, option_map}
+use Rattle.std.specs.Prelude.{ℤ, pos, ◌||◌, ◌&&◌, nat_lt, int_lt, option_map, decimal}
+use Rattle.std.specs.Char.{is_ascii_digit}
+use Rattle.std.specs.List.{list_all}
+use Rattle.std.specs.Str.Parse.{digits_value}
+use Rattle.std.proofs.lemmas.Str.Parse.{IsDigitsTest, IsNumeralModel, numerals_by_value}
+use Rattle.std.proofs.lemmas.Fmt.{digits_decimal, digits_value-decimal, decimal_nonempty}
 use Rattle.std.proofs.lemmas.Bool.Decides.{nat_tests}
 use Rattle.lift_text.specs.Numbers.{digits_number, number_of, in_range, read_number, number_answer}
 use Rattle.lift_text.specs.declared.faults.TextFault.{TextFault}
 use Rattle.text_sections.specs.declared.codes.TextCode.{TextCode}
 use Rattle.text_sections.specs.declared.codes.TextCode.TheVariants.{NoNumber, OutOfRange}
 use Rattle.text_sections.specs.Codes.{Judged}
-use Rattle.text_sections.specs.Words.{within, signed_within, number_judged}
+use Rattle.text_sections.specs.Words.{within, signed_within, number_judged, number, word_at}
 
 -- what the reader answers, with its code
 pub judged_in_range : (line : ℕ) (low high : ℤ) (value : Option ℤ) → number_judged (number_answer line (in_range low high value)) ≡ signed_within low high value
@@ -56,12 +61,21 @@ signed_answer line low high low' high' word answer same_low same_high is =
     ap number_judged (is ∙ ap (λ z. number_answer line (read_number z high' word)) same_low ∙ ap (λ z. number_answer line (read_number low z word)) same_high)
     ∙ judged_in_range line low high (number_of (int_lt low (pos 0)) word)
 
+pub is_within : (low high : ℕ) (value : Option ℕ) → IfOk (within low high value) (λ n. (low ≤ n) × (n ≤ high))
+is_within low high None = tt
+is_within low high (Some m) = by_test (nat_lt m low) (nat_lt high m) refl refl
+  where
+    by_test : (below above : Bool) → nat_lt m low ≡ below → nat_lt high m ≡ above → IfOk (cond (below || above) (Err OutOfRange) (Ok m)) (λ n. (low ≤ n) × (n ≤ high))
+    by_test true above b a = tt
+    by_test false true b a = tt
+    by_test false false b a = (grind (arith, nat_tests), grind (arith, nat_tests))
+
 -- a number without a sign that was read
 pub record IsNatural (low high : ℕ) (word : List ℕ) (value : ℤ) : Type 0 where
-  pub number : ℕ
-  pub is : value ≡ pos number
-  pub not_above : number ≤ high
-  pub found : within low high (digits_number word) ≡ Ok number
+  pub natural : ℕ
+  pub is : value ≡ pos natural
+  pub not_above : natural ≤ high
+  pub found : within low high (digits_number word) ≡ Ok natural
 
 pub natural_value : (low high : ℕ) (word : List ℕ) (value low' high' : ℤ) → low' ≡ pos low → high' ≡ pos high → Ok value ≡ signed_within low' high' (number_of (int_lt low' (pos 0)) word)
     → IsNatural low high word value
@@ -70,7 +84,7 @@ natural_value low high word value low' high' same_low same_high is =
     (is ∙ ap (λ z. signed_within z high' (number_of (int_lt z (pos 0)) word)) same_low ∙ ap (λ z. signed_within (pos low) z (number_of (int_lt (pos low) (pos 0)) word)) same_high ∙ signed_number low high word)
   where
     by_case : (judged : Judged ℕ) → within low high (digits_number word) ≡ judged → Ok value ≡ as_signed judged → IsNatural low high word value
-    by_case (Ok n) found same = record { number = n; is = cc; not_above = within_high low high n (digits_number word) found; found = found }
+    by_case (Ok n) found same = record { natural = n; is = cc; not_above = within_high low high n (digits_number word) found; found = found }
     by_case (Err code) found same = absurd cc
 
 pub natural_error : (low high : ℕ) (word : List ℕ) (code : TextCode) (low' high' : ℤ) → low' ≡ pos low → high' ≡ pos high → Err code ≡ signed_within low' high' (number_of (int_lt low' (pos 0)) word)
@@ -86,3 +100,27 @@ natural_error low high word code low' high' same_low same_high is =
 -- a number of 64 bits as one of 128 with a sign
 pub widened : (n : ℕ) (value : ℤ) → value ≡ pos n → n < 2 ^ 64 → to_z w128 (of_z w128 value) ≡ pos n
 widened n value is small = to_z-of_z w128 value (subst (SFits w128) (sym is) (record { sfits = omega arith })) ∙ is
+
+own : IsNumeralModel (λ digits. list_all is_ascii_digit digits ≡ true) (digits_value 10)
+own = numerals_by_value (λ digits. list_all is_ascii_digit digits ≡ true) tells_digits_by_all
+  where
+    tells_digits_by_all : IsDigitsTest (λ digits. list_all is_ascii_digit digits ≡ true)
+    tells_digits_by_all = search rules
+
+-- a number that was written is read again
+pub number_again : (n low high : ℕ) → n < 2 ^ 64 → low ≤ n → n ≤ high → within low high (digits_number (decimal n)) ≡ Ok n
+number_again n low high small above below =
+    let digits : list_all is_ascii_digit (decimal n) ≡ true = digits_decimal own n small in
+    let value : digits_value 10 (decimal n) ≡ n = digits_value-decimal own n small in
+    let some = decimal_nonempty n small in
+    let has : nat_lt 0 (length (decimal n)) ≡ true = grind (arith, nat_tests) in
+    let not_below : nat_lt n low ≡ false = grind (arith, nat_tests) in
+    let not_above : nat_lt high n ≡ false = grind (arith, nat_tests) in
+    ap (λ e. within low high (cond (e && list_all is_ascii_digit (decimal n)) (Some (digits_value 10 (decimal n))) None)) has
+    ∙ ap (λ e. within low high (cond e (Some (digits_value 10 (decimal n))) None)) digits
+    ∙ ap (λ m. within low high (Some m)) value
+    ∙ ap (λ e. cond (e || nat_lt high n) (Err OutOfRange) (Ok n)) not_below
+    ∙ ap (λ e. cond e (Err OutOfRange) (Ok n)) not_above
+
+pub written_number : (line : List (List ℕ)) (k n low high : ℕ) → n < 2 ^ 64 → word_at line k ≡ decimal n → low ≤ n → n ≤ high → number line k low high ≡ Ok n
+written_number line k n low high small is above below = ap (λ word. within low high (digits_number word)) is ∙ number_again n low high small above below

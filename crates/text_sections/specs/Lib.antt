@@ -2,3 +2,4 @@ pub mod Codes
 pub mod Sections
 pub mod Words
 pub mod Canonical
+pub mod Sample

@@ -5,6 +5,7 @@ use Rattle.lift_text.specs.declared.faults.TextFault.{TextFault}
 use Rattle.lift_text.specs.declared.faults.TextFault.TheVariants.{Read, TooLong, Bad, NoMemory}
 use Rattle.text_sections.specs.declared.codes.LineFault.{LineFault}
 use Rattle.text_sections.specs.declared.codes.LineFault.TheVariants.{Bad as BadLine, NoMemory as NoMemoryForLine}
+use Rattle.text_sections.specs.Codes.{Judged, code_of}
 use Rattle.text_sections.specs.declared.sections.Turn.{Turn}
 use Rattle.text_sections.specs.declared.sections.Turn.TheVariants.{More, Whole}
 
@@ -18,6 +19,11 @@ pub data Step (A : Type 0) : Type 0 where
   goes_on : A → Step A
   is_whole : A → Step A
   is_bad : ℕ → Step A
+
+-- the step that words make which are judged
+abbrev pub step_of : {A : Type 0} → Judged (Step A) → Step A
+step_of (Ok step) = step
+step_of (Err code) = is_bad (code_of code)
 
 -- What is read of a section: its last state and what is left unread behind it, or the first bad line
 -- with its code, or that the text is too long.

@@ -6,7 +6,7 @@ use Rattle.lift_text.specs.declared.faults.TextFault.{TextFault}
 use Rattle.lift_text.specs.declared.faults.TextFault.TheVariants.{Read, TooLong, Bad, NoMemory}
 use Rattle.text_sections.specs.declared.codes.TextCode.{TextCode}
 use Rattle.text_sections.specs.declared.codes.TextCode.TheVariants.{Missing, TooMany, NoNumber, OutOfRange}
-use Rattle.text_sections.specs.Codes.{Judged}
+use Rattle.text_sections.specs.Codes.{Judged, ◌>>=◌}
 
 -- word k, counted from 0
 abbrev pub word_at : List (List ℕ) → ℕ → List ℕ
@@ -20,9 +20,13 @@ is_word words k text = bytes_eq (word_at words k) text
 abbrev pub at_least : List (List ℕ) → ℕ → Judged Unit
 at_least words count = if nat_lt (length words) count then Err Missing else Ok tt
 
+-- there are at most so many words
+abbrev pub at_most : List (List ℕ) → ℕ → Judged Unit
+at_most words count = if nat_lt count (length words) then Err TooMany else Ok tt
+
 -- there are exactly so many words
 abbrev pub exactly : List (List ℕ) → ℕ → Judged Unit
-exactly words count = if nat_lt (length words) count then Err Missing else (if nat_lt count (length words) then Err TooMany else Ok tt)
+exactly words count = at_least words count >>= λ _. at_most words count
 
 -- a number from low to high, if it is one
 abbrev pub within : ℕ → ℕ → Option ℕ → Judged ℕ

@@ -7,4 +7,7 @@ mod words;
 
 pub use codes::{LineFault, TextCode};
 pub use sections::{Section, Turn, read_section};
-pub use words::{at_least, exactly, is_word, number, signed};
+pub use words::{at_least, at_most, exactly, is_word, number, signed};
+
+#[cfg(test)]
+mod tests;

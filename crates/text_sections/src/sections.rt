@@ -4,6 +4,7 @@ ghost use Rattle.std.specs.Io.KnownBytes.{IsAtEnd};
 ghost use Rattle.byte_streams.specs.Streams.{Rose};
 ghost use Rattle.lift_text.specs.LineReader.{text, words, failure};
 ghost use Rattle.text_sections.specs.Sections.{Line, Step, Did, ReadAs};
+ghost use Rattle.text_sections.specs.Canonical.{ReadsWritten};
 
 use crate::codes::{LineFault, TextCode};
 use lift_text::{LineReader, Source, TextFault};
@@ -33,10 +34,33 @@ pub trait Section {
 
 /// Reads the lines of a section up to its last one. What stands behind it stays unread.
 ///
+/// Where the written lines of a section stand in front, that section is read, whatever follows.
 /// The first bad line decides, with its number and one code. Code 9 comes where the input ends before
 /// the section is whole, at the line behind the last. `Read` comes only where a read of the source
 /// failed. After an `Err` nothing is known of the section.
-pub fn read_section<S: Source, T: Section>(lines: &mut LineReader<S>, section: &mut T) -> Result<(), TextFault>
+pub fn read_section<S: Source, T: Section>(
+    lines: &mut LineReader<S>,
+    section: &mut T,
+) -> Result<(), TextFault>
+    ensures same_source { lines.new.source.ghost_name ≡ lines.old.source.ghost_name }
+    ensures outcome { failure lines.old ≡ None → ReadAs T.after (text S.left lines.old) section.old result section.new (text S.left lines.new) }
+    ensures written { failure lines.old ≡ None → ReadsWritten T.after (text S.left lines.old) section.old result section.new (text S.left lines.new) }
+    ensures again { IfSome (failure lines.old) (λ fault. result ≡ Err fault) }
+    ensures ok { OnOk result (failure lines.new ≡ None) }
+    ensures fault { IfSome (failure lines.new) (λ fault. result ≡ Err fault) }
+    ensures cut { failure lines.old ≡ None → OnErr result (failure lines.new ≡ None → words lines.new ≡ [] → IsAtEnd (S.left lines.new.source.now)) }
+    ensures read { failure lines.old ≡ None → IsErrOf result TextFault.Read
+        → Rose (S.faults lines.old.source.now) (S.faults lines.new.source.now) }
+    ensures counted { S.faults lines.old.source.now ≤ S.faults lines.new.source.now }
+{
+    read_lines(lines, section)
+}
+
+/// Reads lines until the section is whole.
+fn read_lines<S: Source, T: Section>(
+    lines: &mut LineReader<S>,
+    section: &mut T,
+) -> Result<(), TextFault>
     ensures same_source { lines.new.source.ghost_name ≡ lines.old.source.ghost_name }
     ensures outcome { failure lines.old ≡ None → ReadAs T.after (text S.left lines.old) section.old result section.new (text S.left lines.new) }
     ensures again { IfSome (failure lines.old) (λ fault. result ≡ Err fault) }
@@ -52,7 +76,10 @@ pub fn read_section<S: Source, T: Section>(lines: &mut LineReader<S>, section: &
         let found = lines.next_line()?;
         let line = lines.line();
         if !found {
-            return Err(TextFault::Bad { line: line + 1, code: TextCode::CutShort.code() });
+            return Err(TextFault::Bad {
+                line: line + 1,
+                code: TextCode::CutShort.code(),
+            });
         }
         match section.take_line(lines) {
             Ok(Turn::More) => {}

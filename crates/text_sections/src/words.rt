@@ -1,7 +1,7 @@
 //! What the words of a line say.
-ghost use Rattle.std.specs.Prelude.{◌≡◌, ◌<◌, ◌≤◌, length};
+ghost use Rattle.std.specs.Prelude.{◌≡◌, ℕ, ◌<◌, ◌≤◌, ◌^◌, Ok, IfOk, OnOk, length, decimal};
 ghost use Rattle.lift_text.specs.LineReader.{words};
-ghost use Rattle.text_sections.specs.Words.{at_least, exactly, is_word, number, number_code, signed};
+ghost use Rattle.text_sections.specs.Words.{at_least, at_most, exactly, is_word, number, number_code, signed, word_at};
 
 use crate::codes::TextCode;
 use lift_text::{LineReader, Source, TextFault};
@@ -11,7 +11,8 @@ const NO_NUMBER: u8 = 6;
 
 /// There are at least so many words on the line.
 pub fn at_least<S: Source>(lines: &LineReader<S>, count: u32) -> Result<(), TextCode>
-    ensures { result ≡ at_least (words lines.now) count }
+    ensures value { result ≡ at_least (words lines.now) count }
+    ensures count { OnOk result (count ≤ length (words lines.now)) }
 {
     if lines.words() < count {
         return Err(TextCode::Missing);
@@ -19,15 +20,24 @@ pub fn at_least<S: Source>(lines: &LineReader<S>, count: u32) -> Result<(), Text
     Ok(())
 }
 
-/// There are exactly so many words on the line.
-pub fn exactly<S: Source>(lines: &LineReader<S>, count: u32) -> Result<(), TextCode>
-    ensures { result ≡ exactly (words lines.now) count }
+/// There are at most so many words on the line.
+pub fn at_most<S: Source>(lines: &LineReader<S>, count: u32) -> Result<(), TextCode>
+    ensures value { result ≡ at_most (words lines.now) count }
+    ensures count { OnOk result (length (words lines.now) ≤ count) }
 {
-    at_least(lines, count)?;
     if lines.words() > count {
         return Err(TextCode::TooMany);
     }
     Ok(())
+}
+
+/// There are exactly so many words on the line.
+pub fn exactly<S: Source>(lines: &LineReader<S>, count: u32) -> Result<(), TextCode>
+    ensures value { result ≡ exactly (words lines.now) count }
+    ensures count { OnOk result (length (words lines.now) ≡ count) }
+{
+    at_least(lines, count)?;
+    at_most(lines, count)
 }
 
 /// Whether word `k` is this text.
@@ -38,17 +48,30 @@ pub fn is_word<S: Source>(lines: &LineReader<S>, k: u32, text: &[u8]) -> bool
     lines.word(k) == text
 }
 
-/// Word `k` as a number from `low` to `high`, which has no sign.
-pub fn number<S: Source>(lines: &LineReader<S>, k: u32, low: u64, high: u64) -> Result<u64, TextCode>
+/// Word `k` as a number from `low` to `high`, which has no sign. A number that was written is read as
+/// that number again.
+pub fn number<S: Source>(
+    lines: &LineReader<S>,
+    k: u32,
+    low: u64,
+    high: u64,
+) -> Result<u64, TextCode>
     requires { k < length (words lines.now) }
-    ensures { result ≡ number (words lines.now) k low high }
+    ensures value { result ≡ number (words lines.now) k low high }
+    ensures within { IfOk result (λ n. (low ≤ n) × (n ≤ high)) }
+    ensures written { (n : ℕ) → n < 2 ^ 64 → word_at (words lines.now) k ≡ decimal n → low ≤ n → n ≤ high → result ≡ Ok n }
 {
     let value = signed(lines, k, i128::from(low), i128::from(high))?;
     Ok(value as u64)
 }
 
 /// Word `k` as a number from `low` to `high`, which a `-` may begin where `low` is below 0.
-pub fn signed<S: Source>(lines: &LineReader<S>, k: u32, low: i128, high: i128) -> Result<i128, TextCode>
+pub fn signed<S: Source>(
+    lines: &LineReader<S>,
+    k: u32,
+    low: i128,
+    high: i128,
+) -> Result<i128, TextCode>
     requires { k < length (words lines.now) }
     ensures { result ≡ signed (words lines.now) k low high }
 {

@@ -1,7 +1,7 @@
 use Rattle.std.proofs.Common.{◌≡◌, ◌≤◌, ◌<◌, None, length}
 use Rattle.lift_text.specs.LineReader.{text, line, words, failure}
 use Rattle.text_sections.proofs.SectionLemmas.{Leads, Counted}
-use Rattle.text_sections.proofs.sections.read_section.Given as goal
+use Rattle.text_sections.proofs.sections.read_lines.Given as goal
 
 -- the lines so far were good, and each was counted
 abbrev pub invariant-lines : goal.invariant-lines

@@ -1,0 +1,28 @@
+use Rattle.std.proofs.Common.{◌≡◌, ◌≤◌, None, Some, Ok, Err, true, ap, sym, ◌∙◌, arith, refl, subst, rules}
+use Rattle.std.specs.Prelude.{Result}
+use Rattle.lift_text.specs.LineReader.{text, line, words, failure}
+use Rattle.lift_text.specs.Reading.{NextLine}
+use Rattle.text_sections.specs.Sections.{Did}
+use Rattle.text_sections.specs.declared.sections.Turn.{Turn}
+use Rattle.text_sections.specs.declared.sections.Turn.TheVariants.{More}
+use Rattle.text_sections.proofs.SectionLemmas.{Leads, leads_more, counted_more, was_none}
+use Rattle.text_sections.proofs.sections.read_lines.Goals as goal
+
+pub lines-preserved : goal.lines-preserved
+lines-preserved g c =
+    let left = g.S.Source.left in
+    let before = c.lines.invariant in
+    let read = rw c.if-not-found.false at c.in_ok-found.ensures in
+    let did = rw c.in-Ok-More.field-0-is at c.in-Ok-More.ensures in
+    record {
+      same_source = search rules;
+      same_failure = read.ok ∙ sym (sym before.same_failure ∙ was_none (failure c.lines.lines) true read.again);
+      no_failure = λ _. read.ok;
+      some_words = λ _. read.some refl;
+      leads = λ none. leads_more g.T.Section.after (text left c.args.lines.now) (text left c.lines.lines) (text left c.next_line.new.self) c.args.section.now c.lines.section c.take_line.new.self
+          (words c.next_line.new.self) (line c.next_line.new.self) (before.leads none) (read.next (before.same_failure ∙ none)) did;
+      risen = λ none. counted_more g.T.Section.after (text left c.args.lines.now) (text left c.lines.lines) (text left c.next_line.new.self) c.args.section.now c.lines.section
+          (words c.next_line.new.self) (line c.next_line.new.self) c.lines.counter (before.leads none) (before.risen none) (read.next (before.same_failure ∙ none));
+      bound = subst (λ n. n ≤ 67108864) c.line-line.ensures.value c.line-line.ensures.bound;
+      counted = omega (arith, before.counted, read.counted);
+    }
