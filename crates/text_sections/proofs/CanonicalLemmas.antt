@@ -16,8 +16,9 @@ use Rattle.lift_text.proofs.PieceLemmas.{pieces_of-append, begins_at, ends_with_
 use Rattle.lift_text.specs.Reading.{TextState, Reading, reading, reading_of, judged, cut_short, line_limit, line_with, bad_line}
 use Rattle.lift_text.specs.declared.faults.TextFault.{TextFault}
 use Rattle.lift_text.specs.declared.faults.TextFault.TheVariants.{Read, TooLong, Bad, NoMemory}
-use Rattle.text_sections.specs.Sections.{Line, Step, goes_on, is_whole, Outcome, accepted, refused, too_long, continued, outcome, ReadAs}
-use Rattle.text_sections.specs.Canonical.{IsWordByte, IsWord, IsLineOfWords, joined, line_text, lines_text, BeginsWith, Goes, Makes, ReadBack, ReadsWritten}
+use Rattle.text_sections.specs.Sections.{Line, Step, goes_on, is_whole, Outcome, accepted, refused, too_long, continued, outcome, Did, ReadAs}
+use Rattle.text_sections.specs.declared.sections.Turn.TheVariants.{More, Whole}
+use Rattle.text_sections.specs.Canonical.{IsWordByte, IsWord, IsLineOfWords, joined, line_text, lines_text, BeginsWith, Goes, Makes, IsMade, ReadBack, ReadsWritten}
 
 -- ---- bytes of a line
 
@@ -188,6 +189,19 @@ module _ {A : Type 0} (after : A → Line → Step A) where
   pub goes-append : (xs ys : List Line) (state middle end : A) → Goes after xs state middle → Goes after ys middle end → Goes after (xs ++ ys) state end
   goes-append [] ys state middle end goes more = subst (λ s. Goes after ys s end) (sym goes) more
   goes-append (x ∷ xs) ys state middle end goes more = (goes.0, goes.1, goes-append xs ys goes.0 middle end goes.2 more)
+
+  -- it went on over some lines
+  abbrev pub Gone : A → A → Type 0
+  Gone state end = (front : List Line) × Goes after front state end
+
+  pub gone_none : (state : A) → Gone state state
+  gone_none state = ([], refl)
+
+  pub gone_more : (state middle new : A) (words : Line) → Gone state middle → Did (after middle words) (Ok More) new → Gone state new
+  gone_more state middle new words gone did = (gone.0 ++ words ∷ [], goes-append gone.0 (words ∷ []) state middle new gone.1 (new, did, refl))
+
+  pub made_whole : (state middle new : A) (words : Line) → Gone state middle → Did (after middle words) (Ok Whole) new → IsMade after state new
+  made_whole state middle new words gone did = (gone.0 ++ words ∷ [], record { front = gone.0; last = words; before = middle; lines_are = refl; goes = gone.1; whole = did })
 
   pub made_front : (front : List Line) (last : Line) (state before end : A) (read rest : Reading) → BeginsWith (front ++ last ∷ []) read rest → Goes after front state before → after before last ≡ is_whole end
       → outcome after read state ≡ accepted end rest

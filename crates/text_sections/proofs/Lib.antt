@@ -1,3 +1,4 @@
 pub mod SectionLemmas
 pub mod NumberLemmas
 pub mod CanonicalLemmas
+pub mod NumberListLemmas

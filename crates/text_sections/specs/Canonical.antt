@@ -52,6 +52,10 @@ pub record Makes {A : Type 0} (after : A → Line → Step A) (lines : List Line
   pub goes : Goes after front state before
   pub whole : after before last ≡ is_whole end
 
+-- some lines make it
+abbrev pub IsMade : {A : Type 0} → (A → Line → Step A) → A → A → Type 0
+IsMade after state end = (lines : List Line) × Makes after lines state end
+
 -- the section that was read is this one, and this is what is left; only a failed read and want of memory
 -- come in its place
 abbrev pub ReadBack : {A : Type 0} → A → Reading → Result Unit TextFault → A → Option TextState → Type 0

@@ -2,4 +2,5 @@ pub mod Codes
 pub mod Sections
 pub mod Words
 pub mod Canonical
+pub mod NumberLists
 pub mod Sample

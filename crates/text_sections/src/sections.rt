@@ -4,7 +4,7 @@ ghost use Rattle.std.specs.Io.KnownBytes.{IsAtEnd};
 ghost use Rattle.byte_streams.specs.Streams.{Rose};
 ghost use Rattle.lift_text.specs.LineReader.{text, words, failure};
 ghost use Rattle.text_sections.specs.Sections.{Line, Step, Did, ReadAs};
-ghost use Rattle.text_sections.specs.Canonical.{ReadsWritten};
+ghost use Rattle.text_sections.specs.Canonical.{IsMade, ReadsWritten};
 
 use crate::codes::{LineFault, TextCode};
 use lift_text::{LineReader, Source, TextFault};
@@ -46,6 +46,7 @@ pub fn read_section<S: Source, T: Section>(
     ensures outcome { failure lines.old ≡ None → ReadAs T.after (text S.left lines.old) section.old result section.new (text S.left lines.new) }
     ensures written { failure lines.old ≡ None → ReadsWritten T.after (text S.left lines.old) section.old result section.new (text S.left lines.new) }
     ensures again { IfSome (failure lines.old) (λ fault. result ≡ Err fault) }
+    ensures made { OnOk result (IsMade T.after section.old section.new) }
     ensures ok { OnOk result (failure lines.new ≡ None) }
     ensures fault { IfSome (failure lines.new) (λ fault. result ≡ Err fault) }
     ensures cut { failure lines.old ≡ None → OnErr result (failure lines.new ≡ None → words lines.new ≡ [] → IsAtEnd (S.left lines.new.source.now)) }
@@ -64,6 +65,7 @@ fn read_lines<S: Source, T: Section>(
     ensures same_source { lines.new.source.ghost_name ≡ lines.old.source.ghost_name }
     ensures outcome { failure lines.old ≡ None → ReadAs T.after (text S.left lines.old) section.old result section.new (text S.left lines.new) }
     ensures again { IfSome (failure lines.old) (λ fault. result ≡ Err fault) }
+    ensures made { OnOk result (IsMade T.after section.old section.new) }
     ensures ok { OnOk result (failure lines.new ≡ None) }
     ensures fault { IfSome (failure lines.new) (λ fault. result ≡ Err fault) }
     ensures cut { failure lines.old ≡ None → OnErr result (failure lines.new ≡ None → words lines.new ≡ [] → IsAtEnd (S.left lines.new.source.now)) }
@@ -71,6 +73,7 @@ fn read_lines<S: Source, T: Section>(
         → Rose (S.faults lines.old.source.now) (S.faults lines.new.source.now) }
     ensures counted { S.faults lines.old.source.now ≤ S.faults lines.new.source.now }
 {
+    // A line's number is at most 67,108,864.
     let _start = lines.line();
     'lines: for _ in 0..MOST_LINES {
         let found = lines.next_line()?;

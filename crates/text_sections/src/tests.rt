@@ -1,5 +1,5 @@
-use crate::{LineFault, Section, TextCode, Turn, exactly, is_word, number, read_section};
-use byte_streams::{MemorySource, Source};
+use crate::{LineFault, Section, TextCode, Turn, exactly, is_word, number, numbers, read_section};
+use byte_streams::{MemorySource, Source, SureSource};
 use lift_text::{LineReader, TextFault};
 use std::alloc::Global;
 use std::marker::Model;
@@ -118,5 +118,18 @@ fn sections_are_read_in_any_pieces(rt: HostRuntime) -> Result<(), Fail> {
             assert_eq!(rt; words, behind);
         }
     }
+    Ok(())
+}
+
+#[test]
+fn several_numbers_are_appended(rt: HostRuntime) -> Result<(), Fail> {
+    let alloc = rt.alloc();
+    let mut source = SureSource::new(Vec::from_slice(alloc, b"x 7 005 3")?);
+    let mut lines = LineReader::new(alloc, &mut source)?;
+    assert_eq!(rt; lines.next_line(), Ok(true));
+    let mut out = Vec::from_slice(alloc, &[2])?;
+    assert_eq!(rt; numbers(&lines, 1, 3, 7, &mut out), Ok(()));
+    assert_eq!(rt; out.as_slice(), [2, 7, 5, 3].as_slice());
+    assert_eq!(rt; numbers(&lines, 1, 3, 6, &mut out), Err(LineFault::Bad(7)));
     Ok(())
 }

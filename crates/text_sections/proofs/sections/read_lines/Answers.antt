@@ -6,6 +6,7 @@ use Rattle.text_sections.specs.Sections.{Did}
 use Rattle.text_sections.specs.declared.sections.Turn.{Turn}
 use Rattle.text_sections.specs.declared.sections.Turn.TheVariants.{More}
 use Rattle.text_sections.proofs.SectionLemmas.{Leads, leads_more, counted_more, was_none}
+use Rattle.text_sections.proofs.CanonicalLemmas.{gone_more, made_whole}
 use Rattle.text_sections.proofs.sections.read_lines.Goals as goal
 
 pub lines-preserved : goal.lines-preserved
@@ -23,6 +24,12 @@ lines-preserved g c =
           (words c.next_line.new.self) (line c.next_line.new.self) (before.leads none) (read.next (before.same_failure ∙ none)) did;
       risen = λ none. counted_more g.T.Section.after (text left c.args.lines.now) (text left c.lines.lines) (text left c.next_line.new.self) c.args.section.now c.lines.section
           (words c.next_line.new.self) (line c.next_line.new.self) c.lines.counter (before.leads none) (before.risen none) (read.next (before.same_failure ∙ none));
+      gone = gone_more g.T.Section.after c.args.section.now c.lines.section c.take_line.new.self (words c.next_line.new.self) before.gone did;
       bound = subst (λ n. n ≤ 67108864) c.line-line.ensures.value c.line-line.ensures.bound;
       counted = omega (arith, before.counted, read.counted);
     }
+
+pub returns-in-Ok-Whole-clause-made : goal.returns-in-Ok-Whole-clause-made
+returns-in-Ok-Whole-clause-made g c =
+    let did = rw c.in-Ok-Whole.field-0-is at c.in-Ok-Whole.ensures in
+    made_whole g.T.Section.after c.args.section.now c.lines.section c.take_line.new.self (words c.next_line.new.self) c.lines.invariant.gone did

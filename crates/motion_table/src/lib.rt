@@ -1,0 +1,11 @@
+//! Tables of measured travel times.
+#![tactic(auto)]
+
+mod tables;
+mod triples;
+
+pub use tables::read_times;
+pub use triples::{Triple, judge_table};
+
+#[cfg(test)]
+mod tests;
