@@ -4,7 +4,9 @@ use Rattle.lift_text.specs.Reading.{TextState, line_with, finished}
 use Rattle.lift_text.specs.declared.faults.TextFault.{TextFault}
 use Rattle.text_sections.specs.declared.codes.TextCode.{TextCode}
 use Rattle.text_sections.specs.declared.codes.TextCode.TheVariants.{NoLineWord, NoTime}
-use Rattle.text_sections.specs.Codes.{Judged, ◌>>=◌}
+use Rattle.text_sections.specs.declared.codes.LineFault.{LineFault}
+use Rattle.text_sections.specs.declared.codes.LineFault.TheVariants.{Bad, NoMemory}
+use Rattle.text_sections.specs.Codes.{Judged, ◌>>=◌, code_of}
 use Rattle.text_sections.specs.Words.{is_word, at_least, at_most, exactly}
 use Rattle.text_sections.specs.NumberLists.{numbers}
 use Rattle.text_sections.specs.Sections.{Line, Step, goes_on, is_whole, step_of, ReadAs, accepted, refused, outcome}
@@ -31,6 +33,17 @@ rests_at floor k (time ∷ times) = (if k == floor then time == 0 else nat_lt 0 
 abbrev pub row_of : ℕ → Line → Judged (List ℕ)
 row_of floor words = numbers words 1 0 20000000 >>= λ times. if rests_at floor 0 times then Ok times else Err NoTime
 
+-- the number of floors and the times of a line, behind those of the lines before it
+abbrev pub row_judged : Option ℕ → List ℕ → Line → Judged (ℕ × List ℕ)
+row_judged floors times words = columns floors words >>= λ n. (row_of (length times / n) words >>= λ row. Ok (n, row))
+
+-- the times of a line stand behind those before it, or the answer is its code; nothing is said where memory
+-- ran out
+abbrev pub RowRead : Judged (ℕ × List ℕ) → List ℕ → Result ℕ LineFault → List ℕ → Type 0
+RowRead judged old (Ok floors) new = (row : List ℕ) × (judged ≡ Ok (floors, row)) × (new ≡ old ++ row)
+RowRead judged old (Err (Bad code)) new = (text_code : TextCode) × (judged ≡ Err text_code) × (code ≡ code_of text_code)
+RowRead judged old (Err NoMemory) new = Unit {0}
+
 -- a table with one more line, which is whole once each floor has one
 abbrev pub with_row : ℕ → List ℕ → Step TableState
 with_row floors times =
@@ -40,7 +53,7 @@ with_row floors times =
 abbrev pub judged : TableState → Line → Judged (Step TableState)
 judged state words =
     if is_word words 0 (codes "times")
-    then (columns state.floors words >>= λ floors. (row_of (length state.times / floors) words >>= λ times. Ok (with_row floors (state.times ++ times))))
+    then (row_judged state.floors state.times words >>= λ read. Ok (with_row read.0 (state.times ++ read.1)))
     else Err NoLineWord
 
 abbrev pub after : TableState → Line → Step TableState

@@ -1,7 +1,7 @@
 -- Three floors of which the way over the second is shorter than the time from the first to the third.
-use Rattle.std.specs.Prelude.{◌≡◌, ◌≢◌, ℕ, ◌+◌, ◌*◌, ◌≤◌, ◌<◌, List, length}
-use Rattle.elevator_model.specs.Travel.{Square, IsTravelSquare, time_between}
-use Rattle.call_state.specs.Squares.{AreRows, IsDirect, IsLegDirect, IsRowDirect, AreRowsDirect}
+use Rattle.std.specs.Prelude.{◌≡◌, ℕ, ◌+◌, ◌*◌, ◌≤◌, ◌<◌, length}
+use Rattle.elevator_model.specs.Travel.{Square, time_between}
+use Rattle.call_state.specs.Squares.{AreRows, IsDirect, IsLegDirect, IsRowDirect}
 use Rattle.motion_table.specs.declared.triples.Triple.{Triple}
 
 -- the way from f to h over g is shorter

@@ -4,7 +4,7 @@
 mod tables;
 mod triples;
 
-pub use tables::read_times;
+pub use tables::{read_row, read_times};
 pub use triples::{Triple, judge_table};
 
 #[cfg(test)]

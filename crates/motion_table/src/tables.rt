@@ -2,7 +2,7 @@
 ghost use Rattle.std.specs.Prelude.{◌≡◌, ◌≤◌, ◌<◌, None, Some, Ok, Err, length, IfErr, IfOk, IfSome, OnOk, IsErrOf};
 ghost use Rattle.byte_streams.specs.Streams.{Rose};
 ghost use Rattle.lift_text.specs.LineReader.{text, words, failure};
-ghost use Rattle.motion_table.specs.Tables.{AreFloors, columns, rests_at, IsReadTable, IsRefusedTable};
+ghost use Rattle.motion_table.specs.Tables.{AreFloors, columns, rests_at, row_judged, IsReadTable, IsRefusedTable, RowRead};
 
 use lift_text::{LineReader, Source, TextFault};
 use std::alloc::Global;
@@ -66,13 +66,7 @@ impl Section for TableRows {
         if !is_word(lines, 0, b"times") {
             return Err(LineFault::from(TextCode::NoLineWord));
         }
-        let floors = columns(self.floors, lines)?;
-        let start = self.times.len();
-        let row = start / floors as usize;
-        numbers(lines, 1, 0, LONGEST, &mut self.times)?;
-        if !rests_at(row, &self.times[start..]) {
-            return Err(LineFault::from(TextCode::NoTime));
-        }
+        let floors = read_row(lines, self.floors, &mut self.times)?;
         self.floors = Some(floors);
         if self.times.len() == floors as usize * floors as usize {
             Ok(Turn::Whole)
@@ -80,6 +74,29 @@ impl Section for TableRows {
             Ok(Turn::More)
         }
     }
+}
+
+/// Reads the times of a line, whose first word is judged already, and appends them to those of the lines
+/// before it. The answer is the number of floors, which the first line decides where it is not given.
+///
+/// The codes are 4 and 5 where a word is missing or too many, 6 and 7 where a word is no number from 0 to
+/// 20,000,000, and then 53 where a time is not 0 from a floor to itself or is 0 between two floors.
+pub fn read_row<S: Source>(
+    lines: &LineReader<S>,
+    floors: Option<u32>,
+    times: &mut Vec<u64>,
+) -> Result<u32, LineFault>
+    requires { AreFloors floors }
+    ensures read { RowRead (row_judged floors times.old.items (words lines.now)) times.old.items result times.new.items }
+    ensures floors { IfOk result (λ n. AreFloors (Some n)) }
+{
+    let count = columns(floors, lines)?;
+    let start = times.len();
+    numbers(lines, 1, 0, LONGEST, times)?;
+    if !rests_at(start / count as usize, &times[start..]) {
+        return Err(LineFault::from(TextCode::NoTime));
+    }
+    Ok(count)
 }
 
 /// The number of floors, which the first line decides where it is not known.

@@ -1,7 +1,7 @@
 -- Written lines are read as their words, and a section's lines as the section.
-use Rattle.std.proofs.Common.{◌≡◌, ◌≢◌, ℕ, zero, suc, ◌+◌, ◌-◌, ◌*◌, ◌/◌, ◌%◌, ◌^◌, ◌<◌, ◌≤◌, Bool, true, false, cond, eqb, ltb, List, [], ◌∷◌, ◌++◌, length, take, get_or, Option, None, Some, Result, Ok, Err, ap, refl, arith, ◌∙◌, sym, subst, append_assoc, append-nil, length-append, IfSome}
-use Rattle.std.specs.Prelude.{nat_lt, nat_le, ◌==◌, ◌&&◌, ◌||◌, map, decimal, filter, All, IsSomeAnd}
-use Rattle.std.specs.List.{flat_map, list_all, before_first, position_or_len, AllByRecursion}
+use Rattle.std.proofs.Common.{◌≡◌, ◌≢◌, ℕ, zero, suc, ◌+◌, ◌-◌, ◌%◌, ◌^◌, ◌<◌, ◌≤◌, true, false, cond, List, [], ◌∷◌, ◌++◌, length, take, get_or, Option, None, Some, Result, Ok, Err, ap, refl, arith, ◌∙◌, sym, subst, append_assoc, append-nil, length-append}
+use Rattle.std.specs.Prelude.{nat_lt, ◌==◌, ◌&&◌, map, decimal, filter, All}
+use Rattle.std.specs.List.{flat_map, list_all, AllByRecursion}
 use Rattle.std.specs.Io.BufRead.{ends_with_byte, strip_last}
 use Rattle.std.proofs.lemmas.Bool.Decides.{nat_tests}
 use Rattle.std.proofs.lemmas.List.Splits.{slice_split_at, slice_split_none}
@@ -11,12 +11,12 @@ use Rattle.lift_text.specs.Text.{newline, word, words, line}
 use Rattle.std.proofs.Math.Seq.{take-length}
 use Rattle.std.proofs.Math.Numerals.{one-add}
 use Rattle.lift_text.specs.Lines.{pieces_of, line_of, words_of, words_in, is_clean, is_allowed, is_blank, before_comment}
-use Rattle.lift_text.specs.Found.{NoLineFeed, BeginsWithLine}
-use Rattle.lift_text.proofs.PieceLemmas.{pieces_of-append, begins_at, ends_with_byte-push}
+use Rattle.lift_text.specs.Found.{NoLineFeed}
+use Rattle.lift_text.proofs.PieceLemmas.{pieces_of-append, begins_at}
 use Rattle.lift_text.specs.Reading.{TextState, Reading, reading, reading_of, judged, cut_short, line_limit, line_with, bad_line}
 use Rattle.lift_text.specs.declared.faults.TextFault.{TextFault}
 use Rattle.lift_text.specs.declared.faults.TextFault.TheVariants.{Read, TooLong, Bad, NoMemory}
-use Rattle.text_sections.specs.Sections.{Line, Step, goes_on, is_whole, Outcome, accepted, refused, too_long, continued, outcome, Did, ReadAs}
+use Rattle.text_sections.specs.Sections.{Line, Step, is_whole, accepted, continued, outcome, Did, ReadAs}
 use Rattle.text_sections.specs.declared.sections.Turn.TheVariants.{More, Whole}
 use Rattle.text_sections.specs.Canonical.{IsWordByte, IsWord, IsLineOfWords, joined, line_text, lines_text, BeginsWith, Goes, Makes, IsMade, ReadBack, ReadsWritten}
 

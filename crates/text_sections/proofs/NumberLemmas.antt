@@ -13,7 +13,7 @@ use Rattle.std.proofs.lemmas.Bool.Decides.{nat_tests}
 use Rattle.lift_text.specs.Numbers.{digits_number, number_of, in_range, read_number, number_answer}
 use Rattle.lift_text.specs.declared.faults.TextFault.{TextFault}
 use Rattle.text_sections.specs.declared.codes.TextCode.{TextCode}
-use Rattle.text_sections.specs.declared.codes.TextCode.TheVariants.{NoNumber, OutOfRange}
+use Rattle.text_sections.specs.declared.codes.TextCode.TheVariants.{OutOfRange}
 use Rattle.text_sections.specs.Codes.{Judged}
 use Rattle.text_sections.specs.Words.{within, signed_within, number_judged, number, word_at}
 

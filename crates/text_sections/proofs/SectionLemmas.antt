@@ -1,13 +1,13 @@
 -- Reading a section line by line.
-use Rattle.std.proofs.Common.{◌≡◌, ℕ, ◌+◌, ◌-◌, ◌<◌, ◌≤◌, Bool, true, false, cond, List, [], ◌∷◌, length, Option, None, Some, Result, Ok, Err, ap, refl, arith, ◌∙◌, sym, subst}
+use Rattle.std.proofs.Common.{◌≡◌, ℕ, ◌+◌, ◌-◌, ◌<◌, ◌≤◌, Bool, true, false, cond, List, [], ◌∷◌, length, Option, None, Some, Ok, Err, ap, refl, arith, ◌∙◌}
 use Rattle.std.specs.Prelude.{nat_lt, IsSomeAnd, IfSome}
 use Rattle.lift_text.specs.Lines.{line_of, words_of, is_clean}
-use Rattle.lift_text.specs.Reading.{TextState, Reading, reading, reading_of, judged, cut_short, line_limit, line_with, finished, bad_line, past_limit, NextLine}
+use Rattle.lift_text.specs.Reading.{TextState, Reading, reading, reading_of, judged, cut_short, line_limit, line_with, bad_line, past_limit, NextLine}
 use Rattle.lift_text.specs.declared.faults.TextFault.{TextFault}
 use Rattle.lift_text.specs.declared.faults.TextFault.TheVariants.{Read, TooLong, Bad, NoMemory}
 use Rattle.text_sections.specs.declared.codes.LineFault.TheVariants.{Bad as BadLine}
 use Rattle.text_sections.specs.declared.sections.Turn.TheVariants.{More, Whole}
-use Rattle.text_sections.specs.Sections.{Line, Step, goes_on, is_whole, is_bad, Outcome, accepted, refused, too_long, continued, outcome, Did, ReadAs}
+use Rattle.text_sections.specs.Sections.{Line, Step, continued, outcome, Did, ReadAs}
 
 -- ---- line numbers rise
 

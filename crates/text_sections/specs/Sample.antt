@@ -1,13 +1,13 @@
 -- A small section, judged by computation: lines `set N once` or `set N twice` with N from 1 to 9, at least
 -- one, and `end`. Its state is what the last line set.
-use Rattle.std.specs.Prelude.{◌≡◌, ℕ, ◌*◌, List, [], ◌∷◌, Result, Ok, Err, refl, codes, ◌==◌, if◌then◌else◌}
+use Rattle.std.specs.Prelude.{◌≡◌, ℕ, ◌*◌, List, [], ◌∷◌, Ok, Err, refl, codes, ◌==◌, if◌then◌else◌}
 use Rattle.lift_text.specs.Reading.{Reading, line_with, finished, bad_line, past_limit}
 use Rattle.text_sections.specs.declared.codes.TextCode.TheVariants.{NoLineWord, OutOfOrder}
 use Rattle.text_sections.specs.declared.sections.Turn.{Turn}
 use Rattle.text_sections.specs.declared.sections.Turn.TheVariants.{Whole}
 use Rattle.text_sections.specs.Codes.{Judged, ◌>>=◌}
 use Rattle.text_sections.specs.Words.{is_word, exactly, number}
-use Rattle.text_sections.specs.Sections.{Line, Step, goes_on, is_whole, step_of, Outcome, accepted, refused, too_long, outcome}
+use Rattle.text_sections.specs.Sections.{Line, Step, goes_on, is_whole, step_of, accepted, refused, too_long, outcome}
 
 -- how often word 2 says
 abbrev pub times : Line → Judged ℕ

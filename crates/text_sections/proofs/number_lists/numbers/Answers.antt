@@ -1,4 +1,4 @@
-use Rattle.std.proofs.Common.{◌<◌, ◌≤◌, length, arith, sym}
+use Rattle.std.proofs.Common.{◌<◌, ◌≤◌, length, arith}
 use Rattle.lift_text.specs.LineReader.{words}
 use Rattle.std.proofs.lemmas.Result.{err_from_is_err_and}
 use Rattle.text_sections.specs.NumberLists.{numbers}

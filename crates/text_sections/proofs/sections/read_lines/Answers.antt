@@ -1,11 +1,6 @@
-use Rattle.std.proofs.Common.{◌≡◌, ◌≤◌, None, Some, Ok, Err, true, ap, sym, ◌∙◌, arith, refl, subst, rules}
-use Rattle.std.specs.Prelude.{Result}
+use Rattle.std.proofs.Common.{◌≤◌, true, sym, ◌∙◌, arith, refl, subst, rules}
 use Rattle.lift_text.specs.LineReader.{text, line, words, failure}
-use Rattle.lift_text.specs.Reading.{NextLine}
-use Rattle.text_sections.specs.Sections.{Did}
-use Rattle.text_sections.specs.declared.sections.Turn.{Turn}
-use Rattle.text_sections.specs.declared.sections.Turn.TheVariants.{More}
-use Rattle.text_sections.proofs.SectionLemmas.{Leads, leads_more, counted_more, was_none}
+use Rattle.text_sections.proofs.SectionLemmas.{leads_more, counted_more, was_none}
 use Rattle.text_sections.proofs.CanonicalLemmas.{gone_more, made_whole}
 use Rattle.text_sections.proofs.sections.read_lines.Goals as goal
 

@@ -1,7 +1,7 @@
-use Rattle.std.proofs.Common.{◌≡◌, ◌≤◌, ℕ, IfOk, Ok, Err, ap, sym, subst, ◌∙◌, arith, rules}
+use Rattle.std.proofs.Common.{◌≡◌, ◌≤◌, ℕ, IfOk, Ok, Err, ap, sym, subst, ◌∙◌, arith}
 use Rattle.std.proofs.lemmas.Result.{err_from_is_err_and}
-use mir.Syntax.{w64, w128}
-use mir.Val.{Fits, to_z, of_z}
+use mir.Syntax.{w64}
+use mir.Val.{Fits}
 use lib.Dec.{T}
 use lib.Signed.{non_neg}
 use lib.IntN.{ℤ, nat_abs}
