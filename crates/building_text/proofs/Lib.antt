@@ -1,0 +1,10 @@
+pub mod SetLemmas
+pub mod TriangleLemmas
+pub mod SaidLemmas
+pub mod ReadLemmas
+pub mod LineLemmas
+pub mod GivenLemmas
+pub mod TravelLemmas
+pub mod RowLemmas
+pub mod WholeLemmas
+pub mod LawLemmas

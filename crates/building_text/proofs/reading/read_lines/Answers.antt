@@ -1,0 +1,26 @@
+use Rattle.std.proofs.Common.{subst, Ok}
+use Rattle.lift_text.specs.LineReader.{text, failure}
+use Rattle.text_sections.specs.Sections.{ReadAs}
+use Rattle.text_sections.specs.Canonical.{IsMade}
+use Rattle.building_text.specs.Drafts.{Draft, after}
+use Rattle.building_text.proofs.LawLemmas.{made_whole, read_answer, refused_answer, again_answer}
+use Rattle.building_text.proofs.reading.read_lines.Goals as goal
+
+pub finish-requires : goal.finish-requires
+finish-requires g c = made_whole c.read_section.new.section (subst (λ (d : Draft). IsMade after d c.read_section.new.section) c.new-draft.ensures c.in-Ok.ensures.made)
+
+pub returns-in-Ok-clause-building : goal.returns-in-Ok-clause-building
+returns-in-Ok-clause-building g c = λ none.
+    (let left = g.S.Source.left in
+    let before = text left c.args.lines.now in
+    let now = text left c.read_section.new.lines in
+    let d = c.read_section.new.section in
+    read_answer c.finish.result before now d (subst (λ (start : Draft). ReadAs after before start (Ok tt) d now) c.new-draft.ensures (c.in-Ok.ensures.outcome none)) c.finish.ensures.stands)
+
+pub returns-in-Ok-clause-refused : goal.returns-in-Ok-clause-refused
+returns-in-Ok-clause-refused g c = λ none.
+    (let left = g.S.Source.left in
+    refused_answer c.finish.result (text left c.args.lines.now) (text left c.read_section.new.lines) c.finish.ensures.failed)
+
+pub returns-in-Ok-clause-again : goal.returns-in-Ok-clause-again
+returns-in-Ok-clause-again g c = again_answer (failure c.args.lines.now) c.finish.result c.in-Ok.ensures.again

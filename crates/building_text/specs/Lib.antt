@@ -1,0 +1,5 @@
+pub mod Order
+pub mod Said
+pub mod Words
+pub mod Drafts
+pub mod BuildingText

@@ -1,0 +1,10 @@
+//! The building section of a text: read line by line and judged, and written.
+#![tactic(auto)]
+
+mod cars;
+mod drafts;
+mod order;
+mod parts;
+mod reading;
+
+pub use reading::read_building;

@@ -1,0 +1,61 @@
+//! Reads a building from its lines.
+ghost use Rattle.std.specs.Prelude.{◌≡◌, ◌≤◌, None, Err, IfErr, IfOk, IfSome, OnOk, IsErrOf};
+ghost use Rattle.byte_streams.specs.Streams.{Rose};
+ghost use Rattle.lift_text.specs.LineReader.{text, failure};
+ghost use Rattle.building_text.specs.BuildingText.{IsReadBuilding, IsRefusedBuilding, StandsInFront, TakesBuildings};
+
+use crate::drafts::BuildingDraft;
+use call_state::Building;
+use lift_text::{LineReader, Source, TextFault};
+use std::alloc::Global;
+use text_sections::read_section;
+
+/// Reads a building from its lines: what stands behind its `end` stays unread. The allocator comes first.
+///
+/// It accepts exactly the lines that stand for a building, and gives that building. The first bad line
+/// decides, with its number and one code. Code 9 comes where the input ends before the section does, at
+/// the line behind the last. `Read` comes only where a read of the source failed. After an `Err` of a
+/// line the reader stands behind that line.
+pub fn read_building<S: Source>(
+    alloc: Global,
+    lines: &mut LineReader<S>,
+) -> Result<Building, TextFault>
+    ensures same_source { lines.new.source.ghost_name ≡ lines.old.source.ghost_name }
+    ensures building { failure lines.old ≡ None → IfOk result (λ building.
+        IsReadBuilding (text S.left lines.old) building (text S.left lines.new)) }
+    ensures refused { failure lines.old ≡ None → IfErr result (λ fault.
+        IsRefusedBuilding (text S.left lines.old) fault (text S.left lines.new)) }
+    ensures only { failure lines.old ≡ None → IfOk result (λ building.
+        StandsInFront (text S.left lines.old) building (text S.left lines.new)) }
+    ensures each { failure lines.old ≡ None
+        → TakesBuildings (text S.left lines.old) result (text S.left lines.new) }
+    ensures again { IfSome (failure lines.old) (λ fault. result ≡ Err fault) }
+    ensures ok { OnOk result (failure lines.new ≡ None) }
+    ensures fault { IfSome (failure lines.new) (λ fault. result ≡ Err fault) }
+    ensures read { failure lines.old ≡ None → IsErrOf result TextFault.Read
+        → Rose (S.faults lines.old.source.now) (S.faults lines.new.source.now) }
+    ensures counted { S.faults lines.old.source.now ≤ S.faults lines.new.source.now }
+{
+    read_lines(alloc, lines)
+}
+
+/// Reads the lines, and makes the building.
+fn read_lines<S: Source>(alloc: Global, lines: &mut LineReader<S>) -> Result<Building, TextFault>
+    ensures same_source { lines.new.source.ghost_name ≡ lines.old.source.ghost_name }
+    ensures building { failure lines.old ≡ None → IfOk result (λ building.
+        IsReadBuilding (text S.left lines.old) building (text S.left lines.new)) }
+    ensures refused { failure lines.old ≡ None → IfErr result (λ fault.
+        IsRefusedBuilding (text S.left lines.old) fault (text S.left lines.new)) }
+    ensures again { IfSome (failure lines.old) (λ fault. result ≡ Err fault) }
+    ensures ok { OnOk result (failure lines.new ≡ None) }
+    ensures fault { IfSome (failure lines.new) (λ fault. result ≡ Err fault) }
+    ensures read { failure lines.old ≡ None → IsErrOf result TextFault.Read
+        → Rose (S.faults lines.old.source.now) (S.faults lines.new.source.now) }
+    ensures counted { S.faults lines.old.source.now ≤ S.faults lines.new.source.now }
+{
+    let mut draft = BuildingDraft::new(alloc);
+    match read_section(lines, &mut draft) {
+        Ok(()) => draft.finish(),
+        Err(fault) => Err(fault),
+    }
+}
