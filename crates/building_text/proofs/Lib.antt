@@ -8,3 +8,4 @@ pub mod TravelLemmas
 pub mod RowLemmas
 pub mod WholeLemmas
 pub mod LawLemmas
+pub mod WrittenLemmas

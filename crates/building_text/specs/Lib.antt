@@ -3,3 +3,4 @@ pub mod Said
 pub mod Words
 pub mod Drafts
 pub mod BuildingText
+pub mod Written

@@ -6,5 +6,10 @@ mod drafts;
 mod order;
 mod parts;
 mod reading;
+mod writing;
 
 pub use reading::read_building;
+pub use writing::write_building;
+
+#[cfg(test)]
+mod tests;
