@@ -9,3 +9,5 @@ pub mod RowLemmas
 pub mod WholeLemmas
 pub mod LawLemmas
 pub mod WrittenLemmas
+pub mod AgainLemmas
+pub mod LengthLemmas

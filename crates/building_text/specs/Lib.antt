@@ -4,3 +4,4 @@ pub mod Words
 pub mod Drafts
 pub mod BuildingText
 pub mod Written
+pub mod Worked

@@ -1,5 +1,5 @@
 -- The canonical text of a building.
-use Rattle.std.specs.Prelude.{◌≡◌, ℕ, ◌+◌, ◌-◌, ◌^◌, ◌<◌, ◌≤◌, ◌==◌, Bool, true, false, List, [], ◌∷◌, ◌++◌, length, map, filter, decimal, codes, if◌then◌else◌, Option, None, Some, IfSome, Result}
+use Rattle.std.specs.Prelude.{◌≡◌, ℕ, ◌+◌, ◌-◌, ◌^◌, ◌<◌, ◌≤◌, ◌==◌, false, List, [], ◌∷◌, ◌++◌, length, map, filter, decimal, codes, if◌then◌else◌, Option, IfSome, Result}
 use Rattle.std.specs.List.{range_with_len}
 use Rattle.call_sets.specs.Counting.{has}
 use Rattle.elevator_model.specs.declared.CarSpec.{CarSpec}

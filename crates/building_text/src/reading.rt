@@ -3,6 +3,7 @@ ghost use Rattle.std.specs.Prelude.{◌≡◌, ◌≤◌, None, Err, IfErr, IfOk
 ghost use Rattle.byte_streams.specs.Streams.{Rose};
 ghost use Rattle.lift_text.specs.LineReader.{text, failure};
 ghost use Rattle.building_text.specs.BuildingText.{IsReadBuilding, IsRefusedBuilding, StandsInFront, TakesBuildings};
+ghost use Rattle.building_text.specs.Written.{ReadsWritten};
 
 use crate::drafts::BuildingDraft;
 use call_state::Building;
@@ -12,7 +13,8 @@ use text_sections::read_section;
 
 /// Reads a building from its lines: what stands behind its `end` stays unread. The allocator comes first.
 ///
-/// It accepts exactly the lines that stand for a building, and gives that building. The first bad line
+/// It accepts exactly the lines that stand for a building, and gives that building; a building that was
+/// written is read as that building again, whatever follows. The first bad line
 /// decides, with its number and one code. Code 9 comes where the input ends before the section does, at
 /// the line behind the last. `Read` comes only where a read of the source failed. After an `Err` of a
 /// line the reader stands behind that line.
@@ -29,6 +31,8 @@ pub fn read_building<S: Source>(
         StandsInFront (text S.left lines.old) building (text S.left lines.new)) }
     ensures each { failure lines.old ≡ None
         → TakesBuildings (text S.left lines.old) result (text S.left lines.new) }
+    ensures written { failure lines.old ≡ None
+        → ReadsWritten (text S.left lines.old) result (text S.left lines.new) }
     ensures again { IfSome (failure lines.old) (λ fault. result ≡ Err fault) }
     ensures ok { OnOk result (failure lines.new ≡ None) }
     ensures fault { IfSome (failure lines.new) (λ fault. result ≡ Err fault) }

@@ -1,6 +1,8 @@
+ghost use Rattle.std.specs.Prelude.{◌<◌};
+
 use crate::{read_building, write_building};
 use byte_streams::MemorySource;
-use lift_text::{LineReader, TextFault};
+use lift_text::{LineReader, TextFault, put_line, put_word, put_words};
 use std::alloc::Global;
 use std::test::Fail;
 
@@ -137,14 +139,6 @@ fn canonical_texts_are_written_back(rt: HostRuntime) -> Result<(), Fail> {
     Ok(())
 }
 
-/// Appends numbers, each after a space.
-fn push_each(out: &mut Vec<u8>, text: &[u8], times: usize) -> Result<(), Fail> {
-    for _ in 0..times {
-        out.extend_from_slice(text)?;
-    }
-    Ok(())
-}
-
 #[test]
 fn a_seventeenth_car_is_too_many(rt: HostRuntime) -> Result<(), Fail> {
     let alloc = rt.alloc();
@@ -153,9 +147,43 @@ fn a_seventeenth_car_is_too_many(rt: HostRuntime) -> Result<(), Fail> {
         b"building 2\nspeed 2000\naccel 1000\nweights 1 1\npatience 500 3\nfloors 0 4000\n",
     )?;
     for id in 0..17u64 {
-        lift_text::put_line(&mut bytes, b"car", &[id, 8, 0, 0, 0, 0, 0, 1])?;
+        put_line(&mut bytes, b"car", &[id, 8, 0, 0, 0, 0, 0, 1])?;
     }
-    push_each(&mut bytes, b"end\n", 1)?;
     assert_eq!(rt; outcome(alloc, &bytes, 4096)?, (23, 20));
+    Ok(())
+}
+
+/// The text of the largest building: 64 floors, 64 lines of times, 16 cars.
+fn largest(alloc: Global) -> Result<Vec<u8>, Fail> {
+    let mut out = Vec::from_slice(
+        alloc,
+        b"building 3\nspeed 20000\naccel 5000\nweights 1000 1000\npatience 1000000000 1000\nfloors",
+    )?;
+    for floor in 0..64u64 {
+        put_word(&mut out, floor * 15_873)?;
+    }
+    for from in 0..64u64 {
+        out.extend_from_slice(b"\ntimes")?;
+        for to in 0..64u64 {
+            put_word(&mut out, if from == to { 0 } else { 20_000_000 })?;
+        }
+    }
+    for car in 0..16u64 {
+        out.extend_from_slice(b"\n")?;
+        let numbers = [4_294_967_295 - car, 64, 60_000, 60_000, 60_000, 60_000];
+        put_words(&mut out, b"car", &numbers)?;
+        for floor in 1..64u64 {
+            put_word(&mut out, floor)?;
+        }
+    }
+    out.extend_from_slice(b"\nend\n")?;
+    Ok(out)
+}
+
+#[test]
+fn the_largest_building_is_written_back(rt: HostRuntime) -> Result<(), Fail> {
+    let alloc = rt.alloc();
+    let text = largest(alloc)?;
+    assert!(rt; is_canonical(alloc, &text)?);
     Ok(())
 }

@@ -1,5 +1,5 @@
 use Rattle.std.specs.Prelude.{codes}
-use Rattle.std.proofs.Common.{ℕ, List, [], ◌∷◌, ◌++◌, ap, ◌∙◌}
+use Rattle.std.proofs.Common.{ℕ, [], ◌∷◌, ◌++◌, ap, ◌∙◌}
 use Rattle.lift_text.specs.Text.{words}
 use Rattle.building_text.specs.Written.{served_words}
 use Rattle.building_text.proofs.WrittenLemmas.{car_text}

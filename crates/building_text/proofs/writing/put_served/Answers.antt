@@ -1,4 +1,4 @@
-use Rattle.std.proofs.Common.{◌≡◌, ◌==◌, ◌++◌, ◌-◌, ◌^◌, Bool, false, cond, List, [], ◌∷◌, map, ap, sym, subst, ◌∙◌}
+use Rattle.std.proofs.Common.{◌≡◌, ◌==◌, ◌++◌, ◌-◌, ◌^◌, Bool, false, cond, [], ◌∷◌, map, ap, sym, subst, ◌∙◌}
 use Rattle.std.specs.Prelude.{OnOk, codes, decimal}
 use Rattle.std.proofs.lemmas.Bool.{ne_eqb}
 use Rattle.building_text.specs.Written.{floors_in}
