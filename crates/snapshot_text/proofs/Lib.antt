@@ -1,0 +1,5 @@
+pub mod CarLemmas
+pub mod Steps
+pub mod Lists
+pub mod Whole
+pub mod Again
