@@ -3,3 +3,4 @@ pub mod Steps
 pub mod Lists
 pub mod Whole
 pub mod Again
+pub mod Texts

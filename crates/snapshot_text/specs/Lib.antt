@@ -1,3 +1,4 @@
 pub mod Words
 pub mod Drafts
 pub mod Snapshots
+pub mod Texts

@@ -7,5 +7,7 @@ mod drafts;
 mod kinds;
 mod reading;
 mod said;
+mod writing;
 
 pub use reading::{read_opening, read_snapshot};
+pub use writing::write_snapshot;
