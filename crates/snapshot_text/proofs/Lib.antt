@@ -4,3 +4,4 @@ pub mod Lists
 pub mod Whole
 pub mod Again
 pub mod Texts
+pub mod Written

@@ -6,6 +6,7 @@ ghost use Rattle.elevator_model.specs.Snapshot.{IsAccepted};
 ghost use Rattle.elevator_model.specs.Faults.{first_fault_of_snapshot};
 ghost use Rattle.call_state.specs.SnapshotParts.{AreSnapshotParts};
 ghost use Rattle.snapshot_text.specs.Drafts.{snapshot_read};
+ghost use Rattle.snapshot_text.specs.Texts.{ReadsText};
 ghost use Rattle.snapshot_text.specs.Snapshots.{IsReadSnapshot, IsRefusedSnapshot, IsSaid, ReadsLines, FailsAs};
 
 use crate::drafts::Draft;
@@ -69,7 +70,8 @@ fn read<S: Source>(
 /// Reads a snapshot section up to its line `end`: what stands behind it stays unread. The allocator comes
 /// first. A call that fails drops the building.
 ///
-/// The lines that are accepted are those that stand for an accepted snapshot of the building: `snapshot V`,
+/// Where the text begins with one that `write_snapshot` wrote for a snapshot of this building, that snapshot
+/// is read, whatever follows. The lines that are accepted are those that stand for an accepted snapshot of the building: `snapshot V`,
 /// `now T`, a line `car ID idle FLOOR FREE`, `car ID coming FLOOR ARRIVES` or, in version 2,
 /// `car ID moving FROM up|down LEFT` for each car in any order, then the lines
 /// `aboard CAR ID DESTINATION PERSONS BOARDED`, then the lines
@@ -94,6 +96,8 @@ pub fn read_snapshot<S: Source>(
         IsSaid (text S.left lines.old) building false snapshot (text S.left lines.new)) }
     ensures lines { failure lines.old ≡ None
         → ReadsLines (text S.left lines.old) building false result (text S.left lines.new) }
+    ensures written { failure lines.old ≡ None
+        → ReadsText (text S.left lines.old) building result (text S.left lines.new) }
     ensures accepted { IfOk result IsAccepted }
     ensures again { IfSome (failure lines.old) (FailsAs result) }
     ensures ok { OnOk result (failure lines.new ≡ None) }
