@@ -1,9 +1,9 @@
 -- Lines that stand for a snapshot make a section.
-use Rattle.std.proofs.Common.{◌≡◌, ◌≢◌, ℕ, zero, suc, ◌+◌, ◌<◌, ◌≤◌, ◌==◌, ◌&&◌, Bool, true, false, cond, List, [], ◌∷◌, ◌++◌, length, map, take, get_or, set, refl, sym, ap, ◌∙◌, subst, arith, Option, None, Some, Result, Ok, Err, append_assoc, append-nil, length-append, IfSome, IfOk, add-zero, zero-add, ◌⊎◌, inl, inr}
-use Rattle.std.specs.Prelude.{count_by, codes, if◌then◌else◌, IsSomeAnd, ◌||◌}
+use Rattle.std.proofs.Common.{◌≡◌, ◌≢◌, ℕ, suc, ◌+◌, ◌<◌, ◌&&◌, Bool, true, false, List, [], ◌∷◌, ◌++◌, length, map, take, get_or, set, refl, sym, ap, ◌∙◌, subst, arith, Option, None, Some, Result, Ok, Err, append_assoc, append-nil, length-append, IfSome, zero-add, inl, inr}
+use Rattle.std.specs.Prelude.{codes, if◌then◌else◌, IsSomeAnd, ◌||◌}
 use Rattle.std.specs.Str.{bytes_eq}
 use Rattle.std.specs.List.{list_any, list_all}
-use Rattle.std.proofs.lemmas.Bool.{eqb-true, eqb-false, ne_eqb, eq-eqb, false≢true, and_parts, cases_Bool}
+use Rattle.std.proofs.lemmas.Bool.{ne_eqb, eq-eqb, false≢true, cases_Bool}
 use Rattle.std.proofs.lemmas.Slice.Eq.{bytes_eq-Decides}
 use Rattle.std.proofs.lemmas.List.{length-map, get_or-map, get_or-set_same, get_or-set_other, ext_get_or, take_at}
 use Rattle.std.proofs.Math.ListN.{length-set}
@@ -14,7 +14,7 @@ use Rattle.elevator_model.specs.declared.Call.{Call}
 use Rattle.elevator_model.specs.declared.Fault.{Fault}
 use Rattle.elevator_model.specs.declared.Fault.TheVariants.{IdUsedBefore}
 use Rattle.elevator_model.specs.Building.{Building, IsBuilding, no_car}
-use Rattle.elevator_model.specs.Snapshot.{Snapshot, IsAccepted, no_state, no_group, no_call, car_count, state_of}
+use Rattle.elevator_model.specs.Snapshot.{Snapshot, no_state, no_group, no_call, state_of}
 use Rattle.elevator_model.specs.Faults.{fault_of_state, fault_of_group, fault_of_call}
 use Rattle.call_state.proofs.Accepted.{IsClear, IsAccepted-to}
 use Rattle.lift_text.specs.Reading.{TextState, Reading, reading, line_with, finished, bad_line, past_limit}
@@ -25,18 +25,18 @@ use Rattle.text_sections.specs.declared.sections.Turn.{Turn}
 use Rattle.text_sections.specs.declared.sections.Turn.TheVariants.{Whole}
 use Rattle.text_sections.specs.Codes.{Judged, ◌>>=◌}
 use Rattle.text_sections.specs.Words.{is_word, word_at, exactly, number}
-use Rattle.text_sections.specs.Sections.{Line, Step, goes_on, is_whole, is_bad, Outcome, accepted, refused, too_long, continued, outcome, ReadAs}
+use Rattle.text_sections.specs.Sections.{Line, Step, goes_on, is_whole, is_bad, accepted, refused, too_long, continued, outcome, ReadAs}
 use Rattle.text_sections.specs.Canonical.{BeginsWith, Goes, Makes, IsMade}
 use Rattle.text_sections.proofs.CanonicalLemmas.{goes-append, made}
-use Rattle.snapshot_text.specs.declared.kinds.Due.TheVariants.{Version, Moment, Items}
+use Rattle.snapshot_text.specs.declared.kinds.Due.TheVariants.{Version}
 use Rattle.snapshot_text.specs.declared.kinds.LineWord.{LineWord}
 use Rattle.snapshot_text.specs.declared.kinds.LineWord.TheVariants.{Snapshot as SnapshotWord, Now, Car, Aboard as AboardWord, Call as CallWord, End}
 use Rattle.snapshot_text.specs.Words.{version_said, moment_said, form_of, car_said, group_said, call_said}
-use Rattle.snapshot_text.specs.Drafts.{Draft, blank, snapshot_read, any_word, line_word, has_car, has_all_cars, in_order, cars_in_order, groups_in_order, calls_in_order, outside_opening, with_all_cars, version_in, moment_in, car_in, group_in, call_in, end_in, fault_in_car, fault_in_group, fault_in_call, with_version, with_moment, with_car, with_group, with_call, after_word, after_judged, after, ended}
+use Rattle.snapshot_text.specs.Drafts.{Draft, blank, snapshot_read, any_word, line_word, has_car, has_all_cars, in_order, cars_in_order, groups_in_order, calls_in_order, outside_opening, with_all_cars, version_in, moment_in, car_in, group_in, call_in, end_in, fault_in_car, fault_in_group, fault_in_call, with_version, with_moment, with_car, with_group, with_call, after_judged, after, ended}
 use Rattle.snapshot_text.specs.Snapshots.{named, says_version, says_moment, says_car, says_group, says_call, says_end, StandsFor, IsAnswered, IsSaid, FailsAs}
 use Rattle.snapshot_text.proofs.Steps.{then-inv, then-ok, named-inv, with_item-ok, text_of, car_said-below}
 use Rattle.snapshot_text.proofs.Lists.{times_in, times-first, at_each, AreClear}
-use Rattle.snapshot_text.proofs.Whole.{Held, draft, nothing, sound}
+use Rattle.snapshot_text.proofs.Whole.{draft, nothing, sound}
 
 -- ---- what was accepted was made of lines that stand in front
 

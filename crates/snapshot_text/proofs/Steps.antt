@@ -1,29 +1,27 @@
 -- What is known of a line where a step is known.
-use Rattle.std.proofs.Common.{◌≡◌, ℕ, ◌<◌, ◌≤◌, ◌==◌, ◌&&◌, Bool, true, false, List, [], ◌∷◌, ◌++◌, length, map, Option, None, Some, Result, Ok, Err, refl, sym, ap, ◌∙◌, subst, arith, ◌⊎◌, inl, inr, IfSome}
+use Rattle.std.proofs.Common.{◌≡◌, ℕ, ◌<◌, ◌==◌, ◌&&◌, Bool, true, false, List, length, Option, None, Some, Ok, Err, refl, ap, ◌∙◌, subst, arith, IfSome}
 use Rattle.std.specs.Prelude.{codes, nat_lt, if◌then◌else◌}
-use Rattle.std.specs.List.{position, position_or_len}
-use Rattle.std.proofs.lemmas.Bool.{and_parts, false≢true, ltb-true, eqb-true}
+use Rattle.std.specs.List.{position_or_len}
+use Rattle.std.proofs.lemmas.Bool.{and_parts, ltb-true, eqb-true}
 use Rattle.elevator_model.specs.declared.CarSpec.{CarSpec}
 use Rattle.elevator_model.specs.declared.CarState.{CarState}
-use Rattle.elevator_model.specs.declared.CarState.TheVariants.{Idle, Coming, Moving}
+use Rattle.elevator_model.specs.declared.CarState.TheVariants.{Idle, Coming}
 use Rattle.elevator_model.specs.declared.Aboard.{Aboard}
 use Rattle.elevator_model.specs.declared.Call.{Call}
 use Rattle.elevator_model.specs.declared.Fault.{Fault}
 use Rattle.elevator_model.specs.Building.{Building}
 use Rattle.elevator_model.specs.Snapshot.{IsUnmoving}
-use Rattle.text_sections.specs.declared.codes.TextCode.{TextCode}
-use Rattle.text_sections.specs.declared.codes.TextCode.TheVariants.{NoLineWord, OutOfOrder, NoState, NotInOpening}
+use Rattle.text_sections.specs.declared.codes.TextCode.TheVariants.{NoLineWord, NoState, NotInOpening}
 use Rattle.text_sections.specs.declared.sections.Turn.{Turn}
-use Rattle.text_sections.specs.Codes.{Judged, ◌>>=◌, code_of}
+use Rattle.text_sections.specs.Codes.{Judged, ◌>>=◌}
 use Rattle.text_sections.specs.Words.{is_word, exactly, number}
-use Rattle.text_sections.specs.Sections.{Line, Step, goes_on, is_whole, is_bad}
+use Rattle.text_sections.specs.Sections.{Line, goes_on, is_whole}
 use Rattle.snapshot_text.specs.declared.kinds.Form.{Form}
 use Rattle.snapshot_text.specs.declared.kinds.Form.TheVariants.{Unsaid, SaidIdle, SaidComing, SaidMoving}
 use Rattle.snapshot_text.specs.declared.kinds.LineWord.{LineWord}
 use Rattle.snapshot_text.specs.declared.kinds.LineWord.TheVariants.{Snapshot as SnapshotWord, Now, Car, Aboard as AboardWord, Call as CallWord, End}
-use Rattle.snapshot_text.specs.Words.{short, has_direction, form_of, known, car_named, state_said, car_said, group_of_words, group_said, pin_said, pin_named, call_of_words, call_said, idle_said, coming_said, moving_said}
+use Rattle.snapshot_text.specs.Words.{short, has_direction, form_of, known, car_named, state_said, car_said, group_of_words, group_said, pin_named, call_of_words, call_said}
 use Rattle.snapshot_text.specs.Drafts.{Draft, any_word, in_order, with_item, unless_faulty, ended, after_word, after_judged}
-use Rattle.snapshot_text.specs.Snapshots.{named}
 
 -- ---- steps of a chain
 

@@ -1,5 +1,5 @@
 -- The text of a snapshot, part by part.
-use Rattle.std.proofs.Common.{◌≡◌, ℕ, zero, suc, ◌+◌, ◌<◌, Bool, true, false, not, eqb, ◌&&◌, ◌||◌, List, [], ◌∷◌, ◌++◌, map, length, Option, Some, None, refl, sym, ap, ◌∙◌, subst, arith, append_assoc, append-nil, IfSome, ◌⊎◌, inl, inr}
+use Rattle.std.proofs.Common.{◌≡◌, ℕ, zero, suc, ◌+◌, ◌<◌, Bool, true, false, not, eqb, ◌&&◌, ◌||◌, List, [], ◌∷◌, ◌++◌, map, Option, Some, None, refl, sym, ap, ◌∙◌, subst, arith, append_assoc, IfSome, ◌⊎◌, inl, inr}
 use Rattle.std.specs.List.{flat_map, range_with_len}
 use Rattle.std.proofs.lemmas.Bool.{eqb-true, false≢true}
 use Rattle.std.proofs.lemmas.List.{map-id, flat_map_more}
@@ -9,8 +9,8 @@ use Rattle.call_sets.specs.Counting.{any_below}
 use Rattle.elevator_model.specs.declared.Call.{Call}
 use Rattle.elevator_model.specs.Snapshot.{Snapshot, car_count, call_count, call_of, is_pinned_elsewhere, is_possible, can_take, IsAccepted}
 use Rattle.text_sections.specs.Sections.{Line}
-use Rattle.text_sections.specs.Canonical.{joined, line_text, lines_text}
-use Rattle.snapshot_text.specs.Texts.{head_words, moment_words, car_words, group_words, call_words, call_front, pin_word, end_words, car_lines, group_lines, call_lines, snapshot_lines, snapshot_text}
+use Rattle.text_sections.specs.Canonical.{line_text, lines_text}
+use Rattle.snapshot_text.specs.Texts.{head_words, moment_words, car_words, group_words, call_words, end_words, car_lines, group_lines, call_lines, snapshot_lines, snapshot_text}
 
 -- ---- the pin of an accepted call is a car
 
@@ -78,6 +78,3 @@ parts_are s old =
     ∙ ap (λ (x : List ℕ). cars ++ x) (lines_map (group_words s.building) s.aboard))
     ∙ ap (λ (x : List ℕ). (cars ++ groups) ++ x) (lines_map (call_words s.building) s.calls)) in
     regroup old head moment cars groups calls end ∙ ap (λ (x : List ℕ). old ++ (head ++ (moment ++ x))) (sym middle)
-
-pub call_line : (old front out : List ℕ) (call : Call) (pin : List ℕ) → ((old ++ call_front call) ++ 32 ∷ pin) ++ 10 ∷ [] ≡ old ++ ((call_front call ++ 32 ∷ pin) ++ 10 ∷ [])
-call_line old front out call pin = ap (λ (x : List ℕ). x ++ 10 ∷ []) (append_assoc old (call_front call) (32 ∷ pin)) ∙ append_assoc old (call_front call ++ 32 ∷ pin) (10 ∷ [])

@@ -1,10 +1,9 @@
 -- What lines that make a section say.
-use Rattle.std.proofs.Common.{◌≡◌, ◌≢◌, ℕ, zero, suc, ◌+◌, ◌<◌, ◌≤◌, ◌==◌, ◌&&◌, Bool, true, false, cond, List, [], ◌∷◌, ◌++◌, length, map, take, get_or, set, refl, sym, ap, ◌∙◌, subst, arith, Option, None, Some, Result, Ok, Err, append_assoc, append-nil, length-append, IfSome, IfOk, add-zero, ◌⊎◌, inl, inr}
-use Rattle.std.specs.Prelude.{count_by, codes, if◌then◌else◌, slice_index_or, slice_set}
-use Rattle.std.specs.List.{list_any, list_all}
-use Rattle.std.proofs.lemmas.Bool.{eqb-true, eqb-false, ne_eqb, eq-eqb, false≢true, and_parts, cases_Bool}
-use Rattle.std.proofs.lemmas.List.{map_push, length-map, length_push, get_or-map, get_or-set_same, get_or-set_other}
-use Rattle.std.proofs.lemmas.List.Sums.{AllPass-from_list_all}
+use Rattle.std.proofs.Common.{◌≡◌, ◌≢◌, ℕ, ◌+◌, ◌<◌, ◌≤◌, ◌==◌, Bool, true, false, List, [], ◌∷◌, ◌++◌, length, map, get_or, set, refl, sym, ap, ◌∙◌, subst, arith, Option, None, Some, Ok, Err, append_assoc, append-nil, IfSome, IfOk, add-zero, inl, inr}
+use Rattle.std.specs.Prelude.{codes, if◌then◌else◌}
+use Rattle.std.specs.List.{list_all}
+use Rattle.std.proofs.lemmas.Bool.{eqb-true, ne_eqb, eq-eqb, false≢true, and_parts, cases_Bool}
+use Rattle.std.proofs.lemmas.List.{map_push, length-map, get_or-map, get_or-set_same, get_or-set_other}
 use Rattle.std.proofs.lemmas.List.Folds.{list_all_at}
 use Rattle.std.proofs.Math.ListN.{length-set}
 use Rattle.elevator_model.specs.declared.CarSpec.{CarSpec}
@@ -14,25 +13,24 @@ use Rattle.elevator_model.specs.declared.Call.{Call}
 use Rattle.elevator_model.specs.declared.Fault.{Fault}
 use Rattle.elevator_model.specs.declared.Fault.TheVariants.{IdUsedBefore}
 use Rattle.elevator_model.specs.Building.{Building, IsBuilding, no_car}
-use Rattle.elevator_model.specs.Snapshot.{Snapshot, IsAccepted, IsUnmoving, no_state, no_group, no_call, car_count, state_of}
+use Rattle.elevator_model.specs.Snapshot.{IsAccepted, IsUnmoving, no_state, no_group, no_call}
 use Rattle.elevator_model.specs.Faults.{fault_of_state, fault_of_group, fault_of_call}
 use Rattle.call_state.specs.SnapshotParts.{AreSnapshotParts}
 use Rattle.call_state.proofs.Accepted.{IsClear, IsAccepted-from}
 use Rattle.text_sections.specs.declared.codes.TextCode.TheVariants.{NoLineWord}
-use Rattle.text_sections.specs.declared.sections.Turn.{Turn}
 use Rattle.text_sections.specs.declared.sections.Turn.TheVariants.{Whole}
 use Rattle.text_sections.specs.Codes.{Judged, ◌>>=◌}
-use Rattle.text_sections.specs.Words.{is_word, exactly, number, within}
-use Rattle.text_sections.specs.Sections.{Line, Step, goes_on, is_whole, is_bad}
-use Rattle.text_sections.specs.Canonical.{Goes, Makes, IsMade}
+use Rattle.text_sections.specs.Words.{is_word, exactly, number}
+use Rattle.text_sections.specs.Sections.{Line, goes_on, is_whole}
+use Rattle.text_sections.specs.Canonical.{Goes, Makes}
 use Rattle.text_sections.proofs.NumberLemmas.{is_within}
 use Rattle.lift_text.specs.Numbers.{digits_number}
 use Rattle.text_sections.specs.Words.{word_at}
-use Rattle.snapshot_text.specs.declared.kinds.Due.TheVariants.{Version, Moment, Items}
+use Rattle.snapshot_text.specs.declared.kinds.Due.TheVariants.{Version, Items}
 use Rattle.snapshot_text.specs.declared.kinds.LineWord.{LineWord}
 use Rattle.snapshot_text.specs.declared.kinds.LineWord.TheVariants.{Snapshot as SnapshotWord, Now, Car, Aboard as AboardWord, Call as CallWord, End}
 use Rattle.snapshot_text.specs.Words.{version_said, moment_said, form_of, car_said, group_said, call_said}
-use Rattle.snapshot_text.specs.Drafts.{Draft, blank, snapshot_read, any_word, line_word, has_car, has_all_cars, in_order, cars_in_order, groups_in_order, calls_in_order, outside_opening, with_all_cars, version_in, moment_in, car_in, group_in, call_in, end_in, fault_in_car, fault_in_group, fault_in_call, with_version, with_moment, with_car, with_group, with_call, after_word, after_judged, after}
+use Rattle.snapshot_text.specs.Drafts.{Draft, blank, snapshot_read, any_word, line_word, has_car, has_all_cars, in_order, cars_in_order, groups_in_order, calls_in_order, outside_opening, with_all_cars, version_in, moment_in, car_in, group_in, call_in, end_in, fault_in_car, fault_in_group, fault_in_call, with_version, with_moment, with_car, with_group, with_call, after_word, after}
 use Rattle.snapshot_text.specs.Snapshots.{named, says_version, says_moment, says_car, says_group, says_call, says_end, StandsFor}
 use Rattle.snapshot_text.proofs.Steps.{then-inv, then-ok, in_order-inv, outside-inv, all_cars-inv, with_item-inv, with_item-whole, ended-inv, ended-more, after_judged-inv, after_judged-whole, text_of, any_word-inv, car_said-below, group_said-below, call_said-below, unmoving_in}
 use Rattle.snapshot_text.proofs.Lists.{times_in, times-push, map-without, at_each, nil_of, said_long, AreClear, clear-push, each-push, line_of_car, line_of_group, line_of_call}

@@ -1,9 +1,9 @@
 -- The lines of a snapshot's text stand for it.
-use Rattle.std.proofs.Common.{◌≡◌, ◌≢◌, ℕ, zero, suc, ◌+◌, ◌-◌, ◌*◌, ◌^◌, ◌<◌, ◌≤◌, ◌==◌, ◌&&◌, ◌||◌, not, Bool, true, false, cond, List, [], ◌∷◌, ◌++◌, length, map, get_or, refl, sym, ap, ◌∙◌, subst, arith, Option, None, Some, Result, Ok, Err, append_assoc, append-nil, length-append, add-one, IfSome, lit<, lit≤, ◌⊎◌, inl, inr}
+use Rattle.std.proofs.Common.{◌≡◌, ℕ, zero, suc, ◌+◌, ◌*◌, ◌^◌, ◌<◌, ◌≤◌, ◌==◌, ◌&&◌, not, Bool, true, false, List, [], ◌∷◌, ◌++◌, length, map, get_or, refl, sym, ap, ◌∙◌, subst, arith, Option, None, Some, Result, Ok, Err, length-append, add-one, IfSome, lit<, inl, inr}
 use Rattle.std.specs.Prelude.{codes, decimal, if◌then◌else◌, nat_le, nat_lt, IsTrue}
 use Rattle.std.specs.Str.{bytes_eq}
 use Rattle.std.specs.List.{flat_map, range_with_len, list_all, AllByRecursion}
-use Rattle.std.proofs.lemmas.Bool.{eqb-true, eqb-false, ne_eqb, eq-eqb, false≢true, and_parts, cases_Bool, cases_eq, leb-true, ltb-true}
+use Rattle.std.proofs.lemmas.Bool.{eqb-false, ne_eqb, eq-eqb, false≢true, and_parts, cases_Bool, cases_eq, leb-true, ltb-true}
 use Rattle.std.proofs.lemmas.List.{map_push}
 use Rattle.std.proofs.lemmas.Fmt.{length-decimal-le}
 use Rattle.std.proofs.lemmas.Slice.Eq.{bytes_eq-Decides}
@@ -12,23 +12,23 @@ use Rattle.elevator_model.specs.declared.CarState.{CarState}
 use Rattle.elevator_model.specs.declared.CarState.TheVariants.{Idle, Coming, Moving}
 use Rattle.elevator_model.specs.declared.Aboard.{Aboard}
 use Rattle.elevator_model.specs.declared.Call.{Call}
-use Rattle.elevator_model.specs.Building.{Building, IsBuilding, car_of, floor_count}
-use Rattle.elevator_model.specs.Snapshot.{Snapshot, IsAccepted, IsUnmoving, IsTimely, car_count, call_count, spec_of, state_of, group_of, call_of, floor_of, no_group, no_call, serves}
+use Rattle.elevator_model.specs.Building.{Building, car_of, floor_count}
+use Rattle.elevator_model.specs.Snapshot.{Snapshot, IsUnmoving, IsTimely, car_count, spec_of, state_of, group_of, call_of, floor_of, no_group, no_call, serves}
 use Rattle.lift_text.specs.Numbers.{digits_number}
-use Rattle.lift_text.specs.Reading.{TextState, reading, line_limit}
+use Rattle.lift_text.specs.Reading.{TextState, reading}
 use Rattle.lift_text.specs.declared.faults.TextFault.{TextFault}
-use Rattle.text_sections.specs.declared.codes.TextCode.TheVariants.{NoLineWord, Missing, TooMany, NoNumber, OutOfRange}
-use Rattle.text_sections.specs.Codes.{Judged, ◌>>=◌}
+use Rattle.text_sections.specs.declared.codes.TextCode.TheVariants.{NoLineWord, Missing, TooMany, NoNumber}
+use Rattle.text_sections.specs.Codes.{◌>>=◌}
 use Rattle.text_sections.specs.Words.{is_word, exactly, number, within, word_at}
 use Rattle.text_sections.specs.Sections.{Line}
-use Rattle.text_sections.specs.Canonical.{IsWordByte, IsWord, IsLineOfWords, joined, lines_text, BeginsWith}
+use Rattle.text_sections.specs.Canonical.{IsWordByte, IsWord, IsLineOfWords, BeginsWith}
 use Rattle.text_sections.proofs.NumberLemmas.{number_again, written_number}
 use Rattle.text_sections.proofs.CanonicalLemmas.{decimal_word, lines_again}
 use Rattle.snapshot_text.specs.declared.kinds.Form.{Form}
-use Rattle.snapshot_text.specs.declared.kinds.Form.TheVariants.{Unsaid, SaidIdle, SaidComing, SaidMoving}
-use Rattle.snapshot_text.specs.Words.{short, version_said, moment_said, form_of, has_direction, car_named, state_said, car_said, group_of_words, group_said, pin_said, pin_named, call_of_words, call_said, idle_said, coming_said, moving_said}
-use Rattle.snapshot_text.specs.Snapshots.{named, says_version, says_moment, says_car, says_group, says_call, says_end, StandsFor, IsAnswered, ReadsLines}
-use Rattle.snapshot_text.specs.Texts.{head_words, moment_words, direction, state_words, car_words, group_words, pin_word, call_words, end_words, car_lines, group_lines, call_lines, snapshot_lines, snapshot_text, HasText, behind, ReadsText}
+use Rattle.snapshot_text.specs.declared.kinds.Form.TheVariants.{SaidIdle, SaidComing, SaidMoving}
+use Rattle.snapshot_text.specs.Words.{short, form_of, car_named, state_said, car_said, group_of_words, pin_said, pin_named, call_of_words, moving_said}
+use Rattle.snapshot_text.specs.Snapshots.{says_car, says_group, says_call, StandsFor, ReadsLines}
+use Rattle.snapshot_text.specs.Texts.{head_words, moment_words, state_words, car_words, group_words, pin_word, call_words, end_words, car_lines, group_lines, call_lines, snapshot_lines, snapshot_text, HasText, behind, ReadsText}
 use Rattle.snapshot_text.proofs.CarLemmas.{named_car}
 use Rattle.snapshot_text.proofs.Steps.{then-ok}
 use Rattle.snapshot_text.proofs.Lists.{times_in, times-push}
@@ -153,16 +153,16 @@ group_says b group id same small is own low few early =
     let words : Line = codes "aboard" ∷ decimal id ∷ decimal group.id ∷ decimal group.destination ∷ decimal group.persons ∷ decimal group.boarded ∷ [] in
     let group' : Aboard = record { id = group.id; car = 0; destination = group.destination; persons = group.persons; boarded = group.boarded } in
     let said : group_of_words words ≡ Ok (id, group') =
-        then-ok (short words 1) (λ car. short words 2 >>= λ i. (short words 3 >>= λ destination. (short words 4 >>= λ persons. (number words 5 0 2000000000 >>= λ boarded. Ok (car, record { id = i; car = 0; destination = destination; persons = persons; boarded = boarded })))))
-            id (id, group') (written_number words 1 id 0 4294967295 (omega arith) refl (omega arith) (omega arith))
-        (then-ok (short words 2) (λ i. short words 3 >>= λ destination. (short words 4 >>= λ persons. (number words 5 0 2000000000 >>= λ boarded. Ok (id, record { id = i; car = 0; destination = destination; persons = persons; boarded = boarded }))))
-            group.id (id, group') (written_number words 2 group.id 0 4294967295 (omega arith) refl (omega arith) (omega arith))
-        (then-ok (short words 3) (λ destination. short words 4 >>= λ persons. (number words 5 0 2000000000 >>= λ boarded. Ok (id, record { id = group.id; car = 0; destination = destination; persons = persons; boarded = boarded })))
-            group.destination (id, group') (written_number words 3 group.destination 0 4294967295 (omega arith) refl (omega arith) (omega arith))
-        (then-ok (short words 4) (λ persons. number words 5 0 2000000000 >>= λ boarded. Ok (id, record { id = group.id; car = 0; destination = group.destination; persons = persons; boarded = boarded }))
-            group.persons (id, group') (written_number words 4 group.persons 0 4294967295 (omega arith) refl (omega arith) (omega arith))
-        (then-ok (number words 5 0 2000000000) (λ boarded. Ok (id, record { id = group.id; car = 0; destination = group.destination; persons = group.persons; boarded = boarded }))
-            group.boarded (id, group') (written_number words 5 group.boarded 0 2000000000 (omega arith) refl (omega arith) early) refl)))) in
+    then-ok (short words 1) (λ car. short words 2 >>= λ i. (short words 3 >>= λ destination. (short words 4 >>= λ persons. (number words 5 0 2000000000 >>= λ boarded. Ok (car, record { id = i; car = 0; destination = destination; persons = persons; boarded = boarded })))))
+    id (id, group') (written_number words 1 id 0 4294967295 (omega arith) refl (omega arith) (omega arith))
+    (then-ok (short words 2) (λ i. short words 3 >>= λ destination. (short words 4 >>= λ persons. (number words 5 0 2000000000 >>= λ boarded. Ok (id, record { id = i; car = 0; destination = destination; persons = persons; boarded = boarded }))))
+    group.id (id, group') (written_number words 2 group.id 0 4294967295 (omega arith) refl (omega arith) (omega arith))
+    (then-ok (short words 3) (λ destination. short words 4 >>= λ persons. (number words 5 0 2000000000 >>= λ boarded. Ok (id, record { id = group.id; car = 0; destination = destination; persons = persons; boarded = boarded })))
+    group.destination (id, group') (written_number words 3 group.destination 0 4294967295 (omega arith) refl (omega arith) (omega arith))
+    (then-ok (short words 4) (λ persons. number words 5 0 2000000000 >>= λ boarded. Ok (id, record { id = group.id; car = 0; destination = group.destination; persons = persons; boarded = boarded }))
+    group.persons (id, group') (written_number words 4 group.persons 0 4294967295 (omega arith) refl (omega arith) (omega arith))
+    (then-ok (number words 5 0 2000000000) (λ boarded. Ok (id, record { id = group.id; car = 0; destination = group.destination; persons = group.persons; boarded = boarded }))
+    group.boarded (id, group') (written_number words 5 group.boarded 0 2000000000 (omega arith) refl (omega arith) early) refl)))) in
     then-ok (group_of_words words) (λ s. car_named b s.0 >>= λ c. Ok (record s.1 { car = c })) (id, group') group said (then-ok (car_named b id) (λ c. Ok (record group' { car = c })) group.car group is refl)
 
 group_good : (group : Aboard) (id : ℕ) → id < 2 ^ 32 → group.id < 2 ^ 32 → group.destination < 64 → group.persons ≤ 8 → group.boarded ≤ 2000000000
@@ -216,18 +216,18 @@ call_says b call told own low far few early =
     let words = call_words b call in
     let call' : Call = record { id = call.id; origin = call.origin; destination = call.destination; persons = call.persons; released = call.released; pin = pin_id b call.pin } in
     let said : call_of_words words ≡ Ok call' =
-        then-ok (short words 1) (λ i. short words 2 >>= λ origin. (short words 3 >>= λ destination. (short words 4 >>= λ persons. (number words 5 0 1000000000 >>= λ released. (pin_said words >>= λ pin. Ok (record { id = i; origin = origin; destination = destination; persons = persons; released = released; pin = pin }))))))
-            call.id call' (written_number words 1 call.id 0 4294967295 (omega arith) refl (omega arith) (omega arith))
-        (then-ok (short words 2) (λ origin. short words 3 >>= λ destination. (short words 4 >>= λ persons. (number words 5 0 1000000000 >>= λ released. (pin_said words >>= λ pin. Ok (record { id = call.id; origin = origin; destination = destination; persons = persons; released = released; pin = pin })))))
-            call.origin call' (written_number words 2 call.origin 0 4294967295 (omega arith) refl (omega arith) (omega arith))
-        (then-ok (short words 3) (λ destination. short words 4 >>= λ persons. (number words 5 0 1000000000 >>= λ released. (pin_said words >>= λ pin. Ok (record { id = call.id; origin = call.origin; destination = destination; persons = persons; released = released; pin = pin }))))
-            call.destination call' (written_number words 3 call.destination 0 4294967295 (omega arith) refl (omega arith) (omega arith))
-        (then-ok (short words 4) (λ persons. number words 5 0 1000000000 >>= λ released. (pin_said words >>= λ pin. Ok (record { id = call.id; origin = call.origin; destination = call.destination; persons = persons; released = released; pin = pin })))
-            call.persons call' (written_number words 4 call.persons 0 4294967295 (omega arith) refl (omega arith) (omega arith))
-        (then-ok (number words 5 0 1000000000) (λ released. pin_said words >>= λ pin. Ok (record { id = call.id; origin = call.origin; destination = call.destination; persons = call.persons; released = released; pin = pin }))
-            call.released call' (written_number words 5 call.released 0 1000000000 (omega arith) refl (omega arith) early)
-        (then-ok (pin_said words) (λ pin. Ok (record { id = call.id; origin = call.origin; destination = call.destination; persons = call.persons; released = call.released; pin = pin }))
-            (pin_id b call.pin) call' (pin_reads b call.pin words told refl) refl))))) in
+    then-ok (short words 1) (λ i. short words 2 >>= λ origin. (short words 3 >>= λ destination. (short words 4 >>= λ persons. (number words 5 0 1000000000 >>= λ released. (pin_said words >>= λ pin. Ok (record { id = i; origin = origin; destination = destination; persons = persons; released = released; pin = pin }))))))
+    call.id call' (written_number words 1 call.id 0 4294967295 (omega arith) refl (omega arith) (omega arith))
+    (then-ok (short words 2) (λ origin. short words 3 >>= λ destination. (short words 4 >>= λ persons. (number words 5 0 1000000000 >>= λ released. (pin_said words >>= λ pin. Ok (record { id = call.id; origin = origin; destination = destination; persons = persons; released = released; pin = pin })))))
+    call.origin call' (written_number words 2 call.origin 0 4294967295 (omega arith) refl (omega arith) (omega arith))
+    (then-ok (short words 3) (λ destination. short words 4 >>= λ persons. (number words 5 0 1000000000 >>= λ released. (pin_said words >>= λ pin. Ok (record { id = call.id; origin = call.origin; destination = destination; persons = persons; released = released; pin = pin }))))
+    call.destination call' (written_number words 3 call.destination 0 4294967295 (omega arith) refl (omega arith) (omega arith))
+    (then-ok (short words 4) (λ persons. number words 5 0 1000000000 >>= λ released. (pin_said words >>= λ pin. Ok (record { id = call.id; origin = call.origin; destination = call.destination; persons = persons; released = released; pin = pin })))
+    call.persons call' (written_number words 4 call.persons 0 4294967295 (omega arith) refl (omega arith) (omega arith))
+    (then-ok (number words 5 0 1000000000) (λ released. pin_said words >>= λ pin. Ok (record { id = call.id; origin = call.origin; destination = call.destination; persons = call.persons; released = released; pin = pin }))
+    call.released call' (written_number words 5 call.released 0 1000000000 (omega arith) refl (omega arith) early)
+    (then-ok (pin_said words) (λ pin. Ok (record { id = call.id; origin = call.origin; destination = call.destination; persons = call.persons; released = call.released; pin = pin }))
+    (pin_id b call.pin) call' (pin_reads b call.pin words told refl) refl))))) in
     then-ok (call_of_words words) (λ s. pin_named b s.pin >>= λ pin. Ok (record s { pin = pin })) call' call said (then-ok (pin_named b (pin_id b call.pin)) (λ pin. Ok (record call' { pin = pin })) call.pin call (pin_known b call.pin told) refl)
 
 call_good : (b : Building) (call : Call) → HasPin b call.pin → call.id < 2 ^ 32 → call.origin < 64 → call.destination < 64 → call.persons ≤ 8 → call.released ≤ 1000000000 → IsLineOfWords (call_words b call)

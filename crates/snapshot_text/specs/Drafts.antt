@@ -1,5 +1,5 @@
 -- What each line does to a snapshot section, as far as it was read.
-use Rattle.std.specs.Prelude.{◌≡◌, ℕ, ◌==◌, ◌&&◌, Bool, true, false, List, [], ◌∷◌, ◌++◌, length, map, slice_index_or, slice_set, Option, None, Some, Result, Ok, Err, codes, if◌then◌else◌}
+use Rattle.std.specs.Prelude.{ℕ, ◌==◌, ◌&&◌, Bool, true, false, List, [], ◌∷◌, ◌++◌, length, map, slice_index_or, slice_set, Option, None, Some, Ok, Err, codes, if◌then◌else◌}
 use Rattle.std.specs.List.{list_any, list_all}
 use Rattle.elevator_model.specs.declared.CarSpec.{CarSpec}
 use Rattle.elevator_model.specs.declared.CarState.{CarState}
@@ -11,13 +11,12 @@ use Rattle.elevator_model.specs.Printed as printed
 use Rattle.elevator_model.specs.Building.{Building}
 use Rattle.elevator_model.specs.Snapshot.{Snapshot, no_state}
 use Rattle.elevator_model.specs.Faults.{fault_of_state, fault_of_group, fault_of_call}
-use Rattle.text_sections.specs.declared.codes.TextCode.{TextCode}
 use Rattle.text_sections.specs.declared.codes.TextCode.TheVariants.{NoLineWord, OutOfOrder, NoState, NotInOpening}
 use Rattle.text_sections.specs.declared.sections.Turn.{Turn}
 use Rattle.text_sections.specs.declared.sections.Turn.TheVariants.{Whole}
 use Rattle.text_sections.specs.Codes.{Judged, ◌>>=◌, code_of}
 use Rattle.text_sections.specs.Words.{is_word, exactly}
-use Rattle.text_sections.specs.Sections.{Line, Step, goes_on, is_whole, is_bad, step_of}
+use Rattle.text_sections.specs.Sections.{Line, Step, goes_on, is_whole, is_bad}
 use Rattle.snapshot_text.specs.declared.kinds.Due.{Due}
 use Rattle.snapshot_text.specs.declared.kinds.Due.TheVariants.{Version, Moment, Items}
 use Rattle.snapshot_text.specs.declared.kinds.LineWord.{LineWord}

@@ -2,3 +2,4 @@ pub mod Words
 pub mod Drafts
 pub mod Snapshots
 pub mod Texts
+pub mod Rows

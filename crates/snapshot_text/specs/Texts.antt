@@ -1,6 +1,6 @@
 -- The canonical text of a snapshot: the lines that stand for it, with the cars in the building's order.
 use Rattle.std.specs.Prelude.{◌≡◌, ℕ, ◌+◌, ◌-◌, ◌^◌, ◌≤◌, ◌<◌, Bool, List, [], ◌∷◌, ◌++◌, length, map, decimal, codes, Option, None, Some, IfSome, Result, if◌then◌else◌}
-use Rattle.std.specs.List.{flat_map, range_with_len}
+use Rattle.std.specs.List.{range_with_len}
 use Rattle.elevator_model.specs.declared.CarState.{CarState}
 use Rattle.elevator_model.specs.declared.CarState.TheVariants.{Idle, Coming, Moving}
 use Rattle.elevator_model.specs.declared.Aboard.{Aboard}
@@ -10,7 +10,7 @@ use Rattle.elevator_model.specs.Snapshot.{Snapshot, IsAccepted, car_count, spec_
 use Rattle.lift_text.specs.Reading.{TextState, reading}
 use Rattle.lift_text.specs.declared.faults.TextFault.{TextFault}
 use Rattle.text_sections.specs.Sections.{Line}
-use Rattle.text_sections.specs.Canonical.{joined, line_text, lines_text}
+use Rattle.text_sections.specs.Canonical.{joined, lines_text}
 use Rattle.snapshot_text.specs.Snapshots.{IsAnswered}
 
 -- ---- the words of each line

@@ -1,5 +1,5 @@
 -- What the words of each line of a snapshot section say.
-use Rattle.std.specs.Prelude.{ℕ, ◌==◌, ◌&&◌, ◌||◌, Bool, nat_lt, List, length, Option, None, Some, Result, Ok, Err, codes, if◌then◌else◌}
+use Rattle.std.specs.Prelude.{ℕ, ◌==◌, ◌&&◌, ◌||◌, Bool, nat_lt, length, Option, None, Some, Ok, Err, codes, if◌then◌else◌}
 use Rattle.std.specs.List.{position}
 use Rattle.elevator_model.specs.declared.CarSpec.{CarSpec}
 use Rattle.elevator_model.specs.declared.CarState.{CarState}
@@ -7,7 +7,6 @@ use Rattle.elevator_model.specs.declared.CarState.TheVariants.{Idle, Coming, Mov
 use Rattle.elevator_model.specs.declared.Aboard.{Aboard}
 use Rattle.elevator_model.specs.declared.Call.{Call}
 use Rattle.elevator_model.specs.Building.{Building}
-use Rattle.text_sections.specs.declared.codes.TextCode.{TextCode}
 use Rattle.text_sections.specs.declared.codes.TextCode.TheVariants.{NoLineWord, Missing, UnknownId}
 use Rattle.text_sections.specs.Codes.{Judged, ◌>>=◌}
 use Rattle.text_sections.specs.Words.{is_word, exactly, number}

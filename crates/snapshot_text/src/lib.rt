@@ -11,3 +11,6 @@ mod writing;
 
 pub use reading::{read_opening, read_snapshot};
 pub use writing::write_snapshot;
+
+#[cfg(test)]
+mod tests;

@@ -1,4 +1,4 @@
-use Rattle.std.proofs.Common.{◌≡◌, sym, subst, Ok, Err, Option, IfSome}
+use Rattle.std.proofs.Common.{◌≡◌, sym, subst, Ok, Err, IfSome}
 use Rattle.std.specs.Prelude.{IsSomeAnd}
 use Rattle.lift_text.specs.LineReader.{text, failure}
 use Rattle.lift_text.specs.Reading.{reading}

@@ -1,5 +1,4 @@
 use Rattle.std.proofs.Common.{◌≡◌, refl}
-use Rattle.elevator_model.specs.Snapshot.{spec_of, state_of}
 use Rattle.text_sections.specs.Canonical.{line_text}
 use Rattle.snapshot_text.specs.Texts.{state_words, car_words}
 use Rattle.snapshot_text.proofs.Texts.{wrote_one}
