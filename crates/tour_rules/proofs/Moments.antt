@@ -1,6 +1,6 @@
 -- Moments stay small: each stop takes its time from what is left of a budget, which each stop still to come
 -- and each person still to get on or off has a share of.
-use Rattle.std.proofs.Common.{◌≡◌, ◌==◌, ℕ, zero, suc, ◌+◌, ◌*◌, ◌<◌, ◌≤◌, Bool, true, false, cond, not, ◌&&◌, ◌||◌, eqb, ltb, leb, List, [], ◌∷◌, All, length, count_by, refl, sym, arith, None}
+use Rattle.std.proofs.Common.{◌≡◌, ◌==◌, ℕ, zero, suc, ◌+◌, ◌*◌, ◌<◌, ◌≤◌, Bool, true, false, cond, not, ◌&&◌, ◌||◌, eqb, ltb, leb, length, count_by, refl, sym, arith, None}
 use Rattle.std.proofs.Math.Nat.{mul-le-mul_right}
 use Rattle.std.proofs.lemmas.Bool.{and_parts, and_left, false≢true, ltb-true, not_from_false, le-ltb}
 use Rattle.elevator_model.specs.declared.Stop.{Stop}
@@ -8,7 +8,7 @@ use Rattle.call_sets.specs.Counting.{sum_where, is_among}
 use Rattle.elevator_model.specs.Travel.{time_between}
 use Rattle.elevator_model.specs.Building.{floor_count}
 use Rattle.elevator_model.specs.Snapshot.{Snapshot, IsAccepted, call_count, car_count, call_of, group_of}
-use Rattle.elevator_model.specs.Tours.{Progress, rider_count, persons_of, persons_where, start_of, has_leg, arrival, make_stop, gets_off, stays_on, boards_at, breaks, broken_at, rules_of_stop, none_taken, destination_of, is_aboard, IsFeasible}
+use Rattle.elevator_model.specs.Tours.{Progress, rider_count, persons_of, persons_where, start_of, has_leg, arrival, make_stop, gets_off, stays_on, boards_at, breaks, broken_at, rules_of_stop, none_taken, destination_of, is_aboard}
 use Rattle.tour_rules.specs.Measure.{stops_left}
 use Rattle.call_sets.proofs.BelowTests.{any_below-false}
 use Rattle.tour_rules.proofs.BoundedTests.{AllClear-from}

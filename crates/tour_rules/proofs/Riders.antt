@@ -7,6 +7,7 @@ use Rattle.call_sets.specs.Counting.{any_below, sum_where, has, is_among}
 use Rattle.elevator_model.specs.Snapshot.{Snapshot, call_count, call_of, group_of, floor_of, state_of}
 use Rattle.elevator_model.specs.Tours.{Progress, rider_count, destination_of, persons_of, is_aboard, stays_on, persons_where, boards_at, stop_at, start_of}
 use Rattle.tour_rules.specs.declared.places.Place.{Place}
+use Rattle.tour_rules.specs.Leaving.{is_call_off, AreCarried}
 use Rattle.tour_rules.specs.declared.places.Heading.{Heading}
 use Rattle.tour_rules.specs.declared.places.Heading.TheVariants.{Anywhere}
 use Rattle.tour_rules.specs.Places.{heads, call_in, group_in, call_heads, group_heads, group_carried, rider_heads, carries, Tracks, IsBoardSet}
@@ -116,6 +117,15 @@ rider_after : (s : Snapshot) (c : ℕ) (place : Place) (p : Progress) (g set sta
 rider_after s c place p g set staying new boards r t after is_set in_all =
     elim (cases_Bool (ltb r (call_count s))) [ inl e ↦ (let lt = ltb-true r (call_count s) e in at_call r (call_count s) (has new.carried r) (group_carried s.aboard c new.visited (r - call_count s)) lt ∙ after.carried r ∙ call_after s c place p g staying set boards r t lt (after.staying r lt) (is_set.calls r lt) in_all) | inr e ↦ (let le = ltb-false r (call_count s) e in at_group r (call_count s) (has new.carried r) (group_carried s.aboard c new.visited (r - call_count s)) le ∙ group_after s c place p g set staying new boards r t after is_set le in_all) ]
 
+not_off : (k d : Bool) → (k && not (k && d)) ≡ (k && not d)
+not_off true d = refl
+not_off false d = refl
+
+-- of the calls carried those that do not get off stay
+pub staying-call : (s : Snapshot) (carried g off staying : ℕ) → ((j : ℕ) → j < call_count s → has off j ≡ is_call_off s carried g j) → ((j : ℕ) → has staying j ≡ (has carried j && not (has off j))) → (j : ℕ) → j < call_count s → has staying j ≡ (has carried j && not ((call_in s.calls j).destination == g))
+staying-call s carried g off staying gone stay j lt =
+    stay j ∙ ap (λ (b : Bool). has carried j && not b) (gone j lt) ∙ not_off (has carried j) ((call_in s.calls j).destination == g)
+
 pub Tracks-stop : (s : Snapshot) (c : ℕ) (place : Place) (p : Progress) (g set staying : ℕ) (new : Place) (boards : ℕ → Bool) → Tracks s c place p → IsAfterStop s place g set staying new → IsBoardSet s set boards → Tracks s c new (stop_at s c p g boards)
 Tracks-stop s c place p g set staying new boards t after is_set = record {
   begun = after.begun;
@@ -153,3 +163,15 @@ carried_persons s c place h a b e k p t =
     let split = rider_persons s c place.carried place.visited h in
     let same = tracked_persons s c place p h t in
     omega (arith, e, k, split, same)
+
+-- the riders carried, as the costs of a stop have them
+pub riders_carried : (s : Snapshot) (c : ℕ) (place : Place) (p : Progress) → Tracks s c place p → AreCarried s c place.carried place.visited p
+riders_carried s c place p t =
+    let n = call_count s in
+    record {
+      calls = λ j b. sym (t.carried j (omega (arith, b))) ∙ at_call j n (has place.carried j) (group_carried s.aboard c place.visited (j - n)) b;
+      groups = λ k b. sym (t.carried (n + k) (omega (arith, b))) ∙ at_group (n + k) n (has place.carried (n + k)) (group_carried s.aboard c place.visited (n + k - n)) (omega arith) ∙ ap (group_carried s.aboard c place.visited) (index k);
+    }
+  where
+    index : (k : ℕ) → call_count s + k - call_count s ≡ k
+    index k = omega arith

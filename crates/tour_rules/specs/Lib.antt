@@ -1,3 +1,4 @@
 pub mod Measure
 pub mod Places
 pub mod Leaving
+pub mod Walking

@@ -5,6 +5,7 @@ mod judging;
 pub mod places;
 pub mod riding;
 pub mod rules;
+pub mod walking;
 
 pub use call_sets::{CallSet, FloorSet};
 pub use elevator_model::{Boards, Broken, Rule, Stop, Tour};

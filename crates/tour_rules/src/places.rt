@@ -1,9 +1,10 @@
 //! Where a car is in its tour, for the rules: who has boarded, who is carried.
 
-ghost use Rattle.std.specs.Prelude.{Bool, ◌≡◌, ◌≢◌, ◌<◌, ◌≤◌, ◌+◌, ◌*◌, ◌&&◌, ◌||◌, not, ℕ, ◌==◌, length};
+ghost use Rattle.std.specs.Prelude.{Bool, ◌≡◌, ◌≢◌, ◌<◌, ◌≤◌, ◌+◌, ◌*◌, ◌&&◌, ◌||◌, not, false, ℕ, ◌==◌, length};
 ghost use Rattle.call_sets.specs.Counting.{has, any_below, sum_where};
-ghost use Rattle.elevator_model.specs.Snapshot.{car_count};
-ghost use Rattle.elevator_model.specs.Tours.{Progress, rider_count, destination_of, persons_where, start_of, stop_at};
+ghost use Rattle.elevator_model.specs.Snapshot.{car_count, call_count};
+ghost use Rattle.elevator_model.specs.Tours.{Progress, rider_count, destination_of, persons_where, start_of, stop_at, gets_off};
+ghost use Rattle.tour_rules.specs.Leaving.{is_call_off};
 ghost use Rattle.tour_rules.specs.Places.{heads, call_in, group_in, call_heads, group_heads, Tracks, IsBoardSet};
 
 use call_sets::{CallSet, FloorSet};
@@ -122,19 +123,31 @@ fn persons_of_groups(groups: &[Aboard], car: u32, visited: FloorSet, heading: He
     persons
 }
 
-/// The calls of the set that have another destination than this floor.
-fn calls_staying(calls: &[Call], set: CallSet, floor: u32) -> CallSet
+/// The calls of the set whose destination is this floor.
+fn calls_bound_for(calls: &[Call], set: CallSet, floor: u32) -> CallSet
     requires { length calls.now ≤ 128 }
-    ensures { (j : ℕ) → j < length calls.now
-        → has result j ≡ (has set j && not ((call_in calls.now j).destination == floor)) }
+    ensures each { (j : ℕ) → j < length calls.now
+        → has result j ≡ (has set j && ((call_in calls.now j).destination == floor)) }
+    ensures only { (j : ℕ) → length calls.now ≤ j → has result j ≡ false }
 {
-    let mut staying = CallSet::empty();
+    let mut bound = CallSet::empty();
     for (j, call) in calls.iter().enumerate() {
-        if set.contains(j as u32) && call.destination != floor {
-            staying = staying.with(j as u32);
+        if set.contains(j as u32) && call.destination == floor {
+            bound = bound.with(j as u32);
         }
     }
-    staying
+    bound
+}
+
+/// The calls carried that get off at a next stop at this floor.
+pub fn calls_off(snapshot: &Snapshot, place: &Place, floor: u32) -> CallSet
+    ensures each { (j : ℕ) → j < call_count snapshot.now
+        → has result j ≡ is_call_off snapshot.now place.now.carried floor j }
+    ensures only { (j : ℕ) → call_count snapshot.now ≤ j → has result j ≡ false }
+    ensures off { (c : ℕ) (p : Progress) → Tracks snapshot.now c place.now p
+        → (j : ℕ) → j < call_count snapshot.now → has result j ≡ gets_off snapshot.now p floor j }
+{
+    calls_bound_for(snapshot.calls(), place.carried, floor)
 }
 
 /// Whether a rider with such a destination is carried.
@@ -183,11 +196,12 @@ pub fn at_start(snapshot: &Snapshot, car: u32) -> Place
 /// The car after a stop at this floor, where these calls board.
 pub fn after_stop(snapshot: &Snapshot, place: &Place, floor: u32, boards: CallSet) -> Place
     requires { floor < 64 }
-    ensures { (c : ℕ) (p : Progress) (test : ℕ → Bool) → Tracks snapshot.now c place.now p
+    ensures stops { (c : ℕ) (p : Progress) (test : ℕ → Bool) → Tracks snapshot.now c place.now p
         → IsBoardSet snapshot.now boards test
         → Tracks snapshot.now c result (stop_at snapshot.now c p floor test) }
+    ensures floor { result.floor ≡ floor }
 {
-    let staying = calls_staying(snapshot.calls(), place.carried, floor);
+    let staying = place.carried.minus(calls_off(snapshot, place, floor));
     Place {
         begun: true,
         floor,

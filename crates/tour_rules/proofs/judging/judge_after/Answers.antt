@@ -49,4 +49,4 @@ loop-stop-preserved c =
     let step = judge_step s car taken p c.loop-stop.number xs c.loop-stop.stop-index st c.loop-stop-test.true c.stop-item.is ∙ ap (λ (o : Option Rule). broken_or o c.loop-stop.number (first_broken_from s car taken (make_stop s car p st) (c.loop-stop.number + 1) (drop (c.loop-stop.stop-index + 1) xs))) clear in
     let falls = stop_falls s car p st (stop_alone s car taken p st clear) in
     let room = iv.3 in
-    (make_stop s car p st, c.after_stop-place.ensures car p (boards_at s st) iv.1 (boards_set s c.of_list-boards.result st (listed_boards c.args.snapshot.now c.of_list-boards.result c.stop-item.result c.as_slice.result.now c.calls-accepted.ensures.accepted c.as_slice.ensures c.of_list-boards.ensures)), sym step ∙ iv.2, omega (arith, falls, room))
+    (make_stop s car p st, c.after_stop-place.ensures.stops car p (boards_at s st) iv.1 (boards_set s c.of_list-boards.result st (listed_boards c.args.snapshot.now c.of_list-boards.result c.stop-item.result c.as_slice.result.now c.calls-accepted.ensures.accepted c.as_slice.ensures c.of_list-boards.ensures)), sym step ∙ iv.2, omega (arith, falls, room))
