@@ -1,4 +1,3 @@
-pub mod Stops
 pub mod Short
 pub mod Walked
 pub mod ShortForm
@@ -6,3 +5,4 @@ pub mod Cases
 pub mod Served
 pub mod Judged
 pub mod Moments
+pub mod Told

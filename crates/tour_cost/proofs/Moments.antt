@@ -1,26 +1,15 @@
 -- Moments stay small: each stop takes its time from what is left of a budget, which each stop still to come
 -- and each person still to get on or off has a share of.
-use Rattle.std.proofs.Common.{◌≡◌, ◌==◌, ℕ, zero, suc, ◌+◌, ◌*◌, ◌<◌, ◌≤◌, Bool, true, false, cond, not, ◌&&◌, ◌||◌, eqb, ltb, leb, List, [], ◌∷◌, All, length, count_by, refl, sym, arith, None}
-use Rattle.std.proofs.Math.Nat.{mul-le-mul_right}
-use Rattle.std.proofs.lemmas.Bool.{and_parts, and_left, false≢true, ltb-true, not_from_false, le-ltb}
+use Rattle.std.proofs.Common.{ℕ, ◌<◌, ◌≤◌, List, [], ◌∷◌, All, arith}
 use Rattle.std.proofs.lemmas.List.Elements.{All-cons}
 use Rattle.elevator_model.specs.declared.Stop.{Stop}
 use Rattle.elevator_model.specs.declared.Times.{Times}
-use Rattle.call_sets.specs.Counting.{sum_where, is_among}
-use Rattle.elevator_model.specs.Travel.{time_between}
 use Rattle.elevator_model.specs.Building.{floor_count}
-use Rattle.elevator_model.specs.Snapshot.{Snapshot, IsAccepted, call_count, car_count, call_of, group_of}
-use Rattle.elevator_model.specs.Tours.{Progress, rider_count, persons_of, persons_where, start_of, has_leg, arrival, make_stop, gets_off, stays_on, boards_at, breaks, broken_at, rules_of_stop, none_taken, destination_of, is_aboard, IsFeasible}
+use Rattle.elevator_model.specs.Snapshot.{Snapshot, IsAccepted, car_count}
+use Rattle.elevator_model.specs.Tours.{Progress, start_of, arrival, make_stop, none_taken, IsFeasible}
 use Rattle.elevator_model.specs.Costs.{times_from, timeline_of}
-use Rattle.tour_rules.specs.Measure.{stops_left}
-use Rattle.call_sets.proofs.BelowTests.{any_below-false}
-use Rattle.tour_rules.proofs.BoundedTests.{AllClear-from}
 use Rattle.tour_rules.proofs.Sound.{AllFine}
-use Rattle.tour_rules.proofs.Stops.{fine_floor, stop_falls, stops_few}
-use Rattle.call_sets.proofs.Sums.{sum_where-times, sum_where-none}
-use Rattle.call_sets.proofs.Counts.{count-le}
-use Rattle.tour_rules.proofs.Bounds.{aboard-le}
-use Rattle.tour_rules.proofs.RiderSums.{sum_riders, is_aboard-call, is_aboard-group, persons_of-call, persons_of-group}
+use Rattle.tour_rules.proofs.Stops.{fine_floor}
 use Rattle.tour_cost.proofs.Short.{AllFine-feasible}
 use Rattle.tour_rules.proofs.Moments.{latest, latest_falls, latest_start}
 

@@ -1,5 +1,6 @@
 -- A car after the first stops of a feasible tour.
-use Rattle.std.proofs.Common.{◌≡◌, ℕ, suc, ◌+◌, ◌*◌, ◌<◌, ◌≤◌, Bool, true, false, cond, not, ◌&&◌, ◌||◌, eqb, ltb, List, [], ◌∷◌, ◌++◌, take, drop, length, get_or, refl, sym, ap, ◌∙◌, subst, arith, None, add-one, drop-cons, append_assoc}
+use Rattle.std.proofs.Common.{◌≡◌, ℕ, suc, ◌+◌, ◌*◌, ◌<◌, ◌≤◌, Bool, true, false, cond, not, ◌&&◌, ◌||◌, eqb, ltb, List, [], ◌∷◌, ◌++◌, take, drop, length, get_or, refl, sym, ap, ◌∙◌, subst, arith, None, add-one, drop-cons, append_assoc, append-nil}
+use Rattle.std.proofs.Math.ListN.{drop_of_length-le}
 use Rattle.std.proofs.lemmas.List.{take_more, take_all}
 use Rattle.std.proofs.lemmas.Bool.{and_parts, false≢true, ltb-true, not-false, both_ways}
 use Rattle.tour_rules.proofs.RiderSums.{is_aboard-call}
@@ -8,19 +9,20 @@ use Rattle.elevator_model.specs.declared.Times.{Times}
 use Rattle.call_sets.specs.Counting.{has, is_among}
 use Rattle.elevator_model.specs.Building.{floor_count}
 use Rattle.elevator_model.specs.Snapshot.{Snapshot, call_count, call_of, car_count, serves, is_possible, IsAccepted}
-use Rattle.elevator_model.specs.Tours.{Progress, is_aboard, boards_at, make_stop, after_stops, start_of, breaks, broken_at, none_taken, rules_of_stop, is_call_for, IsFeasible, destination_of, arrival}
-use Rattle.elevator_model.specs.Costs.{settled_cost, times_from}
+use Rattle.elevator_model.specs.Tours.{Progress, is_aboard, boards_at, make_stop, stop_at, after_stops, start_of, breaks, broken_at, none_taken, rules_of_stop, is_call_for, IsFeasible, destination_of, arrival}
+use Rattle.elevator_model.specs.Costs.{settled_cost, times_from, timeline_of}
 use Rattle.call_sets.proofs.ListTests.{list_any-false}
 use Rattle.tour_rules.proofs.BoundedTests.{AllClear-from}
 use Rattle.tour_rules.proofs.Sound.{AllFine, after_stops-push}
-use Rattle.tour_cost.specs.declared.rides.Ride.{Ride}
-use Rattle.tour_cost.specs.Rides.{Tracks, IsStopOf}
+use Rattle.tour_rules.specs.declared.walking.Walker.{Walker}
+use Rattle.tour_rules.specs.Places.{IsBoardSet}
+use Rattle.tour_rules.specs.Walking.{Walks}
 use Rattle.tour_rules.specs.Leaving.{AreCarried, IsKept, AreBoarded, AreEarly, leaving_cost}
 use Rattle.tour_cost.proofs.Short.{AllFine-feasible, calls-le, stops-le}
 use Rattle.tour_cost.specs.Served.{calls_served}
 use Rattle.tour_cost.proofs.Served.{tour_cost-each}
 use Rattle.tour_rules.proofs.GettingOff.{boards_at-call}
-use Rattle.tour_cost.proofs.Stops.{riders_carried}
+use Rattle.tour_rules.proofs.Riders.{riders_carried, boards_set}
 use Rattle.tour_rules.proofs.Settled.{IsKept-start, IsKept-stop, settled_more, settled_start}
 use Rattle.tour_rules.proofs.Bounds.{either-le, AreEarly-start, AreEarly-stop, settled-le}
 
@@ -28,10 +30,10 @@ use Rattle.tour_rules.proofs.Bounds.{either-le, AreEarly-start, AreEarly-stop, s
 abbrev pub progress : Snapshot → ℕ → List Stop → ℕ → Progress
 progress s c tour i = after_stops s c (start_of s c) (take i tour)
 
-pub record IsWalked (s : Snapshot) (c : ℕ) (tour : List Stop) (i : ℕ) (ride : Ride) : Type 0 where
-  pub tracks : Tracks s c ride (progress s c tour i)
-  pub floor : ride.floor < floor_count s.building
-  pub leaves : ride.leaves ≤ 1100000000 + 150000000 * i
+pub record IsWalked (s : Snapshot) (c : ℕ) (tour : List Stop) (i : ℕ) (walker : Walker) : Type 0 where
+  pub walks : Walks s c walker (progress s c tour i)
+  pub floor : walker.place.floor < floor_count s.building
+  pub leaves : walker.leaves ≤ 1100000000 + 150000000 * i
   pub fine : AllFine s c (progress s c tour i) (drop i tour)
 
 pub progress-more : (s : Snapshot) (c : ℕ) (tour : List Stop) (i : ℕ) (stop : Stop) → i < length tour → stop ≡ get_or tour i stop → progress s c tour (i + 1) ≡ make_stop s c (progress s c tour i) stop
@@ -41,16 +43,21 @@ progress-more s c tour i stop h e =
 pub rest-more : (tour : List Stop) (i : ℕ) (stop : Stop) → i < length tour → stop ≡ get_or tour i stop → drop i tour ≡ stop ∷ drop (i + 1) tour
 rest-more tour i stop h e = drop-cons tour i stop h ∙ ap (λ (x : Stop). x ∷ drop (suc i) tour) (sym e) ∙ ap (λ (n : ℕ). stop ∷ drop n tour) (sym (add-one i))
 
-pub IsWalked-start : (s : Snapshot) (c : ℕ) (tour : List Stop) (ride : Ride) → IsFeasible s c tour → Tracks s c ride (start_of s c) → ride.floor < floor_count s.building → ride.leaves ≤ 1100000000 → IsWalked s c tour 0 ride
-IsWalked-start s c tour ride feasible tracks floor leaves = record {
-  tracks = tracks;
+pub IsWalked-start : (s : Snapshot) (c : ℕ) (tour : List Stop) (walker : Walker) → IsFeasible s c tour → Walks s c walker (start_of s c) → walker.place.floor < floor_count s.building → walker.leaves ≤ 1100000000 → IsWalked s c tour 0 walker
+IsWalked-start s c tour walker feasible walks floor leaves = record {
+  walks = walks;
   floor = floor;
   leaves = omega arith;
   fine = AllFine-feasible s c (start_of s c) 1 tour feasible;
 }
 
-pub fine-here : (s : Snapshot) (c : ℕ) (tour : List Stop) (i : ℕ) (ride : Ride) (stop : Stop) → IsWalked s c tour i ride → i < length tour → stop ≡ get_or tour i stop → AllFine s c (progress s c tour i) (stop ∷ drop (i + 1) tour)
-fine-here s c tour i ride stop walked h e = subst (λ (stops : List Stop). AllFine s c (progress s c tour i) stops) (rest-more tour i stop h e) walked.fine
+pub fine-here : (s : Snapshot) (c : ℕ) (tour : List Stop) (i : ℕ) (walker : Walker) (stop : Stop) → IsWalked s c tour i walker → i < length tour → stop ≡ get_or tour i stop → AllFine s c (progress s c tour i) (stop ∷ drop (i + 1) tour)
+fine-here s c tour i walker stop walked h e = subst (λ (stops : List Stop). AllFine s c (progress s c tour i) stops) (rest-more tour i stop h e) walked.fine
+
+-- a floor of the building, where calls of the snapshot board
+pub record IsStopOf (s : Snapshot) (stop : Stop) : Type 0 where
+  pub floor : stop.floor < floor_count s.building
+  pub boards : (j : ℕ) → is_among j stop.boards ≡ true → j < call_count s
 
 pub stop_of : (s : Snapshot) (c : ℕ) (p : Progress) (stop : Stop) → broken_at s c none_taken p stop ≡ None → IsStopOf s stop
 stop_of s c p stop fine =
@@ -60,12 +67,12 @@ stop_of s c p stop fine =
       boards = λ j among. ltb-true j (call_count s) (and_parts (ltb j (call_count s)) (is_possible s c (call_of s j)) (not-false (is_call_for s c j) (list_any-false (λ k. not (is_call_for s c k)) stop.boards j clear.1.1.1.1.1.1.0 among))).0;
     }
 
-pub IsWalked-stop : (s : Snapshot) (c : ℕ) (tour : List Stop) (i : ℕ) (ride next : Ride) (stop : Stop) → IsWalked s c tour i ride → i < length tour → stop ≡ get_or tour i stop → Tracks s c next (make_stop s c (progress s c tour i) stop) → next.floor ≡ stop.floor → next.leaves ≤ ride.leaves + 150000000 → IsWalked s c tour (i + 1) next
-IsWalked-stop s c tour i ride next stop walked h e tracks floor leaves =
-    let fine = fine-here s c tour i ride stop walked h e in
+pub IsWalked-stop : (s : Snapshot) (c : ℕ) (tour : List Stop) (i : ℕ) (walker next : Walker) (stop : Stop) → IsWalked s c tour i walker → i < length tour → stop ≡ get_or tour i stop → Walks s c next (make_stop s c (progress s c tour i) stop) → next.place.floor ≡ stop.floor → next.leaves ≤ walker.leaves + 150000000 → IsWalked s c tour (i + 1) next
+IsWalked-stop s c tour i walker next stop walked h e walks floor leaves =
+    let fine = fine-here s c tour i walker stop walked h e in
     let same = sym (progress-more s c tour i stop h e) in
     record {
-      tracks = subst (λ (p : Progress). Tracks s c next p) same tracks;
+      walks = subst (λ (p : Progress). Walks s c next p) same walks;
       floor = (let below = (stop_of s c (progress s c tour i) stop fine.0).floor in omega (arith, below, floor));
       leaves = (let before = walked.leaves in omega (arith, before, leaves));
       fine = subst (λ (p : Progress). AllFine s c p (drop (i + 1) tour)) same fine.1;
@@ -129,45 +136,59 @@ times_of arrival opened leaves = record { arrival = arrival; opened = opened; le
 
 -- ---- along the loop over the stops
 
-pub here-fine : (s : Snapshot) (c : ℕ) (tour items : List Stop) (i : ℕ) (ride : Ride) (stop : Stop) → IsWalked s c tour i ride → items ≡ tour → i < length items → stop ≡ get_or items i stop → broken_at s c none_taken (progress s c tour i) stop ≡ None
-here-fine s c tour items i ride stop walked same h e =
+-- the walker makes the stop, since the set has the calls that board there
+pub makes_stop : (s : Snapshot) (c : ℕ) (walker next : Walker) (stop : Stop) (boards : ℕ) → ((p : Progress) (test : ℕ → Bool) → Walks s c walker p → IsBoardSet s boards test → Walks s c next (stop_at s c p stop.floor test)) → ((j : ℕ) → has boards j ≡ is_among j stop.boards) → (p : Progress) → Walks s c walker p → Walks s c next (make_stop s c p stop)
+makes_stop s c walker next stop boards stops boards_are p w = stops p (boards_at s stop) w (boards_set s boards stop (λ j _. boards_are j))
+
+pub here-fine : (s : Snapshot) (c : ℕ) (tour items : List Stop) (i : ℕ) (walker : Walker) (stop : Stop) → IsWalked s c tour i walker → items ≡ tour → i < length items → stop ≡ get_or items i stop → broken_at s c none_taken (progress s c tour i) stop ≡ None
+here-fine s c tour items i walker stop walked same h e =
     let P : List Stop → Type 0 = λ xs. (i < length xs) × (stop ≡ get_or xs i stop) in
     let at = subst P same (h, e) in
-    (fine-here s c tour i ride stop walked at.0 at.1).0
+    (fine-here s c tour i walker stop walked at.0 at.1).0
 
-pub here-stop : (s : Snapshot) (c : ℕ) (tour items : List Stop) (i : ℕ) (ride : Ride) (stop : Stop) → IsWalked s c tour i ride → items ≡ tour → i < length items → stop ≡ get_or items i stop → IsStopOf s stop
-here-stop s c tour items i ride stop walked same h e = stop_of s c (progress s c tour i) stop (here-fine s c tour items i ride stop walked same h e)
+pub here-stop : (s : Snapshot) (c : ℕ) (tour items : List Stop) (i : ℕ) (walker : Walker) (stop : Stop) → IsWalked s c tour i walker → items ≡ tour → i < length items → stop ≡ get_or items i stop → IsStopOf s stop
+here-stop s c tour items i walker stop walked same h e = stop_of s c (progress s c tour i) stop (here-fine s c tour items i walker stop walked same h e)
 
-pub here-early : (s : Snapshot) (c : ℕ) (tour items : List Stop) (i : ℕ) (ride : Ride) → IsAccepted s → c < car_count s → IsFeasible s c tour → IsWalked s c tour i ride → items ≡ tour → i < length items → ride.leaves + 150000000 ≤ 100000000000
-here-early s c tour items i ride a b feasible walked same h =
+-- the calls that board there, as the code reads them
+pub here-calls : (s : Snapshot) (stop : Stop) (boards : List ℕ) → IsAccepted s → IsStopOf s stop → boards ≡ stop.boards → (j : ℕ) → is_among j boards ≡ true → j < 128
+here-calls s stop boards a of same j among =
+    let below = of.boards j (subst (λ (xs : List ℕ). is_among j xs ≡ true) same among) in
+    let few = calls-le s a in
+    omega (arith, below, few)
+
+pub here-boards : (stop : Stop) (boards : List ℕ) (set : ℕ) → boards ≡ stop.boards → ((j : ℕ) → has set j ≡ is_among j boards) → (j : ℕ) → has set j ≡ is_among j stop.boards
+here-boards stop boards set same h j = h j ∙ ap (is_among j) same
+
+pub here-early : (s : Snapshot) (c : ℕ) (tour items : List Stop) (i : ℕ) (walker : Walker) → IsAccepted s → c < car_count s → IsFeasible s c tour → IsWalked s c tour i walker → items ≡ tour → i < length items → walker.leaves + 150000000 ≤ 100000000000
+here-early s c tour items i walker a b feasible walked same h =
     let few = stops-le s c tour a b feasible in
     let long = ap length same in
     let leaves = walked.leaves in
     omega (arith, few, long, leaves)
 
-pub next-walked : (s : Snapshot) (c : ℕ) (tour items : List Stop) (i : ℕ) (ride next : Ride) (stop : Stop) → IsWalked s c tour i ride → items ≡ tour → i < length items → stop ≡ get_or items i stop → ((p : Progress) → Tracks s c ride p → Tracks s c next (make_stop s c p stop)) → next.floor ≡ stop.floor → next.leaves ≤ ride.leaves + 150000000 → IsWalked s c tour (i + 1) next
-next-walked s c tour items i ride next stop walked same h e stops floor leaves =
+pub next-walked : (s : Snapshot) (c : ℕ) (tour items : List Stop) (i : ℕ) (walker next : Walker) (stop : Stop) → IsWalked s c tour i walker → items ≡ tour → i < length items → stop ≡ get_or items i stop → ((p : Progress) → Walks s c walker p → Walks s c next (make_stop s c p stop)) → next.place.floor ≡ stop.floor → next.leaves ≤ walker.leaves + 150000000 → IsWalked s c tour (i + 1) next
+next-walked s c tour items i walker next stop walked same h e stops floor leaves =
     let P : List Stop → Type 0 = λ xs. (i < length xs) × (stop ≡ get_or xs i stop) in
     let at = subst P same (h, e) in
-    IsWalked-stop s c tour i ride next stop walked at.0 at.1 (stops (progress s c tour i) walked.tracks) floor leaves
+    IsWalked-stop s c tour i walker next stop walked at.0 at.1 (stops (progress s c tour i) walked.walks) floor leaves
 
-pub next-settled : (s : Snapshot) (c : ℕ) (tour items : List Stop) (i : ℕ) (ride next : Ride) (stop : Stop) (before after : List ℕ) (cost leaving boards : ℕ) → IsAccepted s → IsWalked s c tour i ride → items ≡ tour → i < length items → stop ≡ get_or items i stop → ((p : Progress) → Tracks s c ride p → Tracks s c next (make_stop s c p stop)) → next.floor ≡ stop.floor → next.opened ≤ 100000000000 → IsSettled s c (progress s c tour i) before cost → ((j : ℕ) → has boards j ≡ is_among j stop.boards) → AreNoted boards next.opened before after → ((p : Progress) → AreCarried s c ride.carried ride.visited p → IsKept s c p → AreBoarded s p before → leaving ≡ leaving_cost s p next.floor next.opened) → IsSettled s c (progress s c tour (i + 1)) after (cost + leaving)
-next-settled s c tour items i ride next stop before after cost leaving boards a walked same h e stops floor early settled boards_are noted_are leaves =
+pub next-settled : (s : Snapshot) (c : ℕ) (tour items : List Stop) (i : ℕ) (walker next : Walker) (stop : Stop) (before after : List ℕ) (cost leaving boards : ℕ) → IsAccepted s → IsWalked s c tour i walker → items ≡ tour → i < length items → stop ≡ get_or items i stop → ((p : Progress) → Walks s c walker p → Walks s c next (make_stop s c p stop)) → next.opened ≤ 100000000000 → IsSettled s c (progress s c tour i) before cost → ((j : ℕ) → has boards j ≡ is_among j stop.boards) → AreNoted boards next.opened before after → ((p : Progress) → AreCarried s c walker.place.carried walker.place.visited p → IsKept s c p → AreBoarded s p before → leaving ≡ leaving_cost s p stop.floor next.opened) → IsSettled s c (progress s c tour (i + 1)) after (cost + leaving)
+next-settled s c tour items i walker next stop before after cost leaving boards a walked same h e stops early settled boards_are noted_are leaves =
     let P : List Stop → Type 0 = λ xs. (i < length xs) × (stop ≡ get_or xs i stop) in
     let at = subst P same (h, e) in
     let p = progress s c tour i in
-    let fine = here-fine s c tour items i ride stop walked same h e in
-    let tracks = stops p walked.tracks in
-    let left = leaves p (riders_carried s c ride p walked.tracks) settled.kept settled.boarded ∙ ap (λ (f : ℕ). leaving_cost s p f next.opened) floor in
-    subst (λ (q : Progress). IsSettled s c q after (cost + leaving)) (sym (progress-more s c tour i stop at.0 at.1)) (IsSettled-stop s c p stop before after cost leaving boards next.opened a settled fine tracks.opened early boards_are noted_are left)
+    let fine = here-fine s c tour items i walker stop walked same h e in
+    let walks = stops p walked.walks in
+    let left = leaves p (riders_carried s c walker.place p walked.walks.place) settled.kept settled.boarded in
+    subst (λ (q : Progress). IsSettled s c q after (cost + leaving)) (sym (progress-more s c tour i stop at.0 at.1)) (IsSettled-stop s c p stop before after cost leaving boards next.opened a settled fine walks.opened early boards_are noted_are left)
 
-pub next-small : (s : Snapshot) (c : ℕ) (tour items : List Stop) (i : ℕ) (ride next : Ride) (stop : Stop) (before : List ℕ) (cost leaving : ℕ) → IsAccepted s → c < car_count s → IsWalked s c tour i ride → items ≡ tour → i < length items → stop ≡ get_or items i stop → ((p : Progress) → Tracks s c ride p → Tracks s c next (make_stop s c p stop)) → next.floor ≡ stop.floor → next.opened ≤ 100000000000 → IsSettled s c (progress s c tour i) before cost → ((p : Progress) → AreCarried s c ride.carried ride.visited p → IsKept s c p → AreBoarded s p before → leaving ≡ leaving_cost s p next.floor next.opened) → cost + leaving ≤ 460800000000000000
-next-small s c tour items i ride next stop before cost leaving a b walked same h e stops floor early settled leaves =
+pub next-small : (s : Snapshot) (c : ℕ) (tour items : List Stop) (i : ℕ) (walker next : Walker) (stop : Stop) (before : List ℕ) (cost leaving : ℕ) → IsAccepted s → c < car_count s → IsWalked s c tour i walker → items ≡ tour → i < length items → stop ≡ get_or items i stop → ((p : Progress) → Walks s c walker p → Walks s c next (make_stop s c p stop)) → next.opened ≤ 100000000000 → IsSettled s c (progress s c tour i) before cost → ((p : Progress) → AreCarried s c walker.place.carried walker.place.visited p → IsKept s c p → AreBoarded s p before → leaving ≡ leaving_cost s p stop.floor next.opened) → cost + leaving ≤ 460800000000000000
+next-small s c tour items i walker next stop before cost leaving a b walked same h e stops early settled leaves =
     let p = progress s c tour i in
-    let fine = here-fine s c tour items i ride stop walked same h e in
-    let tracks = stops p walked.tracks in
-    let left = leaves p (riders_carried s c ride p walked.tracks) settled.kept settled.boarded ∙ ap (λ (f : ℕ). leaving_cost s p f next.opened) floor in
-    settled_more-le s c p stop before cost leaving next.opened a b settled fine tracks.opened early left
+    let fine = here-fine s c tour items i walker stop walked same h e in
+    let walks = stops p walked.walks in
+    let left = leaves p (riders_carried s c walker.place p walked.walks.place) settled.kept settled.boarded in
+    settled_more-le s c p stop before cost leaving next.opened a b settled fine walks.opened early left
 
 pub settled-small : (s : Snapshot) (c : ℕ) (p : Progress) (moments : List ℕ) (cost : ℕ) → IsAccepted s → c < car_count s → IsSettled s c p moments cost → cost ≤ 460800000000000000
 settled-small s c p moments cost a b is = let most = settled-le s c p a b is.kept is.early in let same = is.settled in omega (arith, most, same)
@@ -175,18 +196,23 @@ settled-small s c p moments cost a b is = let most = settled-le s c p a b is.kep
 times_at : (a o l x y z : ℕ) → a ≡ x → o ≡ y → l ≡ z → times_of a o l ≡ times_of x y z
 times_at a o l x y z e h k = ap (λ (n : ℕ). times_of n o l) e ∙ ap (λ (n : ℕ). times_of x n l) h ∙ ap (λ (n : ℕ). times_of x y n) k
 
-pub next-times : (s : Snapshot) (c : ℕ) (tour items : List Stop) (i : ℕ) (ride next : Ride) (stop : Stop) (before after whole : List Times) (at : ℕ) → IsWalked s c tour i ride → items ≡ tour → i < length items → stop ≡ get_or items i stop → ((p : Progress) → Tracks s c ride p → Tracks s c next (make_stop s c p stop)) → ((p : Progress) → Tracks s c ride p → at ≡ arrival s c p stop.floor) → after ≡ before ++ times_of at next.opened next.leaves ∷ [] → before ++ times_from s c (progress s c tour i) (drop i tour) ≡ whole → after ++ times_from s c (progress s c tour (i + 1)) (drop (i + 1) tour) ≡ whole
-next-times s c tour items i ride next stop before after whole at walked same h e stops arrives pushed so_far =
+pub next-times : (s : Snapshot) (c : ℕ) (tour items : List Stop) (i : ℕ) (walker next : Walker) (stop : Stop) (before after whole : List Times) (at : ℕ) → IsWalked s c tour i walker → items ≡ tour → i < length items → stop ≡ get_or items i stop → ((p : Progress) → Walks s c walker p → Walks s c next (make_stop s c p stop)) → ((p : Progress) → Walks s c walker p → at ≡ arrival s c p stop.floor) → after ≡ before ++ times_of at next.opened next.leaves ∷ [] → before ++ times_from s c (progress s c tour i) (drop i tour) ≡ whole → after ++ times_from s c (progress s c tour (i + 1)) (drop (i + 1) tour) ≡ whole
+next-times s c tour items i walker next stop before after whole at walked same h e stops arrives pushed so_far =
     let P : List Stop → Type 0 = λ xs. (i < length xs) × (stop ≡ get_or xs i stop) in
     let here = subst P same (h, e) in
     let p = progress s c tour i in
     let after_stop = make_stop s c p stop in
-    let tracks = stops p walked.tracks in
+    let walks = stops p walked.walks in
     let rest = times_from s c (progress s c tour (i + 1)) (drop (i + 1) tour) in
-    let times = times_at at next.opened next.leaves (arrival s c p stop.floor) after_stop.opened after_stop.leaves (arrives p walked.tracks) tracks.opened tracks.leaves in
+    let times = times_at at next.opened next.leaves (arrival s c p stop.floor) after_stop.opened after_stop.leaves (arrives p walked.walks) walks.opened walks.leaves in
     ap (λ (xs : List Times). xs ++ rest) pushed ∙ append_assoc before (times_of at next.opened next.leaves ∷ []) rest ∙ ap (λ (t : Times). before ++ t ∷ rest) times ∙ ap (λ (q : Progress). before ++ times_of (arrival s c p stop.floor) after_stop.opened after_stop.leaves ∷ times_from s c q (drop (i + 1) tour)) (progress-more s c tour i stop here.0 here.1) ∙ ap (λ (xs : List Stop). before ++ times_from s c p xs) (sym (rest-more tour i stop here.0 here.1)) ∙ so_far
 
 -- after all stops
+pub all-times : (s : Snapshot) (c : ℕ) (tour items : List Stop) (i : ℕ) (times : List Times) → items ≡ tour → length items ≤ i → times ++ times_from s c (progress s c tour i) (drop i tour) ≡ timeline_of s c tour → times ≡ timeline_of s c tour
+all-times s c tour items i times same h so_far =
+    let past = drop_of_length-le tour (let long = ap length same in omega (arith, h, long)) in
+    sym (append-nil times) ∙ ap (λ (l : List Stop). times ++ times_from s c (progress s c tour i) l) (sym past) ∙ so_far
+
 pub progress-all : (s : Snapshot) (c : ℕ) (tour items : List Stop) (i : ℕ) → items ≡ tour → length items ≤ i → progress s c tour i ≡ after_stops s c (start_of s c) tour
 progress-all s c tour items i same h = ap (after_stops s c (start_of s c)) (take_all i tour (let long = ap length same in omega (arith, long)))
 

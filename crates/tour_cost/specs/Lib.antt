@@ -1,4 +1,4 @@
-pub mod Rides
 pub mod ShortForm
 pub mod Served
 pub mod Unserved
+pub mod Entries

@@ -8,17 +8,19 @@ ghost use Rattle.elevator_model.specs.Costs.{cost_of};
 ghost use Rattle.tour_cost.specs.Served.{calls_served};
 ghost use Rattle.tour_cost.specs.ShortForm.{short_cost_of};
 
-use crate::rides::{self, Ride};
+use crate::plans::calls_at;
 use call_sets::CallSet;
 use call_state::Snapshot;
 use elevator_model::{MOST_CALL_COST, MOST_CALLS, MOST_COST, MOST_GROUPS_COST, Tour};
 use tour_rules::riding::cost_of_leaving;
+use tour_rules::walking::Walker;
 
 /// The cost of a feasible tour of the car: that of the calls that it takes and of the groups aboard.
 ///
 /// A call's persons pay for each ms from its release to open doors where they board, once more for each ms
 /// of it past the patience, and for each ms from there to open doors where they get off. A group aboard
-/// pays for the ride alone. In a building of version 1, which knows no patience, that is the short form. Each call costs at most 2.4 * 10^15, and the groups at most 6.4 * 10^15.
+/// pays for the ride alone. In a building of version 1, which knows no patience, that is the short form.
+/// Each call costs at most 2.4 * 10^15, and the groups at most 6.4 * 10^15.
 pub fn cost(snapshot: &Snapshot, car: u32, tour: &Tour) -> u64
     requires car { car < car_count snapshot.now }
     requires feasible { IsFeasible snapshot.now car tour.now }
@@ -29,23 +31,23 @@ pub fn cost(snapshot: &Snapshot, car: u32, tour: &Tour) -> u64
     ensures short { snapshot.now.building.version ≡ 1
         → result ≡ short_cost_of snapshot.now car tour.now }
 {
-    let mut ride = Ride::start(snapshot, car);
+    let mut walker = Walker::start(snapshot, car);
     let mut boarded = no_moments();
     let mut cost = 0;
     for stop in tour.stops() {
-        let next = ride.make_stop(snapshot, car, stop);
+        let boards = calls_at(stop.boards.as_slice());
+        let next = walker.make_stop(snapshot, car, stop.floor, boards);
         cost += cost_of_leaving(
             snapshot,
             car,
-            ride.carried,
-            ride.visited,
-            next.floor,
+            walker.place.carried,
+            walker.place.visited,
+            stop.floor,
             next.opened,
             &boarded,
         );
-        let boards = rides::calls_boarding(snapshot, stop);
         note_boarding(&mut boarded, boards, next.opened);
-        ride = next;
+        walker = next;
     }
     cost
 }

@@ -6,7 +6,6 @@
 
 mod costs;
 mod plans;
-mod rides;
 mod timelines;
 
 pub use costs::cost;

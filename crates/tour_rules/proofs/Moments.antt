@@ -131,4 +131,3 @@ latest_start s c a lt early =
     let none = sum_where-none (call_count s) (λ j. false) (λ j. (call_of s j).persons) (λ j below. refl) in
     let aboard = aboard-le s c a lt in
     omega (arith, stops, calls, waits, every, rides, none, aboard, early)
-
