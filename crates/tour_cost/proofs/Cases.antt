@@ -1,12 +1,13 @@
 -- Two worked tours are feasible: two calls board together, or one after the other. The plan that has the
--- first alone is feasible too.
+-- first alone is feasible too. Entries of a worked timeline are those of their stops.
 use Rattle.std.proofs.Common.{◌≡◌, ℕ, List, [], ◌∷◌, refl, sym, subst, inl, inr, arith}
 use Rattle.std.proofs.lemmas.Bool.{cases_eq}
 use Rattle.elevator_model.specs.declared.Stop.{Stop}
 use Rattle.elevator_model.specs.Snapshot.{Snapshot}
 use Rattle.elevator_model.specs.Tours.{IsFeasible}
 use Rattle.elevator_model.specs.Plans.{IsFeasiblePlan, tour_of, times_served}
-use Rattle.elevator_model.specs.Worked.{together, two_ways, stop}
+use Rattle.elevator_model.specs.Worked.{together, two_ways, riders_down, stop, times}
+use Rattle.tour_cost.specs.Entries.{IsEntry}
 
 abbrev pub boarding : List Stop
 boarding = stop 0 (0 ∷ 1 ∷ []) ∷ stop 1 [] ∷ []
@@ -40,3 +41,14 @@ plan_alone = record {
 pub plan_feasible : (s : Snapshot) (plan : List (List Stop)) → s ≡ together → plan ≡ boarding ∷ [] → IsFeasiblePlan s plan
 plan_feasible s plan same_snapshot same_plan =
     subst (λ (x : Snapshot). IsFeasiblePlan x plan) (sym same_snapshot) (subst (λ (p : List (List Stop)). IsFeasiblePlan together p) (sym same_plan) plan_alone)
+
+-- ---- a worked timeline
+
+abbrev downward : List Stop
+downward = stop 0 [] ∷ stop 1 (0 ∷ 1 ∷ []) ∷ stop 3 [] ∷ []
+
+second_entry : IsEntry riders_down 0 downward 1 (stop 1 (0 ∷ 1 ∷ [])) (times 21250 22350 23950)
+second_entry = record { arrival = refl; opened = refl; leaves = refl }
+
+last_entry : IsEntry riders_down 0 downward 2 (stop 3 []) (times 30492 31592 34992)
+last_entry = record { arrival = refl; opened = refl; leaves = refl }
