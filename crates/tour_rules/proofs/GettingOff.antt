@@ -1,14 +1,12 @@
 -- Who gets off at a floor, and who boards at a stop, as calls and as groups.
-use Rattle.std.proofs.Common.{◌≡◌, ℕ, ◌+◌, ◌<◌, Bool, false, ◌&&◌, eqb, ltb, length, refl, sym, ap, ◌∙◌, arith}
-use Rattle.std.proofs.lemmas.Bool.{and_left}
+use Rattle.std.proofs.Common.{◌≡◌, ℕ, ◌+◌, ◌<◌, Bool, ◌&&◌, eqb, length, sym, ap, ◌∙◌}
 use Rattle.elevator_model.specs.declared.Stop.{Stop}
 use Rattle.call_sets.specs.Counting.{has, is_among, sum_where}
 use Rattle.elevator_model.specs.Snapshot.{Snapshot, call_count, call_of, group_of}
 use Rattle.elevator_model.specs.Tours.{Progress, destination_of, persons_of, gets_off, boards_at, persons_where}
 use Rattle.tour_rules.specs.Places.{group_carried}
 use Rattle.tour_rules.specs.Leaving.{AreCarried, is_call_off, is_group_off}
-use Rattle.call_sets.proofs.Sums.{sum_where-none}
-use Rattle.tour_rules.proofs.RiderSums.{is_call, is_no_call, destination_of-call, destination_of-group, persons_of-call, persons_of-group, sum_riders}
+use Rattle.tour_rules.proofs.RiderSums.{is_call, destination_of-call, destination_of-group, persons_of-call, persons_of-group, sum_riders}
 
 -- the calls of a set get off at this floor
 pub record AreOff (s : Snapshot) (g : ℕ) (carried off : ℕ) : Type 0 where
@@ -29,14 +27,5 @@ pub persons_off : (s : Snapshot) (c : ℕ) (p : Progress) (g carried visited off
 persons_off s c p g carried visited off t o =
     sum_riders s (gets_off s p g) (persons_of s) (has off) (is_group_off s c visited g) (λ j. (call_of s j).persons) (λ k. (group_of s k).persons) (λ j b. off-call s c p g carried visited t j b ∙ sym (o.each j b)) (λ j b e. persons_of-call s j b) (off-group s c p g carried visited t) (λ k b. persons_of-group s k)
 
-pub boards_at-group : (s : Snapshot) (stop : Stop) (k : ℕ) → boards_at s stop (call_count s + k) ≡ false
-boards_at-group s stop k = and_left (ltb (call_count s + k) (call_count s)) (is_among (call_count s + k) stop.boards) (is_no_call s k)
-
 pub boards_at-call : (s : Snapshot) (stop : Stop) (j : ℕ) → j < call_count s → boards_at s stop j ≡ is_among j stop.boards
 boards_at-call s stop j b = ap (λ (x : Bool). x && is_among j stop.boards) (is_call s j b)
-
-pub persons_on : (s : Snapshot) (stop : Stop) (boards : ℕ) → ((j : ℕ) → has boards j ≡ is_among j stop.boards) → persons_where s (boards_at s stop) ≡ sum_where (call_count s) (has boards) (λ j. (call_of s j).persons)
-persons_on s stop boards h =
-    let split = sum_riders s (boards_at s stop) (persons_of s) (has boards) (λ _. false) (λ j. (call_of s j).persons) (λ k. (group_of s k).persons) (λ j b. boards_at-call s stop j b ∙ sym (h j)) (λ j b e. persons_of-call s j b) (λ k b. boards_at-group s stop k) (λ k b. persons_of-group s k) in
-    let none = sum_where-none (length s.aboard) (λ _. false) (λ k. (group_of s k).persons) (λ k b. refl) in
-    omega (arith, split, none)

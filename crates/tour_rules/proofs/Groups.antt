@@ -1,20 +1,15 @@
--- The groups aboard that get off, and the calls of a list.
-use Rattle.std.proofs.Common.{◌≡◌, ℕ, zero, suc, ◌*◌, ◌<◌, ◌≤◌, Bool, true, cond, not, ◌&&◌, eqb, List, [], ◌∷◌, length, get_or, refl, arith}
-use Rattle.std.proofs.lemmas.Bool.{and_parts, or_left, or_right, eq-eqb}
+-- The groups aboard that get off.
+use Rattle.std.proofs.Common.{◌≡◌, ℕ, ◌*◌, ◌<◌, ◌≤◌, Bool, true, cond, not, ◌&&◌, eqb, List, length, get_or, arith}
+use Rattle.std.proofs.lemmas.Bool.{and_parts}
 use Rattle.std.proofs.Math.Nat.{mul-le-mul_left}
 use Rattle.elevator_model.specs.declared.Aboard.{Aboard}
-use Rattle.call_sets.specs.Counting.{has, is_among, sum_where}
+use Rattle.call_sets.specs.Counting.{has, sum_where}
 use Rattle.elevator_model.specs.Building.{Building, IsBuilding}
 use Rattle.elevator_model.specs.Snapshot.{Snapshot, group_of, no_group, car_count, IsAccepted}
 use Rattle.tour_rules.specs.Places.{group_carried}
 use Rattle.tour_rules.specs.Leaving.{is_group_off, group_cost, cost_of_group}
 use Rattle.call_sets.proofs.Sums.{sum_below-up, sum_where-times}
 use Rattle.tour_rules.proofs.Bounds.{ride-le, aboard-le}
-
-pub among-at : (xs : List ℕ) (i : ℕ) → i < length xs → is_among (get_or xs i 0) xs ≡ true
-among-at [] i h = absurd (omega arith)
-among-at (x ∷ xs) zero h = or_left (eqb x x) (is_among x xs) (eq-eqb x x refl)
-among-at (x ∷ xs) (suc i) h = or_right (eqb x (get_or xs i 0)) (is_among (get_or xs i 0) xs) (among-at xs i (omega arith))
 
 -- what the code tests of a group
 pub off-here : (s : Snapshot) (c visited g k : ℕ) (groups : List Aboard) (r : Bool) → groups ≡ s.aboard → r ≡ ((eqb (get_or groups k no_group).car c && not (has visited (get_or groups k no_group).destination)) && eqb (get_or groups k no_group).destination g) → is_group_off s c visited g k ≡ r
@@ -39,11 +34,6 @@ groups_off-times s c visited g k f times a b h each =
     let fits : sum_where k (λ i. eqb (group_of s i).car c) (λ i. (group_of s i).persons) ≤ 64 = omega (arith, part, whole) in
     let most = mul-le-mul_left times fits in
     omega (arith, less, most)
-
-pub persons_off-le : (s : Snapshot) (c visited g k : ℕ) → IsAccepted s → c < car_count s → k ≤ length s.aboard → sum_where k (is_group_off s c visited g) (λ i. (group_of s i).persons) ≤ 64
-persons_off-le s c visited g k a b h =
-    let r = groups_off-times s c visited g k (λ i. (group_of s i).persons) 1 a b h (λ i d. omega arith) in
-    omega (arith, r)
 
 -- the cost of groups that get off is small
 pub groups_cost-le : (s : Snapshot) (c visited g k delivered : ℕ) → IsAccepted s → c < car_count s → k ≤ length s.aboard → delivered ≤ 100000000000 → sum_where k (is_group_off s c visited g) (λ i. cost_of_group s i delivered) ≤ 6400000000000000
