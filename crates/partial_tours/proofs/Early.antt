@@ -1,13 +1,13 @@
 -- No moment of a partial tour is late.
-use Rattle.std.proofs.Common.{◌≡◌, ℕ, ◌+◌, ◌<◌, ◌≤◌, Bool, true, false, cond, ◌&&◌, List, [], ◌∷◌, length, get_or, refl, sym, ap, ◌∙◌, subst, inl, inr, arith, Option, Some, None}
+use Rattle.std.proofs.Common.{◌≡◌, ℕ, ◌<◌, ◌≤◌, Bool, true, false, cond, List, [], ◌∷◌, length, get_or, refl, sym, ap, ◌∙◌, subst, inl, inr, arith, Option, Some, None}
 use Rattle.std.specs.Option.{is_some}
-use Rattle.std.proofs.lemmas.Bool.{and_parts, or_cases, cases_Bool, false≢true, ltb-true}
+use Rattle.std.proofs.lemmas.Bool.{and_parts, or_cases, false≢true, ltb-true}
 use Rattle.elevator_model.specs.declared.Stop.{Stop}
 use Rattle.elevator_model.specs.declared.Move.{Move}
 use Rattle.elevator_model.specs.declared.Move.TheVariants.{Board, Leave, End}
 use Rattle.elevator_model.specs.Building.{floor_count}
 use Rattle.elevator_model.specs.Snapshot.{Snapshot, IsAccepted, car_count, call_count, state_of, floor_of}
-use Rattle.elevator_model.specs.Tours.{Progress, start_of, make_stop, boards_at, broken_at, none_taken}
+use Rattle.elevator_model.specs.Tours.{Progress, make_stop, boards_at, broken_at, none_taken}
 use Rattle.elevator_model.specs.Partial.{Course, course_start, course_of, moves_on, move_on, may_end, progress_after}
 use Rattle.partial_tours.specs.declared.steps.Step.{Step}
 use Rattle.partial_tours.specs.Courses.{reached, may_leave}

@@ -5,7 +5,7 @@ pub mod Told
 pub mod Tallied
 pub mod Boarded
 pub mod Lawful
-pub mod Distinct
+pub mod Ordered
 pub mod Listed
 pub mod Search
 pub mod Carried

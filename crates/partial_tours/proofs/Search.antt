@@ -1,6 +1,6 @@
 -- The depth-first search over partial tours.
-use Rattle.std.proofs.Common.{◌≡◌, ℕ, ◌+◌, ◌-◌, ◌^◌, ◌<◌, ◌≤◌, true, false, cond, ◌⊎◌, eqb, List, [], ◌∷◌, ◌++◌, length, get_or, refl, sym, ap, ◌∙◌, subst, inl, inr, arith, append_assoc, append-nil, length-append, Option, Some, None}
-use Rattle.std.specs.List.{slice_get}
+use Rattle.std.proofs.Common.{◌≡◌, ℕ, zero, suc, ◌+◌, ◌-◌, ◌^◌, ◌<◌, ◌≤◌, true, false, cond, ◌⊎◌, eqb, List, [], ◌∷◌, ◌++◌, length, get_or, refl, sym, ap, ◌∙◌, subst, inl, inr, arith, append_assoc, append-nil, length-append, Option, Some, None}
+use Rattle.std.specs.List.{slice_get, filter}
 use Rattle.std.specs.Option.{IsSome, is_some}
 use Rattle.std.proofs.Math.Nat.{eq-or-lt_of_le}
 use Rattle.std.proofs.Math.ListN.{get_or-append}
@@ -23,7 +23,8 @@ use Rattle.tour_rules.proofs.Reached.{moves_on-append}
 use Rattle.tour_rules.proofs.Sound.{course_if-some, cond-some, leads_on, ended_feasible}
 use Rattle.partial_tours.specs.Listed.{ends_tour, tour_at, IsListed, AddsTours}
 use Rattle.partial_tours.proofs.Lawful.{In, in_lawful, at_place, lawful_at}
-use Rattle.partial_tours.proofs.Distinct.{AreDistinct, distinct_places}
+use Rattle.partial_tours.specs.Orders.{comes_before, first_of, next_after}
+use Rattle.partial_tours.proofs.Ordered.{AreRising, rising_lawful, distinct_places, behind}
 use Rattle.partial_tours.proofs.Told.{moves_told}
 
 abbrev pub left_of : Snapshot → ℕ → Option Course → ℕ
@@ -176,7 +177,7 @@ cancel_front (m ∷ front) a b h = let tails : front ++ a ≡ front ++ b = cc in
 first_same : (m n : Move) (a b : List Move) → m ∷ a ≡ n ∷ b → m ≡ n
 first_same m n a b h = cc
 
-pub adds_next : (p : PartialTour) (nexts : List Move) (i : ℕ) (old mid new : List (List Stop)) (m : Move) → AreDistinct nexts → i < length nexts → AddsFirst p nexts i old mid → m ≡ get_or nexts i (Board 0) → AddsTours (with_move p m) mid new → AddsFirst p nexts (i + 1) old new
+pub adds_next : (p : PartialTour) (nexts : List Move) (i : ℕ) (old mid new : List (List Stop)) (m : Move) → AreRising nexts → i < length nexts → AddsFirst p nexts i old mid → m ≡ get_or nexts i (Board 0) → AddsTours (with_move p m) mid new → AddsFirst p nexts (i + 1) old new
 adds_next p nexts i old mid new m distinct within first same more = record {
   longer = (let a = first.longer in let b = more.longer in omega arith);
   kept = λ k b. more.kept k (let longer = first.longer in omega arith) ∙ first.kept k b;
@@ -232,6 +233,103 @@ next_lawful p x nexts k m leads are b same =
     let moved = lawful_at p.snapshot p.car x (has (2 ^ 128 - 1)) k (Board 0) bound in
     let here : is_some (move_on p.snapshot p.car x m) ≡ true = subst (λ (v : Move). is_some (move_on p.snapshot p.car x v) ≡ true) (sym (same ∙ ap (λ (l : List Move). get_or l k (Board 0)) are)) moved in
     subst (λ (o : Option Course). is_some o ≡ true) (sym (moves_on-append p.snapshot p.car (Some (course_start p.snapshot p.car)) p.moves (m ∷ []) ∙ ap (λ (o : Option Course). move_on_from p.snapshot p.car o m) leads)) here
+
+-- ---- a walk from one of these moves to the next
+
+next_from : Snapshot → ℕ → Option Course → List Move
+next_from s c None = []
+next_from s c (Some x) = lawful_moves s c x (has (2 ^ 128 - 1))
+
+-- the moves that may follow, where each call is allowed
+pub followers : PartialTour → List Move
+followers p = next_from p.snapshot p.car (course p)
+
+-- how many moves are left from one on
+abbrev pub from_next : Option Move → List Move → ℕ
+from_next None moves = 0
+from_next (Some m) moves = suc (length (filter (comes_before m) moves))
+
+-- The tours are added to which the moves before the next one can lead.
+pub record Walks (p : PartialTour) (next : Option Move) (old new : List (List Stop)) : Type 0 where
+  pub place : ℕ
+  pub within : place ≤ length (followers p)
+  pub is : next ≡ slice_get (followers p) place
+  pub added : AddsFirst p (followers p) place old new
+
+first_place : (moves : List Move) → first_of moves ≡ slice_get moves 0
+first_place [] = refl
+first_place (m ∷ moves) = refl
+
+pub walks_first : (p : PartialTour) (x : Course) (next : Option Move) (old : List (List Stop)) → course p ≡ Some x → next ≡ first_of (lawful_moves p.snapshot p.car x (has (2 ^ 128 - 1))) → Walks p next old old
+unfolding followers next_from
+walks_first p x next old leads are =
+    let same = ap (next_from p.snapshot p.car) leads in
+    record {
+      place = 0;
+      within = omega arith;
+      is = are ∙ ap first_of (sym same) ∙ first_place (followers p);
+      added = adds_none p (followers p) old;
+    }
+
+-- there is a move at the place
+in_place : (moves : List Move) (k : ℕ) (m : Move) → Some m ≡ slice_get moves k → (k < length moves) × (m ≡ get_or moves k (Board 0))
+in_place [] k m h = absurd cc
+in_place (n ∷ moves) zero m h = (omega arith, cc)
+in_place (n ∷ moves) (suc k) m h = let later = in_place moves k m h in let b = later.0 in (omega arith, later.1)
+
+no_place : (moves : List Move) (k : ℕ) → k ≤ length moves → None ≡ slice_get moves k → k ≡ length moves
+no_place [] k b h = omega arith
+no_place (n ∷ moves) zero b h = absurd cc
+no_place (n ∷ moves) (suc k) b h = let later = no_place moves k (omega arith) h in omega (arith, later)
+
+rising_followers : (p : PartialTour) → AreRising (followers p)
+unfolding followers next_from
+rising_followers p = by_course (course p)
+  where
+    by_course : (o : Option Course) → AreRising (next_from p.snapshot p.car o)
+    by_course None = tt
+    by_course (Some x) = rising_lawful p.snapshot p.car x (has (2 ^ 128 - 1))
+
+-- the move is lawful
+pub walks_lawful : (p : PartialTour) (x : Course) (m : Move) (old new : List (List Stop)) → course p ≡ Some x → Walks p (Some m) old new → IsLawful p.snapshot p.car (p.moves ++ m ∷ [])
+unfolding followers next_from
+walks_lawful p x m old new leads walks =
+    let here = in_place (followers p) walks.place m walks.is in
+    next_lawful p x (followers p) walks.place m leads (ap (next_from p.snapshot p.car) leads) here.0 here.1
+
+-- one move further
+pub walks_on : (p : PartialTour) (x : Course) (m : Move) (next : Option Move) (old mid new : List (List Stop)) → course p ≡ Some x → Walks p (Some m) old mid → AddsTours (with_move p m) mid new → next ≡ next_after m (lawful_moves p.snapshot p.car x (has (2 ^ 128 - 1))) → Walks p next old new × (from_next next (followers p) < from_next (Some m) (followers p))
+unfolding followers next_from
+walks_on p x m next old mid new leads walks more are =
+    let rising = rising_followers p in
+    let here = in_place (followers p) walks.place m walks.is in
+    let stands = behind (followers p) walks.place (Board 0) rising here.0 in
+    let same = ap (next_from p.snapshot p.car) leads in
+    let is = are ∙ ap (next_after m) (sym same) ∙ ap (λ (n : Move). next_after n (followers p)) here.1 ∙ stands.next in
+    let left = stands.left in
+    let at_m = ap (λ (n : Move). length (filter (comes_before n) (followers p))) here.1 in
+    let bound = here.0 in
+    (record {
+      place = walks.place + 1;
+      within = omega arith;
+      is = is ∙ ap (slice_get (followers p)) (omega arith);
+      added = adds_next p (followers p) walks.place old mid new m rising here.0 walks.added here.1 more;
+    }, fewer next is (omega (arith, left, at_m)))
+  where
+    fewer : (o : Option Move) → o ≡ slice_get (followers p) (suc walks.place) → from_next (Some m) (followers p) + walks.place ≡ length (followers p) → from_next o (followers p) < from_next (Some m) (followers p)
+    fewer None e size = omega arith
+    fewer (Some n) e size =
+        let there = in_place (followers p) (suc walks.place) n e in
+        let left = (behind (followers p) (suc walks.place) (Board 0) (rising_followers p) there.0).left in
+        let at_n = ap (λ (v : Move). length (filter (comes_before v) (followers p))) there.1 in
+        omega (arith, left, at_n, size)
+
+-- no move is left, and all tours are added
+pub walks_end : (p : PartialTour) (x : Course) (old new : List (List Stop)) → call_count p.snapshot ≤ 128 → course p ≡ Some x → x.ended ≡ false → Walks p None old new → AddsTours p old new
+unfolding followers next_from
+walks_end p x old new few leads runs walks =
+    let all = no_place (followers p) walks.place walks.within walks.is in
+    adds_all p x (followers p) old new few leads runs (ap (next_from p.snapshot p.car) leads) (subst (λ (i : ℕ). AddsFirst p (followers p) i old new) all walks.added)
 
 -- one more move, and fewer are left
 pub left_falls : (p : PartialTour) (m : Move) → IsLawful p.snapshot p.car (p.moves ++ m ∷ []) → left_in (with_move p m) < left_in p

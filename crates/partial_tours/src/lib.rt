@@ -12,4 +12,4 @@ mod tally;
 
 pub use call_sets::CallSet;
 pub use elevator_model::{Boards, Move, Stop, Tour};
-pub use prefix::{Moves, Prefix, next_moves};
+pub use prefix::{Moves, Prefix, next_moves, tour_of};

@@ -286,7 +286,7 @@ impl<'a> Prefix<'a> {
             → tour ≡ x.left) }
         ensures moves { IfOk result (λ tour. moves_of self.now.snapshot tour ≡ self.now.moves) }
     {
-        stops_of(alloc, self.moves.as_slice())
+        tour_of(alloc, self.moves.as_slice())
     }
 }
 
@@ -326,8 +326,9 @@ fn add_move(alloc: Global, stops: &mut Vec<Stop>, next: Move) -> Result<(), Allo
     Ok(())
 }
 
-/// The stops that the moves make.
-fn stops_of(alloc: Global, moves: &[Move]) -> Result<Tour, AllocError>
+/// The stops that the moves make: a leave begins one, and a board adds a call to the last one begun. The error is
+/// want of memory alone.
+pub fn tour_of(alloc: Global, moves: &[Move]) -> Result<Tour, AllocError>
     ensures { IfOk result (λ tour. tour ≡ stops_made moves.now) }
 {
     let mut stops = Vec::new(alloc);

@@ -9,7 +9,7 @@ ghost use Rattle.partial_tours.specs.Listed.{AreAllTours, AddsTours, ends_tour};
 use call_sets::CallSet;
 use call_state::Snapshot;
 use elevator_model::{Move, Tour};
-use partial_tours::{Moves, Prefix, next_moves};
+use partial_tours::Prefix;
 use std::alloc::{AllocError, Global};
 
 /// The feasible tours of a car: every way to stop and to let calls board that breaks no rule, each once.
@@ -66,10 +66,11 @@ fn add_tours(alloc: Global, prefix: &mut Prefix, found: &mut Vec<Tour>) -> Resul
     if has_ended(prefix) {
         return add_tour(alloc, prefix, found);
     }
-    let mut moves = Moves::new(alloc)?;
-    next_moves(prefix, CallSet::from_bits(u128::MAX), &mut moves);
-    for next in moves.items() {
-        add_tours_after(alloc, prefix, *next, found)?;
+    let allowed = CallSet::from_bits(u128::MAX);
+    let mut next = prefix.first_move(allowed);
+    while let Some(step) = next {
+        add_tours_after(alloc, prefix, step, found)?;
+        next = prefix.move_after(allowed, step);
     }
     Ok(())
 }

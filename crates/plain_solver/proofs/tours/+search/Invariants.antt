@@ -1,7 +1,7 @@
 -- How many moves are left, and for each of them one call of each function. In the loop the tours to which
--- the moves so far can lead have been added.
+-- the moves before the next one can lead have been added.
 use Rattle.std.proofs.Common.{◌≡◌, ◌+◌, ◌*◌}
-use Rattle.partial_tours.proofs.Search.{left_in, AddsFirst}
+use Rattle.partial_tours.proofs.Search.{left_in, followers, from_next, Walks}
 use Rattle.plain_solver.proofs.tours.+search.Given as goal
 
 abbrev pub decreases-add_tours : goal.decreases-add_tours
@@ -13,5 +13,8 @@ decreases-add_tours_after l = 2 * left_in l.prefix.now
 abbrev pub invariant-add_tours-loop-next : goal.invariant-add_tours-loop-next
 invariant-add_tours-loop-next l = record {
   same : l.prefix ≡ l.initial.prefix;
-  added : AddsFirst l.initial.prefix l.next-items l.next-index l.initial.found.items l.found.items;
+  walks : Walks l.initial.prefix l.next l.initial.found.items l.found.items;
 }
+
+abbrev pub decreases-add_tours-loop-next : goal.decreases-add_tours-loop-next
+decreases-add_tours-loop-next l = from_next l.next (followers l.initial.prefix)

@@ -1,4 +1,4 @@
-use Rattle.std.proofs.Common.{◌≡◌, ◌<◌, ◌∙◌, ℕ, Some, true, ap, sym, subst, arith}
+use Rattle.std.proofs.Common.{◌≡◌, ◌<◌, ◌∙◌, Some, true, ap, sym, subst, arith}
 use Rattle.elevator_model.specs.Snapshot.{call_count}
 use Rattle.elevator_model.specs.Partial.{Course}
 use Rattle.partial_tours.specs.Courses.{reached}

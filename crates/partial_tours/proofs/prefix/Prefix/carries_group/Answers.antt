@@ -1,8 +1,7 @@
-use Rattle.std.proofs.Common.{◌∙◌, ◌&&◌, ◌==◌, ℕ, not, List, ap, sym}
+use Rattle.std.proofs.Common.{◌∙◌, ℕ, List, ap, sym}
 use Rattle.elevator_model.specs.declared.Aboard.{Aboard}
-use Rattle.call_sets.specs.Counting.{has}
 use Rattle.elevator_model.specs.Snapshot.{Snapshot}
-use Rattle.tour_rules.specs.Places.{group_in, group_carried}
+use Rattle.tour_rules.specs.Places.{group_carried}
 use Rattle.partial_tours.specs.Courses.{reached}
 use Rattle.partial_tours.specs.PartialTour.{PartialTour}
 use Rattle.partial_tours.proofs.Tallied.{riders_carried}

@@ -1,7 +1,6 @@
 use Rattle.elevator_model.specs.Partial.{Course, course_of}
 use Rattle.partial_tours.proofs.Follow.{is_some_has}
-use Rattle.std.proofs.Common.{Some, ◌≡◌, ◌∙◌, ◌<◌, ◌≤◌, ℕ, ap, sym, subst, length, get_or, arith}
-use Rattle.elevator_model.specs.Building.{floor_count}
+use Rattle.std.proofs.Common.{Some, ◌≡◌, ◌∙◌, ℕ, ap, sym, subst, length, get_or, arith}
 use Rattle.partial_tours.specs.PartialTour.{PartialTour, course}
 use Rattle.partial_tours.specs.Tallies.{StandsAt}
 use Rattle.partial_tours.proofs.Prefixes.{moves_few}
