@@ -1,6 +1,6 @@
 //! `walk_bench CASE TOURS` walks the partial tours of the first car of a generated snapshot depth first, so many
-//! of them, and prints what it saw: how many partial tours, how many of them ended, and the sum of what those
-//! who got off cost, modulo 2^64.
+//! of them (where there are fewer, from the start again), and prints what it saw: how many partial tours, how many of
+//! them ended, and the sum of what those who got off cost, modulo 2^64.
 #![tactic(auto)]
 
 mod cases;

@@ -1,6 +1,6 @@
 //! A walk over the partial tours of a car, depth first.
 
-ghost use Rattle.std.specs.Prelude.{◌≡◌, ◌<◌, ◌++◌, ◌∷◌, [], IfSome};
+ghost use Rattle.std.specs.Prelude.{◌≡◌, ◌≤◌, ◌<◌, ◌++◌, ◌∷◌, [], IfSome};
 ghost use Rattle.elevator_model.specs.Snapshot.{car_count};
 
 use call_sets::CallSet;
@@ -12,7 +12,7 @@ use std::alloc::{AllocError, Global};
 /// What a walk saw.
 #[derive(Clone, Copy)]
 pub(crate) struct Seen {
-    /// How many partial tours it came to.
+    /// How many partial tours it came to. One that it came to again counts again.
     pub(crate) tours: u32,
     /// How many of them end.
     pub(crate) ended: u32,
@@ -20,18 +20,14 @@ pub(crate) struct Seen {
     pub(crate) settled: u64,
 }
 
-/// Walks the partial tours of the first car, so many of them at most. The only error is want of memory.
-pub(crate) fn walk(alloc: Global, snapshot: &Snapshot, tours: u32) -> Result<Seen, AllocError> {
-    let mut seen = Seen {
-        tours: 0,
-        ended: 0,
-        settled: 0,
-    };
-    if snapshot.building().cars().is_empty() {
-        return Ok(seen);
-    }
+/// Walks on through the partial tours of the prefix's car, depth first, until so many were seen or none is left.
+fn walk_on(prefix: &mut Prefix, tours: u32, seen: &mut Seen)
+    requires { seen.old.ended ≤ seen.old.tours }
+    ensures ended { seen.new.ended ≤ seen.new.tours }
+    ensures grows { seen.old.tours ≤ seen.new.tours }
+    ensures snapshot { prefix.new.snapshot ≡ prefix.old.snapshot }
+{
     let allowed = CallSet::from_bits(u128::MAX);
-    let mut prefix = Prefix::new(alloc, snapshot, 0)?;
     let mut next = prefix.first_move(allowed);
     while seen.tours < tours {
         match next {
@@ -47,6 +43,28 @@ pub(crate) fn walk(alloc: Global, snapshot: &Snapshot, tours: u32) -> Result<See
                 None => break,
             },
         }
+    }
+}
+
+/// Walks the partial tours of the first car, all of them and then all of them again, so many together. The only error
+/// is want of memory.
+pub(crate) fn walk(alloc: Global, snapshot: &Snapshot, tours: u32) -> Result<Seen, AllocError> {
+    let mut seen = Seen {
+        tours: 0,
+        ended: 0,
+        settled: 0,
+    };
+    if snapshot.building().cars().is_empty() {
+        return Ok(seen);
+    }
+    let mut prefix = Prefix::new(alloc, snapshot, 0)?;
+    while seen.tours < tours {
+        let before = seen.tours;
+        walk_on(&mut prefix, tours, &mut seen);
+        if seen.tours == before {
+            break;
+        }
+        prefix.restart(0);
     }
     Ok(seen)
 }

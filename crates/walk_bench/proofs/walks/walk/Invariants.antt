@@ -1,13 +1,12 @@
-use Rattle.std.proofs.Common.{◌≤◌, ◌+◌, ◌*◌, ◌-◌, ◌++◌, ◌∷◌, [], length}
-use Rattle.std.specs.Option.{IfSome}
-use Rattle.elevator_model.specs.Partial.{IsLawful}
+use Rattle.std.proofs.Common.{◌≤◌, ◌<◌, ◌-◌}
+use Rattle.elevator_model.specs.Snapshot.{car_count}
 use Rattle.walk_bench.proofs.walks.walk.Given as goal
 
 abbrev pub invariant-loop-seen : goal.invariant-loop-seen
 invariant-loop-seen l = record {
   ended : l.seen.ended ≤ l.seen.tours;
-  lawful : IfSome l.next (λ m. IsLawful l.prefix.snapshot l.prefix.car (l.prefix.moves ++ m ∷ []));
+  car : 0 < car_count l.prefix.snapshot;
 }
 
 abbrev pub decreases-loop-seen : goal.decreases-loop-seen
-decreases-loop-seen l = 451 * (l.tours - l.seen.tours) + length l.prefix.moves
+decreases-loop-seen l = l.tours - l.seen.tours
