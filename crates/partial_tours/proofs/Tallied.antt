@@ -1,5 +1,5 @@
 -- The running sums of a partial tour, one move longer and one move shorter.
-use Rattle.std.proofs.Common.{◌≡◌, ℕ, ◌+◌, ◌-◌, ◌*◌, ◌<◌, ◌≤◌, Bool, true, false, cond, not, ◌&&◌, ◌||◌, eqb, ltb, leb, List, [], ◌∷◌, ◌++◌, length, take, drop, get_or, set, replicate, refl, sym, ap, ◌∙◌, subst, inl, inr, arith, Option, Some, None, length-append}
+use Rattle.std.proofs.Common.{◌≡◌, ℕ, ◌+◌, ◌*◌, ◌<◌, ◌≤◌, Bool, true, false, cond, not, ◌&&◌, ◌||◌, eqb, ltb, leb, List, [], ◌∷◌, ◌++◌, length, take, drop, get_or, set, replicate, refl, sym, ap, ◌∙◌, subst, inl, inr, arith, Option, Some, None, length-append}
 use Rattle.std.specs.List.{list_all}
 use Rattle.std.proofs.lemmas.List.{take-append-le, take-take, take_all, take-append-drop, length-take-le, get_or_append_left, get_or-take, get_or_push, get_or-set_same, get_or-set_other, length-set, get_or_past, get_or-replicate, length-replicate}
 use Rattle.std.proofs.lemmas.Grind.{get_or-set_at}
@@ -10,18 +10,16 @@ use Rattle.elevator_model.specs.declared.CarState.TheVariants.{Idle, Coming, Mov
 use Rattle.elevator_model.specs.declared.Stop.{Stop}
 use Rattle.elevator_model.specs.declared.Move.{Move}
 use Rattle.elevator_model.specs.declared.Move.TheVariants.{Board, Leave, End}
-use Rattle.call_sets.specs.Counting.{has, is_among}
+use Rattle.call_sets.specs.Counting.{is_among}
 use Rattle.elevator_model.specs.Building.{floor_count}
 use Rattle.elevator_model.specs.Travel.{time_between}
 use Rattle.elevator_model.specs.Snapshot.{Snapshot, IsAccepted, IsTimely, call_count, call_of, car_count, spec_of, state_of, floor_of, moment_of, is_coming, may_stop_first}
 use Rattle.elevator_model.specs.Tours.{Progress, breaks, rules_but_useless, none_taken, make_stop, arrival, boards_at, gets_off, persons_where, is_aboard}
 use Rattle.elevator_model.specs.Partial.{Course, course_start, course_of, moves_on, move_on, may_stand, progress_after, IsLawful}
 use Rattle.partial_tours.specs.declared.steps.Step.{Step}
-use Rattle.tour_rules.specs.declared.places.Place.{Place}
 use Rattle.partial_tours.specs.declared.tally.Tally.{Tally}
-use Rattle.tour_rules.specs.Places.{Tracks, group_carried}
 use Rattle.partial_tours.specs.Courses.{TracksCourse, reached, empty_stop, with_call_on}
-use Rattle.tour_rules.specs.Leaving.{AreCarried, IsKept, AreBoarded, AreEarly, leaving_cost}
+use Rattle.tour_rules.specs.Leaving.{IsKept, AreBoarded, AreEarly, leaving_cost}
 use Rattle.partial_tours.specs.Prefixes.{IsPrefix}
 use Rattle.partial_tours.specs.Tallies.{IsPunctual, Counts, IsTally, AreNoted, LeadsOnTallied, with_moment, IsTallied}
 use Rattle.call_sets.proofs.ListTests.{list_any-append}
@@ -33,7 +31,6 @@ use Rattle.partial_tours.proofs.Prefixes.{moves_few, no_moves}
 use Rattle.tour_rules.proofs.Reached.{moves_on-append}
 use Rattle.tour_rules.proofs.Sound.{leads_on}
 use Rattle.tour_rules.proofs.Stops.{most_calls_few}
-use Rattle.tour_rules.proofs.Riders.{at_call, at_group}
 use Rattle.tour_rules.proofs.RiderSums.{is_aboard-call, persons_of-call}
 use Rattle.tour_rules.proofs.Settled.{boards_once_from, IsKept-start, IsKept-stop, settled_more_once, settled_start}
 use Rattle.tour_rules.proofs.Bounds.{AreEarly-start, AreEarly-stop, settled-le}
@@ -231,19 +228,6 @@ tally_start s c tally a b opened leaves settled =
       early = AreEarly-start s c a;
       punctual = record { later = λ e. absurd (false≢true e); floor = λ e. refl; leaves = λ e. refl };
     }
-
--- ---- the place of the car
-
-pub riders_carried : (s : Snapshot) (c : ℕ) (place : Place) (p : Progress) → Tracks s c place p → AreCarried s c place.carried place.visited p
-riders_carried s c place p t =
-    let n = call_count s in
-    record {
-      calls = λ j b. sym (t.carried j (omega (arith, b))) ∙ at_call j n (has place.carried j) (group_carried s.aboard c place.visited (j - n)) b;
-      groups = λ k b. sym (t.carried (n + k) (omega (arith, b))) ∙ at_group (n + k) n (has place.carried (n + k)) (group_carried s.aboard c place.visited (n + k - n)) (omega arith) ∙ ap (group_carried s.aboard c place.visited) (index k);
-    }
-  where
-    index : (k : ℕ) → call_count s + k - call_count s ≡ k
-    index k = omega arith
 
 -- ---- the moments at which calls boarded
 

@@ -6,7 +6,7 @@ use Rattle.tour_rules.specs.Leaving.{is_call_off, cost_of_call}
 use Rattle.call_sets.proofs.Sums.{sum_where-same}
 use Rattle.tour_rules.proofs.GettingOff.{AreOff-both, persons_off}
 use Rattle.tour_rules.proofs.Settled.{leaving_cost-parts}
-use Rattle.partial_tours.proofs.Tallied.{riders_carried}
+use Rattle.tour_rules.proofs.Riders.{riders_carried}
 use Rattle.partial_tours.proofs.leaving.leaving_at.Goals as goal
 
 pub calls_leaving-calls-requires-clause-within : goal.calls_leaving-calls-requires-clause-within

@@ -4,7 +4,7 @@ use Rattle.elevator_model.specs.Snapshot.{Snapshot}
 use Rattle.tour_rules.specs.Places.{group_carried}
 use Rattle.partial_tours.specs.Courses.{reached}
 use Rattle.partial_tours.specs.PartialTour.{PartialTour}
-use Rattle.partial_tours.proofs.Tallied.{riders_carried}
+use Rattle.tour_rules.proofs.Riders.{riders_carried}
 use Rattle.partial_tours.proofs.prefix.Prefix.carries_group.Goals as goal
 
 pub returns : goal.returns
