@@ -308,13 +308,15 @@ walks_on p x m next old mid new leads walks more are =
     let is = are ∙ ap (next_after m) (sym same) ∙ ap (λ (n : Move). next_after n (followers p)) here.1 ∙ stands.next in
     let left = stands.left in
     let at_m = ap (λ (n : Move). length (filter (comes_before n) (followers p))) here.1 in
-    let bound = here.0 in
-    (record {
-      place = walks.place + 1;
-      within = omega arith;
-      is = is ∙ ap (slice_get (followers p)) (omega arith);
-      added = adds_next p (followers p) walks.place old mid new m rising here.0 walks.added here.1 more;
-    }, fewer next is (omega (arith, left, at_m)))
+    let bound = here.0 in (
+      record {
+        place = walks.place + 1;
+        within = omega arith;
+        is = is ∙ ap (slice_get (followers p)) (omega arith);
+        added = adds_next p (followers p) walks.place old mid new m rising here.0 walks.added here.1 more;
+      },
+      fewer next is (omega (arith, left, at_m)),
+    )
   where
     fewer : (o : Option Move) → o ≡ slice_get (followers p) (suc walks.place) → from_next (Some m) (followers p) + walks.place ≡ length (followers p) → from_next o (followers p) < from_next (Some m) (followers p)
     fewer None e size = omega arith
