@@ -1,14 +1,11 @@
 //! The line of a car.
-ghost use Rattle.std.specs.Prelude.{◌≡◌, ◌≤◌, ◌<◌, ◌==◌, length, OnOk};
-ghost use Rattle.std.specs.List.{list_any};
+ghost use Rattle.std.specs.Prelude.{◌≡◌, ◌≤◌, length, OnOk};
 ghost use Rattle.lift_text.specs.LineReader.{words};
-ghost use Rattle.elevator_model.specs.declared.CarSpec.{CarSpec};
 ghost use Rattle.building_text.specs.Said.{Says};
 ghost use Rattle.building_text.specs.Words.{has_car_words, car_numbers, set_of, served_of, judged_car, car_of_line};
 
-use crate::parts::are_rising;
 use call_sets::FloorSet;
-use call_state::spec_fault;
+use call_state::{are_rising, has_car, spec_fault};
 use elevator_model::{CarSpec, Fault};
 use lift_text::{LineReader, Source};
 use std::alloc::Global;
@@ -88,13 +85,6 @@ fn served<S: Source>(
         return Err(LineFault::Bad(Fault::NotRising.code()));
     }
     Ok(set_of(&served))
-}
-
-/// Whether a car of the list has this id.
-fn has_car(cars: &[CarSpec], id: u32) -> bool
-    ensures { result ≡ list_any (λ (x : CarSpec). x.id == id) cars.now }
-{
-    cars.iter().any(|car| car.id == id)
 }
 
 /// The car that serves these floors, or the code of its first fault.

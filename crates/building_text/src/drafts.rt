@@ -241,10 +241,7 @@ fn travel_times(
     if version != 3 {
         return travel_of(alloc, heights, speed, accel);
     }
-    let Ok(travel) = Travel::build(heights.len() as u32, times) else {
-        unreachable!()
-    };
-    Ok(travel)
+    Ok(Travel::of_square(heights.len() as u32, times))
 }
 
 /// The building of parts that have no fault.

@@ -1,10 +1,10 @@
 //! What the words of one line say.
 ghost use Rattle.std.specs.Prelude.{◌≡◌, ◌≤◌, ◌<◌, length, IfOk};
 ghost use Rattle.lift_text.specs.LineReader.{words};
-ghost use Rattle.elevator_model.specs.Faults.{is_rising};
 ghost use Rattle.building_text.specs.Said.{SaysAs};
 ghost use Rattle.building_text.specs.Words.{one_number, two_numbers, heights_of};
 
+use call_state::are_rising;
 use elevator_model::{Fault, MOST_FLOORS};
 use lift_text::{LineReader, Source};
 use std::alloc::Global;
@@ -36,18 +36,6 @@ pub(crate) fn two_numbers<S: Source>(
 {
     exactly(lines, 3)?;
     Ok((number(lines, 1, 0, first)?, number(lines, 2, 0, second)?))
-}
-
-/// Whether the numbers rise.
-pub(crate) fn are_rising(numbers: &[u64]) -> bool
-    ensures { result ≡ is_rising numbers.now }
-{
-    for k in 1..numbers.len() {
-        if numbers[k] <= numbers[k - 1] {
-            return false;
-        }
-    }
-    true
 }
 
 /// The heights of a line, in mm.

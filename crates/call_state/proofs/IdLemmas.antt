@@ -1,5 +1,5 @@
 -- Ids in a list: where one stands, and that a new one is among none.
-use Rattle.std.proofs.Common.{◌≡◌, ℕ, ◌<◌, ◌≤◌, nat_eq, cond, if◌then◌else◌, List, [], ◌∷◌, ◌++◌, length, map, get_or, take, position, Option, Some, None, MatchOption, nat_lt, sym, ◌∙◌, ap, arith}
+use Rattle.std.proofs.Common.{◌≡◌, ℕ, ◌<◌, ◌≤◌, nat_eq, ◌==◌, refl, cond, if◌then◌else◌, List, [], ◌∷◌, ◌++◌, length, map, get_or, take, position, Option, Some, None, MatchOption, nat_lt, sym, ◌∙◌, ap, arith}
 use Rattle.std.specs.List.{list_any, position_or_len}
 use Rattle.std.proofs.lemmas.Bool.{eqb-true, ne_eqb, eq-eqb, false≢true, cond-false}
 use Rattle.std.proofs.lemmas.Bool.Decides.{nat_tests}
@@ -41,3 +41,14 @@ item_place id xs d ids wanted (Some k) is found =
     let long : length ids ≡ length xs = ap length is ∙ length-map xs id in
     let within : k < length xs = omega (arith, found.0) in
     (within, sym (get_or-map id xs k d 0 within) ∙ ap (λ l. get_or l k 0) (sym is) ∙ found.1)
+
+eqb-turned : (x y : ℕ) → (x == y) ≡ (y == x)
+eqb-turned x y = grind (arith, nat_tests)
+
+-- an item has an id where the id is among those of the items
+pub any_of_items : {X : Type 0} (id : X → ℕ) (xs : List X) (wanted : ℕ) → list_any (λ k. wanted == k) (map id xs) ≡ list_any (λ x. id x == wanted) xs
+any_of_items id [] wanted = refl
+any_of_items id (x ∷ xs) wanted = rw (eqb-turned wanted (id x), any_of_items id xs wanted)
+
+pub any_indexed : {X : Type 0} (id : X → ℕ) (xs : List X) (ids : List ℕ) (wanted : ℕ) → ids ≡ map id xs → list_any (λ k. wanted == k) ids ≡ list_any (λ x. id x == wanted) xs
+any_indexed id xs ids wanted is = rw is (any_of_items id xs wanted)

@@ -1,5 +1,5 @@
 -- What is tested of travel times.
-use Rattle.std.specs.Prelude.{◌≡◌, ◌≢◌, ℕ, ◌+◌, ◌≤◌, ◌<◌, List}
+use Rattle.std.specs.Prelude.{◌≡◌, ◌≢◌, ℕ, ◌+◌, ◌≤◌, ◌<◌, List, length, slice_index}
 use Rattle.elevator_model.specs.Travel.{Square, time_between}
 
 abbrev pub square_of : ℕ → List ℕ → Square
@@ -20,6 +20,10 @@ AreRows t = (f : ℕ) → f < t.floors → IsRow t f
 -- the way from f to h is no longer than that over g
 abbrev pub IsDirect : Square → ℕ → ℕ → ℕ → Type 0
 IsDirect t f g h = time_between t f h ≤ time_between t f g + time_between t g h
+
+-- no way that begins with this leg is shorter: rest has the times from there, direct those from the start
+abbrev pub IsNowhereShorter : ℕ → List ℕ → List ℕ → Type 0
+IsNowhereShorter leg rest direct = (h : ℕ) → h < length direct → slice_index direct h ≤ leg + slice_index rest h
 
 abbrev pub IsLegDirect : Square → ℕ → ℕ → Type 0
 IsLegDirect t f g = (h : ℕ) → h < t.floors → IsDirect t f g h

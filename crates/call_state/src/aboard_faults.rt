@@ -1,11 +1,12 @@
 //! What is wrong with a group aboard.
 
-ghost use Rattle.std.specs.Prelude.{◌≡◌, ◌≤◌, ◌<◌, ◌+◌, ◌&&◌, ◌==◌, nat_lt, length};
+ghost use Rattle.std.specs.Prelude.{◌≡◌, ◌≤◌, ◌<◌, ◌+◌, ◌&&◌, ◌==◌, false, nat_lt, length, map};
 ghost use Rattle.std.specs.List.{list_any};
 ghost use Rattle.elevator_model.specs.declared.Aboard.{Aboard};
 ghost use Rattle.elevator_model.specs.Faults.{fault_of_group, are_apart as are_apart_lem, is_on_wrong_side as is_on_wrong_side_lem, persons_in};
 
 use crate::buildings::Building;
+use crate::id_index::IdIndex;
 use crate::state_faults::{is_open, serves_floor};
 use elevator_model::{Aboard, CarState, Fault};
 
@@ -68,24 +69,21 @@ fn is_overfull(capacity: u32, car: u32, before: &[Aboard], persons: u32) -> bool
     room < persons
 }
 
-/// The first fault of a group aboard, after the groups `before` it: of a snapshot of this building with
-/// these states of its cars, at the moment `now` in ms.
-pub fn aboard_fault(
+/// The first fault of a group aboard whose id no group before it has.
+fn fault_of_new(
     building: &Building,
     now: u64,
     states: &[CarState],
     before: &[Aboard],
     item: &Aboard,
 ) -> Option<Fault>
+    requires new { list_any (λ (x : Aboard). x.id == item.now.id) before.now ≡ false }
     requires car { item.now.car < length building.now.cars }
     requires states { length states.now ≡ length building.now.cars }
     ensures { result ≡ fault_of_group building.now now states.now before.now item.now }
 {
     let spec = building.cars()[item.car as usize];
     let state = states[item.car as usize];
-    if has_group(before, item.id) {
-        return Some(Fault::IdUsedBefore);
-    }
     if building.heights().len() <= item.destination as usize {
         return Some(Fault::NoSuchFloor);
     }
@@ -105,4 +103,43 @@ pub fn aboard_fault(
         return Some(Fault::PersonsOutOfRange);
     }
     None
+}
+
+/// The first fault of a group aboard, after the groups `before` it: of a snapshot of this building with
+/// these states of its cars, at the moment `now` in ms.
+pub fn aboard_fault(
+    building: &Building,
+    now: u64,
+    states: &[CarState],
+    before: &[Aboard],
+    item: &Aboard,
+) -> Option<Fault>
+    requires car { item.now.car < length building.now.cars }
+    requires states { length states.now ≡ length building.now.cars }
+    ensures { result ≡ fault_of_group building.now now states.now before.now item.now }
+{
+    if has_group(before, item.id) {
+        return Some(Fault::IdUsedBefore);
+    }
+    fault_of_new(building, now, states, before, item)
+}
+
+/// The same fault, where an index has the ids of the groups before: so its id is not looked for in them.
+pub fn indexed_aboard_fault(
+    building: &Building,
+    now: u64,
+    states: &[CarState],
+    before: &[Aboard],
+    ids: &IdIndex,
+    item: &Aboard,
+) -> Option<Fault>
+    requires ids { ids.now ≡ map (λ (x : Aboard). x.id) before.now }
+    requires car { item.now.car < length building.now.cars }
+    requires states { length states.now ≡ length building.now.cars }
+    ensures { result ≡ fault_of_group building.now now states.now before.now item.now }
+{
+    if ids.contains(item.id) {
+        return Some(Fault::IdUsedBefore);
+    }
+    fault_of_new(building, now, states, before, item)
 }

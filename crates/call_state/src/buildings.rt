@@ -78,6 +78,15 @@ impl Building {
         if let Some((fault, item)) = parts.first_fault() {
             return Err(StateFault::Bad { fault, item });
         }
+        Ok(Building::of_faultless(alloc, parts)?)
+    }
+
+    /// The building with these parts, which are known to keep the rules, so that nothing is judged once more. It
+    /// fails only where there is no memory left.
+    pub fn of_faultless(alloc: Global, parts: BuildingParts) -> Result<Building, AllocError>
+        requires { IsBuilding (building_of parts) }
+        ensures { IfOk result (λ building. building ≡ building_of parts) }
+    {
         let ids = IdIndex::of_cars(alloc, &parts.cars)?;
         Ok(Building { parts, ids })
     }
@@ -99,9 +108,7 @@ impl Building {
     pub fn copy(&self, alloc: Global) -> Result<Building, AllocError>
         ensures { IfOk result (λ building. building ≡ self.now) }
     {
-        let parts = self.parts.copy(alloc)?;
-        let ids = IdIndex::of_cars(alloc, &parts.cars)?;
-        Ok(Building { parts, ids })
+        Building::of_faultless(alloc, self.parts.copy(alloc)?)
     }
 
     /// 1, 2 or 3.
@@ -192,11 +199,12 @@ fn any_too_high(heights: &[u64]) -> bool
     heights.iter().any(|height| 1_000_000 < *height)
 }
 
-fn are_rising(heights: &[u64]) -> bool
-    ensures { result ≡ is_rising heights.now }
+/// Whether each number is greater than the one before it.
+pub fn are_rising(numbers: &[u64]) -> bool
+    ensures { result ≡ is_rising numbers.now }
 {
-    for floor in 1..heights.len() {
-        if heights[floor] <= heights[floor - 1] {
+    for k in 1..numbers.len() {
+        if numbers[k] <= numbers[k - 1] {
             return false;
         }
     }

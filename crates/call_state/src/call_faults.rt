@@ -1,7 +1,8 @@
 //! What is wrong with an open call.
 
-ghost use Rattle.std.specs.Prelude.{◌≡◌, ◌<◌, ◌==◌, length, IfSome};
+ghost use Rattle.std.specs.Prelude.{◌≡◌, ◌<◌, ◌==◌, false, List, length, map, IfSome};
 ghost use Rattle.std.specs.List.{list_any};
+ghost use Rattle.elevator_model.specs.declared.Aboard.{Aboard};
 ghost use Rattle.elevator_model.specs.declared.Call.{Call};
 ghost use Rattle.call_sets.specs.Counting.{any_below};
 ghost use Rattle.elevator_model.specs.Snapshot.{can_take};
@@ -9,6 +10,7 @@ ghost use Rattle.elevator_model.specs.Faults.{fault_of_call, can_take_pinned as 
 
 use crate::aboard_faults::has_group;
 use crate::buildings::Building;
+use crate::id_index::IdIndex;
 use crate::state_faults::serves_floor;
 use elevator_model::{Aboard, Call, Fault, most_calls};
 
@@ -52,22 +54,15 @@ fn can_take_pinned(building: &Building, call: &Call) -> bool
     }
 }
 
-/// The first fault of an open call, after the groups aboard and the calls `before` it: of a snapshot of
-/// this building, at the moment `now` in ms.
-pub fn call_fault(
-    building: &Building,
-    now: u64,
-    aboard: &[Aboard],
-    before: &[Call],
-    item: &Call,
-) -> Option<Fault>
-    requires { IfSome item.now.pin (λ c. c < length building.now.cars) }
-    ensures { result ≡ fault_of_call building.now now aboard.now before.now item.now }
+/// The first fault of an open call whose id no call before it and no group aboard has.
+fn fault_of_new(building: &Building, now: u64, before: &[Call], item: &Call) -> Option<Fault>
+    requires new { list_any (λ (x : Call). x.id == item.now.id) before.now ≡ false }
+    requires pin { IfSome item.now.pin (λ c. c < length building.now.cars) }
+    ensures { (aboard : List Aboard)
+        → list_any (λ (x : Aboard). x.id == item.now.id) aboard ≡ false
+        → result ≡ fault_of_call building.now now aboard before.now item.now }
 {
     let floors = building.heights().len();
-    if has_group(aboard, item.id) || has_call(before, item.id) {
-        return Some(Fault::IdUsedBefore);
-    }
     if floors <= item.origin as usize || floors <= item.destination as usize {
         return Some(Fault::NoSuchFloor);
     }
@@ -90,4 +85,44 @@ pub fn call_fault(
         return Some(Fault::PersonsOutOfRange);
     }
     None
+}
+
+/// The first fault of an open call, after the groups aboard and the calls `before` it: of a snapshot of
+/// this building, at the moment `now` in ms.
+pub fn call_fault(
+    building: &Building,
+    now: u64,
+    aboard: &[Aboard],
+    before: &[Call],
+    item: &Call,
+) -> Option<Fault>
+    requires { IfSome item.now.pin (λ c. c < length building.now.cars) }
+    ensures { result ≡ fault_of_call building.now now aboard.now before.now item.now }
+{
+    if has_group(aboard, item.id) || has_call(before, item.id) {
+        return Some(Fault::IdUsedBefore);
+    }
+    fault_of_new(building, now, before, item)
+}
+
+/// The same fault, where indexes have the ids of the groups aboard, `groups`, and of the calls before, `calls`:
+/// so its id is not looked for in them.
+pub fn indexed_call_fault(
+    building: &Building,
+    now: u64,
+    aboard: &[Aboard],
+    groups: &IdIndex,
+    before: &[Call],
+    calls: &IdIndex,
+    item: &Call,
+) -> Option<Fault>
+    requires groups { groups.now ≡ map (λ (x : Aboard). x.id) aboard.now }
+    requires calls { calls.now ≡ map (λ (x : Call). x.id) before.now }
+    requires pin { IfSome item.now.pin (λ c. c < length building.now.cars) }
+    ensures { result ≡ fault_of_call building.now now aboard.now before.now item.now }
+{
+    if groups.contains(item.id) || calls.contains(item.id) {
+        return Some(Fault::IdUsedBefore);
+    }
+    fault_of_new(building, now, before, item)
 }

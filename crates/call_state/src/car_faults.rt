@@ -21,7 +21,7 @@ fn is_in_range(car: &CarSpec) -> bool
 }
 
 /// Whether a car of the list has this id.
-fn has_car(cars: &[CarSpec], id: u32) -> bool
+pub fn has_car(cars: &[CarSpec], id: u32) -> bool
     ensures { result ≡ list_any (λ (x : CarSpec). x.id == id) cars.now }
 {
     cars.iter().any(|car| car.id == id)

@@ -1,6 +1,7 @@
 //! The place of each id in a list, found without going through the list.
 
-ghost use Rattle.std.specs.Prelude.{◌≡◌, ℕ, ◌<◌, ◌∷◌, ◌++◌, [], length, map, slice_index, IfOk, OnOk, MatchOption};
+ghost use Rattle.std.specs.Prelude.{◌≡◌, ℕ, ◌<◌, ◌==◌, ◌∷◌, ◌++◌, [], length, map, slice_index, IfOk, OnOk, OnErr, MatchOption};
+ghost use Rattle.std.specs.List.{list_any};
 ghost use Rattle.elevator_model.specs.declared.CarSpec.{CarSpec};
 ghost use Rattle.elevator_model.specs.declared.Call.{Call};
 ghost use Rattle.call_state.specs.Ids.{AreDifferent};
@@ -10,9 +11,9 @@ use indexmap::IndexSet;
 use std::alloc::{AllocError, Global};
 use std::marker::Model;
 
-/// Different ids in their order.
+/// Different ids in their order, of which each is found without going through them.
 #[derive(Drop, Debug)]
-pub(crate) struct IdIndex {
+pub struct IdIndex {
     ids: IndexSet<u32>,
 }
 
@@ -25,13 +26,31 @@ impl Model for IdIndex {
 }
 
 impl IdIndex {
-    /// Puts an id that is not among them last. It fails only where there is no memory left.
-    fn push(&mut self, id: u32) -> Result<(), AllocError>
+    /// No ids. It takes no memory.
+    pub fn new(alloc: Global) -> IdIndex
+        ensures { result ≡ [] }
+    {
+        IdIndex {
+            ids: IndexSet::new(alloc),
+        }
+    }
+
+    /// Puts an id that is not among them last. It fails only where there is no memory left, and then the ids
+    /// are as they were.
+    pub fn push(&mut self, id: u32) -> Result<(), AllocError>
         requires { (k : ℕ) → k < length self.old → slice_index self.old k ≡ id → ⊥ }
-        ensures { OnOk result (self.new ≡ self.old ++ id ∷ []) }
+        ensures added { OnOk result (self.new ≡ self.old ++ id ∷ []) }
+        ensures unchanged { OnErr result (self.new ≡ self.old) }
     {
         self.ids.insert(id)?;
         Ok(())
+    }
+
+    /// Whether an id is among them.
+    pub fn contains(&self, id: u32) -> bool
+        ensures { result ≡ list_any (λ x. id == x) self.now }
+    {
+        self.ids.contains(&id)
     }
 
     /// The place of an id.
@@ -49,9 +68,7 @@ impl IdIndex {
         requires { AreDifferent (map (λ (x : CarSpec). x.id) cars.now) }
         ensures { IfOk result (λ index. index ≡ map (λ (x : CarSpec). x.id) cars.now) }
     {
-        let mut index = IdIndex {
-            ids: IndexSet::new(alloc),
-        };
+        let mut index = IdIndex::new(alloc);
         for car in cars {
             index.push(car.id)?;
         }
@@ -63,9 +80,7 @@ impl IdIndex {
         requires { AreDifferent (map (λ (x : Call). x.id) calls.now) }
         ensures { IfOk result (λ index. index ≡ map (λ (x : Call). x.id) calls.now) }
     {
-        let mut index = IdIndex {
-            ids: IndexSet::new(alloc),
-        };
+        let mut index = IdIndex::new(alloc);
         for call in calls {
             index.push(call.id)?;
         }

@@ -214,6 +214,15 @@ impl Snapshot {
         }
         // A reader of the building tells that it keeps its rules, which the snapshot's rules are to hold.
         let _version = parts.building.version();
+        Ok(Snapshot::of_accepted(alloc, parts)?)
+    }
+
+    /// The snapshot with these parts, which are known to keep the rules, so that nothing is judged once more.
+    /// It fails only where there is no memory left.
+    pub fn of_accepted(alloc: Global, parts: SnapshotParts) -> Result<Snapshot, AllocError>
+        requires { IsAccepted (snapshot_of parts) }
+        ensures { IfOk result (λ snapshot. snapshot ≡ snapshot_of parts) }
+    {
         let ids = IdIndex::of_calls(alloc, &parts.calls)?;
         let possible = possible_cars(alloc, &parts.building, &parts.calls)?;
         Ok(Snapshot {
@@ -240,14 +249,7 @@ impl Snapshot {
     pub fn copy(&self, alloc: Global) -> Result<Snapshot, AllocError>
         ensures { IfOk result (λ snapshot. snapshot ≡ self.now) }
     {
-        let parts = self.parts.copy(alloc)?;
-        let ids = IdIndex::of_calls(alloc, &parts.calls)?;
-        let possible = possible_cars(alloc, &parts.building, &parts.calls)?;
-        Ok(Snapshot {
-            parts,
-            ids,
-            possible,
-        })
+        Snapshot::of_accepted(alloc, self.parts.copy(alloc)?)
     }
 
     /// The building.

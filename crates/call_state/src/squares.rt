@@ -1,9 +1,9 @@
 //! Travel times between floors.
 
-ghost use Rattle.std.specs.Prelude.{◌≡◌, ◌↔◌, ◌≤◌, ◌<◌, IsTrue, IsOk, IfOk, IfErr};
+ghost use Rattle.std.specs.Prelude.{◌≡◌, ◌↔◌, ℕ, ◌*◌, ◌≤◌, ◌<◌, length, slice_index, IsTrue, IsOk, IfOk, IfErr};
 ghost use Rattle.elevator_model.specs.Travel.{IsTravelSquare, time_between};
 ghost use Rattle.elevator_model.specs.declared.Fault.TheVariants.{NoTravelSquare};
-ghost use Rattle.call_state.specs.Squares.{square_of, IsEntry, IsRow, AreRows, IsLegDirect, IsRowDirect, AreRowsDirect};
+ghost use Rattle.call_state.specs.Squares.{square_of, IsEntry, IsRow, AreRows, IsNowhereShorter, IsRowDirect, AreRowsDirect};
 
 use crate::{Fault, StateFault};
 use std::alloc::{AllocError, Global};
@@ -48,7 +48,16 @@ impl Travel {
                 item: 0,
             });
         }
-        Ok(Travel { floors, times })
+        Ok(Travel::of_square(floors, times))
+    }
+
+    /// The square with these times in ms, which is known to be a travel square, so that nothing is judged
+    /// once more. It takes no memory.
+    pub fn of_square(floors: u32, times: Vec<u64>) -> Travel
+        requires { IsTravelSquare (square_of floors times.items) }
+        ensures { result ≡ square_of floors times.items }
+    {
+        Travel { floors, times }
     }
 
     /// The number of floors, 2 to 64.
@@ -133,35 +142,50 @@ fn are_rows(floors: u32, times: &[u64]) -> bool
     true
 }
 
-/// Whether the way over one floor is never shorter than the way from another.
-fn is_leg_direct(floors: u32, times: &[u64], from: u32, over: u32) -> bool
-    ensures { IsTrue result ↔ IsLegDirect (square_of floors times.now) from over }
+/// The times from one floor to each floor.
+fn row_of(floors: u32, times: &[u64], from: u32) -> &[u64]
+    requires whole { length times.now ≡ floors * floors }
+    requires from_floor { from < floors }
+    ensures count { length result.now ≡ floors }
+    ensures times { (to : ℕ) → to < floors
+        → slice_index result.now to ≡ time_between (square_of floors times.now) from to }
 {
-    for to in 0..floors {
-        let rest = time_at(floors, times, from, to).saturating_sub(time_at(
-            floors, times, from, over,
-        ));
-        if time_at(floors, times, over, to) < rest {
-            return false;
-        }
+    let start = from as usize * floors as usize;
+    &times[start..start + floors as usize]
+}
+
+/// Whether no way over a floor is shorter, which lies `leg` from the first floor: `rest` has the times from
+/// it to each floor, `direct` those from the first floor. It goes through all of them, since that is faster
+/// than to stop at the first one.
+fn is_leg_direct(leg: u64, rest: &[u64], direct: &[u64]) -> bool
+    requires { length rest.now ≡ length direct.now }
+    ensures { IsTrue result ↔ IsNowhereShorter leg rest.now direct.now }
+{
+    let mut is_shorter = false;
+    for to in 0..direct.len() {
+        is_shorter |= rest[to] < direct[to].saturating_sub(leg);
     }
-    true
+    !is_shorter
 }
 
 /// Whether no way over a third floor is shorter than the way from this floor.
 fn is_row_direct(floors: u32, times: &[u64], from: u32) -> bool
+    requires whole { length times.now ≡ floors * floors }
+    requires from_floor { from < floors }
     ensures { IsTrue result ↔ IsRowDirect (square_of floors times.now) from }
 {
+    let direct = row_of(floors, times, from);
     for over in 0..floors {
-        if !is_leg_direct(floors, times, from, over) {
+        if !is_leg_direct(direct[over as usize], row_of(floors, times, over), direct) {
             return false;
         }
     }
     true
 }
 
-/// Whether no way over a third floor is shorter.
-fn are_rows_direct(floors: u32, times: &[u64]) -> bool
+/// Whether no way over a third floor is shorter, in a square of times in ms, row after row.
+pub fn are_rows_direct(floors: u32, times: &[u64]) -> bool
+    requires { length times.now ≡ floors * floors }
     ensures { IsTrue result ↔ AreRowsDirect (square_of floors times.now) }
 {
     for from in 0..floors {

@@ -62,10 +62,7 @@ pub fn travel_of(
     ensures { IfOk result (λ travel. IsTravelOf heights.now speed accel travel) }
 {
     let times = times_of(alloc, heights, speed, accel)?;
-    let Ok(travel) = Travel::build(heights.len() as u32, times) else {
-        unreachable!()
-    };
-    Ok(travel)
+    Ok(Travel::of_square(heights.len() as u32, times))
 }
 
 /// The travel times, row after row.

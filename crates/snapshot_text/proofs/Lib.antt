@@ -1,4 +1,5 @@
 pub mod CarLemmas
+pub mod NewIds
 pub mod Steps
 pub mod Lists
 pub mod Whole

@@ -372,7 +372,7 @@ module _ (s : Snapshot) (text : HasText s) where
     call_line_good = call_good b call pin (text.call_ids j below) origin_low destination_low (text.accepted.calls j below).persons_high call_early
 
   -- the lines of the text stand for the snapshot
-  text_stands : StandsFor b false (snapshot_lines s) s
+  pub text_stands : StandsFor b false (snapshot_lines s) s
   unfolding snapshot_lines
   text_stands = record {
     head = head_words s.version;
@@ -395,7 +395,7 @@ module _ (s : Snapshot) (text : HasText s) where
     accepted = text.accepted;
   }
 
-  text_good_lines : AllByRecursion IsLineOfWords (snapshot_lines s)
+  pub text_good_lines : AllByRecursion IsLineOfWords (snapshot_lines s)
   unfolding snapshot_lines
   text_good_lines =
       let head = line_good (head_words s.version) (omega arith) (omega arith) (text_good (codes "snapshot") refl refl refl, (number_good s.version (omega (arith, text.accepted.version_high)), tt)) in
@@ -406,7 +406,7 @@ module _ (s : Snapshot) (text : HasText s) where
       let calls = each_map IsLineOfWords (call_words b) no_call s.calls call_line_good in
       (head, (moment, each-append IsLineOfWords (car_lines s ++ group_lines s ++ call_lines s) (end_words ∷ []) (each-append IsLineOfWords (car_lines s ++ group_lines s) (call_lines s) (each-append IsLineOfWords (car_lines s) (group_lines s) cars groups) calls) (end, tt)))
 
-  text_begins : (before : TextState) (tail : List ℕ) → before.bytes ≡ snapshot_text s ++ tail → length (snapshot_text s) ≤ before.limit → BeginsWith (snapshot_lines s) (reading before) (reading (behind before s tail))
+  pub text_begins : (before : TextState) (tail : List ℕ) → before.bytes ≡ snapshot_text s ++ tail → length (snapshot_text s) ≤ before.limit → BeginsWith (snapshot_lines s) (reading before) (reading (behind before s tail))
   unfolding snapshot_text
   text_begins before tail same room =
       subst (λ (bytes : List ℕ). BeginsWith (snapshot_lines s) (reading (record { line = before.line; limit = before.limit; bytes = bytes })) (reading (behind before s tail))) (sym same)

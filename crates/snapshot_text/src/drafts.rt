@@ -9,8 +9,8 @@ ghost use Rattle.text_sections.specs.Sections.{Did};
 use crate::kinds::{Due, LineWord};
 use crate::said::{call_said, car_said, form_of, group_said, moment_said, version_said};
 use call_state::{
-    Aboard, Building, Call, CarSpec, CarState, Fault, SnapshotParts, aboard_fault, call_fault,
-    state_fault,
+    Aboard, Building, Call, CarSpec, CarState, Fault, IdIndex, SnapshotParts, indexed_aboard_fault,
+    indexed_call_fault, state_fault,
 };
 use lift_text::{LineReader, Source};
 use std::alloc::{AllocError, Global};
@@ -47,17 +47,22 @@ pub(crate) struct Draft {
     stated: Vec<bool>,
     aboard: Vec<Aboard>,
     calls: Vec<Call>,
+    /// The ids of the groups and of the calls, so that a line looks none through.
+    group_ids: IdIndex,
+    call_ids: IdIndex,
 }
 
 impl Model for Draft {
-    ghost use Rattle.std.specs.Prelude.{◌≡◌, length};
+    ghost use Rattle.std.specs.Prelude.{◌≡◌, length, map};
+    ghost use Rattle.elevator_model.specs.declared.Aboard.{Aboard};
+    ghost use Rattle.elevator_model.specs.declared.Call.{Call};
     ghost use Rattle.snapshot_text.specs.Drafts.{Draft as Record};
 
     ghost Value = { Record };
 
     ghost view = { λ d. record { is_opening = d.is_opening; building = d.building; due = d.due; version = d.version; moment = d.moment; states = d.states.items; stated = d.stated.items; aboard = d.aboard.items; calls = d.calls.items } };
 
-    ghost invariant = { λ d. (length d.states.items ≡ length d.building.cars) × (length d.stated.items ≡ length d.building.cars) };
+    ghost invariant = { λ d. (length d.states.items ≡ length d.building.cars) × (length d.stated.items ≡ length d.building.cars) × (d.group_ids ≡ map (λ (x : Aboard). x.id) d.aboard.items) × (d.call_ids ≡ map (λ (x : Call). x.id) d.calls.items) };
 }
 
 impl Draft {
@@ -86,6 +91,8 @@ impl Draft {
             stated,
             aboard: Vec::new(alloc),
             calls: Vec::new(alloc),
+            group_ids: IdIndex::new(alloc),
+            call_ids: IdIndex::new(alloc),
         })
     }
 
@@ -272,17 +279,22 @@ impl Draft {
         ensures { Did (after_word AboardWord self.old (words lines.now)) result self.new }
     {
         let group = self.group_in(lines)?;
-        let fault = aboard_fault(
+        let fault = indexed_aboard_fault(
             &self.building,
             self.moment,
             &self.states,
             &self.aboard,
+            &self.group_ids,
             &group,
         );
         if let Some(fault) = fault {
             return Err(LineFault::Bad(fault.code()));
         }
-        self.aboard.push(group)?;
+        self.aboard.reserve(1)?;
+        self.group_ids.push(group.id)?;
+        let Ok(()) = self.aboard.push(group) else {
+            unreachable!()
+        };
         Ok(Turn::More)
     }
 
@@ -290,17 +302,23 @@ impl Draft {
         ensures { Did (after_word CallWord self.old (words lines.now)) result self.new }
     {
         let call = self.call_in(lines)?;
-        let fault = call_fault(
+        let fault = indexed_call_fault(
             &self.building,
             self.moment,
             &self.aboard,
+            &self.group_ids,
             &self.calls,
+            &self.call_ids,
             &call,
         );
         if let Some(fault) = fault {
             return Err(LineFault::Bad(fault.code()));
         }
-        self.calls.push(call)?;
+        self.calls.reserve(1)?;
+        self.call_ids.push(call.id)?;
+        let Ok(()) = self.calls.push(call) else {
+            unreachable!()
+        };
         Ok(Turn::More)
     }
 

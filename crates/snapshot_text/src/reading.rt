@@ -3,31 +3,24 @@ ghost use Rattle.std.specs.Prelude.{◌≡◌, ◌≤◌, false, true, None, Som
 ghost use Rattle.byte_streams.specs.Streams.{Rose};
 ghost use Rattle.lift_text.specs.LineReader.{text, failure};
 ghost use Rattle.elevator_model.specs.Snapshot.{IsAccepted};
-ghost use Rattle.elevator_model.specs.Faults.{first_fault_of_snapshot};
-ghost use Rattle.call_state.specs.SnapshotParts.{AreSnapshotParts};
 ghost use Rattle.snapshot_text.specs.Drafts.{snapshot_read};
 ghost use Rattle.snapshot_text.specs.Texts.{ReadsText};
 ghost use Rattle.snapshot_text.specs.Snapshots.{IsReadSnapshot, IsRefusedSnapshot, IsSaid, ReadsLines, FailsAs};
 
 use crate::drafts::Draft;
-use call_state::{Building, Snapshot, StateFault};
+use call_state::{Building, Snapshot};
 use lift_text::{LineReader, Source, TextFault};
 use std::alloc::{AllocError, Global};
 use text_sections::read_section;
 
-/// The snapshot that was read. Each item was judged with its line, so nothing is wrong with it: the only
-/// error is want of memory.
+/// The snapshot that was read. Each item was judged with its line, so it keeps the rules, and nothing is judged
+/// once more. It fails only where there is no memory left.
 fn into_snapshot(alloc: Global, draft: Draft) -> Result<Snapshot, AllocError>
-    requires parts { AreSnapshotParts (snapshot_read draft) }
-    requires clear { first_fault_of_snapshot (snapshot_read draft) ≡ None }
+    requires { IsAccepted (snapshot_read draft) }
     ensures value { IfOk result (λ snapshot. snapshot ≡ snapshot_read draft) }
     ensures accepted { OnOk result (IsAccepted (snapshot_read draft)) }
 {
-    match Snapshot::build(alloc, draft.into_parts()) {
-        Ok(snapshot) => Ok(snapshot),
-        Err(StateFault::NoMemory) => Err(AllocError),
-        Err(StateFault::Bad { .. }) => unreachable!(),
-    }
+    Snapshot::of_accepted(alloc, draft.into_parts())
 }
 
 /// Reads a section, as that of an opening snapshot or of another one.

@@ -1,5 +1,6 @@
 -- A section of a text, and what is read of it.
-use Rattle.std.specs.Prelude.{◌≡◌, ℕ, ◌+◌, List, Option, None, Some, IsSomeAnd, Result, Ok, Err}
+use Rattle.std.specs.Prelude.{◌≡◌, ℕ, ◌+◌, List, [], Option, None, Some, IsSomeAnd, Result, Ok, Err, OnErr}
+use Rattle.std.specs.Io.KnownBytes.{IsAtEnd}
 use Rattle.lift_text.specs.Reading.{TextState, Reading, reading, line_with, finished, bad_line, past_limit}
 use Rattle.lift_text.specs.declared.faults.TextFault.{TextFault}
 use Rattle.lift_text.specs.declared.faults.TextFault.TheVariants.{Read, TooLong, Bad, NoMemory}
@@ -63,3 +64,8 @@ ReadAs after (Some text) state (Err (Bad line code)) new rest = outcome after (r
 ReadAs after (Some text) state (Err TooLong) new rest = outcome after (reading text) state ≡ too_long
 ReadAs after (Some text) state (Err Read) new rest = Unit {0}
 ReadAs after (Some text) state (Err NoMemory) new rest = Unit {0}
+
+-- A section is refused behind its last line only where its source is at its end: where the reader has failed in nothing
+-- and stands at no line, nothing is left.
+abbrev pub IsCutAtEnd : Result Unit TextFault → Option TextFault → Line → Option (List ℕ) → Type 0
+IsCutAtEnd answer failure words left = OnErr answer (failure ≡ None → words ≡ [] → IsAtEnd left)

@@ -1,9 +1,8 @@
 //! Reading a section line by line.
-ghost use Rattle.std.specs.Prelude.{◌≡◌, ◌≢◌, ◌<◌, ◌≤◌, [], None, Some, length, IfErr, IfSome, OnErr, OnOk, IsErrOf};
-ghost use Rattle.std.specs.Io.KnownBytes.{IsAtEnd};
+ghost use Rattle.std.specs.Prelude.{◌≡◌, ◌<◌, ◌≤◌, None, Some, length, IfSome, OnOk, IsErrOf};
 ghost use Rattle.byte_streams.specs.Streams.{Rose};
 ghost use Rattle.lift_text.specs.LineReader.{text, words, failure};
-ghost use Rattle.text_sections.specs.Sections.{Line, Step, Did, ReadAs};
+ghost use Rattle.text_sections.specs.Sections.{Line, Step, Did, ReadAs, IsCutAtEnd};
 ghost use Rattle.text_sections.specs.Canonical.{IsMade, ReadsWritten};
 
 use crate::codes::{LineFault, TextCode};
@@ -49,7 +48,8 @@ pub fn read_section<S: Source, T: Section>(
     ensures made { OnOk result (IsMade T.after section.old section.new) }
     ensures ok { OnOk result (failure lines.new ≡ None) }
     ensures fault { IfSome (failure lines.new) (λ fault. result ≡ Err fault) }
-    ensures cut { failure lines.old ≡ None → OnErr result (failure lines.new ≡ None → words lines.new ≡ [] → IsAtEnd (S.left lines.new.source.now)) }
+    ensures cut { failure lines.old ≡ None
+        → IsCutAtEnd result (failure lines.new) (words lines.new) (S.left lines.new.source.now) }
     ensures read { failure lines.old ≡ None → IsErrOf result TextFault.Read
         → Rose (S.faults lines.old.source.now) (S.faults lines.new.source.now) }
     ensures counted { S.faults lines.old.source.now ≤ S.faults lines.new.source.now }
@@ -68,7 +68,8 @@ fn read_lines<S: Source, T: Section>(
     ensures made { OnOk result (IsMade T.after section.old section.new) }
     ensures ok { OnOk result (failure lines.new ≡ None) }
     ensures fault { IfSome (failure lines.new) (λ fault. result ≡ Err fault) }
-    ensures cut { failure lines.old ≡ None → OnErr result (failure lines.new ≡ None → words lines.new ≡ [] → IsAtEnd (S.left lines.new.source.now)) }
+    ensures cut { failure lines.old ≡ None
+        → IsCutAtEnd result (failure lines.new) (words lines.new) (S.left lines.new.source.now) }
     ensures read { failure lines.old ≡ None → IsErrOf result TextFault.Read
         → Rose (S.faults lines.old.source.now) (S.faults lines.new.source.now) }
     ensures counted { S.faults lines.old.source.now ≤ S.faults lines.new.source.now }

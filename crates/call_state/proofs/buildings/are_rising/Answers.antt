@@ -4,8 +4,8 @@ use Rattle.call_state.proofs.buildings.are_rising.Goals as goal
 
 pub returns : goal.returns
 returns c =
-    let xs = c.args.heights.now in
-    let rest = drop (c.loop-floor.floor - 1) xs in
-    let long = length-drop (c.loop-floor.floor - 1) xs in
+    let xs = c.args.numbers.now in
+    let rest = drop (c.loop-k.k - 1) xs in
+    let long = length-drop (c.loop-k.k - 1) xs in
     let short : length rest ≤ 1 = omega arith in
-    sym (c.loop-floor.invariant ∙ is_rising-short rest short)
+    sym (c.loop-k.invariant ∙ is_rising-short rest short)

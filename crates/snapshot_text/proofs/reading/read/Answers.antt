@@ -5,8 +5,7 @@ use Rattle.lift_text.specs.Reading.{reading}
 use Rattle.text_sections.specs.Sections.{ReadAs}
 use Rattle.text_sections.specs.Canonical.{IsMade, BeginsWith}
 use Rattle.elevator_model.specs.Snapshot.{Snapshot}
-use Rattle.call_state.proofs.Accepted.{IsAccepted-faultless}
-use Rattle.snapshot_text.specs.Drafts.{Draft, blank, after, snapshot_read}
+use Rattle.snapshot_text.specs.Drafts.{Draft, blank, after}
 use Rattle.snapshot_text.specs.Snapshots.{IsSaid}
 use Rattle.snapshot_text.proofs.Whole.{sound}
 use Rattle.snapshot_text.proofs.Again.{said_by, answer_ok, answer_err, no_memory_read, no_memory_answered, never_ok, memory_fails}
@@ -15,8 +14,7 @@ use Rattle.snapshot_text.proofs.reading.read.Goals as goal
 pub into_snapshot-requires : goal.into_snapshot-requires
 into_snapshot-requires g c =
     let made = subst (λ (start : Draft). IsMade after start c.read_section.new.section) c.in-Ok.ensures.value c.in-Ok-read_section.ensures.made in
-    let is = sound c.args.building c.args.is_opening c.in-Ok.ensures.building made.0 c.read_section.new.section made.1 in
-    record { parts = is.parts; clear = IsAccepted-faultless (snapshot_read c.read_section.new.section) is.accepted }
+    (sound c.args.building c.args.is_opening c.in-Ok.ensures.building made.0 c.read_section.new.section made.1).accepted
 
 pub returns-in-Err-clause-refused : goal.returns-in-Err-clause-refused
 returns-in-Err-clause-refused g c = λ none.

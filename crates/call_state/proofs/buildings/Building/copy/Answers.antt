@@ -1,18 +1,6 @@
-use Rattle.std.proofs.Common.{ℕ, map, List, sym, subst, ap, ◌∙◌}
-use Rattle.elevator_model.specs.declared.CarSpec.{CarSpec}
+use Rattle.std.proofs.Common.{sym, subst}
 use Rattle.elevator_model.specs.Building.{IsBuilding}
-use Rattle.call_state.specs.BuildingParts.{building_of}
-use Rattle.call_state.specs.Ids.{AreDifferent}
-use Rattle.call_state.proofs.BuildingLemmas.{ids-IsBuilding}
 use Rattle.call_state.proofs.buildings.Building.copy.Goals as goal
 
-pub of_cars-requires : goal.of_cars-requires
-of_cars-requires c =
-    let good : IsBuilding (building_of c.in_ok-parts.parts) = subst IsBuilding (sym c.in_ok-parts.ensures) c.self.invariant.0 in
-    let P : List CarSpec → Type 0 = λ cars. AreDifferent (map (λ (x : CarSpec). x.id) cars) in
-    subst P (sym c.deref.ensures.value) (ids-IsBuilding (building_of c.in_ok-parts.parts) good)
-
-pub invariant_of-result : goal.invariant_of-result
-invariant_of-result c =
-    let f : List CarSpec → List ℕ = map (λ x. x.id) in
-    (subst IsBuilding (sym c.in_ok-parts.ensures) c.self.invariant.0, c.in_ok-ids.ensures ∙ ap f c.deref.ensures.value)
+pub of_faultless-requires : goal.of_faultless-requires
+of_faultless-requires c = subst IsBuilding (sym c.in_ok-copy.ensures) c.self.invariant.0
