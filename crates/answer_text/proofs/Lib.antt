@@ -1,0 +1,9 @@
+pub mod Boards
+pub mod Lines
+pub mod CallLemmas
+pub mod StepLemmas
+pub mod WholeLemmas
+pub mod WithinLemmas
+pub mod AgainLemmas
+pub mod WrittenLemmas
+pub mod FitsLemmas
