@@ -1,0 +1,5 @@
+pub mod ParseLemmas
+pub mod RepeatLemmas
+pub mod TakenLemmas
+pub mod TakesLemmas
+pub mod Worked

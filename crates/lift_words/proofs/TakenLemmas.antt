@@ -1,0 +1,126 @@
+-- What the words are taken as.
+use Rattle.std.proofs.Common.{◌≡◌, ◌∙◌, ◌-◌, ◌<◌, ℕ, Bool, true, false, cond, List, [], ◌∷◌, map, length, take, drop, codes, Option, Some, None, slice_get, slice_index_or, IfSome, subst, sym, ap, refl, arith}
+use Rattle.std.specs.List.{Contains}
+use Rattle.std.specs.Str.{bytes_eq}
+use Rattle.std.proofs.lemmas.List.{drop-map, take_rest}
+use Rattle.std.proofs.lemmas.Slice.Eq.{bytes_eq-Decides}
+use Rattle.clap.specs.Walk.{Row, Text}
+use Rattle.clap.specs.Simple.{matches_of}
+use Rattle.clap.specs.Takes.{takes}
+use Rattle.lift_words.specs.Table.{app, command_of, word_of}
+use Rattle.lift_words.specs.Repeats.{IsRepeated}
+use Rattle.lift_words.specs.Taken.{AreTaken, Asks, AsksBy, AsksToMake, AsksToSolve, IsSecond, command_asked}
+use Rattle.lift_words.specs.declared.table.CommandWord.{CommandWord}
+use Rattle.lift_words.specs.declared.table.CommandWord.TheVariants as command
+use Rattle.lift_words.specs.declared.request.Request.{Request}
+use Rattle.lift_words.specs.declared.request.Request.TheVariants.{Solve, Make}
+use Rattle.lift_words.specs.declared.request.SolveOptions.{SolveOptions}
+use Rattle.lift_words.specs.declared.request.CaseSizes.{CaseSizes}
+
+-- ---- the words behind some of them
+
+pub rest_is : {X : Type 0} (f : X → Text) (xs : List X) (n : ℕ) → map f (take (length xs - n) (drop n xs)) ≡ drop n (map f xs)
+rest_is f xs n = ap (map f) (take_rest xs n) ∙ sym (drop-map f n xs)
+
+pub second_is : {X : Type 0} (f : X → Text) (xs : List X) (x : X) → 1 < length xs → x ≡ slice_index_or xs 1 x → slice_get (map f xs) 1 ≡ Some (f x)
+second_is f [] x lt at = absurd (omega arith)
+second_is f (y ∷ []) x lt at = absurd (omega arith)
+second_is f (y ∷ z ∷ xs) x lt at = sym (ap (λ v. Some (f v)) at)
+
+-- ---- the command
+
+only : {X : Type 0} {a b : X} → Some a ≡ Some b → a ≡ b
+only e = cc
+
+-- the word that names a command
+pub named_word : (word : Text) (named : CommandWord) → command_of word ≡ Some named → word ≡ word_of named
+named_word word named is = by_solve (bytes_eq word (codes "solve")) refl is
+  where
+    by_make : (b : Bool) → bytes_eq word (codes "make") ≡ b → cond b (Some command.Make) None ≡ Some named → word ≡ word_of named
+    by_make true e same = (bytes_eq-Decides word (codes "make")).0 e ∙ ap word_of (only same)
+    by_make false e same = absurd cc
+
+    by_solve : (b : Bool) → bytes_eq word (codes "solve") ≡ b → cond b (Some command.Solve) (cond (bytes_eq word (codes "make")) (Some command.Make) None) ≡ Some named → word ≡ word_of named
+    by_solve true e same = (bytes_eq-Decides word (codes "solve")).0 e ∙ ap word_of (only same)
+    by_solve false e same = by_make (bytes_eq word (codes "make")) refl same
+
+pub known : (words : List Text) (word : Text) (found : Option CommandWord) → slice_get words 1 ≡ Some word → found ≡ command_of word → IfSome found (IsSecond words)
+known words word None second is = tt
+known words word (Some named) second is = second ∙ ap Some (named_word word named (sym is))
+
+word_names : (named : CommandWord) → command_of (word_of named) ≡ Some named
+word_names command.Solve = refl
+word_names command.Make = refl
+
+-- ---- what is asked
+
+asks_to_solve_one : (rows : List Row) (a b : SolveOptions) → AsksToSolve rows a → AsksToSolve rows b → a ≡ b
+asks_to_solve_one rows a b x y =
+    let rounds = only (sym x.rounds ∙ y.rounds) in
+    let moves = only (sym x.moves ∙ y.moves) in
+    let workers = only (sym x.workers ∙ y.workers) in
+    λ i. record { rounds = rounds i; moves = moves i; workers = workers i }
+
+asks_to_make_one : (rows : List Row) (a b : CaseSizes) → AsksToMake rows a → AsksToMake rows b → a ≡ b
+asks_to_make_one rows a b x y =
+    let number = only (sym x.number ∙ y.number) in
+    let floors = only (sym x.floors ∙ y.floors) in
+    let cars = only (sym x.cars ∙ y.cars) in
+    let calls = only (sym x.calls ∙ y.calls) in
+    λ i. record { number = number i; floors = floors i; cars = cars i; calls = calls i }
+
+pub asks_one : (named : CommandWord) (rows : List Row) (a b : Request) → AsksBy named rows a → AsksBy named rows b → a ≡ b
+asks_one named rows (Solve a) (Solve b) x y = ap Solve (asks_to_solve_one rows a b x.1 y.1)
+asks_one named rows (Make a) (Make b) x y = ap Make (asks_to_make_one rows a b x.1 y.1)
+asks_one named rows (Solve a) (Make b) x y = let same : command.Solve ≡ command.Make = x.0 ∙ sym y.0 in absurd cc
+asks_one named rows (Make a) (Solve b) x y = let same : command.Make ≡ command.Solve = x.0 ∙ sym y.0 in absurd cc
+
+-- ---- the words that are taken
+
+module _ (words : List Text) (named : CommandWord) (second : IsSecond words named) where
+  pub taken_command : (request : Request) → AreTaken words request → command_asked request ≡ named
+  taken_command request t =
+      let same : word_of (command_asked request) ≡ word_of named = only (sym t.command ∙ second) in
+      only (sym (word_names (command_asked request)) ∙ ap command_of same ∙ word_names named)
+
+  pub taken_accepted : (request : Request) → AreTaken words request → takes (app named) (drop 1 words) ≡ true
+  taken_accepted request t = subst (λ k. takes (app k) (drop 1 words) ≡ true) (taken_command request t) t.accepted
+
+  pub taken_asks : (rows : List Row) → rows ≡ matches_of (app named) (drop 1 words) → (request : Request) → AreTaken words request → AsksBy named rows request
+  taken_asks rows is request t =
+      let same = taken_command request t in
+      (same, subst (λ r. Asks r request) (ap (λ k. matches_of (app k) (drop 1 words)) same ∙ sym is) t.asks)
+
+  pub taken : (rows : List Row) (request : Request) → (IsRepeated (drop 2 words) → ⊥) → (Contains (drop 2 words) (codes "--") → ⊥)
+      → takes (app named) (drop 1 words) ≡ true → rows ≡ matches_of (app named) (drop 1 words) → AsksBy named rows request → AreTaken words request
+  taken rows request unrepeated no_dashes accepted is asks =
+      let same = sym asks.0 in
+      record {
+        command = second ∙ ap (λ k. Some (word_of k)) same;
+        unrepeated = unrepeated;
+        no_dashes = no_dashes;
+        accepted = subst (λ k. takes (app k) (drop 1 words) ≡ true) same accepted;
+        asks = subst (λ r. Asks r request) (is ∙ ap (λ k. matches_of (app k) (drop 1 words)) same) asks.1;
+      }
+
+-- ---- the same of the words as the program has them
+
+module _ {X : Type 0} (f : X → Text) (xs : List X) (named : CommandWord) where
+  -- the words from the command on
+  abbrev pub from_command : List Text
+  from_command = map f (take (length xs - 1) (drop 1 xs))
+
+  pub accepted_rest : takes (app named) from_command ≡ true → takes (app named) (drop 1 (map f xs)) ≡ true
+  accepted_rest h = sym (ap (takes (app named)) (rest_is f xs 1)) ∙ h
+
+  pub rows_rest : (rows : List Row) → rows ≡ matches_of (app named) from_command → rows ≡ matches_of (app named) (drop 1 (map f xs))
+  rows_rest rows h = h ∙ ap (matches_of (app named)) (rest_is f xs 1)
+
+  -- where `clap` does not take them, no request is asked
+  pub refused_by_parse : IsSecond (map f xs) named → (takes (app named) from_command ≡ true → ⊥) → (request : Request) → AreTaken (map f xs) request → ⊥
+  refused_by_parse second untaken request t = untaken (ap (takes (app named)) (rest_is f xs 1) ∙ taken_accepted (map f xs) named second request t)
+
+  -- nor where the rows ask for none
+  pub refused_by_rows : IsSecond (map f xs) named → (rows : List Row) → rows ≡ matches_of (app named) from_command
+      → ((request : Request) → AsksBy named rows request → ⊥) → (request : Request) → AreTaken (map f xs) request → ⊥
+  refused_by_rows second rows is none request t = none request (taken_asks (map f xs) named second rows (rows_rest rows is) request t)

@@ -1,0 +1,63 @@
+-- Worked rows: words that are taken, and words that are not.
+use Rattle.std.specs.Prelude.{zero, suc, [], ◌∷◌, codes, refl}
+use Rattle.std.proofs.Common.{arith, lit<}
+use Rattle.std.specs.List.{Contains}
+use Rattle.clap.proofs.OnLiterals.{clap_on_literals}
+use Rattle.clap.specs.Walk.{Text}
+use Rattle.lift_words.specs.Repeats.{IsRepeated}
+use Rattle.lift_words.specs.Taken.{AreTaken}
+use Rattle.lift_words.specs.declared.request.Request.{Request}
+use Rattle.lift_words.specs.declared.request.Request.TheVariants.{Solve, Make}
+
+-- one word alone repeats none
+alone : (word : Text) → IsRepeated (word ∷ []) → ⊥
+alone word r = absurd (omega (arith, r.order, r.within))
+
+pub solve_by_defaults : AreTaken (codes "lift" ∷ codes "solve" ∷ codes "--brief" ∷ []) (Solve (record { rounds = 2000; moves = 75000; workers = 1 }))
+unfolding clap_on_literals
+solve_by_defaults = record {
+  command = refl;
+  unrepeated = alone (codes "--brief");
+  no_dashes = only;
+  accepted = refl;
+  asks = record { brief = refl; rounds = refl; moves = refl; workers = refl };
+}
+  where
+    only : Contains (codes "--brief" ∷ []) (codes "--") → ⊥
+    only (zero, lt, same) = absurd cc
+    only (suc k, lt, same) = absurd (omega arith)
+
+pub make_with_four_floors : AreTaken (codes "lift" ∷ codes "make" ∷ codes "--floors=004" ∷ []) (Make (record { number = 1; floors = 4; cars = 4; calls = 20 }))
+unfolding clap_on_literals
+make_with_four_floors = record {
+  command = refl;
+  unrepeated = alone (codes "--floors=004");
+  no_dashes = only;
+  accepted = refl;
+  asks = record { number = refl; floors = refl; cars = refl; calls = refl; rounds = refl; moves = refl };
+}
+  where
+    only : Contains (codes "--floors=004" ∷ []) (codes "--") → ⊥
+    only (zero, lt, same) = absurd cc
+    only (suc k, lt, same) = absurd (omega arith)
+
+pub brief_is_wanted : (request : Request) → AreTaken (codes "lift" ∷ codes "solve" ∷ codes "--rounds=5" ∷ []) request → ⊥
+unfolding clap_on_literals
+brief_is_wanted (Solve options) t = let none = t.asks.brief in absurd cc
+brief_is_wanted (Make sizes) t = let other = t.command in absurd cc
+
+pub no_rounds : (request : Request) → AreTaken (codes "lift" ∷ codes "solve" ∷ codes "--brief" ∷ codes "--rounds" ∷ codes "0" ∷ []) request → ⊥
+unfolding clap_on_literals
+no_rounds (Solve options) t = let none = t.asks.rounds in absurd cc
+no_rounds (Make sizes) t = let other = t.command in absurd cc
+
+pub shortened : (request : Request) → AreTaken (codes "lift" ∷ codes "make" ∷ codes "--floor" ∷ codes "4" ∷ []) request → ⊥
+unfolding clap_on_literals
+shortened (Make sizes) t = let refused = t.accepted in absurd cc
+shortened (Solve options) t = let other = t.command in absurd cc
+
+pub brief_twice : (request : Request) → AreTaken (codes "lift" ∷ codes "solve" ∷ codes "--brief" ∷ codes "--brief" ∷ []) request → ⊥
+brief_twice request t = t.unrepeated (record { first = 0; second = 1; order = lit< tt; within = lit< tt; repeats = record { first_option = refl; second_option = refl; same = refl } })
+
+pub dashes_alone : (request : Request) → AreTaken (codes "lift" ∷ codes "solve" ∷ codes "--brief" ∷ codes "--" ∷ []) request → ⊥
+dashes_alone request t = t.no_dashes (1, lit< tt, refl)

@@ -1,0 +1,80 @@
+-- The table of commands and their options.
+use Rattle.std.specs.Prelude.{◌≡◌, ◌^◌, ◌-◌, ℕ, List, [], ◌∷◌, map, fold, codes, Option, Some, None, if◌then◌else◌}
+use Rattle.std.specs.Borrow.{Bor}
+use Rattle.std.specs.Str.{bytes_eq}
+use Rattle.clap.specs.Walk.{Rule, Text}
+use Rattle.clap.specs.Simple.{App, new_app, new_rule, with_rule}
+use Rattle.clap.specs.declared.builder.action.ArgAction.TheVariants.{SetTrue}
+use Rattle.lift_words.specs.declared.table.CommandWord.{CommandWord}
+use Rattle.lift_words.specs.declared.table.CommandWord.TheVariants.{Solve, Make}
+use Rattle.lift_words.specs.declared.table.NumberOption.{NumberOption}
+use Rattle.lift_words.specs.declared.table.NumberOption.TheVariants.{Rounds, Moves, Workers, Number, Floors, Cars, Calls}
+use Rattle.lift_words.specs.declared.table.Setting.{Setting}
+
+-- an option that takes a number: its name without the dashes, its least and its greatest value, and
+-- the value where it is not given
+pub record OptionRow : Type 0 where
+  pub name : Text
+  pub low : ℕ
+  pub high : ℕ
+  pub default : ℕ
+
+abbrev pub row : Text → ℕ → ℕ → ℕ → OptionRow
+row name low high default = record { name = name; low = low; high = high; default = default }
+
+abbrev pub setting_of : NumberOption → OptionRow
+setting_of Rounds = row (codes "rounds") 1 (10 ^ 18) 2000
+setting_of Moves = row (codes "moves") 1 (10 ^ 18) 75000
+setting_of Workers = row (codes "workers") 1 16 1
+setting_of Number = row (codes "number") 0 (2 ^ 64 - 1) 1
+setting_of Floors = row (codes "floors") 2 64 12
+setting_of Cars = row (codes "cars") 1 8 4
+setting_of Calls = row (codes "calls") 0 64 20
+
+abbrev pub word_of : CommandWord → Text
+word_of Solve = codes "solve"
+word_of Make = codes "make"
+
+-- the command that a word names
+abbrev pub command_of : Text → Option CommandWord
+command_of word = if bytes_eq word (codes "solve") then Some Solve
+    else (if bytes_eq word (codes "make") then Some Make else None)
+
+-- the options of a command that take a number
+abbrev pub numbers_of : CommandWord → List NumberOption
+numbers_of Solve = Rounds ∷ Moves ∷ Workers ∷ []
+numbers_of Make = Number ∷ Floors ∷ Cars ∷ Calls ∷ Rounds ∷ Moves ∷ []
+
+-- and those that take no value
+abbrev pub flags_of : CommandWord → List Text
+flags_of Solve = codes "brief" ∷ []
+flags_of Make = []
+
+-- ---- as `clap` sees it: long options alone, each with one value, and flags
+
+abbrev pub option_rule : Text → Rule
+option_rule name = record (new_rule name) { long = Some name }
+
+abbrev pub flag_rule : Text → Rule
+flag_rule name = record (option_rule name) { action = Some SetTrue }
+
+abbrev pub with_number : App → NumberOption → App
+with_number app option = with_rule app (option_rule (setting_of option).name)
+
+abbrev pub with_flag : App → Text → App
+with_flag app name = with_rule app (flag_rule name)
+
+-- the command as one simple command of `clap`
+abbrev pub app : CommandWord → App
+app command = fold with_flag (fold with_number (new_app (word_of command)) (numbers_of command)) (flags_of command)
+
+-- ---- what the program's own values show
+
+abbrev pub texts : List (Bor Text) → List Text
+texts = map (λ s. s.now)
+
+pub record Shows (setting : Setting) (shown : OptionRow) : Type 0 where
+  pub name : setting.name.now ≡ shown.name
+  pub low : setting.low ≡ shown.low
+  pub high : setting.high ≡ shown.high
+  pub default : setting.default ≡ shown.default

@@ -1,0 +1,102 @@
+-- Which words are taken, and what they ask for.
+use Rattle.std.specs.Prelude.{◌≡◌, ◌≤◌, ◌&&◌, ℕ, List, drop, codes, slice_get, nat_le, true, Option, Some, None, IsSome, if◌then◌else◌, option_and_then}
+use Rattle.std.specs.List.{Contains}
+use Rattle.lift_text.specs.Numbers.{digits_number}
+use Rattle.clap.specs.Walk.{Row, Text, first_of}
+use Rattle.clap.specs.Simple.{matches_of}
+use Rattle.clap.specs.Takes.{takes}
+use Rattle.lift_words.specs.Table.{OptionRow, app, setting_of, word_of}
+use Rattle.lift_words.specs.Repeats.{IsRepeated}
+use Rattle.lift_words.specs.declared.table.CommandWord.{CommandWord}
+use Rattle.lift_words.specs.declared.table.CommandWord.TheVariants as command
+use Rattle.lift_words.specs.declared.table.NumberOption.{NumberOption}
+use Rattle.lift_words.specs.declared.table.NumberOption.TheVariants.{Rounds, Moves, Workers, Number, Floors, Cars, Calls}
+use Rattle.lift_words.specs.declared.request.Request.{Request}
+use Rattle.lift_words.specs.declared.request.Request.TheVariants.{Solve, Make}
+use Rattle.lift_words.specs.declared.request.SolveOptions.{SolveOptions}
+use Rattle.lift_words.specs.declared.request.CaseSizes.{CaseSizes}
+
+abbrev pub within : ℕ → ℕ → ℕ → Option ℕ
+within low high n = if nat_le low n && nat_le n high then Some n else None
+
+-- the number that a word writes, where it is a number word from low to high
+abbrev pub number_in_range : ℕ → ℕ → Text → Option ℕ
+number_in_range low high word = option_and_then (within low high) (digits_number word)
+
+-- the number of an option: that of its value, or the default where it has none
+abbrev pub number_from : OptionRow → Option Text → Option ℕ
+number_from row None = Some row.default
+number_from row (Some word) = number_in_range row.low row.high word
+
+-- the same, by what `clap` found
+abbrev pub number_of : List Row → NumberOption → Option ℕ
+number_of rows option = number_from (setting_of option) (first_of (setting_of option).name rows)
+
+pub record AsksToSolve (rows : List Row) (options : SolveOptions) : Type 0 where
+  pub brief : first_of (codes "brief") rows ≡ Some (codes "true")
+  pub rounds : number_of rows Rounds ≡ Some options.rounds
+  pub moves : number_of rows Moves ≡ Some options.moves
+  pub workers : number_of rows Workers ≡ Some options.workers
+
+pub record AsksToMake (rows : List Row) (sizes : CaseSizes) : Type 0 where
+  pub number : number_of rows Number ≡ Some sizes.number
+  pub floors : number_of rows Floors ≡ Some sizes.floors
+  pub cars : number_of rows Cars ≡ Some sizes.cars
+  pub calls : number_of rows Calls ≡ Some sizes.calls
+  -- in their ranges, and of no effect
+  pub rounds : IsSome (number_of rows Rounds)
+  pub moves : IsSome (number_of rows Moves)
+
+abbrev pub command_asked : Request → CommandWord
+command_asked (Solve options) = command.Solve
+command_asked (Make sizes) = command.Make
+
+abbrev pub Asks : List Row → Request → Type 0
+Asks rows (Solve options) = AsksToSolve rows options
+Asks rows (Make sizes) = AsksToMake rows sizes
+
+-- the request is one of this command, and has the numbers that were found
+abbrev pub AsksBy : CommandWord → List Row → Request → Type 0
+AsksBy command rows request = (command_asked request ≡ command) × Asks rows request
+
+-- an answer is one that passes, and there is none only where none passes
+abbrev pub ExactlyWhere : {X : Type 0} → (X → Type 0) → Option X → Type 0
+ExactlyWhere P (Some x) = P x
+ExactlyWhere {X} P None = (x : X) → P x → ⊥
+
+-- the second word is that of the command
+abbrev pub IsSecond : List Text → CommandWord → Type 0
+IsSecond words command = slice_get words 1 ≡ Some (word_of command)
+
+-- The words of the command line, the program's name first, are taken as this request.
+pub record AreTaken (words : List Text) (request : Request) : Type 0 where
+  -- the second word is the command
+  pub command : IsSecond words (command_asked request)
+  -- after it no option is repeated, and no word is `--` alone
+  pub unrepeated : IsRepeated (drop 2 words) → ⊥
+  pub no_dashes : Contains (drop 2 words) (codes "--") → ⊥
+  -- `clap` takes the words from the command on, by the command's row of the table
+  pub accepted : takes (app (command_asked request)) (drop 1 words) ≡ true
+  -- each value that `clap` finds is a number word in its range; the request has the values, or the
+  -- defaults
+  pub asks : Asks (matches_of (app (command_asked request)) (drop 1 words)) request
+
+-- ---- the ranges of what is asked
+
+abbrev pub IsInRange : NumberOption → ℕ → Type 0
+IsInRange option n = ((setting_of option).low ≤ n) × (n ≤ (setting_of option).high)
+
+pub record AreSolveOptions (options : SolveOptions) : Type 0 where
+  pub rounds : IsInRange Rounds options.rounds
+  pub moves : IsInRange Moves options.moves
+  pub workers : IsInRange Workers options.workers
+
+pub record AreCaseSizes (sizes : CaseSizes) : Type 0 where
+  pub number : IsInRange Number sizes.number
+  pub floors : IsInRange Floors sizes.floors
+  pub cars : IsInRange Cars sizes.cars
+  pub calls : IsInRange Calls sizes.calls
+
+abbrev pub IsWithin : Request → Type 0
+IsWithin (Solve options) = AreSolveOptions options
+IsWithin (Make sizes) = AreCaseSizes sizes

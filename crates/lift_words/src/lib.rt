@@ -1,0 +1,14 @@
+//! The words of the command line: which command they name, with which options.
+#![tactic(auto)]
+
+mod parsing;
+mod reading;
+mod repeats;
+mod request;
+mod table;
+
+pub use reading::read_words;
+pub use request::{CaseSizes, Request, SolveOptions, WordsFault};
+
+#[cfg(test)]
+mod tests;

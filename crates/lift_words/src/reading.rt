@@ -1,0 +1,140 @@
+//! Reads the words.
+ghost use Rattle.std.specs.Prelude.{◌≡◌, ◌≤◌, IfErr, IfOk, IfSome, None, length, IsTrue, ◌↔◌, Some, codes, map, option_map, string_bytes};
+ghost use Rattle.clap.specs.Words.{first_of, found_of, rows_of};
+ghost use Rattle.lift_words.specs.Taken.{AreCaseSizes, AreSolveOptions, AreTaken, AsksBy, AsksToMake, AsksToSolve, ExactlyWhere, IsInRange, IsSecond, IsWithin, number_in_range, number_of};
+ghost use Rattle.lift_words.specs.declared.request.Request.{Request};
+ghost use Rattle.lift_words.specs.declared.table.CommandWord.{CommandWord};
+
+use crate::parsing::parse;
+use crate::repeats::{has_lone_dashes, has_repeats};
+use crate::request::{CaseSizes, Request, SolveOptions, WordsFault};
+use crate::table::{CommandWord, NumberOption};
+use clap::ArgMatches;
+use lift_text::number_in;
+use std::alloc::Global;
+
+/// Reads the words of the command line, of which the first is the program's name.
+///
+/// Options are written `--name value` or `--name=value`, in any order, each at most once. A value is one
+/// or more decimal digits, in the option's range; an option that is not given has its default.
+/// `NotTaken` comes exactly where the words are not taken, unless memory is wanting.
+pub fn read_words(alloc: Global, words: &[String]) -> Result<Request, WordsFault>
+    ensures taken { IfOk result (λ request. AreTaken (map string_bytes words.now) request) }
+    ensures refused { IfErr result (λ fault. fault ≡ WordsFault.NotTaken
+        → (request : Request) → AreTaken (map string_bytes words.now) request → ⊥) }
+    ensures one { IfOk result (λ request. (other : Request)
+        → AreTaken (map string_bytes words.now) other → other ≡ request) }
+    ensures within { IfOk result IsWithin }
+{
+    let Some(command) = command_in(words) else {
+        return Err(WordsFault::NotTaken);
+    };
+    let options = &words[2..];
+    if has_lone_dashes(options) || has_repeats(options) {
+        return Err(WordsFault::NotTaken);
+    }
+    let matches = parse(alloc, command, &words[1..])?;
+    match asked(command, &matches) {
+        Some(request) => Ok(request),
+        None => Err(WordsFault::NotTaken),
+    }
+}
+
+/// The command that the second word names.
+fn command_in(words: &[String]) -> Option<CommandWord>
+    ensures known { IfSome result (λ command. IsSecond (map string_bytes words.now) command) }
+    ensures long { IfSome result (λ _. 2 ≤ length words.now) }
+    ensures none { result ≡ None → (command : CommandWord) → IsSecond (map string_bytes words.now) command → ⊥ }
+{
+    let word = words.get(1)?;
+    CommandWord::named(word.as_str())
+}
+
+/// What the matches of a command ask for.
+fn asked(command: CommandWord, matches: &ArgMatches<'_>) -> Option<Request>
+    ensures asked { ExactlyWhere (AsksBy command (rows_of (found_of matches.now))) result }
+    ensures within { IfSome result IsWithin }
+{
+    match command {
+        CommandWord::Solve => Some(Request::Solve(solve_options(matches)?)),
+        CommandWord::Make => Some(Request::Make(case_sizes(matches)?)),
+    }
+}
+
+/// The options of `solve`, where `--brief` is given.
+fn solve_options(matches: &ArgMatches<'_>) -> Option<SolveOptions>
+    ensures asked { let rows = rows_of (found_of matches.now) in
+        ExactlyWhere (AsksToSolve rows) result }
+    ensures within { IfSome result AreSolveOptions }
+{
+    let rounds = number(matches, NumberOption::Rounds)?;
+    let moves = number(matches, NumberOption::Moves)?;
+    let workers = number(matches, NumberOption::Workers)?;
+    if !is_given(matches, "brief") {
+        return None;
+    }
+    Some(SolveOptions {
+        rounds,
+        moves,
+        workers: workers as u32,
+    })
+}
+
+/// The options of `make`.
+fn case_sizes(matches: &ArgMatches<'_>) -> Option<CaseSizes>
+    ensures asked { let rows = rows_of (found_of matches.now) in
+        ExactlyWhere (AsksToMake rows) result }
+    ensures within { IfSome result AreCaseSizes }
+{
+    let number_of_case = number(matches, NumberOption::Number)?;
+    let floors = number(matches, NumberOption::Floors)?;
+    let cars = number(matches, NumberOption::Cars)?;
+    let calls = number(matches, NumberOption::Calls)?;
+    let _rounds = number(matches, NumberOption::Rounds)?;
+    let _moves = number(matches, NumberOption::Moves)?;
+    Some(CaseSizes {
+        number: number_of_case,
+        floors: floors as u32,
+        cars: cars as u32,
+        calls: calls as u32,
+    })
+}
+
+/// Whether the flag is given.
+fn is_given(matches: &ArgMatches<'_>, flag: &str) -> bool
+    ensures { IsTrue result ↔ (first_of flag.now (rows_of (found_of matches.now)) ≡ Some (codes "true")) }
+{
+    match value(matches, flag) {
+        Some(value) => value == "true",
+        None => false,
+    }
+}
+
+/// The value that an option is given.
+fn value<'a>(matches: &ArgMatches<'a>, name: &str) -> Option<&'a str>
+    ensures { option_map (λ s. s.now) result ≡ first_of name.now (rows_of (found_of matches.now)) }
+{
+    matches.get_str(name)
+}
+
+/// The number of an option: its value, where that is a number word in the range, or the default.
+fn number(matches: &ArgMatches<'_>, option: NumberOption) -> Option<u64>
+    ensures value { result ≡ number_of (rows_of (found_of matches.now)) option }
+    ensures within { IfSome result (IsInRange option) }
+{
+    let setting = option.setting();
+    match value(matches, setting.name) {
+        None => Some(setting.default),
+        Some(word) => number_word(word, setting.low, setting.high),
+    }
+}
+
+/// The number that a word writes, where it is a number word in the range.
+fn number_word(word: &str, low: u64, high: u64) -> Option<u64>
+    ensures { result ≡ number_in_range low high word.now }
+{
+    match number_in(word.as_bytes(), i128::from(low), i128::from(high)) {
+        Ok(number) => Some(number as u64),
+        Err(_) => None,
+    }
+}

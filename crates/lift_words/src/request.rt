@@ -1,0 +1,68 @@
+//! What the words ask for.
+ghost use Rattle.std.specs.Prelude.{◌≡◌};
+ghost use Rattle.lift_words.specs.declared.request.WordsFault.TheVariants.{NoMemory};
+
+use std::alloc::{AllocError, AllocFailed};
+use std::error::Error;
+use std::fmt;
+
+/// What the words of the command line ask for.
+#[derive(Clone, Copy, Debug, PartialEq, Eq)]
+pub enum Request {
+    /// `solve --brief`: the case of the input is to be solved.
+    Solve(SolveOptions),
+    /// `make`: a generated case is to be written.
+    Make(CaseSizes),
+}
+
+/// The options of `solve`.
+#[derive(Clone, Copy, Debug, PartialEq, Eq)]
+pub struct SolveOptions {
+    /// `--rounds`: at most so many rounds, 1 to 10^18. The default is 2000.
+    pub rounds: u64,
+    /// `--moves`: at most so many moves in one pricing, 1 to 10^18. The default is 75000.
+    pub moves: u64,
+    /// `--workers`: so many threads, 1 to 16. The default is 1.
+    pub workers: u32,
+}
+
+/// The options of `make`. It takes `--rounds` and `--moves` too, which change nothing.
+#[derive(Clone, Copy, Debug, PartialEq, Eq)]
+pub struct CaseSizes {
+    /// `--number`: the number that the case is made from, any of 64 bits. The default is 1.
+    pub number: u64,
+    /// `--floors`: 2 to 64. The default is 12.
+    pub floors: u32,
+    /// `--cars`: 1 to 8. The default is 4.
+    pub cars: u32,
+    /// `--calls`: 0 to 64. The default is 20.
+    pub calls: u32,
+}
+
+/// Why the words give no request.
+#[derive(Clone, Copy, Debug, PartialEq, Eq)]
+pub enum WordsFault {
+    /// The words are not taken.
+    NotTaken,
+    /// Memory is wanting.
+    NoMemory,
+}
+
+impl fmt::Display for WordsFault {
+    fn fmt<W: fmt::Write>(&self, f: &mut fmt::Formatter<W>) -> fmt::Result {
+        match self {
+            WordsFault::NotTaken => write!(f, "the words are not taken"),
+            WordsFault::NoMemory => write!(f, "out of memory"),
+        }
+    }
+}
+
+impl Error for WordsFault {}
+
+impl From<AllocError> for WordsFault {
+    ghost from_gives = { λ _ fault. fault ≡ NoMemory };
+
+    fn from(_error: AllocError) -> WordsFault {
+        WordsFault::NoMemory
+    }
+}

@@ -1,0 +1,117 @@
+//! The table of commands and their options.
+ghost use Rattle.std.specs.Prelude.{◌≡◌};
+ghost use Rattle.lift_words.specs.Table.{Shows, command_of, flags_of, numbers_of, setting_of, texts, word_of};
+
+/// A command.
+#[derive(Clone, Copy, Debug, PartialEq, Eq)]
+pub(crate) enum CommandWord {
+    Solve,
+    Make,
+}
+
+/// An option that takes a number.
+#[derive(Clone, Copy, Debug, PartialEq, Eq)]
+pub(crate) enum NumberOption {
+    Rounds,
+    Moves,
+    Workers,
+    Number,
+    Floors,
+    Cars,
+    Calls,
+}
+
+/// What the table says of an option that takes a number: its name without the dashes, its least and its
+/// greatest value, and the value where it is not given.
+#[derive(Clone, Copy, Debug)]
+pub(crate) struct Setting {
+    pub(crate) name: &'static str,
+    pub(crate) low: u64,
+    pub(crate) high: u64,
+    pub(crate) default: u64,
+}
+
+/// The greatest number of rounds, and of moves.
+const MOST: u64 = 1_000_000_000_000_000_000;
+
+impl CommandWord {
+    /// The command that a word names.
+    pub(crate) fn named(word: &str) -> Option<CommandWord>
+        ensures { result ≡ command_of word.now }
+    {
+        match word {
+            "solve" => Some(CommandWord::Solve),
+            "make" => Some(CommandWord::Make),
+            _ => None,
+        }
+    }
+
+    /// The word that names the command.
+    pub(crate) fn word(self) -> &'static str
+        ensures { result.now ≡ word_of self }
+    {
+        match self {
+            CommandWord::Solve => "solve",
+            CommandWord::Make => "make",
+        }
+    }
+
+    /// Its options that take a number.
+    pub(crate) fn numbers(self) -> &'static [NumberOption]
+        ensures { result.now ≡ numbers_of self }
+    {
+        match self {
+            CommandWord::Solve => &[
+                NumberOption::Rounds,
+                NumberOption::Moves,
+                NumberOption::Workers,
+            ],
+            CommandWord::Make => &[
+                NumberOption::Number,
+                NumberOption::Floors,
+                NumberOption::Cars,
+                NumberOption::Calls,
+                NumberOption::Rounds,
+                NumberOption::Moves,
+            ],
+        }
+    }
+
+    /// Its options that take no value, by name.
+    pub(crate) fn flags(self) -> &'static [&'static str]
+        ensures { texts result.now ≡ flags_of self }
+    {
+        match self {
+            CommandWord::Solve => &["brief"],
+            CommandWord::Make => &[],
+        }
+    }
+}
+
+impl NumberOption {
+    /// What the table says of it.
+    pub(crate) fn setting(self) -> Setting
+        ensures { Shows result (setting_of self) }
+    {
+        match self {
+            NumberOption::Rounds => make_setting("rounds", 1, MOST, 2000),
+            NumberOption::Moves => make_setting("moves", 1, MOST, 75000),
+            NumberOption::Workers => make_setting("workers", 1, 16, 1),
+            NumberOption::Number => make_setting("number", 0, u64::MAX, 1),
+            NumberOption::Floors => make_setting("floors", 2, 64, 12),
+            NumberOption::Cars => make_setting("cars", 1, 8, 4),
+            NumberOption::Calls => make_setting("calls", 0, 64, 20),
+        }
+    }
+}
+
+fn make_setting(name: &'static str, low: u64, high: u64, default: u64) -> Setting
+    ensures { result ≡ record { name = name.entry; low = low; high = high; default = default } }
+{
+    Setting {
+        name,
+        low,
+        high,
+        default,
+    }
+}
