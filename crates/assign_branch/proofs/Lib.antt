@@ -1,0 +1,4 @@
+pub mod DemandLemmas
+mod SetNumbers
+mod SplitLaws
+mod RootLemmas

@@ -1,0 +1,4 @@
+mod TourInNode
+mod ChoiceLemmas
+mod MenuLemmas
+mod ValueLemmas

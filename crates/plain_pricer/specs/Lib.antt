@@ -1,0 +1,3 @@
+pub mod Menus
+pub mod Choices
+pub mod Held
