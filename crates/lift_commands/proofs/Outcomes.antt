@@ -1,52 +1,74 @@
 -- How a run ends, from what was read and put.
-use Rattle.std.proofs.Common.{◌≡◌, ℕ, ◌+◌, ◌<◌, ◌≤◌, ◌⊎◌, Option, Some, None, List, [], ◌++◌, length, take, refl, sym, ap, ◌∙◌, subst, inl, inr, arith, append-nil, length-append}
-use Rattle.std.proofs.lemmas.List.{take_all}
-use Rattle.std.specs.Io.KnownBytes.{prepend_known, append_known, IsAtEnd}
+use Rattle.std.proofs.Common.{◌≡◌, ℕ, Option, Some, List, Result, option_map, refl, sym, subst, ◌∙◌, inl, inr}
+use Rattle.byte_streams.specs.Streams.{Rose}
 use Rattle.elevator_model.specs.Snapshot.{Snapshot}
-use Rattle.canonical_text.specs.Case.{IsCase}
-use Rattle.canonical_text.proofs.Lengths.{length_case}
+use Rattle.lift_text.specs.Reading.{TextState, whole_text}
+use Rattle.lift_text.specs.declared.faults.TextFault.{TextFault}
+use Rattle.case_text.specs.CaseTexts.{TakesLoneCases}
+use Rattle.lift_words.specs.Taken.{AreTaken}
+use Rattle.lift_words.specs.declared.request.Request.{Request}
+use Rattle.lift_words.specs.declared.request.Request.TheVariants.{Solve, Make}
+use Rattle.lift_words.specs.declared.request.SolveOptions.{SolveOptions}
+use Rattle.lift_words.specs.declared.request.CaseSizes.{CaseSizes}
 use Rattle.lift_commands.specs.declared.status.Status.{Status}
-use Rattle.lift_commands.specs.declared.status.Status.TheVariants.{Done, Write}
-use Rattle.lift_commands.specs.Words.{AreTaken}
-use Rattle.lift_commands.specs.Outcome.{streams, HasReadWhole, IsSolution, AnswerIsDue, IsWriteFault, IsOutcome, Puts}
+use Rattle.lift_commands.specs.declared.status.Status.TheVariants.{Done, Words, Stopped, Refused, Input, Read, Write, Memory}
+use Rattle.lift_commands.specs.Outcome.{Streams, Due, Wrote, Ends, Puts, AnswersCases, SolveDue, MakeDue, RunDue}
 
--- an answer was put
-pub outcome_done : (words : List (List ℕ)) (left after taken now : Option (List ℕ)) (rf rf' wf wf' : ℕ) (bytes text : List ℕ) (result : Status) → AreTaken words → left ≡ prepend_known bytes after → length bytes ≤ 4097 → IsAtEnd after → IsSolution bytes text → Puts text Done result taken now wf wf' → IsOutcome words (streams left taken rf wf) (streams after now rf' wf') result
-outcome_done words left after taken now rf rf' wf wf' bytes text result ok given few end solution (inl put) =
-    let due : AnswerIsDue words (streams left taken rf wf) (streams after now rf' wf') text = record { taken = ok; bytes = bytes; read = record { given = given; few = few; whole = λ _. end }; ended = end; solution = solution } in
-    subst (IsOutcome words (streams left taken rf wf) (streams after now rf' wf')) (sym put.0) (text, due, put.1)
-outcome_done words left after taken now rf rf' wf wf' bytes text result ok given few end solution (inr put) =
-    let due : AnswerIsDue words (streams left taken rf wf) (streams after now rf' wf') text = record { taken = ok; bytes = bytes; read = record { given = given; few = few; whole = λ _. end }; ended = end; solution = solution } in
-    let fault : IsWriteFault words (streams left taken rf wf) (streams after now rf' wf') = record { text = text; due = inr (inr due); count = put.0; within = put.2; rose = put.3; written = put.4 } in
-    subst (IsOutcome words (streams left taken rf wf) (streams after now rf' wf')) (sym put.1) fault
+-- what a reader of the whole text says of the input
+pub answers_cases : (left : Option (List ℕ)) (before : Option TextState) (answer : Result Snapshot TextFault) → before ≡ option_map whole_text left → TakesLoneCases before answer → AnswersCases left answer
+answers_cases left before answer is takes input s given case =
+    let whole : before ≡ Some (whole_text input) = cc in
+    (subst (λ (text : Option TextState). TakesLoneCases text answer) whole takes) s case
 
--- what was read is the whole input where nothing is left
-pub whole_input : (bytes input : List ℕ) (after : Option (List ℕ)) → Some input ≡ prepend_known bytes after → IsAtEnd after → input ≡ bytes
-whole_input bytes input None given end = absurd (cc)
-whole_input bytes input (Some rest) given end =
-    let same : input ≡ bytes ++ rest = cc in
-    same ∙ ap (λ (xs : List ℕ). bytes ++ xs) end ∙ append-nil bytes
+-- a text that is due was put
+pub ends_put : (due : Due) (old new : Streams) (text : List ℕ) (status result : Status) → due status text → (Wrote due old new status → Ends due old new status) → Puts text status result old.taken new.taken old.write_faults new.write_faults → Ends due old new result
+ends_put due old new text status result is_due as_end (inl put) =
+    subst (Ends due old new) (sym put.0) (as_end (record { text = text; is_due = is_due; written = put.1 }))
+ends_put due old new text status result is_due as_end (inr put) =
+    subst (Ends due old new) (sym put.1) (record { status = status; text = text; is_due = is_due; count = put.0; within = put.2; rose = put.3; written = put.4 })
 
-pub longer_input : (bytes input : List ℕ) (after : Option (List ℕ)) → Some input ≡ prepend_known bytes after → length bytes ≤ length input
-longer_input bytes input None given = absurd (cc)
-longer_input bytes input (Some rest) given =
-    let same : input ≡ bytes ++ rest = cc in
-    let size = ap length same in
-    let sum = length-append bytes rest in
-    omega (arith, size, sum)
+-- unless the sink failed, that status is the answer
+pub put_whole : (text : List ℕ) (status result : Status) (old new : Option (List ℕ)) (before after : ℕ) → Puts text status result old new before after → (Rose before after → ⊥) → result ≡ status
+put_whole text status result old new before after (inl put) sure = put.0
+put_whole text status result old new before after (inr put) sure = absurd (sure put.3)
 
--- a solved input is a case, also its first 4,097 bytes
-pub solved_is_case : (bytes input text : List ℕ) (after : Option (List ℕ)) → Some input ≡ prepend_known bytes after → IsAtEnd after → length bytes ≤ 4097 → IsSolution bytes text → ((s : Snapshot) → IsCase s (take 4097 input) → ⊥) → ⊥
-solved_is_case bytes input text after given end few solution none =
-    let same = whole_input bytes input after given end in
-    let size = ap length same in
-    let all = take_all 4097 input (omega (arith, size, few)) in
-    none solution.snapshot (subst (IsCase solution.snapshot) (sym (all ∙ same)) solution.read)
+-- whoever has more texts that may be due ends so too
+pub ends_more : (due more : Due) (old new : Streams) (status : Status) → ((status : Status) (text : List ℕ) → due status text → more status text) → Ends due old new status → Ends more old new status
+ends_more due more old new Done as_more end = record { text = end.text; is_due = as_more Done end.text end.is_due; written = end.written }
+ends_more due more old new Words as_more end = record { text = end.text; is_due = as_more Words end.text end.is_due; written = end.written }
+ends_more due more old new Stopped as_more end = record { text = end.text; is_due = as_more Stopped end.text end.is_due; written = end.written }
+ends_more due more old new Refused as_more end = record { text = end.text; is_due = as_more Refused end.text end.is_due; written = end.written }
+ends_more due more old new Input as_more end = record { text = end.text; is_due = as_more Input end.text end.is_due; written = end.written }
+ends_more due more old new Read as_more end = end
+ends_more due more old new Write as_more end = record { status = end.status; text = end.text; is_due = as_more end.status end.text end.is_due; count = end.count; within = end.within; rose = end.rose; written = end.written }
+ends_more due more old new Memory as_more end = end
 
--- an input that is a case is not refused
-pub case_not_refused : (bytes input : List ℕ) (after : Option (List ℕ)) (s : Snapshot) → Some input ≡ prepend_known bytes after → length bytes ≤ 4097 → (length bytes < 4097 → IsAtEnd after) → IsCase s input → ((t : Snapshot) → IsCase t bytes → ⊥) → ⊥
-case_not_refused bytes input after s given few end case none =
-    let short = length_case s input case in
-    let size = longer_input bytes input after given in
-    let same = whole_input bytes input after given (end (omega (arith, short, size))) in
-    none s (subst (IsCase s) same case)
+-- ---- by the words
+
+-- what is due of `solve` is due of a run whose words are its words
+pub solve_due : (words : List (List ℕ)) (left left' : Option (List ℕ)) (options : SolveOptions) → AreTaken words (Solve options) → (status : Status) (text : List ℕ) → SolveDue left left' status text → RunDue words left left' status text
+solve_due words left left' options taken Done text due = inl (record { options = options; taken = taken; answer = due })
+solve_due words left left' options taken Input text due = record { options = options; taken = taken; refusal = due }
+solve_due words left left' options taken Words text due = absurd due
+solve_due words left left' options taken Stopped text due = due
+solve_due words left left' options taken Refused text due = due
+solve_due words left left' options taken Read text due = due
+solve_due words left left' options taken Write text due = due
+solve_due words left left' options taken Memory text due = due
+
+-- and so of `make`, which reads nothing
+pub make_due : (words : List (List ℕ)) (left : Option (List ℕ)) (sizes : CaseSizes) → AreTaken words (Make sizes) → (status : Status) (text : List ℕ) → MakeDue sizes status text → RunDue words left left status text
+make_due words left sizes taken Done text due = inr (record { sizes = sizes; taken = taken; unread = refl; case = due })
+make_due words left sizes taken Input text due = absurd due
+make_due words left sizes taken Words text due = absurd due
+make_due words left sizes taken Stopped text due = due
+make_due words left sizes taken Refused text due = due
+make_due words left sizes taken Read text due = due
+make_due words left sizes taken Write text due = due
+make_due words left sizes taken Memory text due = due
+
+-- no words are those of both commands
+pub not_both : (asked other : Request) (options : SolveOptions) (sizes : CaseSizes) → other ≡ asked → other ≡ Solve options → asked ≡ Make sizes → ⊥
+not_both asked other options sizes one first second =
+    let same : Solve options ≡ Make sizes = sym first ∙ one ∙ second in
+    absurd cc

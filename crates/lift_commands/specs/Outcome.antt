@@ -1,19 +1,24 @@
 -- What a run of the program leaves: what was read and written, and why it ended.
-use Rattle.std.specs.Prelude.{◌≡◌, ℕ, ◌≤◌, ◌<◌, ◌⊎◌, List, [], ◌∷◌, ◌++◌, length, take, codes, Option}
-use Rattle.std.specs.Io.KnownBytes.{prepend_known, append_known, IsAtEnd}
+use Rattle.std.specs.Prelude.{◌≡◌, ℕ, ◌≤◌, ◌⊎◌, List, [], ◌∷◌, ◌++◌, length, take, codes, Option, Some, Result}
+use Rattle.std.specs.Io.KnownBytes.{append_known, IsAtEnd}
 use Rattle.elevator_model.specs.declared.Stop.{Stop}
-use Rattle.elevator_model.specs.Snapshot.{Snapshot}
+use Rattle.elevator_model.specs.Snapshot.{Snapshot, IsAccepted}
 use Rattle.elevator_model.specs.Plans.{IsOptimal, plan_cost_of}
-use Rattle.canonical_text.specs.Case.{IsCase}
-use Rattle.canonical_text.specs.Text.{solved_text}
+use Rattle.lift_text.specs.Reading.{reading, whole_text}
+use Rattle.lift_text.specs.Text.{words, line}
+use Rattle.lift_text.specs.declared.faults.TextFault.{TextFault}
+use Rattle.lift_text.specs.declared.faults.TextFault.TheVariants.{Read as FailedRead, TooLong, Bad, NoMemory}
+use Rattle.case_text.specs.CaseTexts.{IsCaseText, IsLoneCaseFault, IsAnsweredAlone, case_text}
+use Rattle.answer_text.specs.Texts.{solved_text}
+use Rattle.search_model.specs.Cases.{IsCase}
+use Rattle.lift_words.specs.Taken.{AreTaken}
+use Rattle.lift_words.specs.declared.request.Request.{Request}
+use Rattle.lift_words.specs.declared.request.Request.TheVariants.{Solve, Make}
+use Rattle.lift_words.specs.declared.request.SolveOptions.{SolveOptions}
+use Rattle.lift_words.specs.declared.request.CaseSizes.{CaseSizes}
 use Rattle.byte_streams.specs.Streams.{Rose}
 use Rattle.lift_commands.specs.declared.status.Status.{Status}
 use Rattle.lift_commands.specs.declared.status.Status.TheVariants.{Done, Words, Stopped, Refused, Input, Read, Write, Memory}
-use Rattle.lift_commands.specs.Words.{AreTaken, usage_line}
-
--- what is written where the input is not solved yet
-abbrev pub refusal_line : List ℕ
-refusal_line = codes "refused line 0 code 90" ++ 10 ∷ []
 
 -- a source and a sink: what is left and what was taken, where they tell it, and their counts of faults
 pub record Streams : Type 0 where
@@ -22,90 +27,183 @@ pub record Streams : Type 0 where
   pub read_faults : ℕ
   pub write_faults : ℕ
 
--- these bytes were read, at most 4,097
-pub record HasRead (old new : Streams) (bytes : List ℕ) : Type 0 where
-  pub given : old.left ≡ prepend_known bytes new.left
-  pub few : length bytes ≤ 4097
+abbrev pub streams : (left taken : Option (List ℕ)) → (read_faults write_faults : ℕ) → Streams
+streams left taken read_faults write_faults = record { left = left; taken = taken; read_faults = read_faults; write_faults = write_faults }
 
--- these bytes were read, and they are the whole input where they are fewer than 4,097
-pub record HasReadWhole (old new : Streams) (bytes : List ℕ) : Type 0 where
-  pub given : old.left ≡ prepend_known bytes new.left
-  pub few : length bytes ≤ 4097
-  pub whole : length bytes < 4097 → IsAtEnd new.left
+-- ---- how any command ends
 
--- The text of an optimal plan of the case that the bytes are, with its cost and a bound equal to it.
-pub record IsSolution (bytes text : List ℕ) : Type 0 where
-  pub snapshot : Snapshot
-  pub plan : List (List Stop)
-  pub read : IsCase snapshot bytes
-  pub optimal : IsOptimal snapshot plan
-  pub is_text : text ≡ solved_text snapshot plan (plan_cost_of snapshot plan) (plan_cost_of snapshot plan)
+-- Which text is due with a status.
+abbrev pub Due : Type 1
+Due = Status → List ℕ → Type 0
+
+-- A text that was due was written whole.
+pub record Wrote (due : Due) (old new : Streams) (status : Status) : Type 0 where
+  pub text : List ℕ
+  pub is_due : due status text
+  pub written : new.taken ≡ append_known old.taken text
 
 -- The source failed in this call, and nothing was written.
-pub record IsReadFault (words : List (List ℕ)) (old new : Streams) : Type 0 where
-  pub taken : AreTaken words
-  pub bytes : List ℕ
-  pub read : HasRead old new bytes
+pub record IsReadFault (old new : Streams) : Type 0 where
   pub rose : Rose old.read_faults new.read_faults
   pub unwritten : new.taken ≡ old.taken
 
--- The usage line is due where the words are not taken.
-pub record UsageIsDue (words : List (List ℕ)) (old new : Streams) (text : List ℕ) : Type 0 where
-  pub not_taken : AreTaken words → ⊥
-  pub unread : new.left ≡ old.left
-  pub is_text : text ≡ usage_line
-
--- The refusal line is due where the bytes read are no case.
-pub record RefusalIsDue (words : List (List ℕ)) (old new : Streams) (text : List ℕ) : Type 0 where
-  pub taken : AreTaken words
-  pub bytes : List ℕ
-  pub read : HasReadWhole old new bytes
-  pub no_case : (s : Snapshot) → IsCase s bytes → ⊥
-  pub is_text : text ≡ refusal_line
-
--- The answer is due where the whole input was read and is a case.
-pub record AnswerIsDue (words : List (List ℕ)) (old new : Streams) (text : List ℕ) : Type 0 where
-  pub taken : AreTaken words
-  pub bytes : List ℕ
-  pub read : HasReadWhole old new bytes
-  pub ended : IsAtEnd new.left
-  pub solution : IsSolution bytes text
-
--- A text that this run has to write.
-abbrev pub IsDue : List (List ℕ) → Streams → Streams → List ℕ → Type 0
-IsDue words old new text = UsageIsDue words old new text ⊎ (RefusalIsDue words old new text ⊎ AnswerIsDue words old new text)
-
 -- The sink failed in this call; what it took is the beginning of a text that was due.
-pub record IsWriteFault (words : List (List ℕ)) (old new : Streams) : Type 0 where
+pub record IsWriteFault (due : Due) (old new : Streams) : Type 0 where
+  pub status : Status
   pub text : List ℕ
-  pub due : IsDue words old new text
+  pub is_due : due status text
   pub count : ℕ
   pub within : count ≤ length text
   pub rose : Rose old.write_faults new.write_faults
   pub written : new.taken ≡ append_known old.taken (take count text)
 
--- Memory was wanting, and nothing was written.
-pub record IsNoMemory (words : List (List ℕ)) (old new : Streams) : Type 0 where
-  pub taken : AreTaken words
-  pub bytes : List ℕ
-  pub read : HasReadWhole old new bytes
-  pub unwritten : new.taken ≡ old.taken
-
--- What holds at each end of a run.
-abbrev pub IsOutcome : List (List ℕ) → Streams → Streams → Status → Type 0
-IsOutcome words old new Done = (text : List ℕ) × AnswerIsDue words old new text × (new.taken ≡ append_known old.taken text)
-IsOutcome words old new Words = (text : List ℕ) × UsageIsDue words old new text × (new.taken ≡ append_known old.taken text)
-IsOutcome words old new Stopped = ⊥
-IsOutcome words old new Refused = ⊥
-IsOutcome words old new Input = (text : List ℕ) × RefusalIsDue words old new text × (new.taken ≡ append_known old.taken text)
-IsOutcome words old new Read = IsReadFault words old new
-IsOutcome words old new Write = IsWriteFault words old new
-IsOutcome words old new Memory = IsNoMemory words old new
-
-abbrev pub streams : (left taken : Option (List ℕ)) → (read_faults write_faults : ℕ) → Streams
-streams left taken read_faults write_faults = record { left = left; taken = taken; read_faults = read_faults; write_faults = write_faults }
+-- How a command ends. Where memory was wanting, nothing was written.
+abbrev pub Ends : Due → Streams → Streams → Status → Type 0
+Ends due old new Done = Wrote due old new Done
+Ends due old new Words = Wrote due old new Words
+Ends due old new Stopped = Wrote due old new Stopped
+Ends due old new Refused = Wrote due old new Refused
+Ends due old new Input = Wrote due old new Input
+Ends due old new Read = IsReadFault old new
+Ends due old new Write = IsWriteFault due old new
+Ends due old new Memory = new.taken ≡ old.taken
 
 -- The whole text was written and the status is answered; or the sink failed after a part of the text.
 abbrev pub Puts : (text : List ℕ) → (status result : Status) → (old new : Option (List ℕ)) → (before after : ℕ) → Type 0
 Puts text status result old new before after =
     ((result ≡ status) × (new ≡ append_known old text)) ⊎ ((count : ℕ) × (result ≡ Write) × (count ≤ length text) × Rose before after × (new ≡ append_known old (take count text)))
+
+-- ---- the command `solve`
+
+-- the text of an optimal plan of the snapshot, with its cost and a bound equal to that
+pub record IsSolution (s : Snapshot) (text : List ℕ) : Type 0 where
+  pub plan : List (List Stop)
+  pub optimal : IsOptimal s plan
+  pub is_text : text ≡ solved_text s (record { plan = plan; cost = plan_cost_of s plan; bound = plan_cost_of s plan })
+
+-- where the input is the text of a snapshot, that one is read, unless a read fails or memory is wanting
+abbrev pub AnswersCases : Option (List ℕ) → Result Snapshot TextFault → Type 0
+AnswersCases left answer = (input : List ℕ) (s : Snapshot) → left ≡ Some input → IsCaseText input s → IsAnsweredAlone s answer
+
+-- The answer is due where the whole input was read and is the text of an accepted snapshot.
+pub record AnswerIsDue (left left' : Option (List ℕ)) (text : List ℕ) : Type 0 where
+  pub snapshot : Snapshot
+  pub accepted : IsAccepted snapshot
+  pub read : (input : List ℕ) → left ≡ Some input → IsCaseText input snapshot
+  pub ended : IsAtEnd left'
+  pub solution : IsSolution snapshot text
+
+-- the line that tells the first bad line and its code, or that the input is too long
+abbrev pub IsRefusalLine : TextFault → List ℕ → Type 0
+IsRefusalLine (Bad number code) text = text ≡ words (codes "refused line") (number ∷ []) ++ line (codes " code") (code ∷ [])
+IsRefusalLine TooLong text = text ≡ codes "refused long" ++ 10 ∷ []
+IsRefusalLine FailedRead text = ⊥
+IsRefusalLine NoMemory text = ⊥
+
+-- The refusal line is due where the input is no such text, with what is wrong with it.
+pub record RefusalIsDue (left : Option (List ℕ)) (text : List ℕ) : Type 0 where
+  pub fault : TextFault
+  pub is_line : IsRefusalLine fault text
+  pub read : (input : List ℕ) → left ≡ Some input → IsLoneCaseFault (reading (whole_text input)) fault
+
+-- the texts of `solve`, by what the source had left before it and has left behind it
+abbrev pub SolveDue : (left left' : Option (List ℕ)) → Due
+SolveDue left left' Done text = AnswerIsDue left left' text
+SolveDue left left' Words text = ⊥
+SolveDue left left' Stopped text = ⊥
+SolveDue left left' Refused text = ⊥
+SolveDue left left' Input text = RefusalIsDue left text
+SolveDue left left' Read text = ⊥
+SolveDue left left' Write text = ⊥
+SolveDue left left' Memory text = ⊥
+
+-- the input is the text of a snapshot, so a plan is answered, unless the source or the sink fails or memory is wanting
+abbrev pub Solves : (old new : Streams) → Status → Type 0
+Solves old new status = (input : List ℕ) (s : Snapshot) → old.left ≡ Some input → IsCaseText input s
+    → (Rose old.read_faults new.read_faults → ⊥) → (Rose old.write_faults new.write_faults → ⊥) → (status ≡ Done) ⊎ (status ≡ Memory)
+
+-- the input is the text of no snapshot, so it is refused, unless the source or the sink fails or memory is wanting
+abbrev pub Refuses : (old new : Streams) → Status → Type 0
+Refuses old new status = (input : List ℕ) → old.left ≡ Some input → ((s : Snapshot) → IsCaseText input s → ⊥)
+    → (Rose old.read_faults new.read_faults → ⊥) → (Rose old.write_faults new.write_faults → ⊥) → (status ≡ Input) ⊎ (status ≡ Memory)
+
+-- ---- the command `make`
+
+-- the text of the generated case with this number and these sizes; it is read as that snapshot again
+pub record IsMadeCase (sizes : CaseSizes) (text : List ℕ) : Type 0 where
+  pub snapshot : Snapshot
+  pub case : IsCase sizes.number sizes.floors sizes.cars sizes.calls snapshot
+  pub accepted : IsAccepted snapshot
+  pub is_text : text ≡ case_text snapshot
+  pub again : IsCaseText text snapshot
+
+-- the texts of `make`
+abbrev pub MakeDue : CaseSizes → Due
+MakeDue sizes Done text = IsMadeCase sizes text
+MakeDue sizes Words text = ⊥
+MakeDue sizes Stopped text = ⊥
+MakeDue sizes Refused text = ⊥
+MakeDue sizes Input text = ⊥
+MakeDue sizes Read text = ⊥
+MakeDue sizes Write text = ⊥
+MakeDue sizes Memory text = ⊥
+
+-- ---- the whole program
+
+-- what is written where the words are not taken
+abbrev pub usage_line : List ℕ
+usage_line = codes "usage: lift solve/check/day/report/make [options]" ++ 10 ∷ []
+
+-- The usage line is due where no request is taken from the words, and nothing is read.
+pub record UsageIsDue (words : List (List ℕ)) (left left' : Option (List ℕ)) (text : List ℕ) : Type 0 where
+  pub not_taken : (request : Request) → AreTaken words request → ⊥
+  pub unread : left' ≡ left
+  pub is_text : text ≡ usage_line
+
+-- the words are those of `solve`, and an answer is due
+pub record AnswerIsAsked (words : List (List ℕ)) (left left' : Option (List ℕ)) (text : List ℕ) : Type 0 where
+  pub options : SolveOptions
+  pub taken : AreTaken words (Solve options)
+  pub answer : AnswerIsDue left left' text
+
+-- the words are those of `make`, nothing is read, and a case is due
+pub record CaseIsAsked (words : List (List ℕ)) (left left' : Option (List ℕ)) (text : List ℕ) : Type 0 where
+  pub sizes : CaseSizes
+  pub taken : AreTaken words (Make sizes)
+  pub unread : left' ≡ left
+  pub case : IsMadeCase sizes text
+
+-- the words are those of `solve`, and the input is refused
+pub record RefusalIsAsked (words : List (List ℕ)) (left : Option (List ℕ)) (text : List ℕ) : Type 0 where
+  pub options : SolveOptions
+  pub taken : AreTaken words (Solve options)
+  pub refusal : RefusalIsDue left text
+
+-- the texts of a run
+abbrev pub RunDue : List (List ℕ) → (left left' : Option (List ℕ)) → Due
+RunDue words left left' Done text = AnswerIsAsked words left left' text ⊎ CaseIsAsked words left left' text
+RunDue words left left' Words text = UsageIsDue words left left' text
+RunDue words left left' Stopped text = ⊥
+RunDue words left left' Refused text = ⊥
+RunDue words left left' Input text = RefusalIsAsked words left text
+RunDue words left left' Read text = ⊥
+RunDue words left left' Write text = ⊥
+RunDue words left left' Memory text = ⊥
+
+-- words of `solve` solve
+abbrev pub SolvesByWords : List (List ℕ) → (old new : Streams) → Status → Type 0
+SolvesByWords words old new status = (options : SolveOptions) → AreTaken words (Solve options) → Solves old new status
+
+-- and refuse
+abbrev pub RefusesByWords : List (List ℕ) → (old new : Streams) → Status → Type 0
+RefusesByWords words old new status = (options : SolveOptions) → AreTaken words (Solve options) → Refuses old new status
+
+-- words of `make` make a case, unless the sink fails or memory is wanting
+abbrev pub MakesByWords : List (List ℕ) → (old new : Streams) → Status → Type 0
+MakesByWords words old new status = (sizes : CaseSizes) → AreTaken words (Make sizes)
+    → (Rose old.write_faults new.write_faults → ⊥) → (status ≡ Done) ⊎ (status ≡ Memory)
+
+-- other words are refused, unless the sink fails or memory is wanting
+abbrev pub RefusesWords : List (List ℕ) → (old new : Streams) → Status → Type 0
+RefusesWords words old new status = ((request : Request) → AreTaken words request → ⊥)
+    → (Rose old.write_faults new.write_faults → ⊥) → (status ≡ Words) ⊎ (status ≡ Memory)

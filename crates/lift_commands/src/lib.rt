@@ -1,9 +1,11 @@
 //! The commands of `lift`: from the words of the command line and a source to a sink and a status.
 #![tactic(auto)]
 
+mod making;
+mod putting;
 mod running;
+mod solving;
 mod status;
-mod words;
 
 pub use running::run;
 pub use status::Status;

@@ -4,4 +4,10 @@
 #[cfg(test)]
 mod faults;
 #[cfg(test)]
-mod solve;
+mod refusals;
+#[cfg(test)]
+mod runs;
+#[cfg(test)]
+mod words;
+#[cfg(test)]
+mod worked;

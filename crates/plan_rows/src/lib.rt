@@ -1,4 +1,4 @@
-//! Tests of snapshots and their plans: what plans cost and which rules they break, what the texts of cases are, and
+//! Tests of snapshots and their plans: what plans cost and which rules they break, and
 //! that each call that may answer want of memory has enough of it here. The crates below have few tests of
 //! their own, since a crate with tests is proved twice.
 //!
@@ -20,7 +20,5 @@ mod refusals;
 mod served;
 #[cfg(test)]
 mod sizes;
-#[cfg(test)]
-mod texts;
 #[cfg(test)]
 mod written;

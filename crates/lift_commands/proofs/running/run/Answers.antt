@@ -1,32 +1,54 @@
-use Rattle.std.proofs.Common.{◌≡◌, ◌<◌, ◌≤◌, ◌∙◌, sym, arith, length, take, ap, List, ℕ}
-use Rattle.std.proofs.lemmas.List.{length-take-le}
-use Rattle.lift_commands.specs.Outcome.{IsSolution}
-use Rattle.lift_commands.proofs.Outcomes.{outcome_done, solved_is_case, case_not_refused}
+use Rattle.std.proofs.Common.{map, string_bytes, subst, refl}
+use Rattle.lift_words.specs.Taken.{AreTaken}
+use Rattle.lift_words.specs.declared.request.Request.TheVariants.{Solve, Make}
+use Rattle.lift_commands.specs.declared.status.Status.TheVariants.{Words}
+use Rattle.lift_commands.specs.Outcome.{SolveDue, MakeDue, RunDue, UsageIsDue, usage_line, streams}
+use Rattle.lift_commands.proofs.Outcomes.{ends_put, ends_more, solve_due, make_due}
 use Rattle.lift_commands.proofs.running.run.Goals as goal
 
-pub returns-in-Ok-Some-clause-outcome : goal.returns-in-Ok-Some-clause-outcome
-returns-in-Ok-Some-clause-outcome g c =
-    let bytes = take c.in-Ok.count c.read_full.new.into in
-    let size = length-take-le c.in-Ok.count c.read_full.new.into c.in-Ok.ensures.bound in
-    let into = c.read_full.auto.into in
-    let short = rw c.in-Ok-Some.field-0-is at c.in-Ok-Some.ensures.short in
-    let solution = rw c.in-Ok-Some.field-0-is at c.in-Ok-Some.ensures.solved in
-    let put = rw c.as_slice.ensures.value at c.put-in-Ok-Some.ensures in
-    outcome_done _ (g.S.Source.left c.args.source.now) (g.S.Source.left c.read_full.new.source) (g.K.Sink.taken c.args.sink.now) (g.K.Sink.taken c.put-in-Ok-Some.new.sink) (g.S.Source.faults c.args.source.now) (g.S.Source.faults c.read_full.new.source) (g.K.Sink.faults c.args.sink.now) (g.K.Sink.faults c.put-in-Ok-Some.new.sink) bytes c.in-Ok-Some.text.items c.put-in-Ok-Some.result (c.are_taken.ensures.0 c.if-not-are_taken.false) c.in-Ok.ensures.given (omega (arith, short)) (c.in-Ok.ensures.end (omega (arith, size, short, into))) solution put
+pub returns-in-Ok-Solve-clause-ends : goal.returns-in-Ok-Solve-clause-ends
+returns-in-Ok-Solve-clause-ends g c =
+    let left = g.S.Source.left in
+    let words = map string_bytes c.args.words.now in
+    let before = left c.args.source.now in
+    let after = left c.solve.new.source in
+    let old = streams before (g.K.Sink.taken c.args.sink.now) (g.S.Source.faults c.args.source.now) (g.K.Sink.faults c.args.sink.now) in
+    let new = streams after (g.K.Sink.taken c.solve.new.sink) (g.S.Source.faults c.solve.new.source) (g.K.Sink.faults c.solve.new.sink) in
+    let taken = subst (AreTaken words) c.in-Ok-Solve.field-0-is c.in-Ok-Solve.ensures.taken in
+    ends_more (SolveDue before after) (RunDue words before after) old new c.solve.result (solve_due words before after c.in-Ok-Solve.field-0-0 taken) c.solve.ensures.ends
 
-pub returns-in-Ok-Some-clause-refuses : goal.returns-in-Ok-Some-clause-refuses
-returns-in-Ok-Some-clause-refuses g c = λ input ok given none _ _.
-    let bytes = take c.in-Ok.count c.read_full.new.into in
-    let size = length-take-le c.in-Ok.count c.read_full.new.into c.in-Ok.ensures.bound in
-    let into = c.read_full.auto.into in
-    let short = rw c.in-Ok-Some.field-0-is at c.in-Ok-Some.ensures.short in
-    let solution = rw c.in-Ok-Some.field-0-is at c.in-Ok-Some.ensures.solved in
-    absurd (solved_is_case bytes input c.in-Ok-Some.text.items (g.S.Source.left c.read_full.new.source) (sym given ∙ c.in-Ok.ensures.given) (c.in-Ok.ensures.end (omega (arith, size, short, into))) (omega (arith, short)) solution none)
+pub returns-in-Ok-Make-clause-ends : goal.returns-in-Ok-Make-clause-ends
+returns-in-Ok-Make-clause-ends g c =
+    let words = map string_bytes c.args.words.now in
+    let before = g.S.Source.left c.args.source.now in
+    let faults = g.S.Source.faults c.args.source.now in
+    let old = streams before (g.K.Sink.taken c.args.sink.now) faults (g.K.Sink.faults c.args.sink.now) in
+    let new = streams before (g.K.Sink.taken c.write_made_case.new.sink) faults (g.K.Sink.faults c.write_made_case.new.sink) in
+    let taken = subst (AreTaken words) c.in-Ok-Make.field-0-is c.in-Ok-Make.ensures.taken in
+    ends_more (MakeDue c.in-Ok-Make.sizes) (RunDue words before before) old new c.write_made_case.result (make_due words before c.in-Ok-Make.sizes taken) (c.write_made_case.ensures.ends before faults)
 
-pub returns-in-Ok-None-clause-solves : goal.returns-in-Ok-None-clause-solves
-returns-in-Ok-None-clause-solves g c = λ input s ok given case _ _.
-    let bytes = take c.in-Ok.count c.read_full.new.into in
-    let size = length-take-le c.in-Ok.count c.read_full.new.into c.in-Ok.ensures.bound in
-    let into = c.read_full.auto.into in
-    let bound = c.in-Ok.ensures.bound in
-    absurd (case_not_refused bytes input (g.S.Source.left c.read_full.new.source) s (sym given ∙ c.in-Ok.ensures.given) (omega (arith, size, into, bound)) (λ lt. c.in-Ok.ensures.end (omega (arith, size, into, lt))) case (c.in-Ok-None.ensures.refused c.in-Ok-None.field-0-is))
+pub returns-in-Err-NotTaken-clause-ends : goal.returns-in-Err-NotTaken-clause-ends
+returns-in-Err-NotTaken-clause-ends g c =
+    let words = map string_bytes c.args.words.now in
+    let before = g.S.Source.left c.args.source.now in
+    let faults = g.S.Source.faults c.args.source.now in
+    let old = streams before (g.K.Sink.taken c.args.sink.now) faults (g.K.Sink.faults c.args.sink.now) in
+    let new = streams before (g.K.Sink.taken c.put.new.sink) faults (g.K.Sink.faults c.put.new.sink) in
+    let due : UsageIsDue words before before usage_line = record {
+      not_taken = c.in-Err-NotTaken.ensures.refused c.in-Err-NotTaken.field-0-is;
+      unread = refl;
+      is_text = refl;
+    } in
+    ends_put (RunDue words before before) old new usage_line Words c.put.result due (λ wrote. wrote) c.put.ensures
+
+pub returns-in-Err-NotTaken-clause-solves : goal.returns-in-Err-NotTaken-clause-solves
+returns-in-Err-NotTaken-clause-solves g c = λ options taken input s given case reads writes.
+    absurd (c.in-Err-NotTaken.ensures.refused c.in-Err-NotTaken.field-0-is (Solve options) taken)
+
+pub returns-in-Err-NotTaken-clause-refuses : goal.returns-in-Err-NotTaken-clause-refuses
+returns-in-Err-NotTaken-clause-refuses g c = λ options taken input given none reads writes.
+    absurd (c.in-Err-NotTaken.ensures.refused c.in-Err-NotTaken.field-0-is (Solve options) taken)
+
+pub returns-in-Err-NotTaken-clause-makes : goal.returns-in-Err-NotTaken-clause-makes
+returns-in-Err-NotTaken-clause-makes g c = λ sizes taken writes.
+    absurd (c.in-Err-NotTaken.ensures.refused c.in-Err-NotTaken.field-0-is (Make sizes) taken)

@@ -1,6 +1,0 @@
-use Rattle.std.proofs.Common.{◌≡◌, drop}
-use Rattle.canonical_text.specs.Reading.{set_of}
-use Rattle.canonical_text.proofs.reading.set_of.Given as goal
-
-abbrev pub invariant-loop-floor : goal.invariant-loop-floor
-invariant-loop-floor l = set_of l.set (drop l.floor-index l.floors) ≡ set_of 0 l.floors

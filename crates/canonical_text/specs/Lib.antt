@@ -1,4 +1,0 @@
-pub mod Text
-pub mod Case
-pub mod Reading
-pub mod Numbers

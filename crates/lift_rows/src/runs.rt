@@ -1,0 +1,112 @@
+//! Runs of the program over inputs in memory.
+//!
+//! A helper that says whether something is so says no where memory is wanting, so that its test fails.
+
+use byte_streams::{MemorySource, OpenGate, SureSink};
+use lift_commands::{Status, run};
+use std::alloc::Global;
+use std::thread::Threads;
+
+/// The words of most runs.
+pub(crate) const SOLVE: &[&str] = &["lift", "solve", "--brief"];
+
+/// The words, as a command line has them.
+pub(crate) fn words_of(alloc: Global, words: &[&str]) -> Option<Vec<String>> {
+    let mut all = Vec::new(alloc);
+    for word in words {
+        all.push(String::from_str(alloc, word).ok()?).ok()?;
+    }
+    Some(all)
+}
+
+/// The pieces one after another.
+pub(crate) fn joined(alloc: Global, pieces: &[&str]) -> Option<Vec<u8>> {
+    let mut all = Vec::new(alloc);
+    for piece in pieces {
+        all.extend_from_slice(piece.as_bytes()).ok()?;
+    }
+    Some(all)
+}
+
+/// Whether a run with these words over the input, which comes in pieces of so many bytes, ends with the status
+/// and writes one of the two texts.
+pub(crate) fn gives_either(
+    rt: &(impl Threads + Sync),
+    alloc: Global,
+    words: &[&str],
+    input: &[u8],
+    each: usize,
+    status: Status,
+    texts: [&[u8]; 2],
+) -> bool {
+    let Some(words) = words_of(alloc, words) else {
+        return false;
+    };
+    let Ok(bytes) = Vec::from_slice(alloc, input) else {
+        return false;
+    };
+    let Ok(mut sink) = SureSink::new(alloc, 16384) else {
+        return false;
+    };
+    let mut source = MemorySource::new(bytes, each.max(1), Vec::new(alloc));
+    let ended = run(
+        rt,
+        alloc,
+        words.as_slice(),
+        &mut source,
+        &mut sink,
+        &OpenGate,
+    );
+    ended == status && (sink.taken() == texts[0] || sink.taken() == texts[1])
+}
+
+/// The same with one text.
+pub(crate) fn gives(
+    rt: &(impl Threads + Sync),
+    alloc: Global,
+    words: &[&str],
+    input: &[u8],
+    each: usize,
+    status: Status,
+    text: &[u8],
+) -> bool {
+    gives_either(rt, alloc, words, input, each, status, [text, text])
+}
+
+/// The line that refuses an input.
+fn refusal(alloc: Global, line: usize, code: u8) -> Option<String> {
+    format!(in alloc; "refused line {line} code {code}\n").ok()
+}
+
+/// Where the line with this number ends, without its LF.
+fn end_of_line(input: &[u8], line: usize) -> usize {
+    let mut left = line;
+    for (place, byte) in input.iter().enumerate() {
+        if *byte == b'\n' {
+            if left <= 1 {
+                return place;
+            }
+            left -= 1;
+        }
+    }
+    input.len()
+}
+
+/// Whether the input is refused at this line with this code: as it stands, in pieces of one byte, and where the
+/// line is the last one and has no end.
+pub(crate) fn is_refused(
+    rt: &(impl Threads + Sync),
+    alloc: Global,
+    input: &[u8],
+    line: usize,
+    code: u8,
+) -> bool {
+    let Some(text) = refusal(alloc, line, code) else {
+        return false;
+    };
+    let due = text.as_bytes();
+    let cut = &input[..end_of_line(input, line).min(input.len())];
+    gives(rt, alloc, SOLVE, input, 4096, Status::Input, due)
+        && gives(rt, alloc, SOLVE, input, 1, Status::Input, due)
+        && gives(rt, alloc, SOLVE, cut, 4096, Status::Input, due)
+}
