@@ -1,10 +1,13 @@
 #!/bin/sh
 # Reads and writes the text of a large building with a snapshot (64 floors with stated times, 16 cars, 128 groups aboard,
-# 128 calls) from memory, so many rounds (1,000 where no number is given), and prints MB (of 1,000,000 bytes) a second,
-# where a round reads the text once and writes it once.
+# 128 calls) and a short answer from memory, so many rounds (1,000 where no number is given), and prints MB (of 1,000,000
+# bytes) a second of processor time, where a round reads the text once and writes it once. Then the same of a text that is
+# ten times as long, ten such cases one after another, in a tenth of the rounds, and how many times as long one of its
+# rounds takes: about ten, since what is read costs as many steps as it has bytes. Then both of a small case with a long
+# answer: 2,048 stops where eight calls board.
 rounds="${1:-1000}"
 cd "$(dirname "$0")/../crates/read_bench" || exit 1
-rt run -- 3 < stdin > out/first_run.txt 2>&1 || { cat out/first_run.txt; exit 1; }
+rt run -- 3 2 < stdin > out/first_run.txt 2>&1 || { cat out/first_run.txt; exit 1; }
 awk 'BEGIN {
     print "building 3"; print "speed 6100"; print "accel 1300"; print "weights 3 2"; print "patience 30000 5"
     line = "floors"; for (f = 0; f < 64; f++) line = line " " 3300 * f + f % 7; print line
@@ -18,10 +21,50 @@ awk 'BEGIN {
     for (c = 1; c <= 16; c++) print "car " c " idle " 2 * c " " 600000 + 10 * c
     for (c = 1; c <= 16; c++) for (k = 1; k <= 8; k++) print "aboard " c " " 1000 + 8 * c + k " " 2 * c + k " " 1 + k % 3 " " 500000 + k
     for (k = 0; k < 128; k++) print "call " 1 + k " " k % 64 " " (k % 64 + 1 + k % 11) % 64 " " 1 + k % 4 " " 400000 + 977 * k " any"
+    print "end"; print "answer 1"; print "cost 987654321"; print "bound 987654320"
+    for (c = 1; c <= 16; c++) print "tour " c
     print "end"
 }' > out/large.txt
-start=$(date +%s%N)
-line=$(./out/read_bench "$rounds" < out/large.txt) || exit 1
-end=$(date +%s%N)
-bytes=$(echo "$line" | sed 's/^bytes \([0-9]*\) .*/\1/')
-echo "$line MB_a_second $((bytes * rounds * 1000 / (end - start)))"
+awk 'BEGIN {
+    print "building 2"; print "speed 2500"; print "accel 1000"; print "weights 2 1"; print "patience 40000 3"
+    print "floors 0 4000 8000 12000"
+    for (c = 1; c <= 4; c++) print "car " c " 12 1000 1200 500 600 all"
+    print "end"; print "snapshot 1"; print "now 600000"
+    for (c = 1; c <= 4; c++) print "car " c " idle " c - 1 " " 600000 + 10 * c
+    for (k = 0; k < 64; k++) print "call " 1001 + k " " k % 4 " " (k % 4 + 1 + k % 3) % 4 " 1 " 400000 + 977 * k " any"
+    print "end"; print "answer 1"; print "cost 987654321"; print "bound 987654320"
+    for (c = 1; c <= 4; c++) {
+        print "tour " c
+        for (s = 0; s < 512; s++) {
+            line = "stop " s % 4
+            for (k = 0; k < 8; k++) line = line " " 1001 + 8 * (s % 8) + k
+            print line
+        }
+    }
+    print "end"
+}' > out/answer.txt
+
+# The program's line, and the processor time that it took, in seconds: `sh` tells that of its children by `times`.
+measured() {
+    sh -c './out/read_bench "$1" "$2" < "$3" && times' sh "$1" "$2" "$3"
+}
+
+# What `measured` printed for one case and for ten, with the speed and the times.
+shown() {
+    awk '
+    function seconds(word, parts) { split(word, parts, /[ms]/); return 60 * parts[1] + parts[2] }
+    /^bytes/ { line = $0; bytes = $2; count = $4 }
+    # the last line of a run: the processor time of the children
+    !/^bytes/ { if (++lines % 2) next
+        each = (seconds($1) + seconds($2)) / count
+        printf "%s MB_a_second %.0f us_a_round %.0f\n", line, bytes / each / 1000000, each * 1000000
+        if (first) printf "times_as_long %.1f\n", each / first
+        else first = each }'
+}
+
+for text in large answer; do
+    echo "$text"
+    measured "$rounds" 1 "out/$text.txt" > out/one.txt || exit 1
+    measured "$((rounds / 10))" 10 "out/$text.txt" > out/ten.txt || exit 1
+    cat out/one.txt out/ten.txt | shown
+done
