@@ -13,6 +13,7 @@ mod writers;
 
 pub use byte_streams::{Source, SourceFault};
 pub use faults::{RawLine, TextFault};
+pub use numbers::{NumberFault, number_in};
 pub use reader::LineReader;
 pub use writers::{put_line, put_number, put_word, put_words};
 

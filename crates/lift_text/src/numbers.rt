@@ -9,8 +9,10 @@ ghost use Rattle.lift_text.specs.Numbers.{read_number, starts_with_minus};
 
 /// Why a word is not read as a number.
 #[derive(Clone, Copy, Debug, PartialEq, Eq)]
-pub(crate) enum NumberFault {
+pub enum NumberFault {
+    /// The word is not one or more decimal digits, with a `-` in front where that is allowed.
     NoNumber,
+    /// The number is outside the range.
     OutOfRange,
 }
 
@@ -27,8 +29,9 @@ impl NumberFault {
     }
 }
 
-/// Reads a word as a number from `low` to `high`. A `-` may begin it where `low` is below 0.
-pub(crate) fn number_in(word: &[u8], low: i128, high: i128) -> Result<i128, NumberFault>
+/// Reads a word as a number from `low` to `high`: one or more decimal digits, of which leading zeros
+/// count for nothing. A `-` may begin it where `low` is below 0.
+pub fn number_in(word: &[u8], low: i128, high: i128) -> Result<i128, NumberFault>
     ensures { result ≡ read_number low high word.now }
 {
     let is_negative = low < 0 && starts_with_minus(word);
