@@ -347,6 +347,37 @@ fn nothing_may_stand_behind_a_case(rt: HostRuntime) -> Result<(), Fail> {
     Ok(())
 }
 
+/// One call in a building of four floors, as 12 lines.
+const ONE_CALL: [&str; 12] = [
+    "building 1",
+    "speed 2000",
+    "accel 1000",
+    "weights 1 1",
+    "floors 0 4000 8000 12000",
+    "car 1 8 1000 1000 500 500 all",
+    "end",
+    "snapshot 1",
+    "now 0",
+    "car 1 idle 0 0",
+    "call 1 0 1 1 0 any",
+    "end",
+];
+
+#[test]
+fn a_damaged_case_is_refused(rt: HostRuntime) -> Result<(), Fail> {
+    let alloc = rt.alloc();
+    for (number, text, line, code) in [
+        (2, "speed 2000\nspeed 2000", 3, 8),
+        (5, "floors 0 4000 4000 12000", 5, 10),
+    ] {
+        let input = changed(alloc, ONE_CALL.as_slice(), number, &[text]).ok_or("memory")?;
+        assert!(rt; is_refused(&rt, alloc, &input, line, code));
+    }
+    let cut = changed(alloc, &ONE_CALL[..11], 1, &[]).ok_or("memory")?;
+    assert!(rt; is_refused(&rt, alloc, &cut, 12, 9));
+    Ok(())
+}
+
 /// A car at floor 1 and two groups aboard that want to go to different sides.
 const TWO_SIDES: &[u8] = b"building 1
 speed 2000
