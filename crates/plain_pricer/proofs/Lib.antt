@@ -1,4 +1,0 @@
-mod TourInNode
-mod ChoiceLemmas
-mod MenuLemmas
-mod ValueLemmas

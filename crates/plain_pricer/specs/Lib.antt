@@ -1,3 +1,0 @@
-pub mod Menus
-pub mod Choices
-pub mod Held
