@@ -14,8 +14,8 @@ use call_sets::{CallSet, FloorSet};
 use car_layout::Layout;
 use elevator_model::Move;
 
-/// The members after the last index.
-fn after_last(calls: CallSet, last: Option<u32>) -> CallSet
+/// The members after the last index, and all where there is none.
+pub fn after_last(calls: CallSet, last: Option<u32>) -> CallSet
     ensures { (j : ℕ) → has result j ≡ (has calls j && is_after last j) }
 {
     match last {
@@ -25,7 +25,7 @@ fn after_last(calls: CallSet, last: Option<u32>) -> CallSet
 }
 
 /// The calls for whose persons there is room.
-fn calls_with_room(layout: &Layout, room: u32) -> CallSet
+pub fn calls_with_room(layout: &Layout, room: u32) -> CallSet
     ensures { (j : ℕ) → has result j
         ≡ (nat_lt j (call_count layout.now.snapshot) && nat_le (call_of layout.now.snapshot j).persons room) }
 {

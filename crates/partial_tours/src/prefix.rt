@@ -7,6 +7,7 @@ ghost use Rattle.partial_tours.specs.PartialTour.{course, with_move_made, stops_
 ghost use Rattle.partial_tours.specs.Orders.{first_of, next_after};
 
 use crate::following::{fill, first_move, move_after};
+use crate::points::Point;
 use crate::steps::Step;
 use crate::tally::note;
 use call_sets::CallSet;
@@ -85,7 +86,7 @@ impl<'a> Model for Prefix<'a> {
 impl<'a> Prefix<'a> {
     ghost use Rattle.elevator_model.specs.Building.{floor_count};
     ghost use Rattle.elevator_model.specs.Snapshot.{car_count, call_count};
-    ghost use Rattle.partial_tours.specs.Courses.{reached};
+    ghost use Rattle.partial_tours.specs.Courses.{TracksCourse, reached};
     ghost use Rattle.partial_tours.specs.Tallies.{StandsAt};
     ghost use Rattle.elevator_model.specs.Partial.{IsLawful};
     ghost use Rattle.partial_tours.specs.PartialTour.{with_move};
@@ -126,6 +127,21 @@ impl<'a> Prefix<'a> {
         ensures car { result < car_count self.now.snapshot }
     {
         self.layout.car()
+    }
+
+    /// What the snapshot and the car alone decide.
+    pub fn layout(&self) -> &Layout<'a>
+        ensures { result.now ≡ record { snapshot = self.now.snapshot; car = self.now.car } }
+    {
+        &self.layout
+    }
+
+    /// Where the moves lead.
+    pub fn point(&self) -> &Point
+        ensures { (x : Course) → course self.now ≡ Some x
+            → TracksCourse self.now.snapshot self.now.car result.now x }
+    {
+        &self.last_step().point
     }
 
     /// The moves: at most three for each call, one for each group aboard the car, and two.

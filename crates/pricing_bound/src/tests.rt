@@ -1,0 +1,181 @@
+ghost use Rattle.std.specs.Prelude.{◌≡◌};
+
+use crate::bound;
+use call_sets::{CallSet, FloorSet};
+use call_state::{
+    Aboard, Building, BuildingParts, Call, CarSpec, CarState, Snapshot, SnapshotParts, StateFault,
+    Travel,
+};
+use partial_tours::Prefix;
+use price_scale::Price;
+use std::alloc::Global;
+use std::test::Fail;
+
+/// Three floors. A ms of waiting costs 3, past 6,000 ms 5 more, and one of riding 2.
+fn building(alloc: Global) -> Result<Building, StateFault> {
+    let car = CarSpec {
+        id: 4,
+        capacity: 5,
+        opening: 1000,
+        closing: 900,
+        boarding: 500,
+        alighting: 400,
+        serves: FloorSet::from_bits(0b111),
+    };
+    let times = [0, 4000, 7000, 4000, 0, 4500, 7000, 4500, 0];
+    Building::build(
+        alloc,
+        BuildingParts {
+            version: 3,
+            heights: [0, 4000, 9000].to_vec(alloc)?,
+            speed: 2000,
+            accel: 1000,
+            wait_weight: 3,
+            travel_weight: 2,
+            patience: 6000,
+            patience_weight: 5,
+            cars: [car].to_vec(alloc)?,
+            travel: Travel::build(3, times.to_vec(alloc)?)?,
+        },
+    )
+}
+
+fn call(id: u32, origin: u32, destination: u32, persons: u32, released: u64) -> Call {
+    Call {
+        id,
+        origin,
+        destination,
+        persons,
+        released,
+        pin: None,
+    }
+}
+
+/// The car stands at the lowest floor with two persons for the highest one. Calls wait at the middle, the highest and
+/// the lowest floor.
+fn parts(alloc: Global) -> Result<SnapshotParts, StateFault> {
+    let group = Aboard {
+        id: 3,
+        car: 0,
+        destination: 2,
+        persons: 2,
+        boarded: 700,
+    };
+    let calls = [
+        call(7, 1, 2, 1, 1100),
+        call(8, 2, 0, 3, 300),
+        call(9, 0, 1, 2, 1900),
+    ];
+    Ok(SnapshotParts {
+        version: 2,
+        building: building(alloc)?,
+        now: 2000,
+        cars: [CarState::Idle {
+            floor: 0,
+            free: 2500,
+        }]
+        .to_vec(alloc)?,
+        aboard: [group].to_vec(alloc)?,
+        calls: calls.to_vec(alloc)?,
+    })
+}
+
+fn snapshot(alloc: Global) -> Option<Snapshot> {
+    match parts(alloc) {
+        Ok(parts) if parts.are_whole() => Snapshot::build(alloc, parts).ok(),
+        Ok(_) | Err(_) => None,
+    }
+}
+
+/// The car goes to the middle floor, where the first call boards.
+fn board_first(prefix: &mut Prefix) -> Option<()>
+    ensures { prefix.new.snapshot ≡ prefix.old.snapshot }
+{
+    let nobody = CallSet::from_bits(0);
+    let lowest = prefix.first_move(nobody)?;
+    let middle = prefix.move_after(nobody, lowest)?;
+    prefix.push(middle);
+    let board = prefix.first_move(CallSet::from_bits(0b001))?;
+    prefix.push(board);
+    Some(())
+}
+
+/// The car goes on to the next floor.
+fn go_on(prefix: &mut Prefix) -> Option<()>
+    ensures { prefix.new.snapshot ≡ prefix.old.snapshot }
+{
+    let highest = prefix.first_move(CallSet::from_bits(0))?;
+    prefix.push(highest);
+    Some(())
+}
+
+/// What is asked of a partial tour.
+#[derive(Clone, Copy)]
+struct Asked {
+    prices: [i128; 3],
+    allowed: u128,
+    required: u128,
+}
+
+fn asked_bound(snapshot: &Snapshot, prefix: &Prefix, asked: Asked) -> Option<i128>
+    requires { snapshot.now ≡ prefix.now.snapshot }
+{
+    let [first, second, third] = asked.prices;
+    let prices = [Price::new(first)?, Price::new(second)?, Price::new(third)?];
+    if snapshot.calls().len() != 3 {
+        return None;
+    }
+    let (allowed, required) = (
+        CallSet::from_bits(asked.allowed),
+        CallSet::from_bits(asked.required),
+    );
+    Some(bound(snapshot, prefix, &prices, allowed, required))
+}
+
+/// The bounds where the first call has boarded, and where it has got off.
+fn bounds_of(alloc: Global, snapshot: &Snapshot, asked: Asked) -> Option<[i128; 2]> {
+    if snapshot.building().cars().len() != 1 {
+        return None;
+    }
+    let mut prefix = Prefix::new(alloc, snapshot, 0).ok()?;
+    board_first(&mut prefix)?;
+    let carried = asked_bound(snapshot, &prefix, asked)?;
+    go_on(&mut prefix)?;
+    let delivered = asked_bound(snapshot, &prefix, asked)?;
+    Some([carried, delivered])
+}
+
+fn bounds(alloc: Global, prices: [i128; 3], allowed: u128, required: u128) -> Option<[i128; 2]> {
+    match snapshot(alloc) {
+        Some(snapshot) => bounds_of(
+            alloc,
+            &snapshot,
+            Asked {
+                prices,
+                allowed,
+                required,
+            },
+        ),
+        None => None,
+    }
+}
+
+// Where the first call has boarded, the doors are open at 7,500: it costs 30,200 to its floor and the group 45,200.
+// The second call would cost 124,800 and the third one 49,600. At 14,400 both are there, for 89,800 together, and
+// the others would cost 290,400 and 156,000.
+
+#[test]
+fn a_call_counts_where_it_lowers_the_bound(rt: HostRuntime) -> Result<(), Fail> {
+    let prices = [11_000_013, 130_000_500, 0];
+    assert!(rt; bounds(rt.alloc(), prices, 0b111, 0b000) == Some([59_199_487, 78_799_987]));
+    assert!(rt; bounds(rt.alloc(), prices, 0b101, 0b000) == Some([64_399_987, 78_799_987]));
+    Ok(())
+}
+
+#[test]
+fn a_required_call_counts_always(rt: HostRuntime) -> Result<(), Fail> {
+    let prices = [11_000_013, 130_000_500, 0];
+    assert!(rt; bounds(rt.alloc(), prices, 0b111, 0b100) == Some([108_799_487, 234_799_987]));
+    assert!(rt; bounds(rt.alloc(), [0, 0, 0], 0b111, 0b010) == Some([200_200_000, 380_200_000]));
+    Ok(())
+}

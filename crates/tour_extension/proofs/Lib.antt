@@ -1,0 +1,14 @@
+mod Queues
+mod Choosing
+mod SumLemmas
+mod SetTests
+mod MemberTests
+mod Standing
+mod Promising
+mod BackSteps
+mod Midway
+mod LeaveSteps
+mod BoardSteps
+mod StepForth
+pub mod Extended
+pub mod NodeDemands

@@ -1,0 +1,38 @@
+//! What a node asks of a car.
+
+ghost use Rattle.std.specs.Prelude.{◌≡◌, ℕ, ◌&&◌, ◌↔◌, IsTrue, true};
+ghost use Rattle.call_sets.specs.Counting.{has};
+ghost use Rattle.search_model.specs.Extending.{IsDemand};
+
+use call_sets::CallSet;
+use partial_tours::Prefix;
+
+/// What a node asks of a car: a tour in which allowed calls alone board, and each required one does.
+#[derive(Clone, Copy, PartialEq, Eq, Debug)]
+pub struct Demand {
+    /// The calls that may board. The car may take each of them.
+    pub allowed: CallSet,
+    /// The calls that have to board. Each of them is allowed.
+    pub required: CallSet,
+}
+
+impl Demand {
+    /// Whether it can be asked of the car of the partial tour: each required call is allowed, and each allowed one
+    /// is a call that the car may take.
+    pub fn is_for(&self, prefix: &Prefix) -> bool
+        ensures { IsTrue result ↔ IsDemand prefix.now.snapshot prefix.now.car (has self.now.allowed)
+            (has self.now.required) }
+    {
+        has_all(self.allowed, self.required) && has_all(prefix.layout().possible(), self.allowed)
+    }
+}
+
+/// Whether each member of the part is in the whole.
+fn has_all(whole: CallSet, part: CallSet) -> bool
+    ensures { IsTrue result ↔ ((j : ℕ) → has part j ≡ true → has whole j ≡ true) }
+{
+    match part.minus(whole).least() {
+        None => true,
+        Some(_) => false,
+    }
+}
