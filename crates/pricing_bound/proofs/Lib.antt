@@ -1,5 +1,8 @@
-pub mod Costs
-pub mod Standing
-pub mod GrowthLemmas
-pub mod LowerLemmas
 pub mod PartLemmas
+pub mod RateLemmas
+pub mod Late
+pub mod Sizes
+pub mod WaitingLemmas
+pub mod RunningLemmas
+pub mod CarriedLemmas
+pub mod WalkLemmas

@@ -24,7 +24,7 @@ use Rattle.tour_rules.proofs.Bounds.{aboard-le}
 use Rattle.tour_rules.proofs.RiderSums.{destination_of-group, is_aboard-call}
 use Rattle.tour_rules.proofs.Settled.{cost_of_rider-group}
 use Rattle.pricing_bound.specs.Parts.{call_part, group_part}
-use Rattle.pricing_bound.proofs.Standing.{IsPlaced, placed_reached, course_standing}
+use Rattle.pricing_bound.specs.Standing.{IsPlaced, placed_reached, course_standing}
 
 pub placed_at : (t : PartialTour) (x : Course) → IsAccepted t.snapshot → t.car < car_count t.snapshot → course t ≡ Some x → IsPlaced t.snapshot t.car (reached t.snapshot t.car x)
 placed_at t x a b leads = placed_reached t.snapshot t.car x (course_standing t.snapshot t.car t.moves x a b leads)
@@ -88,7 +88,7 @@ scaled_or_nothing true cost = refl
 scaled_or_nothing false cost = refl
 
 -- the rides of those carried, of the calls and of the groups
-rides_apart : (s : Snapshot) (p : Progress) → scaled (sum_where (rider_count s) p.carried (cost_if_straight s p)) ≡ int_sum_below (call_count s) (λ j. cond (p.carried j) (scaled (cost_if_straight s p j)) (pos 0)) +ℤ int_sum_below (length s.aboard) (group_part s p)
+pub rides_apart : (s : Snapshot) (p : Progress) → scaled (sum_where (rider_count s) p.carried (cost_if_straight s p)) ≡ int_sum_below (call_count s) (λ j. cond (p.carried j) (scaled (cost_if_straight s p j)) (pos 0)) +ℤ int_sum_below (length s.aboard) (group_part s p)
 rides_apart s p =
     let cost : ℕ → ℕ = λ r. cond (p.carried r) (cost_if_straight s p r) 0 in
     let split = sum_below-split (call_count s) (length s.aboard) cost in

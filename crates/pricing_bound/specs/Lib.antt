@@ -1,2 +1,11 @@
 pub mod Parts
 pub mod Laws
+pub mod Aims
+pub mod Rates
+pub mod Running
+pub mod Costs
+pub mod Standing
+pub mod GrowthLemmas
+pub mod LowerLemmas
+pub mod Narrowing
+pub mod Walks

@@ -46,7 +46,7 @@ fn calls_part(
 }
 
 /// What all groups aboard add to the bound.
-fn groups_part(snapshot: &Snapshot, prefix: &Prefix) -> i128
+pub(crate) fn groups_part(snapshot: &Snapshot, prefix: &Prefix) -> i128
     requires same { snapshot.now ≡ prefix.now.snapshot }
     requires car { prefix.now.car < car_count snapshot.now }
     ensures sum { (x : Course) → course prefix.now ≡ Some x → result ≡ int_sum_below

@@ -4,9 +4,20 @@
 #![tactic(auto)]
 
 mod bounds;
+mod carried;
 mod parts;
+mod rates;
 mod rides;
+mod running;
+mod straight;
 #[cfg(test)]
 mod tests;
+#[cfg(test)]
+mod walk_tests;
+#[cfg(test)]
+mod walks;
 
 pub use bounds::bound;
+pub use rates::Rates;
+pub use running::CompletionBound;
+pub use straight::{StraightRides, Sums};

@@ -15,7 +15,7 @@ use partial_tours::Prefix;
 use tour_rules::riding::{cost_of_call, cost_of_group};
 
 /// The moment in ms at which the car would be at a floor if it went there straight from its last stop.
-fn straight_arrival(snapshot: &Snapshot, prefix: &Prefix, to: u32) -> u64
+pub(crate) fn straight_arrival(snapshot: &Snapshot, prefix: &Prefix, to: u32) -> u64
     requires same { snapshot.now ≡ prefix.now.snapshot }
     requires to { to < floor_count snapshot.now.building }
     ensures value { (x : Course) → course prefix.now ≡ Some x → result

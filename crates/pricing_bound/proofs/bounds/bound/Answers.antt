@@ -7,7 +7,7 @@ use Rattle.search_model.specs.Prices.{price_at}
 use Rattle.search_model.proofs.BoundLemmas.{bound_is_at_least, bound_narrows}
 use Rattle.partial_tours.proofs.Follow.{is_some_has}
 use Rattle.partial_tours.proofs.Prefixes.{moves_few}
-use Rattle.pricing_bound.proofs.LowerLemmas.{bound_is_lower, longer_grows}
+use Rattle.pricing_bound.specs.LowerLemmas.{bound_is_lower, longer_grows}
 use Rattle.pricing_bound.proofs.bounds.bound.Goals as goal
 
 pub prove-unreachable-requires-3 : goal.prove-unreachable-requires-3

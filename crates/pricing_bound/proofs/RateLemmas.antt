@@ -1,0 +1,190 @@
+-- Rates of calls, one by one and as a list.
+use Rattle.std.proofs.Common.{◌≡◌, ℕ, ◌+◌, ◌-◌, ◌*◌, ◌<◌, ◌≤◌, ◌^◌, Bool, true, false, ltb, List, [], ◌∷◌, ◌++◌, map, set, take, length, get_or, refl, sym, ap, ◌∙◌, subst, inl, inr, arith, length-append, ◌==◌}
+use Rattle.std.specs.Prelude.{ℤ, pos, negsuc, neg_ℤ, ◌+ℤ◌, ◌-ℤ◌, ◌≤ℤ◌}
+use Rattle.std.proofs.lemmas.Int.{ints, to_z-of_z}
+use Rattle.std.proofs.lemmas.List.{get_or-map, get_or_past, get_or_append_left, get_or_push, get_or_default, length-map, get_or-set_same, get_or-set_other, length-set, take_more, take_more_set, map-append}
+use Rattle.std.proofs.lemmas.Bool.{ltb-true, ltb-false, eqb-true, eq-eqb, both_ways}
+use Rattle.std.proofs.Math.Nat.{eq-or-lt_of_le}
+use mir.Syntax.{w128}
+use mir.Val.{SFits, to_z, of_z}
+use Rattle.elevator_model.specs.declared.Call.{Call}
+use Rattle.elevator_model.specs.Building.{Building}
+use Rattle.elevator_model.specs.Snapshot.{Snapshot, call_count, call_of, no_call}
+use Rattle.elevator_model.specs.Travel.{time_between}
+use Rattle.price_scale.specs.Scale.{IsPrice, IsPriceSum}
+use Rattle.search_model.specs.Bounds.{cost_if_alone}
+use Rattle.search_model.specs.Prices.{scaled, price_at}
+use Rattle.tour_rules.specs.Leaving.{call_cost}
+use Rattle.tour_rules.proofs.Settled.{cost_of_rider-call}
+use Rattle.pricing_bound.specs.declared.rates.Rate.{Rate}
+use Rattle.pricing_bound.specs.Rates.{AreRates, IsRate, cost_at}
+
+-- ---- one rate
+
+past : (m r p : ℕ) → m - r - p ≡ m - (r + p)
+past m r p = omega arith
+
+rides : (m t : ℕ) → m + t - m ≡ t
+rides m t = omega arith
+
+-- the products of the code and of the definition
+multiplied : (persons ww pw tw ride wait late : ℕ) → 1000 * persons * (tw * ride) + 1000 * persons * ww * wait + 1000 * persons * pw * late ≡ 1000 * (persons * ((ww * wait + pw * late) + tw * ride))
+multiplied persons ww pw tw ride wait late = omega arith
+
+cost_found : (b : Building) (call : Call) (m : ℕ) → 1000 * call.persons * (b.travel_weight * time_between b.travel call.origin call.destination) + 1000 * call.persons * b.wait_weight * (m - call.released) + 1000 * call.persons * b.patience_weight * (m - (call.released + b.patience)) ≡ 1000 * call_cost b call m (m + time_between b.travel call.origin call.destination)
+cost_found b call m =
+    let t = time_between b.travel call.origin call.destination in
+    multiplied call.persons b.wait_weight b.patience_weight b.travel_weight t (m - call.released) (m - (call.released + b.patience)) ∙ ap (λ (x : ℕ). 1000 * (call.persons * ((b.wait_weight * (m - call.released) + b.patience_weight * x) + b.travel_weight * t))) (sym (past m call.released b.patience)) ∙ ap (λ (x : ℕ). 1000 * (call.persons * ((b.wait_weight * (m - call.released) + b.patience_weight * (m - call.released - b.patience)) + b.travel_weight * x))) (sym (rides m t))
+
+pub rate_is : (s : Snapshot) (j : ℕ) (b : Building) (call : Call) (rate : Rate) → b ≡ s.building → call ≡ call_of s j → j < call_count s → rate.released ≡ call.released → rate.late ≡ call.released + b.patience → rate.slope ≡ 1000 * call.persons * b.wait_weight → rate.steeper ≡ 1000 * call.persons * b.patience_weight → rate.ride ≡ 1000 * call.persons * (b.travel_weight * time_between b.travel call.origin call.destination) → rate.slope ≤ 8000000 → rate.steeper ≤ 8000000 → rate.ride ≤ 160000000000000 → rate.price ≡ pos 0 → IsRate s j rate
+rate_is s j b call rate same_building same_call lt released late slope steeper ride slope_small steeper_small ride_small price = record {
+  cost = λ m. let found = cost_found b call m in let code = ap (λ (x : ℕ). x + rate.slope * (m - rate.released) + rate.steeper * (m - rate.late)) ride ∙ ap (λ (x : ℕ). 1000 * call.persons * (b.travel_weight * time_between b.travel call.origin call.destination) + x * (m - rate.released) + rate.steeper * (m - rate.late)) slope ∙ ap (λ (x : ℕ). 1000 * call.persons * (b.travel_weight * time_between b.travel call.origin call.destination) + 1000 * call.persons * b.wait_weight * (m - x) + rate.steeper * (m - rate.late)) released ∙ ap (λ (x : ℕ). 1000 * call.persons * (b.travel_weight * time_between b.travel call.origin call.destination) + 1000 * call.persons * b.wait_weight * (m - call.released) + x * (m - rate.late)) steeper ∙ ap (λ (x : ℕ). 1000 * call.persons * (b.travel_weight * time_between b.travel call.origin call.destination) + 1000 * call.persons * b.wait_weight * (m - call.released) + 1000 * call.persons * b.patience_weight * (m - x)) late in let of_call = ap (λ (x : Building). call_cost x call m (m + time_between x.travel call.origin call.destination)) same_building ∙ ap (λ (x : Call). call_cost s.building x m (m + time_between s.building.travel x.origin x.destination)) same_call in let of_rider = cost_of_rider-call s j m (m + time_between s.building.travel (call_of s j).origin (call_of s j).destination) lt in let all : cost_at rate m ≡ 1000 * cost_if_alone s j m = code ∙ found ∙ ap (λ (x : ℕ). 1000 * x) (of_call ∙ sym of_rider) in in_thousandths (cost_at rate m) (cost_if_alone s j m) all;
+  slope = slope_small;
+  steeper = steeper_small;
+  ride = ride_small;
+  price = subst IsPrice (sym price) none_is_price;
+}
+  where
+    in_thousandths : (x y : ℕ) → x ≡ 1000 * y → pos x ≡ scaled y
+    in_thousandths x y e = omega (arith, ints, e)
+
+    none_is_price : IsPrice (pos 0)
+    none_is_price = (omega (arith, ints), omega (arith, ints))
+
+-- ---- the list
+
+none_is_price : IsPrice (pos 0)
+none_is_price = (omega (arith, ints), omega (arith, ints))
+
+pub prices_are : (s : Snapshot) (rates : List Rate) (j : ℕ) → AreRates s rates → IsPrice (price_at (map (λ (rate : Rate). rate.price) rates) j)
+prices_are s [] j h = none_is_price
+prices_are s (first ∷ rates) j h = by_place (ltb j (length (first ∷ rates))) refl
+  where
+    by_place : (v : Bool) → ltb j (length (first ∷ rates)) ≡ v → IsPrice (price_at (map (λ (rate : Rate). rate.price) (first ∷ rates)) j)
+    by_place true e =
+        let lt = ltb-true j (length (first ∷ rates)) e in
+        let size = h.size in
+        subst IsPrice (sym (get_or-map (λ (rate : Rate). rate.price) (first ∷ rates) j first (pos 0) lt)) (h.each j first (omega (arith, lt, size))).price
+    by_place false e =
+        let past = ltb-false j (length (first ∷ rates)) e in
+        let size = length-map (first ∷ rates) (λ (rate : Rate). rate.price) in
+        subst IsPrice (sym (get_or_past (map (λ (rate : Rate). rate.price) (first ∷ rates)) j (pos 0) (omega (arith, past, size)))) none_is_price
+
+pub price_read : (s : Snapshot) (rates : List Rate) (j : ℕ) (rate : Rate) → AreRates s rates → j < call_count s → rate ≡ get_or rates j rate → rate.price ≡ price_at (map (λ (r : Rate). r.price) rates) j
+price_read s rates j rate h lt is =
+    let size = h.size in
+    ap (λ (r : Rate). r.price) is ∙ sym (get_or-map (λ (r : Rate). r.price) rates j rate (pos 0) (omega (arith, lt, size)))
+
+pub rate_read : (s : Snapshot) (rates : List Rate) (j : ℕ) (rate : Rate) → AreRates s rates → j < call_count s → rate ≡ get_or rates j rate → IsRate s j rate
+rate_read s rates j rate h lt is = subst (IsRate s j) (sym is) (h.each j rate lt)
+
+-- so many rates
+pub record AreFirstRates (s : Snapshot) (n : ℕ) (rates : List Rate) : Type 0 where
+  pub size : length rates ≡ n
+  pub each : (j : ℕ) (d : Rate) → j < n → IsRate s j (get_or rates j d)
+  pub prices : map (λ (rate : Rate). rate.price) rates ≡ map (λ (_ : Call). pos 0) (take n s.calls)
+
+pub no_rates : (s : Snapshot) (rates : List Rate) → rates ≡ [] → AreFirstRates s 0 rates
+no_rates s rates e = record { size = ap length e; each = λ j d lt. absurd (omega arith); prices = ap (map (λ (rate : Rate). rate.price)) e }
+
+pub rates_more : (s : Snapshot) (n : ℕ) (rates new : List Rate) (rate : Rate) → AreFirstRates s n rates → n < call_count s → new ≡ rates ++ rate ∷ [] → IsRate s n rate → rate.price ≡ pos 0 → AreFirstRates s (n + 1) new
+rates_more s n rates new rate h lt is here free =
+    let one = length-append rates (rate ∷ []) in
+    let all = ap length is in
+    let old = h.size in
+    record {
+      size = omega (arith, one, all, old);
+      each = λ j d less. subst (λ (xs : List Rate). IsRate s j (get_or xs j d)) (sym is) (elim (eq-or-lt_of_le (at_most j less)) [ inl e ↦ subst (λ (r : Rate). IsRate s j r) (sym (get_or_push rates rate d j (omega (arith, e, old)))) (subst (λ (k : ℕ). IsRate s k rate) (sym e) here) | inr before ↦ subst (IsRate s j) (sym (get_or_append_left rates (rate ∷ []) d j (omega (arith, old, before)))) (h.each j d before) ]);
+      prices = ap (map (λ (r : Rate). r.price)) is ∙ map-append (λ (r : Rate). r.price) rates (rate ∷ []) ∙ ap (λ (xs : List ℤ). xs ++ rate.price ∷ []) h.prices ∙ ap (λ (z : ℤ). map (λ (_ : Call). pos 0) (take n s.calls) ++ z ∷ []) free ∙ sym (ap (map (λ (_ : Call). pos 0)) (take_more s.calls n no_call lt) ∙ map-append (λ (_ : Call). pos 0) (take n s.calls) (get_or s.calls n no_call ∷ []));
+    }
+  where
+    at_most : (k : ℕ) → k < n + 1 → k ≤ n
+    at_most k lt = omega (arith, lt)
+
+-- a rate with another price
+repriced : (s : Snapshot) (j : ℕ) (rate : Rate) (price : ℤ) → IsRate s j rate → IsPrice price → IsRate s j (record rate { price = price })
+repriced s j rate price h in_range = record { cost = h.cost; slope = h.slope; steeper = h.steeper; ride = h.ride; price = in_range }
+
+pub rates_set : (s : Snapshot) (rates new : List Rate) (j : ℕ) (rate : Rate) (price : ℤ) → AreRates s rates → j < length rates → rate ≡ get_or rates j rate → new ≡ set rates j (record rate { price = price }) → IsPrice price → AreRates s new
+rates_set s rates new j rate price h lt is new_is in_range =
+    let size = h.size in
+    let same = length-set rates j (record rate { price = price }) in
+    let all = ap length new_is in
+    record {
+      size = omega (arith, size, same, all);
+      each = λ k d less. subst (λ (xs : List Rate). IsRate s k (get_or xs k d)) (sym new_is) (by_place k d less (k == j) refl);
+    }
+  where
+    by_place : (k : ℕ) (d : Rate) → k < call_count s → (v : Bool) → (k == j) ≡ v → IsRate s k (get_or (set rates j (record rate { price = price })) k d)
+    by_place k d less true e =
+        let at = eqb-true k j e in
+        let size = h.size in
+        subst (λ (i : ℕ). IsRate s i (get_or (set rates j (record rate { price = price })) i d)) (sym at) (subst (IsRate s j) (sym (get_or-set_same rates j (record rate { price = price }) d lt)) (repriced s j rate price (rate_read s rates j rate h (omega (arith, lt, size)) is) in_range))
+    by_place k d less false e = subst (IsRate s k) (sym (get_or-set_other rates j k (record rate { price = price }) d (λ at. both_ways (k == j) e (eq-eqb k j at)))) (h.each k d less)
+
+pub prices_set : (rates new : List Rate) (prices : List ℤ) (j : ℕ) (rate : Rate) (price : ℤ) → map (λ (r : Rate). r.price) (take j rates) ≡ take j prices → j < length rates → j < length prices → price ≡ get_or prices j price → new ≡ set rates j (record rate { price = price }) → map (λ (r : Rate). r.price) (take (j + 1) new) ≡ take (j + 1) prices
+prices_set rates new prices j rate price so_far lt less is new_is =
+    ap (λ (xs : List Rate). map (λ (r : Rate). r.price) (take (j + 1) xs)) new_is ∙ ap (map (λ (r : Rate). r.price)) (take_more_set rates j (record rate { price = price }) lt) ∙ map-append (λ (r : Rate). r.price) (take j rates) (record rate { price = price } ∷ []) ∙ ap (λ (xs : List ℤ). xs ++ price ∷ []) so_far ∙ ap (λ (z : ℤ). take j prices ++ z ∷ []) is ∙ sym (take_more prices j price less)
+
+-- the entry that is read with a default
+pub read_same : (rates : List Rate) (j : ℕ) (d : Rate) → j < length rates → get_or rates j d ≡ get_or rates j (get_or rates j d)
+read_same rates j d lt = get_or_default rates j d (get_or rates j d) lt
+
+pub all_rates : (s : Snapshot) (n : ℕ) (rates : List Rate) → AreFirstRates s n rates → n ≡ call_count s → AreRates s rates
+all_rates s n rates h e = let size = h.size in record { size = omega (arith, size, e); each = λ j d lt. h.each j d (omega (arith, lt, e)) }
+
+-- a number of 128 bits, written and read back
+pub stored : (z : ℤ) → neg_ℤ (pos (10 ^ 30)) ≤ℤ z → z ≤ℤ pos (10 ^ 30) → to_z w128 (of_z w128 z) ≡ z
+stored z low high = to_z-of_z w128 z (fits_128 z low high)
+  where
+    fits_128 : (z : ℤ) → neg_ℤ (pos (10 ^ 30)) ≤ℤ z → z ≤ℤ pos (10 ^ 30) → SFits w128 z
+    fits_128 (pos n) low high = record { sfits = omega (arith, ints, high) }
+    fits_128 (negsuc n) low high = record { sfits = omega (arith, ints, low) }
+
+pub stored_price : (z : ℤ) → IsPrice z → to_z w128 (of_z w128 z) ≡ z
+stored_price z h = let low = h.0 in let high = h.1 in stored z (omega (arith, ints, low)) (omega (arith, ints, high))
+
+pub stored_is : (z : ℤ) (prices : List ℤ) (j : ℕ) (read : ℤ) → IsPrice z → z ≡ read → read ≡ get_or prices j read → j < length prices → to_z w128 (of_z w128 z) ≡ get_or prices j (to_z w128 (of_z w128 z))
+stored_is z prices j read h same is lt = stored_price z h ∙ same ∙ is ∙ get_or_default prices j read (to_z w128 (of_z w128 z)) lt
+
+pub stored_in_range : (z : ℤ) → IsPrice z → IsPrice (to_z w128 (of_z w128 z))
+stored_in_range z h = subst IsPrice (sym (stored_price z h)) h
+
+-- a term, as the code finds it
+pub term_found : (cost scaled_cost price : ℤ) (z : ℕ) → cost ≡ pos z → z ≤ 2 * 10 ^ 18 → pos z ≡ scaled_cost → IsPrice price → to_z w128 (of_z w128 (to_z w128 (of_z w128 cost) -ℤ to_z w128 (of_z w128 price))) ≡ scaled_cost -ℤ price
+term_found cost scaled_cost price z is small whole h =
+    let low = h.0 in
+    let high = h.1 in
+    let one = stored cost (omega (arith, ints, is)) (omega (arith, ints, is, small)) in
+    let two = stored_price price h in
+    let both : (to_z w128 (of_z w128 cost) -ℤ to_z w128 (of_z w128 price)) ≡ (scaled_cost -ℤ price) = ap (λ (x : ℤ). x -ℤ to_z w128 (of_z w128 price)) (one ∙ is ∙ whole) ∙ ap (λ (x : ℤ). scaled_cost -ℤ x) two in
+    ap (λ (x : ℤ). to_z w128 (of_z w128 x)) both ∙ stored (scaled_cost -ℤ price) (omega (arith, ints, whole, low, high)) (omega (arith, ints, whole, small, low, high))
+
+pub size_set : (rates new : List Rate) (n j : ℕ) (rate : Rate) → n ≡ length rates → new ≡ set rates j rate → n ≡ length new
+size_set rates new n j rate e is =
+    let same = length-set rates j rate in
+    let all = ap length is in
+    omega (arith, e, same, all)
+
+-- a sum, as the code finds it
+pub stored_sum : (x y : ℤ) → neg_ℤ (pos (10 ^ 29)) ≤ℤ x → x ≤ℤ pos (10 ^ 29) → neg_ℤ (pos (10 ^ 29)) ≤ℤ y → y ≤ℤ pos (10 ^ 29) → to_z w128 (of_z w128 (to_z w128 (of_z w128 x) +ℤ to_z w128 (of_z w128 y))) ≡ x +ℤ y
+stored_sum x y a b c d =
+    let one = stored x (omega (arith, ints, a)) (omega (arith, ints, b)) in
+    let two = stored y (omega (arith, ints, c)) (omega (arith, ints, d)) in
+    let both : (to_z w128 (of_z w128 x) +ℤ to_z w128 (of_z w128 y)) ≡ (x +ℤ y) = ap (λ (z : ℤ). z +ℤ to_z w128 (of_z w128 y)) one ∙ ap (λ (z : ℤ). x +ℤ z) two in
+    ap (λ (z : ℤ). to_z w128 (of_z w128 z)) both ∙ stored (x +ℤ y) (omega (arith, ints, a, c)) (omega (arith, ints, b, d))
+
+pub stored_paid : (z : ℤ) → IsPriceSum z → to_z w128 (of_z w128 z) ≡ z
+stored_paid z h = let low = h.0 in let high = h.1 in stored z (omega (arith, ints, low)) (omega (arith, ints, high))
+
+pub stored_term : (z : ℤ) → neg_ℤ (pos (2 * 10 ^ 24)) ≤ℤ z → z ≤ℤ pos (2 * 10 ^ 24) → to_z w128 (of_z w128 z) ≡ z
+stored_term z low high = stored z (omega (arith, ints, low)) (omega (arith, ints, high))
+
+pub stored_less : (x y : ℤ) → neg_ℤ (pos (10 ^ 29)) ≤ℤ x → x ≤ℤ pos (10 ^ 29) → IsPriceSum y → to_z w128 (of_z w128 (to_z w128 (of_z w128 x) -ℤ to_z w128 (of_z w128 y))) ≡ x -ℤ y
+stored_less x y a b h =
+    let c = h.0 in
+    let d = h.1 in
+    let one = stored x (omega (arith, ints, a)) (omega (arith, ints, b)) in
+    let two = stored_paid y h in
+    let both : (to_z w128 (of_z w128 x) -ℤ to_z w128 (of_z w128 y)) ≡ (x -ℤ y) = ap (λ (z : ℤ). z -ℤ to_z w128 (of_z w128 y)) one ∙ ap (λ (z : ℤ). x -ℤ z) two in
+    ap (λ (z : ℤ). to_z w128 (of_z w128 z)) both ∙ stored (x -ℤ y) (omega (arith, ints, a, d)) (omega (arith, ints, b, c))

@@ -1,0 +1,36 @@
+use Rattle.std.proofs.Common.{◌∙◌, ◌*◌, ◌&&◌, ◌<◌, not, ℕ, Bool, ap, sym, subst}
+use Rattle.call_sets.specs.Counting.{has}
+use Rattle.std.proofs.lemmas.Bool.{and_parts}
+use Rattle.elevator_model.specs.Building.{Building, floor_count}
+use Rattle.elevator_model.specs.Snapshot.{Snapshot, IsAccepted, car_count}
+use Rattle.car_layout.specs.Layouts.{LaidOut, any_group_to}
+use Rattle.partial_tours.specs.Courses.{reached}
+use Rattle.partial_tours.specs.PartialTour.{course}
+use Rattle.tour_rules.proofs.Riders.{riders_carried}
+use Rattle.pricing_bound.specs.Running.{IsAfterNow}
+use Rattle.pricing_bound.proofs.CarriedLemmas.{groups_by_floor, goes_within, one_course}
+use Rattle.pricing_bound.proofs.PartLemmas.{placed_at}
+use Rattle.pricing_bound.proofs.carried.cost_of_groups.Goals as goal
+
+pub ridden_to_all-requires-clause-within : goal.ridden_to_all-requires-clause-within
+ridden_to_all-requires-clause-within c = λ g h.
+    let t = c.args.prefix.now in
+    let goes = (and_parts (has c.destinations.result g) _ (sym (c.minus-floors.ensures g) ∙ h)).0 in
+    let some = sym (ap (λ (l : LaidOut). any_group_to l.snapshot.aboard l.car g) c.layout.ensures) ∙ sym (c.destinations.ensures g) ∙ goes in
+    subst (λ (s : Snapshot). g < floor_count s.building) (sym c.requires.same) (goes_within t.snapshot t.car g (subst IsAccepted c.requires.same c.requires.accepted) some)
+
+pub returns-clause-cost : goal.returns-clause-cost
+returns-clause-cost c = λ x e.
+    let t = c.args.prefix.now in
+    let s = t.snapshot in
+    let p = reached s t.car x in
+    let a = subst IsAccepted c.requires.same c.requires.accepted in
+    let b = subst (λ (s : Snapshot). t.car < car_count s) c.requires.same c.requires.car in
+    let at = c.requires.late in
+    let late = one_course (course t) at.0 x (λ z. IsAfterNow s t.car (reached s t.car z)) at.1 e at.2 in
+    let place = c.point.result.now.place in
+    let weight = c.travel_weight.ensures.value ∙ ap (λ (b : Building). b.travel_weight) c.building.ensures.value ∙ ap (λ (s : Snapshot). s.building.travel_weight) c.requires.same in
+    let ridden = c.ridden_to_all.ensures.ridden x e in
+    let are = riders_carried s t.car place p (c.point.ensures x e).place in
+    let groups = groups_by_floor s t.car p place.carried place.visited c.minus-floors.result a (placed_at t x a b e) late are (λ g. c.minus-floors.ensures g ∙ ap (λ (b : Bool). b && not (has place.visited g)) (c.destinations.ensures g ∙ ap (λ (l : LaidOut). any_group_to l.snapshot.aboard l.car g) c.layout.ensures)) in
+    ap (λ (w : ℕ). w * c.ridden_to_all.result) weight ∙ ap (λ (r : ℕ). s.building.travel_weight * r) ridden ∙ groups

@@ -1,0 +1,25 @@
+use Rattle.std.proofs.Common.{◌∙◌, ◌&&◌, ◌<◌, ℕ, Bool, ap, subst, arith}
+use Rattle.std.specs.Prelude.{ℤ, ◌+ℤ◌}
+use Rattle.std.proofs.lemmas.Int.{ints}
+use Rattle.call_sets.specs.Counting.{has}
+use Rattle.elevator_model.specs.Snapshot.{call_count, car_count}
+use Rattle.search_model.specs.Sums.{int_sum_where}
+use Rattle.pricing_bound.specs.Rates.{adds_at, aim_at, counts_at}
+use Rattle.pricing_bound.proofs.RateLemmas.{stored}
+use Rattle.pricing_bound.proofs.RunningLemmas.{aimed_at, start_sums}
+use Rattle.pricing_bound.proofs.straight.StraightRidesCompletionBound.start.Goals as goal
+
+pub returns : goal.returns
+returns c = λ x e.
+    let it = c.args.self.now in
+    let a = aim_at it.rates.now it.car it.allowed it.required in
+    let t = c.args.prefix.now in
+    let calls = c.intersection-calls.result in
+    let here = subst (λ (n : ℕ). n < car_count t.snapshot) c.car-car.ensures.value c.car-car.ensures.car in
+    let car = aimed_at a t (λ s c. c < car_count s) c.requires.for_it here in
+    let opened = c.opened.ensures.value x e in
+    let low = c.groups_part-groups.ensures.low in
+    let high = c.groups_part-groups.ensures.high in
+    let waiting = c.waiting.ensures.sum ∙ ap (λ (m : ℕ). int_sum_where (call_count a.snapshot) (has calls) (adds_at a m)) opened in
+    let bound = c.sums_at_start.ensures.bound ∙ ap (λ (z : ℤ). z +ℤ c.waiting.result.sum) (stored c.groups_part-groups.result (omega (arith, ints, low)) (omega (arith, ints, high))) in
+    start_sums a t c.sums_at_start.result x calls c.groups_part-groups.result c.waiting.result.sum c.requires.for_it c.requires.empty c.snapshot.ensures.accepted car c.snapshot.ensures.prices e (c.groups_part-groups.ensures.sum x e) waiting (λ k. c.intersection-calls.ensures k ∙ ap (λ (b : Bool). has it.allowed k && b) (c.calls.ensures k)) bound c.sums_at_start.ensures.paid (λ k. ap (λ (set : ℕ). has set k) c.sums_at_start.ensures.counted ∙ c.waiting.ensures.counted k ∙ ap (λ (m : ℕ). has calls k && counts_at a m k) opened)

@@ -1,0 +1,52 @@
+-- What calls cost alone, laid out, and what they add to a bound.
+use Rattle.std.specs.Prelude.{◌≡◌, ◌≤◌, ◌<◌, ℕ, ◌+◌, ◌-◌, ◌*◌, ℤ, pos, ◌-ℤ◌, int_lt, Bool, ◌||◌, List, length, slice_index_or, if◌then◌else◌}
+use Rattle.call_sets.specs.Counting.{has}
+use Rattle.elevator_model.specs.Snapshot.{Snapshot, call_count}
+use Rattle.price_scale.specs.Scale.{IsPrice}
+use Rattle.search_model.specs.Bounds.{cost_if_alone}
+use Rattle.search_model.specs.Prices.{scaled, price_at}
+use Rattle.pricing_bound.specs.declared.rates.Rate.{Rate}
+use Rattle.pricing_bound.specs.Aims.{Aim}
+
+-- what a contract sees of laid out rates: whose calls they are of, and the prices
+pub record Rated : Type 0 where
+  pub snapshot : Snapshot
+  pub prices : List ℤ
+
+-- the aim of a car at these rates, with a set of allowed and one of required calls
+abbrev pub aim_at : Rated → (car allowed required : ℕ) → Aim
+aim_at rated car allowed required =
+    record { snapshot = rated.snapshot; car = car; price = price_at rated.prices; allowed = has allowed; required = has required }
+
+-- what call j costs without its price, if it boarded at the moment m and rode straight to its destination
+abbrev pub term_at : Aim → (m j : ℕ) → ℤ
+term_at a m j = scaled (cost_if_alone a.snapshot j m) -ℤ a.price j
+
+-- it adds that to a bound: it is required, or lowers the bound
+abbrev pub counts_at : Aim → (m j : ℕ) → Bool
+counts_at a m j = a.required j || int_lt (term_at a m j) (pos 0)
+
+-- what it adds
+abbrev pub adds_at : Aim → (m j : ℕ) → ℤ
+adds_at a m j = if a.required j then term_at a m j else (if int_lt (term_at a m j) (pos 0) then term_at a m j else pos 0)
+
+-- the cost in thousandths that the rate gives for the moment m
+abbrev pub cost_at : Rate → (m : ℕ) → ℕ
+cost_at rate m = (rate.ride + rate.slope * (m - rate.released)) + rate.steeper * (m - rate.late)
+
+-- the rate is that of call j
+pub record IsRate (s : Snapshot) (j : ℕ) (rate : Rate) : Type 0 where
+  pub cost : (m : ℕ) → pos (cost_at rate m) ≡ scaled (cost_if_alone s j m)
+  pub slope : rate.slope ≤ 8000000
+  pub steeper : rate.steeper ≤ 8000000
+  pub ride : rate.ride ≤ 160000000000000
+  pub price : IsPrice rate.price
+
+-- the rates are those of the calls, in their order
+pub record AreRates (s : Snapshot) (rates : List Rate) : Type 0 where
+  pub size : length rates ≡ call_count s
+  pub each : (j : ℕ) (d : Rate) → j < call_count s → IsRate s j (slice_index_or rates j d)
+
+-- the prices of the calls are prices
+abbrev pub ArePrices : Rated → Type 0
+ArePrices rated = (j : ℕ) → IsPrice (price_at rated.prices j)

@@ -1,0 +1,50 @@
+-- The running sums of a bound.
+use Rattle.std.specs.Prelude.{◌≡◌, ◌+◌, ◌*◌, ◌-◌, ◌≤◌, ◌&&◌, not, nat_lt, ℕ, Bool, length}
+use Rattle.call_sets.specs.Counting.{has, sum_where}
+use Rattle.elevator_model.specs.Snapshot.{Snapshot, call_count, spec_of}
+use Rattle.elevator_model.specs.Travel.{time_between}
+use Rattle.elevator_model.specs.Tours.{Progress, rider_count}
+use Rattle.elevator_model.specs.Partial.{Course}
+use Rattle.price_scale.specs.Scale.{IsPriceSum}
+use Rattle.search_model.specs.Bounds.{cost_if_straight, bound_after}
+use Rattle.search_model.specs.Sums.{int_sum_where}
+use Rattle.car_layout.specs.Layouts.{persons_to, moments_to}
+use Rattle.partial_tours.specs.Courses.{reached}
+use Rattle.pricing_bound.specs.declared.straight.Sums.{Sums}
+use Rattle.pricing_bound.specs.Aims.{Aim, IsBoundSize}
+use Rattle.pricing_bound.specs.Rates.{counts_at}
+
+-- call j is allowed, has not boarded, and is required or lowers the bound
+abbrev pub is_counted : Aim → Progress → ℕ → Bool
+is_counted a p j = nat_lt j (call_count a.snapshot) && a.allowed j && not (p.boarded j) && counts_at a p.opened j
+
+-- the sums are those of a progress: the completion bound, the prices of the calls that boarded, and the calls that
+-- are counted
+pub record AreSums (a : Aim) (sums : Sums) (p : Progress) : Type 0 where
+  pub bound : sums.bound ≡ bound_after a.snapshot a.car a.price a.allowed a.required p
+  pub small : IsBoundSize sums.bound
+  pub paid : sums.paid ≡ int_sum_where (call_count a.snapshot) p.boarded a.price
+  pub paid_small : IsPriceSum sums.paid
+  pub counted : (j : ℕ) → has sums.counted j ≡ is_counted a p j
+
+-- they are those of where moves lead
+abbrev pub StandFor : Aim → Sums → Course → Type 0
+StandFor a sums x = AreSums a sums (reached a.snapshot a.car x)
+
+-- what those carried cost if the car went straight to each destination: all, the calls of a set, the groups
+abbrev pub cost_of_rides : Snapshot → Progress → ℕ
+cost_of_rides s p = sum_where (rider_count s) p.carried (cost_if_straight s p)
+
+abbrev pub cost_of_call_rides : Snapshot → Progress → (calls : ℕ) → ℕ
+cost_of_call_rides s p calls = sum_where (call_count s) (has calls) (cost_if_straight s p)
+
+abbrev pub cost_of_group_rides : Snapshot → Progress → ℕ
+cost_of_group_rides s p = sum_where (length s.aboard) (λ k. p.carried (call_count s + k)) (λ k. cost_if_straight s p (call_count s + k))
+
+-- the doors are open no sooner than those of any car that stands now
+abbrev pub IsAfterNow : Snapshot → ℕ → Progress → Type 0
+IsAfterNow s c p = s.moment + (spec_of s c).opening ≤ p.opened
+
+-- the ms that the persons aboard who go to floor g would have ridden when the car is there, if it went there straight
+abbrev pub ridden_to : Snapshot → ℕ → Progress → ℕ → ℕ
+ridden_to s c p g = persons_to s.aboard c g * (p.opened + time_between s.building.travel p.floor g) - moments_to s.aboard c g

@@ -1,0 +1,194 @@
+//! What calls cost alone, laid out once for a snapshot, with one price for each call.
+
+ghost use Rattle.std.specs.Prelude.{◌≡◌, ℕ, ℤ, pos, neg_ℤ, ◌-ℤ◌, ◌*◌, ◌^◌, ◌<◌, ◌≤◌, ◌≤ℤ◌, IfOk, length, map, nat_lt};
+ghost use Rattle.call_sets.specs.Counting.{has};
+ghost use Rattle.elevator_model.specs.Snapshot.{IsAccepted, Snapshot as SnapshotValue, call_count, call_of};
+ghost use Rattle.price_scale.specs.Scale.{IsPrice};
+ghost use Rattle.search_model.specs.Bounds.{cost_if_alone};
+ghost use Rattle.search_model.specs.Prices.{price_at, scaled as scaled_lem};
+ghost use Rattle.pricing_bound.specs.Rates.{AreRates, IsRate, ArePrices, cost_at};
+
+use call_sets::CallSet;
+use call_state::{Building, Call, Snapshot};
+use elevator_model::MOMENT_LIMIT;
+use price_scale::Price;
+use std::alloc::{AllocError, Global};
+use std::marker::Model;
+
+/// What a call costs if it boards and rides straight to its destination, by the moment at which it boards: a
+/// fixed cost, one for each ms past its release, and one more for each ms past its patience. In thousandths of a
+/// cost unit; moments are in ms.
+#[derive(Clone, Copy)]
+pub(crate) struct Rate {
+    released: u64,
+    /// The moment at which its patience ends.
+    late: u64,
+    slope: u64,
+    steeper: u64,
+    ride: u64,
+    /// The price of the call, of absolute value at most 10^24.
+    price: i128,
+}
+
+impl Rate {
+    /// The cost where it boards at this moment.
+    ///
+    /// Eight persons wait at most 10^11 ms, of which each costs at most two million thousandths for each of them,
+    /// so all of it is below 2 * 10^18 and fits 64 bits.
+    fn cost(&self, moment: u64) -> u64
+        requires slope { self.now.slope ≤ 8000000 }
+        requires steeper { self.now.steeper ≤ 8000000 }
+        requires ride { self.now.ride ≤ 160000000000000 }
+        requires early { moment ≤ MOMENT_LIMIT }
+        ensures value { result ≡ cost_at self.now moment }
+        ensures small { result ≤ 2 * 10 ^ 18 }
+    {
+        self.ride
+            + self.slope * moment.saturating_sub(self.released)
+            + self.steeper * moment.saturating_sub(self.late)
+    }
+}
+
+/// The rate of a call, at the price 0.
+fn rate_of(building: &Building, call: &Call) -> Rate
+    requires persons { call.now.persons ≤ 8 }
+    requires origin { call.now.origin < building.now.travel.floors }
+    requires destination { call.now.destination < building.now.travel.floors }
+    requires released { call.now.released ≤ 1000000000 }
+    ensures rate { (s : SnapshotValue) (j : ℕ) → building.now ≡ s.building → call.now ≡ call_of s j
+        → j < call_count s → IsRate s j result }
+    ensures price { result.price ≡ pos 0 }
+{
+    let ride = building.travel().time(call.origin, call.destination);
+    let persons = 1000 * call.persons as u64;
+    Rate {
+        released: call.released,
+        late: call.released + building.patience(),
+        slope: persons * building.wait_weight(),
+        steeper: persons * building.patience_weight(),
+        ride: persons * (building.travel_weight() * ride),
+        price: 0,
+    }
+}
+
+/// The rates of the calls of a snapshot, in their order, at the price 0 each.
+fn rates_of(alloc: Global, snapshot: &Snapshot) -> Result<Vec<Rate>, AllocError>
+    ensures rates { IfOk result (λ rates. AreRates snapshot.now rates.items) }
+    ensures prices { IfOk result (λ rates. map (λ rate. rate.price) rates.items
+        ≡ map (λ _. pos 0) snapshot.now.calls) }
+{
+    let building = snapshot.building();
+    let calls = snapshot.calls();
+    let mut rates = Vec::new(alloc);
+    for j in 0..calls.len() {
+        rates.push(rate_of(building, &calls[j]))?;
+    }
+    Ok(rates)
+}
+
+/// All calls of a snapshot.
+fn calls_of(snapshot: &Snapshot) -> CallSet
+    ensures { (j : ℕ) → has result j ≡ nat_lt j (call_count snapshot.now) }
+{
+    let calls = snapshot.calls().len() as u32;
+    let mut all = CallSet::empty();
+    for call in 0..calls {
+        all = all.with(call);
+    }
+    all
+}
+
+/// Gives each call its price.
+fn set_prices(rates: &mut [Rate], prices: &[Price])
+    requires { length prices.now ≡ length rates.old }
+    ensures prices { map (λ rate. rate.price) rates.new ≡ prices.now }
+    ensures rates { (s : SnapshotValue) → AreRates s rates.old → AreRates s rates.new }
+{
+    for j in 0..prices.len() {
+        rates[j].price = prices[j].value();
+    }
+}
+
+/// The rates of the calls of a snapshot, at one price each. All memory is taken when they are made.
+#[derive(Drop)]
+pub struct Rates<'a> {
+    snapshot: &'a Snapshot,
+    rates: Vec<Rate>,
+    calls: CallSet,
+}
+
+impl<'a> Model for Rates<'a> {
+    ghost use Rattle.std.specs.Prelude.{◌≡◌, ℕ, map, nat_lt};
+    ghost use Rattle.call_sets.specs.Counting.{has};
+    ghost use Rattle.elevator_model.specs.Snapshot.{IsAccepted, call_count};
+    ghost use Rattle.pricing_bound.specs.Rates.{AreRates, Rated};
+
+    ghost Value = { Rated };
+
+    ghost view = { λ r. record { snapshot = r.snapshot.now; prices = map (λ rate. rate.price) r.rates.items } };
+
+    ghost invariant = { λ r. IsAccepted r.snapshot.now × AreRates r.snapshot.now r.rates.items × ((j : ℕ) → has r.calls j ≡ nat_lt j (call_count r.snapshot.now)) };
+}
+
+impl<'a> Rates<'a> {
+    /// The rates of the calls of a snapshot, at the price 0 each. The only error is want of memory.
+    pub fn new(alloc: Global, snapshot: &'a Snapshot) -> Result<Self, AllocError>
+        ensures snapshot { IfOk result (λ rates. rates.snapshot ≡ snapshot.now) }
+        ensures prices { IfOk result (λ rates. rates.prices ≡ map (λ _. pos 0) snapshot.now.calls) }
+    {
+        // So they are of an accepted snapshot.
+        let _calls = snapshot.calls();
+        Ok(Rates {
+            snapshot,
+            rates: rates_of(alloc, snapshot)?,
+            calls: calls_of(snapshot),
+        })
+    }
+
+    /// Takes these prices, one for each call in their order. It takes no memory.
+    pub fn lay_out(&mut self, prices: &[Price])
+        requires { length prices.now ≡ call_count self.old.snapshot }
+        ensures { self.new ≡ record { snapshot = self.old.snapshot; prices = prices.now } }
+    {
+        set_prices(self.rates.as_mut_slice(), prices);
+    }
+
+    /// The snapshot.
+    pub fn snapshot(&self) -> &'a Snapshot
+        ensures value { result.now ≡ self.now.snapshot }
+        ensures accepted { IsAccepted self.now.snapshot }
+        ensures prices { ArePrices self.now }
+    {
+        self.snapshot
+    }
+
+    /// All calls.
+    pub(crate) fn calls(&self) -> CallSet
+        ensures { (j : ℕ) → has result j ≡ nat_lt j (call_count self.now.snapshot) }
+    {
+        self.calls
+    }
+
+    /// The price of a call, in thousandths of a cost unit.
+    pub(crate) fn price(&self, call: u32) -> i128
+        requires { call < call_count self.now.snapshot }
+        ensures value { result ≡ price_at self.now.prices call }
+        ensures range { IsPrice result }
+    {
+        self.rates[call as usize].price
+    }
+
+    /// What a call costs without its price, if it boards at this moment and rides straight to its destination, in
+    /// thousandths of a cost unit.
+    pub(crate) fn term(&self, call: u32, moment: u64) -> i128
+        requires call { call < call_count self.now.snapshot }
+        requires early { moment ≤ MOMENT_LIMIT }
+        ensures value { result ≡ scaled_lem (cost_if_alone self.now.snapshot call moment)
+            -ℤ price_at self.now.prices call }
+        ensures low { neg_ℤ (pos (2 * 10 ^ 24)) ≤ℤ result }
+        ensures high { result ≤ℤ pos (2 * 10 ^ 24) }
+    {
+        let rate = &self.rates[call as usize];
+        i128::from(rate.cost(moment)) - rate.price
+    }
+}

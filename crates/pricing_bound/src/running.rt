@@ -1,0 +1,66 @@
+//! Completion bounds that are kept along the moves of a partial tour.
+
+ghost use Rattle.std.specs.Prelude.{◌≡◌, ◌≤ℤ◌, ℤ, [], Some};
+ghost use Rattle.elevator_model.specs.Partial.{Course};
+ghost use Rattle.partial_tours.specs.PartialTour.{course};
+ghost use Rattle.pricing_bound.specs.Aims.{Aim, AimsAt, HasEnded, IsAtLeastSettled, IsBoundSize, IsGrowing, IsLastMove, IsLower, IsNarrower, value_for};
+
+use elevator_model::Move;
+use partial_tours::Prefix;
+
+/// A completion bound of the partial tours of one car, kept along the moves.
+///
+/// It is laid out for a car of a snapshot, one price per call, the calls that a tour may board and those that it has
+/// to board. A walk over the car's partial tours keeps the sums of each of them: it starts with those of the empty
+/// one, and gets those after a move from those before it. Values and bounds are in thousandths of a cost unit.
+pub trait CompletionBound {
+    /// What is kept where a partial tour leads.
+    type Sums: Copy;
+
+    /// The car, prices and calls that it is laid out for.
+    ghost aim: { Self → Aim };
+
+    /// The bound where a partial tour leads.
+    ghost bound: { Self → Course → ℤ };
+
+    /// The sums are those of where a partial tour leads.
+    ghost stands: { Self → Self.Sums → Course → Type 0 };
+
+    /// The sums of the empty partial tour.
+    fn start(&self, prefix: &Prefix) -> Self::Sums
+        requires for_it { AimsAt (aim self.now) prefix.now }
+        requires empty { prefix.now.moves ≡ [] }
+        ensures { (x : Course) → course prefix.now ≡ Some x → stands self.now result x };
+
+    /// The sums after the last move of a partial tour, from those before it.
+    fn after(&self, prefix: &Prefix, sums: &Self::Sums, last: Move) -> Self::Sums
+        requires for_it { AimsAt (aim self.now) prefix.now }
+        requires leads { IsLastMove (aim self.now) (stands self.now sums.now) prefix.now last }
+        ensures { (x : Course) → course prefix.now ≡ Some x → stands self.now result x };
+
+    /// The bound, of absolute value at most 10^27.
+    fn value(&self, sums: &Self::Sums) -> i128
+        ensures value { (x : Course) → stands self.now sums.now x → result ≡ bound self.now x }
+        ensures size { (x : Course) → stands self.now sums.now x → IsBoundSize result };
+
+    /// The value of the tour of a partial tour that has ended, of absolute value at most 10^27.
+    fn tour_value(&self, prefix: &Prefix, sums: &Self::Sums) -> i128
+        requires for_it { AimsAt (aim self.now) prefix.now }
+        requires ended { HasEnded (stands self.now sums.now) prefix.now }
+        ensures value { (x : Course) → course prefix.now ≡ Some x
+            → result ≡ value_for (aim self.now) x.left }
+        ensures size { IsBoundSize result };
+
+    /// No tour that begins with a partial tour is worth less than its bound.
+    ghost lower: { (it : Self) → IsLower (aim it) (bound it) };
+
+    /// One move more makes the bound no smaller.
+    ghost grows: { (it : Self) → IsGrowing (aim it) (bound it) };
+
+    /// The bound is at least what is settled without what the prices can take from it.
+    ghost least: { (it : Self) → IsAtLeastSettled (aim it) (bound it) };
+
+    /// Fewer allowed and more required calls make the bound no smaller.
+    ghost narrow: { (it narrower : Self) → IsNarrower (aim it) (aim narrower) → (x : Course)
+        → bound it x ≤ℤ bound narrower x };
+}

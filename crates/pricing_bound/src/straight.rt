@@ -1,0 +1,267 @@
+//! The completion bound in which each rider goes straight to its destination, kept along the moves.
+
+ghost use Rattle.std.specs.Prelude.{◌≡◌, ℕ, pos, neg_ℤ, int_lt, not, ◌==◌, ◌*◌, ◌^◌, ◌&&◌, ◌||◌, ◌<◌, ◌≤◌, ◌+ℤ◌, ◌-ℤ◌, ◌≤ℤ◌, if◌then◌else◌, Some, true};
+ghost use Rattle.call_sets.specs.Counting.{has};
+ghost use Rattle.elevator_model.specs.Partial.{Course};
+ghost use Rattle.elevator_model.specs.Snapshot.{call_count};
+ghost use Rattle.elevator_model.specs.declared.Move.{Move as MoveValue};
+ghost use Rattle.partial_tours.specs.Courses.{reached};
+ghost use Rattle.partial_tours.specs.PartialTour.{course};
+ghost use Rattle.price_scale.specs.Scale.{IsPrice, IsPriceSum};
+ghost use Rattle.search_model.specs.Prices.{scaled as scaled_lem};
+ghost use Rattle.search_model.specs.Sums.{int_sum_where};
+ghost use Rattle.pricing_bound.specs.Aims.{AimsAt, IsBoundSize, IsLastMove, completion_bound_for};
+ghost use Rattle.pricing_bound.specs.Rates.{adds_at, aim_at, counts_at, term_at};
+ghost use Rattle.pricing_bound.specs.Running.{StandFor};
+ghost use Rattle.search_model.specs.Prices.{price_at};
+ghost use Rattle.search_model.proofs.BoundLemmas.{bound_is_at_least};
+ghost use Rattle.pricing_bound.specs.GrowthLemmas.{bound_grows};
+ghost use Rattle.pricing_bound.specs.LowerLemmas.{bound_is_lower};
+ghost use Rattle.pricing_bound.specs.Narrowing.{narrowed};
+
+use crate::bounds::groups_part;
+use crate::carried::cost_of_carried;
+use crate::rates::Rates;
+use crate::running::CompletionBound;
+use call_sets::CallSet;
+use elevator_model::{MOMENT_LIMIT, MOST_COST, Move};
+use partial_tours::Prefix;
+use price_scale::scaled;
+
+/// What is kept of a partial tour, in thousandths of a cost unit.
+#[derive(Clone, Copy)]
+pub struct Sums {
+    bound: i128,
+    /// The prices of the calls that boarded, added up.
+    paid: i128,
+    /// The calls that have not boarded and add to the bound: those that are required, and those that lower it. Later
+    /// a call costs no less, so one that does not lower the bound never will.
+    counted: CallSet,
+}
+
+/// Calls that have not boarded: what those of them add to a bound that do, and which these are.
+#[derive(Clone, Copy)]
+struct Waiting {
+    sum: i128,
+    counted: CallSet,
+}
+
+impl Sums {
+    /// A call boards that adds so much to the bound, at this price.
+    fn with_board(&self, call: u32, more: i128, price: i128) -> Sums
+        requires bound { IsBoundSize self.now.bound }
+        requires paid { IsPriceSum self.now.paid }
+        requires low { neg_ℤ (pos (2 * 10 ^ 24)) ≤ℤ more }
+        requires high { more ≤ℤ pos (2 * 10 ^ 24) }
+        requires price { IsPrice price }
+        ensures bound { result.bound ≡ self.now.bound +ℤ more }
+        ensures paid { result.paid ≡ self.now.paid +ℤ price }
+        ensures counted { (j : ℕ) → has result.counted j
+            ≡ (has self.now.counted j && not (j == call)) }
+    {
+        Sums {
+            bound: self.bound + more,
+            paid: self.paid + price,
+            counted: self.counted.without(call),
+        }
+    }
+}
+
+/// The sums of what is settled and what those carried cost, both in cost units, of what was paid and of calls that
+/// wait.
+fn sums_of(settled: u64, carried: u64, paid: i128, waiting: Waiting) -> Sums
+    requires settled { settled ≤ 10 ^ 18 }
+    requires carried { carried ≤ 10 ^ 18 }
+    requires paid { IsPriceSum paid }
+    requires low { neg_ℤ (pos (256 * 10 ^ 24)) ≤ℤ waiting.sum }
+    requires high { waiting.sum ≤ℤ pos (256 * 10 ^ 24) }
+    ensures bound { result.bound ≡ (((scaled_lem settled +ℤ scaled_lem carried) -ℤ paid)
+        +ℤ waiting.sum) }
+    ensures paid { result.paid ≡ paid }
+    ensures counted { result.counted ≡ waiting.counted }
+{
+    Sums {
+        bound: scaled(settled) + scaled(carried) - paid + waiting.sum,
+        paid,
+        counted: waiting.counted,
+    }
+}
+
+/// The sums of the empty partial tour: what the groups aboard add, and calls that wait.
+fn sums_at_start(groups: i128, waiting: Waiting) -> Sums
+    requires groups_low { pos 0 ≤ℤ groups }
+    requires groups_high { groups ≤ℤ pos (10 ^ 24) }
+    requires low { neg_ℤ (pos (256 * 10 ^ 24)) ≤ℤ waiting.sum }
+    requires high { waiting.sum ≤ℤ pos (256 * 10 ^ 24) }
+    ensures bound { result.bound ≡ groups +ℤ waiting.sum }
+    ensures paid { result.paid ≡ pos 0 }
+    ensures counted { result.counted ≡ waiting.counted }
+{
+    Sums {
+        bound: groups + waiting.sum,
+        paid: 0,
+        counted: waiting.counted,
+    }
+}
+
+/// The completion bound in which each call boards at once and rides straight to its destination, for a car at laid
+/// out rates, with the calls that a tour may board and those that it has to board. It is `bound`, kept along the moves.
+#[derive(Clone, Copy)]
+pub struct StraightRides<'a> {
+    pub(crate) rates: &'a Rates<'a>,
+    car: u32,
+    pub(crate) allowed: CallSet,
+    pub(crate) required: CallSet,
+}
+
+impl<'a> StraightRides<'a> {
+    /// The bound of a car's partial tours.
+    pub fn new(rates: &'a Rates<'a>, car: u32, allowed: CallSet, required: CallSet) -> Self
+        ensures rates { result.rates.now ≡ rates.now }
+        ensures car { result.car ≡ car }
+        ensures allowed { result.allowed ≡ allowed }
+        ensures required { result.required ≡ required }
+    {
+        StraightRides {
+            rates,
+            car,
+            allowed,
+            required,
+        }
+    }
+
+    /// Whether a call that waits adds what it costs without its price.
+    fn counts(&self, call: u32, term: i128) -> bool
+        ensures { result ≡ (has self.now.required call || int_lt term (pos 0)) }
+    {
+        term < 0 || self.required.contains(call)
+    }
+
+    /// What calls add that board at this moment, and which of them do.
+    fn waiting(&self, calls: CallSet, moment: u64) -> Waiting
+        requires within { (j : ℕ) → has calls j ≡ true
+            → j < call_count self.now.rates.now.snapshot }
+        requires early { moment ≤ MOMENT_LIMIT }
+        ensures sum { result.sum ≡ int_sum_where (call_count self.now.rates.now.snapshot)
+            (has calls) (adds_at (aim_at self.now.rates.now self.now.car self.now.allowed
+            self.now.required) moment) }
+        ensures counted { (j : ℕ) → has result.counted j ≡ (has calls j && counts_at (aim_at
+            self.now.rates.now self.now.car self.now.allowed self.now.required) moment j) }
+        ensures low { neg_ℤ (pos (256 * 10 ^ 24)) ≤ℤ result.sum }
+        ensures high { result.sum ≤ℤ pos (256 * 10 ^ 24) }
+    {
+        // The snapshot is accepted, so it has at most 128 calls.
+        let _accepted = self.rates.snapshot();
+        let mut waiting = Waiting {
+            sum: 0,
+            counted: calls,
+        };
+        for call in calls.iter() {
+            let term = self.rates.term(call, moment);
+            if self.counts(call, term) {
+                waiting.sum += term;
+            } else {
+                waiting.counted = waiting.counted.without(call);
+            }
+        }
+        waiting
+    }
+
+    /// What a call that boards adds to the bound: nothing where it was counted, since it boards at the moment for
+    /// which it was.
+    fn board_adds(&self, prefix: &Prefix, sums: &Sums, call: u32) -> i128
+        requires { call < call_count self.now.rates.now.snapshot }
+        ensures more { (x : Course) → course prefix.now ≡ Some x → result
+            ≡ (if has sums.now.counted call then pos 0 else term_at (aim_at self.now.rates.now
+            self.now.car self.now.allowed self.now.required)
+            (reached prefix.now.snapshot prefix.now.car x).opened call) }
+        ensures low { neg_ℤ (pos (2 * 10 ^ 24)) ≤ℤ result }
+        ensures high { result ≤ℤ pos (2 * 10 ^ 24) }
+    {
+        if sums.counted.contains(call) {
+            0
+        } else {
+            self.rates.term(call, prefix.opened())
+        }
+    }
+
+    /// The sums after a call boarded.
+    fn after_board(&self, prefix: &Prefix, sums: &Sums, call: u32) -> Sums
+        requires for_it { AimsAt (aim_at self.now.rates.now self.now.car self.now.allowed
+            self.now.required) prefix.now }
+        requires leads { IsLastMove (aim_at self.now.rates.now self.now.car self.now.allowed
+            self.now.required) (StandFor (aim_at self.now.rates.now self.now.car self.now.allowed
+            self.now.required) sums.now) prefix.now (MoveValue.Board call) }
+        ensures { (x : Course) → course prefix.now ≡ Some x → StandFor (aim_at self.now.rates.now
+            self.now.car self.now.allowed self.now.required) result x }
+    {
+        // The snapshot is accepted, the car one of its cars, the moves lawful and what is settled small.
+        let _accepted = self.rates.snapshot();
+        let _car = prefix.car();
+        let _lawful = prefix.moves();
+        prove!(prefix.settled() < MOST_COST);
+        let more = self.board_adds(prefix, sums, call);
+        sums.with_board(call, more, self.rates.price(call))
+    }
+
+    /// The sums after the car went to a stop: later, those carried have ridden on, and calls cost more.
+    fn after_leave(&self, prefix: &Prefix, sums: &Sums, floor: u32) -> Sums
+        requires for_it { AimsAt (aim_at self.now.rates.now self.now.car self.now.allowed
+            self.now.required) prefix.now }
+        requires leads { IsLastMove (aim_at self.now.rates.now self.now.car self.now.allowed
+            self.now.required) (StandFor (aim_at self.now.rates.now self.now.car self.now.allowed
+            self.now.required) sums.now) prefix.now (MoveValue.Leave floor) }
+        ensures { (x : Course) → course prefix.now ≡ Some x → StandFor (aim_at self.now.rates.now
+            self.now.car self.now.allowed self.now.required) result x }
+    {
+        // The car is one of the snapshot's, and the moves are lawful.
+        let _car = prefix.car();
+        let _lawful = prefix.moves();
+        let carried = cost_of_carried(self.rates.snapshot(), prefix, self.rates.calls());
+        let waiting = self.waiting(sums.counted, prefix.opened());
+        sums_of(prefix.settled(), carried, sums.paid, waiting)
+    }
+}
+
+impl<'a> CompletionBound for StraightRides<'a> {
+    type Sums = Sums;
+
+    ghost aim = { λ it. aim_at it.rates.now it.car it.allowed it.required };
+
+    ghost bound = { λ it x. completion_bound_for (aim_at it.rates.now it.car it.allowed it.required) x };
+
+    ghost stands = { λ it sums x. StandFor (aim_at it.rates.now it.car it.allowed it.required) sums x };
+
+    fn start(&self, prefix: &Prefix) -> Sums {
+        // The car is one of the snapshot's, and the moves are lawful.
+        let _car = prefix.car();
+        let _lawful = prefix.moves();
+        let groups = groups_part(self.rates.snapshot(), prefix);
+        let calls = self.allowed.intersection(self.rates.calls());
+        sums_at_start(groups, self.waiting(calls, prefix.opened()))
+    }
+
+    fn after(&self, prefix: &Prefix, sums: &Sums, last: Move) -> Sums {
+        match last {
+            Move::Board(call) => self.after_board(prefix, sums, call),
+            Move::Leave(floor) => self.after_leave(prefix, sums, floor),
+            Move::End => *sums,
+        }
+    }
+
+    fn value(&self, sums: &Sums) -> i128 {
+        sums.bound
+    }
+
+    fn tour_value(&self, prefix: &Prefix, sums: &Sums) -> i128 {
+        scaled(prefix.settled()) - sums.paid
+    }
+
+    ghost lower = { λ it moves x tour. bound_is_lower (aim_at it.rates.now it.car it.allowed it.required).snapshot it.car (price_at it.rates.now.prices) (has it.allowed) (has it.required) moves x tour };
+
+    ghost grows = { λ it moves x y m. bound_grows it.rates.now.snapshot it.car (price_at it.rates.now.prices) (has it.allowed) (has it.required) moves x y m };
+
+    ghost least = { λ it moves x. bound_is_at_least it.rates.now.snapshot it.car (price_at it.rates.now.prices) (has it.allowed) (has it.required) moves x };
+
+    ghost narrow = { λ it other narrower x. narrowed (aim_at it.rates.now it.car it.allowed it.required) (aim_at other.rates.now other.car other.allowed other.required) narrower x };
+}
