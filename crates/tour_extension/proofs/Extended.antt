@@ -85,7 +85,7 @@ end_reached s c allowed required x ok below demand mid h = end_within s c allowe
 -- ---- the calls that board in the stops
 
 -- the calls that board in the stops so far are allowed
-abbrev HaveAllowed : (ℕ → Bool) → Course → Type 0
+abbrev pub HaveAllowed : (ℕ → Bool) → Course → Type 0
 HaveAllowed allowed x = (j : ℕ) → is_boarded_in (left_after x.left x.present) j ≡ true → allowed j ≡ true
 
 boarded_push : (left : List Stop) (p : Stop) (j : ℕ) → is_boarded_in (left ++ p ∷ []) j ≡ (is_boarded_in left j || (is_among j p.boards || false))
@@ -100,7 +100,7 @@ have_move s c allowed x (Leave g) y have h may =
     subst (HaveAllowed allowed) (sym l.2) (λ k e. elim (or_cases (is_boarded_in (left_after x.left x.present) k) _ (sym (boarded_push (left_after x.left x.present) (empty_stop g) k) ∙ e)) [ inl old ↦ have k old | inr no_one ↦ absurd (false≢true no_one) ])
 have_move s c allowed x End y have h may = subst (HaveAllowed allowed) (sym (ending_leads_to s c x y h)) have
 
-have_moves : (s : Snapshot) (c : ℕ) (allowed : ℕ → Bool) (x : Course) (ms : List Move) (y : Course) → HaveAllowed allowed x → moves_on s c (Some x) ms ≡ Some y → AreAllowed allowed ms → HaveAllowed allowed y
+pub have_moves : (s : Snapshot) (c : ℕ) (allowed : ℕ → Bool) (x : Course) (ms : List Move) (y : Course) → HaveAllowed allowed x → moves_on s c (Some x) ms ≡ Some y → AreAllowed allowed ms → HaveAllowed allowed y
 have_moves s c allowed x [] y have h may = let same : x ≡ y = cc in subst (HaveAllowed allowed) same have
 have_moves s c allowed x (m ∷ ms) y have h may =
     let step = leads_on s c x m ms y h in
@@ -182,3 +182,17 @@ extendable_to s c allowed required ms x ok demand leads e =
 
 pub extending_holds : ExtendingLaw
 extending_holds s c allowed required ms x ok below demand may leads = record { sound = extendable_from s c allowed required ms x ok below demand leads may; complete = extendable_to s c allowed required ms x ok demand leads }
+
+-- a move that some tour of the node makes next
+pub record HasOpenFollower (s : Snapshot) (c : ℕ) (allowed required : ℕ → Bool) (x : Course) : Type 0 where
+  pub move : Move
+  pub next : Course
+  pub moved : move_on s c x move ≡ Some next
+  pub may : boards_allowed allowed move ≡ true
+  pub extends : can_be_extended s c allowed required next ≡ true
+
+-- Where some tour of the node begins with the moves and they end none, it makes a move more.
+pub has_open_follower : (s : Snapshot) (c : ℕ) (allowed required : ℕ → Bool) (ms : List Move) (x : Course) → IsAccepted s → c < car_count s → IsDemand s c allowed required → course_of s c ms ≡ Some x → x.ended ≡ false → can_be_extended s c allowed required x ≡ true → HasOpenFollower s c allowed required x
+has_open_follower s c allowed required ms x ok below demand leads runs h =
+    let step = step_forth s c allowed required x ok below demand (Midway-moves s c (course_start s c) ms x (Midway-start s c ok) leads) runs h in
+    record { move = step.move; next = step.next; moved = step.leads; may = step.may; extends = step.good }

@@ -11,4 +11,5 @@ mod LeaveSteps
 mod BoardSteps
 mod StepForth
 pub mod Extended
+mod LeaveLemmas
 pub mod NodeDemands

@@ -3,6 +3,7 @@
 
 mod demands;
 mod extending;
+mod leaves;
 mod sides;
 
 ghost use Rattle.search_model.specs.Extending.{ExtendingLaw};
@@ -10,6 +11,7 @@ ghost use Rattle.tour_extension.specs.Demands.{NodeLaw};
 
 pub use demands::Demand;
 pub use extending::can_be_extended;
+pub use leaves::is_useless;
 
 /// A law: the test says exactly which partial tours can be extended.
 pub fn extending_law()
