@@ -1,0 +1,6 @@
+pub mod Followers
+pub mod ListLemmas
+pub mod WalkingLemmas
+pub mod EndLemmas
+pub mod Found
+pub mod KeptLaws

@@ -1,0 +1,30 @@
+-- What holds along the moves of a walk.
+use Rattle.std.proofs.Common.{◌≡◌, ℕ, Bool, true, List, [], ◌∷◌, ◌++◌, subst, sym, ap, refl}
+use Rattle.call_sets.specs.Counting.{has}
+use Rattle.elevator_model.specs.declared.Move.{Move}
+use Rattle.elevator_model.specs.Partial.{Course, boards_allowed}
+use Rattle.search_model.specs.Orders.{AreAllowed}
+use Rattle.partial_tours.specs.PartialTour.{PartialTour, with_move}
+use Rattle.tour_extension.specs.declared.demands.Demand.{Demand}
+use Rattle.pricing_bound.specs.Aims.{Aim, AimsAt, IsLastMove}
+use Rattle.kept_tours.specs.Walking.{IsWalking, IsOpen}
+
+pub allowed_more : (allowed : ℕ → Bool) (ms : List Move) (m : Move) → AreAllowed allowed ms → boards_allowed allowed m ≡ true → AreAllowed allowed (ms ++ m ∷ [])
+allowed_more allowed [] m h k = (k, tt)
+allowed_more allowed (v ∷ ms) m h k = (h.0, allowed_more allowed ms m h.1 k)
+
+pub walking_on : (a : Aim) (demand : Demand) (t : PartialTour) (m : Move) → IsWalking a demand t → boards_allowed (has demand.allowed) m ≡ true → IsWalking a demand (with_move t m)
+walking_on a demand t m w may = record { accepted = w.accepted; car = w.car; aim = w.aim; demands = w.demands; may = allowed_more (has demand.allowed) t.moves m w.may may }
+
+pub walking_at : (a : Aim) (demand : Demand) (t : PartialTour) → IsWalking a demand t → AimsAt a t
+walking_at a demand t w = record { snapshot = ap (λ (b : Aim). b.snapshot) w.aim; car = ap (λ (b : Aim). b.car) w.aim }
+
+pub last_move : (a : Aim) (stands : Course → Type 0) (demand : Demand) (t : PartialTour) (m : Move) → IsWalking a demand t → IsOpen stands demand t → boards_allowed (has demand.allowed) m ≡ true → IsLastMove a stands (with_move t m) m
+last_move a stands demand t m w o may = record {
+  moves = t.moves;
+  before = o.at;
+  moves_are = refl;
+  leads = o.leads;
+  stands_before = o.stands_there;
+  may = subst (λ (allowed : ℕ → Bool). AreAllowed allowed (t.moves ++ m ∷ [])) (sym (ap (λ (b : Aim). b.allowed) w.aim)) (allowed_more (has demand.allowed) t.moves m w.may may);
+}

@@ -1,0 +1,43 @@
+-- What holds at each partial tour of a walk.
+use Rattle.std.specs.Prelude.{◌≡◌, ℕ, ◌<◌, ◌++◌, ◌∷◌, [], ℤ, Bool, true, false, Some}
+use Rattle.call_sets.specs.Counting.{has}
+use Rattle.elevator_model.specs.declared.Move.{Move}
+use Rattle.elevator_model.specs.Snapshot.{IsAccepted, car_count}
+use Rattle.elevator_model.specs.Partial.{Course, IsLawful, boards_allowed}
+use Rattle.search_model.specs.Extending.{IsDemand, can_be_extended}
+use Rattle.search_model.specs.Orders.{AreAllowed}
+use Rattle.partial_tours.specs.PartialTour.{PartialTour, course}
+use Rattle.tour_extension.specs.declared.demands.Demand.{Demand}
+use Rattle.pricing_bound.specs.Aims.{Aim}
+
+-- the car of a partial tour with what is asked of it
+abbrev pub aim_at : PartialTour → Demand → (price : ℕ → ℤ) → Aim
+aim_at t demand price = record { snapshot = t.snapshot; car = t.car; price = price; allowed = has demand.allowed; required = has demand.required }
+
+-- The bound is one for the car and the demand, which can be asked of the car, and allowed calls alone boarded.
+pub record IsWalking (a : Aim) (demand : Demand) (t : PartialTour) : Type 0 where
+  pub accepted : IsAccepted t.snapshot
+  pub car : t.car < car_count t.snapshot
+  pub aim : a ≡ aim_at t demand a.price
+  pub demands : IsDemand t.snapshot t.car (has demand.allowed) (has demand.required)
+  pub may : AreAllowed (has demand.allowed) t.moves
+
+-- the test says that some tour of the node begins with what leads here
+abbrev pub goes_on : PartialTour → Demand → Course → Bool
+goes_on t demand x = can_be_extended t.snapshot t.car (has demand.allowed) (has demand.required) x
+
+-- Some tour of the node begins with the partial tour, and something stands where it leads.
+pub record IsOpen (stands : Course → Type 0) (demand : Demand) (t : PartialTour) : Type 0 where
+  pub at : Course
+  pub leads : course t ≡ Some at
+  pub stands_there : stands at
+  pub extends : goes_on t demand at ≡ true
+
+-- No tour of the node begins with the partial tour.
+abbrev pub IsShut : Demand → PartialTour → Type 0
+IsShut demand t = (x : Course) → course t ≡ Some x → goes_on t demand x ≡ false
+
+-- The move may come next.
+pub record MayFollow (demand : Demand) (t : PartialTour) (m : Move) : Type 0 where
+  pub lawful : IsLawful t.snapshot t.car (t.moves ++ m ∷ [])
+  pub may : boards_allowed (has demand.allowed) m ≡ true
