@@ -1,0 +1,5 @@
+mod Visiting
+mod StepLemmas
+mod DiveLemmas
+mod SearchLemmas
+pub mod PricedLemmas

@@ -1,0 +1,309 @@
+-- What a walk keeps, move after move.
+use Rattle.std.proofs.Common.{◌≡◌, ℕ, zero, suc, ◌+◌, ◌<◌, ◌≤◌, Bool, true, false, cond, List, [], ◌∷◌, ◌++◌, length, get_or, refl, sym, ap, ◌∙◌, subst, inl, inr, arith, append-nil, Option, Some, None}
+use Rattle.std.specs.Prelude.{ℤ, ◌≤ℤ◌, int_lt, not, ◌-◌}
+use Rattle.std.specs.List.{flat_map}
+use Rattle.std.proofs.Math.Nat.{eq-or-lt_of_le}
+use Rattle.std.proofs.lemmas.Int.{ints}
+use Rattle.std.proofs.lemmas.Bool.{and_left, and_right, both_ways}
+use Rattle.call_sets.specs.Counting.{has}
+use Rattle.elevator_model.specs.declared.Move.{Move}
+use Rattle.elevator_model.specs.declared.Move.TheVariants.{Board, End}
+use Rattle.elevator_model.specs.declared.Stop.{Stop}
+use Rattle.elevator_model.specs.Snapshot.{IsAccepted, car_count}
+use Rattle.elevator_model.specs.Partial.{Course, lawful_moves, move_on, boards_allowed, moves_of_stop}
+use Rattle.search_model.specs.Nodes.{IsTourWithin}
+use Rattle.search_model.specs.Orders.{BeginsWith, any_course, AreAllowed}
+use Rattle.search_model.specs.Extending.{IsDemand}
+use Rattle.tour_rules.specs.Measure.{moves_left}
+use Rattle.tour_rules.proofs.Measure.{moves_left-falls}
+use Rattle.partial_tours.specs.PartialTour.{PartialTour, course, with_move}
+use Rattle.partial_tours.specs.Orders.{first_of, next_after}
+use Rattle.partial_tours.proofs.Search.{from_next}
+use Rattle.partial_tours.proofs.Lawful.{In, at_place}
+use Rattle.partial_tours.proofs.Told.{moves_told}
+use Rattle.tour_extension.specs.declared.demands.Demand.{Demand}
+use Rattle.tour_extension.proofs.Extended.{extendable_to, allowed_append, allowed_stops}
+use Rattle.pricing_bound.specs.Aims.{Aim, value_for, IsLower, IsGrowing}
+use Rattle.kept_tours.specs.Kept.{is_kept_by}
+use Rattle.kept_tours.specs.Walking.{aim_at, goes_on, IsWalking, IsOpen}
+use Rattle.kept_tours.proofs.Followers.{followers, IsAt, at_first, at_move, at_end, at_next, follower, one_course, in_followers}
+use Rattle.kept_tours.proofs.EndLemmas.{ended_within, ended_value, HasNext, has_next}
+use Rattle.kept_tours.proofs.ListLemmas.{fails_none, first_lists, own_lists, next_lists, all_lists, ended_lists, own_one, own_all}
+use Rattle.pricing_search.specs.declared.progress.Progress.{Progress}
+use Rattle.pricing_search.specs.Walks.{IsFoundTour, HasFound, GoesOn, MayAnswer, CountsKept, BelowAll, KeepsLow, Visited}
+
+-- the test of those that are kept
+abbrev pub keeps : PartialTour → Demand → (bound : Course → ℤ) → (worth : ℤ) → Course → Bool
+keeps t demand bound worth = is_kept_by t.snapshot t.car bound (has demand.allowed) (has demand.required) worth
+
+-- What a walk through the first followers of a partial tour has done.
+pub record Visits (t : PartialTour) (demand : Demand) (price : ℕ → ℤ) (bound : Course → ℤ) (most : ℕ) (next : Option Move) (old new : Progress) : Type 0 where
+  pub place : ℕ
+  pub at : IsAt t demand.allowed next place
+  pub on : GoesOn most old new
+  pub found : HasFound (aim_at t demand price) new
+  pub kept : (x : Course) → course t ≡ Some x → CountsKept (λ worth n. first_lists t demand.allowed (keeps t demand bound worth) n x place) old new
+  pub below : (k : ℕ) → k < place → BelowAll t demand price (t.moves ++ get_or (followers t demand.allowed) k (Board 0) ∷ []) new
+  pub few : (x : Course) → course t ≡ Some x → (n : ℕ) → moves_left t.snapshot t.car x ≤ n → new.visits ≤ old.visits + length (first_lists t demand.allowed any_course n x place)
+  pub least : (x : Course) → course t ≡ Some x → KeepsLow (bound x) old new
+
+pub goes_nowhere : (most : ℕ) (p : Progress) → p.visits ≤ most → GoesOn most p p
+goes_nowhere most p le = record { limit = le; rises = omega arith; best = omega (arith, ints); untried = omega (arith, ints); unspent = λ lt. refl }
+
+-- a worth that may be answered later might have been before
+pub might_answer : (most : ℕ) (old new : Progress) (worth : ℤ) → GoesOn most old new → MayAnswer new worth → MayAnswer old worth
+might_answer most old new worth on may =
+    let b = on.best in let u = on.untried in let b2 = may.best in let u2 = may.untried in
+    record { best = omega (arith, ints, b, b2); untried = omega (arith, ints, u, u2) }
+
+-- ---- where nothing is visited
+
+not_below : (b worth : ℤ) → worth ≤ℤ b → int_lt b worth ≡ false
+not_below b worth le = grind (arith, ints)
+
+through : (t u v : ℤ) → t ≤ℤ u → u ≤ℤ v → t ≤ℤ v
+through t u v h k = omega (arith, ints, h, k)
+
+-- The bound is at least each worth that may be answered, and nothing but what was left out changed.
+pub passed_by : (t : PartialTour) (demand : Demand) (price : ℕ → ℤ) (bound : Course → ℤ) (most : ℕ) (old new : Progress) (at : Course) → IsAccepted t.snapshot → t.car < car_count t.snapshot → IsLower (aim_at t demand price) bound → course t ≡ Some at → GoesOn most old new → new.visits ≡ old.visits → HasFound (aim_at t demand price) new → ((worth : ℤ) → MayAnswer new worth → worth ≤ℤ bound at) → KeepsLow (bound at) old new → Visited t demand price bound most old new
+passed_by t demand price bound most old new at ok car_in lower leads on same found least low = record {
+  on = on;
+  found = found;
+  kept = λ x there worth n may. (
+      let le = subst (λ (y : Course). worth ≤ℤ bound y) (one_course t at x leads there) (least worth may) in
+      let none = fails_none t.snapshot t.car (has demand.allowed) (keeps t demand bound worth) n t.moves x (and_right (goes_on t demand x) (int_lt (bound x) worth) (not_below (bound x) worth le)) in
+      omega (arith, none, same)
+      );
+  below = λ worth tour may within begins. through worth (bound at) (value_for (aim_at t demand price) tour) (least worth may) (lower t.moves at tour ok car_in leads begins within);
+  few = λ x there n lt. omega (arith, same);
+  least = λ x there. subst (λ (y : Course). KeepsLow (bound y) old new) (one_course t at x leads there) low;
+}
+
+-- No tour of the node begins with it.
+pub shut_out : (t : PartialTour) (demand : Demand) (price : ℕ → ℤ) (bound : Course → ℤ) (most : ℕ) (p : Progress) (at : Course) → IsAccepted t.snapshot → IsDemand t.snapshot t.car (has demand.allowed) (has demand.required) → course t ≡ Some at → goes_on t demand at ≡ false → p.visits ≤ most → HasFound (aim_at t demand price) p → Visited t demand price bound most p p
+shut_out t demand price bound most p at ok demands leads shut le found = record {
+  on = goes_nowhere most p le;
+  found = found;
+  kept = λ x there worth n may. (
+      let no = subst (λ (y : Course). goes_on t demand y ≡ false) (one_course t at x leads there) shut in
+      let none = fails_none t.snapshot t.car (has demand.allowed) (keeps t demand bound worth) n t.moves x (and_left (goes_on t demand x) (int_lt (bound x) worth) no) in
+      omega (arith, none)
+      );
+  below = λ worth tour may within begins. absurd (both_ways (goes_on t demand at) shut (extendable_to t.snapshot t.car (has demand.allowed) (has demand.required) t.moves at ok demands leads (tour, within, begins)));
+  few = λ x there n lt. omega arith;
+  least = λ x there z le may. may;
+}
+
+-- ---- move after move
+
+pub visits_first : (t : PartialTour) (demand : Demand) (price : ℕ → ℤ) (bound : Course → ℤ) (most : ℕ) (at : Course) (next : Option Move) (p : Progress) → course t ≡ Some at → next ≡ first_of (lawful_moves t.snapshot t.car at (has demand.allowed)) → p.visits ≤ most → HasFound (aim_at t demand price) p → Visits t demand price bound most next p p
+visits_first t demand price bound most at next p leads are le found = record {
+  place = 0;
+  at = at_first t demand.allowed at next leads are;
+  on = goes_nowhere most p le;
+  found = found;
+  kept = λ x there worth n may. omega arith;
+  below = λ k b. absurd (omega arith);
+  few = λ x there n lt. omega arith;
+  least = λ x there z le may. may;
+}
+
+goes_through : (most : ℕ) (old mid new : Progress) → GoesOn most old mid → GoesOn most mid new → GoesOn most old new
+goes_through most old mid new first more_on =
+    let r = first.rises in let r2 = more_on.rises in
+    let b = first.best in let b2 = more_on.best in
+    let u = first.untried in let u2 = more_on.untried in
+    record {
+      limit = more_on.limit;
+      rises = omega (arith, r, r2);
+      best = omega (arith, ints, b, b2);
+      untried = omega (arith, ints, u, u2);
+      unspent = λ lt. more_on.unspent lt ∙ first.unspent (omega (arith, lt, r2));
+    }
+
+-- one move more makes the bound no smaller
+abbrev pub Grows : PartialTour → Demand → (bound : Course → ℤ) → Type 0
+Grows t demand bound = (x y : Course) (m : Move) → course t ≡ Some x → boards_allowed (has demand.allowed) m ≡ true → move_on t.snapshot t.car x m ≡ Some y → bound x ≤ℤ bound y
+
+pub visits_on : (t : PartialTour) (demand : Demand) (price : ℕ → ℤ) (bound : Course → ℤ) (most : ℕ) (at : Course) (m : Move) (next : Option Move) (old mid new : Progress) → course t ≡ Some at → Visits t demand price bound most (Some m) old mid → Visited (with_move t m) demand price bound most mid new → next ≡ next_after m (lawful_moves t.snapshot t.car at (has demand.allowed)) → Grows t demand bound → Visits t demand price bound most next old new × (from_next next (followers t demand.allowed) < from_next (Some m) (followers t demand.allowed))
+visits_on t demand price bound most at m next old mid new leads first more_on are grows =
+    let set = demand.allowed in
+    let on = at_next t set at m next first.place leads first.at are in
+    let here = at_move t set m first.place first.at in
+    let f = follower t set at m first.place leads first.at in (
+      record {
+        place = first.place + 1;
+        at = on.0;
+        on = goes_through most old mid new first.on more_on.on;
+        found = more_on.found;
+        kept = λ x there worth n may. (
+            let fx = follower t set x m first.place there first.at in
+            let a = first.kept x there worth n (might_answer most mid new worth more_on.on may) in
+            let b = more_on.kept fx.next fx.leads worth n may in
+            let one_more = next_lists t set (keeps t demand bound worth) n x fx.next m first.place there first.at fx.moved in
+            omega (arith, a, b, one_more)
+            );
+        below = λ k b worth tour may within begins. (
+            let le : k ≤ first.place = omega (arith, b) in
+            elim (eq-or-lt_of_le le) [ inl e ↦ more_on.below worth tour may within (subst (λ (v : Move). BeginsWith t.snapshot tour (t.moves ++ v ∷ [])) (ap (λ (i : ℕ). get_or (followers t set) i (Board 0)) e ∙ sym here.1) begins) | inr lt ↦ first.below k lt worth tour (might_answer most mid new worth more_on.on may) within begins ]
+            );
+        few = λ x there n lt. (
+            let fx = follower t set x m first.place there first.at in
+            let falls = moves_left-falls t.snapshot t.car x m fx.next fx.moved in
+            let a = first.few x there n lt in
+            let b = more_on.few fx.next fx.leads n (omega (arith, falls, lt)) in
+            let one_more = next_lists t set any_course n x fx.next m first.place there first.at fx.moved in
+            omega (arith, a, b, one_more)
+            );
+        least = λ x there z le may. (
+            let fx = follower t set x m first.place there first.at in
+            more_on.least fx.next fx.leads z (through z (bound x) (bound fx.next) le (grows x fx.next m there fx.may fx.moved)) (first.least x there z le may)
+            );
+      },
+      on.1,
+    )
+
+-- ---- what was done in all
+
+allowed_last : (allowed : ℕ → Bool) (ms : List Move) (m : Move) (later : List Move) → AreAllowed allowed ((ms ++ m ∷ []) ++ later) → boards_allowed allowed m ≡ true
+allowed_last allowed [] m later h = h.0
+allowed_last allowed (v ∷ ms) m later h = allowed_last allowed ms m later h.1
+
+not_less : (a b : ℤ) → not (int_lt a b) ≡ true → b ≤ℤ a
+not_less a b h = grind (arith, ints)
+
+-- what the trait's law says of the car and the demand
+pub lower_at : (a : Aim) (demand : Demand) (t : PartialTour) (bound : Course → ℤ) → IsWalking a demand t → IsLower a bound → IsLower (aim_at t demand a.price) bound
+lower_at a demand t bound w lower = subst (λ (b : Aim). IsLower b bound) w.aim lower
+
+-- The bound is not below the best value.
+pub reached_best : (a : Aim) (demand : Demand) (t : PartialTour) (bound : Course → ℤ) (stands : Course → Type 0) (most : ℕ) (p : Progress) (least : ℤ) → IsWalking a demand t → (o : IsOpen stands demand t) → IsLower a bound → p.visits ≤ most → HasFound (aim_at t demand a.price) p → ((x : Course) → stands x → least ≡ bound x) → not (int_lt least p.best) ≡ true → Visited t demand a.price bound most p p
+reached_best a demand t bound stands most p least w o lower le found are high =
+    let above = not_less least p.best high in
+    let is = are o.at o.stands_there in
+    passed_by t demand a.price bound most p p o.at w.accepted w.car (lower_at a demand t bound w lower) o.leads (goes_nowhere most p le) refl found (λ worth may. let b = may.best in omega (arith, ints, b, above, is)) (λ z under may. may)
+
+lesser-le : (a b : ℤ) → cond (int_lt a b) a b ≤ℤ a
+lesser-le a b = grind (arith, ints)
+
+lesser-le_second : (a b : ℤ) → cond (int_lt a b) a b ≤ℤ b
+lesser-le_second a b = grind (arith, ints)
+
+-- what is at most both is at most the lesser
+not_over : (z a b : ℤ) → z ≤ℤ a → z ≤ℤ b → z ≤ℤ cond (int_lt a b) a b
+not_over z a b h k = grind (arith, ints)
+
+-- It is left out, since the limit was reached.
+pub left_out : (a : Aim) (demand : Demand) (t : PartialTour) (bound : Course → ℤ) (stands : Course → Type 0) (most : ℕ) (old new : Progress) (least : ℤ) → IsWalking a demand t → (o : IsOpen stands demand t) → IsLower a bound → old.visits ≤ most → most ≤ old.visits → HasFound (aim_at t demand a.price) old → ((x : Course) → stands x → least ≡ bound x) → new.visits ≡ old.visits → new.best ≡ old.best → new.found ≡ old.found → new.untried ≡ cond (int_lt least old.untried) least old.untried → Visited t demand a.price bound most old new
+left_out a demand t bound stands most old new least w o lower le full found are visits best moves untried =
+    let is = are o.at o.stands_there in
+    let low = lesser-le least old.untried in
+    let low_too = lesser-le_second least old.untried in
+    let on : GoesOn most old new = record { limit = omega (arith, le, visits); rises = omega (arith, visits); best = omega (arith, ints, best); untried = omega (arith, ints, untried, low_too); unspent = λ lt. absurd (omega (arith, lt, full, visits)) } in
+    let here : HasFound (aim_at t demand a.price) new = subst (λ (ms : List Move). IsFoundTour (aim_at t demand a.price) ms new.best) (sym moves) (subst (λ (v : ℤ). IsFoundTour (aim_at t demand a.price) old.found v) (sym best) found) in
+    passed_by t demand a.price bound most old new o.at w.accepted w.car (lower_at a demand t bound w lower) o.leads on visits here (λ worth may. let u = may.untried in omega (arith, ints, u, untried, low, is)) (λ z under may. let b = may.best in let u = may.untried in record { best = omega (arith, ints, b, best); untried = rw untried (not_over z least old.untried (omega (arith, ints, under, is)) u) })
+
+found_if : (a : Aim) (b : Bool) (moves old : List Move) (value best : ℤ) → (b ≡ true → IsFoundTour a moves value) → IsFoundTour a old best → IsFoundTour a (cond b moves old) (cond b value best)
+found_if a true moves old value best h k = h refl
+found_if a false moves old value best h k = k
+
+-- one visit more was counted
+pub record IsCounted (old now : Progress) : Type 0 where
+  pub visits : now.visits ≡ old.visits + 1
+  pub best : now.best ≡ old.best
+  pub untried : now.untried ≡ old.untried
+  pub found : now.found ≡ old.found
+
+pub counted_found : (a : Aim) (old now : Progress) → IsCounted old now → HasFound a old → HasFound a now
+counted_found a old now counted found = subst (λ (ms : List Move). IsFoundTour a ms now.best) (sym counted.found) (subst (λ (v : ℤ). IsFoundTour a old.found v) (sym counted.best) found)
+
+-- It has ended.
+pub ended_visited : (a : Aim) (demand : Demand) (t : PartialTour) (bound : Course → ℤ) (stands : Course → Type 0) (most : ℕ) (old now new : Progress) (value : ℤ) → IsWalking a demand t → (o : IsOpen stands demand t) → o.at.ended ≡ true → old.visits < most → HasFound (aim_at t demand a.price) old → IsLower a bound → IsCounted old now → ((x : Course) → course t ≡ Some x → value ≡ value_for a x.left) → new.visits ≡ now.visits → new.untried ≡ now.untried → new.best ≡ cond (int_lt value now.best) value now.best → new.found ≡ cond (int_lt value now.best) t.moves now.found → Visited t demand a.price bound most old new
+ended_visited a demand t bound stands most old now new value w o over lt found lower counted are visits_are untried_is best_is moves_are =
+    let s = t.snapshot in
+    let aim = aim_at t demand a.price in
+    let within = ended_within s t.car (has demand.allowed) (has demand.required) t.moves o.at w.demands o.leads w.may over o.extends in
+    let told = moves_told s t.car t.moves o.at o.leads over in
+    let is : value ≡ value_for aim o.at.left = subst (λ (b : Aim). value ≡ value_for b o.at.left) w.aim (are o.at o.leads) in
+    let visits : new.visits ≡ old.visits + 1 = visits_are ∙ counted.visits in
+    let untried : new.untried ≡ old.untried = untried_is ∙ counted.untried in
+    let best : new.best ≡ cond (int_lt value old.best) value old.best = best_is ∙ ap (λ (b : ℤ). cond (int_lt value b) value b) counted.best in
+    let moves : new.found ≡ cond (int_lt value old.best) t.moves old.found = moves_are ∙ ap (λ (b : ℤ). cond (int_lt value b) t.moves now.found) counted.best ∙ ap (λ (ms : List Move). cond (int_lt value old.best) t.moves ms) counted.found in
+    let low = lesser-le value old.best in
+    let low_too = lesser-le_second value old.best in
+    let here : IsFoundTour aim (cond (int_lt value old.best) t.moves old.found) (cond (int_lt value old.best) value old.best) = found_if aim (int_lt value old.best) t.moves old.found value old.best (λ _. record { last = o.at; leads = o.leads; ended = over; within = within; is = sym is }) found in
+    record {
+      on = record { limit = omega (arith, lt, visits); rises = omega (arith, visits); best = omega (arith, ints, best, low_too); untried = omega (arith, ints, untried); unspent = λ _. untried };
+      found = subst (λ (ms : List Move). IsFoundTour aim ms new.best) (sym moves) (subst (λ (v : ℤ). IsFoundTour aim (cond (int_lt value old.best) t.moves old.found) v) (sym best) here);
+      kept = λ x there worth n may. (
+          let ends = ended_lists t demand.allowed (keeps t demand bound worth) n x (ap (λ (y : Course). y.ended) (one_course t x o.at there o.leads) ∙ over) in
+          omega (arith, ends, visits)
+          );
+      below = λ worth tour may inside begins. (
+          let same = ended_value s t.car a.price t.moves o.at tour o.leads over begins (has demand.allowed) (has demand.required) inside in
+          let b = may.best in
+          through worth value (value_for aim tour) (omega (arith, ints, b, best, low)) (no_more value (value_for aim o.at.left) (value_for aim tour) is (sym same))
+          );
+      few = λ x there n lt. (
+          let one = own_one t demand.allowed n x (omega (arith, lt)) in
+          omega (arith, one, visits)
+          );
+      least = λ x there z under may. (
+          let u = may.untried in
+          let at_least = lower_at a demand t bound w lower t.moves o.at o.at.left w.accepted w.car o.leads ([], told ∙ sym (append-nil t.moves)) within in
+          let here : z ≤ℤ bound o.at = subst (λ (y : Course). z ≤ℤ bound y) (one_course t x o.at there o.leads) under in
+          record { best = rw best (not_over z value old.best (omega (arith, ints, here, at_least, is)) may.best); untried = omega (arith, ints, u, untried) }
+          );
+    }
+  where
+    no_more : (u v z : ℤ) → u ≡ v → v ≡ z → u ≤ℤ z
+    no_more u v z e d = omega (arith, ints, e, d)
+
+-- Its followers were visited.
+pub all_visited : (a : Aim) (demand : Demand) (t : PartialTour) (bound : Course → ℤ) (stands : Course → Type 0) (most : ℕ) (old now new : Progress) → IsWalking a demand t → (o : IsOpen stands demand t) → o.at.ended ≡ false → IsCounted old now → Visits t demand a.price bound most None now new → Visited t demand a.price bound most old new
+all_visited a demand t bound stands most old now new w o runs counted all =
+    let s = t.snapshot in
+    let set = demand.allowed in
+    let on = all.on in
+    let rises = on.rises in let b = on.best in let u = on.untried in
+    let visits = counted.visits in let best = counted.best in let untried = counted.untried in
+    record {
+      on = record { limit = on.limit; rises = omega (arith, rises, visits); best = omega (arith, ints, b, best); untried = omega (arith, ints, u, untried); unspent = λ lt. on.unspent lt ∙ untried };
+      found = all.found;
+      kept = λ x there worth n may. (
+          let whole = all_lists t set (keeps t demand bound worth) x all.place (new.visits - now.visits) there all.at (λ m. let k = all.kept x there worth m may in omega (arith, k)) n in
+          omega (arith, whole, visits, rises)
+          );
+      below = λ worth tour may inside begins. (
+          let next = has_next s t.car t.moves o.at tour o.leads runs inside.feasible begins in
+          through_all worth tour may inside next.move (among tour inside next) next.begins
+          );
+      few = λ x there n lt. few_of x there n lt;
+      least = λ x there z under may. (
+          let b = may.best in let u = may.untried in
+          all.least x there z under (record { best = omega (arith, ints, b, best); untried = omega (arith, ints, u, untried) })
+          );
+    }
+  where
+    allowed_next : (tour : List Stop) → IsTourWithin t.snapshot t.car (has demand.allowed) (has demand.required) tour → (next : HasNext t.snapshot t.car t.moves o.at tour) → boards_allowed (has demand.allowed) next.move ≡ true
+    allowed_next tour inside next = allowed_last (has demand.allowed) t.moves next.move next.begins.0 (subst (AreAllowed (has demand.allowed)) next.begins.1 (allowed_append (has demand.allowed) (flat_map (moves_of_stop t.snapshot) tour) (End ∷ []) (allowed_stops t.snapshot (has demand.allowed) tour inside.keeps) (refl, tt)))
+
+    among : (tour : List Stop) → IsTourWithin t.snapshot t.car (has demand.allowed) (has demand.required) tour → (next : HasNext t.snapshot t.car t.moves o.at tour) → In next.move (followers t demand.allowed)
+    among tour inside next = in_followers t demand.allowed o.at next.next next.move o.leads (allowed_next tour inside next) next.moved
+
+    through_all : (worth : ℤ) (tour : List Stop) → MayAnswer new worth → IsTourWithin t.snapshot t.car (has demand.allowed) (has demand.required) tour → (m : Move) → In m (followers t demand.allowed) → BeginsWith t.snapshot tour (t.moves ++ m ∷ []) → worth ≤ℤ value_for (aim_at t demand a.price) tour
+    through_all worth tour may inside m one begins =
+        at_place (λ (v : Move). BeginsWith t.snapshot tour (t.moves ++ v ∷ []) → worth ≤ℤ value_for (aim_at t demand a.price) tour) m (followers t demand.allowed) (Board 0) one (λ k b begins. let end = at_end t demand.allowed all.place all.at in all.below k (omega (arith, b, end)) worth tour may inside begins) begins
+
+    few_of : (x : Course) → course t ≡ Some x → (n : ℕ) → moves_left t.snapshot t.car x < n → new.visits ≤ old.visits + length (own_lists t demand.allowed any_course n x)
+    few_of x there zero lt = absurd (omega (arith, lt))
+    few_of x there (suc n) lt =
+        let whole = own_all t demand.allowed x all.place n there all.at in
+        let f = all.few x there n (omega (arith, lt)) in
+        let visits = counted.visits in
+        omega (arith, whole, f, visits)
+
+-- what the trait's law of growth says here
+pub grows_at : (a : Aim) (demand : Demand) (t : PartialTour) (bound : Course → ℤ) → IsWalking a demand t → IsGrowing a bound → Grows t demand bound
+grows_at a demand t bound w grows x y m leads may moved =
+    subst (λ (b : Aim). IsGrowing b bound) w.aim grows t.moves x y m w.accepted w.car w.may may leads moved

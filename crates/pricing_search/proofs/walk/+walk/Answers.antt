@@ -1,0 +1,134 @@
+use Rattle.std.proofs.Common.{◌≡◌, ◌∙◌, refl, sym, ap, subst, arith, rules, Option}
+use mir.Val.{to_z, of_z}
+use mir.Syntax.{w128}
+use Rattle.elevator_model.specs.declared.Move.{Move}
+use Rattle.partial_tours.specs.PartialTour.{PartialTour, course, with_move}
+use Rattle.partial_tours.proofs.Follow.{is_some_has}
+use Rattle.partial_tours.proofs.Search.{left_in, left_falls, from_next}
+use Rattle.kept_tours.specs.Walking.{IsWalking, IsOpen, IsShut, MayFollow, aim_at}
+use Rattle.kept_tours.proofs.Followers.{followers, follower}
+use Rattle.pricing_search.specs.declared.progress.Progress.{Progress}
+use Rattle.pricing_search.specs.Walks.{HasFound, Visited}
+use Rattle.pricing_search.proofs.StepLemmas.{only_move, next_is, back_again, none_there}
+use Rattle.pricing_search.proofs.Visiting.{Visits, IsCounted, counted_found, reached_best, left_out, ended_visited, all_visited, visits_first, visits_on, shut_out, grows_at}
+use Rattle.pricing_search.proofs.walk.+walk.Goals as goal
+use Rattle.pricing_search.proofs.walk.+walk.Goals.{visit_after-in-Some, visit_after-in_default}
+
+pub visit-returns-then-is_reached-clause-visited : goal.visit-returns-then-is_reached-clause-visited
+visit-returns-then-is_reached-clause-visited g t c =
+    let value = to_z w128 (of_z w128 c.value-least.result) in
+    let same : value ≡ c.value-least.result = search rules in
+    reached_best (g.B.CompletionBound.aim c.args.bound.now) c.args.demand.now c.args.prefix.now (g.B.CompletionBound.bound c.args.bound.now) (g.B.CompletionBound.stands c.args.bound.now c.args.sums.now) c.args.limit c.args.progress.now value c.requires.walking c.requires.stands (g.met.B.CompletionBound.lower c.args.bound.now) c.requires.limit c.requires.found (λ x there. same ∙ c.value-least.ensures.value x there) (sym c.is_reached.ensures ∙ c.if-is_reached.true)
+
+pub visit-returns-then-progress-limit-clause-visited : goal.visit-returns-then-progress-limit-clause-visited
+visit-returns-then-progress-limit-clause-visited g t c =
+    let value = to_z w128 (of_z w128 c.value-least.result) in
+    let same : value ≡ c.value-least.result = search rules in
+    left_out (g.B.CompletionBound.aim c.args.bound.now) c.args.demand.now c.args.prefix.now (g.B.CompletionBound.bound c.args.bound.now) (g.B.CompletionBound.stands c.args.bound.now c.args.sums.now) c.args.limit c.args.progress.now c.leave_out.new.self value c.requires.walking c.requires.stands (g.met.B.CompletionBound.lower c.args.bound.now) c.requires.limit c.if-progress-limit.true c.requires.found (λ x there. same ∙ c.value-least.ensures.value x there) c.leave_out.ensures.visits c.leave_out.ensures.best c.leave_out.ensures.found c.leave_out.ensures.untried
+
+pub visit-tour_value-requires-clause-ended : goal.visit-tour_value-requires-clause-ended
+visit-tour_value-requires-clause-ended g t c =
+    let o = c.requires.stands in
+    record { end = o.at; leads = o.leads; ended = sym (c.point.ensures o.at o.leads).ended ∙ c.if-point.true; stands_there = o.stands_there }
+
+pub visit-returns-then-point-clause-visited : goal.visit-returns-then-point-clause-visited
+visit-returns-then-point-clause-visited g t c =
+    let o = c.requires.stands in
+    let value = to_z w128 (of_z w128 c.tour_value.result) in
+    let same : value ≡ c.tour_value.result = search rules in
+    ended_visited (g.B.CompletionBound.aim c.args.bound.now) c.args.demand.now c.args.prefix.now (g.B.CompletionBound.bound c.args.bound.now) (g.B.CompletionBound.stands c.args.bound.now c.args.sums.now) c.args.limit c.args.progress.now c.count.new.self c.note.new.self value c.requires.walking o (sym (c.point.ensures o.at o.leads).ended ∙ c.if-point.true) c.if-progress-limit.false c.requires.found (g.met.B.CompletionBound.lower c.args.bound.now) (record { visits = c.count.ensures.visits; best = c.count.ensures.best; untried = c.count.ensures.untried; found = c.count.ensures.found }) (λ x there. same ∙ c.tour_value.ensures.value x there) c.note.ensures.visits c.note.ensures.untried c.note.ensures.best c.note.ensures.found
+
+pub visit-loop-next-init : goal.visit-loop-next-init
+visit-loop-next-init g t c =
+    let o = c.requires.stands in
+    let counted : IsCounted c.args.progress.now c.count.new.self = record { visits = c.count.ensures.visits; best = c.count.ensures.best; untried = c.count.ensures.untried; found = c.count.ensures.found } in
+    let lt = c.if-progress-limit.false in
+    let up = c.count.ensures.visits in
+    record { same = refl; visits = visits_first c.args.prefix.now c.args.demand.now (g.B.CompletionBound.aim c.args.bound.now).price (g.B.CompletionBound.bound c.args.bound.now) c.args.limit o.at c.first_move-next.result c.count.new.self o.leads (c.first_move-next.ensures.value o.at o.leads) (omega (arith, lt, up)) (counted_found (aim_at c.args.prefix.now c.args.demand.now (g.B.CompletionBound.aim c.args.bound.now).price) c.args.progress.now c.count.new.self counted c.requires.found) }
+
+pub visit-visit_after-requires : goal.visit-visit_after-requires
+visit-visit_after-requires g t c κs within =
+    let p = c.args.prefix.now in
+    let o = c.requires.stands in
+    let same = c.loop-next.invariant.same in
+    let choice = c.in-Some.choice in
+    let a = g.B.CompletionBound.aim c.args.bound.now in
+    let visits = subst (λ (next : Option Move). Visits p c.args.demand.now a.price (g.B.CompletionBound.bound c.args.bound.now) c.args.limit next c.count.new.self c.loop-next.progress) c.in-Some.is c.loop-next.invariant.visits in
+    let f = follower p c.args.demand.now.allowed o.at choice visits.place o.leads visits.at in
+    let next : MayFollow c.args.demand.now p choice = record { lawful = f.lawful; may = f.may } in
+    let here = ap left_in same in
+    (omega (arith, here), (search rules, (search rules, (subst (λ (q : PartialTour). IsWalking a c.args.demand.now q) (sym same) c.requires.walking, (subst (λ (q : PartialTour). IsOpen (g.B.CompletionBound.stands c.args.bound.now c.args.sums.now) c.args.demand.now q) (sym same) o, (subst (λ (q : PartialTour). MayFollow c.args.demand.now q choice) (sym same) next, (visits.on.limit, subst (λ (q : PartialTour). HasFound (aim_at q c.args.demand.now a.price) c.loop-next.progress) (sym same) visits.found)))))))
+
+pub visit-loop-next-smaller : goal.visit-loop-next-smaller
+visit-loop-next-smaller g t c =
+    let p = c.args.prefix.now in
+    let o = c.requires.stands in
+    let same = c.loop-next.invariant.same in
+    let choice = c.in-Some.choice in
+    let a = g.B.CompletionBound.aim c.args.bound.now in
+    let visits = subst (λ (next : Option Move). Visits p c.args.demand.now a.price (g.B.CompletionBound.bound c.args.bound.now) c.args.limit next c.count.new.self c.loop-next.progress) c.in-Some.is c.loop-next.invariant.visits in
+    let more = subst (λ (q : PartialTour). Visited (with_move q choice) c.args.demand.now a.price (g.B.CompletionBound.bound c.args.bound.now) c.args.limit c.loop-next.progress c.visit_after.new.progress) same c.visit_after.ensures.visited in
+    let are = next_is p c.visit_after.new.prefix o.at choice c.move_after-next.result c.args.demand.now.allowed (c.visit_after.ensures.prefix ∙ same) o.leads c.move_after-next.ensures.value in
+    let falls = (visits_on p c.args.demand.now a.price (g.B.CompletionBound.bound c.args.bound.now) c.args.limit o.at choice c.move_after-next.result c.count.new.self c.loop-next.progress c.visit_after.new.progress o.leads visits more are (grows_at a c.args.demand.now p (g.B.CompletionBound.bound c.args.bound.now) c.requires.walking (g.met.B.CompletionBound.grows c.args.bound.now))).1 in
+    let here = ap (λ (v : Option Move). from_next v (followers p c.args.demand.now.allowed)) c.in-Some.is in
+    omega (arith, falls, here)
+
+pub visit-loop-next-preserved : goal.visit-loop-next-preserved
+visit-loop-next-preserved g t c =
+    let p = c.args.prefix.now in
+    let o = c.requires.stands in
+    let same = c.loop-next.invariant.same in
+    let choice = c.in-Some.choice in
+    let a = g.B.CompletionBound.aim c.args.bound.now in
+    let visits = subst (λ (next : Option Move). Visits p c.args.demand.now a.price (g.B.CompletionBound.bound c.args.bound.now) c.args.limit next c.count.new.self c.loop-next.progress) c.in-Some.is c.loop-next.invariant.visits in
+    let more = subst (λ (q : PartialTour). Visited (with_move q choice) c.args.demand.now a.price (g.B.CompletionBound.bound c.args.bound.now) c.args.limit c.loop-next.progress c.visit_after.new.progress) same c.visit_after.ensures.visited in
+    let are = next_is p c.visit_after.new.prefix o.at choice c.move_after-next.result c.args.demand.now.allowed (c.visit_after.ensures.prefix ∙ same) o.leads c.move_after-next.ensures.value in
+    record { same = c.visit_after.ensures.prefix ∙ same; visits = (visits_on p c.args.demand.now a.price (g.B.CompletionBound.bound c.args.bound.now) c.args.limit o.at choice c.move_after-next.result c.count.new.self c.loop-next.progress c.visit_after.new.progress o.leads visits more are (grows_at a c.args.demand.now p (g.B.CompletionBound.bound c.args.bound.now) c.requires.walking (g.met.B.CompletionBound.grows c.args.bound.now))).0 }
+
+pub visit-returns-clause-visited : goal.visit-returns-clause-visited
+visit-returns-clause-visited g t c =
+    let p = c.args.prefix.now in
+    let o = c.requires.stands in
+    let a = g.B.CompletionBound.aim c.args.bound.now in
+    let none = none_there c.loop-next.next c.in_default.not-Some in
+    let counted : IsCounted c.args.progress.now c.count.new.self = record { visits = c.count.ensures.visits; best = c.count.ensures.best; untried = c.count.ensures.untried; found = c.count.ensures.found } in
+    let visits = subst (λ (next : Option Move). Visits p c.args.demand.now a.price (g.B.CompletionBound.bound c.args.bound.now) c.args.limit next c.count.new.self c.loop-next.progress) none c.loop-next.invariant.visits in
+    all_visited a c.args.demand.now p (g.B.CompletionBound.bound c.args.bound.now) (g.B.CompletionBound.stands c.args.bound.now c.args.sums.now) c.args.limit c.args.progress.now c.count.new.self c.loop-next.progress c.requires.walking o (sym (c.point.ensures o.at o.leads).ended ∙ c.if-point.false) counted visits
+
+pub visit_after-returns-then-is_useless-clause-visited : goal.visit_after-returns-then-is_useless-clause-visited
+visit_after-returns-then-is_useless-clause-visited g t c =
+    let a = g.B.CompletionBound.aim c.args.bound.now in
+    let p = c.args.prefix.now in
+    let o = c.requires.stands in
+    let to = with_move p c.args.next in
+    let led = is_some_has (course to) c.requires.next.lawful in
+    let moved = only_move p o.at led.0 c.args.next o.leads led.1 in
+    shut_out to c.args.demand.now a.price (g.B.CompletionBound.bound c.args.bound.now) c.args.limit c.args.progress.now led.0 c.requires.walking.accepted c.requires.walking.demands led.1 (c.is_useless.ensures c.if-is_useless.true o.at led.0 o.leads moved) c.requires.limit c.requires.found
+
+pub visit_after-visit-requires : goal.visit_after-visit-requires
+visit_after-visit-requires g t c κs within =
+    let a = g.B.CompletionBound.aim c.args.bound.now in
+    let falls = left_falls c.args.prefix.now c.args.next c.requires.next.lawful in
+    let here = ap left_in c.step.ensures.prefix in
+    (omega (arith, falls, here), (search rules, (search rules, (c.step.ensures.walking, (c.in-Some.ensures.stands, (c.requires.limit, subst (λ (q : PartialTour). HasFound (aim_at q c.args.demand.now a.price) c.args.progress.now) (sym c.step.ensures.prefix) c.requires.found))))))
+
+pub visit_after-returns-clause-prefix : goal.visit_after-returns-clause-prefix
+visit_after-returns-clause-prefix g t c =
+    elim c.match-step.branch [
+      | visit_after-in-Some w ↦ back_again c.pop.result c.args.prefix.now c.pop.new.self c.match-step.prefix c.args.next (w.prefix-is ∙ w.visit.ensures.prefix ∙ c.step.ensures.prefix) c.pop.ensures
+      | visit_after-in_default w ↦ back_again c.pop.result c.args.prefix.now c.pop.new.self c.match-step.prefix c.args.next (w.prefix-is ∙ c.step.ensures.prefix) c.pop.ensures
+    ]
+
+pub visit_after-returns-clause-visited : goal.visit_after-returns-clause-visited
+visit_after-returns-clause-visited g t c =
+    let a = g.B.CompletionBound.aim c.args.bound.now in
+    let bound = g.B.CompletionBound.bound c.args.bound.now in
+    let to = with_move c.args.prefix.now c.args.next in
+    elim c.match-step.branch [
+      | visit_after-in-Some w ↦ subst (λ (p : Progress). Visited to c.args.demand.now a.price bound c.args.limit c.args.progress.now p) (sym w.progress-is) (subst (λ (q : PartialTour). Visited q c.args.demand.now a.price bound c.args.limit c.args.progress.now w.visit.new.progress) c.step.ensures.prefix w.visit.ensures.visited)
+      | visit_after-in_default w ↦ (
+          let led = is_some_has (course to) c.requires.next.lawful in
+          let shut = subst (λ (q : PartialTour). IsShut c.args.demand.now q) c.step.ensures.prefix (c.step.ensures.shut (none_there c.step.result w.in_default.not-Some)) in
+          subst (λ (p : Progress). Visited to c.args.demand.now a.price bound c.args.limit c.args.progress.now p) (sym w.progress-is) (shut_out to c.args.demand.now a.price bound c.args.limit c.args.progress.now led.0 c.requires.walking.accepted c.requires.walking.demands led.1 (shut led.0 led.1) c.requires.limit c.requires.found)
+          )
+    ]

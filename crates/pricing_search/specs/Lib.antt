@@ -1,0 +1,4 @@
+pub mod Walks
+pub mod Dives
+pub mod Searches
+pub mod Claims

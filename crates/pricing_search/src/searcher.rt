@@ -1,0 +1,124 @@
+//! Searchers and their desks.
+
+ghost use Rattle.std.specs.Prelude.{◌≡◌, ◌<◌, ◌≤◌, ◌^◌, length};
+ghost use Rattle.elevator_model.specs.Snapshot.{car_count, call_count};
+ghost use Rattle.search_model.specs.Nodes.{IsNodeOf};
+ghost use Rattle.search_model.specs.Prices.{price_at};
+ghost use Rattle.search_model.specs.Solving.{fits_kept};
+ghost use Rattle.pricing_search.specs.Searches.{HoldsPricing, IsDeskOf, IsPriced};
+ghost use Rattle.pricing_search.specs.Claims.{fits_on};
+
+use crate::progress::Progress;
+use crate::search::search;
+use assign_branch::{Node, Priced, Pricer};
+use call_state::Snapshot;
+use elevator_model::Tour;
+use partial_tours::{Prefix, tour_of};
+use price_scale::Price;
+use pricing_bound::{Rates, StraightRides};
+use std::alloc::{AllocError, Global};
+use tour_extension::Demand;
+
+/// Prices the cars of a snapshot exactly: finds the tour of least value by a walk over the partial tours that some
+/// tour of the node begins with and whose completion bound is below the best value.
+///
+/// A claim fits where the kept list of the worth is not longer.
+#[derive(Drop)]
+pub struct Searcher<'a> {
+    snapshot: &'a Snapshot,
+}
+
+/// Where a searcher works: the partial tour that it is at, what each call costs alone, and how far it is. All memory is
+/// taken when it is made.
+#[derive(Drop)]
+pub struct Desk<'a> {
+    prefix: Prefix<'a>,
+    rates: Rates<'a>,
+    progress: Progress,
+    has_priced: bool,
+}
+
+impl<'a> Searcher<'a> {
+    /// The searcher of a snapshot.
+    pub fn new(snapshot: &'a Snapshot) -> Self
+        ensures { result.snapshot.now ≡ snapshot.now }
+    {
+        Searcher { snapshot }
+    }
+
+    /// What `price` does. Beside what a pricer promises, the worth is no less than the completion bound of the empty
+    /// partial tour.
+    fn price_car(
+        &self,
+        car: u32,
+        node: &Node,
+        prices: &[Price],
+        limit: u64,
+        desk: &mut Desk<'a>,
+    ) -> Priced
+        requires own { IsDeskOf self.now.snapshot.now desk.old.prefix desk.old.rates
+            desk.old.progress.found desk.old.has_priced }
+        requires car { car < car_count self.now.snapshot.now }
+        requires node { IsNodeOf self.now.snapshot.now node.now }
+        requires prices { length prices.now ≡ call_count self.now.snapshot.now }
+        requires limit { (1 ≤ limit) × (limit ≤ 10 ^ 18) }
+        ensures own { IsDeskOf self.now.snapshot.now desk.new.prefix desk.new.rates
+            desk.new.progress.found desk.new.has_priced }
+        ensures priced { IsPriced self.now.snapshot.now node.now car prices.now limit
+            desk.new.progress.found desk.new.has_priced result }
+    {
+        let demand = Demand {
+            allowed: node.allowed(car),
+            required: node.required(car),
+        };
+        desk.prefix.restart(car);
+        desk.rates.lay_out(prices);
+        desk.has_priced = true;
+        let bound = StraightRides::new(&desk.rates, car, demand.allowed, demand.required);
+        search(&bound, &demand, limit, &mut desk.prefix, &mut desk.progress)
+    }
+}
+
+impl<'a> Pricer for Searcher<'a> {
+    type Desk = Desk<'a>;
+
+    ghost snapshot = { λ it. it.snapshot.now };
+
+    ghost owns = { λ it desk. IsDeskOf it.snapshot.now desk.prefix desk.rates desk.progress.found
+        desk.has_priced };
+
+    ghost holds = { λ it desk p. HoldsPricing it.snapshot.now desk.progress.found desk.has_priced p };
+
+    ghost fits = { λ it. fits_kept it.snapshot.now };
+
+    fn desk(&self, alloc: Global) -> Result<Desk<'a>, AllocError> {
+        // Their readers say that the snapshot is accepted, so there is a first car.
+        let _calls = self.snapshot.calls();
+        Ok(Desk {
+            prefix: Prefix::new(alloc, self.snapshot, 0)?,
+            rates: Rates::new(alloc, self.snapshot)?,
+            progress: Progress::new(alloc)?,
+            has_priced: false,
+        })
+    }
+
+    fn price(
+        &self,
+        car: u32,
+        node: &Node,
+        prices: &[Price],
+        limit: u64,
+        desk: &mut Desk<'a>,
+    ) -> Priced {
+        self.price_car(car, node, prices, limit, desk)
+    }
+
+    fn tour(&self, alloc: Global, desk: &Desk<'a>) -> Result<Option<Tour>, AllocError> {
+        if !desk.has_priced {
+            return Ok(None);
+        }
+        Ok(Some(tour_of(alloc, desk.progress.found.moves())?))
+    }
+
+    ghost fits_in_splits = { λ it. fits_on it.snapshot.now };
+}

@@ -1,0 +1,83 @@
+//! A walk over the partial tours of a car, depth first.
+
+ghost use Rattle.std.specs.Prelude.{◌≡◌, ◌≤◌};
+ghost use Rattle.partial_tours.specs.PartialTour.{with_move};
+ghost use Rattle.kept_tours.specs.Walking.{IsWalking, IsOpen, MayFollow, aim_at};
+ghost use Rattle.pricing_search.specs.Walks.{HasFound, Visited};
+
+use crate::progress::Progress;
+use elevator_model::Move;
+use kept_tours::step;
+use partial_tours::Prefix;
+use pricing_bound::CompletionBound;
+use tour_extension::{Demand, is_useless};
+
+/// Visits a partial tour that some tour of the node begins with, and those that begin with it.
+///
+/// It goes depth first in the order of moves, and passes by what has a bound not below the best value. Once so many
+/// were visited as the limit says, the least bound of those that are left out is noted.
+#[cycle(walk)]
+pub(crate) fn visit<B: CompletionBound>(
+    bound: &B,
+    demand: &Demand,
+    limit: u64,
+    prefix: &mut Prefix,
+    sums: &B::Sums,
+    progress: &mut Progress,
+)
+    requires walking { IsWalking (B.aim bound.now) demand.now prefix.old }
+    requires stands { IsOpen (B.stands bound.now sums.now) demand.now prefix.old }
+    requires limit { progress.old.visits ≤ limit }
+    requires found { HasFound (aim_at prefix.old demand.now (B.aim bound.now).price) progress.old }
+    ensures prefix { prefix.new ≡ prefix.old }
+    ensures visited { Visited prefix.old demand.now (B.aim bound.now).price (B.bound bound.now) limit
+        progress.old progress.new }
+{
+    let least = bound.value(sums);
+    if progress.is_reached(least) {
+        return;
+    }
+    if progress.visits >= limit {
+        progress.leave_out(least);
+        return;
+    }
+    progress.count();
+    if prefix.point().ended {
+        progress.note(prefix, bound.tour_value(prefix, sums));
+        return;
+    }
+    let mut next = prefix.first_move(demand.allowed);
+    while let Some(choice) = next {
+        visit_after(bound, demand, limit, prefix, sums, choice, progress);
+        next = prefix.move_after(demand.allowed, choice);
+    }
+}
+
+/// The same of the partial tour with one move more, where some tour of the node begins with it.
+#[cycle(walk)]
+fn visit_after<B: CompletionBound>(
+    bound: &B,
+    demand: &Demand,
+    limit: u64,
+    prefix: &mut Prefix,
+    sums: &B::Sums,
+    next: Move,
+    progress: &mut Progress,
+)
+    requires walking { IsWalking (B.aim bound.now) demand.now prefix.old }
+    requires stands { IsOpen (B.stands bound.now sums.now) demand.now prefix.old }
+    requires next { MayFollow demand.now prefix.old next }
+    requires limit { progress.old.visits ≤ limit }
+    requires found { HasFound (aim_at prefix.old demand.now (B.aim bound.now).price) progress.old }
+    ensures prefix { prefix.new ≡ prefix.old }
+    ensures visited { Visited (with_move prefix.old next) demand.now (B.aim bound.now).price
+        (B.bound bound.now) limit progress.old progress.new }
+{
+    if is_useless(prefix, demand, next) {
+        return;
+    }
+    if let Some(sums) = step(bound, demand, prefix, sums, next) {
+        visit(bound, demand, limit, prefix, &sums, progress);
+    }
+    prefix.pop();
+}
