@@ -1,0 +1,179 @@
+//! A case: a snapshot, some nodes of it, every car, and every list of prices.
+
+ghost use Rattle.std.specs.Prelude.{◌≡◌, ◌<◌, IfOk, IfSome};
+ghost use Rattle.elevator_model.specs.Snapshot.{car_count};
+ghost use Rattle.search_model.specs.Nodes.{IsNodeOf};
+
+use crate::aims::Aim;
+use crate::answers::compare;
+use crate::draws::Draws;
+use crate::prices::Pricing;
+use crate::snapshots::drawn;
+use crate::tally::Tally;
+use crate::tours::{Listed, mean_cost, tours_of};
+use assign_branch::{CarSet, Node, Pricer, root, split};
+use call_state::Snapshot;
+use pricing_search::Searcher;
+use std::alloc::{AllocError, Global};
+
+/// Prices a car in a node at prices that are drawn, and compares the answers.
+fn compare_pricing<P: Pricer>(
+    alloc: Global,
+    pricer: &P,
+    aim: Aim,
+    pricing: Pricing,
+    draws: &mut Draws,
+    desk: &mut P::Desk,
+    tally: &mut Tally,
+) -> Result<(), AllocError>
+    requires same { P.snapshot pricer.now ≡ aim.snapshot.now }
+    requires car { aim.car < car_count aim.snapshot.now }
+    requires node { IsNodeOf aim.snapshot.now aim.node.now }
+    requires own { P.owns pricer.now desk.old }
+    ensures own { P.owns pricer.now desk.new }
+{
+    let calls = aim.snapshot.calls().len();
+    let prices = pricing.list(alloc, draws, mean_cost(aim.tours), calls)?;
+    if prices.len() != calls {
+        tally.least.note(false);
+        return Ok(());
+    }
+    let aim = Aim {
+        prices: &prices,
+        ..aim
+    };
+    compare(alloc, pricer, &aim, desk, tally)
+}
+
+/// Prices a car in a node at all lists of prices, and compares the answers.
+fn compare_car<P: Pricer>(
+    alloc: Global,
+    pricer: &P,
+    snapshot: &Snapshot,
+    node: &Node,
+    car: u32,
+    draws: &mut Draws,
+    desk: &mut P::Desk,
+    tally: &mut Tally,
+) -> Result<(), AllocError>
+    requires same { P.snapshot pricer.now ≡ snapshot.now }
+    requires car { car < car_count snapshot.now }
+    requires node { IsNodeOf snapshot.now node.now }
+    requires own { P.owns pricer.now desk.old }
+    ensures own { P.owns pricer.now desk.new }
+{
+    let tours = tours_of(alloc, snapshot, car, &mut tally.listed)?;
+    for pricing in Pricing::ALL {
+        let aim = Aim {
+            snapshot,
+            node,
+            car,
+            prices: &[],
+            tours: &tours,
+        };
+        compare_pricing(alloc, pricer, aim, pricing, draws, desk, tally)?;
+    }
+    Ok(())
+}
+
+/// Prices all cars in a node, and compares the answers.
+fn compare_node<P: Pricer>(
+    alloc: Global,
+    pricer: &P,
+    snapshot: &Snapshot,
+    node: &Node,
+    draws: &mut Draws,
+    desk: &mut P::Desk,
+    tally: &mut Tally,
+) -> Result<(), AllocError>
+    requires same { P.snapshot pricer.now ≡ snapshot.now }
+    requires node { IsNodeOf snapshot.now node.now }
+    requires own { P.owns pricer.now desk.old }
+    ensures own { P.owns pricer.now desk.new }
+{
+    for car in 0..snapshot.building().cars().len() {
+        compare_car(
+            alloc, pricer, snapshot, node, car as u32, draws, desk, tally,
+        )?;
+    }
+    Ok(())
+}
+
+/// The first call, from a drawn one on, that more than one car may serve.
+fn call_to_split(node: &Node, calls: u32, draws: &mut Draws) -> Option<u32> {
+    let start = draws.below(4);
+    for place in 0..calls {
+        let call = start.wrapping_add(place) % calls.max(1);
+        if node.set(call).bits().count_ones() > 1 {
+            return Some(call);
+        }
+    }
+    None
+}
+
+/// One of the two nodes of a split. None where each call has one car alone.
+fn half_of(
+    alloc: Global,
+    snapshot: &Snapshot,
+    node: &Node,
+    draws: &mut Draws,
+) -> Result<Option<Node>, AllocError>
+    requires { IsNodeOf snapshot.now node.now }
+    ensures { IfOk result (λ half. IfSome half (λ it. IsNodeOf snapshot.now it)) }
+{
+    let calls = snapshot.calls().len() as u32;
+    let Some(call) = call_to_split(node, calls, draws) else {
+        return Ok(None);
+    };
+    let Some(car) = node.set(call).least() else {
+        return Ok(None);
+    };
+    let mut first = node.copy(alloc)?;
+    let mut second = node.copy(alloc)?;
+    match split(
+        node,
+        call,
+        CarSet::empty().with(car),
+        &mut first,
+        &mut second,
+    ) {
+        Ok(()) => Ok(Some(if draws.once_in(2) { first } else { second })),
+        Err(_) => Ok(None),
+    }
+}
+
+/// Prices the cars of a snapshot at its root and at a node after one and after two splits.
+fn compare_snapshot(
+    alloc: Global,
+    snapshot: &Snapshot,
+    draws: &mut Draws,
+    tally: &mut Tally,
+) -> Result<(), AllocError> {
+    let searcher = Searcher::new(snapshot);
+    let mut desk = searcher.desk(alloc)?;
+    let root = root(alloc, snapshot)?;
+    compare_node(alloc, &searcher, snapshot, &root, draws, &mut desk, tally)?;
+    let Some(once) = half_of(alloc, snapshot, &root, draws)? else {
+        return Ok(());
+    };
+    compare_node(alloc, &searcher, snapshot, &once, draws, &mut desk, tally)?;
+    let Some(twice) = half_of(alloc, snapshot, &once, draws)? else {
+        return Ok(());
+    };
+    compare_node(alloc, &searcher, snapshot, &twice, draws, &mut desk, tally)
+}
+
+/// Draws a snapshot and compares what is asked of it. One that is refused is counted.
+pub(crate) fn compare_case(alloc: Global, case: u64, tally: &mut Tally) -> Result<(), AllocError> {
+    let mut draws = Draws::of_case(case);
+    match drawn(alloc, &mut draws)? {
+        Some(snapshot) => {
+            tally.snapshots = tally.snapshots.wrapping_add(1);
+            compare_snapshot(alloc, &snapshot, &mut draws, tally)
+        }
+        None => {
+            tally.refused = tally.refused.wrapping_add(1);
+            Ok(())
+        }
+    }
+}

@@ -1,0 +1,93 @@
+//! All tours of a car, with what the comparisons ask of them.
+
+ghost use Rattle.std.specs.Prelude.{◌<◌};
+ghost use Rattle.elevator_model.specs.Snapshot.{car_count};
+
+use crate::tally::Checks;
+use call_sets::CallSet;
+use call_state::Snapshot;
+use elevator_model::{Move, Stop, Tour};
+use plain_solver::feasible_tours;
+use std::alloc::{AllocError, Global};
+use tour_cost::cost;
+use tour_rules::judge;
+
+/// A feasible tour of a car.
+#[derive(Drop)]
+pub(crate) struct Listed {
+    /// Its moves: for each stop a leave, and then the boards by rising index; at last the end.
+    pub(crate) moves: Vec<Move>,
+    /// The calls that it serves.
+    pub(crate) boards: CallSet,
+    /// In cost units.
+    pub(crate) cost: u64,
+}
+
+/// The calls that board in a tour.
+pub(crate) fn boards_of(tour: &Tour) -> CallSet {
+    let mut boards = CallSet::empty();
+    for stop in tour.stops() {
+        boards = boards.union(CallSet::of_list(stop.boards.as_slice()));
+    }
+    boards
+}
+
+fn add_moves(moves: &mut Vec<Move>, stop: &Stop) -> Result<(), AllocError> {
+    moves.push(Move::Leave(stop.floor))?;
+    for call in CallSet::of_list(stop.boards.as_slice()).iter() {
+        moves.push(Move::Board(call))?;
+    }
+    Ok(())
+}
+
+fn moves_of(alloc: Global, tour: &Tour) -> Result<Vec<Move>, AllocError> {
+    let mut moves = Vec::new(alloc);
+    for stop in tour.stops() {
+        add_moves(&mut moves, stop)?;
+    }
+    moves.push(Move::End)?;
+    Ok(moves)
+}
+
+/// What a tour costs. None where it breaks a rule.
+pub(crate) fn lawful_cost(snapshot: &Snapshot, car: u32, tour: &Tour) -> Option<u64>
+    requires { car < car_count snapshot.now }
+{
+    match judge(snapshot, car, tour) {
+        Ok(()) => Some(cost(snapshot, car, tour)),
+        Err(_) => None,
+    }
+}
+
+/// All feasible tours of a car.
+pub(crate) fn tours_of(
+    alloc: Global,
+    snapshot: &Snapshot,
+    car: u32,
+    lawful: &mut Checks,
+) -> Result<Vec<Listed>, AllocError>
+    requires { car < car_count snapshot.now }
+{
+    let mut listed = Vec::new(alloc);
+    for tour in &feasible_tours(alloc, snapshot, car)? {
+        let cost = lawful_cost(snapshot, car, tour);
+        lawful.note(cost.is_some());
+        let (moves, boards) = (moves_of(alloc, tour)?, boards_of(tour));
+        listed.push(Listed {
+            moves,
+            boards,
+            cost: cost.unwrap_or(0),
+        })?;
+    }
+    Ok(listed)
+}
+
+/// What one of these tours costs for each call that it serves, on average. 0 where none serves a call.
+pub(crate) fn mean_cost(tours: &[Listed]) -> u64 {
+    let (mut costs, mut served): (u64, u64) = (0, 0);
+    for tour in tours {
+        costs = costs.wrapping_add(tour.cost);
+        served = served.wrapping_add(u64::from(tour.boards.bits().count_ones()));
+    }
+    costs / served.max(1)
+}

@@ -1,0 +1,222 @@
+//! A case that was worked out by hand: three floors, a car for one person at the lowest floor and one for two at the
+//! middle one, two calls from the lowest floor to the highest and two the other way.
+
+ghost use Rattle.std.specs.Prelude.{◌≡◌, ◌<◌};
+ghost use Rattle.elevator_model.specs.Snapshot.{car_count, call_count};
+ghost use Rattle.search_model.specs.Nodes.{IsNodeOf};
+
+use crate::tally::Tally;
+use crate::tours::boards_of;
+use assign_branch::{Node, Pricer, root};
+use call_sets::FloorSet;
+use call_state::{
+    Building, BuildingParts, Call, CarSpec, CarState, Snapshot, SnapshotParts, StateFault, Travel,
+};
+use elevator_model::Tour;
+use price_scale::Price;
+use pricing_search::Searcher;
+use std::alloc::{AllocError, Global};
+
+fn car(id: u32, capacity: u32) -> CarSpec {
+    CarSpec {
+        id,
+        capacity,
+        opening: 1000,
+        closing: 1000,
+        boarding: 500,
+        alighting: 500,
+        serves: FloorSet::from_bits(0b111),
+    }
+}
+
+fn call(id: u32, origin: u32, destination: u32) -> Call {
+    Call {
+        id,
+        origin,
+        destination,
+        persons: 1,
+        released: 0,
+        pin: None,
+    }
+}
+
+fn standing(floor: u32) -> CarState {
+    CarState::Idle { floor, free: 0 }
+}
+
+/// Floors 4000 mm apart, 2000 mm/s and 1000 mm/s²; a ms of waiting or of riding costs 1.
+fn building(alloc: Global) -> Result<Building, StateFault> {
+    let times = [0, 4000, 6000, 4000, 0, 4000, 6000, 4000, 0];
+    Building::build(
+        alloc,
+        BuildingParts {
+            version: 1,
+            heights: [0, 4000, 8000].to_vec(alloc)?,
+            speed: 2000,
+            accel: 1000,
+            wait_weight: 1,
+            travel_weight: 1,
+            patience: 0,
+            patience_weight: 0,
+            cars: [car(1, 1), car(2, 2)].to_vec(alloc)?,
+            travel: Travel::build(3, times.to_vec(alloc)?)?,
+        },
+    )
+}
+
+fn snapshot(alloc: Global) -> Result<Option<Snapshot>, StateFault> {
+    let calls = [call(1, 0, 2), call(2, 0, 2), call(3, 2, 0), call(4, 2, 0)];
+    let parts = SnapshotParts {
+        version: 1,
+        building: building(alloc)?,
+        now: 0,
+        cars: [standing(0), standing(1)].to_vec(alloc)?,
+        aboard: Vec::new(alloc),
+        calls: calls.to_vec(alloc)?,
+    };
+    if !parts.are_whole() {
+        return Ok(None);
+    }
+    Ok(Some(Snapshot::build(alloc, parts)?))
+}
+
+/// The answer that is due where all calls have this price, in thousandths of a cost unit.
+#[derive(Clone, Copy)]
+struct Due {
+    car: u32,
+    price: i128,
+    worth: i128,
+    /// The tour serves one of these sets of calls alone, as the bits of a number.
+    boards: [u128; 2],
+}
+
+/// The first car stands where the first two calls wait: either costs it 9500, and two calls at least 28000. Each call
+/// costs the second car 13500, and two that start at one floor cost it 28000.
+const ALL_DUE: [Due; 6] = [
+    Due {
+        car: 0,
+        price: 0,
+        worth: 0,
+        boards: [0, 0],
+    },
+    Due {
+        car: 1,
+        price: 0,
+        worth: 0,
+        boards: [0, 0],
+    },
+    Due {
+        car: 0,
+        price: 6_000_000,
+        worth: 0,
+        boards: [0, 0],
+    },
+    Due {
+        car: 1,
+        price: 6_000_000,
+        worth: 0,
+        boards: [0, 0],
+    },
+    Due {
+        car: 0,
+        price: 12_000_000,
+        worth: -2_500_000,
+        boards: [1, 2],
+    },
+    Due {
+        car: 1,
+        price: 12_000_000,
+        worth: 0,
+        boards: [0, 0],
+    },
+];
+
+/// Whether the tour serves just the calls that are due. One that serves none has no stops.
+fn is_due(due: Due, given: &Option<Tour>) -> bool {
+    let Some(tour) = given else {
+        return false;
+    };
+    let [first, second] = due.boards;
+    let boards = boards_of(tour).bits();
+    if boards == 0 && !tour.stops().is_empty() {
+        return false;
+    }
+    boards == first || boards == second
+}
+
+/// Prices a car with no limit that matters and with the limit 1, and compares the answers.
+fn compare_due<P: Pricer>(
+    alloc: Global,
+    pricer: &P,
+    node: &Node,
+    due: Due,
+    desk: &mut P::Desk,
+    tally: &mut Tally,
+) -> Result<(), AllocError>
+    requires car { due.car < car_count (P.snapshot pricer.now) }
+    requires node { IsNodeOf (P.snapshot pricer.now) node.now }
+    requires calls { call_count (P.snapshot pricer.now) ≡ 4 }
+    requires own { P.owns pricer.now desk.old }
+    ensures own { P.owns pricer.now desk.new }
+{
+    let Some(price) = Price::new(due.price) else {
+        tally.worked.note(false);
+        return Ok(());
+    };
+    let whole = pricer.price(due.car, node, &[price; 4], 1_000_000_000, desk);
+    let given = pricer.tour(alloc, desk)?;
+    tally.worked.note(whole.worth == due.worth && !whole.spent);
+    tally.worked.note(is_due(due, &given));
+    let limited = pricer.price(due.car, node, &[price; 4], 1, desk);
+    tally.worked.note(limited.visits == 1 && limited.spent);
+    Ok(())
+}
+
+/// Compares all answers that are due.
+fn compare_all<P: Pricer>(
+    alloc: Global,
+    pricer: &P,
+    node: &Node,
+    desk: &mut P::Desk,
+    tally: &mut Tally,
+) -> Result<(), AllocError>
+    requires cars { car_count (P.snapshot pricer.now) ≡ 2 }
+    requires node { IsNodeOf (P.snapshot pricer.now) node.now }
+    requires calls { call_count (P.snapshot pricer.now) ≡ 4 }
+    requires own { P.owns pricer.now desk.old }
+    ensures own { P.owns pricer.now desk.new }
+{
+    for due in ALL_DUE {
+        if due.car < 2 {
+            compare_due(alloc, pricer, node, due, desk, tally)?;
+        }
+    }
+    Ok(())
+}
+
+fn compare_snapshot(
+    alloc: Global,
+    snapshot: &Snapshot,
+    tally: &mut Tally,
+) -> Result<(), AllocError> {
+    if snapshot.building().cars().len() != 2 || snapshot.calls().len() != 4 {
+        tally.worked.note(false);
+        return Ok(());
+    }
+    let searcher = Searcher::new(snapshot);
+    let mut desk = searcher.desk(alloc)?;
+    let root = root(alloc, snapshot)?;
+    compare_all(alloc, &searcher, &root, &mut desk, tally)
+}
+
+/// Compares the answers in the case that was worked out by hand.
+pub(crate) fn compare_worked(alloc: Global, tally: &mut Tally) -> Result<(), AllocError> {
+    match snapshot(alloc) {
+        Ok(Some(snapshot)) => compare_snapshot(alloc, &snapshot, tally),
+        Err(StateFault::NoMemory) => Err(AllocError),
+        Ok(None) | Err(StateFault::Bad { fault: _, item: _ }) => {
+            tally.worked.note(false);
+            Ok(())
+        }
+    }
+}
