@@ -4,22 +4,20 @@ use Rattle.std.proofs.Math.Nat.{eq-or-lt_of_le}
 use Rattle.std.proofs.lemmas.List.{get_or_push, get_or_append_left}
 use Rattle.std.proofs.lemmas.Bool.{cases_Bool, leb-true, leb-false}
 use Rattle.elevator_model.specs.declared.Stop.{Stop}
-use Rattle.elevator_model.specs.declared.Broken.{Broken}
-use Rattle.elevator_model.specs.declared.BadPlan.{BadPlan}
-use Rattle.call_sets.specs.Counting.{has, sum_below}
+use Rattle.call_sets.specs.Counting.{has}
 use Rattle.elevator_model.specs.Snapshot.{Snapshot, car_count, call_count}
-use Rattle.elevator_model.specs.Tours.{Progress, IsFeasible, start_of, first_broken_from, none_taken}
+use Rattle.elevator_model.specs.Tours.{Progress, IsFeasible, start_of, none_taken}
 use Rattle.elevator_model.specs.Costs.{cost_of}
-use Rattle.elevator_model.specs.Plans.{IsFeasiblePlan, IsOptimal, is_boarded_in, tour_of, plan_cost_of, first_bad_tour, first_of, broken_of_car, first_unserved, unserved_of}
+use Rattle.elevator_model.specs.Plans.{IsOptimal, is_boarded_in, plan_cost_of}
 use Rattle.elevator_model.specs.Partial.{moves_of}
 use Rattle.tour_rules.proofs.BoundedTests.{same_function}
-use Rattle.tour_rules.proofs.Taken.{tour_alone, tour_apart, tour_beside}
-use Rattle.call_sets.proofs.Sums.{sum_below-split}
-use Rattle.tour_cost.proofs.Judged.{is_served, clear_first, clear_car, without_served, without_all, without_none, feasible_where_clear, clear_where_feasible, clear_unserved}
+use Rattle.tour_rules.proofs.Taken.{tour_apart}
+use Rattle.tour_cost.specs.Completing.{Completes, with_calls_of, rest_cost}
+use Rattle.tour_cost.proofs.Completing.{plan_where_complete, complete_where_plan, plan_costs}
 use Rattle.partial_tours.specs.Listed.{tour_at, AreAllTours}
 use Rattle.plain_solver.specs.declared.choices.Sums.{Sums}
 use Rattle.plain_solver.specs.declared.choices.Choices.{Choices}
-use Rattle.plain_solver.specs.Rests.{AreChoices, AreChoicesFrom, IsSmallCost, sums_at, Completes, with_tour, rest_cost, Chosen, IsLeast, IsCheapest, IsLeastOf, IsCheapestOf, begun_with, better_of}
+use Rattle.plain_solver.specs.Rests.{AreChoices, AreChoicesFrom, IsSmallCost, sums_at, Chosen, IsLeast, IsCheapest, IsLeastOf, IsCheapestOf, begun_with, better_of}
 use Rattle.partial_tours.proofs.Boarded.{boarded_in}
 use Rattle.partial_tours.proofs.Listed.{same_end, same_cost}
 
@@ -41,7 +39,7 @@ skipped s taken c tours n (Some best) least out = record {
 }
 
 -- a tour with the cheapest rest
-newest : (s : Snapshot) (taken : ℕ → Bool) (c : ℕ) (tours : List (List Stop)) (n : ℕ) (tour : List Stop) (cost : ℕ) (rest : Chosen) → tour ≡ tour_at tours n → IsFeasible s c tour → ((j : ℕ) → is_boarded_in tour j ≡ true → taken j ≡ false) → cost ≡ cost_of s c tour → IsLeast s (with_tour taken tour) (c + 1) rest → ((k : ℕ) (other : List (List Stop)) → k < n → Completes s taken c (tour_at tours k ∷ other) → cost + rest.cost ≤ rest_cost s c (tour_at tours k ∷ other)) → IsLeastOf s taken c tours (n + 1) (begun_with tour cost rest)
+newest : (s : Snapshot) (taken : ℕ → Bool) (c : ℕ) (tours : List (List Stop)) (n : ℕ) (tour : List Stop) (cost : ℕ) (rest : Chosen) → tour ≡ tour_at tours n → IsFeasible s c tour → ((j : ℕ) → is_boarded_in tour j ≡ true → taken j ≡ false) → cost ≡ cost_of s c tour → IsLeast s (with_calls_of taken tour) (c + 1) rest → ((k : ℕ) (other : List (List Stop)) → k < n → Completes s taken c (tour_at tours k ∷ other) → cost + rest.cost ≤ rest_cost s c (tour_at tours k ∷ other)) → IsLeastOf s taken c tours (n + 1) (begun_with tour cost rest)
 newest s taken c tours n tour cost rest is feasible free costs least before = record {
   completes = (feasible, free, least.completes);
   cost = (let whole = least.cost in omega (arith, costs, whole));
@@ -51,7 +49,7 @@ newest s taken c tours n tour cost rest is feasible free costs least before = re
     here : (other : List (List Stop)) {total : ℕ} → Completes s taken c (tour ∷ other) → total ≡ rest_cost s c (tour ∷ other) → cost + rest.cost ≤ total
     here other done same = let low = least.least other done.2 in omega (arith, low, costs, same)
 
-pub taken_up : (s : Snapshot) (taken : ℕ → Bool) (c : ℕ) (tours : List (List Stop)) (n : ℕ) (tour : List Stop) (cost : ℕ) (best rest : Option Chosen) → tour ≡ tour_at tours n → IsFeasible s c tour → ((j : ℕ) → is_boarded_in tour j ≡ true → taken j ≡ false) → cost ≡ cost_of s c tour → IsCheapestOf s taken c tours n best → IsCheapest s (with_tour taken tour) (c + 1) rest → IsCheapestOf s taken c tours (n + 1) (better_of best tour cost rest)
+pub taken_up : (s : Snapshot) (taken : ℕ → Bool) (c : ℕ) (tours : List (List Stop)) (n : ℕ) (tour : List Stop) (cost : ℕ) (best rest : Option Chosen) → tour ≡ tour_at tours n → IsFeasible s c tour → ((j : ℕ) → is_boarded_in tour j ≡ true → taken j ≡ false) → cost ≡ cost_of s c tour → IsCheapestOf s taken c tours n best → IsCheapest s (with_calls_of taken tour) (c + 1) rest → IsCheapestOf s taken c tours (n + 1) (better_of best tour cost rest)
 taken_up s taken c tours n tour cost best None is feasible free costs so_far none =
     skipped s taken c tours n best so_far (λ other done. none other (subst (λ (t : List Stop). Completes s taken c (t ∷ other)) (sym is) done).2)
 taken_up s taken c tours n tour cost None (Some rest) is feasible free costs none least =
@@ -79,7 +77,7 @@ boards_alike s c t u first second same j =
 swapped : (s : Snapshot) (taken : ℕ → Bool) (c : ℕ) (t u : List Stop) (rest : List (List Stop)) → IsFeasible s c t → IsFeasible s c u → moves_of s t ≡ moves_of s u → Completes s taken c (u ∷ rest) → Completes s taken c (t ∷ rest)
 swapped s taken c t u rest first second same done =
     let alike = boards_alike s c t u first second same in
-    let sets = same_function (with_tour taken u) (with_tour taken t) (λ j. ap (λ (b : Bool). taken j || b) (sym (alike j))) in
+    let sets = same_function (with_calls_of taken u) (with_calls_of taken t) (λ j. ap (λ (b : Bool). taken j || b) (sym (alike j))) in
     (first, (λ j h. done.1 j (sym (alike j) ∙ h)), subst (λ (k : ℕ → Bool). Completes s k (c + 1) rest) sets done.2)
 
 pub all_tried : (s : Snapshot) (taken : ℕ → Bool) (c : ℕ) (tours : List (List Stop)) (best : Option Chosen) → c < car_count s → AreAllTours s c tours → IsCheapestOf s taken c tours (length tours) best → IsCheapest s taken c best
@@ -117,79 +115,13 @@ not_served s taken c end some = λ rest. none rest
   where
     none : (rest : List (List Stop)) → Completes s taken c rest → ⊥
     none [] done = some done.1
-    none (u ∷ rest) done = past (c + 1) (with_tour taken u) rest done.2 (omega (arith, end))
+    none (u ∷ rest) done = past (c + 1) (with_calls_of taken u) rest done.2 (omega (arith, end))
       where
         past : (k : ℕ) (held : ℕ → Bool) (later : List (List Stop)) → Completes s held k later → car_count s < k → ⊥
         past k held [] fin lt = let e = fin.0 in omega (arith, e, lt)
-        past k held (v ∷ later) fin lt = past (k + 1) (with_tour held v) later fin.2 (omega (arith, lt))
+        past k held (v ∷ later) fin lt = past (k + 1) (with_calls_of held v) later fin.2 (omega (arith, lt))
 
 -- ---- plans
-
-counted : (s : Snapshot) (taken : ℕ → Bool) (c : ℕ) (plan : List (List Stop)) → Completes s taken c plan → c + length plan ≡ car_count s
-counted s taken c [] done = let e = done.0 in omega (arith, e)
-counted s taken c (tour ∷ plan) done = let later = counted s (with_tour taken tour) (c + 1) plan done.2 in omega (arith, later)
-
-no_bad : (s : Snapshot) (taken : ℕ → Bool) (c : ℕ) (plan : List (List Stop)) → Completes s taken c plan → first_bad_tour s taken c plan ≡ None
-no_bad s taken c [] done = refl
-no_bad s taken c (tour ∷ plan) done =
-    let clear = tour_beside s c taken (start_of s c) 1 tour done.0 done.1 in
-    ap (λ (o : Option Broken). first_of (broken_of_car c o) (first_bad_tour s (with_tour taken tour) (c + 1) plan)) clear ∙ no_bad s (with_tour taken tour) (c + 1) plan done.2
-
-serves : (s : Snapshot) (taken : ℕ → Bool) (c : ℕ) (plan : List (List Stop)) → Completes s taken c plan → (j : ℕ) → j < call_count s → (taken j || is_served plan j) ≡ true
-serves s taken c [] done j lt = ap (λ (b : Bool). b || false) (done.1 j lt)
-serves s taken c (tour ∷ plan) done j lt = sym (grouped (taken j) (is_boarded_in tour j) (is_served plan j)) ∙ serves s (with_tour taken tour) (c + 1) plan done.2 j lt
-  where
-    grouped : (a b r : Bool) → ((a || b) || r) ≡ (a || (b || r))
-    grouped true b r = refl
-    grouped false b r = refl
-
-pub plan_where_complete : (s : Snapshot) (plan : List (List Stop)) → Completes s none_taken 0 plan → IsFeasiblePlan s plan
-plan_where_complete s plan done =
-    let cars = counted s none_taken 0 plan done in
-    let all = sym (without_served plan (call_count s)) ∙ without_all (is_served plan) (call_count s) (λ j lt. serves s none_taken 0 plan done j lt) in
-    feasible_where_clear s plan (omega (arith, cars)) (ap (λ (o : Option BadPlan). first_of o (unserved_of s (first_unserved plan (call_count s)))) (no_bad s none_taken 0 plan done) ∙ ap (unserved_of s) all)
-
-completes_clear : (s : Snapshot) (taken : ℕ → Bool) (c : ℕ) (plan : List (List Stop)) → first_bad_tour s taken c plan ≡ None → c + length plan ≡ car_count s → ((j : ℕ) → j < call_count s → (taken j || is_served plan j) ≡ true) → Completes s taken c plan
-completes_clear s taken c [] clear cars served = (omega (arith, cars), λ j lt. or_none (taken j) (served j lt))
-  where
-    or_none : (b : Bool) → (b || false) ≡ true → b ≡ true
-    or_none true h = refl
-    or_none false h = h
-completes_clear s taken c (tour ∷ plan) clear cars served =
-    let parts = clear_first (broken_of_car c (first_broken_from s c taken (start_of s c) 1 tour)) _ clear in
-    let fine = clear_car c _ parts.0 in
-    (tour_alone s c taken (start_of s c) 1 tour fine, (λ j h. (tour_apart s c taken (start_of s c) 1 tour fine j h).1), completes_clear s (with_tour taken tour) (c + 1) plan parts.1 (omega (arith, cars)) (λ j lt. grouped (taken j) (is_boarded_in tour j) (is_served plan j) ∙ served j lt))
-  where
-    grouped : (a b r : Bool) → ((a || b) || r) ≡ (a || (b || r))
-    grouped true b r = refl
-    grouped false b r = refl
-
-pub complete_where_plan : (s : Snapshot) (plan : List (List Stop)) → IsFeasiblePlan s plan → Completes s none_taken 0 plan
-complete_where_plan s plan feasible =
-    let parts = clear_first (first_bad_tour s none_taken 0 plan) _ (clear_where_feasible s plan feasible) in
-    let cars = feasible.cars in
-    completes_clear s none_taken 0 plan parts.0 (omega (arith, cars)) (λ j lt. without_none (is_served plan) (call_count s) (without_served plan (call_count s) ∙ clear_unserved s (first_unserved plan (call_count s)) parts.1) j lt)
-
-costs_from : (s : Snapshot) (c : ℕ) (plan : List (List Stop)) → sum_below (length plan) (λ i. cost_of s (c + i) (tour_of plan i)) ≡ rest_cost s c plan
-costs_from s c [] = refl
-costs_from s c (tour ∷ plan) =
-    let f : ℕ → ℕ = λ i. cost_of s (c + i) (tour_of (tour ∷ plan) i) in
-    let e : length (tour ∷ plan) ≡ 1 + length plan = omega arith in
-    let first : c + 0 ≡ c = omega arith in
-    let here = ap (λ (k : ℕ). cost_of s k tour) first in
-    let split = ap (λ (n : ℕ). sum_below n f) e ∙ sum_below-split 1 (length plan) f in
-    let later = sum_same (length plan) (λ i. f (1 + i)) (λ i. cost_of s (c + 1 + i) (tour_of plan i)) (λ i. let up : 1 + i ≡ suc i = omega arith in let on : c + (1 + i) ≡ c + 1 + i = omega arith in ap (λ (k : ℕ). cost_of s (c + (1 + i)) (tour_of (tour ∷ plan) k)) up ∙ ap (λ (k : ℕ). cost_of s k (tour_of plan i)) on) in
-    let rest = costs_from s (c + 1) plan in
-    let whole : sum_below (length (tour ∷ plan)) f ≡ 0 + cost_of s (c + 0) tour + sum_below (length plan) (λ i. f (1 + i)) = split in
-    omega (arith, whole, here, later, rest)
-  where
-    sum_same : (n : ℕ) (f g : ℕ → ℕ) → ((i : ℕ) → f i ≡ g i) → sum_below n f ≡ sum_below n g
-    sum_same n f g h = ap (sum_below n) (same_function f g h)
-
-pub plan_costs : (s : Snapshot) (plan : List (List Stop)) → length plan ≡ car_count s → plan_cost_of s plan ≡ rest_cost s 0 plan
-plan_costs s plan cars =
-    let same = same_function (λ c. cost_of s c (tour_of plan c)) (λ c. cost_of s (0 + c) (tour_of plan c)) (λ c. let e : c ≡ 0 + c = omega arith in ap (λ (k : ℕ). cost_of s k (tour_of plan c)) e) in
-    ap (λ (n : ℕ). sum_below n (λ c. cost_of s c (tour_of plan c))) (sym cars) ∙ ap (sum_below (length plan)) same ∙ costs_from s 0 plan
 
 pub optimal_where_least : (s : Snapshot) (x : Chosen) → IsLeast s none_taken 0 x → IsOptimal s x.tours
 optimal_where_least s x least =
@@ -213,9 +145,9 @@ choice_free s c tours sums k taken are lt apart j h =
 pub choice_apart : (s : Snapshot) (c : ℕ) (tours : List (List Stop)) (sums : List Sums) (k : ℕ) (taken : ℕ → Bool) → AreChoices s c tours sums → k < length tours → ((j : ℕ) → is_boarded_in (tour_at tours k) j ≡ true → taken j ≡ false) → (j : ℕ) → j < 128 → has (sums_at sums k).calls j ≡ true → taken j ≡ false
 choice_apart s c tours sums k taken are lt free j below h = free j (sym (are.calls k j lt) ∙ h)
 
-pub choice_with : (s : Snapshot) (c : ℕ) (tours : List (List Stop)) (sums : List Sums) (k taken with_next : ℕ) → AreChoices s c tours sums → k < length tours → ((j : ℕ) → has with_next j ≡ (has taken j || has (sums_at sums k).calls j)) → has with_next ≡ with_tour (has taken) (tour_at tours k)
+pub choice_with : (s : Snapshot) (c : ℕ) (tours : List (List Stop)) (sums : List Sums) (k taken with_next : ℕ) → AreChoices s c tours sums → k < length tours → ((j : ℕ) → has with_next j ≡ (has taken j || has (sums_at sums k).calls j)) → has with_next ≡ with_calls_of (has taken) (tour_at tours k)
 choice_with s c tours sums k taken with_next are lt joined =
-    same_function (has with_next) (with_tour (has taken) (tour_at tours k)) (λ j. joined j ∙ ap (λ (b : Bool). has taken j || b) (are.calls k j lt))
+    same_function (has with_next) (with_calls_of (has taken) (tour_at tours k)) (λ j. joined j ∙ ap (λ (b : Bool). has taken j || b) (are.calls k j lt))
 
 pub better_small : (n : ℕ) (best : Option Chosen) (tour : List Stop) (cost : ℕ) (rest : Option Chosen) → IsSmallCost (n + 1) best → cost ≤ 1000000000000000000 → IsSmallCost n rest → IsSmallCost (n + 1) (better_of best tour cost rest)
 better_small n best tour cost None small low less = small

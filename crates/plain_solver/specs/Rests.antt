@@ -1,28 +1,14 @@
--- Tours of the cars from one on.
-use Rattle.std.specs.Prelude.{◌≡◌, ℕ, ◌+◌, ◌*◌, ◌<◌, ◌≤◌, ◌||◌, List, [], ◌∷◌, length, Bool, true, false, nat_le, slice_index_or, if◌then◌else◌, Option, Some, None}
+-- The cheapest tours of the cars from one on.
+use Rattle.std.specs.Prelude.{◌≡◌, ℕ, ◌+◌, ◌*◌, ◌<◌, ◌≤◌, List, [], ◌∷◌, length, Bool, nat_le, slice_index_or, if◌then◌else◌, Option, Some, None}
 use Rattle.elevator_model.specs.declared.Stop.{Stop}
 use Rattle.call_sets.specs.Counting.{has}
 use Rattle.elevator_model.specs.Snapshot.{Snapshot, car_count, call_count}
-use Rattle.elevator_model.specs.Tours.{IsFeasible}
 use Rattle.elevator_model.specs.Costs.{cost_of}
 use Rattle.elevator_model.specs.Plans.{is_boarded_in}
+use Rattle.tour_cost.specs.Completing.{Completes, rest_cost}
 use Rattle.partial_tours.specs.Listed.{tour_at, AreAllTours}
 use Rattle.plain_solver.specs.declared.choices.Sums.{Sums}
 use Rattle.plain_solver.specs.declared.choices.Choices.{Choices}
-
--- the calls taken with those of one tour more
-abbrev pub with_tour : (ℕ → Bool) → List Stop → ℕ → Bool
-with_tour taken tour j = taken j || is_boarded_in tour j
-
--- The tours, one for each car from c on, are feasible, and each call that is not taken boards in one of
--- them.
-abbrev pub Completes : Snapshot → (taken : ℕ → Bool) → ℕ → List (List Stop) → Type 0
-Completes s taken c [] = (c ≡ car_count s) × ((j : ℕ) → j < call_count s → taken j ≡ true)
-Completes s taken c (tour ∷ rest) = IsFeasible s c tour × ((j : ℕ) → is_boarded_in tour j ≡ true → taken j ≡ false) × Completes s (with_tour taken tour) (c + 1) rest
-
-abbrev pub rest_cost : Snapshot → ℕ → List (List Stop) → ℕ
-rest_cost s c [] = 0
-rest_cost s c (tour ∷ rest) = cost_of s c tour + rest_cost s (c + 1) rest
 
 -- tours and their cost
 pub record Chosen : Type 0 where

@@ -6,3 +6,4 @@ pub mod Served
 pub mod Judged
 pub mod Moments
 pub mod Told
+pub mod Completing

@@ -7,7 +7,8 @@ use Rattle.elevator_model.specs.Tours.{IsFeasible}
 use Rattle.elevator_model.specs.Costs.{cost_of}
 use Rattle.elevator_model.specs.Plans.{is_boarded_in}
 use Rattle.partial_tours.specs.Listed.{tour_at}
-use Rattle.plain_solver.specs.Rests.{AreChoicesFrom, IsCheapest, IsCheapestOf, IsSmallCost, better_of, no_sums, sums_at, with_tour}
+use Rattle.tour_cost.specs.Completing.{with_calls_of}
+use Rattle.plain_solver.specs.Rests.{AreChoicesFrom, IsCheapest, IsCheapestOf, IsSmallCost, better_of, no_sums, sums_at}
 use Rattle.plain_solver.proofs.RestLemmas.{skipped, taken_up, all_tried, choice_free, choice_apart, choice_with, better_small}
 use Rattle.plain_solver.proofs.choices.+cheapest_rest.Goals as goal
 use Rattle.plain_solver.proofs.choices.+cheapest_rest.Goals.{then-are_apart+in_ok-rest+in_ok-best, else-are_apart}
@@ -42,7 +43,7 @@ loop-place-preserved t c =
           let feasible = subst (IsFeasible s car) (sym at) (are.all.feasible place within) in
           let costs : cost ≡ cost_of s car tour = ap (λ x. x.cost) next ∙ are.cost place within ∙ ap (cost_of s car) (sym at) in
           let joined = λ (j : ℕ). w.union-with_next.ensures j ∙ ap (λ x. has c.args.taken j || has x.calls j) next in
-          let set = choice_with s car tours sums place c.args.taken w.union-with_next.result are within joined ∙ ap (with_tour taken) (sym at) in
+          let set = choice_with s car tours sums place c.args.taken w.union-with_next.result are within joined ∙ ap (with_calls_of taken) (sym at) in
           let cheapest = subst (λ (held : ℕ → Bool). IsCheapest s held (car + 1) rest) set w.in_ok-rest.ensures.cheapest in
           let up = taken_up s taken car tours place tour cost best rest at feasible free costs iv.cheapest cheapest in
           let low = subst (λ (n : ℕ). n ≤ 1000000000000000000) (ap (λ x. x.cost) (sym next)) (are.small place within) in

@@ -4,8 +4,9 @@ use Rattle.elevator_model.specs.Tours.{none_taken}
 use Rattle.elevator_model.specs.Plans.{IsOptimal, plan_cost_of}
 use Rattle.tour_rules.proofs.Stops.{none_is_empty}
 use Rattle.plain_plan.proofs.PlainPlan.{plan_exists}
+use Rattle.tour_cost.proofs.Completing.{complete_where_plan}
 use Rattle.plain_solver.specs.Rests.{Chosen, IsCheapest, IsLeast}
-use Rattle.plain_solver.proofs.RestLemmas.{complete_where_plan, optimal_where_least, cost_where_least}
+use Rattle.plain_solver.proofs.RestLemmas.{optimal_where_least, cost_where_least}
 use Rattle.plain_solver.proofs.plans.cheapest_plan.Goals as goal
 
 pub unreachable-requires : goal.unreachable-requires

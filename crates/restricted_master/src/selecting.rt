@@ -1,0 +1,165 @@
+//! The cheapest plan that is made of tours of a pool.
+
+ghost use Rattle.std.specs.Prelude.{◌≡◌, ℕ, ◌≤◌, ◌<◌, ◌^◌, true, false, nat_lt, IfOk, IfSome, length, slice_index_or, All, ◌*◌, pos, neg_ℤ, ◌≤ℤ◌};
+ghost use Rattle.call_sets.specs.Counting.{has};
+ghost use Rattle.elevator_model.specs.Snapshot.{call_count, car_count};
+ghost use Rattle.restricted_master.specs.Priced.{least_sum};
+
+use crate::choosing::{CarChoice, Selection, cheapest};
+use crate::pools::Pool;
+use crate::prices::prices_of;
+use call_sets::CallSet;
+use elevator_model::Plan;
+use price_scale::Price;
+use std::alloc::{AllocError, Global};
+
+/// What a selection found.
+#[derive(Debug, Drop)]
+pub struct Choice {
+    /// A feasible plan made of tours of the pool, where one was found.
+    pub plan: Option<Plan>,
+    /// What the plan costs, in cost units: 0 where there is none.
+    pub cost: u64,
+    /// Whether as many partial selections were tried as may be, so that a cheaper plan may have been missed.
+    pub spent: bool,
+}
+
+/// The cheapest picks that were found, if any, and whether all tries were made.
+#[derive(Clone, Copy)]
+struct Found {
+    picked: Option<Selection>,
+    spent: bool,
+}
+
+impl<'a> Pool<'a> {
+    ghost use Rattle.restricted_master.specs.Pools.{IsCheapest, IsMadeOf, cost_of_choice, selection_count, tours_of_car};
+    ghost use Rattle.restricted_master.specs.declared.choosing.CarChoice.{CarChoice};
+    ghost use Rattle.restricted_master.specs.Choosing.{picks};
+    ghost use Rattle.restricted_master.specs.Priced.{IsPriced};
+    ghost use Rattle.restricted_master.specs.Choices.{AreCandidates, AreChoices, IsPicked, CanPick, IsPlanPick, IsCheapestPick};
+
+    /// The cheapest feasible plan that is made of tours of the pool, found depth first over the cars. A partial
+    /// selection is one tour for each of the first cars, of none up to all; at most `limit` of them are tried.
+    /// It fails only where there is no memory left.
+    pub fn select(&self, alloc: Global, prices: &[Price], limit: u64) -> Result<Choice, AllocError>
+        requires prices { length prices.now ≡ call_count self.now.snapshot }
+        requires limit { 1 ≤ limit }
+        ensures plan { IfOk result (λ choice. IfSome choice.plan (IsMadeOf self.now)) }
+        ensures cost { IfOk result
+            (λ choice. choice.cost ≡ cost_of_choice self.now.snapshot choice.plan) }
+        ensures cheapest { IfOk result
+            (λ choice. choice.spent ≡ false → IsCheapest self.now choice.plan) }
+        ensures spent { IfOk result
+            (λ choice. choice.spent ≡ true → limit ≤ selection_count self.now.tours) }
+        ensures ample { IfOk result
+            (λ choice. 34 ^ car_count self.now.snapshot ≤ limit → choice.spent ≡ false) }
+    {
+        prove!(self.snapshot().calls().len() <= 128);
+        let choices = self.choices(alloc, prices)?;
+        let found = self.best_picks(&choices, prices, limit);
+        let Some(picked) = found.picked else {
+            return Ok(Choice {
+                plan: None,
+                cost: 0,
+                spent: found.spent,
+            });
+        };
+        Ok(Choice {
+            plan: Some(self.plan_of(alloc, &choices, &picked)?),
+            cost: picked.cost,
+            spent: found.spent,
+        })
+    }
+
+    /// The picks of a cheapest plan.
+    fn best_picks(&self, choices: &[CarChoice], prices: &[Price], limit: u64) -> Found
+        requires choices { AreChoices self.now choices.now }
+        requires prices { length prices.now ≡ call_count self.now.snapshot }
+        requires priced { All (IsPriced prices.now) choices.now }
+        ensures few { length choices.now ≤ 16 }
+        ensures picked { IfSome result.picked (IsPlanPick self.now choices.now) }
+        ensures cheapest { result.spent ≡ false → IsCheapestPick self.now result.picked }
+        ensures spent { result.spent ≡ true → limit ≤ selection_count self.now.tours }
+        ensures ample { 34 ^ car_count self.now.snapshot ≤ limit → result.spent ≡ false }
+    {
+        let all = first_calls(self.snapshot().calls().len());
+        let mut left = limit;
+        let bound = prices_of(prices, all) + sum_of_least(choices);
+        let picked = cheapest(
+            choices,
+            0,
+            all,
+            CallSet::empty(),
+            bound,
+            u64::MAX,
+            &mut left,
+        );
+        Found {
+            picked,
+            spent: left == 0,
+        }
+    }
+
+    /// The candidates of each car at these prices.
+    fn choices(&self, alloc: Global, prices: &[Price]) -> Result<Vec<CarChoice>, AllocError>
+        requires { length prices.now ≤ 128 }
+        ensures choices { IfOk result (λ choices. AreChoices self.now choices.items) }
+        ensures priced { IfOk result (λ choices. All (IsPriced prices.now) choices.items) }
+    {
+        let cars = self.cars();
+        let mut choices = Vec::with_capacity(alloc, cars)?;
+        for car in 0..cars {
+            choices.push(self.choice(alloc, car, prices)?)?;
+        }
+        Ok(choices)
+    }
+
+    /// The plan of the tours that were picked.
+    fn plan_of(
+        &self,
+        alloc: Global,
+        choices: &[CarChoice],
+        picked: &Selection,
+    ) -> Result<Plan, AllocError>
+        requires few { length choices.now ≤ 16 }
+        requires picked { CanPick self.now choices.now (picks picked.now) }
+        ensures { IfOk result (IsPicked self.now choices.now (picks picked.now)) }
+    {
+        let mut plan = Plan::new(alloc);
+        for car in 0..choices.len() {
+            let candidate = choices[car].candidates[picked.places[car]];
+            let Some(tour) = self.tour(car as u32, candidate.place) else {
+                unreachable!()
+            };
+            plan.push(tour.copy(alloc)?)?;
+        }
+        Ok(plan)
+    }
+}
+
+/// The first calls, so many.
+fn first_calls(count: usize) -> CallSet
+    requires { count ≤ 128 }
+    ensures { (k : ℕ) → has result k ≡ nat_lt k count }
+{
+    let mut calls = CallSet::empty();
+    for call in 0..count {
+        calls = calls.with(call as u32);
+    }
+    calls
+}
+
+/// The least reduced costs of the cars together.
+fn sum_of_least(choices: &[CarChoice]) -> i128
+    requires few { length choices.now ≤ 16 }
+    requires low { All (λ x. neg_ℤ (pos (2 * 10 ^ 26)) ≤ℤ x.least) choices.now }
+    requires high { All (λ x. x.least ≤ℤ pos (2 * 10 ^ 26)) choices.now }
+    ensures sum { result ≡ least_sum choices.now }
+    ensures low { neg_ℤ (pos (2 * 10 ^ 26 * length choices.now)) ≤ℤ result }
+    ensures high { result ≤ℤ pos (2 * 10 ^ 26 * length choices.now) }
+{
+    match choices.split_first() {
+        Some((first, later)) => first.least + sum_of_least(later),
+        None => 0,
+    }
+}
