@@ -1,15 +1,15 @@
 -- The cheapest picks, candidate after candidate.
-use Rattle.std.proofs.Common.{◌≡◌, ℕ, ◌+◌, ◌-◌, ◌*◌, ◌^◌, ◌<◌, ◌≤◌, ◌==◌, ◌||◌, ltb, leb, cond, Bool, true, false, List, [], ◌∷◌, length, ℤ, pos, ◌+ℤ◌, ◌-ℤ◌, ◌≤ℤ◌, refl, sym, ap, ◌∙◌, subst, inl, inr, arith}
+use Rattle.std.proofs.Common.{◌≡◌, ℕ, ◌+◌, ◌-◌, ◌*◌, ◌^◌, ◌<◌, ◌≤◌, ◌==◌, ◌||◌, ltb, leb, cond, Bool, true, false, true≢false, List, [], ◌∷◌, length, ℤ, pos, ◌+ℤ◌, ◌-ℤ◌, ◌≤ℤ◌, ◌<ℤ◌, refl, sym, ap, ◌∙◌, subst, inl, inr, arith}
 use Rattle.std.proofs.Math.Nat.{eq-or-lt_of_le}
-use Rattle.std.proofs.lemmas.Bool.{cases_Bool, eq-eqb, ne_eqb, leb-true, leb-false}
-use Rattle.std.proofs.lemmas.Int.{ints}
+use Rattle.std.proofs.lemmas.Bool.{cases_Bool, eq-eqb, ne_eqb, leb-true, leb-false, ltb-true, ltb-false}
+use Rattle.std.proofs.lemmas.Int.{ints, by_lt_z}
 use Rattle.std.proofs.lemmas.Bool.Decides.{nat_tests}
 use Rattle.call_sets.specs.Counting.{has}
 use Rattle.search_model.specs.Prices.{scaled}
 use Rattle.restricted_master.specs.declared.choosing.Candidate.{Candidate}
 use Rattle.restricted_master.specs.declared.choosing.CarChoice.{CarChoice}
 use Rattle.restricted_master.specs.declared.choosing.Selection.{Selection}
-use Rattle.restricted_master.specs.Choosing.{candidate_at, and_also, Completes, picked_cost, picks, IsSelection, NoneBeats, NoneOfFirstBeats, excess_sum, IsBound, AreSmall, IsSmall, IsInRange, MayBeat, rest_bound}
+use Rattle.restricted_master.specs.Choosing.{candidate_at, and_also, Completes, picked_cost, picks, IsSelection, NoneBeats, NoneOfFirstBeats, excess_sum, IsBound, AreSmall, IsSmall, IsInRange, ReachesCost, AreDue, IsRising, Reaches, Fits, rest_bound}
 
 pub last_or_before : (k n : ℕ) → k < n + 1 → {P : Type 0} → (k ≡ n → P) → (k < n → P) → P
 last_or_before k n lt here before =
@@ -83,15 +83,53 @@ excess_low all taken c (x ∷ cars) pick small done =
     let rest = excess_low all (and_also taken (candidate_at x.candidates.items (pick c)).calls) (c + 1) cars pick small.1 done.2 in
     omega (arith, ints, first, rest)
 
+-- no picks beat the cost that go on with this candidate or a later one
+pub none_below : (all taken : ℕ → Bool) (c : ℕ) (x : CarChoice) (cars : List CarChoice) (n beat : ℕ) (bound : ℤ) → AreSmall (x ∷ cars) → IsRising x.candidates.items → IsBound all taken c (x ∷ cars) bound → ReachesCost bound beat (candidate_at x.candidates.items n) → NoneOfFirstBeats all taken c x cars n beat → NoneBeats all taken c (x ∷ cars) beat
+none_below all taken c x cars n beat bound small rising low far before = λ pick done.
+    elim (cases_Bool (ltb (pick c) n)) [
+      | inl lt ↦ before pick (ltb-true (pick c) n lt) done
+      | inr le ↦ late pick (ltb-false (pick c) n le) done
+    ]
+  where
+    late : (pick : ℕ → ℕ) → n ≤ pick c → Completes all taken c (x ∷ cars) pick → beat ≤ picked_cost c (x ∷ cars) pick
+    late pick le done =
+        elim (cases_Bool (leb beat (picked_cost c (x ∷ cars) pick))) [
+          | inl fine ↦ leb-true beat (picked_cost c (x ∷ cars) pick) fine
+          | inr more ↦ absurd (let lt = leb-false beat (picked_cost c (x ∷ cars) pick) more in let whole = low pick done in let rest = excess_low all (and_also taken (candidate_at x.candidates.items (pick c)).calls) (c + 1) cars pick small.1 done.2 in let up = rising n (pick c) le done.0 in omega (arith, ints, whole, rest, up, lt, far))
+        ]
+
+-- ---- calls that are due now
+
+none_where : (a b : Bool) → (a ≡ true → b ≡ true) → b ≡ false → a ≡ false
+none_where true b h e = absurd (true≢false (sym (h refl) ∙ e))
+none_where false b h e = refl
+
+or_left : (a b : Bool) → b ≡ false → (a || b) ≡ true → a ≡ true
+or_left true b e h = refl
+or_left false b e h = absurd (true≢false (sym h ∙ e))
+
+or_right : (a b : Bool) → a ≡ false → (a || b) ≡ true → b ≡ true
+or_right true b e h = absurd (true≢false e)
+or_right false b e h = h
+
+-- a call that no car from c on reaches is taken before
+taken_before : (reach : ℕ → ℕ) (all taken : ℕ → Bool) (c : ℕ) (cars : List CarChoice) (pick : ℕ → ℕ) → Reaches reach c cars → Completes all taken c cars pick → (j : ℕ) → all j ≡ true → has (reach c) j ≡ false → taken j ≡ true
+taken_before reach all taken c [] pick reaches done j every out = done j every
+taken_before reach all taken c (x ∷ cars) pick reaches done j every out =
+    let y = candidate_at x.candidates.items (pick c) in
+    let here = none_where (has y.calls j) (has (reach c) j) (reaches.0 (pick c) j done.0) out in
+    let later = none_where (has (reach (c + 1)) j) (has (reach c) j) (reaches.1 j) out in
+    or_left (taken j) (has y.calls j) here (taken_before reach all (and_also taken y.calls) (c + 1) cars pick reaches.2 done.2 j every later)
+
 -- a candidate with which no picks beat the cost
-pub not_beaten : (all taken : ℕ → Bool) (c : ℕ) (x : CarChoice) (cars : List CarChoice) (n beat : ℕ) (bound : ℤ) → AreSmall (x ∷ cars) → IsBound all taken c (x ∷ cars) bound → (MayBeat taken bound beat (candidate_at x.candidates.items n) → ⊥) → (pick : ℕ → ℕ) → pick c ≡ n → Completes all taken c (x ∷ cars) pick → beat ≤ picked_cost c (x ∷ cars) pick
-not_beaten all taken c x cars n beat bound small low never pick e done =
+pub not_fitting : (all taken due : ℕ → Bool) (reach : ℕ → ℕ) (c : ℕ) (x : CarChoice) (cars : List CarChoice) (n beat : ℕ) → Reaches reach c (x ∷ cars) → AreDue all taken due (reach (c + 1)) → (Fits taken due beat (candidate_at x.candidates.items n) → ⊥) → (pick : ℕ → ℕ) → pick c ≡ n → Completes all taken c (x ∷ cars) pick → beat ≤ picked_cost c (x ∷ cars) pick
+not_fitting all taken due reach c x cars n beat reaches are never pick e done =
     elim (cases_Bool (leb beat (picked_cost c (x ∷ cars) pick))) [
       | inl le ↦ leb-true beat (picked_cost c (x ∷ cars) pick) le
       | inr more ↦ absurd (let lt = leb-false beat (picked_cost c (x ∷ cars) pick) more in never (record {
-        bound = (let whole = low pick done in let rest = excess_low all (and_also taken (candidate_at x.candidates.items (pick c)).calls) (c + 1) cars pick small.1 done.2 in let first = ap (λ (k : ℕ). (candidate_at x.candidates.items k).excess) e in omega (arith, ints, whole, rest, first, lt));
         cost = (let at = ap (λ (k : ℕ). (candidate_at x.candidates.items k).cost) e in omega (arith, at, lt));
         apart = subst (λ (k : ℕ). (j : ℕ) → has (candidate_at x.candidates.items k).calls j ≡ true → taken j ≡ false) e done.1;
+        needed = λ j h. subst (λ (k : ℕ). has (candidate_at x.candidates.items k).calls j ≡ true) e (or_right (taken j) (has (candidate_at x.candidates.items (pick c)).calls j) (are j h).1 (taken_before reach all (and_also taken (candidate_at x.candidates.items (pick c)).calls) (c + 1) cars pick reaches.2 done.2 j (are j h).0 (are j h).2));
       }))
     ]
 
@@ -140,14 +178,17 @@ one_more n m = omega (arith)
 pub below_more : (k n : ℕ) → (ltb k n || (k == n)) ≡ ltb k (n + 1)
 below_more k n = grind (arith, nat_tests)
 
+below : (a b : ℤ) → (a ≤ℤ b → ⊥) → b <ℤ a
+below a b never = by_lt_z b a (λ lt. lt) (λ le. absurd (never le))
+
 -- the bound of the later cars leaves room too
-pub rest_range : (c : ℕ) (bound : ℤ) (x : Candidate) (beat : ℕ) (taken : ℕ → Bool) → IsInRange c bound → IsSmall x → MayBeat taken bound beat x → beat < 2 ^ 64 → IsInRange (c + 1) (rest_bound bound x)
-rest_range c bound x beat taken range small may fits =
+pub rest_range : (c : ℕ) (bound : ℤ) (x : Candidate) (beat : ℕ) → IsInRange c bound → IsSmall x → (ReachesCost bound beat x → ⊥) → beat < 2 ^ 64 → IsInRange (c + 1) (rest_bound bound x)
+rest_range c bound x beat range small not_far fits =
     let low = range.0 in
     let high = range.1 in
     let cost = small.cost in
     let positive = small.low in
-    let less = may.bound in
+    let less = below (scaled beat) (bound +ℤ x.excess) not_far in
     (omega (arith, ints, low, cost, positive), omega (arith, ints, less, fits, cost))
 
 pub range_up : (c : ℕ) (bound : ℤ) → c ≤ 16 → IsInRange c bound → IsInRange 16 bound

@@ -4,3 +4,5 @@ mod ChoosingLemmas
 pub mod PlanLemmas
 mod PriceLemmas
 mod PricedLemmas
+mod SortLemmas
+mod DemandLemmas

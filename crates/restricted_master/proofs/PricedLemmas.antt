@@ -9,7 +9,7 @@ use Rattle.search_model.proofs.SumLemmas.{int_sum-same}
 use Rattle.price_scale.specs.Scale.{IsPriceSum}
 use Rattle.elevator_model.specs.Tours.{none_taken}
 use Rattle.restricted_master.specs.declared.choosing.CarChoice.{CarChoice}
-use Rattle.restricted_master.specs.Choosing.{candidate_at, and_also, Completes, picked_cost, excess_sum, IsBound, AreSmall, IsInRange}
+use Rattle.restricted_master.specs.Choosing.{candidate_at, and_also, Completes, picked_cost, excess_sum, IsBound, AreSmall, AreRising, IsRising, IsInRange}
 use Rattle.restricted_master.specs.Priced.{prices_in, IsPriced, least_sum}
 
 -- the prices of the first n calls that are not taken
@@ -51,6 +51,10 @@ picked_is prices all every taken c (x ∷ choices) pick priced done =
 all_small : (prices : List ℤ) (choices : List CarChoice) → All (IsPriced prices) choices → AreSmall choices
 all_small prices [] priced = tt
 all_small prices (x ∷ choices) priced = ((priced 0 x (omega arith)).small, all_small prices choices (λ k d lt. priced (suc k) d (omega (arith, lt))))
+
+pub choices-rising : (choices : List CarChoice) → All (λ (x : CarChoice). IsRising x.candidates.items) choices → AreRising choices
+choices-rising [] rising = tt
+choices-rising (x ∷ choices) rising = (rising 0 x (omega arith), choices-rising choices (λ k d lt. rising (suc k) d (omega (arith, lt))))
 
 pub choices-small : (prices : List ℤ) (choices : List CarChoice) → All (IsPriced prices) choices → AreSmall choices
 choices-small = all_small

@@ -1,10 +1,11 @@
 -- One candidate for each car, such that no call is taken twice and none is left.
-use Rattle.std.specs.Prelude.{◌≡◌, ℕ, ◌+◌, ◌<◌, ◌≤◌, ◌||◌, List, [], ◌∷◌, length, Bool, true, false, slice_index, slice_index_or, Option, Some, None, ℤ, pos, neg_ℤ, ◌*◌, ◌^◌, ◌+ℤ◌, ◌-ℤ◌, ◌≤ℤ◌, ◌<ℤ◌}
+use Rattle.std.specs.Prelude.{◌≡◌, ℕ, ◌+◌, ◌<◌, ◌≤◌, ◌||◌, List, [], ◌∷◌, length, Bool, true, false, slice_index, slice_index_or, Option, Some, None, ℤ, pos, neg_ℤ, ◌*◌, ◌^◌, ◌+ℤ◌, ◌-ℤ◌, ◌≤ℤ◌}
 use Rattle.call_sets.specs.Counting.{has}
 use Rattle.search_model.specs.Prices.{scaled}
 use Rattle.restricted_master.specs.declared.choosing.Candidate.{Candidate}
 use Rattle.restricted_master.specs.declared.choosing.CarChoice.{CarChoice}
 use Rattle.restricted_master.specs.declared.choosing.Selection.{Selection}
+use Rattle.restricted_master.specs.declared.demands.Demand.{Demand}
 
 abbrev pub no_candidate : Candidate
 no_candidate = record { place = 0; cost = 0; calls = 0; excess = pos 0 }
@@ -77,11 +78,40 @@ AreSmall (x ∷ cars) = ((i : ℕ) → i < length x.candidates.items → IsSmall
 abbrev pub IsInRange : ℕ → ℤ → Type 0
 IsInRange c bound = (neg_ℤ (pos (10 ^ 28 + 10 ^ 21 * c)) ≤ℤ bound) × (bound ≤ℤ pos (10 ^ 28))
 
--- what picks need that go on with the candidate and cost less than the cost to beat
-pub record MayBeat (taken : ℕ → Bool) (low : ℤ) (beat : ℕ) (x : Candidate) : Type 0 where
-  pub bound : (low +ℤ x.excess) <ℤ scaled beat
+-- the bound and the candidate's excess reach the cost to beat
+abbrev pub ReachesCost : ℤ → ℕ → Candidate → Type 0
+ReachesCost bound beat x = scaled beat ≤ℤ (bound +ℤ x.excess)
+
+-- what picks need that go on with the candidate and cost less than the cost to beat: it takes no call twice, and
+-- each that is due now
+pub record Fits (taken due : ℕ → Bool) (beat : ℕ) (x : Candidate) : Type 0 where
   pub cost : x.cost < beat
   pub apart : (j : ℕ) → has x.calls j ≡ true → taken j ≡ false
+  pub needed : (j : ℕ) → due j ≡ true → has x.calls j ≡ true
+
+-- no candidate has a greater excess than a later one
+abbrev pub IsRising : List Candidate → Type 0
+IsRising xs = (i j : ℕ) → i ≤ j → j < length xs → (candidate_at xs i).excess ≤ℤ (candidate_at xs j).excess
+
+abbrev pub AreRising : List CarChoice → Type 0
+AreRising [] = Unit {0}
+AreRising (x ∷ cars) = IsRising x.candidates.items × AreRising cars
+
+-- the set has the calls of the candidates
+abbrev pub TakesAll : List Candidate → ℕ → Type 0
+TakesAll xs calls = (i j : ℕ) → i < length xs → has (candidate_at xs i).calls j ≡ true → has calls j ≡ true
+
+-- the set of each car from c on has the calls of its candidates and of those of the later cars
+abbrev pub Reaches : (reach : ℕ → ℕ) → ℕ → List CarChoice → Type 0
+Reaches reach c [] = Unit {0}
+Reaches reach c (x ∷ cars) = TakesAll x.candidates.items (reach c) × ((j : ℕ) → has (reach (c + 1)) j ≡ true → has (reach c) j ≡ true) × Reaches reach (c + 1) cars
+
+-- what is due can be taken by no later car: it is to be taken, is not yet, and is out of their reach
+abbrev pub AreDue : (all taken due : ℕ → Bool) → (later : ℕ) → Type 0
+AreDue all taken due later = (j : ℕ) → due j ≡ true → (all j ≡ true) × (taken j ≡ false) × (has later j ≡ false)
+
+abbrev pub reach_of : Demand → ℕ → ℕ
+reach_of demand c = slice_index demand.reach c
 
 -- the bound for the later cars once the candidate is taken
 abbrev pub rest_bound : ℤ → Candidate → ℤ

@@ -156,3 +156,24 @@ pub(crate) fn least_reduced_cost(columns: &[Column], prices: &[Price]) -> i128
     }
     least
 }
+
+/// The column of the least reduced cost at these prices, with that, in thousandths of a cost unit.
+pub(crate) fn cheapest_column<'a>(
+    columns: &'a [Column],
+    prices: &[Price],
+) -> Option<(&'a Column, i128)>
+    requires few { length prices.now ≤ 128 }
+    requires small { (k : ℕ) (d : Column) → k < length columns.now
+        → (slice_index_or columns.now k d).cost ≤ 10 ^ 18 }
+{
+    let mut cheapest = None;
+    let mut least = i128::MAX;
+    for column in columns {
+        let reduced_cost = column.reduced_cost(prices);
+        if reduced_cost < least {
+            least = reduced_cost;
+            cheapest = Some((column, least));
+        }
+    }
+    cheapest
+}

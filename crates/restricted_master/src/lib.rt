@@ -3,8 +3,10 @@
 //! Prices are in thousandths of a cost unit, costs in cost units. Cars and calls are named by their index, from 0.
 #![tactic(auto)]
 
+mod ascent;
 mod choosing;
 mod columns;
+mod demands;
 mod pools;
 mod prices;
 mod selecting;

@@ -4,7 +4,7 @@ ghost use Rattle.std.specs.Prelude.{◌≡◌, ℕ, ◌≤◌, ◌<◌, IfOk, le
 ghost use Rattle.elevator_model.specs.Snapshot.{car_count};
 ghost use Rattle.elevator_model.specs.Tours.{IsFeasible};
 
-use crate::choosing::CarChoice;
+use crate::choosing::{CarChoice, sort_by_excess};
 use crate::columns::{Column, Columns, least_reduced_cost};
 use call_state::Snapshot;
 use elevator_model::Tour;
@@ -38,6 +38,7 @@ impl<'a> Model for Pool<'a> {
 
 impl<'a> Pool<'a> {
     ghost use Rattle.restricted_master.specs.Choices.{AreCandidates};
+    ghost use Rattle.restricted_master.specs.Choosing.{IsRising};
     ghost use Rattle.restricted_master.specs.Columns.{IsColumn, tours_of};
     ghost use Rattle.restricted_master.specs.Priced.{IsPriced};
     ghost use Rattle.restricted_master.specs.Pools.{IsEmptyPool, IsPool, tours_of_car, with_tour_of_car};
@@ -90,8 +91,27 @@ impl<'a> Pool<'a> {
         self.cars.len()
     }
 
-    /// The car's tours as candidates at these prices.
+    /// The car's tours as candidates at these prices, by rising reduced cost.
     pub(crate) fn choice(
+        &self,
+        alloc: Global,
+        car: usize,
+        prices: &[Price],
+    ) -> Result<CarChoice, AllocError>
+        requires car { car < car_count self.now.snapshot }
+        requires few { length prices.now ≤ 128 }
+        ensures candidates { IfOk result
+            (λ x. AreCandidates self.now.snapshot car (tours_of_car self.now car) x.candidates.items) }
+        ensures priced { IfOk result (IsPriced prices.now) }
+        ensures rising { IfOk result (λ x. IsRising x.candidates.items) }
+    {
+        let mut choice = self.candidates(alloc, car, prices)?;
+        sort_by_excess(choice.candidates.as_mut_slice());
+        Ok(choice)
+    }
+
+    /// The car's tours as candidates at these prices, in the order in which they were put in.
+    fn candidates(
         &self,
         alloc: Global,
         car: usize,

@@ -41,7 +41,7 @@ fn moved(price: Price, count: u32, step: i128) -> Price
 }
 
 /// The price that is nearest to this many thousandths.
-fn cut_price(value: i128) -> Price
+pub(crate) fn cut_price(value: i128) -> Price
     ensures { result ≡ cut value }
 {
     match Price::new(value.min(MOST_PRICE).max(-MOST_PRICE)) {

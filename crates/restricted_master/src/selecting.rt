@@ -6,6 +6,7 @@ ghost use Rattle.elevator_model.specs.Snapshot.{call_count, car_count};
 ghost use Rattle.restricted_master.specs.Priced.{least_sum};
 
 use crate::choosing::{CarChoice, Selection, cheapest};
+use crate::demands::Demand;
 use crate::pools::Pool;
 use crate::prices::prices_of;
 use call_sets::CallSet;
@@ -34,14 +35,23 @@ struct Found {
 impl<'a> Pool<'a> {
     ghost use Rattle.restricted_master.specs.Pools.{IsCheapest, IsMadeOf, cost_of_choice, selection_count, tours_of_car};
     ghost use Rattle.restricted_master.specs.declared.choosing.CarChoice.{CarChoice};
-    ghost use Rattle.restricted_master.specs.Choosing.{picks};
+    ghost use Rattle.restricted_master.specs.Choosing.{IsRising, picks};
     ghost use Rattle.restricted_master.specs.Priced.{IsPriced};
     ghost use Rattle.restricted_master.specs.Choices.{AreCandidates, AreChoices, IsPicked, CanPick, IsPlanPick, IsCheapestPick};
 
     /// The cheapest feasible plan that is made of tours of the pool, found depth first over the cars. A partial
     /// selection is one tour for each of the first cars, of none up to all; at most `limit` of them are tried.
     /// It fails only where there is no memory left.
-    pub fn select(&self, alloc: Global, prices: &[Price], limit: u64) -> Result<Choice, AllocError>
+    ///
+    /// The prices, of which each call has one, and the target, such as what the best known plan costs, in cost units,
+    /// only tell where the search begins: they may change how many partial selections it tries.
+    pub fn select(
+        &self,
+        alloc: Global,
+        prices: &[Price],
+        target: u64,
+        limit: u64,
+    ) -> Result<Choice, AllocError>
         requires prices { length prices.now ≡ call_count self.now.snapshot }
         requires limit { 1 ≤ limit }
         ensures plan { IfOk result (λ choice. IfSome choice.plan (IsMadeOf self.now)) }
@@ -55,6 +65,8 @@ impl<'a> Pool<'a> {
             (λ choice. 34 ^ car_count self.now.snapshot ≤ limit → choice.spent ≡ false) }
     {
         prove!(self.snapshot().calls().len() <= 128);
+        let raised = self.raised(alloc, prices, target)?;
+        let prices = raised.as_slice();
         let choices = self.choices(alloc, prices)?;
         let found = self.best_picks(&choices, prices, limit);
         let Some(picked) = found.picked else {
@@ -76,6 +88,7 @@ impl<'a> Pool<'a> {
         requires choices { AreChoices self.now choices.now }
         requires prices { length prices.now ≡ call_count self.now.snapshot }
         requires priced { All (IsPriced prices.now) choices.now }
+        requires rising { All (λ x. IsRising x.candidates.items) choices.now }
         ensures few { length choices.now ≤ 16 }
         ensures picked { IfSome result.picked (IsPlanPick self.now choices.now) }
         ensures cheapest { result.spent ≡ false → IsCheapestPick self.now result.picked }
@@ -83,12 +96,13 @@ impl<'a> Pool<'a> {
         ensures ample { 34 ^ car_count self.now.snapshot ≤ limit → result.spent ≡ false }
     {
         let all = first_calls(self.snapshot().calls().len());
+        let demand = Demand::new(all, choices, 0);
         let mut left = limit;
         let bound = prices_of(prices, all) + sum_of_least(choices);
         let picked = cheapest(
             choices,
             0,
-            all,
+            &demand,
             CallSet::empty(),
             bound,
             u64::MAX,
@@ -105,6 +119,8 @@ impl<'a> Pool<'a> {
         requires { length prices.now ≤ 128 }
         ensures choices { IfOk result (λ choices. AreChoices self.now choices.items) }
         ensures priced { IfOk result (λ choices. All (IsPriced prices.now) choices.items) }
+        ensures rising { IfOk result
+            (λ choices. All (λ x. IsRising x.candidates.items) choices.items) }
     {
         let cars = self.cars();
         let mut choices = Vec::with_capacity(alloc, cars)?;

@@ -2,7 +2,6 @@ use Rattle.std.proofs.Common.{◌≡◌, ◌<◌, ◌∙◌, [], sym, ap, subst,
 use Rattle.std.specs.List.{All}
 use Rattle.std.proofs.lemmas.List.{get_or_read}
 use Rattle.elevator_model.specs.Snapshot.{car_count}
-use Rattle.restricted_master.specs.declared.columns.Column.{Column}
 use Rattle.restricted_master.specs.Columns.{IsColumn, columns_of, tours_of}
 use Rattle.restricted_master.specs.Pools.{TourPool, tours_of_car}
 use Rattle.restricted_master.proofs.PoolLemmas.{tours-columns}

@@ -1,4 +1,4 @@
-use Rattle.std.proofs.Common.{arith}
+use Rattle.std.proofs.Common.{length, ap, arith}
 use Rattle.tour_cost.proofs.Short.{calls-le}
 use Rattle.restricted_master.proofs.pools.Pool.select.Goals as goal
 
@@ -6,4 +6,6 @@ pub choices-requires : goal.choices-requires
 choices-requires c =
     let few = calls-le c.args.self.now.snapshot c.snapshot.ensures.pool.accepted in
     let long = c.requires.prices in
-    omega (arith, few, long)
+    let same = c.in_ok-raised.ensures in
+    let slice = ap length c.as_slice-prices.ensures.value in
+    omega (arith, few, long, same, slice)

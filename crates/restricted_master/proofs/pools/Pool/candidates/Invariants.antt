@@ -3,7 +3,7 @@ use Rattle.std.proofs.Common.{◌≡◌, ◌<◌, ℕ, length, get_or}
 use Rattle.restricted_master.specs.declared.columns.Column.{Column}
 use Rattle.restricted_master.specs.Choosing.{candidate_at, IsSmall}
 use Rattle.restricted_master.specs.Priced.{candidate_of}
-use Rattle.restricted_master.proofs.pools.Pool.choice.Given as goal
+use Rattle.restricted_master.proofs.pools.Pool.candidates.Given as goal
 
 abbrev pub invariant-loop-place : goal.invariant-loop-place
 invariant-loop-place l = record {
