@@ -18,7 +18,7 @@ loop-car-preserved c =
     let is = c.in_ok-push.ensures.items in
     record {
       counted = (let long = ap length is in let whole = length-append c.loop-car.choices.items (x ∷ []) in let counted = iv.counted in omega (arith, long, whole, counted));
-      priced = subst (All (IsPriced c.args.prices.now)) (sym is) (All-push (IsPriced c.args.prices.now) c.loop-car.choices.items x iv.priced c.in_ok-choice.ensures.priced);
-      rising = subst (All (λ (y : CarChoice). IsRising y.candidates.items)) (sym is) (All-push (λ (y : CarChoice). IsRising y.candidates.items) c.loop-car.choices.items x iv.rising c.in_ok-choice.ensures.rising);
-      each = subst (λ (l : List CarChoice). (k : ℕ) (d : CarChoice) → k < c.loop-car.car + 1 → AreCandidates pool.snapshot k (tours_of_car pool k) (get_or l k d).candidates.items) (sym is) more;
+      priced = subst (All (IsPriced c.args.prices.now)) (sym {A = List CarChoice} is) (All-push (IsPriced c.args.prices.now) c.loop-car.choices.items x iv.priced c.in_ok-choice.ensures.priced);
+      rising = subst (All (λ (y : CarChoice). IsRising y.candidates.items)) (sym {A = List CarChoice} is) (All-push (λ (y : CarChoice). IsRising y.candidates.items) c.loop-car.choices.items x iv.rising c.in_ok-choice.ensures.rising);
+      each = subst (λ (l : List CarChoice). (k : ℕ) (d : CarChoice) → k < c.loop-car.car + 1 → AreCandidates pool.snapshot k (tours_of_car pool k) (get_or l k d).candidates.items) (sym {A = List CarChoice} is) more;
     }

@@ -1,0 +1,97 @@
+//! All plans that are made of tours of a pool.
+
+use call_state::Snapshot;
+use elevator_model::{Plan, Tour};
+use restricted_master::{MOST_TOURS, Pool};
+use std::alloc::{AllocError, Global};
+use tour_cost::{judge_plan, plan_cost};
+
+/// What a feasible plan costs, and None for another one.
+pub(crate) fn price(snapshot: &Snapshot, plan: &Plan) -> Option<u64> {
+    if plan.tours().len() != snapshot.building().cars().len() {
+        return None;
+    }
+    match judge_plan(snapshot, plan) {
+        Ok(()) => Some(plan_cost(snapshot, plan)),
+        Err(_) => None,
+    }
+}
+
+/// How many tours of the car the pool has.
+pub(crate) fn count_of(pool: &Pool<'_>, car: u32) -> u64 {
+    let mut count: u64 = 0;
+    for place in 0..MOST_TOURS {
+        if pool.tour(car, place).is_some() {
+            count = count.wrapping_add(1);
+        }
+    }
+    count
+}
+
+/// How many cars there are.
+fn cars_of(pool: &Pool<'_>) -> u32 {
+    pool.snapshot().building().cars().len() as u32
+}
+
+/// How many ways there are to take a tour of each car.
+pub(crate) fn ways(pool: &Pool<'_>) -> u64 {
+    let mut ways: u64 = 1;
+    for car in 0..cars_of(pool) {
+        ways = ways.wrapping_mul(count_of(pool, car));
+    }
+    ways
+}
+
+/// How many partial selections there are: tours of the first cars, of none up to all.
+pub(crate) fn selections(pool: &Pool<'_>) -> u64 {
+    let (mut ways, mut sum): (u64, u64) = (1, 1);
+    for car in 0..cars_of(pool) {
+        ways = ways.wrapping_mul(count_of(pool, car));
+        sum = sum.wrapping_add(ways);
+    }
+    sum
+}
+
+/// The plan of one of these ways, which are numbered from 0.
+fn plan_of(alloc: Global, pool: &Pool<'_>, way: u64) -> Result<Plan, AllocError> {
+    let mut plan = Plan::new(alloc);
+    let mut left = way;
+    for car in 0..cars_of(pool) {
+        let count = count_of(pool, car).max(1);
+        if let Some(tour) = pool.tour(car, (left % count) as usize) {
+            plan.push(tour.copy(alloc)?)?;
+        }
+        left /= count;
+    }
+    Ok(plan)
+}
+
+/// The least cost of a feasible plan that is made of tours of the pool. None where there is no such plan.
+pub(crate) fn least_cost(alloc: Global, pool: &Pool<'_>) -> Result<Option<u64>, AllocError> {
+    let mut least: Option<u64> = None;
+    for way in 0..ways(pool) {
+        if let Some(cost) = price(pool.snapshot(), &plan_of(alloc, pool, way)?) {
+            least = Some(least.unwrap_or(cost).min(cost));
+        }
+    }
+    Ok(least)
+}
+
+fn has_tour(pool: &Pool<'_>, car: u32, tour: &Tour) -> bool {
+    for place in 0..MOST_TOURS {
+        if pool.tour(car, place) == Some(tour) {
+            return true;
+        }
+    }
+    false
+}
+
+/// Whether each tour of the plan is one of the pool.
+pub(crate) fn is_pooled(pool: &Pool<'_>, plan: &Plan) -> bool {
+    for (car, tour) in plan.tours().iter().enumerate() {
+        if !has_tour(pool, u32::try_from(car).unwrap_or(u32::MAX), tour) {
+            return false;
+        }
+    }
+    true
+}

@@ -1,0 +1,137 @@
+//! A case: a snapshot, pools of its tours, and what is selected at some prices and limits.
+
+ghost use Rattle.std.specs.Prelude.{◌≡◌, ◌≤◌, length};
+ghost use Rattle.elevator_model.specs.Snapshot.{call_count};
+
+use crate::draws::Draws;
+use crate::fills::{fill, prices_of};
+use crate::listing::{is_pooled, least_cost, price, selections, ways};
+use crate::tally::Tally;
+use call_state::Snapshot;
+use case_maker::make;
+use price_scale::Price;
+use restricted_master::{Choice, Pool};
+use std::alloc::{AllocError, Global};
+
+/// A limit that no pool of three cars comes to.
+const FAR: u64 = 40_000;
+
+/// More plans are not listed.
+const MOST_WAYS: u64 = 1500;
+
+/// What is known of a pool from its list of plans.
+#[derive(Clone, Copy)]
+struct Known {
+    /// The least cost of a plan, where there is one.
+    least: Option<u64>,
+    selections: u64,
+}
+
+/// Compares a choice that was made with this limit.
+fn note_choice(pool: &Pool<'_>, known: Known, limit: u64, choice: &Choice, tally: &mut Tally) {
+    match &choice.plan {
+        Some(plan) => {
+            let cost = price(pool.snapshot(), plan);
+            tally
+                .plans
+                .note(cost == Some(choice.cost) && is_pooled(pool, plan));
+        }
+        None => tally.none.note(choice.cost == 0),
+    }
+    if choice.spent {
+        tally.spent.note(limit <= known.selections);
+    } else {
+        let found = choice.plan.as_ref().map(|_| choice.cost);
+        tally.least.note(found == known.least);
+    }
+    if limit < 30 {
+        tally.short = tally.short.wrapping_add(1);
+        tally.short_whole = tally.short_whole.wrapping_add(u64::from(!choice.spent));
+    }
+    if limit == FAR {
+        tally.ample.note(!choice.spent);
+    }
+    if limit == 1 {
+        tally.first.note(choice.spent && choice.plan.is_none());
+    }
+}
+
+/// Selects with this limit, and compares the choice.
+fn compare_limit(
+    alloc: Global,
+    pool: &Pool<'_>,
+    prices: &[Price],
+    target: u64,
+    limit: u64,
+    known: Known,
+    tally: &mut Tally,
+) -> Result<(), AllocError>
+    requires { length prices.now ≡ call_count pool.now.snapshot }
+{
+    if limit == 0 {
+        return Ok(());
+    }
+    let choice = pool.select(alloc, prices, target, limit)?;
+    note_choice(pool, known, limit, &choice, tally);
+    Ok(())
+}
+
+/// Selects at drawn prices with several limits, and compares the choices.
+fn compare_pool(
+    alloc: Global,
+    pool: &Pool<'_>,
+    draws: &mut Draws,
+    tally: &mut Tally,
+) -> Result<(), AllocError> {
+    let calls = pool.snapshot().calls().len();
+    let prices = prices_of(alloc, calls, draws)?;
+    if prices.len() != calls {
+        return Ok(());
+    }
+    let known = Known {
+        least: least_cost(alloc, pool)?,
+        selections: selections(pool),
+    };
+    let half = known.least.unwrap_or(70_000) / 2;
+    let target = half.wrapping_mul(u64::from(draws.below(5)));
+    for limit in [
+        FAR,
+        1,
+        2,
+        u64::from(draws.below(30)),
+        u64::from(draws.below(400)),
+    ] {
+        compare_limit(alloc, pool, &prices, target, limit, known, tally)?;
+    }
+    Ok(())
+}
+
+/// Draws a pool of the snapshot's tours and compares what is selected. A pool with too many plans is counted.
+fn compare_snapshot(
+    alloc: Global,
+    snapshot: &Snapshot,
+    draws: &mut Draws,
+    tally: &mut Tally,
+) -> Result<(), AllocError> {
+    let mut pool = Pool::new(alloc, snapshot)?;
+    fill(alloc, &mut pool, draws)?;
+    if ways(&pool) > MOST_WAYS {
+        tally.too_many = tally.too_many.wrapping_add(1);
+        return Ok(());
+    }
+    tally.pools = tally.pools.wrapping_add(1);
+    compare_pool(alloc, &pool, draws, tally)
+}
+
+/// Draws a snapshot and three pools of its tours, and compares what is selected.
+pub(crate) fn compare_case(alloc: Global, case: u64, tally: &mut Tally) -> Result<(), AllocError> {
+    let mut draws = Draws::of_case(case);
+    let floors = 3 + draws.below(4);
+    let cars = 1 + draws.below(3);
+    let calls = draws.below(5);
+    let snapshot = make(alloc, case, floors, cars, calls)?;
+    for _ in 0..3 {
+        compare_snapshot(alloc, &snapshot, &mut draws, tally)?;
+    }
+    Ok(())
+}

@@ -1,0 +1,85 @@
+//! How many checks were made, and how many failed.
+
+use std::io;
+
+/// The checks of one kind.
+#[derive(Clone, Copy, Default)]
+pub(crate) struct Checks {
+    made: u64,
+    wrong: u64,
+}
+
+impl Checks {
+    /// Counts a check, which failed unless it is right.
+    pub(crate) fn note(&mut self, is_right: bool) {
+        self.made = self.made.wrapping_add(1);
+        self.wrong = self.wrong.wrapping_add(u64::from(!is_right));
+    }
+
+    fn print(&self, rt: &HostRuntime, kind: &str) -> io::Result<()> {
+        println!(rt; "{} {} wrong {}", kind, self.made, self.wrong)
+    }
+}
+
+/// What all comparisons came to.
+#[derive(Clone, Copy, Default)]
+pub(crate) struct Tally {
+    /// How many pools were compared.
+    pub(crate) pools: u64,
+    /// How many were left out, since there are too many plans.
+    pub(crate) too_many: u64,
+    /// A plan that is given is feasible, made of tours of the pool, and has the stated cost.
+    pub(crate) plans: Checks,
+    /// Where no plan is given, the cost is 0.
+    pub(crate) none: Checks,
+    /// Where the choice is not spent, it is a plan of the least cost, or there is no plan.
+    pub(crate) least: Checks,
+    /// Where it is spent, the pool has as many partial selections as the limit.
+    pub(crate) spent: Checks,
+    /// A limit that is great enough is not reached.
+    pub(crate) ample: Checks,
+    /// The limit 1 is reached before there is a plan.
+    pub(crate) first: Checks,
+    /// How many choices were made with a limit of less than 30, and how many of them did not reach it.
+    pub(crate) short: u64,
+    pub(crate) short_whole: u64,
+    /// A case that was worked out by hand.
+    pub(crate) worked: Checks,
+}
+
+impl Tally {
+    /// Each kind of checks, with the word that is printed for it.
+    fn kinds(&self) -> [(&'static str, Checks); 7] {
+        [
+            ("plans", self.plans),
+            ("none", self.none),
+            ("least", self.least),
+            ("spent", self.spent),
+            ("ample", self.ample),
+            ("first", self.first),
+            ("worked", self.worked),
+        ]
+    }
+
+    /// Whether no check failed, and there were some of each kind.
+    pub(crate) fn is_right(&self) -> bool {
+        for (_, checks) in self.kinds() {
+            if checks.made == 0 || checks.wrong != 0 {
+                return false;
+            }
+        }
+        true
+    }
+
+    /// Prints the tally, a line for each kind of checks.
+    pub(crate) fn print(&self, rt: &HostRuntime) -> io::Result<()> {
+        println!(rt; "pools {} too many plans {}", self.pools, self.too_many)?;
+        for (kind, checks) in self.kinds() {
+            checks.print(rt, kind)?;
+        }
+        println!(rt;
+            "whole within 30 tries {} of {}",
+            self.short_whole, self.short
+        )
+    }
+}
