@@ -178,8 +178,8 @@ one_more n m = omega (arith)
 pub below_more : (k n : ℕ) → (ltb k n || (k == n)) ≡ ltb k (n + 1)
 below_more k n = grind (arith, nat_tests)
 
-below : (a b : ℤ) → (a ≤ℤ b → ⊥) → b <ℤ a
-below a b never = by_lt_z b a (λ lt. lt) (λ le. absurd (never le))
+at_most : (a b : ℤ) → (a <ℤ b → ⊥) → b ≤ℤ a
+at_most a b never = by_lt_z a b (λ lt. absurd (never lt)) (λ le. le)
 
 -- the bound of the later cars leaves room too
 pub rest_range : (c : ℕ) (bound : ℤ) (x : Candidate) (beat : ℕ) → IsInRange c bound → IsSmall x → (ReachesCost bound beat x → ⊥) → beat < 2 ^ 64 → IsInRange (c + 1) (rest_bound bound x)
@@ -188,7 +188,7 @@ rest_range c bound x beat range small not_far fits =
     let high = range.1 in
     let cost = small.cost in
     let positive = small.low in
-    let less = below (scaled beat) (bound +ℤ x.excess) not_far in
+    let less = at_most (scaled beat) (bound +ℤ x.excess +ℤ pos 1000) not_far in
     (omega (arith, ints, low, cost, positive), omega (arith, ints, less, fits, cost))
 
 pub range_up : (c : ℕ) (bound : ℤ) → c ≤ 16 → IsInRange c bound → IsInRange 16 bound

@@ -1,5 +1,5 @@
 -- One candidate for each car, such that no call is taken twice and none is left.
-use Rattle.std.specs.Prelude.{◌≡◌, ℕ, ◌+◌, ◌<◌, ◌≤◌, ◌||◌, List, [], ◌∷◌, length, Bool, true, false, slice_index, slice_index_or, Option, Some, None, ℤ, pos, neg_ℤ, ◌*◌, ◌^◌, ◌+ℤ◌, ◌-ℤ◌, ◌≤ℤ◌}
+use Rattle.std.specs.Prelude.{◌≡◌, ℕ, ◌+◌, ◌<◌, ◌≤◌, ◌||◌, List, [], ◌∷◌, length, Bool, true, false, slice_index, slice_index_or, Option, Some, None, ℤ, pos, neg_ℤ, ◌*◌, ◌^◌, ◌+ℤ◌, ◌-ℤ◌, ◌≤ℤ◌, ◌<ℤ◌}
 use Rattle.call_sets.specs.Counting.{has}
 use Rattle.search_model.specs.Prices.{scaled}
 use Rattle.restricted_master.specs.declared.choosing.Candidate.{Candidate}
@@ -78,9 +78,9 @@ AreSmall (x ∷ cars) = ((i : ℕ) → i < length x.candidates.items → IsSmall
 abbrev pub IsInRange : ℕ → ℤ → Type 0
 IsInRange c bound = (neg_ℤ (pos (10 ^ 28 + 10 ^ 21 * c)) ≤ℤ bound) × (bound ≤ℤ pos (10 ^ 28))
 
--- the bound and the candidate's excess reach the cost to beat
+-- the bound and the candidate's excess reach the cost to beat, once they are rounded up to whole cost units
 abbrev pub ReachesCost : ℤ → ℕ → Candidate → Type 0
-ReachesCost bound beat x = scaled beat ≤ℤ (bound +ℤ x.excess)
+ReachesCost bound beat x = scaled beat <ℤ (bound +ℤ x.excess +ℤ pos 1000)
 
 -- what picks need that go on with the candidate and cost less than the cost to beat: it takes no call twice, and
 -- each that is due now

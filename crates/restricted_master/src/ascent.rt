@@ -63,9 +63,9 @@ impl Course {
         course
     }
 
-    /// Whether the bound has reached the target.
+    /// Whether the bound, rounded up to whole cost units, has reached the target.
     fn has_arrived(&self) -> bool {
-        self.bound >= self.target
+        self.target < self.bound.saturating_add(SCALE)
     }
 
     /// Notes a turn, and says whether its bound is the greatest so far.
