@@ -17,7 +17,7 @@ use tally::Tally;
 use worked::compare_worked;
 
 /// How many snapshots are drawn.
-const CASES: u64 = 300;
+const CASES: u64 = 3000;
 
 fn main(rt: HostRuntime) -> io::Result<ExitCode> {
     let mut tally = Tally::default();

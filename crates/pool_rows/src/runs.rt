@@ -44,10 +44,6 @@ fn note_choice(pool: &Pool<'_>, known: Known, limit: u64, choice: &Choice, tally
         let found = choice.plan.as_ref().map(|_| choice.cost);
         tally.least.note(found == known.least);
     }
-    if limit < 30 {
-        tally.short = tally.short.wrapping_add(1);
-        tally.short_whole = tally.short_whole.wrapping_add(u64::from(!choice.spent));
-    }
     if limit == FAR {
         tally.ample.note(!choice.spent);
     }
@@ -106,7 +102,27 @@ fn compare_pool(
     Ok(())
 }
 
-/// Draws a pool of the snapshot's tours and compares what is selected. A pool with too many plans is counted.
+/// Selects from a pool with too many plans to list: once with a limit that is not reached, and then with what was found
+/// as the target and a limit of 20, which is to give the same unless it is spent.
+fn compare_large(alloc: Global, pool: &Pool<'_>, tally: &mut Tally) -> Result<(), AllocError> {
+    let calls = pool.snapshot().calls().len();
+    let Some(price) = Price::new(0) else {
+        return Ok(());
+    };
+    let prices = [price; 4];
+    let Some(prices) = prices.get(..calls) else {
+        return Ok(());
+    };
+    let whole = pool.select(alloc, prices, 0, FAR)?;
+    let short = pool.select(alloc, prices, whole.cost, 20)?;
+    tally
+        .large
+        .note(!whole.spent && (short.spent || short.cost == whole.cost));
+    tally.quick = tally.quick.wrapping_add(u64::from(!short.spent));
+    Ok(())
+}
+
+/// Draws a pool of the snapshot's tours and compares what is selected.
 fn compare_snapshot(
     alloc: Global,
     snapshot: &Snapshot,
@@ -116,8 +132,7 @@ fn compare_snapshot(
     let mut pool = Pool::new(alloc, snapshot)?;
     fill(alloc, &mut pool, draws)?;
     if ways(&pool) > MOST_WAYS {
-        tally.too_many = tally.too_many.wrapping_add(1);
-        return Ok(());
+        return compare_large(alloc, &pool, tally);
     }
     tally.pools = tally.pools.wrapping_add(1);
     compare_pool(alloc, &pool, draws, tally)

@@ -26,8 +26,6 @@ impl Checks {
 pub(crate) struct Tally {
     /// How many pools were compared.
     pub(crate) pools: u64,
-    /// How many were left out, since there are too many plans.
-    pub(crate) too_many: u64,
     /// A plan that is given is feasible, made of tours of the pool, and has the stated cost.
     pub(crate) plans: Checks,
     /// Where no plan is given, the cost is 0.
@@ -40,16 +38,17 @@ pub(crate) struct Tally {
     pub(crate) ample: Checks,
     /// The limit 1 is reached before there is a plan.
     pub(crate) first: Checks,
-    /// How many choices were made with a limit of less than 30, and how many of them did not reach it.
-    pub(crate) short: u64,
-    pub(crate) short_whole: u64,
+    /// Of a pool with too many plans to list, a choice with a low limit has the least cost, unless it is spent.
+    pub(crate) large: Checks,
+    /// How many of these were not spent.
+    pub(crate) quick: u64,
     /// A case that was worked out by hand.
     pub(crate) worked: Checks,
 }
 
 impl Tally {
     /// Each kind of checks, with the word that is printed for it.
-    fn kinds(&self) -> [(&'static str, Checks); 7] {
+    fn kinds(&self) -> [(&'static str, Checks); 8] {
         [
             ("plans", self.plans),
             ("none", self.none),
@@ -57,6 +56,7 @@ impl Tally {
             ("spent", self.spent),
             ("ample", self.ample),
             ("first", self.first),
+            ("large", self.large),
             ("worked", self.worked),
         ]
     }
@@ -73,13 +73,10 @@ impl Tally {
 
     /// Prints the tally, a line for each kind of checks.
     pub(crate) fn print(&self, rt: &HostRuntime) -> io::Result<()> {
-        println!(rt; "pools {} too many plans {}", self.pools, self.too_many)?;
+        println!(rt; "pools {}", self.pools)?;
         for (kind, checks) in self.kinds() {
             checks.print(rt, kind)?;
         }
-        println!(rt;
-            "whole within 30 tries {} of {}",
-            self.short_whole, self.short
-        )
+        println!(rt; "large pools within 20 tries {}", self.quick)
     }
 }

@@ -21,11 +21,25 @@ const TURNS: u32 = 60;
 struct Turn {
     /// The prices and the least reduced costs together, in thousandths of a cost unit.
     bound: i128,
-    /// For each call 1 less the number of the cheapest tours that take it.
+    /// For each call 1 less the number of the cheapest tours that take it, and 0 where there is no call.
     lacks: [i128; MOST_CALLS],
 }
 
 impl Turn {
+    /// Before any tour is noted.
+    fn new(prices: &[Price]) -> Self
+        requires { length prices.now ≤ 128 }
+    {
+        let mut lacks = [0; MOST_CALLS];
+        for (lack, _) in lacks.iter_mut().zip(prices) {
+            *lack = 1;
+        }
+        Turn {
+            bound: sum_prices(prices),
+            lacks,
+        }
+    }
+
     /// Notes the cheapest tour of a car.
     fn note(&mut self, reduced_cost: i128, calls: CallSet) {
         self.bound = self.bound.saturating_add(reduced_cost);
@@ -113,10 +127,7 @@ impl<'a> Pool<'a> {
     fn turn(&self, prices: &[Price]) -> Turn
         requires { length prices.now ≤ 128 }
     {
-        let mut turn = Turn {
-            bound: sum_prices(prices),
-            lacks: [1; MOST_CALLS],
-        };
+        let mut turn = Turn::new(prices);
         let cars = self.snapshot().building().cars().len();
         for car in 0..cars {
             let columns = self.columns(car as u32);
