@@ -1,7 +1,9 @@
+//! Buildings: the first bad line of a text, and canonical texts that are written back.
+
 ghost use Rattle.std.specs.Prelude.{◌<◌};
 
-use crate::{read_building, write_building};
-use byte_streams::MemorySource;
+use crate::makers::source_of;
+use building_text::{read_building, write_building};
 use lift_text::{LineReader, TextFault, put_line, put_word, put_words};
 use std::alloc::Global;
 use std::test::Fail;
@@ -10,8 +12,7 @@ use std::test::Fail;
 fn outcome(alloc: Global, bytes: &[u8], each: usize) -> Result<(u64, u8), Fail>
     requires { 0 < each }
 {
-    let bytes = Vec::from_slice(alloc, bytes)?;
-    let mut source = MemorySource::new(bytes, each, Vec::new(alloc));
+    let mut source = source_of(alloc, bytes, each)?;
     let mut lines = LineReader::new(alloc, &mut source)?;
     match read_building(alloc, &mut lines) {
         Ok(building) => Ok((0, building.version())),
@@ -22,8 +23,7 @@ fn outcome(alloc: Global, bytes: &[u8], each: usize) -> Result<(u64, u8), Fail>
 
 /// Whether a text is read and written as the same bytes.
 fn is_canonical(alloc: Global, text: &[u8]) -> Result<bool, Fail> {
-    let bytes = Vec::from_slice(alloc, text)?;
-    let mut source = MemorySource::new(bytes, 7, Vec::new(alloc));
+    let mut source = source_of(alloc, text, 7)?;
     let mut lines = LineReader::new(alloc, &mut source)?;
     match read_building(alloc, &mut lines) {
         Ok(building) => {

@@ -1,50 +1,13 @@
+//! Snapshots: what is read of a text and written again, and the first bad line of others.
+
 ghost use Rattle.std.specs.Prelude.{◌≤◌};
 
-use crate::{read_opening, read_snapshot, write_snapshot};
-use byte_streams::MemorySource;
-use call_sets::FloorSet;
-use call_state::{Building, BuildingParts, CarSpec, Snapshot, Travel};
+use crate::makers::{house, source_of};
+use call_state::Snapshot;
 use lift_text::{LineReader, TextFault, put_line, put_words};
+use snapshot_text::{read_opening, read_snapshot, write_snapshot};
 use std::alloc::Global;
 use std::test::Fail;
-
-/// Car 7 serves all four floors, car 3 the lower three.
-fn house(alloc: Global) -> Result<Building, Fail> {
-    let times = [
-        0, 4000, 6000, 8000, 4000, 0, 4000, 6000, 6000, 4000, 0, 4000, 8000, 6000, 4000, 0,
-    ];
-    let tall = CarSpec {
-        id: 7,
-        capacity: 8,
-        opening: 1000,
-        closing: 1000,
-        boarding: 500,
-        alighting: 500,
-        serves: FloorSet::lowest(4),
-    };
-    let low = CarSpec {
-        id: 3,
-        capacity: 2,
-        opening: 900,
-        closing: 1100,
-        boarding: 500,
-        alighting: 500,
-        serves: FloorSet::lowest(3),
-    };
-    let parts = BuildingParts {
-        version: 1,
-        heights: Vec::from_slice(alloc, &[0, 4000, 8000, 12000])?,
-        speed: 2000,
-        accel: 1000,
-        wait_weight: 1,
-        travel_weight: 1,
-        patience: 0,
-        patience_weight: 0,
-        cars: Vec::from_slice(alloc, &[tall, low])?,
-        travel: Travel::build(4, Vec::from_slice(alloc, &times)?)?,
-    };
-    Ok(Building::build(alloc, parts)?)
-}
 
 /// What is read of a text that comes in pieces, and the words of the line behind it.
 fn read(
@@ -55,7 +18,7 @@ fn read(
 ) -> Result<(Result<Snapshot, TextFault>, u32), Fail>
     requires { 1 ≤ each }
 {
-    let mut source = MemorySource::new(Vec::from_slice(alloc, bytes)?, each, Vec::new(alloc));
+    let mut source = source_of(alloc, bytes, each)?;
     let mut lines = LineReader::new(alloc, &mut source)?;
     let building = house(alloc)?;
     let answer = if is_opening {

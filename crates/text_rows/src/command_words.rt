@@ -1,6 +1,7 @@
 //! Tables of words. A line's words stand between single spaces, so that two spaces have an empty word
 //! between them; the first word is the program's name.
-use crate::{CaseSizes, Request, SolveOptions, WordsFault, read_words};
+
+use lift_words::{CaseSizes, Request, SolveOptions, WordsFault, read_words};
 use std::alloc::{AllocError, Global};
 use std::test::Fail;
 

@@ -1,51 +1,15 @@
+//! Answers: what is read of a text and written again, and the first bad line of others.
+
 ghost use Rattle.std.specs.Prelude.{◌≤◌};
 
-use crate::{Stated, read_answer, write_answer, write_body, write_stops};
-use byte_streams::{MemorySource, SureSource};
-use call_sets::FloorSet;
-use call_state::{Building, BuildingParts, CarSpec, Snapshot, Travel};
+use crate::makers::{house, source_of};
+use answer_text::{read_answer, write_answer, write_body, write_stops};
+use byte_streams::SureSource;
+use call_state::Snapshot;
 use lift_text::{LineReader, TextFault};
 use snapshot_text::read_snapshot;
 use std::alloc::Global;
 use std::test::Fail;
-
-/// Car 7 serves all four floors, car 3 the lower three.
-fn house(alloc: Global) -> Result<Building, Fail> {
-    let times = [
-        0, 4000, 6000, 8000, 4000, 0, 4000, 6000, 6000, 4000, 0, 4000, 8000, 6000, 4000, 0,
-    ];
-    let tall = CarSpec {
-        id: 7,
-        capacity: 8,
-        opening: 1000,
-        closing: 1000,
-        boarding: 500,
-        alighting: 500,
-        serves: FloorSet::lowest(4),
-    };
-    let low = CarSpec {
-        id: 3,
-        capacity: 2,
-        opening: 900,
-        closing: 1100,
-        boarding: 500,
-        alighting: 500,
-        serves: FloorSet::lowest(3),
-    };
-    let parts = BuildingParts {
-        version: 1,
-        heights: Vec::from_slice(alloc, &[0, 4000, 8000, 12000])?,
-        speed: 2000,
-        accel: 1000,
-        wait_weight: 1,
-        travel_weight: 1,
-        patience: 0,
-        patience_weight: 0,
-        cars: Vec::from_slice(alloc, &[tall, low])?,
-        travel: Travel::build(4, Vec::from_slice(alloc, &times)?)?,
-    };
-    Ok(Building::build(alloc, parts)?)
-}
 
 /// Calls 22, 7 and 4 are open.
 fn noon(alloc: Global) -> Result<Snapshot, Fail> {
@@ -62,7 +26,7 @@ fn noon(alloc: Global) -> Result<Snapshot, Fail> {
 fn written(alloc: Global, snapshot: &Snapshot, bytes: &[u8], each: usize) -> Result<Vec<u8>, Fail>
     requires { 1 ≤ each }
 {
-    let mut source = MemorySource::new(Vec::from_slice(alloc, bytes)?, each, Vec::new(alloc));
+    let mut source = source_of(alloc, bytes, each)?;
     let mut lines = LineReader::new(alloc, &mut source)?;
     let mut out = Vec::new(alloc);
     if let Ok(stated) = read_answer(alloc, &mut lines, snapshot) {
@@ -91,7 +55,7 @@ fn parts(alloc: Global, snapshot: &Snapshot, bytes: &[u8]) -> Result<Vec<u8>, Fa
 
 /// The line and the code with which a text is refused, or 0 and 0.
 fn refused(alloc: Global, snapshot: &Snapshot, bytes: &[u8]) -> Result<(u64, u8), Fail> {
-    let mut source = MemorySource::new(Vec::from_slice(alloc, bytes)?, 1, Vec::new(alloc));
+    let mut source = source_of(alloc, bytes, 1)?;
     let mut lines = LineReader::new(alloc, &mut source)?;
     match read_answer(alloc, &mut lines, snapshot) {
         Err(TextFault::Bad { line, code }) => Ok((line, code)),

@@ -1,6 +1,8 @@
-use crate::{Triple, judge_table, read_times};
-use byte_streams::MemorySource;
+//! Tables of travel times: their lines, and the first three floors that break the triangle inequality.
+
+use crate::makers::source_of;
 use lift_text::{LineReader, TextFault};
+use motion_table::{Triple, judge_table, read_times};
 use std::test::Fail;
 
 #[test]
@@ -18,7 +20,7 @@ fn tables_are_read(rt: HostRuntime) -> Result<(), Fail> {
         (b"times 0 5000\n", bad(2, 9)),
     ];
     for (bytes, want) in table {
-        let mut source = MemorySource::new(Vec::from_slice(alloc, bytes)?, 1, Vec::new(alloc));
+        let mut source = source_of(alloc, bytes, 1)?;
         let mut lines = LineReader::new(alloc, &mut source)?;
         match (read_times(alloc, &mut lines, None), want) {
             (Ok(times), Ok(want)) => assert_eq!(rt; times.as_slice(), want.as_slice()),

@@ -1,9 +1,14 @@
-use crate::{LineFault, Section, TextCode, Turn, exactly, is_word, number, numbers, read_section};
-use byte_streams::{MemorySource, Source, SureSource};
+//! A small section, read in pieces, and the lists of numbers of a line.
+
+use crate::makers::source_of;
+use byte_streams::{Source, SureSource};
 use lift_text::{LineReader, TextFault};
 use std::alloc::Global;
 use std::marker::Model;
 use std::test::Fail;
+use text_sections::{
+    LineFault, Section, TextCode, Turn, exactly, is_word, number, numbers, read_section,
+};
 
 /// Lines `set N once` or `set N twice` with N from 1 to 9, at least one, and `end`.
 #[derive(Drop)]
@@ -20,7 +25,7 @@ impl Model for Sample {
 }
 
 impl Section for Sample {
-    ghost use Rattle.text_sections.specs.Sample.{after};
+    ghost use Rattle.text_rows.specs.Sample.{after};
 
     ghost after = { after };
 
@@ -38,7 +43,7 @@ impl Section for Sample {
 
 ghost use Rattle.std.specs.Prelude.{◌≡◌, ◌<◌, IfOk, length, Ok};
 ghost use Rattle.lift_text.specs.LineReader.{words};
-ghost use Rattle.text_sections.specs.Sample.{end_of, set_of, times};
+ghost use Rattle.text_rows.specs.Sample.{end_of, set_of, times};
 
 fn take_end<S: Source>(state: u64, lines: &LineReader<S>) -> Result<Turn, TextCode>
     ensures { result ≡ end_of state (words lines.now) }
@@ -111,8 +116,7 @@ fn sections_are_read_in_any_pieces(rt: HostRuntime) -> Result<(), Fail> {
     for (bytes, want, behind) in table {
         for each in [1usize, 100] {
             assert!(rt; each >= 1);
-            let bytes = Vec::from_slice(alloc, bytes)?;
-            let mut source = MemorySource::new(bytes, each, Vec::new(alloc));
+            let mut source = source_of(alloc, bytes, each)?;
             let (answer, words) = read(alloc, &mut source)?;
             assert_eq!(rt; answer, want);
             assert_eq!(rt; words, behind);
