@@ -1,69 +1,24 @@
+//! Which partial tours some tour begins with.
+
 ghost use Rattle.std.specs.Prelude.{◌++◌, ◌∷◌, [], IfSome};
 ghost use Rattle.elevator_model.specs.Partial.{IsLawful};
 
-use crate::{Demand, can_be_extended};
-use call_sets::{CallSet, FloorSet};
-use call_state::{Building, BuildingParts, Snapshot, SnapshotParts, StateFault, Travel};
-use elevator_model::{Call, CarSpec, CarState, Move};
+use crate::makers::{call, shown, three_floors};
+use call_sets::CallSet;
+use call_state::{CarState, Snapshot};
+use elevator_model::Move;
 use partial_tours::Prefix;
 use std::alloc::Global;
 use std::test::Fail;
-
-/// Three floors 4000 mm apart, and a car for three persons.
-fn three_floors(alloc: Global) -> Result<Building, StateFault> {
-    let car = CarSpec {
-        id: 4,
-        capacity: 3,
-        opening: 1000,
-        closing: 900,
-        boarding: 500,
-        alighting: 400,
-        serves: FloorSet::from_bits(0b111),
-    };
-    let times = [0, 4000, 6000, 4000, 0, 4000, 6000, 4000, 0];
-    Building::build(
-        alloc,
-        BuildingParts {
-            version: 2,
-            heights: [0, 4000, 8000].to_vec(alloc)?,
-            speed: 2000,
-            accel: 1000,
-            wait_weight: 3,
-            travel_weight: 2,
-            patience: 0,
-            patience_weight: 0,
-            cars: [car].to_vec(alloc)?,
-            travel: Travel::build(3, times.to_vec(alloc)?)?,
-        },
-    )
-}
+use tour_extension::{Demand, can_be_extended};
 
 /// At the middle floor two persons came first, and then one. All go to the upper floor. The car stands at the lower
 /// one.
-fn parts(alloc: Global) -> Result<SnapshotParts, StateFault> {
-    let call = |id, persons, released| Call {
-        id,
-        origin: 1,
-        destination: 2,
-        persons,
-        released,
-        pin: None,
-    };
-    Ok(SnapshotParts {
-        version: 2,
-        building: three_floors(alloc)?,
-        now: 70,
-        cars: [CarState::Idle { floor: 0, free: 80 }].to_vec(alloc)?,
-        aboard: Vec::new(alloc),
-        calls: [call(8, 2, 50), call(9, 1, 60)].to_vec(alloc)?,
-    })
-}
-
 fn snapshot(alloc: Global) -> Option<Snapshot> {
-    match parts(alloc) {
-        Ok(parts) if parts.are_whole() => Snapshot::build(alloc, parts).ok(),
-        Ok(_) | Err(_) => None,
-    }
+    let calls = [call(8, 1, 2, 2, 50), call(9, 1, 2, 1, 60)];
+    let standing = CarState::Idle { floor: 0, free: 80 };
+    let building = three_floors(alloc).ok()?;
+    shown(alloc, building, 70, &[standing], &[], &calls)
 }
 
 /// The first lawful move that is not before this one.

@@ -1,5 +1,10 @@
-use super::*;
-use call_state::{Call, CarState};
+//! Generated cases: their sizes, their first car and their last call.
+
+ghost use Rattle.std.specs.Prelude.{◌≤◌};
+
+use call_state::{Call, CarState, Snapshot};
+use case_maker::make;
+use std::alloc::Global;
 use std::test::Fail;
 
 /// Whether the snapshot has this state of its first car and this last call.
@@ -25,12 +30,37 @@ fn idle_at(floor: u32) -> CarState {
     }
 }
 
+/// The first numbers that 0 draws.
+const FIRST_DRAWS: [u32; 3] = [335_903_614, 436_792_849, 2_599_843_874];
+
+/// Whether three cars stand where the first draws of 0 say: each at the remainder of one of them.
+fn stand_as_drawn(alloc: Global, floors: u32) -> bool {
+    if floors < 2 || floors > 64 {
+        return false;
+    }
+    match make(alloc, 0, floors, 3, 0) {
+        Ok(snapshot) => has_first_cars(&snapshot, floors),
+        Err(_) => false,
+    }
+}
+
+fn has_first_cars(snapshot: &Snapshot, floors: u32) -> bool
+    requires { 2 ≤ floors }
+{
+    let [first, second, third] = FIRST_DRAWS;
+    snapshot.building().cars().len() == 3
+        && snapshot.car(0) == idle_at(first % floors)
+        && snapshot.car(1) == idle_at(second % floors)
+        && snapshot.car(2) == idle_at(third % floors)
+}
+
+// These numbers of floors have no factor in common, and their product is above 2^32: so what they leave of a draw
+// is that of no other number.
 #[test]
 fn first_draws_of_zero(rt: HostRuntime) {
-    let mut draws = Draws::from_number(0);
-    assert_eq!(rt; draws.draw(), 335_903_614);
-    assert_eq!(rt; draws.draw(), 436_792_849);
-    assert_eq!(rt; draws.pick(u32::MAX), 2_599_843_874);
+    for floors in [64, 63, 61, 59, 55, 53] {
+        assert!(rt; stand_as_drawn(rt.alloc(), floors), "{floors}");
+    }
 }
 
 #[test]

@@ -1,87 +1,20 @@
+//! Roots and splits of nodes: which cars each call has, and which calls each car may board and has to.
+
 ghost use Rattle.std.specs.Prelude.{◌≡◌, length};
 
-use crate::{BadSplit, CarSet, Node, root, split};
-use call_sets::FloorSet;
-use call_state::{Building, BuildingParts, Snapshot, SnapshotParts, StateFault, Travel};
-use elevator_model::{Call, CarSpec, CarState};
+use crate::makers::{call, car, four_floors, shown};
+use assign_branch::{BadSplit, CarSet, Node, root, split};
+use call_state::{Call, CarSpec, CarState};
 use std::alloc::{AllocError, Global};
 use std::test::Fail;
 
-/// A car for so many persons. Bit `f` of `serves` is floor `f`.
-fn car(id: u32, capacity: u32, serves: u64) -> CarSpec {
-    CarSpec {
-        id,
-        capacity,
-        opening: 1000,
-        closing: 900,
-        boarding: 500,
-        alighting: 400,
-        serves: FloorSet::from_bits(serves),
-    }
-}
-
-fn call(id: u32, origin: u32, destination: u32, persons: u32) -> Call {
-    Call {
-        id,
-        origin,
-        destination,
-        persons,
-        released: 0,
-        pin: None,
-    }
-}
-
-/// Four floors 4000 mm apart.
-fn four_floors(alloc: Global, cars: &[CarSpec]) -> Result<Building, StateFault> {
-    let times = [
-        0, 4000, 6000, 8000, 4000, 0, 4000, 6000, 6000, 4000, 0, 4000, 8000, 6000, 4000, 0,
-    ];
-    Building::build(
-        alloc,
-        BuildingParts {
-            version: 2,
-            heights: [0, 4000, 8000, 12000].to_vec(alloc)?,
-            speed: 2000,
-            accel: 1000,
-            wait_weight: 3,
-            travel_weight: 2,
-            patience: 0,
-            patience_weight: 0,
-            cars: cars.to_vec(alloc)?,
-            travel: Travel::build(4, times.to_vec(alloc)?)?,
-        },
-    )
-}
-
-/// The cars stand at floor 0, and the calls are open.
-fn parts_of(alloc: Global, cars: &[CarSpec], calls: &[Call]) -> Result<SnapshotParts, StateFault> {
-    let standing = CarState::Idle { floor: 0, free: 0 };
-    Ok(SnapshotParts {
-        version: 2,
-        building: four_floors(alloc, cars)?,
-        now: 0,
-        cars: vec![in alloc; standing; cars.len()]?,
-        aboard: Vec::new(alloc),
-        calls: calls.to_vec(alloc)?,
-    })
-}
-
-/// The root of the snapshot with these cars and calls.
+/// The root of the snapshot with these cars, which stand at floor 0, and calls.
 fn root_of(alloc: Global, cars: &[CarSpec], calls: &[Call]) -> Option<Node> {
-    match parts_of(alloc, cars, calls) {
-        Ok(parts) => root_of_parts(alloc, parts),
-        Err(_) => None,
-    }
-}
-
-fn root_of_parts(alloc: Global, parts: SnapshotParts) -> Option<Node> {
-    if !parts.are_whole() {
-        return None;
-    }
-    match Snapshot::build(alloc, parts) {
-        Ok(snapshot) => root(alloc, &snapshot).ok(),
-        Err(_) => None,
-    }
+    let standing = CarState::Idle { floor: 0, free: 0 };
+    let states = vec![in alloc; standing; cars.len()].ok()?;
+    let building = four_floors(alloc, cars).ok()?;
+    let snapshot = shown(alloc, building, 0, &states, &[], calls)?;
+    root(alloc, &snapshot).ok()
 }
 
 /// The first car lacks the top floor, the third one floor 1. The third call is for more persons than the third car
@@ -89,13 +22,13 @@ fn root_of_parts(alloc: Global, parts: SnapshotParts) -> Option<Node> {
 fn uneven_root(alloc: Global) -> Option<Node> {
     let cars = [car(3, 3, 0b0111), car(1, 8, 0b1111), car(7, 2, 0b1101)];
     let calls = [
-        call(11, 0, 2, 2),
-        call(5, 1, 2, 1),
-        call(8, 3, 0, 3),
-        call(2, 2, 3, 1),
+        call(11, 0, 2, 2, 0),
+        call(5, 1, 2, 1, 0),
+        call(8, 3, 0, 3, 0),
+        call(2, 2, 3, 1, 0),
         Call {
             pin: Some(2),
-            ..call(9, 3, 2, 2)
+            ..call(9, 3, 2, 2, 0)
         },
     ];
     root_of(alloc, &cars, &calls)
@@ -201,7 +134,7 @@ fn cars_for_all(alloc: Global, count: u32) -> Result<Vec<CarSpec>, AllocError> {
 fn crowd(alloc: Global, count: u32) -> Result<Vec<Call>, AllocError> {
     let mut calls = Vec::new(alloc);
     for place in 0..count {
-        calls.push(call(1 + place, place % 4, (place + 1) % 4, 1))?;
+        calls.push(call(1 + place, place % 4, (place + 1) % 4, 1, 0))?;
     }
     Ok(calls)
 }

@@ -1,0 +1,13 @@
+//! Tests of what a search for a cheapest plan stands on: generated cases, nodes and their splits, and which partial
+//! tours can be extended. They stand apart from the crates that they test, since a crate with tests
+//! is proved twice.
+#![tactic(auto)]
+
+#[cfg(test)]
+mod cases;
+#[cfg(test)]
+mod extensions;
+#[cfg(test)]
+mod makers;
+#[cfg(test)]
+mod nodes;
