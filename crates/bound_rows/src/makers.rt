@@ -32,6 +32,17 @@ pub(crate) fn call(id: u32, origin: u32, destination: u32, persons: u32, release
     }
 }
 
+/// A group aboard the first car.
+pub(crate) fn group(id: u32, destination: u32, persons: u32, boarded: u64) -> Aboard {
+    Aboard {
+        id,
+        car: 0,
+        destination,
+        persons,
+        boarded,
+    }
+}
+
 /// A building of version 2 without patience. A ms of waiting costs 3 and one of riding 2.
 fn building(
     alloc: Global,
@@ -66,6 +77,18 @@ pub(crate) fn four_floors(alloc: Global, cars: &[CarSpec]) -> Result<BuildingPar
 pub(crate) fn three_floors(alloc: Global) -> Result<BuildingParts, StateFault> {
     let times = [0, 4000, 6000, 4000, 0, 4000, 6000, 4000, 0];
     building(alloc, &[0, 4000, 8000], &times, &[car(4, 3, 0b111)])
+}
+
+/// Three floors with stated travel times, and a car for so many persons. A ms of waiting past 6,000 ms costs 5 more.
+pub(crate) fn patient_floors(alloc: Global, capacity: u32) -> Result<BuildingParts, StateFault> {
+    let times = [0, 4000, 7000, 4000, 0, 4500, 7000, 4500, 0];
+    let cars = [car(4, capacity, 0b111)];
+    Ok(BuildingParts {
+        version: 3,
+        patience: 6000,
+        patience_weight: 5,
+        ..building(alloc, &[0, 4000, 9000], &times, &cars)?
+    })
 }
 
 fn parts_of(

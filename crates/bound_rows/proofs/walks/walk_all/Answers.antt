@@ -3,7 +3,7 @@ use Rattle.elevator_model.specs.Partial.{course_of}
 use Rattle.search_model.specs.Orders.{AreAllowed}
 use Rattle.call_sets.specs.Counting.{has}
 use Rattle.partial_tours.proofs.Follow.{is_some_has}
-use Rattle.pricing_bound.proofs.walks.walk_all.Goals as goal
+use Rattle.bound_rows.proofs.walks.walk_all.Goals as goal
 
 pub visit-requires-clause-kept : goal.visit-requires-clause-kept
 visit-requires-clause-kept c =

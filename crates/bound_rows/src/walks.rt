@@ -6,14 +6,23 @@ ghost use Rattle.elevator_model.specs.Partial.{IsLawful, boards_allowed};
 ghost use Rattle.elevator_model.specs.Snapshot.{call_count};
 ghost use Rattle.pricing_bound.specs.Aims.{AimsAt};
 ghost use Rattle.pricing_bound.specs.Rates.{aim_at};
-ghost use Rattle.pricing_bound.specs.Walks.{IsKept};
+ghost use Rattle.bound_rows.specs.Walks.{IsKept};
 
-use crate::bound;
-use crate::running::CompletionBound;
-use crate::straight::{StraightRides, Sums};
+use call_sets::CallSet;
+use call_state::Snapshot;
 use elevator_model::{MOST_NEXT_MOVES, Move};
 use partial_tours::Prefix;
 use price_scale::Price;
+use pricing_bound::{CompletionBound, StraightRides, Sums, bound};
+
+/// What `bound` is asked at each partial tour.
+#[derive(Clone, Copy)]
+pub(crate) struct Asked<'a> {
+    pub(crate) snapshot: &'a Snapshot,
+    pub(crate) prices: &'a [Price],
+    pub(crate) allowed: CallSet,
+    pub(crate) required: CallSet,
+}
 
 /// What a walk saw: how many partial tours, at how many the sums agreed with `bound`, and the least value of a tour.
 #[derive(Clone, Copy, PartialEq, Debug)]
@@ -37,26 +46,28 @@ impl Seen {
     }
 }
 
-fn agrees(prefix: &Prefix, rides: &StraightRides, prices: &[Price], sums: &Sums) -> bool
-    requires snapshot { rides.now.rates.now.snapshot ≡ prefix.now.snapshot }
-    requires prices { length prices.now ≡ call_count prefix.now.snapshot }
+fn agrees(prefix: &Prefix, rides: &StraightRides, asked: &Asked, sums: &Sums) -> bool
+    requires snapshot { asked.now.snapshot.now ≡ prefix.now.snapshot }
+    requires prices { length asked.now.prices.now ≡ call_count prefix.now.snapshot }
 {
     let whole = bound(
-        rides.rates.snapshot(),
+        asked.snapshot,
         prefix,
-        prices,
-        rides.allowed,
-        rides.required,
+        asked.prices,
+        asked.allowed,
+        asked.required,
     );
     rides.value(sums) == whole
 }
 
 /// The walk over all partial tours of a car, from the empty one.
-pub(crate) fn walk_all(prefix: &mut Prefix, rides: &StraightRides, prices: &[Price]) -> Seen
+pub(crate) fn walk_all(prefix: &mut Prefix, rides: &StraightRides, asked: &Asked) -> Seen
     requires for_it { AimsAt (aim_at rides.now.rates.now rides.now.car rides.now.allowed
         rides.now.required) prefix.old }
     requires empty { prefix.old.moves ≡ [] }
-    requires prices { length prices.now ≡ call_count prefix.old.snapshot }
+    requires snapshot { asked.now.snapshot.now ≡ prefix.old.snapshot }
+    requires prices { length asked.now.prices.now ≡ call_count prefix.old.snapshot }
+    requires allowed { rides.now.allowed ≡ asked.now.allowed }
 {
     // The moves are lawful.
     let _lawful = prefix.moves();
@@ -66,7 +77,7 @@ pub(crate) fn walk_all(prefix: &mut Prefix, rides: &StraightRides, prices: &[Pri
         agreed: 0,
         best: None,
     };
-    visit(prefix, rides, prices, &sums, 40, &mut seen);
+    visit(prefix, rides, asked, &sums, 40, &mut seen);
     seen
 }
 
@@ -75,30 +86,32 @@ pub(crate) fn walk_all(prefix: &mut Prefix, rides: &StraightRides, prices: &[Pri
 fn visit(
     prefix: &mut Prefix,
     rides: &StraightRides,
-    prices: &[Price],
+    asked: &Asked,
     sums: &Sums,
     depth: u32,
     seen: &mut Seen,
 )
     requires kept { IsKept (aim_at rides.now.rates.now rides.now.car rides.now.allowed
         rides.now.required) prefix.old sums.now }
-    requires prices { length prices.now ≡ call_count prefix.old.snapshot }
+    requires snapshot { asked.now.snapshot.now ≡ prefix.old.snapshot }
+    requires prices { length asked.now.prices.now ≡ call_count prefix.old.snapshot }
+    requires allowed { rides.now.allowed ≡ asked.now.allowed }
     ensures { prefix.new ≡ prefix.old }
 {
-    seen.note(agrees(prefix, rides, prices, sums));
+    seen.note(agrees(prefix, rides, asked, sums));
     if prefix.point().ended {
         seen.note_tour(rides.tour_value(prefix, sums));
     }
     if depth == 0 {
         return;
     }
-    let mut next = prefix.first_move(rides.allowed);
+    let mut next = prefix.first_move(asked.allowed);
     for _ in 0..MOST_NEXT_MOVES {
         let Some(step) = next else {
             return;
         };
-        visit_after(prefix, rides, prices, sums, depth - 1, step, seen);
-        next = prefix.move_after(rides.allowed, step);
+        visit_after(prefix, rides, asked, sums, depth - 1, step, seen);
+        next = prefix.move_after(asked.allowed, step);
     }
 }
 
@@ -107,7 +120,7 @@ fn visit(
 fn visit_after(
     prefix: &mut Prefix,
     rides: &StraightRides,
-    prices: &[Price],
+    asked: &Asked,
     sums: &Sums,
     depth: u32,
     step: Move,
@@ -115,13 +128,15 @@ fn visit_after(
 )
     requires kept { IsKept (aim_at rides.now.rates.now rides.now.car rides.now.allowed
         rides.now.required) prefix.old sums.now }
-    requires prices { length prices.now ≡ call_count prefix.old.snapshot }
-    requires may { boards_allowed (has rides.now.allowed) step ≡ true }
+    requires snapshot { asked.now.snapshot.now ≡ prefix.old.snapshot }
+    requires prices { length asked.now.prices.now ≡ call_count prefix.old.snapshot }
+    requires allowed { rides.now.allowed ≡ asked.now.allowed }
+    requires may { boards_allowed (has asked.now.allowed) step ≡ true }
     requires lawful { IsLawful prefix.old.snapshot prefix.old.car (prefix.old.moves ++ step ∷ []) }
     ensures { prefix.new ≡ prefix.old }
 {
     prefix.push(step);
     let after = rides.after(prefix, sums, step);
-    visit(prefix, rides, prices, &after, depth, seen);
+    visit(prefix, rides, asked, &after, depth, seen);
     prefix.pop();
 }

@@ -4,7 +4,7 @@ use Rattle.std.proofs.Common.{◌≡◌, ◌+◌, ◌*◌, ◌++◌, ◌∷◌, 
 use Rattle.call_sets.specs.Counting.{has}
 use Rattle.elevator_model.specs.declared.Move.{Move}
 use Rattle.elevator_model.specs.Partial.{boards_allowed, IsLawful}
-use Rattle.pricing_bound.proofs.walks.+walk.Given as goal
+use Rattle.bound_rows.proofs.walks.+walk.Given as goal
 
 abbrev pub decreases-visit : goal.decreases-visit
 decreases-visit l = 2 * l.depth + 1
@@ -15,5 +15,5 @@ decreases-visit_after l = 2 * l.depth + 2
 abbrev pub invariant-visit-loop : goal.invariant-visit-loop
 invariant-visit-loop l = record {
   same : l.prefix ≡ l.initial.prefix;
-  next : (m : Move) → l.next ≡ Some m → (boards_allowed (has l.rides.allowed) m ≡ true) × IsLawful l.initial.prefix.snapshot l.initial.prefix.car (l.initial.prefix.moves ++ m ∷ []);
+  next : (m : Move) → l.next ≡ Some m → (boards_allowed (has l.asked.allowed) m ≡ true) × IsLawful l.initial.prefix.snapshot l.initial.prefix.car (l.initial.prefix.moves ++ m ∷ []);
 }

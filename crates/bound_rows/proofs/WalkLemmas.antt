@@ -12,7 +12,7 @@ use Rattle.pricing_bound.specs.declared.straight.Sums.{Sums}
 use Rattle.pricing_bound.specs.Aims.{Aim, IsLastMove}
 use Rattle.pricing_bound.specs.LowerLemmas.{allowed_both}
 use Rattle.pricing_bound.specs.Running.{StandFor}
-use Rattle.pricing_bound.specs.Walks.{IsKept}
+use Rattle.bound_rows.specs.Walks.{IsKept}
 
 -- the first that passes passes
 first_passes : (p : Move → Bool) (ms : List Move) (m : Move) → first_of (filter p ms) ≡ Some m → p m ≡ true

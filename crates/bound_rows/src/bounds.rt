@@ -1,90 +1,31 @@
+//! Completion bounds of partial tours.
+
 ghost use Rattle.std.specs.Prelude.{◌≡◌};
 
-use crate::bound;
-use call_sets::{CallSet, FloorSet};
-use call_state::{
-    Aboard, Building, BuildingParts, Call, CarSpec, CarState, Snapshot, SnapshotParts, StateFault,
-    Travel,
-};
+use crate::makers::{call, group, patient_floors, shown};
+use call_sets::CallSet;
+use call_state::{CarState, Snapshot};
 use partial_tours::Prefix;
 use price_scale::Price;
+use pricing_bound::bound;
 use std::alloc::Global;
 use std::test::Fail;
 
-/// Three floors. A ms of waiting costs 3, past 6,000 ms 5 more, and one of riding 2.
-fn building(alloc: Global) -> Result<Building, StateFault> {
-    let car = CarSpec {
-        id: 4,
-        capacity: 5,
-        opening: 1000,
-        closing: 900,
-        boarding: 500,
-        alighting: 400,
-        serves: FloorSet::from_bits(0b111),
-    };
-    let times = [0, 4000, 7000, 4000, 0, 4500, 7000, 4500, 0];
-    Building::build(
-        alloc,
-        BuildingParts {
-            version: 3,
-            heights: [0, 4000, 9000].to_vec(alloc)?,
-            speed: 2000,
-            accel: 1000,
-            wait_weight: 3,
-            travel_weight: 2,
-            patience: 6000,
-            patience_weight: 5,
-            cars: [car].to_vec(alloc)?,
-            travel: Travel::build(3, times.to_vec(alloc)?)?,
-        },
-    )
-}
-
-fn call(id: u32, origin: u32, destination: u32, persons: u32, released: u64) -> Call {
-    Call {
-        id,
-        origin,
-        destination,
-        persons,
-        released,
-        pin: None,
-    }
-}
-
 /// The car stands at the lowest floor with two persons for the highest one. Calls wait at the middle, the highest and
 /// the lowest floor.
-fn parts(alloc: Global) -> Result<SnapshotParts, StateFault> {
-    let group = Aboard {
-        id: 3,
-        car: 0,
-        destination: 2,
-        persons: 2,
-        boarded: 700,
-    };
+fn snapshot(alloc: Global) -> Option<Snapshot> {
+    let aboard = group(3, 2, 2, 700);
     let calls = [
         call(7, 1, 2, 1, 1100),
         call(8, 2, 0, 3, 300),
         call(9, 0, 1, 2, 1900),
     ];
-    Ok(SnapshotParts {
-        version: 2,
-        building: building(alloc)?,
-        now: 2000,
-        cars: [CarState::Idle {
-            floor: 0,
-            free: 2500,
-        }]
-        .to_vec(alloc)?,
-        aboard: [group].to_vec(alloc)?,
-        calls: calls.to_vec(alloc)?,
-    })
-}
-
-fn snapshot(alloc: Global) -> Option<Snapshot> {
-    match parts(alloc) {
-        Ok(parts) if parts.are_whole() => Snapshot::build(alloc, parts).ok(),
-        Ok(_) | Err(_) => None,
-    }
+    let standing = CarState::Idle {
+        floor: 0,
+        free: 2500,
+    };
+    let building = patient_floors(alloc, 5).ok()?;
+    shown(alloc, building, 2000, &[standing], &[aboard], &calls)
 }
 
 /// The car goes to the middle floor, where the first call boards.
