@@ -14,6 +14,3 @@ mod writing;
 pub use answers::Stated;
 pub use reading::read_answer;
 pub use writing::{write_answer, write_body, write_stops};
-
-#[cfg(test)]
-mod tests;

@@ -8,8 +8,6 @@ mod demands;
 mod nodes;
 mod pricers;
 mod splits;
-#[cfg(test)]
-mod tests;
 mod trees;
 
 pub use call_sets::{CallSet, CarSet};

@@ -10,6 +10,3 @@ mod writing;
 
 pub use reading::read_building;
 pub use writing::write_building;
-
-#[cfg(test)]
-mod tests;

@@ -70,6 +70,3 @@ fn faultless<T>(built: Result<T, StateFault>) -> Result<T, AllocError>
         Err(StateFault::Bad { .. }) => unreachable!(),
     }
 }
-
-#[cfg(test)]
-mod tests;

@@ -9,6 +9,3 @@ mod table;
 
 pub use reading::read_words;
 pub use request::{CaseSizes, Request, SolveOptions, WordsFault};
-
-#[cfg(test)]
-mod tests;

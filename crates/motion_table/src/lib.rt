@@ -6,6 +6,3 @@ mod triples;
 
 pub use tables::{read_row, read_times};
 pub use triples::{Triple, judge_table};
-
-#[cfg(test)]
-mod tests;

@@ -5,4 +5,3 @@ pub mod Sizes
 pub mod WaitingLemmas
 pub mod RunningLemmas
 pub mod CarriedLemmas
-pub mod WalkLemmas

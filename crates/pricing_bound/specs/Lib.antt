@@ -8,4 +8,3 @@ pub mod Standing
 pub mod GrowthLemmas
 pub mod LowerLemmas
 pub mod Narrowing
-pub mod Walks

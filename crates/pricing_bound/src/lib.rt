@@ -10,12 +10,6 @@ mod rates;
 mod rides;
 mod running;
 mod straight;
-#[cfg(test)]
-mod tests;
-#[cfg(test)]
-mod walk_tests;
-#[cfg(test)]
-mod walks;
 
 pub use bounds::bound;
 pub use rates::Rates;

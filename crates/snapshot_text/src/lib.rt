@@ -11,6 +11,3 @@ mod writing;
 
 pub use reading::{read_opening, read_snapshot};
 pub use writing::write_snapshot;
-
-#[cfg(test)]
-mod tests;

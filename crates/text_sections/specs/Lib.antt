@@ -3,4 +3,3 @@ pub mod Sections
 pub mod Words
 pub mod Canonical
 pub mod NumberLists
-pub mod Sample

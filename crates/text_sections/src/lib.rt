@@ -10,6 +10,3 @@ pub use codes::{LineFault, TextCode};
 pub use number_lists::numbers;
 pub use sections::{Section, Turn, read_section};
 pub use words::{at_least, at_most, exactly, is_word, number, signed};
-
-#[cfg(test)]
-mod tests;

@@ -22,6 +22,3 @@ pub fn extending_law()
 pub fn node_law()
     ensures { NodeLaw }
 {}
-
-#[cfg(test)]
-mod tests;

@@ -1,0 +1,122 @@
+//! Completion bounds of partial tours.
+
+ghost use Rattle.std.specs.Prelude.{◌≡◌};
+
+use crate::makers::{call, group, patient_floors, shown};
+use call_sets::CallSet;
+use call_state::{CarState, Snapshot};
+use partial_tours::Prefix;
+use price_scale::Price;
+use pricing_bound::bound;
+use std::alloc::Global;
+use std::test::Fail;
+
+/// The car stands at the lowest floor with two persons for the highest one. Calls wait at the middle, the highest and
+/// the lowest floor.
+fn snapshot(alloc: Global) -> Option<Snapshot> {
+    let aboard = group(3, 2, 2, 700);
+    let calls = [
+        call(7, 1, 2, 1, 1100),
+        call(8, 2, 0, 3, 300),
+        call(9, 0, 1, 2, 1900),
+    ];
+    let standing = CarState::Idle {
+        floor: 0,
+        free: 2500,
+    };
+    let building = patient_floors(alloc, 5).ok()?;
+    shown(alloc, building, 2000, &[standing], &[aboard], &calls)
+}
+
+/// The car goes to the middle floor, where the first call boards.
+fn board_first(prefix: &mut Prefix) -> Option<()>
+    ensures { prefix.new.snapshot ≡ prefix.old.snapshot }
+{
+    let nobody = CallSet::from_bits(0);
+    let lowest = prefix.first_move(nobody)?;
+    let middle = prefix.move_after(nobody, lowest)?;
+    prefix.push(middle);
+    let board = prefix.first_move(CallSet::from_bits(0b001))?;
+    prefix.push(board);
+    Some(())
+}
+
+/// The car goes on to the next floor.
+fn go_on(prefix: &mut Prefix) -> Option<()>
+    ensures { prefix.new.snapshot ≡ prefix.old.snapshot }
+{
+    let highest = prefix.first_move(CallSet::from_bits(0))?;
+    prefix.push(highest);
+    Some(())
+}
+
+/// What is asked of a partial tour.
+#[derive(Clone, Copy)]
+struct Asked {
+    prices: [i128; 3],
+    allowed: u128,
+    required: u128,
+}
+
+fn asked_bound(snapshot: &Snapshot, prefix: &Prefix, asked: Asked) -> Option<i128>
+    requires { snapshot.now ≡ prefix.now.snapshot }
+{
+    let [first, second, third] = asked.prices;
+    let prices = [Price::new(first)?, Price::new(second)?, Price::new(third)?];
+    if snapshot.calls().len() != 3 {
+        return None;
+    }
+    let (allowed, required) = (
+        CallSet::from_bits(asked.allowed),
+        CallSet::from_bits(asked.required),
+    );
+    Some(bound(snapshot, prefix, &prices, allowed, required))
+}
+
+/// The bounds where the first call has boarded, and where it has got off.
+fn bounds_of(alloc: Global, snapshot: &Snapshot, asked: Asked) -> Option<[i128; 2]> {
+    if snapshot.building().cars().len() != 1 {
+        return None;
+    }
+    let mut prefix = Prefix::new(alloc, snapshot, 0).ok()?;
+    board_first(&mut prefix)?;
+    let carried = asked_bound(snapshot, &prefix, asked)?;
+    go_on(&mut prefix)?;
+    let delivered = asked_bound(snapshot, &prefix, asked)?;
+    Some([carried, delivered])
+}
+
+fn bounds(alloc: Global, prices: [i128; 3], allowed: u128, required: u128) -> Option<[i128; 2]> {
+    match snapshot(alloc) {
+        Some(snapshot) => bounds_of(
+            alloc,
+            &snapshot,
+            Asked {
+                prices,
+                allowed,
+                required,
+            },
+        ),
+        None => None,
+    }
+}
+
+// Where the first call has boarded, the doors are open at 7,500: it costs 30,200 to its floor and the group 45,200.
+// The second call would cost 124,800 and the third one 49,600. At 14,400 both are there, for 89,800 together, and
+// the others would cost 290,400 and 156,000.
+
+#[test]
+fn a_call_counts_where_it_lowers_the_bound(rt: HostRuntime) -> Result<(), Fail> {
+    let prices = [11_000_013, 130_000_500, 0];
+    assert!(rt; bounds(rt.alloc(), prices, 0b111, 0b000) == Some([59_199_487, 78_799_987]));
+    assert!(rt; bounds(rt.alloc(), prices, 0b101, 0b000) == Some([64_399_987, 78_799_987]));
+    Ok(())
+}
+
+#[test]
+fn a_required_call_counts_always(rt: HostRuntime) -> Result<(), Fail> {
+    let prices = [11_000_013, 130_000_500, 0];
+    assert!(rt; bounds(rt.alloc(), prices, 0b111, 0b100) == Some([108_799_487, 234_799_987]));
+    assert!(rt; bounds(rt.alloc(), [0, 0, 0], 0b111, 0b010) == Some([200_200_000, 380_200_000]));
+    Ok(())
+}

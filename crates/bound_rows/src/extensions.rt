@@ -1,0 +1,87 @@
+//! Which partial tours some tour begins with.
+
+ghost use Rattle.std.specs.Prelude.{◌++◌, ◌∷◌, [], IfSome};
+ghost use Rattle.elevator_model.specs.Partial.{IsLawful};
+
+use crate::makers::{call, shown, three_floors};
+use call_sets::CallSet;
+use call_state::{CarState, Snapshot};
+use elevator_model::Move;
+use partial_tours::Prefix;
+use std::alloc::Global;
+use std::test::Fail;
+use tour_extension::{Demand, can_be_extended};
+
+/// At the middle floor two persons came first, and then one. All go to the upper floor. The car stands at the lower
+/// one.
+fn snapshot(alloc: Global) -> Option<Snapshot> {
+    let calls = [call(8, 1, 2, 2, 50), call(9, 1, 2, 1, 60)];
+    let standing = CarState::Idle { floor: 0, free: 80 };
+    let building = three_floors(alloc).ok()?;
+    shown(alloc, building, 70, &[standing], &[], &calls)
+}
+
+/// The first lawful move that is not before this one.
+fn lawful(prefix: &Prefix, wanted: Move) -> Option<Move>
+    ensures { IfSome result
+        (λ m. IsLawful prefix.now.snapshot prefix.now.car (prefix.now.moves ++ m ∷ [])) }
+{
+    match wanted {
+        Move::Board(call) if call < 128 => prefix.first_move(CallSet::empty().with(call)),
+        Move::Leave(floor) if floor > 0 => {
+            prefix.move_after(CallSet::empty(), Move::Leave(floor - 1))
+        }
+        Move::Board(_) | Move::Leave(_) => prefix.first_move(CallSet::empty()),
+        Move::End => prefix.move_after(CallSet::empty(), Move::Leave(63)),
+    }
+}
+
+/// Makes a lawful move.
+fn make(prefix: &mut Prefix, wanted: Move) -> Option<()> {
+    let next = lawful(prefix, wanted)?;
+    prefix.push(next);
+    if next == wanted { Some(()) } else { None }
+}
+
+/// Whether some tour begins with these moves in which the required calls board.
+fn extends(alloc: Global, snapshot: &Snapshot, required: u128, moves: &[Move]) -> Option<bool> {
+    if snapshot.building().cars().is_empty() {
+        return None;
+    }
+    let mut prefix = Prefix::new(alloc, snapshot, 0).ok()?;
+    for next in moves {
+        make(&mut prefix, *next)?;
+    }
+    let demand = Demand {
+        allowed: CallSet::from_bits(0b11),
+        required: CallSet::from_bits(required),
+    };
+    if !demand.is_for(&prefix) {
+        return None;
+    }
+    Some(can_be_extended(&prefix, &demand))
+}
+
+#[test]
+fn two_calls_of_a_queue(rt: HostRuntime) -> Result<(), Fail> {
+    use Move::{Board, End, Leave};
+    let snapshot = snapshot(rt.alloc()).ok_or("a snapshot")?;
+    // The first call, or neither, has to board.
+    let rows: [(u128, &[Move], bool); 10] = [
+        (0b01, &[], true),
+        (0b00, &[End], true),
+        (0b01, &[End], false),
+        (0b01, &[Leave(2)], false),
+        (0b01, &[Leave(1)], true),
+        // The second call passes the first one, whose index is lower.
+        (0b01, &[Leave(1), Board(1)], false),
+        (0b00, &[Leave(1), Board(1)], true),
+        (0b10, &[Leave(1), Board(0)], true),
+        (0b01, &[Leave(1), Board(0), Board(1), Leave(2), End], true),
+        (0b10, &[Leave(1), Board(0), Leave(2), End], false),
+    ];
+    for (required, moves, expected) in rows {
+        assert!(rt; extends(rt.alloc(), &snapshot, required, moves) == Some(expected));
+    }
+    Ok(())
+}

@@ -1,0 +1,268 @@
+//! Tables of words. A line's words stand between single spaces, so that two spaces have an empty word
+//! between them; the first word is the program's name.
+
+use lift_words::{CaseSizes, Request, SolveOptions, WordsFault, read_words};
+use std::alloc::{AllocError, Global};
+use std::test::Fail;
+
+/// What the words of a line are read as.
+fn read(alloc: Global, line: &str) -> Result<Result<Request, WordsFault>, AllocError> {
+    let mut words = Vec::new(alloc);
+    for word in line.split(' ') {
+        words.push(String::from_str(alloc, word)?)?;
+    }
+    Ok(read_words(alloc, words.as_slice()))
+}
+
+/// Each line with its rounds, moves and workers.
+const SOLVED: [(&str, u64, u64, u32); 16] = [
+    ("lift solve --brief", 2000, 75000, 1),
+    (" solve --brief", 2000, 75000, 1),
+    ("lift solve --rounds 5 --brief", 5, 75000, 1),
+    ("lift solve --brief --rounds=5", 5, 75000, 1),
+    ("lift solve --moves 6 --brief", 2000, 6, 1),
+    (
+        "lift solve --brief --moves=7 --workers 3 --rounds 11",
+        11,
+        7,
+        3,
+    ),
+    (
+        "lift solve --workers=2 --rounds=8 --brief --moves 9",
+        8,
+        9,
+        2,
+    ),
+    ("lift solve --rounds 1 --brief", 1, 75000, 1),
+    (
+        "lift solve --rounds=1000000000000000000 --brief",
+        1000000000000000000,
+        75000,
+        1,
+    ),
+    ("lift solve --moves=1 --brief", 2000, 1, 1),
+    (
+        "lift solve --moves 1000000000000000000 --brief",
+        2000,
+        1000000000000000000,
+        1,
+    ),
+    ("lift solve --workers 1 --brief", 2000, 75000, 1),
+    ("lift solve --workers=16 --brief", 2000, 75000, 16),
+    ("lift solve --workers 016 --brief", 2000, 75000, 16),
+    ("lift solve --rounds=007 --brief", 7, 75000, 1),
+    (
+        "lift solve --moves 0000000000000000000000000000000000000000000000031 --brief",
+        2000,
+        31,
+        1,
+    ),
+];
+
+/// Each line with its number, floors, cars and calls.
+const MADE: [(&str, u64, u32, u32, u32); 15] = [
+    ("lift make", 1, 12, 4, 20),
+    ("lift make --number 0", 0, 12, 4, 20),
+    (
+        "lift make --number=18446744073709551615",
+        18446744073709551615,
+        12,
+        4,
+        20,
+    ),
+    (
+        "lift make --number 00018446744073709551615",
+        18446744073709551615,
+        12,
+        4,
+        20,
+    ),
+    ("lift make --floors 2", 1, 2, 4, 20),
+    ("lift make --floors=64", 1, 64, 4, 20),
+    ("lift make --cars 1", 1, 12, 1, 20),
+    ("lift make --cars=8", 1, 12, 8, 20),
+    ("lift make --calls 0", 1, 12, 4, 0),
+    ("lift make --calls=64", 1, 12, 4, 64),
+    (
+        "lift make --number 0 --floors 4 --cars 1 --calls 1",
+        0,
+        4,
+        1,
+        1,
+    ),
+    (
+        "lift make --calls 33 --cars=6 --number 9 --floors=21",
+        9,
+        21,
+        6,
+        33,
+    ),
+    ("lift make --rounds 3 --moves=5", 1, 12, 4, 20),
+    (
+        "lift make --rounds=1000000000000000000 --moves 1 --cars 3",
+        1,
+        12,
+        3,
+        20,
+    ),
+    (
+        "lift make --moves=1000000000000000000 --rounds 1 --calls 3",
+        1,
+        12,
+        4,
+        3,
+    ),
+];
+
+const REFUSED: [&str; 85] = [
+    // No command, or none of the table.
+    "",
+    "lift",
+    "lift ",
+    "lift solv --brief",
+    "lift Solve --brief",
+    "lift solve=1 --brief",
+    "lift --brief solve",
+    "lift check",
+    "lift day",
+    "lift report",
+    "lift help",
+    "lift --help",
+    "lift -h",
+    // What does not stand yet.
+    "lift solve",
+    "lift solve --rounds 5",
+    "lift make --run",
+    // Outside the range.
+    "lift solve --rounds 0 --brief",
+    "lift solve --rounds=1000000000000000001 --brief",
+    "lift solve --moves=0 --brief",
+    "lift solve --moves 1000000000000000001 --brief",
+    "lift solve --workers 0 --brief",
+    "lift solve --workers=17 --brief",
+    "lift solve --workers 18446744073709551617 --brief",
+    "lift solve --rounds 9999999999999999999999999999999999999999 --brief",
+    "lift make --number 18446744073709551616",
+    "lift make --number=340282366920938463463374607431768211456",
+    "lift make --number 1000000000000000000000000000000000000000",
+    "lift make --floors 1",
+    "lift make --floors=65",
+    "lift make --floors 4294967298",
+    "lift make --cars=0",
+    "lift make --cars 9",
+    "lift make --calls 65",
+    "lift make --rounds 0",
+    "lift make --rounds 1000000000000000001",
+    "lift make --moves=0",
+    "lift make --moves 1000000000000000001",
+    // No number word.
+    "lift solve --rounds 5x --brief",
+    "lift solve --rounds=0x5 --brief",
+    "lift solve --rounds 5.0 --brief",
+    "lift solve --rounds=1e3 --brief",
+    "lift solve --rounds +5 --brief",
+    "lift solve --rounds=+5 --brief",
+    "lift solve --rounds -5 --brief",
+    "lift solve --rounds=-5 --brief",
+    "lift make --calls -0",
+    "lift make --calls=-0",
+    "lift solve --rounds  --brief",
+    "lift solve --rounds= --brief",
+    "lift make --moves=many",
+    // No value, or one more.
+    "lift solve --brief --rounds",
+    "lift solve --rounds --brief",
+    "lift solve --rounds --moves 5 --brief",
+    "lift solve --rounds 5 6 --brief",
+    "lift solve --brief=1",
+    "lift solve --brief=",
+    "lift solve --brief true",
+    // Repeated.
+    "lift solve --brief --brief",
+    "lift solve --rounds 5 --rounds 5 --brief",
+    "lift solve --rounds=5 --moves 4 --rounds 6 --brief",
+    "lift solve --rounds=5 --rounds=5 --brief",
+    "lift solve --rounds --rounds 5 --brief",
+    "lift make --number 3 --cars 2 --number=3",
+    // `--` alone.
+    "lift solve --brief --",
+    "lift solve -- --brief",
+    "lift make --",
+    "lift make --cars --",
+    // Other words.
+    "lift solve --round 5 --brief",
+    "lift solve --b",
+    "lift solve -brief",
+    "lift solve --BRIEF",
+    "lift solve ---brief",
+    "lift solve --floors 3 --brief",
+    "lift make --workers 2",
+    "lift make --brief",
+    "lift solve --brief case.txt",
+    "lift solve --brief ",
+    "lift make 5",
+    "lift make make",
+    "lift solve --brief --help",
+    "lift solve --help",
+    "lift make --version",
+    "lift make -h",
+    "lift make -V",
+    "lift make help",
+];
+
+#[test]
+fn solve_has_its_options(rt: HostRuntime) -> Result<(), Fail> {
+    for (line, rounds, moves, workers) in SOLVED {
+        let options = SolveOptions {
+            rounds,
+            moves,
+            workers,
+        };
+        assert_eq!(rt;
+            read(rt.alloc(), line)?,
+            Ok(Request::Solve(options)),
+            "at {line}"
+        );
+    }
+    Ok(())
+}
+
+#[test]
+fn make_has_its_sizes(rt: HostRuntime) -> Result<(), Fail> {
+    for (line, number, floors, cars, calls) in MADE {
+        let sizes = CaseSizes {
+            number,
+            floors,
+            cars,
+            calls,
+        };
+        assert_eq!(rt;
+            read(rt.alloc(), line)?,
+            Ok(Request::Make(sizes)),
+            "at {line}"
+        );
+    }
+    Ok(())
+}
+
+#[test]
+fn other_words_are_refused(rt: HostRuntime) -> Result<(), Fail> {
+    for line in REFUSED {
+        assert_eq!(rt;
+            read(rt.alloc(), line)?,
+            Err(WordsFault::NotTaken),
+            "at {line}"
+        );
+    }
+    Ok(())
+}
+
+#[test]
+fn faults_have_a_text(rt: HostRuntime) -> Result<(), Fail> {
+    let alloc = rt.alloc();
+    let not_taken = format!(in alloc; "{}", WordsFault::NotTaken)?;
+    assert_eq!(rt; not_taken.as_str(), "the words are not taken");
+    let no_memory = format!(in alloc; "{}", WordsFault::NoMemory)?;
+    assert_eq!(rt; no_memory.as_str(), "out of memory");
+    Ok(())
+}
