@@ -1,10 +1,13 @@
 //! All plans that are made of tours of a pool.
 
+use crate::tally::Checks;
+use call_sets::CallSet;
 use call_state::Snapshot;
 use elevator_model::{Plan, Tour};
-use restricted_master::{MOST_TOURS, Pool};
+use restricted_master::{Column, MOST_TOURS, Pool};
 use std::alloc::{AllocError, Global};
-use tour_cost::{judge_plan, plan_cost};
+use tour_cost::{cost, judge_plan, plan_cost};
+use tour_rules::judge;
 
 /// What a feasible plan costs, and None for another one.
 pub(crate) fn price(snapshot: &Snapshot, plan: &Plan) -> Option<u64> {
@@ -17,15 +20,50 @@ pub(crate) fn price(snapshot: &Snapshot, plan: &Plan) -> Option<u64> {
     }
 }
 
+/// The car's columns. None where there is no such car.
+fn columns_of<'a>(pool: &'a Pool<'_>, car: u32) -> Option<&'a [Column]> {
+    if pool.snapshot().building().cars().len() <= car as usize {
+        return None;
+    }
+    Some(pool.columns(car))
+}
+
 /// How many tours of the car the pool has.
 pub(crate) fn count_of(pool: &Pool<'_>, car: u32) -> u64 {
-    let mut count: u64 = 0;
-    for place in 0..MOST_TOURS {
-        if pool.tour(car, place).is_some() {
-            count = count.wrapping_add(1);
+    match columns_of(pool, car) {
+        Some(columns) => columns.len() as u64,
+        None => 0,
+    }
+}
+
+/// What a feasible tour of the car costs. None for another tour, and where there is no such car.
+fn price_of_tour(snapshot: &Snapshot, car: u32, tour: &Tour) -> Option<u64> {
+    if snapshot.building().cars().len() <= car as usize {
+        return None;
+    }
+    match judge(snapshot, car, tour) {
+        Ok(()) => Some(cost(snapshot, car, tour)),
+        Err(_) => None,
+    }
+}
+
+/// Whether the column is a feasible tour of the car, with its cost and the calls that board in it.
+fn is_column(snapshot: &Snapshot, car: u32, column: &Column) -> bool {
+    let mut calls = CallSet::empty();
+    for stop in column.tour.stops() {
+        calls = calls.union(CallSet::of_list(stop.boards.as_slice()));
+    }
+    calls.bits() == column.calls.bits()
+        && price_of_tour(snapshot, car, &column.tour) == Some(column.cost)
+}
+
+/// Notes of each column of the pool whether it is what it says.
+pub(crate) fn note_columns(pool: &Pool<'_>, columns: &mut Checks) {
+    for car in 0..cars_of(pool) {
+        for column in columns_of(pool, car).unwrap_or(&[]) {
+            columns.note(is_column(pool.snapshot(), car, column));
         }
     }
-    count
 }
 
 /// How many cars there are.

@@ -5,7 +5,7 @@ ghost use Rattle.elevator_model.specs.Snapshot.{call_count};
 
 use crate::draws::Draws;
 use crate::fills::{fill, prices_of};
-use crate::listing::{is_pooled, least_cost, price, selections, ways};
+use crate::listing::{is_pooled, least_cost, note_columns, price, selections, ways};
 use crate::tally::Tally;
 use call_state::Snapshot;
 use case_maker::make;
@@ -131,6 +131,7 @@ fn compare_snapshot(
 ) -> Result<(), AllocError> {
     let mut pool = Pool::new(alloc, snapshot)?;
     fill(alloc, &mut pool, draws)?;
+    note_columns(&pool, &mut tally.columns);
     if ways(&pool) > MOST_WAYS {
         return compare_large(alloc, &pool, tally);
     }

@@ -26,6 +26,8 @@ impl Checks {
 pub(crate) struct Tally {
     /// How many pools were compared.
     pub(crate) pools: u64,
+    /// A column is a feasible tour of its car, with its cost and the calls that board in it.
+    pub(crate) columns: Checks,
     /// A plan that is given is feasible, made of tours of the pool, and has the stated cost.
     pub(crate) plans: Checks,
     /// Where no plan is given, the cost is 0.
@@ -48,8 +50,9 @@ pub(crate) struct Tally {
 
 impl Tally {
     /// Each kind of checks, with the word that is printed for it.
-    fn kinds(&self) -> [(&'static str, Checks); 8] {
+    fn kinds(&self) -> [(&'static str, Checks); 9] {
         [
+            ("columns", self.columns),
             ("plans", self.plans),
             ("none", self.none),
             ("least", self.least),

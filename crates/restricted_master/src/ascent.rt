@@ -97,7 +97,7 @@ impl Course {
         has_gained
     }
 
-    /// The square of the direction's length, where that is not 0.
+    /// The square of the direction's length.
     fn square(&self) -> i128 {
         let mut sum: i128 = 0;
         for part in &self.direction {

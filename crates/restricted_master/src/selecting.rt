@@ -40,11 +40,12 @@ impl<'a> Pool<'a> {
     ghost use Rattle.restricted_master.specs.Choices.{AreCandidates, AreChoices, IsPicked, CanPick, IsPlanPick, IsCheapestPick};
 
     /// The cheapest feasible plan that is made of tours of the pool, found depth first over the cars. A partial
-    /// selection is one tour for each of the first cars, of none up to all; at most `limit` of them are tried.
-    /// It fails only where there is no memory left.
+    /// selection is one tour for each of the first cars, of none up to all; at most `limit` of them are tried, which is
+    /// at least 1. The choice is spent only where there are as many. The only error is want of memory.
     ///
     /// The prices, of which each call has one, and the target, such as what the best known plan costs, in cost units,
-    /// only tell where the search begins: they may change how many partial selections it tries.
+    /// only steer the search: they may change how many partial selections it tries, and which of the cheapest plans it
+    /// finds.
     pub fn select(
         &self,
         alloc: Global,
