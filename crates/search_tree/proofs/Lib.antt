@@ -1,0 +1,12 @@
+pub mod SumLemmas
+pub mod WorthLemmas
+pub mod ListLemmas
+pub mod TreeLemmas
+pub mod ChoiceLemmas
+pub mod PartLemmas
+pub mod StandingLemmas
+pub mod LeafFacts
+pub mod TurnLaws
+pub mod TreeLaws
+pub mod EndLaws
+pub mod FoundLaws

@@ -1,0 +1,205 @@
+-- What a pricing of all cars in a leaf's node makes of the leaf.
+use Rattle.std.proofs.Common.{◌≡◌, ℕ, zero, suc, ◌+◌, ◌<◌, ◌≤◌, ◌==◌, Bool, true, false, cond, List, [], ◌∷◌, length, map, get_or, refl, sym, ap, ◌∙◌, subst, inl, inr, arith}
+use Rattle.std.specs.Prelude.{ℤ, ◌≤ℤ◌, ◌⊎◌, int_lt, Some, None, IfSome}
+use Rattle.std.proofs.lemmas.Int.{ints}
+use Rattle.std.proofs.lemmas.Bool.{cases_lt, both_ways, eqb-true, eq-eqb}
+use Rattle.search_model.specs.Sums.{int_sum_by}
+use Rattle.search_model.specs.declared.TurnOf.{TurnOf}
+use Rattle.elevator_model.specs.Snapshot.{Snapshot, car_count}
+use Rattle.search_model.specs.Nodes.{Node}
+use Rattle.search_model.specs.Prices.{price_at, IsWorth}
+use Rattle.search_model.specs.Solving.{Fits, ReachesLeast, HasPartialTours, no_turn}
+use Rattle.search_tree.specs.declared.sheets.Worth.{Worth}
+use Rattle.search_tree.specs.declared.branches.Branch.{Branch}
+use Rattle.search_tree.specs.Sheets.{PriceSheet, no_worth, worth_of_car, claim_of_car, sum_of_sheet, sum_of_worths, turn_worth, sheet_of_turn, greater_of, raised, raised_sheet, better_of}
+use Rattle.search_tree.specs.Branches.{first_spent, noted}
+use Rattle.search_tree.specs.Standing.{IsSheetIn, AreLeastIn, IsSpentCar, IsLeafIn}
+use Rattle.search_tree.specs.Answers.{IsAnswerIn, AreAnswersIn, BeginsAt}
+
+-- ---- the worths of a turn
+
+turn-at : (cars : List TurnOf) (c : ℕ) → c < length cars → get_or (map turn_worth cars) c no_worth ≡ turn_worth (get_or cars c no_turn)
+turn-at [] c lt = absurd (omega (arith, lt))
+turn-at (t ∷ cars) zero lt = refl
+turn-at (t ∷ cars) (suc c) lt = turn-at cars c (omega (arith, lt))
+
+turn-length : (cars : List TurnOf) → length (map turn_worth cars) ≡ length cars
+turn-length [] = refl
+turn-length (t ∷ cars) = ap suc (turn-length cars)
+
+raised-at : (worths : List Worth) (cars : List TurnOf) (c : ℕ) → c < length worths → length cars ≡ length worths → get_or (raised worths cars) c no_worth ≡ greater_of (get_or worths c no_worth) (turn_worth (get_or cars c no_turn))
+raised-at [] cars c lt e = absurd (omega (arith, lt))
+raised-at (w ∷ worths) [] c lt e = absurd (omega (arith, e))
+raised-at (w ∷ worths) (t ∷ cars) zero lt e = refl
+raised-at (w ∷ worths) (t ∷ cars) (suc c) lt e = raised-at worths cars c (omega (arith, lt)) (omega (arith, e))
+
+pub raised-length : (worths : List Worth) (cars : List TurnOf) → length (raised worths cars) ≡ length worths
+raised-length [] cars = refl
+raised-length (w ∷ worths) [] = refl
+raised-length (w ∷ worths) (t ∷ cars) = ap suc (raised-length worths cars)
+
+-- one of the two, and no less than either
+record IsGreater (w v x : Worth) : Type 0 where
+  is : (x ≡ w) ⊎ (x ≡ v)
+  first : w.worth ≤ℤ x.worth
+  second : v.worth ≤ℤ x.worth
+
+greater : (w v : Worth) → IsGreater w v (greater_of w v)
+greater w v = by_test (int_lt w.worth v.worth) refl
+  where
+    by_test : (b : Bool) → int_lt w.worth v.worth ≡ b → IsGreater w v (cond b v w)
+    by_test true e = record { is = inr refl; first = omega (arith, ints, e); second = omega (arith, ints) }
+    by_test false e = record { is = inl refl; first = omega (arith, ints); second = omega (arith, ints, e) }
+
+module _ (fits : Fits) (s : Snapshot) (moves : ℕ) (node : Node) (prices : List ℤ) (cars : List TurnOf) (answers : AreAnswersIn fits s moves node prices cars) where
+  answer : (c : ℕ) → c < car_count s → IsAnswerIn fits s moves node (price_at prices) c (get_or cars c no_turn)
+  answer c lt = answers.each c lt
+
+  below : (c : ℕ) → c < car_count s → c < length cars
+  below c lt = let count = answers.count in omega (arith, lt, count)
+
+  at : (c : ℕ) → c < car_count s → get_or (map turn_worth cars) c no_worth ≡ turn_worth (get_or cars c no_turn)
+  at c lt = turn-at cars c (below c lt)
+
+  -- what the pricings state
+  pub turn-sheet : IsSheetIn fits s moves node (sheet_of_turn prices cars)
+  turn-sheet =
+      record {
+        calls = answers.calls;
+        cars = turn-length cars ∙ answers.count;
+        worths = λ c lt. subst (λ (w : Worth). IsWorth s node c (price_at prices) w.worth) (sym (at c lt)) (answer c lt).worth;
+        claims = λ c lt. subst (λ (w : Worth). (1 ≤ w.claim) × (w.claim ≤ moves)) (sym (at c lt)) (answer c lt).visits;
+        fit = λ c lt. subst (λ (w : Worth). fits node c (price_at prices) w.worth w.claim) (sym (at c lt)) (answer c lt).claim;
+      }
+
+  least-of : (c : ℕ) → c < car_count s → (spent : Bool) → (get_or cars c no_turn).priced.spent ≡ spent → ReachesLeast s node c (price_at prices) (get_or cars c no_turn).priced.worth ⊎ HasPartialTours s node c moves
+  least-of c lt true e = inr ((answer c lt).many e)
+  least-of c lt false e = inl ((answer c lt).least e)
+
+  pub turn-least : AreLeastIn s moves node (sheet_of_turn prices cars)
+  turn-least c lt =
+      subst (λ (w : Worth). ReachesLeast s node c (price_at prices) w.worth ⊎ HasPartialTours s node c moves) (sym (at c lt)) (least-of c lt (get_or cars c no_turn).priced.spent refl)
+
+  module _ (sheet : PriceSheet) (in_node : IsSheetIn fits s moves node sheet) (same : sheet.prices ≡ prices) where
+    raised_at : (c : ℕ) → c < car_count s → get_or (raised sheet.worths cars) c no_worth ≡ greater_of (get_or sheet.worths c no_worth) (turn_worth (get_or cars c no_turn))
+    raised_at c lt =
+        let count = answers.count in
+        let have = in_node.cars in
+        raised-at sheet.worths cars c (omega (arith, lt, have)) (omega (arith, count, have))
+
+    in_both : (P : ℤ → ℕ → Type 0) (c : ℕ) → c < car_count s → P (worth_of_car sheet c) (claim_of_car sheet c) → P (get_or cars c no_turn).priced.worth (get_or cars c no_turn).priced.visits → P (worth_of_car (raised_sheet sheet cars) c) (claim_of_car (raised_sheet sheet cars) c)
+    in_both P c lt p q =
+        let g = greater (get_or sheet.worths c no_worth) (turn_worth (get_or cars c no_turn)) in
+        let whole : P (greater_of (get_or sheet.worths c no_worth) (turn_worth (get_or cars c no_turn))).worth (greater_of (get_or sheet.worths c no_worth) (turn_worth (get_or cars c no_turn))).claim = elim g.is [ inl e ↦ subst (λ (w : Worth). P w.worth w.claim) (sym e) p | inr e ↦ subst (λ (w : Worth). P w.worth w.claim) (sym e) q ] in
+        subst (λ (w : Worth). P w.worth w.claim) (sym (raised_at c lt)) whole
+
+    pub raised-sheet-in : IsSheetIn fits s moves node (raised_sheet sheet cars)
+    raised-sheet-in =
+        record {
+          calls = in_node.calls;
+          cars = raised-length sheet.worths cars ∙ in_node.cars;
+          worths = λ c lt. in_both (λ worth claim. IsWorth s node c (price_at sheet.prices) worth) c lt (in_node.worths c lt) (subst (λ (ps : List ℤ). IsWorth s node c (price_at ps) (get_or cars c no_turn).priced.worth) (sym same) (answer c lt).worth);
+          claims = λ c lt. in_both (λ worth claim. (1 ≤ claim) × (claim ≤ moves)) c lt (in_node.claims c lt) (answer c lt).visits;
+          fit = λ c lt. in_both (λ worth claim. fits node c (price_at sheet.prices) worth claim) c lt (in_node.fit c lt) (subst (λ (ps : List ℤ). fits node c (price_at ps) (get_or cars c no_turn).priced.worth (get_or cars c no_turn).priced.visits) (sym same) (answer c lt).claim);
+        }
+
+    pub raised-least : AreLeastIn s moves node (raised_sheet sheet cars)
+    raised-least c lt =
+        let g = greater (get_or sheet.worths c no_worth) (turn_worth (get_or cars c no_turn)) in
+        let rises : (get_or cars c no_turn).priced.worth ≤ℤ worth_of_car (raised_sheet sheet cars) c = subst (λ (w : Worth). (get_or cars c no_turn).priced.worth ≤ℤ w.worth) (sym (raised_at c lt)) g.second in
+        elim (least-of c lt (get_or cars c no_turn).priced.spent refl) [ inl r ↦ inl (subst (λ (ps : List ℤ). ReachesLeast s node c (price_at ps) (worth_of_car (raised_sheet sheet cars) c)) (sym same) (record { tour = r.tour; within = r.within; least = (let below = r.least in omega (arith, ints, below, rises)) })) | inr many ↦ inr many ]
+
+-- ---- the first car that was spent
+
+pub spent-car : (P : ℕ → Type 0) (i : ℕ) (cars : List TurnOf) → ((k : ℕ) → k < length cars → (get_or cars k no_turn).priced.spent ≡ true → P (i + k)) → IfSome (first_spent i cars) P
+spent-car P i [] h = tt
+spent-car P i (t ∷ cars) h = by_spent t.priced.spent refl (spent-car P (i + 1) cars (λ k lt e. subst P (omega arith) (h (suc k) (omega (arith, lt)) e)))
+  where
+    by_spent : (b : Bool) → t.priced.spent ≡ b → IfSome (first_spent (i + 1) cars) P → IfSome (cond b (Some i) (first_spent (i + 1) cars)) P
+    by_spent true e rest = subst P (omega arith) (h 0 (omega arith) e)
+    by_spent false e rest = rest
+
+pub none-spent : (i : ℕ) (cars : List TurnOf) → first_spent i cars ≡ None → (k : ℕ) → k < length cars → (get_or cars k no_turn).priced.spent ≡ false
+none-spent i [] e k lt = absurd (omega (arith, lt))
+none-spent i (t ∷ cars) e k lt = by_spent t.priced.spent refl e k lt (λ rest k' lt'. none-spent (i + 1) cars rest k' lt')
+  where
+    by_spent : (b : Bool) → t.priced.spent ≡ b → cond b (Some i) (first_spent (i + 1) cars) ≡ None → (k : ℕ) → k < suc (length cars) → (first_spent (i + 1) cars ≡ None → (k' : ℕ) → k' < length cars → (get_or cars k' no_turn).priced.spent ≡ false) → (get_or (t ∷ cars) k no_turn).priced.spent ≡ false
+    by_spent true is none k lt rest = absurd (cc none)
+    by_spent false is none zero lt rest = is
+    by_spent false is none (suc k) lt rest = rest none k (omega (arith, lt))
+
+-- ---- sums
+
+raised-sum : (worths : List Worth) (cars : List TurnOf) → length cars ≡ length worths → (sum_of_worths worths ≤ℤ sum_of_worths (raised worths cars)) × (sum_of_worths (map turn_worth cars) ≤ℤ sum_of_worths (raised worths cars))
+raised-sum [] [] e = (omega (arith, ints), omega (arith, ints))
+raised-sum [] (t ∷ cars) e = absurd (omega (arith, e))
+raised-sum (w ∷ worths) [] e = absurd (omega (arith, e))
+raised-sum (w ∷ worths) (t ∷ cars) e =
+    let g = greater w (turn_worth t) in
+    let first = g.first in
+    let second = g.second in
+    let rest = raised-sum worths cars (omega (arith, e)) in
+    let a = rest.0 in
+    let b = rest.1 in
+    (omega (arith, ints, first, a), omega (arith, ints, second, b))
+
+pub raised-at-least : (sheet : PriceSheet) (prices : List ℤ) (cars : List TurnOf) → length cars ≡ length sheet.worths → sheet.prices ≡ prices → (sum_of_sheet sheet ≤ℤ sum_of_sheet (raised_sheet sheet cars)) × (sum_of_sheet (sheet_of_turn prices cars) ≤ℤ sum_of_sheet (raised_sheet sheet cars))
+raised-at-least sheet prices cars e same =
+    let both = raised-sum sheet.worths cars e in
+    let a = both.0 in
+    let b = both.1 in
+    let is = ap (int_sum_by (λ (x : ℤ). x)) same in
+    (omega (arith, ints, a), omega (arith, ints, b, is))
+
+-- the sheet with the greater sum is one of the two
+pub record IsBetter (sheet other x : PriceSheet) : Type 0 where
+  is : (x ≡ sheet) ⊎ (x ≡ other)
+  first : sum_of_sheet sheet ≤ℤ sum_of_sheet x
+  second : sum_of_sheet other ≤ℤ sum_of_sheet x
+
+pub better : (sheet other : PriceSheet) → IsBetter sheet other (better_of sheet other)
+better sheet other = by_test (int_lt (sum_of_sheet sheet) (sum_of_sheet other)) refl
+  where
+    by_test : (b : Bool) → int_lt (sum_of_sheet sheet) (sum_of_sheet other) ≡ b → IsBetter sheet other (cond b other sheet)
+    by_test true e = record { is = inr refl; first = omega (arith, ints, e); second = omega (arith, ints) }
+    by_test false e = record { is = inl refl; first = omega (arith, ints); second = omega (arith, ints, e) }
+
+-- ---- the leaf
+
+pub record IsNotedSheet (fits : Fits) (s : Snapshot) (moves : ℕ) (node : Node) (old : PriceSheet) (turn new : PriceSheet) : Type 0 where
+  pub sheet : IsSheetIn fits s moves node new
+  pub least : AreLeastIn s moves node new
+  pub rises : sum_of_sheet old ≤ℤ sum_of_sheet new
+  pub takes : sum_of_sheet turn ≤ℤ sum_of_sheet new
+
+pub noted-sheet : (fits : Fits) (s : Snapshot) (moves : ℕ) (node : Node) (b : Branch) (prices : List ℤ) (cars : List TurnOf) → IsLeafIn fits s moves node b → BeginsAt b prices → AreAnswersIn fits s moves node prices cars → IsNotedSheet fits s moves node b.sheet (sheet_of_turn prices cars) (noted b prices cars).sheet
+noted-sheet fits s moves node b prices cars leaf begins answers = by_test (b.rounds == 0) refl
+  where
+    Is : PriceSheet → Type 0
+    Is new = IsNotedSheet fits s moves node b.sheet (sheet_of_turn prices cars) new
+
+    by_test : (v : Bool) → (b.rounds == 0) ≡ v → Is (cond v (raised_sheet b.sheet cars) (better_of b.sheet (sheet_of_turn prices cars)))
+    by_test true e =
+        let same = begins (eqb-true b.rounds 0 e) in
+        let count : length cars ≡ length b.sheet.worths = answers.count ∙ sym leaf.sheet.cars in
+        let sums = raised-at-least b.sheet prices cars count same in
+        record { sheet = raised-sheet-in fits s moves node prices cars answers b.sheet leaf.sheet same; least = raised-least fits s moves node prices cars answers b.sheet leaf.sheet same; rises = sums.0; takes = sums.1 }
+    by_test false e =
+        let was : 0 < b.rounds = elim (cases_lt 0 b.rounds) [ inl lt ↦ lt | inr past ↦ absurd (both_ways (b.rounds == 0) e (eq-eqb b.rounds 0 (omega (arith, past)))) ] in
+        let g = better b.sheet (sheet_of_turn prices cars) in
+        record {
+          sheet = elim g.is [ inl is ↦ subst (IsSheetIn fits s moves node) (sym is) leaf.sheet | inr is ↦ subst (IsSheetIn fits s moves node) (sym is) (turn-sheet fits s moves node prices cars answers) ];
+          least = elim g.is [ inl is ↦ subst (AreLeastIn s moves node) (sym is) (leaf.priced was) | inr is ↦ subst (AreLeastIn s moves node) (sym is) (turn-least fits s moves node prices cars answers) ];
+          rises = g.first;
+          takes = g.second;
+        }
+
+pub noted-leaf : (fits : Fits) (s : Snapshot) (moves : ℕ) (node : Node) (b : Branch) (prices : List ℤ) (cars : List TurnOf) → IsLeafIn fits s moves node b → BeginsAt b prices → AreAnswersIn fits s moves node prices cars → IsLeafIn fits s moves node (noted b prices cars)
+noted-leaf fits s moves node b prices cars leaf begins answers =
+    let new = noted-sheet fits s moves node b prices cars leaf begins answers in
+    let count = answers.count in
+    record {
+      sheet = new.sheet;
+      priced = λ _. new.least;
+      spent = spent-car (IsSpentCar s moves node) 0 cars (λ k lt e. subst (IsSpentCar s moves node) (omega arith) (omega (arith, lt, count), (answers.each k (omega (arith, lt, count))).many e));
+    }

@@ -1,0 +1,6 @@
+pub mod Sheets
+pub mod Kept
+pub mod Branches
+pub mod Parts
+pub mod Standing
+pub mod Answers

@@ -1,0 +1,88 @@
+-- Prices and worths of a leaf, in the order of the calls and cars.
+use Rattle.std.specs.Prelude.{ℕ, ◌+◌, ◌*◌, ◌^◌, ◌<◌, ◌≤◌, ℤ, pos, neg_ℤ, ◌+ℤ◌, ◌≤ℤ◌, int_lt, List, [], ◌∷◌, length, map, slice_index_or, if◌then◌else◌}
+use Rattle.search_model.specs.declared.PriceOf.{PriceOf}
+use Rattle.search_model.specs.declared.WorthOf.{WorthOf}
+use Rattle.search_model.specs.declared.Leaf.{Leaf}
+use Rattle.search_model.specs.declared.TurnOf.{TurnOf}
+use Rattle.search_model.specs.Sums.{int_sum_by}
+use Rattle.assign_branch.specs.Pricings.{IsWorthSize}
+use Rattle.search_model.specs.Solving.{no_turn}
+use Rattle.search_tree.specs.declared.sheets.Worth.{Worth}
+
+-- a price for each call and a worth for each car
+pub record PriceSheet : Type 0 where
+  pub prices : List ℤ
+  pub worths : List Worth
+
+abbrev pub no_worth : Worth
+no_worth = record { worth = pos 0; claim = 0 }
+
+abbrev pub worth_of_car : PriceSheet → ℕ → ℤ
+worth_of_car sheet c = (slice_index_or sheet.worths c no_worth).worth
+
+abbrev pub claim_of_car : PriceSheet → ℕ → ℕ
+claim_of_car sheet c = (slice_index_or sheet.worths c no_worth).claim
+
+abbrev pub sum_of_worths : List Worth → ℤ
+sum_of_worths worths = int_sum_by (λ (w : Worth). w.worth) worths
+
+-- the prices and worths, added up
+abbrev pub sum_of_sheet : PriceSheet → ℤ
+sum_of_sheet sheet = int_sum_by (λ (x : ℤ). x) sheet.prices +ℤ sum_of_worths sheet.worths
+
+-- ---- sizes
+
+abbrev pub AreWorthSizes : List Worth → Type 0
+AreWorthSizes worths = (c : ℕ) → c < length worths → IsWorthSize (slice_index_or worths c no_worth).worth
+
+-- what the worths of n cars can sum to
+abbrev pub IsWorthSum : (n : ℕ) → ℤ → Type 0
+IsWorthSum n sum = (neg_ℤ (pos (n * 10 ^ 27)) ≤ℤ sum) × (sum ≤ℤ pos (n * 10 ^ 27))
+
+pub record IsSized (sheet : PriceSheet) : Type 0 where
+  pub calls : length sheet.prices ≤ 128
+  pub cars : length sheet.worths ≤ 16
+  pub worths : AreWorthSizes sheet.worths
+
+-- the worths that pricings answered
+abbrev pub AreTurnSizes : List TurnOf → Type 0
+AreTurnSizes cars = (c : ℕ) → c < length cars → IsWorthSize (slice_index_or cars c no_turn).priced.worth
+
+-- ---- leaves
+
+abbrev pub prices_from : (call : ℕ) → List ℤ → List PriceOf
+prices_from call [] = []
+prices_from call (price ∷ prices) = record { call = call; price = price } ∷ prices_from (call + 1) prices
+
+abbrev pub worths_from : (car : ℕ) → List Worth → List WorthOf
+worths_from car [] = []
+worths_from car (w ∷ worths) = record { car = car; worth = w.worth; claim = w.claim } ∷ worths_from (car + 1) worths
+
+-- the leaf of a certificate that states these
+abbrev pub leaf_of : PriceSheet → Leaf
+leaf_of sheet = record { prices = prices_from 0 sheet.prices; worths = worths_from 0 sheet.worths }
+
+-- ---- pricings
+
+abbrev pub turn_worth : TurnOf → Worth
+turn_worth turn = record { worth = turn.priced.worth; claim = turn.priced.visits }
+
+-- what the pricings of all cars at these prices state
+abbrev pub sheet_of_turn : (prices : List ℤ) → List TurnOf → PriceSheet
+sheet_of_turn prices cars = record { prices = prices; worths = map turn_worth cars }
+
+abbrev pub greater_of : Worth → Worth → Worth
+greater_of w v = if int_lt w.worth v.worth then v else w
+
+-- each car keeps the greater of its two worths
+abbrev pub raised : List Worth → List TurnOf → List Worth
+raised [] cars = []
+raised (w ∷ worths) [] = w ∷ worths
+raised (w ∷ worths) (turn ∷ cars) = greater_of w (turn_worth turn) ∷ raised worths cars
+
+-- the sheet with the greater sum
+abbrev pub better_of : PriceSheet → PriceSheet → PriceSheet
+better_of sheet other = if int_lt (sum_of_sheet sheet) (sum_of_sheet other) then other else sheet
+
+abbrev pub raised_sheet : PriceSheet → List TurnOf → PriceSheet
+raised_sheet sheet cars = record { prices = sheet.prices; worths = raised sheet.worths cars }

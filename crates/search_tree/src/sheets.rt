@@ -1,0 +1,253 @@
+//! Prices and worths, in the order of the calls and cars.
+
+ghost use Rattle.std.specs.Prelude.{◌≡◌, ◌≤◌, IfOk, length, map};
+ghost use Rattle.search_model.specs.Sums.{rounded_up};
+ghost use Rattle.search_tree.specs.Kept.{KeepsSum, of_lists};
+ghost use Rattle.search_tree.specs.Sheets.{AreTurnSizes, AreWorthSizes, IsSized, IsWorthSum, greater_of, leaf_of, prices_from, raised, sum_of_sheet, sum_of_worths, turn_worth, worths_from};
+
+use price_scale::{Price, sum_prices, unscale_up};
+use search_model::{Items, Leaf, PriceOf, TurnOf, WorthOf};
+use std::alloc::{AllocError, Global};
+use std::marker::Model;
+
+/// A worth of a car, and the claim that fits it: how many partial tours a checker visits for it at most.
+#[derive(Clone, Copy, PartialEq, Eq, Debug)]
+pub struct Worth {
+    /// In thousandths of a cost unit.
+    pub worth: i128,
+    pub claim: u64,
+}
+
+impl Worth {
+    /// What a pricing answered.
+    fn of_turn(turn: &TurnOf) -> Self
+        ensures { result ≡ turn_worth turn.now }
+    {
+        Self {
+            worth: turn.priced.worth,
+            claim: turn.priced.visits,
+        }
+    }
+
+    /// The greater of two worths of a car, with its claim; this one where they are equal.
+    fn greater(self, other: Self) -> Self
+        ensures { result ≡ greater_of self other }
+    {
+        if self.worth < other.worth {
+            other
+        } else {
+            self
+        }
+    }
+}
+
+/// The sum of the worths, in thousandths of a cost unit.
+fn sum_worths(worths: &[Worth]) -> i128
+    requires cars { length worths.now ≤ 16 }
+    requires sizes { AreWorthSizes worths.now }
+    ensures sum { result ≡ sum_of_worths worths.now }
+    ensures range { IsWorthSum 16 result }
+{
+    let mut sum = 0;
+    for car in 0..worths.len() {
+        sum += worths[car].worth;
+    }
+    sum
+}
+
+/// The sum of the prices and worths, in thousandths of a cost unit.
+fn sum_all(prices: &[Price], worths: &[Worth]) -> i128
+    requires { IsSized (of_lists prices.now worths.now) }
+    ensures { KeepsSum prices.now worths.now result }
+{
+    sum_prices(prices) + sum_worths(worths)
+}
+
+/// Keeps for each car the greater of its worth and the worth of its pricing.
+fn raise_worths(worths: &mut [Worth], cars: &[TurnOf])
+    requires { length cars.now ≡ length worths.old }
+    ensures { worths.new ≡ raised worths.old cars.now }
+{
+    for car in 0..worths.len() {
+        worths[car] = worths[car].greater(Worth::of_turn(&cars[car]));
+    }
+}
+
+/// Gives each car the worth of its pricing.
+fn take_worths(worths: &mut [Worth], cars: &[TurnOf])
+    requires { length cars.now ≡ length worths.old }
+    ensures { worths.new ≡ map turn_worth cars.now }
+{
+    for car in 0..worths.len() {
+        worths[car] = Worth::of_turn(&cars[car]);
+    }
+}
+
+/// A price for each call and a worth for each car, in their order: a leaf of a certificate in the making.
+#[derive(Drop)]
+pub struct Sheet {
+    prices: Vec<Price>,
+    worths: Vec<Worth>,
+    /// All of them added up.
+    sum: i128,
+}
+
+impl Model for Sheet {
+    ghost use Rattle.search_tree.specs.Sheets.{PriceSheet};
+    ghost use Rattle.search_tree.specs.Kept.{KeepsSum};
+
+    ghost Value = { PriceSheet };
+
+    ghost view = { λ x. record { prices = x.prices.items; worths = x.worths.items } };
+
+    ghost invariant = { λ x. KeepsSum x.prices.items x.worths.items x.sum };
+}
+
+impl Sheet {
+    ghost use Rattle.search_tree.specs.Sheets.{better_of, raised_sheet, sheet_of_turn};
+
+    /// These prices and worths.
+    pub fn new(prices: Vec<Price>, worths: Vec<Worth>) -> Self
+        requires calls { length prices.items ≤ 128 }
+        requires cars { length worths.items ≤ 16 }
+        requires sizes { AreWorthSizes worths.items }
+        ensures { result ≡ record { prices = prices.items; worths = worths.items } }
+    {
+        let sum = sum_all(&prices, &worths);
+        Sheet {
+            prices,
+            worths,
+            sum,
+        }
+    }
+
+    /// The prices of the calls, in thousandths of a cost unit.
+    pub fn prices(&self) -> &[Price]
+        ensures prices { result.now ≡ self.now.prices }
+        ensures sized { IsSized self.now }
+    {
+        &self.prices
+    }
+
+    /// The worths of the cars.
+    pub fn worths(&self) -> &[Worth]
+        ensures worths { result.now ≡ self.now.worths }
+        ensures sized { IsSized self.now }
+    {
+        &self.worths
+    }
+
+    /// All prices and worths added up, in thousandths of a cost unit.
+    pub fn sum(&self) -> i128
+        ensures sum { result ≡ sum_of_sheet self.now }
+        ensures sized { IsSized self.now }
+    {
+        self.sum
+    }
+
+    /// What each feasible plan of the leaf's node costs at least, in cost units.
+    pub fn bound(&self) -> i128
+        ensures { result ≡ rounded_up (sum_of_sheet self.now) }
+    {
+        unscale_up(self.sum)
+    }
+
+    /// The same once more. It fails only where there is no memory left.
+    pub fn copy(&self, alloc: Global) -> Result<Self, AllocError>
+        ensures { IfOk result (λ sheet. sheet ≡ self.now) }
+    {
+        Ok(Sheet {
+            prices: self.prices.as_slice().to_vec(alloc)?,
+            worths: self.worths.as_slice().to_vec(alloc)?,
+            sum: self.sum,
+        })
+    }
+
+    /// Keeps for each car the greater of its worth here and the worth of its pricing at the same prices.
+    pub(crate) fn raise(&mut self, cars: &[TurnOf])
+        requires cars { length cars.now ≡ length self.old.worths }
+        requires sizes { AreTurnSizes cars.now }
+        ensures { self.new ≡ raised_sheet self.old cars.now }
+    {
+        raise_worths(&mut self.worths, cars);
+        self.sum = sum_all(&self.prices, &self.worths);
+    }
+
+    /// Becomes what the pricings of all cars at these prices state.
+    fn take(&mut self, prices: &[Price], cars: &[TurnOf])
+        requires calls { length prices.now ≡ length self.old.prices }
+        requires cars { length cars.now ≡ length self.old.worths }
+        requires sizes { AreTurnSizes cars.now }
+        ensures { self.new ≡ sheet_of_turn prices.now cars.now }
+    {
+        self.prices.copy_from_slice(prices);
+        take_worths(&mut self.worths, cars);
+        self.sum = sum_all(&self.prices, &self.worths);
+    }
+
+    /// Becomes what the pricings of all cars at these prices state, where that has the greater sum.
+    pub(crate) fn improve(&mut self, prices: &[Price], cars: &[TurnOf])
+        requires calls { length prices.now ≡ length self.old.prices }
+        requires cars { length cars.now ≡ length self.old.worths }
+        requires sizes { AreTurnSizes cars.now }
+        ensures { self.new ≡ better_of self.old (sheet_of_turn prices.now cars.now) }
+    {
+        if self.sum < sum_prices(prices) + sum_turn(cars) {
+            self.take(prices, cars);
+        }
+    }
+
+    /// The leaf of a certificate that states these. It fails only where there is no memory left.
+    pub(crate) fn to_leaf(&self, alloc: Global) -> Result<Leaf, AllocError>
+        ensures { IfOk result (λ leaf. leaf ≡ leaf_of self.now) }
+    {
+        let prices = list_prices(alloc, &self.prices)?;
+        let worths = list_worths(alloc, &self.worths)?;
+        Ok(Leaf { prices, worths })
+    }
+}
+
+/// The prices, each with its call. It fails only where there is no memory left.
+fn list_prices(alloc: Global, prices: &[Price]) -> Result<Items<PriceOf>, AllocError>
+    requires { length prices.now ≤ 128 }
+    ensures { IfOk result (λ list. list ≡ prices_from 0 prices.now) }
+{
+    let mut list = Items::new(alloc);
+    for call in 0..prices.len() {
+        list.push(PriceOf {
+            call: call as u32,
+            price: prices[call],
+        })?;
+    }
+    Ok(list)
+}
+
+/// The worths, each with its car. It fails only where there is no memory left.
+fn list_worths(alloc: Global, worths: &[Worth]) -> Result<Items<WorthOf>, AllocError>
+    requires { length worths.now ≤ 16 }
+    ensures { IfOk result (λ list. list ≡ worths_from 0 worths.now) }
+{
+    let mut list = Items::new(alloc);
+    for car in 0..worths.len() {
+        list.push(WorthOf {
+            car: car as u32,
+            worth: worths[car].worth,
+            claim: worths[car].claim,
+        })?;
+    }
+    Ok(list)
+}
+
+/// The sum of the worths that the cars' pricings answered, in thousandths of a cost unit.
+fn sum_turn(cars: &[TurnOf]) -> i128
+    requires cars { length cars.now ≤ 16 }
+    requires sizes { AreTurnSizes cars.now }
+    ensures sum { result ≡ sum_of_worths (map turn_worth cars.now) }
+    ensures range { IsWorthSum 16 result }
+{
+    let mut sum = 0;
+    for car in 0..cars.len() {
+        sum += cars[car].priced.worth;
+    }
+    sum
+}
