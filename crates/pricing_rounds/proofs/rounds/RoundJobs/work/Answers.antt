@@ -1,0 +1,40 @@
+use Rattle.std.specs.Prelude.{slice_index_or}
+use Rattle.std.proofs.Common.{◌/◌, ◌%◌, length, subst}
+use Rattle.std.proofs.lemmas.Option.{slice_get-get_or, get_or_from_slice_get}
+use Rattle.search_model.specs.Prices.{price_at}
+use Rattle.assign_branch.specs.Pricings.{Pricing}
+use Rattle.search_tree.specs.Answers.{IsAnswerIn}
+use Rattle.pricing_rounds.specs.declared.tasks.Task.{Task}
+use Rattle.pricing_rounds.proofs.RoundLemmas.{task-lt, gives_tour}
+use Rattle.pricing_rounds.proofs.rounds.RoundJobs.work.Goals as goal
+
+pub price-priced-requires-clause-node : goal.price-priced-requires-clause-node
+price-priced-requires-clause-node g c =
+    let it = c.args.self.now in
+    (it.is_round.each (c.args.k / it.cars) _ (slice_get-get_or it.tasks.now (c.args.k / it.cars) c.index-self-k.result (task-lt (length it.tasks.now) it.cars c.args.k c.requires.job))).node
+
+pub price-priced-requires-clause-prices : goal.price-priced-requires-clause-prices
+price-priced-requires-clause-prices g c =
+    let it = c.args.self.now in
+    (it.is_round.each (c.args.k / it.cars) _ (slice_get-get_or it.tasks.now (c.args.k / it.cars) c.index-self-k.result (task-lt (length it.tasks.now) it.cars c.args.k c.requires.job))).prices
+
+pub returns-clause-answer : goal.returns-clause-answer
+returns-clause-answer g c task at =
+    let it = c.args.self.now in
+    let s = g.P.Pricer.snapshot it.pricer.now in
+    let fits = g.P.Pricer.fits it.pricer.now in
+    let car = c.args.k % it.cars in
+    let here : Task = slice_index_or it.tasks.now (c.args.k / it.cars) c.index-self-k.result in
+    let told = c.price-priced.ensures in
+    let p : Pricing = record { car = car; node = here.node.now; prices = here.prices.now; answer = c.price-priced.result } in
+    let answer : IsAnswerIn fits s it.moves here.node.now (price_at here.prices.now) car (record { priced = c.price-priced.result; tour = c.in_ok-tour.tour }) = record {
+      worth = told.worth;
+      size = told.size;
+      visits = told.visits;
+      claim = told.claim;
+      least = told.least;
+      gives = λ e. gives_tour s p c.in_ok-tour.tour (c.in_ok-tour.ensures.least p told.held e);
+      many = λ e. (told.spent e).1;
+      within = c.in_ok-tour.ensures.within p told.held;
+    } in
+    subst (λ (t : Task). IsAnswerIn fits s it.moves t.node.now (price_at t.prices.now) car (record { priced = c.price-priced.result; tour = c.in_ok-tour.tour })) (get_or_from_slice_get it.tasks.now (c.args.k / it.cars) task c.index-self-k.result at) answer

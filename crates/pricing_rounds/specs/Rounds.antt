@@ -1,0 +1,33 @@
+-- What a round of pricings is asked and what it answers.
+use Rattle.std.specs.Prelude.{◌≡◌, ℕ, ◌+◌, ◌*◌, ◌<◌, ◌≤◌, ◌^◌, List, length, slice_get, slice_index_or, Some}
+use Rattle.elevator_model.specs.Snapshot.{Snapshot, car_count, call_count}
+use Rattle.search_model.specs.declared.TurnOf.{TurnOf}
+use Rattle.search_model.specs.Nodes.{IsNodeOf}
+use Rattle.search_model.specs.Prices.{price_at}
+use Rattle.search_model.specs.Solving.{Fits, no_turn}
+use Rattle.search_tree.specs.Answers.{IsAnswerIn}
+use Rattle.pricing_rounds.specs.declared.tasks.Task.{Task}
+
+-- a node of the snapshot's search, and one price for each call
+pub record IsTaskOf (s : Snapshot) (task : Task) : Type 0 where
+  pub node : IsNodeOf s task.node.now
+  pub prices : length task.prices.now ≡ call_count s
+
+-- few tasks and cars, so that their pricings can be numbered, and what each pricing requires
+pub record IsRound (s : Snapshot) (tasks : List Task) (cars moves : ℕ) : Type 0 where
+  pub few_tasks : length tasks ≤ 4
+  pub few_cars : cars ≤ 16
+  pub cars_are : cars ≡ car_count s
+  pub each : (i : ℕ) (task : Task) → slice_get tasks i ≡ Some task → IsTaskOf s task
+  pub low : 1 ≤ moves
+  pub high : moves ≤ 10 ^ 18
+
+-- a pricing of car c at task i, where there is such a task
+abbrev pub IsAnswerOf : Fits → Snapshot → (moves : ℕ) → List Task → (i c : ℕ) → TurnOf → Type 0
+IsAnswerOf fits s moves tasks i c answer =
+    (task : Task) → slice_get tasks i ≡ Some task → IsAnswerIn fits s moves task.node.now (price_at task.prices.now) c answer
+
+-- the pricings of all cars at all tasks: at i * cars + c stands that of car c at task i
+abbrev pub AreAnswersOf : Fits → Snapshot → (moves : ℕ) → List Task → (cars : ℕ) → List TurnOf → Type 0
+AreAnswersOf fits s moves tasks cars answers =
+    (i c : ℕ) → c < cars → IsAnswerOf fits s moves tasks i c (slice_index_or answers (i * cars + c) no_turn)
