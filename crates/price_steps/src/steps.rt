@@ -1,0 +1,182 @@
+//! What a node remembers of its pricings.
+
+ghost use Rattle.std.specs.Prelude.{◌≡◌, ◌<◌, ◌≤◌, true, IfOk, IfSome, MatchOption, length};
+ghost use Rattle.search_model.specs.Nodes.{is_part, set_of};
+ghost use Rattle.search_tree.specs.Branches.{AreSingle};
+
+use crate::ascent::raise;
+use crate::fixed::{ONE, percent_of};
+use crate::lacks::{Lacks, calls_in};
+use crate::moves::{step, take_back};
+use crate::shares::Shares;
+use assign_branch::Node;
+use price_scale::{Price, SCALE};
+use restricted_master::Pool;
+use search_model::TurnOf;
+use search_tree::{Sheet, SplitAt, first_choice};
+use std::alloc::{AllocError, Global};
+
+/// How many pricings a node has at most.
+const MOST_PRICINGS: u32 = 20;
+
+/// How many pricings are judged together.
+const JUDGED: u32 = 4;
+
+/// How often the way to the model's prices is halved at most.
+const MOST_BACK: u32 = 3;
+
+/// The least rate, and the least one of a new node.
+const LEAST_RATE: i64 = ONE / 64;
+
+const LEAST_NEW_RATE: i64 = ONE / 8;
+
+/// What a node of a search remembers of its pricings and of those of the nodes above it: from it come the prices of the
+/// next pricing, when the node is split, and where.
+#[derive(Debug, Drop)]
+pub struct Steps {
+    /// For each call, in 2^20ths: the average of 1 less the number of tours that took it, of which the newest pricing
+    /// makes a sixth.
+    violation: Vec<i64>,
+    shares: Shares,
+    /// The share of the gap that a step is to close, in 2^20ths.
+    rate: i64,
+    /// How often the way to the model's prices is halved.
+    back: u32,
+    /// By how much each of the last pricings raised the leaf's sum, the newest first, in thousandths of a cost unit.
+    gains: [i128; 4],
+    /// How many pricings the node had.
+    pricings: u32,
+}
+
+impl Steps {
+    /// Of a root that was not priced yet. It fails only where there is no memory left.
+    pub fn new(alloc: Global, calls: usize, cars: usize) -> Result<Self, AllocError> {
+        Ok(Steps {
+            violation: vec![in alloc; 0; calls]?,
+            shares: Shares::new(alloc, calls, cars)?,
+            rate: ONE,
+            back: 0,
+            gains: [0; 4],
+            pricings: 0,
+        })
+    }
+
+    /// Of a part of this node, which was not priced yet. It fails only where there is no memory left.
+    pub fn child(&self, alloc: Global) -> Result<Self, AllocError> {
+        Ok(Steps {
+            violation: self.violation.as_slice().to_vec(alloc)?,
+            shares: self.shares.copy(alloc)?,
+            rate: self.rate.max(LEAST_NEW_RATE),
+            back: 0,
+            gains: [0; 4],
+            pricings: 0,
+        })
+    }
+
+    /// Takes in a pricing of all cars, which raised the leaf's sum by so much, in thousandths of a cost unit. It is
+    /// spent where some car's pricing reached the limit of partial tours: its tours then tell nothing.
+    pub fn note(&mut self, cars: &[TurnOf], gain: i128, spent: bool) {
+        if !spent {
+            self.note_tours(cars);
+        }
+        self.note_gain(gain, spent);
+    }
+
+    /// Takes in which car took which call.
+    fn note_tours(&mut self, cars: &[TurnOf]) {
+        let mut lacks = Lacks::new();
+        for (car, turn) in cars.iter().enumerate() {
+            let calls = calls_in(&turn.tour);
+            lacks.note(calls);
+            self.shares.note(car, calls);
+        }
+        for (part, lack) in self.violation.iter_mut().zip(&lacks.per_call) {
+            *part = part.saturating_add(lack.saturating_sub(*part) / 6);
+        }
+    }
+
+    /// Takes in what a pricing gained.
+    fn note_gain(&mut self, gain: i128, spent: bool) {
+        let has_gained = 0 < gain;
+        let percent = match (spent, has_gained) {
+            (true, _) => 50,
+            (false, true) => 117,
+            (false, false) => 83,
+        };
+        self.rate = percent_of(percent, self.rate).min(2 * ONE).max(LEAST_RATE);
+        self.back = if has_gained {
+            self.back.saturating_sub(1)
+        } else {
+            self.back.saturating_add(1).min(MOST_BACK)
+        };
+        let [first, second, third, _] = self.gains;
+        self.gains = [gain, first, second, third];
+        self.pricings = self.pricings.saturating_add(1);
+    }
+
+    /// The prices at which the node is priced next, where its leaf is this one and the best known plan costs so many
+    /// cost units. It fails only where there is no memory left.
+    ///
+    /// They lie on the way to prices at which the pool's tours in the node say more than the leaf does. Where the leaf's
+    /// own are the best that are found, they are a step from there by what the calls lacked on average.
+    pub fn next_prices(
+        &self,
+        alloc: Global,
+        leaf: &Sheet,
+        target_cost: u64,
+        node: &Node,
+        pool: &Pool,
+    ) -> Result<Vec<Price>, AllocError>
+        ensures { IfOk result (λ prices. length prices.items ≡ length leaf.now.prices) }
+    {
+        let target = SCALE.saturating_mul(i128::from(target_cost));
+        let from = leaf.prices();
+        let mut prices = from.to_vec(alloc)?;
+        let mut room = from.to_vec(alloc)?;
+        let sum = raise(
+            pool,
+            node,
+            target,
+            prices.as_mut_slice(),
+            room.as_mut_slice(),
+        );
+        if leaf.sum() < sum && prices.as_slice() != from {
+            take_back(prices.as_mut_slice(), from, self.back);
+        } else {
+            let gap = target.saturating_sub(leaf.sum());
+            step(
+                from,
+                self.violation.as_slice(),
+                gap,
+                self.rate,
+                prices.as_mut_slice(),
+            );
+        }
+        Ok(prices)
+    }
+
+    /// Whether the node is to be split, where its leaf's sum is below the cost of the best known plan by so much, in
+    /// thousandths of a cost unit: its last pricings together closed less than a tenth of the gap, or it had as many as
+    /// a node may have.
+    pub fn is_due(&self, gap: i128) -> bool {
+        let mut gained: i128 = 0;
+        for gain in &self.gains {
+            gained = gained.saturating_add(*gain);
+        }
+        let is_slow = gained.saturating_mul(10) < gap.saturating_add(gained);
+        MOST_PRICINGS <= self.pricings || JUDGED <= self.pricings && is_slow
+    }
+
+    /// At which call the node is split, of so many, and how: such that the pricings' tours are divided as evenly as may
+    /// be. None exactly where each call has one car.
+    pub fn choice(&self, node: &Node, calls: usize) -> Option<SplitAt>
+        requires { calls ≤ 128 }
+        ensures call { MatchOption result (AreSingle calls node.now) (λ at. at.call < calls) }
+        ensures part { IfSome result (λ at. is_part (set_of node.now at.call) at.part ≡ true) }
+    {
+        match self.shares.most_even(node, calls) {
+            Some(at) => Some(at),
+            None => first_choice(node, calls),
+        }
+    }
+}
