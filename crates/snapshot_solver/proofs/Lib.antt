@@ -1,0 +1,4 @@
+pub mod LeastLemmas
+pub mod SumLemmas
+pub mod StartBound
+pub mod StartSheet

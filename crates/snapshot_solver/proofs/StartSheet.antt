@@ -1,0 +1,98 @@
+-- The leaf with which a search starts has right worths and claims in the root, and its sum is what no plan costs
+-- less than.
+use Rattle.std.proofs.Common.{◌≡◌, ℕ, zero, suc, ◌+◌, ◌<◌, ◌≤◌, Bool, false, List, [], length, get_or, refl, sym, ap, ◌∙◌, subst, zero-add, arith}
+use Rattle.std.specs.Prelude.{ℤ, int_lt}
+use Rattle.std.proofs.lemmas.Int.{ints}
+use Rattle.std.proofs.lemmas.Bool.{and_right, cond-false}
+use Rattle.std.proofs.lemmas.List.FromFn.{get_or-map-range_with_len, length-map-range_with_len}
+use Rattle.elevator_model.specs.declared.Move.{Move}
+use Rattle.elevator_model.specs.Snapshot.{Snapshot, IsAccepted, car_count, call_count, group_of}
+use Rattle.elevator_model.specs.Partial.{Course, course_start, moves_of}
+use Rattle.search_model.specs.Bounds.{completion_bound}
+use Rattle.search_model.specs.Extending.{can_be_extended}
+use Rattle.search_model.specs.Kept.{is_kept, kept_list}
+use Rattle.search_model.specs.Nodes.{allows, requires_of, root_of}
+use Rattle.search_model.specs.Orders.{lists_from, move_limit}
+use Rattle.search_model.specs.Prices.{IsWorth, price_at, scaled}
+use Rattle.search_model.specs.Solving.{fits_kept, floor_of_bound, least_lone_cost, start_prices, straight_cost}
+use Rattle.search_model.proofs.SumLemmas.{int_sum-same, scaled-sum}
+use Rattle.assign_branch.specs.Pricings.{IsWorthSize}
+use Rattle.pricing_bound.specs.LowerLemmas.{bound_is_lower}
+use Rattle.search_tree.specs.declared.sheets.Worth.{Worth}
+use Rattle.search_tree.specs.Sheets.{AreWorthSizes, PriceSheet, no_worth, sum_of_sheet}
+use Rattle.snapshot_solver.specs.Starts.{IsRootSheet, start_worth, start_worths, aboard_cost}
+use Rattle.snapshot_solver.proofs.SumLemmas.{int_sum_by-below, sum-by_owner}
+use Rattle.snapshot_solver.proofs.StartBound.{bound-start, aboard_cost-size}
+
+abbrev pub start_sheet : Snapshot → PriceSheet
+start_sheet s = record { prices = start_prices s; worths = start_worths s }
+
+worth-at : (s : Snapshot) (c : ℕ) → c < car_count s → get_or (start_worths s) c no_worth ≡ start_worth s c
+worth-at s c car = get_or-map-range_with_len (start_worth s) 0 (car_count s) c c no_worth car (zero-add c)
+
+-- ---- worths
+
+root-worth : (s : Snapshot) (c : ℕ) → IsAccepted s → c < car_count s → IsWorth s (root_of s) c (price_at (start_prices s)) (start_worth s c).worth
+root-worth s c accepted car = λ tour within.
+    bound_is_lower s c (price_at (start_prices s)) (allows (root_of s) c) (requires_of (root_of s) c) [] (course_start s c) tour accepted car refl (moves_of s tour, refl) within
+
+-- ---- claims
+
+none_from : (s : Snapshot) (c : ℕ) (allowed : ℕ → Bool) (keep : Course → Bool) (n : ℕ) (moves : List Move) (x : Course) → keep x ≡ false → lists_from s c allowed keep n moves x ≡ []
+none_from s c allowed keep zero moves x e = refl
+none_from s c allowed keep (suc n) moves x e = cond-false (keep x) _ [] e
+
+not_below : (z : ℤ) → int_lt z z ≡ false
+not_below z = grind (arith, ints)
+
+-- no partial tour is kept for the bound of the empty one
+none_kept : (s : Snapshot) (c : ℕ) (price : ℕ → ℤ) (allowed required : ℕ → Bool) → kept_list s c price allowed required (completion_bound s c price allowed required (course_start s c)) ≡ []
+none_kept s c price allowed required =
+    let worth = completion_bound s c price allowed required (course_start s c) in
+    none_from s c allowed (is_kept s c price allowed required worth) (move_limit s c + 1) [] (course_start s c) (and_right (can_be_extended s c allowed required (course_start s c)) (int_lt worth worth) (not_below worth))
+
+root-fits : (s : Snapshot) (c : ℕ) → fits_kept s (root_of s) c (price_at (start_prices s)) (start_worth s c).worth 1
+root-fits s c =
+    let none = ap length (none_kept s c (price_at (start_prices s)) (allows (root_of s) c) (requires_of (root_of s) c)) in
+    omega (arith, none)
+
+-- ---- all
+
+start-in_root : (s : Snapshot) → IsAccepted s → IsRootSheet s (start_sheet s)
+start-in_root s accepted moves few =
+    record {
+      calls = length-map-range_with_len (λ j. scaled (least_lone_cost s j)) 0 (call_count s);
+      cars = length-map-range_with_len (start_worth s) 0 (car_count s);
+      worths = λ c car. subst (λ (w : Worth). IsWorth s (root_of s) c (price_at (start_prices s)) w.worth) (sym (worth-at s c car)) (root-worth s c accepted car);
+      claims = λ c car. subst (λ (w : Worth). (1 ≤ w.claim) × (w.claim ≤ moves)) (sym (worth-at s c car)) (omega arith, few);
+      fit = λ c car. subst (λ (w : Worth). fits_kept s (root_of s) c (price_at (start_prices s)) w.worth w.claim) (sym (worth-at s c car)) (root-fits s c);
+    }
+
+start-sum : (s : Snapshot) → IsAccepted s → sum_of_sheet (start_sheet s) ≡ scaled (floor_of_bound s)
+start-sum s accepted =
+    let prices = int_sum_by-below (λ (z : ℤ). z) (λ j. scaled (least_lone_cost s j)) (call_count s) in
+    let worths = int_sum_by-below (λ (w : Worth). w.worth) (start_worth s) (car_count s) in
+    let aboard = int_sum-same (car_count s) (λ c. (start_worth s c).worth) (λ c. scaled (aboard_cost s c)) (λ c car. bound-start s c car) in
+    let calls = scaled-sum (call_count s) (least_lone_cost s) in
+    let cars = scaled-sum (car_count s) (aboard_cost s) in
+    let groups = sum-by_owner (car_count s) (length s.aboard) (λ k. (group_of s k).car) (straight_cost s) (λ k lt. (accepted.groups k lt).car) in
+    omega (arith, ints, prices, worths, aboard, calls, cars, groups)
+
+-- ---- as the code has it
+
+pub sheet-in_root : (s : Snapshot) (sheet : PriceSheet) → IsAccepted s → sheet.prices ≡ start_prices s → sheet.worths ≡ start_worths s → IsRootSheet s sheet
+sheet-in_root s sheet accepted prices worths =
+    subst (λ (xs : List ℤ). IsRootSheet s (record { prices = xs; worths = sheet.worths })) (sym prices) (subst (λ (ws : List Worth). IsRootSheet s (record { prices = start_prices s; worths = ws })) (sym worths) (start-in_root s accepted))
+
+pub sheet-sum : (s : Snapshot) (sheet : PriceSheet) → IsAccepted s → sheet.prices ≡ start_prices s → sheet.worths ≡ start_worths s → sum_of_sheet sheet ≡ scaled (floor_of_bound s)
+sheet-sum s sheet accepted prices worths =
+    ap (λ (xs : List ℤ). sum_of_sheet (record { prices = xs; worths = sheet.worths })) prices ∙ ap (λ (ws : List Worth). sum_of_sheet (record { prices = start_prices s; worths = ws })) worths ∙ start-sum s accepted
+
+pub worths-sized : (s : Snapshot) (worths : List Worth) → IsAccepted s → worths ≡ start_worths s → AreWorthSizes worths
+worths-sized s worths accepted e = subst AreWorthSizes (sym e) all
+  where
+    all : AreWorthSizes (start_worths s)
+    all c lt =
+        let cars = length-map-range_with_len (start_worth s) 0 (car_count s) in
+        let car : c < car_count s = omega (arith, lt, cars) in
+        subst (λ (w : Worth). IsWorthSize w.worth) (sym (worth-at s c car)) (subst IsWorthSize (sym (bound-start s c car)) (aboard_cost-size s c accepted car))

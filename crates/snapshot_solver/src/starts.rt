@@ -1,0 +1,81 @@
+//! The leaf with which a search starts.
+
+ghost use Rattle.std.specs.Prelude.{◌≡◌, ◌<◌, IfOk};
+ghost use Rattle.elevator_model.specs.Snapshot.{car_count, call_count};
+ghost use Rattle.search_model.specs.Prices.{scaled as scaled_lem};
+ghost use Rattle.search_model.specs.Solving.{floor_of_bound, least_lone_cost, start_prices as start_prices_lem};
+ghost use Rattle.search_tree.specs.Sheets.{sum_of_sheet};
+ghost use Rattle.snapshot_solver.specs.Starts.{IsRootSheet, start_worth as start_worth_lem, start_worths as start_worths_lem};
+
+use crate::costs::{aboard_cost_of, least_lone_cost_of};
+use call_state::Snapshot;
+use price_scale::{Price, scaled};
+use search_tree::{Sheet, Worth};
+use std::alloc::{AllocError, Global};
+
+/// The price with which a call starts, its least lone cost.
+fn start_price(snapshot: &Snapshot, call: u32) -> Price
+    requires { call < call_count snapshot.now }
+    ensures { result ≡ scaled_lem (least_lone_cost snapshot.now call) }
+{
+    match Price::new(scaled(least_lone_cost_of(snapshot, call))) {
+        Some(price) => price,
+        None => unreachable!(),
+    }
+}
+
+/// The price of each call, in their order. It fails only where there is no memory left.
+fn start_prices(alloc: Global, snapshot: &Snapshot) -> Result<Vec<Price>, AllocError>
+    ensures { IfOk result (λ prices. prices.items ≡ start_prices_lem snapshot.now) }
+{
+    let mut prices = Vec::new(alloc);
+    for call in 0..snapshot.calls().len() {
+        prices.push(start_price(snapshot, call as u32))?;
+    }
+    Ok(prices)
+}
+
+/// The worth with which a car starts, and the claim that fits it.
+///
+/// At these prices no waiting call adds anything to the completion bound of the empty partial tour, so it is what the
+/// groups aboard cost.
+fn start_worth(snapshot: &Snapshot, car: u32) -> Worth
+    requires { car < car_count snapshot.now }
+    ensures { result ≡ start_worth_lem snapshot.now car }
+{
+    Worth {
+        worth: scaled(aboard_cost_of(snapshot, car)),
+        claim: 1,
+    }
+}
+
+/// The worth of each car, in their order. It fails only where there is no memory left.
+fn start_worths(alloc: Global, snapshot: &Snapshot) -> Result<Vec<Worth>, AllocError>
+    ensures { IfOk result (λ worths. worths.items ≡ start_worths_lem snapshot.now) }
+{
+    let mut worths = Vec::new(alloc);
+    for car in 0..snapshot.building().cars().len() {
+        worths.push(start_worth(snapshot, car as u32))?;
+    }
+    Ok(worths)
+}
+
+/// The leaf with which a search starts: the price of a call is its least lone cost, the worth of a car the completion
+/// bound of its empty partial tour at these prices in the root, and each claim is 1. It fails only where there is no
+/// memory left.
+///
+/// It is right in the root, and adds up to the least lone costs of all calls and what each group aboard costs if its
+/// car goes straight to its destination. No plan costs less.
+pub fn start_leaf(alloc: Global, snapshot: &Snapshot) -> Result<Sheet, AllocError>
+    ensures prices { IfOk result (λ sheet. sheet.prices ≡ start_prices_lem snapshot.now) }
+    ensures worths { IfOk result (λ sheet. sheet.worths ≡ start_worths_lem snapshot.now) }
+    ensures sum { IfOk result
+        (λ sheet. sum_of_sheet sheet ≡ scaled_lem (floor_of_bound snapshot.now)) }
+    ensures root { IfOk result (λ sheet. IsRootSheet snapshot.now sheet) }
+{
+    // The reader says that the snapshot is accepted, so there are at most 128 calls and 16 cars.
+    let _calls = snapshot.calls();
+    let prices = start_prices(alloc, snapshot)?;
+    let worths = start_worths(alloc, snapshot)?;
+    Ok(Sheet::new(prices, worths))
+}
