@@ -12,44 +12,58 @@ use Rattle.elevator_model.specs.Building.{Building}
 use Rattle.elevator_model.specs.Snapshot.{Snapshot, call_count, call_of, no_call}
 use Rattle.elevator_model.specs.Travel.{time_between}
 use Rattle.price_scale.specs.Scale.{IsPrice, IsPriceSum}
+use Rattle.elevator_model.specs.Costs.{cost_of_rider}
 use Rattle.search_model.specs.Bounds.{cost_if_alone}
 use Rattle.search_model.specs.Prices.{scaled, price_at}
 use Rattle.tour_rules.specs.Leaving.{call_cost}
 use Rattle.tour_rules.proofs.Settled.{cost_of_rider-call}
 use Rattle.pricing_bound.specs.declared.rates.Rate.{Rate}
-use Rattle.pricing_bound.specs.Rates.{AreRates, IsRate, cost_at}
+use Rattle.pricing_bound.specs.Rates.{AreRates, IsRate, wait_at}
 
 -- ---- one rate
 
 past : (m r p : ℕ) → m - r - p ≡ m - (r + p)
 past m r p = omega arith
 
-rides : (m t : ℕ) → m + t - m ≡ t
-rides m t = omega arith
-
 -- the products of the code and of the definition
-multiplied : (persons ww pw tw ride wait late : ℕ) → 1000 * persons * (tw * ride) + 1000 * persons * ww * wait + 1000 * persons * pw * late ≡ 1000 * (persons * ((ww * wait + pw * late) + tw * ride))
+multiplied : (persons ww pw tw ride wait late : ℕ) → persons * ww * wait + persons * pw * late + persons * tw * ride ≡ persons * ((ww * wait + pw * late) + tw * ride)
 multiplied persons ww pw tw ride wait late = omega arith
 
-cost_found : (b : Building) (call : Call) (m : ℕ) → 1000 * call.persons * (b.travel_weight * time_between b.travel call.origin call.destination) + 1000 * call.persons * b.wait_weight * (m - call.released) + 1000 * call.persons * b.patience_weight * (m - (call.released + b.patience)) ≡ 1000 * call_cost b call m (m + time_between b.travel call.origin call.destination)
-cost_found b call m =
-    let t = time_between b.travel call.origin call.destination in
-    multiplied call.persons b.wait_weight b.patience_weight b.travel_weight t (m - call.released) (m - (call.released + b.patience)) ∙ ap (λ (x : ℕ). 1000 * (call.persons * ((b.wait_weight * (m - call.released) + b.patience_weight * x) + b.travel_weight * t))) (sym (past m call.released b.patience)) ∙ ap (λ (x : ℕ). 1000 * (call.persons * ((b.wait_weight * (m - call.released) + b.patience_weight * (m - call.released - b.patience)) + b.travel_weight * x))) (sym (rides m t))
+cost_found : (b : Building) (call : Call) (boarded delivered : ℕ) → call.persons * b.wait_weight * (boarded - call.released) + call.persons * b.patience_weight * (boarded - (call.released + b.patience)) + call.persons * b.travel_weight * (delivered - boarded) ≡ call_cost b call boarded delivered
+cost_found b call boarded delivered =
+    multiplied call.persons b.wait_weight b.patience_weight b.travel_weight (delivered - boarded) (boarded - call.released) (boarded - (call.released + b.patience)) ∙ ap (λ (x : ℕ). call.persons * ((b.wait_weight * (boarded - call.released) + b.patience_weight * x) + b.travel_weight * (delivered - boarded))) (sym (past boarded call.released b.patience))
 
-pub rate_is : (s : Snapshot) (j : ℕ) (b : Building) (call : Call) (rate : Rate) → b ≡ s.building → call ≡ call_of s j → j < call_count s → rate.released ≡ call.released → rate.late ≡ call.released + b.patience → rate.slope ≡ 1000 * call.persons * b.wait_weight → rate.steeper ≡ 1000 * call.persons * b.patience_weight → rate.ride ≡ 1000 * call.persons * (b.travel_weight * time_between b.travel call.origin call.destination) → rate.slope ≤ 8000000 → rate.steeper ≤ 8000000 → rate.ride ≤ 160000000000000 → rate.price ≡ pos 0 → IsRate s j rate
-rate_is s j b call rate same_building same_call lt released late slope steeper ride slope_small steeper_small ride_small price = record {
-  cost = λ m. let found = cost_found b call m in let code = ap (λ (x : ℕ). x + rate.slope * (m - rate.released) + rate.steeper * (m - rate.late)) ride ∙ ap (λ (x : ℕ). 1000 * call.persons * (b.travel_weight * time_between b.travel call.origin call.destination) + x * (m - rate.released) + rate.steeper * (m - rate.late)) slope ∙ ap (λ (x : ℕ). 1000 * call.persons * (b.travel_weight * time_between b.travel call.origin call.destination) + 1000 * call.persons * b.wait_weight * (m - x) + rate.steeper * (m - rate.late)) released ∙ ap (λ (x : ℕ). 1000 * call.persons * (b.travel_weight * time_between b.travel call.origin call.destination) + 1000 * call.persons * b.wait_weight * (m - call.released) + x * (m - rate.late)) steeper ∙ ap (λ (x : ℕ). 1000 * call.persons * (b.travel_weight * time_between b.travel call.origin call.destination) + 1000 * call.persons * b.wait_weight * (m - call.released) + 1000 * call.persons * b.patience_weight * (m - x)) late in let of_call = ap (λ (x : Building). call_cost x call m (m + time_between x.travel call.origin call.destination)) same_building ∙ ap (λ (x : Call). call_cost s.building x m (m + time_between s.building.travel x.origin x.destination)) same_call in let of_rider = cost_of_rider-call s j m (m + time_between s.building.travel (call_of s j).origin (call_of s j).destination) lt in let all : cost_at rate m ≡ 1000 * cost_if_alone s j m = code ∙ found ∙ ap (λ (x : ℕ). 1000 * x) (of_call ∙ sym of_rider) in in_thousandths (cost_at rate m) (cost_if_alone s j m) all;
-  slope = slope_small;
-  steeper = steeper_small;
-  ride = ride_small;
-  price = subst IsPrice (sym price) none_is_price;
-}
+-- the straight ride takes its time
+straight : (s : Snapshot) (j : ℕ) (rate : Rate) (time : ℕ) → ((b d : ℕ) → (rate.wait * (b - rate.released) + rate.over * (b - rate.late)) + rate.travel * (d - b) ≡ cost_of_rider s j b d) → time ≡ time_between s.building.travel (call_of s j).origin (call_of s j).destination → rate.ride ≡ rate.travel * time → (m : ℕ) → (rate.wait * (m - rate.released) + rate.over * (m - rate.late)) + rate.ride ≡ cost_if_alone s j m
+straight s j rate time cost is ride m =
+    let whole : rate.ride ≡ rate.travel * (m + time - m) = ride ∙ ap (λ (x : ℕ). rate.travel * x) (sym (rides m time)) in
+    ap (λ (x : ℕ). (rate.wait * (m - rate.released) + rate.over * (m - rate.late)) + x) whole ∙ cost m (m + time) ∙ ap (λ (t : ℕ). cost_of_rider s j m (m + t)) is
   where
-    in_thousandths : (x y : ℕ) → x ≡ 1000 * y → pos x ≡ scaled y
-    in_thousandths x y e = omega (arith, ints, e)
+    rides : (m t : ℕ) → m + t - m ≡ t
+    rides m t = omega arith
 
+pub rate_is : (s : Snapshot) (j : ℕ) (b : Building) (call : Call) (rate : Rate) (time : ℕ) → b ≡ s.building → call ≡ call_of s j → j < call_count s → time ≡ time_between b.travel call.origin call.destination → rate.released ≡ call.released → rate.late ≡ call.released + b.patience → rate.wait ≡ call.persons * b.wait_weight → rate.over ≡ call.persons * b.patience_weight → rate.travel ≡ call.persons * b.travel_weight → rate.ride ≡ rate.travel * time → rate.wait ≤ 8000 → rate.over ≤ 8000 → rate.travel ≤ 8000 → rate.ride ≤ 160000000000 → rate.price ≡ pos 0 → IsRate s j rate
+rate_is s j b call rate time same_building same_call lt time_is released late wait over travel ride wait_small over_small travel_small ride_small price =
+    let cost = all_costs in
+    record {
+      cost = cost;
+      alone = straight s j rate time cost (time_is ∙ ap (λ (x : Building). time_between x.travel call.origin call.destination) same_building ∙ ap (λ (x : Call). time_between s.building.travel x.origin x.destination) same_call) ride;
+      wait = wait_small;
+      over = over_small;
+      travel = travel_small;
+      ride = ride_small;
+      ordered = omega (arith, released, late);
+      price = subst IsPrice (sym price) none_is_price;
+    }
+  where
     none_is_price : IsPrice (pos 0)
     none_is_price = (omega (arith, ints), omega (arith, ints))
+
+    all_costs : (m d : ℕ) → (rate.wait * (m - rate.released) + rate.over * (m - rate.late)) + rate.travel * (d - m) ≡ cost_of_rider s j m d
+    all_costs m d =
+        let code = ap (λ (x : ℕ). (x * (m - rate.released) + rate.over * (m - rate.late)) + rate.travel * (d - m)) wait ∙ ap (λ (x : ℕ). (call.persons * b.wait_weight * (m - rate.released) + x * (m - rate.late)) + rate.travel * (d - m)) over ∙ ap (λ (x : ℕ). (call.persons * b.wait_weight * (m - rate.released) + call.persons * b.patience_weight * (m - rate.late)) + x * (d - m)) travel ∙ ap (λ (x : ℕ). (call.persons * b.wait_weight * (m - x) + call.persons * b.patience_weight * (m - rate.late)) + call.persons * b.travel_weight * (d - m)) released ∙ ap (λ (x : ℕ). (call.persons * b.wait_weight * (m - call.released) + call.persons * b.patience_weight * (m - x)) + call.persons * b.travel_weight * (d - m)) late in
+        let of_call = ap (λ (x : Building). call_cost x call m d) same_building ∙ ap (λ (x : Call). call_cost s.building x m d) same_call in
+        code ∙ cost_found b call m d ∙ of_call ∙ sym (cost_of_rider-call s j m d lt)
 
 -- ---- the list
 
@@ -103,7 +117,7 @@ rates_more s n rates new rate h lt is here free =
 
 -- a rate with another price
 repriced : (s : Snapshot) (j : ℕ) (rate : Rate) (price : ℤ) → IsRate s j rate → IsPrice price → IsRate s j (record rate { price = price })
-repriced s j rate price h in_range = record { cost = h.cost; slope = h.slope; steeper = h.steeper; ride = h.ride; price = in_range }
+repriced s j rate price h in_range = record { cost = h.cost; alone = h.alone; wait = h.wait; over = h.over; travel = h.travel; ride = h.ride; ordered = h.ordered; price = in_range }
 
 pub rates_set : (s : Snapshot) (rates new : List Rate) (j : ℕ) (rate : Rate) (price : ℤ) → AreRates s rates → j < length rates → rate ≡ get_or rates j rate → new ≡ set rates j (record rate { price = price }) → IsPrice price → AreRates s new
 rates_set s rates new j rate price h lt is new_is in_range =
@@ -151,14 +165,14 @@ pub stored_in_range : (z : ℤ) → IsPrice z → IsPrice (to_z w128 (of_z w128 
 stored_in_range z h = subst IsPrice (sym (stored_price z h)) h
 
 -- a term, as the code finds it
-pub term_found : (cost scaled_cost price : ℤ) (z : ℕ) → cost ≡ pos z → z ≤ 2 * 10 ^ 18 → pos z ≡ scaled_cost → IsPrice price → to_z w128 (of_z w128 (to_z w128 (of_z w128 cost) -ℤ to_z w128 (of_z w128 price))) ≡ scaled_cost -ℤ price
-term_found cost scaled_cost price z is small whole h =
+pub term_found : (cost price : ℤ) (z : ℕ) → cost ≡ scaled z → z ≤ 2 * 10 ^ 15 → IsPrice price → to_z w128 (of_z w128 (to_z w128 (of_z w128 cost) -ℤ to_z w128 (of_z w128 price))) ≡ scaled z -ℤ price
+term_found cost price z is small h =
     let low = h.0 in
     let high = h.1 in
     let one = stored cost (omega (arith, ints, is)) (omega (arith, ints, is, small)) in
     let two = stored_price price h in
-    let both : (to_z w128 (of_z w128 cost) -ℤ to_z w128 (of_z w128 price)) ≡ (scaled_cost -ℤ price) = ap (λ (x : ℤ). x -ℤ to_z w128 (of_z w128 price)) (one ∙ is ∙ whole) ∙ ap (λ (x : ℤ). scaled_cost -ℤ x) two in
-    ap (λ (x : ℤ). to_z w128 (of_z w128 x)) both ∙ stored (scaled_cost -ℤ price) (omega (arith, ints, whole, low, high)) (omega (arith, ints, whole, small, low, high))
+    let both : (to_z w128 (of_z w128 cost) -ℤ to_z w128 (of_z w128 price)) ≡ (scaled z -ℤ price) = ap (λ (x : ℤ). x -ℤ to_z w128 (of_z w128 price)) (one ∙ is) ∙ ap (λ (x : ℤ). scaled z -ℤ x) two in
+    ap (λ (x : ℤ). to_z w128 (of_z w128 x)) both ∙ stored (scaled z -ℤ price) (omega (arith, ints, low, high)) (omega (arith, ints, small, low, high))
 
 pub size_set : (rates new : List Rate) (n j : ℕ) (rate : Rate) → n ≡ length rates → new ≡ set rates j rate → n ≡ length new
 size_set rates new n j rate e is =

@@ -1,51 +1,49 @@
-//! What calls cost alone, laid out once for a snapshot, with one price for each call.
+//! What calls cost, laid out once for a snapshot, with one price for each call.
 
 ghost use Rattle.std.specs.Prelude.{◌≡◌, ℕ, ℤ, pos, neg_ℤ, ◌-ℤ◌, ◌*◌, ◌^◌, ◌<◌, ◌≤◌, ◌≤ℤ◌, IfOk, length, map, nat_lt};
 ghost use Rattle.call_sets.specs.Counting.{has};
 ghost use Rattle.elevator_model.specs.Snapshot.{IsAccepted, Snapshot as SnapshotValue, call_count, call_of};
 ghost use Rattle.price_scale.specs.Scale.{IsPrice};
+ghost use Rattle.elevator_model.specs.Costs.{cost_of_rider};
 ghost use Rattle.search_model.specs.Bounds.{cost_if_alone};
 ghost use Rattle.search_model.specs.Prices.{price_at, scaled as scaled_lem};
-ghost use Rattle.pricing_bound.specs.Rates.{AreRates, IsRate, ArePrices, cost_at};
+ghost use Rattle.pricing_bound.specs.Rates.{AreRates, IsRate, ArePrices, wait_at};
 
 use call_sets::CallSet;
 use call_state::{Building, Call, Snapshot};
-use elevator_model::MOMENT_LIMIT;
-use price_scale::Price;
+use elevator_model::{MOMENT_LIMIT, MOST_CALL_COST};
+use price_scale::{Price, scaled};
 use std::alloc::{AllocError, Global};
 use std::marker::Model;
 
-/// What a call costs if it boards and rides straight to its destination, by the moment at which it boards: a
-/// fixed cost, one for each ms past its release, and one more for each ms past its patience. In thousandths of a
-/// cost unit; moments are in ms.
+/// What a call costs by the moments at which it boards and gets off: so many cost units for each ms past its
+/// release until it boards, so many more for each ms past its patience, and so many for each ms from there on.
+/// Moments are in ms.
 #[derive(Clone, Copy)]
 pub(crate) struct Rate {
     released: u64,
     /// The moment at which its patience ends.
     late: u64,
-    slope: u64,
-    steeper: u64,
+    wait: u64,
+    over: u64,
+    travel: u64,
+    /// What the straight ride to its destination costs, in cost units.
     ride: u64,
-    /// The price of the call, of absolute value at most 10^24.
+    /// The price of the call in thousandths of a cost unit, of absolute value at most 10^24.
     price: i128,
 }
 
 impl Rate {
-    /// The cost where it boards at this moment.
-    ///
-    /// Eight persons wait at most 10^11 ms, of which each costs at most two million thousandths for each of them,
-    /// so all of it is below 2 * 10^18 and fits 64 bits.
-    fn cost(&self, moment: u64) -> u64
-        requires slope { self.now.slope ≤ 8000000 }
-        requires steeper { self.now.steeper ≤ 8000000 }
-        requires ride { self.now.ride ≤ 160000000000000 }
+    /// What its wait until this moment costs.
+    fn wait_cost(&self, moment: u64) -> u64
+        requires wait { self.now.wait ≤ 8000 }
+        requires over { self.now.over ≤ 8000 }
         requires early { moment ≤ MOMENT_LIMIT }
-        ensures value { result ≡ cost_at self.now moment }
-        ensures small { result ≤ 2 * 10 ^ 18 }
+        ensures value { result ≡ wait_at self.now moment }
+        ensures small { result ≤ 1600000000000000 }
     {
-        self.ride
-            + self.slope * moment.saturating_sub(self.released)
-            + self.steeper * moment.saturating_sub(self.late)
+        self.wait * moment.saturating_sub(self.released)
+            + self.over * moment.saturating_sub(self.late)
     }
 }
 
@@ -59,14 +57,16 @@ fn rate_of(building: &Building, call: &Call) -> Rate
         → j < call_count s → IsRate s j result }
     ensures price { result.price ≡ pos 0 }
 {
-    let ride = building.travel().time(call.origin, call.destination);
-    let persons = 1000 * call.persons as u64;
+    let time = building.travel().time(call.origin, call.destination);
+    let persons = call.persons as u64;
+    let travel = persons * building.travel_weight();
     Rate {
         released: call.released,
         late: call.released + building.patience(),
-        slope: persons * building.wait_weight(),
-        steeper: persons * building.patience_weight(),
-        ride: persons * (building.travel_weight() * ride),
+        wait: persons * building.wait_weight(),
+        over: persons * building.patience_weight(),
+        travel,
+        ride: travel * time,
         price: 0,
     }
 }
@@ -178,6 +178,18 @@ impl<'a> Rates<'a> {
         self.rates[call as usize].price
     }
 
+    /// What a call costs that boards and gets off at these moments, in cost units.
+    pub(crate) fn cost(&self, call: u32, boarded: u64, delivered: u64) -> u64
+        requires call { call < call_count self.now.snapshot }
+        requires boarded { boarded ≤ MOMENT_LIMIT }
+        requires delivered { delivered ≤ MOMENT_LIMIT }
+        ensures value { result ≡ cost_of_rider self.now.snapshot call boarded delivered }
+        ensures bounded { result ≤ MOST_CALL_COST }
+    {
+        let rate = &self.rates[call as usize];
+        rate.wait_cost(boarded) + rate.travel * delivered.saturating_sub(boarded)
+    }
+
     /// What a call costs without its price, if it boards at this moment and rides straight to its destination, in
     /// thousandths of a cost unit.
     pub(crate) fn term(&self, call: u32, moment: u64) -> i128
@@ -189,6 +201,6 @@ impl<'a> Rates<'a> {
         ensures high { result ≤ℤ pos (2 * 10 ^ 24) }
     {
         let rate = &self.rates[call as usize];
-        i128::from(rate.cost(moment)) - rate.price
+        scaled(rate.wait_cost(moment) + rate.ride) - rate.price
     }
 }

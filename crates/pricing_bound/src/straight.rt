@@ -214,10 +214,11 @@ impl<'a> StraightRides<'a> {
         ensures { (x : Course) → course prefix.now ≡ Some x → StandFor (aim_at self.now.rates.now
             self.now.car self.now.allowed self.now.required) result x }
     {
-        // The car is one of the snapshot's, and the moves are lawful.
+        // The snapshot is accepted, the car one of its cars and the moves lawful.
+        let _accepted = self.rates.snapshot();
         let _car = prefix.car();
         let _lawful = prefix.moves();
-        let carried = cost_of_carried(self.rates.snapshot(), prefix, self.rates.calls());
+        let carried = cost_of_carried(self.rates, prefix);
         let waiting = self.waiting(sums.counted, prefix.opened());
         sums_of(prefix.settled(), carried, sums.paid, waiting)
     }

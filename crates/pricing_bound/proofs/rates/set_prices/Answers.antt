@@ -9,7 +9,7 @@ pub loop-j-preserved : goal.loop-j-preserved
 loop-j-preserved c =
     let j = c.loop-j.j in
     let rates = c.loop-j.rates in
-    let none : Rate = record { released = 0; late = 0; slope = 0; steeper = 0; ride = 0; price = pos 0 } in
+    let none : Rate = record { released = 0; late = 0; wait = 0; over = 0; travel = 0; ride = 0; price = pos 0 } in
     let old = get_or rates j none in
     let size = c.loop-j.invariant.size in
     let lt = c.loop-j-test.true in

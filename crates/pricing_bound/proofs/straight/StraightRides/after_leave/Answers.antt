@@ -24,7 +24,7 @@ cost_of_carried-carried-requires-clause-late c =
     let step = step_of a (StandFor a c.args.sums.now) t (Leave c.args.floor) led.0 c.requires.for_it c.requires.leads led.1 in
     let here = subst (λ (n : ℕ). n < car_count t.snapshot) c.car-car.ensures.value c.car-car.ensures.car in
     let car = aimed_at a t (λ s c. c < car_count s) c.requires.for_it here in
-    (led.0, led.1, aimed_from a t (λ s c. IsAfterNow s c (reached s c led.0)) c.requires.for_it (left_after_now a.snapshot a.car t.moves c.requires.leads.before c.args.floor led.0 c.snapshot.ensures.accepted car step.whole step.leads))
+    (led.0, led.1, aimed_from a t (λ s c. IsAfterNow s c (reached s c led.0)) c.requires.for_it (left_after_now a.snapshot a.car t.moves c.requires.leads.before c.args.floor led.0 c.snapshot-accepted.ensures.accepted car step.whole step.leads))
 
 pub returns : goal.returns
 returns c = λ y e.
@@ -38,4 +38,4 @@ returns c = λ y e.
     let opened = c.opened.ensures.value y e in
     let waiting = c.waiting-waiting.ensures.sum ∙ ap (λ (m : ℕ). int_sum_where (call_count a.snapshot) (has c.args.sums.now.counted) (adds_at a m)) opened in
     let same = stored_paid c.args.sums.now.paid c.requires.leads.stands_before.paid_small in
-    leave_sums a t c.args.sums.now c.sums_of.result c.args.floor y c.settled.result c.cost_of_carried-carried.result c.waiting-waiting.result.sum c.requires.for_it c.requires.leads c.snapshot.ensures.accepted car c.snapshot.ensures.prices e (omega (arith, bounded)) settled (c.cost_of_carried-carried.ensures.cost y e) waiting (c.sums_of.ensures.bound ∙ ap (λ (z : ℤ). ((scaled c.settled.result +ℤ scaled c.cost_of_carried-carried.result) -ℤ z) +ℤ c.waiting-waiting.result.sum) same) (c.sums_of.ensures.paid ∙ same) (λ k. ap (λ (set : ℕ). has set k) c.sums_of.ensures.counted ∙ c.waiting-waiting.ensures.counted k ∙ ap (λ (m : ℕ). has c.args.sums.now.counted k && counts_at a m k) opened)
+    leave_sums a t c.args.sums.now c.sums_of.result c.args.floor y c.settled.result c.cost_of_carried-carried.result c.waiting-waiting.result.sum c.requires.for_it c.requires.leads c.snapshot-accepted.ensures.accepted car c.snapshot-accepted.ensures.prices e (omega (arith, bounded)) settled (c.cost_of_carried-carried.ensures.cost y e) waiting (c.sums_of.ensures.bound ∙ ap (λ (z : ℤ). ((scaled c.settled.result +ℤ scaled c.cost_of_carried-carried.result) -ℤ z) +ℤ c.waiting-waiting.result.sum) same) (c.sums_of.ensures.paid ∙ same) (λ k. ap (λ (set : ℕ). has set k) c.sums_of.ensures.counted ∙ c.waiting-waiting.ensures.counted k ∙ ap (λ (m : ℕ). has c.args.sums.now.counted k && counts_at a m k) opened)
