@@ -65,6 +65,51 @@ rate_is s j b call rate time same_building same_call lt time_is released late wa
         let of_call = ap (λ (x : Building). call_cost x call m d) same_building ∙ ap (λ (x : Call). call_cost s.building x m d) same_call in
         code ∙ cost_found b call m d ∙ of_call ∙ sym (cost_of_rider-call s j m d lt)
 
+-- ---- how a wait grows
+
+later_both : (wait over x y gap : ℕ) → wait * (x + gap) + over * (y + gap) ≡ wait * x + over * y + (wait + over) * gap
+later_both wait over x y gap = omega arith
+
+-- past its patience
+pub late_even : (wait over r l m k : ℕ) → r ≤ l → l ≤ m → m ≤ k → wait * (k - r) + over * (k - l) ≡ wait * (m - r) + over * (m - l) + (wait + over) * (k - m)
+late_even wait over r l m k ordered late later =
+    let from : k - r ≡ (m - r) + (k - m) = omega (arith, ordered, late, later) in
+    let past : k - l ≡ (m - l) + (k - m) = omega (arith, late, later) in
+    ap (λ (x : ℕ). wait * x + over * (k - l)) from ∙ ap (λ (x : ℕ). wait * ((m - r) + (k - m)) + over * x) past ∙ later_both wait over (m - r) (m - l) (k - m)
+
+pub late_next : (wait over r l m : ℕ) → r ≤ l → l ≤ m → wait * (m + 1 - r) + over * (m + 1 - l) ≡ wait * (m - r) + over * (m - l) + (wait + over)
+late_next wait over r l m ordered late = late_even wait over r l m (m + 1) ordered late (omega arith) ∙ ap (λ (n : ℕ). wait * (m - r) + over * (m - l) + n) (one (wait + over) m)
+  where
+    one : (slope m : ℕ) → slope * (m + 1 - m) ≡ slope
+    one slope m = let e : m + 1 - m ≡ 1 = omega arith in ap (λ (n : ℕ). slope * n) e ∙ times slope
+      where
+        times : (slope : ℕ) → slope * 1 ≡ slope
+        times slope = omega arith
+
+next_one : (wait over x : ℕ) → wait * (x + 1) + over * 0 ≡ wait * x + over * 0 + wait
+next_one wait over x = omega arith
+
+-- before its patience ends
+pub early_next : (wait over r l m : ℕ) → r ≤ m → m < l → wait * (m + 1 - r) + over * (m + 1 - l) ≡ wait * (m - r) + over * (m - l) + wait
+early_next wait over r l m begun early =
+    let from : m + 1 - r ≡ (m - r) + 1 = omega (arith, begun) in
+    let next : m + 1 - l ≡ 0 = omega (arith, early) in
+    let none : m - l ≡ 0 = omega (arith, early) in
+    ap (λ (x : ℕ). wait * x + over * (m + 1 - l)) from ∙ ap (λ (x : ℕ). wait * ((m - r) + 1) + over * x) next ∙ next_one wait over (m - r) ∙ ap (λ (x : ℕ). wait * (m - r) + over * x + wait) (sym none)
+
+-- with the straight ride
+pub alone_even : (s : Snapshot) (j : ℕ) (rate : Rate) (m k slope : ℕ) → IsRate s j rate → wait_at rate k ≡ wait_at rate m + slope * (k - m) → cost_if_alone s j k ≡ cost_if_alone s j m + slope * (k - m)
+alone_even s j rate m k slope h even =
+    let here = h.alone m in
+    let later = h.alone k in
+    omega (arith, here, later, even)
+
+pub alone_rise : (s : Snapshot) (j : ℕ) (rate : Rate) (m slope : ℕ) → IsRate s j rate → wait_at rate (m + 1) ≡ wait_at rate m + slope → slope ≡ cost_if_alone s j (m + 1) - cost_if_alone s j m
+alone_rise s j rate m slope h more =
+    let here = h.alone m in
+    let later = h.alone (m + 1) in
+    omega (arith, here, later, more)
+
 -- ---- the list
 
 none_is_price : IsPrice (pos 0)

@@ -133,7 +133,7 @@ among_filter p j a (suc n) le less e = by_place (a == j) refl (λ next. among_fi
         ap (λ (b : Bool). is_among j (cond b (a ∷ filter p (range_with_len (a + 1) n)) (filter p (range_with_len (a + 1) n)))) here ∙ or_left (a == j) (is_among j (filter p (range_with_len (a + 1) n))) at
     by_place false at rest = taken (p a) (filter p (range_with_len (a + 1) n)) (rest (next at))
 
-among : (bound set j : ℕ) → j < bound → has set j ≡ true → is_among j (members bound set) ≡ true
+pub among : (bound set j : ℕ) → j < bound → has set j ≡ true → is_among j (members bound set) ≡ true
 unfolding members
 among bound set j lt e = among_filter (has set) j 0 bound (omega arith) (omega (arith, lt)) e
 
@@ -165,11 +165,11 @@ none_so_far a m calls left counted sum few within e f g =
       tested = λ j h. or_left (is_among j (members 128 left)) (counts_at a m j) (let is_in = sym (ap (λ (set : ℕ). has set j) f) ∙ h in among 128 left j (let lt = within j is_in in omega (arith, lt, few)) (ap (λ (set : ℕ). has set j) e ∙ is_in));
     }
 
-counted_adds : (r : Bool) (t : ℤ) → (r || int_lt t (pos 0)) ≡ true → cond r t (cond (int_lt t (pos 0)) t (pos 0)) ≡ t
+pub counted_adds : (r : Bool) (t : ℤ) → (r || int_lt t (pos 0)) ≡ true → cond r t (cond (int_lt t (pos 0)) t (pos 0)) ≡ t
 counted_adds true t h = refl
 counted_adds false t h = ap (λ (b : Bool). cond b t (pos 0)) h
 
-dropped_adds : (r : Bool) (t : ℤ) → (r || int_lt t (pos 0)) ≡ false → cond r t (cond (int_lt t (pos 0)) t (pos 0)) ≡ pos 0
+pub dropped_adds : (r : Bool) (t : ℤ) → (r || int_lt t (pos 0)) ≡ false → cond r t (cond (int_lt t (pos 0)) t (pos 0)) ≡ pos 0
 dropped_adds true t h = absurd (false≢true (sym h))
 dropped_adds false t h = ap (λ (b : Bool). cond b t (pos 0)) h
 

@@ -31,6 +31,10 @@ counts_at a m j = a.required j || int_lt (term_at a m j) (pos 0)
 abbrev pub adds_at : Aim → (m j : ℕ) → ℤ
 adds_at a m j = if a.required j then term_at a m j else (if int_lt (term_at a m j) (pos 0) then term_at a m j else pos 0)
 
+-- how much more call j costs that boards a ms past the moment m and rides straight to its destination
+abbrev pub rise_at : Snapshot → (m j : ℕ) → ℕ
+rise_at s m j = cost_if_alone s j (m + 1) - cost_if_alone s j m
+
 -- what the wait until the moment m costs at the rate
 abbrev pub wait_at : Rate → (m : ℕ) → ℕ
 wait_at rate m = rate.wait * (m - rate.released) + rate.over * (m - rate.late)

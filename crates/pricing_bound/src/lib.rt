@@ -12,6 +12,7 @@ mod running;
 mod straight;
 #[cfg(test)]
 mod tests;
+mod waiting;
 #[cfg(test)]
 mod walk_tests;
 #[cfg(test)]

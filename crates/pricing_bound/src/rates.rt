@@ -1,14 +1,15 @@
 //! What calls cost, laid out once for a snapshot, with one price for each call.
 
-ghost use Rattle.std.specs.Prelude.{◌≡◌, ℕ, ℤ, pos, neg_ℤ, ◌-ℤ◌, ◌*◌, ◌^◌, ◌<◌, ◌≤◌, ◌≤ℤ◌, IfOk, length, map, nat_lt};
+ghost use Rattle.std.specs.Prelude.{◌≡◌, ℕ, ℤ, pos, neg_ℤ, ◌-ℤ◌, ◌+◌, ◌-◌, ◌*◌, ◌^◌, ◌<◌, ◌≤◌, ◌≤ℤ◌, IfOk, length, map, nat_lt};
 ghost use Rattle.call_sets.specs.Counting.{has};
 ghost use Rattle.elevator_model.specs.Snapshot.{IsAccepted, Snapshot as SnapshotValue, call_count, call_of};
 ghost use Rattle.price_scale.specs.Scale.{IsPrice};
 ghost use Rattle.elevator_model.specs.Costs.{cost_of_rider};
 ghost use Rattle.search_model.specs.Bounds.{cost_if_alone};
 ghost use Rattle.search_model.specs.Prices.{price_at, scaled as scaled_lem};
-ghost use Rattle.pricing_bound.specs.Rates.{AreRates, IsRate, ArePrices, wait_at};
+ghost use Rattle.pricing_bound.specs.Rates.{AreRates, IsRate, ArePrices, rise_at, wait_at};
 
+use crate::waiting::Growth;
 use call_sets::CallSet;
 use call_state::{Building, Call, Snapshot};
 use elevator_model::{MOMENT_LIMIT, MOST_CALL_COST};
@@ -44,6 +45,34 @@ impl Rate {
     {
         self.wait * moment.saturating_sub(self.released)
             + self.over * moment.saturating_sub(self.late)
+    }
+
+    /// How its wait grows from this moment on.
+    fn growth(&self, moment: u64) -> Growth
+        requires wait { self.now.wait ≤ 8000 }
+        requires over { self.now.over ≤ 8000 }
+        requires ordered { self.now.released ≤ self.now.late }
+        ensures even { (k : ℕ) → moment ≤ k → k ≤ result.until
+            → wait_at self.now k ≡ wait_at self.now moment + result.slope * (k - moment) }
+        ensures slope { wait_at self.now (moment + 1) ≡ wait_at self.now moment + result.slope }
+        ensures gentle { result.slope ≤ 16000 }
+    {
+        if moment >= self.late {
+            Growth {
+                slope: self.wait + self.over,
+                until: u64::MAX,
+            }
+        } else if moment >= self.released {
+            Growth {
+                slope: self.wait,
+                until: self.late,
+            }
+        } else {
+            Growth {
+                slope: 0,
+                until: self.released,
+            }
+        }
     }
 }
 
@@ -202,5 +231,17 @@ impl<'a> Rates<'a> {
     {
         let rate = &self.rates[call as usize];
         scaled(rate.wait_cost(moment) + rate.ride) - rate.price
+    }
+
+    /// How what a call costs that rides straight to its destination grows from this moment of its board on.
+    pub(crate) fn growth(&self, call: u32, moment: u64) -> Growth
+        requires { call < call_count self.now.snapshot }
+        ensures even { (k : ℕ) → moment ≤ k → k ≤ result.until
+            → cost_if_alone self.now.snapshot call k
+            ≡ cost_if_alone self.now.snapshot call moment + result.slope * (k - moment) }
+        ensures slope { result.slope ≡ rise_at self.now.snapshot moment call }
+        ensures gentle { result.slope ≤ 16000 }
+    {
+        self.rates[call as usize].growth(moment)
     }
 }
