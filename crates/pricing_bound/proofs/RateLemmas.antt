@@ -42,8 +42,8 @@ straight s j rate time cost is ride m =
     rides : (m t : ℕ) → m + t - m ≡ t
     rides m t = omega arith
 
-pub rate_is : (s : Snapshot) (j : ℕ) (b : Building) (call : Call) (rate : Rate) (time : ℕ) → b ≡ s.building → call ≡ call_of s j → j < call_count s → time ≡ time_between b.travel call.origin call.destination → rate.released ≡ call.released → rate.late ≡ call.released + b.patience → rate.wait ≡ call.persons * b.wait_weight → rate.over ≡ call.persons * b.patience_weight → rate.travel ≡ call.persons * b.travel_weight → rate.ride ≡ rate.travel * time → rate.wait ≤ 8000 → rate.over ≤ 8000 → rate.travel ≤ 8000 → rate.ride ≤ 160000000000 → rate.price ≡ pos 0 → IsRate s j rate
-rate_is s j b call rate time same_building same_call lt time_is released late wait over travel ride wait_small over_small travel_small ride_small price =
+pub rate_is : (s : Snapshot) (j : ℕ) (b : Building) (call : Call) (rate : Rate) (time : ℕ) → b ≡ s.building → call ≡ call_of s j → j < call_count s → time ≡ time_between b.travel call.origin call.destination → rate.released ≡ call.released → rate.late ≡ call.released + b.patience → rate.wait ≡ call.persons * b.wait_weight → rate.over ≡ call.persons * b.patience_weight → rate.travel ≡ call.persons * b.travel_weight → rate.ride ≡ rate.travel * time → rate.wait ≤ 8000 → rate.over ≤ 8000 → rate.travel ≤ 8000 → rate.ride ≤ 160000000000 → call.released ≤ 1000000000 → rate.price ≡ pos 0 → rate.below ≡ 0 → IsRate s j rate
+rate_is s j b call rate time same_building same_call lt time_is released late wait over travel ride wait_small over_small travel_small ride_small early price below =
     let cost = all_costs in
     record {
       cost = cost;
@@ -53,7 +53,9 @@ rate_is s j b call rate time same_building same_call lt time_is released late wa
       travel = travel_small;
       ride = ride_small;
       ordered = omega (arith, released, late);
+      early = omega (arith, released, early);
       price = subst IsPrice (sym price) none_is_price;
+      below = λ k before. absurd (omega (arith, before, below));
     }
   where
     none_is_price : IsPrice (pos 0)
@@ -160,30 +162,25 @@ rates_more s n rates new rate h lt is here free =
     at_most : (k : ℕ) → k < n + 1 → k ≤ n
     at_most k lt = omega (arith, lt)
 
--- a rate with another price
-repriced : (s : Snapshot) (j : ℕ) (rate : Rate) (price : ℤ) → IsRate s j rate → IsPrice price → IsRate s j (record rate { price = price })
-repriced s j rate price h in_range = record { cost = h.cost; alone = h.alone; wait = h.wait; over = h.over; travel = h.travel; ride = h.ride; ordered = h.ordered; price = in_range }
-
-pub rates_set : (s : Snapshot) (rates new : List Rate) (j : ℕ) (rate : Rate) (price : ℤ) → AreRates s rates → j < length rates → rate ≡ get_or rates j rate → new ≡ set rates j (record rate { price = price }) → IsPrice price → AreRates s new
-rates_set s rates new j rate price h lt is new_is in_range =
+pub rates_set : (s : Snapshot) (rates new : List Rate) (j : ℕ) (rate : Rate) → AreRates s rates → j < length rates → new ≡ set rates j rate → IsRate s j rate → AreRates s new
+rates_set s rates new j rate h lt new_is here =
     let size = h.size in
-    let same = length-set rates j (record rate { price = price }) in
+    let same = length-set rates j rate in
     let all = ap length new_is in
     record {
       size = omega (arith, size, same, all);
       each = λ k d less. subst (λ (xs : List Rate). IsRate s k (get_or xs k d)) (sym new_is) (by_place k d less (k == j) refl);
     }
   where
-    by_place : (k : ℕ) (d : Rate) → k < call_count s → (v : Bool) → (k == j) ≡ v → IsRate s k (get_or (set rates j (record rate { price = price })) k d)
+    by_place : (k : ℕ) (d : Rate) → k < call_count s → (v : Bool) → (k == j) ≡ v → IsRate s k (get_or (set rates j rate) k d)
     by_place k d less true e =
         let at = eqb-true k j e in
-        let size = h.size in
-        subst (λ (i : ℕ). IsRate s i (get_or (set rates j (record rate { price = price })) i d)) (sym at) (subst (IsRate s j) (sym (get_or-set_same rates j (record rate { price = price }) d lt)) (repriced s j rate price (rate_read s rates j rate h (omega (arith, lt, size)) is) in_range))
-    by_place k d less false e = subst (IsRate s k) (sym (get_or-set_other rates j k (record rate { price = price }) d (λ at. both_ways (k == j) e (eq-eqb k j at)))) (h.each k d less)
+        subst (λ (i : ℕ). IsRate s i (get_or (set rates j rate) i d)) (sym at) (subst (IsRate s j) (sym (get_or-set_same rates j rate d lt)) here)
+    by_place k d less false e = subst (IsRate s k) (sym (get_or-set_other rates j k rate d (λ at. both_ways (k == j) e (eq-eqb k j at)))) (h.each k d less)
 
-pub prices_set : (rates new : List Rate) (prices : List ℤ) (j : ℕ) (rate : Rate) (price : ℤ) → map (λ (r : Rate). r.price) (take j rates) ≡ take j prices → j < length rates → j < length prices → price ≡ get_or prices j price → new ≡ set rates j (record rate { price = price }) → map (λ (r : Rate). r.price) (take (j + 1) new) ≡ take (j + 1) prices
-prices_set rates new prices j rate price so_far lt less is new_is =
-    ap (λ (xs : List Rate). map (λ (r : Rate). r.price) (take (j + 1) xs)) new_is ∙ ap (map (λ (r : Rate). r.price)) (take_more_set rates j (record rate { price = price }) lt) ∙ map-append (λ (r : Rate). r.price) (take j rates) (record rate { price = price } ∷ []) ∙ ap (λ (xs : List ℤ). xs ++ price ∷ []) so_far ∙ ap (λ (z : ℤ). take j prices ++ z ∷ []) is ∙ sym (take_more prices j price less)
+pub prices_set : (rates new : List Rate) (prices : List ℤ) (j : ℕ) (rate : Rate) → map (λ (r : Rate). r.price) (take j rates) ≡ take j prices → j < length rates → j < length prices → rate.price ≡ get_or prices j rate.price → new ≡ set rates j rate → map (λ (r : Rate). r.price) (take (j + 1) new) ≡ take (j + 1) prices
+prices_set rates new prices j rate so_far lt less is new_is =
+    ap (λ (xs : List Rate). map (λ (r : Rate). r.price) (take (j + 1) xs)) new_is ∙ ap (map (λ (r : Rate). r.price)) (take_more_set rates j rate lt) ∙ map-append (λ (r : Rate). r.price) (take j rates) (rate ∷ []) ∙ ap (λ (xs : List ℤ). xs ++ rate.price ∷ []) so_far ∙ ap (λ (z : ℤ). take j prices ++ z ∷ []) is ∙ sym (take_more prices j rate.price less)
 
 -- the entry that is read with a default
 pub read_same : (rates : List Rate) (j : ℕ) (d : Rate) → j < length rates → get_or rates j d ≡ get_or rates j (get_or rates j d)

@@ -137,6 +137,39 @@ pub among : (bound set j : ℕ) → j < bound → has set j ≡ true → is_amon
 unfolding members
 among bound set j lt e = among_filter (has set) j 0 bound (omega arith) (omega (arith, lt)) e
 
+-- none is there twice
+abbrev pub AreOnce : List ℕ → Type 0
+AreOnce [] = Unit {0}
+AreOnce (k ∷ ks) = (is_among k ks ≡ false) × AreOnce ks
+
+among_from : (p : ℕ → Bool) (j a n : ℕ) → is_among j (filter p (range_with_len a n)) ≡ true → (a ≤ j) × (p j ≡ true)
+among_from p j a zero e = absurd (false≢true e)
+among_from p j a (suc n) e = by_test (p a) refl (λ h. let rest = among_from p j (a + 1) n h in (let le = rest.0 in omega (arith, le), rest.1)) e
+  where
+    by_place : (v : Bool) → (a == j) ≡ v → p a ≡ true → (is_among j (filter p (range_with_len (a + 1) n)) ≡ true → (a ≤ j) × (p j ≡ true)) → ((a == j) || is_among j (filter p (range_with_len (a + 1) n))) ≡ true → (a ≤ j) × (p j ≡ true)
+    by_place true at h later k = (let same = eqb-true a j at in omega (arith, same), sym (ap p (eqb-true a j at)) ∙ h)
+    by_place false at h later k = later (sym (ap (λ (b : Bool). b || is_among j (filter p (range_with_len (a + 1) n))) at) ∙ k)
+
+    by_test : (v : Bool) → p a ≡ v → (is_among j (filter p (range_with_len (a + 1) n)) ≡ true → (a ≤ j) × (p j ≡ true)) → is_among j (cond v (a ∷ filter p (range_with_len (a + 1) n)) (filter p (range_with_len (a + 1) n))) ≡ true → (a ≤ j) × (p j ≡ true)
+    by_test true h later k = by_place (a == j) refl h later k
+    by_test false h later k = later k
+
+filter_once : (p : ℕ → Bool) (a n : ℕ) → AreOnce (filter p (range_with_len a n))
+filter_once p a zero = tt
+filter_once p a (suc n) = by_test (p a) (filter_once p (a + 1) n)
+  where
+    by_test : (v : Bool) → AreOnce (filter p (range_with_len (a + 1) n)) → AreOnce (cond v (a ∷ filter p (range_with_len (a + 1) n)) (filter p (range_with_len (a + 1) n)))
+    by_test true rest = (false_from_ne_true (is_among a (filter p (range_with_len (a + 1) n))) (λ e. let le = (among_from p a (a + 1) n e).0 in omega (arith, le)), rest)
+    by_test false rest = rest
+
+pub members_once : (bound set : ℕ) → AreOnce (members bound set)
+unfolding members
+members_once bound set = filter_once (has set) 0 bound
+
+pub among_has : (bound set j : ℕ) → is_among j (members bound set) ≡ true → has set j ≡ true
+unfolding members
+among_has bound set j e = (among_from (has set) j 0 bound e).1
+
 -- ---- call by call
 
 -- so far: what the calls add that are not left, and which of all calls count, where those that are left may stay

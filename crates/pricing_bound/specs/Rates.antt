@@ -1,5 +1,5 @@
 -- What calls cost, laid out, and what they add to a bound.
-use Rattle.std.specs.Prelude.{◌≡◌, ◌≤◌, ◌<◌, ℕ, ◌+◌, ◌-◌, ◌*◌, ℤ, pos, ◌-ℤ◌, int_lt, Bool, ◌||◌, List, length, slice_index_or, if◌then◌else◌}
+use Rattle.std.specs.Prelude.{◌≡◌, ◌≤◌, ◌<◌, ℕ, ◌+◌, ◌-◌, ◌*◌, ℤ, pos, ◌-ℤ◌, int_lt, Bool, true, ◌||◌, List, length, slice_index_or, if◌then◌else◌}
 use Rattle.call_sets.specs.Counting.{has}
 use Rattle.elevator_model.specs.Costs.{cost_of_rider}
 use Rattle.elevator_model.specs.Snapshot.{Snapshot, call_count}
@@ -48,7 +48,9 @@ pub record IsRate (s : Snapshot) (j : ℕ) (rate : Rate) : Type 0 where
   pub travel : rate.travel ≤ 8000
   pub ride : rate.ride ≤ 160000000000
   pub ordered : rate.released ≤ rate.late
+  pub early : rate.released ≤ 1000000000
   pub price : IsPrice rate.price
+  pub below : (k : ℕ) → k < rate.below → int_lt (scaled (wait_at rate k + rate.ride) -ℤ rate.price) (pos 0) ≡ true
 
 -- the rates are those of the calls, in their order
 pub record AreRates (s : Snapshot) (rates : List Rate) : Type 0 where

@@ -19,20 +19,37 @@ use Rattle.pricing_bound.specs.Rates.{counts_at, rise_at, term_at}
 abbrev pub is_counted : Aim → Progress → ℕ → Bool
 is_counted a p j = nat_lt j (call_count a.snapshot) && a.allowed j && not (p.boarded j) && counts_at a p.opened j
 
--- From the moment m to another one what call j costs alone grows evenly, and before it the call counts.
-pub record IsSteady (a : Aim) (m until j : ℕ) : Type 0 where
-  pub even : (k : ℕ) → m ≤ k → k ≤ until → cost_if_alone a.snapshot j k ≡ cost_if_alone a.snapshot j m + rise_at a.snapshot m j * (k - m)
-  pub counts : (k : ℕ) → m ≤ k → k < until → counts_at a k j ≡ true
+-- from the moment m to another one what call j costs alone grows evenly
+abbrev pub IsEven : Aim → (m until j : ℕ) → Type 0
+IsEven a m until j = (k : ℕ) → m ≤ k → k ≤ until → cost_if_alone a.snapshot j k ≡ cost_if_alone a.snapshot j m + rise_at a.snapshot m j * (k - m)
 
--- the calls that are counted, what they add at the moment, and how that grows
-pub record AreWaiting (a : Aim) (w : Waiting) : Type 0 where
+-- calls, what they cost at the moment without their prices, and how that grows
+pub record AreEven (a : Aim) (w : Waiting) : Type 0 where
   pub calls : (j : ℕ) → has w.counted j ≡ true → j < call_count a.snapshot
   pub sum : w.sum ≡ int_sum_where (call_count a.snapshot) (has w.counted) (term_at a w.moment)
   pub low : neg_ℤ (pos (256 * 10 ^ 24)) ≤ℤ w.sum
   pub high : w.sum ≤ℤ pos (256 * 10 ^ 24)
   pub slope : w.growth.slope ≡ sum_where (call_count a.snapshot) (has w.counted) (rise_at a.snapshot w.moment)
   pub gentle : w.growth.slope ≤ 2048000
-  pub steady : (j : ℕ) → has w.counted j ≡ true → IsSteady a w.moment w.growth.until j
+  pub even : (j : ℕ) → has w.counted j ≡ true → IsEven a w.moment w.growth.until j
+
+-- They count before a moment.
+pub record AreWaiting (a : Aim) (w : Waiting) : Type 0 where
+  pub are : AreEven a w
+  pub within : w.until ≤ w.growth.until
+  pub counts : (j k : ℕ) → has w.counted j ≡ true → w.moment ≤ k → k < w.until → counts_at a k j ≡ true
+
+-- Of these calls one is left out where it does not count at the moment, and the others stay.
+pub record IsSiftedOf (a : Aim) (w : Waiting) (one : ℕ) (new : Waiting) : Type 0 where
+  pub are : AreEven a new
+  pub moment : new.moment ≡ w.moment
+  pub inside : (j : ℕ) → has new.counted j ≡ true → has w.counted j ≡ true
+  pub others : (j : ℕ) → (j ≡ one → ⊥) → has new.counted j ≡ has w.counted j
+  pub stays : counts_at a w.moment one ≡ true → has new.counted one ≡ true
+  pub counts_now : has new.counted one ≡ true → counts_at a w.moment one ≡ true
+  pub counts : (k : ℕ) → has new.counted one ≡ true → w.moment ≤ k → k < new.until → counts_at a k one ≡ true
+  pub until : new.until ≤ w.until
+  pub within : new.until ≤ new.growth.until
 
 -- the sums are those of a progress: the completion bound, the prices of the calls that boarded, and the calls that
 -- are counted, with what they add where the doors are open

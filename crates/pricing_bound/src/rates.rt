@@ -1,6 +1,6 @@
 //! What calls cost, laid out once for a snapshot, with one price for each call.
 
-ghost use Rattle.std.specs.Prelude.{◌≡◌, ℕ, ℤ, pos, neg_ℤ, ◌-ℤ◌, ◌+◌, ◌-◌, ◌*◌, ◌^◌, ◌<◌, ◌≤◌, ◌≤ℤ◌, IfOk, length, map, nat_lt};
+ghost use Rattle.std.specs.Prelude.{◌≡◌, ℕ, ℤ, pos, neg_ℤ, ◌-ℤ◌, ◌+◌, ◌-◌, ◌*◌, ◌^◌, ◌<◌, ◌≤◌, ◌≤ℤ◌, int_lt, true, IfOk, length, map, nat_lt};
 ghost use Rattle.call_sets.specs.Counting.{has};
 ghost use Rattle.elevator_model.specs.Snapshot.{IsAccepted, Snapshot as SnapshotValue, call_count, call_of};
 ghost use Rattle.price_scale.specs.Scale.{IsPrice};
@@ -32,6 +32,21 @@ pub(crate) struct Rate {
     ride: u64,
     /// The price of the call in thousandths of a cost unit, of absolute value at most 10^24.
     price: i128,
+    /// A moment before which it costs less than its price if it boards and rides straight to its destination.
+    below: u64,
+}
+
+/// The greatest depth that is told.
+const DEEPEST: i128 = 1_000_000_000_000_000_000;
+
+/// How far a term is below 0, or less where that is more than 10^18.
+fn depth_of(term: i128) -> u64
+    requires below { int_lt term (pos 0) ≡ true }
+    requires low { neg_ℤ (pos (2 * 10 ^ 24)) ≤ℤ term }
+    ensures deep { pos result ≤ℤ neg_ℤ term }
+    ensures small { result ≤ 10 ^ 18 }
+{
+    (-term).min(DEEPEST) as u64
 }
 
 impl Rate {
@@ -45,6 +60,44 @@ impl Rate {
     {
         self.wait * moment.saturating_sub(self.released)
             + self.over * moment.saturating_sub(self.late)
+    }
+
+    /// A moment before which it costs less than this price if it boards and rides straight to its destination: the
+    /// first one at which it costs no less, rounded down, where its patience costs nothing.
+    fn below_price(&self, price: i128) -> u64
+        requires wait { self.now.wait ≤ 8000 }
+        requires over { self.now.over ≤ 8000 }
+        requires ride { self.now.ride ≤ 160000000000 }
+        requires ordered { self.now.released ≤ self.now.late }
+        requires early { self.now.released ≤ 1000000000 }
+        requires price { IsPrice price }
+        ensures { (k : ℕ) → k < result → int_lt (scaled_lem (wait_at self.now k + self.now.ride)
+            -ℤ price) (pos 0) ≡ true }
+    {
+        let term = scaled(self.ride) - price;
+        if term >= 0 {
+            return 0;
+        }
+        self.released + depth_of(term) / (1000 * (self.wait + self.over)).max(1)
+    }
+
+    /// The same call at a price.
+    fn at_price(&self, price: i128) -> Rate
+        requires rate { (s : SnapshotValue) × (j : ℕ) × IsRate s j self.now }
+        requires price { IsPrice price }
+        ensures rate { (s : SnapshotValue) (j : ℕ) → IsRate s j self.now → IsRate s j result }
+        ensures price { result.price ≡ price }
+    {
+        Rate {
+            released: self.released,
+            late: self.late,
+            wait: self.wait,
+            over: self.over,
+            travel: self.travel,
+            ride: self.ride,
+            price,
+            below: self.below_price(price),
+        }
     }
 
     /// How its wait grows from this moment on.
@@ -97,6 +150,7 @@ fn rate_of(building: &Building, call: &Call) -> Rate
         travel,
         ride: travel * time,
         price: 0,
+        below: 0,
     }
 }
 
@@ -129,12 +183,13 @@ fn calls_of(snapshot: &Snapshot) -> CallSet
 
 /// Gives each call its price.
 fn set_prices(rates: &mut [Rate], prices: &[Price])
-    requires { length prices.now ≡ length rates.old }
+    requires size { length prices.now ≡ length rates.old }
+    requires are { (s : SnapshotValue) × AreRates s rates.old }
     ensures prices { map (λ rate. rate.price) rates.new ≡ prices.now }
     ensures rates { (s : SnapshotValue) → AreRates s rates.old → AreRates s rates.new }
 {
     for j in 0..prices.len() {
-        rates[j].price = prices[j].value();
+        rates[j] = rates[j].at_price(prices[j].value());
     }
 }
 
@@ -231,6 +286,15 @@ impl<'a> Rates<'a> {
     {
         let rate = &self.rates[call as usize];
         scaled(rate.wait_cost(moment) + rate.ride) - rate.price
+    }
+
+    /// A moment before which what a call costs alone is below its price.
+    pub(crate) fn below(&self, call: u32) -> u64
+        requires { call < call_count self.now.snapshot }
+        ensures { (k : ℕ) → k < result → int_lt (scaled_lem (cost_if_alone self.now.snapshot call k)
+            -ℤ price_at self.now.prices call) (pos 0) ≡ true }
+    {
+        self.rates[call as usize].below
     }
 
     /// How what a call costs that rides straight to its destination grows from this moment of its board on.

@@ -12,7 +12,7 @@ ghost use Rattle.search_model.specs.Prices.{scaled as scaled_lem};
 ghost use Rattle.search_model.specs.Sums.{int_sum_where};
 ghost use Rattle.pricing_bound.specs.Aims.{AimsAt, IsBoundSize, IsLastMove, completion_bound_for};
 ghost use Rattle.pricing_bound.specs.Rates.{adds_at, aim_at, counts_at, rise_at, term_at};
-ghost use Rattle.pricing_bound.specs.Running.{AreWaiting, IsSteady, StandFor};
+ghost use Rattle.pricing_bound.specs.Running.{AreEven, AreWaiting, IsEven, IsSiftedOf, StandFor};
 ghost use Rattle.search_model.specs.Prices.{price_at};
 ghost use Rattle.search_model.proofs.BoundLemmas.{bound_is_at_least};
 ghost use Rattle.pricing_bound.specs.GrowthLemmas.{bound_grows};
@@ -167,36 +167,14 @@ impl<'a> StraightRides<'a> {
         terms
     }
 
-    /// How what a call costs grows from this moment on, at which it counts, as long as it does.
-    fn growth_of(&self, call: u32, moment: u64) -> Growth
-        requires call { call < call_count self.now.rates.now.snapshot }
-        requires early { moment ≤ MOMENT_LIMIT }
-        requires counts { counts_at (aim_at self.now.rates.now self.now.car self.now.allowed
-            self.now.required) moment call ≡ true }
-        ensures slope { result.slope ≡ rise_at self.now.rates.now.snapshot moment call }
-        ensures gentle { result.slope ≤ 16000 }
-        ensures steady { IsSteady (aim_at self.now.rates.now self.now.car self.now.allowed
-            self.now.required) moment result.until call }
-    {
-        let growth = self.rates.growth(call, moment);
-        if self.required.contains(call) {
-            growth
-        } else {
-            growth.below_zero(self.rates.term(call, moment), moment)
-        }
-    }
-
-    /// How what calls cost grows from this moment on, at which each of them counts, as long as each does.
+    /// How what calls cost grows from this moment on.
     fn growth(&self, calls: CallSet, moment: u64) -> Growth
         requires within { (j : ℕ) → has calls j ≡ true
             → j < call_count self.now.rates.now.snapshot }
-        requires early { moment ≤ MOMENT_LIMIT }
-        requires counts { (j : ℕ) → has calls j ≡ true → counts_at (aim_at self.now.rates.now self.now.car self.now.allowed
-            self.now.required) moment j ≡ true }
         ensures slope { result.slope ≡ sum_where (call_count self.now.rates.now.snapshot)
             (has calls) (rise_at self.now.rates.now.snapshot moment) }
         ensures gentle { result.slope ≤ 2048000 }
-        ensures steady { (j : ℕ) → has calls j ≡ true → IsSteady (aim_at self.now.rates.now self.now.car self.now.allowed
+        ensures even { (j : ℕ) → has calls j ≡ true → IsEven (aim_at self.now.rates.now self.now.car self.now.allowed
             self.now.required) moment result.until j }
     {
         // The snapshot is accepted, so it has at most 128 calls.
@@ -206,19 +184,62 @@ impl<'a> StraightRides<'a> {
             until: u64::MAX,
         };
         for call in calls.iter() {
-            growth = growth.with(self.growth_of(call, moment));
+            growth = growth.with(self.rates.growth(call, moment));
         }
         growth
+    }
+
+    /// The same calls without one that does not count any more. If it does, it is told until when.
+    fn sifted_of(&self, waiting: &Waiting, call: u32) -> Waiting
+        requires are { AreEven (aim_at self.now.rates.now self.now.car self.now.allowed
+            self.now.required) waiting.now }
+        requires within { waiting.now.until ≤ waiting.now.growth.until }
+        requires call { has waiting.now.counted call ≡ true }
+        requires early { waiting.now.moment < LATEST_MOMENT }
+        ensures { IsSiftedOf (aim_at self.now.rates.now self.now.car self.now.allowed
+            self.now.required) waiting.now call result }
+    {
+        // The snapshot is accepted, and no term is great.
+        let _accepted = self.rates.snapshot();
+        let below = self.rates.below(call);
+        if waiting.moment < below {
+            return waiting.told_until(below);
+        }
+        let term = self.rates.term(call, waiting.moment);
+        if self.counts(call, term) {
+            return waiting.told_until(waiting.moment);
+        }
+        let slope = self.rates.growth(call, waiting.moment).slope;
+        waiting.without(call, term, slope)
+    }
+
+    /// Those of the calls that count at the moment, and until when each of them does.
+    fn sifted(&self, waiting: &Waiting) -> Waiting
+        requires are { AreEven (aim_at self.now.rates.now self.now.car self.now.allowed
+            self.now.required) waiting.now }
+        requires until { waiting.now.until ≡ waiting.now.growth.until }
+        requires early { waiting.now.moment < LATEST_MOMENT }
+        ensures counted { (j : ℕ) → has result.counted j
+            ≡ (has waiting.now.counted j && counts_at (aim_at self.now.rates.now self.now.car self.now.allowed
+            self.now.required) waiting.now.moment j) }
+        ensures are { AreWaiting (aim_at self.now.rates.now self.now.car self.now.allowed
+            self.now.required) result }
+        ensures moment { result.moment ≡ waiting.now.moment }
+    {
+        // The snapshot is accepted, so it has at most 128 calls.
+        let _accepted = self.rates.snapshot();
+        let mut sifted = *waiting;
+        for call in waiting.counted.minus(self.required).iter() {
+            sifted = self.sifted_of(&sifted, call);
+        }
+        sifted
     }
 
     /// Those of the calls that count where they board at this moment, with what they add.
     fn waiting(&self, calls: CallSet, moment: u64) -> Waiting
         requires within { (j : ℕ) → has calls j ≡ true
             → j < call_count self.now.rates.now.snapshot }
-        requires early { moment ≤ MOMENT_LIMIT }
-        ensures sum { result.sum ≡ int_sum_where (call_count self.now.rates.now.snapshot)
-            (has calls) (adds_at (aim_at self.now.rates.now self.now.car self.now.allowed
-            self.now.required) moment) }
+        requires early { moment < LATEST_MOMENT }
         ensures counted { (j : ℕ) → has result.counted j ≡ (has calls j && counts_at (aim_at self.now.rates.now self.now.car self.now.allowed
             self.now.required) moment j) }
         ensures are { AreWaiting (aim_at self.now.rates.now self.now.car self.now.allowed
@@ -226,23 +247,22 @@ impl<'a> StraightRides<'a> {
         ensures moment { result.moment ≡ moment }
     {
         let terms = self.terms(calls, moment);
-        Waiting {
+        let growth = self.growth(terms.counted, moment);
+        self.sifted(&Waiting {
             counted: terms.counted,
             sum: terms.sum,
             moment,
-            growth: self.growth(terms.counted, moment),
-        }
+            growth,
+            until: growth.until,
+        })
     }
 
-    /// The same of calls that wait, at a later moment. No call is looked at as long as the growth is told.
+    /// The same of calls that wait, at a later moment. No call is looked at as long as each of them is told to count.
     fn waiting_later(&self, waiting: &Waiting, moment: u64) -> Waiting
         requires are { AreWaiting (aim_at self.now.rates.now self.now.car self.now.allowed
             self.now.required) waiting.now }
         requires later { waiting.now.moment ≤ moment }
         requires early { moment < LATEST_MOMENT }
-        ensures sum { result.sum ≡ int_sum_where (call_count self.now.rates.now.snapshot)
-            (has waiting.now.counted) (adds_at (aim_at self.now.rates.now self.now.car self.now.allowed
-            self.now.required) moment) }
         ensures counted { (j : ℕ) → has result.counted j
             ≡ (has waiting.now.counted j && counts_at (aim_at self.now.rates.now self.now.car self.now.allowed
             self.now.required) moment j) }
@@ -252,8 +272,10 @@ impl<'a> StraightRides<'a> {
     {
         // The snapshot is accepted, and no term is great.
         let _accepted = self.rates.snapshot();
-        if moment < waiting.growth.until {
+        if moment < waiting.until {
             waiting.later(moment)
+        } else if moment < waiting.growth.until {
+            self.sifted(&waiting.later(moment).told_for_all())
         } else {
             self.waiting(waiting.counted, moment)
         }

@@ -1,25 +1,12 @@
 //! What calls that wait add to a bound, and how that grows while they wait.
 
-ghost use Rattle.std.specs.Prelude.{◌≡◌, ℕ, pos, neg_ℤ, not, ◌==◌, ◌&&◌, ◌+◌, ◌-◌, ◌*◌, ◌^◌, ◌<◌, ◌≤◌, ◌+ℤ◌, ◌-ℤ◌, ◌≤ℤ◌, int_lt, true};
+ghost use Rattle.std.specs.Prelude.{◌≡◌, ℕ, pos, neg_ℤ, not, ◌==◌, ◌&&◌, ◌+◌, ◌-◌, ◌*◌, ◌^◌, ◌<◌, ◌≤◌, ◌+ℤ◌, ◌-ℤ◌, ◌≤ℤ◌};
 ghost use Rattle.call_sets.specs.Counting.{has};
 ghost use Rattle.search_model.specs.Prices.{scaled as scaled_lem};
 
 use call_sets::CallSet;
 use elevator_model::MOMENT_LIMIT;
 use price_scale::scaled;
-
-/// The most thousandths below 0 that a term is taken to be where it is told how long it stays there.
-const DEEPEST: i128 = 1_000_000_000_000_000_000;
-
-/// How far a term is below 0, or less where that is more than 10^18.
-fn depth_of(term: i128) -> u64
-    requires below { int_lt term (pos 0) ≡ true }
-    requires low { neg_ℤ (pos (2 * 10 ^ 24)) ≤ℤ term }
-    ensures deep { pos result ≤ℤ neg_ℤ term }
-    ensures small { result ≤ 10 ^ 18 }
-{
-    (-term).min(DEEPEST) as u64
-}
 
 /// How a cost grows: by so many cost units each ms, until a moment in ms.
 #[derive(Clone, Copy)]
@@ -42,24 +29,6 @@ impl Growth {
             until: self.until.min(other.until),
         }
     }
-
-    /// The same, no longer than a term stays below 0 that is so many thousandths at this moment.
-    pub(crate) fn below_zero(self, term: i128, moment: u64) -> Growth
-        requires below { int_lt term (pos 0) ≡ true }
-        requires low { neg_ℤ (pos (2 * 10 ^ 24)) ≤ℤ term }
-        requires gentle { self.slope ≤ 16000 }
-        requires early { moment ≤ MOMENT_LIMIT }
-        ensures slope { result.slope ≡ self.slope }
-        ensures first { result.until ≤ self.until }
-        ensures below { (k : ℕ) → moment ≤ k → k < result.until
-            → int_lt (term +ℤ scaled_lem (self.slope * (k - moment))) (pos 0) ≡ true }
-    {
-        let lasting = depth_of(term) / (1000 * self.slope).max(1);
-        Growth {
-            slope: self.slope,
-            until: self.until.min(moment + lasting),
-        }
-    }
 }
 
 /// Calls that wait and count, and what they add to a bound where they board at a moment.
@@ -71,6 +40,8 @@ pub(crate) struct Waiting {
     /// The moment in ms, and how what they cost grows from there on.
     pub(crate) moment: u64,
     pub(crate) growth: Growth,
+    /// A moment before which each of them still counts.
+    pub(crate) until: u64,
 }
 
 impl Waiting {
@@ -86,6 +57,7 @@ impl Waiting {
             +ℤ scaled_lem (self.now.growth.slope * (moment - self.now.moment)) }
         ensures moment { result.moment ≡ moment }
         ensures growth { result.growth ≡ self.now.growth }
+        ensures until { result.until ≡ self.now.until }
     {
         let grown = self.growth.slope * (moment - self.moment);
         Waiting {
@@ -93,6 +65,42 @@ impl Waiting {
             sum: self.sum + scaled(grown),
             moment,
             growth: self.growth,
+            until: self.until,
+        }
+    }
+
+    /// The same, where each is taken to count as long as the growth is told.
+    pub(crate) fn told_for_all(&self) -> Waiting
+        ensures counted { result.counted ≡ self.now.counted }
+        ensures sum { result.sum ≡ self.now.sum }
+        ensures moment { result.moment ≡ self.now.moment }
+        ensures growth { result.growth ≡ self.now.growth }
+        ensures until { result.until ≡ self.now.growth.until }
+    {
+        Waiting {
+            counted: self.counted,
+            sum: self.sum,
+            moment: self.moment,
+            growth: self.growth,
+            until: self.growth.until,
+        }
+    }
+
+    /// The same, where one of them may count no more from a moment on.
+    pub(crate) fn told_until(&self, until: u64) -> Waiting
+        ensures counted { result.counted ≡ self.now.counted }
+        ensures sum { result.sum ≡ self.now.sum }
+        ensures moment { result.moment ≡ self.now.moment }
+        ensures growth { result.growth ≡ self.now.growth }
+        ensures first { result.until ≤ self.now.until }
+        ensures second { result.until ≤ until }
+    {
+        Waiting {
+            counted: self.counted,
+            sum: self.sum,
+            moment: self.moment,
+            growth: self.growth,
+            until: self.until.min(until),
         }
     }
 
@@ -108,7 +116,8 @@ impl Waiting {
         ensures sum { result.sum ≡ self.now.sum -ℤ term }
         ensures moment { result.moment ≡ self.now.moment }
         ensures slope { result.growth.slope + slope ≡ self.now.growth.slope }
-        ensures until { result.growth.until ≡ self.now.growth.until }
+        ensures told { result.growth.until ≡ self.now.growth.until }
+        ensures until { result.until ≡ self.now.until }
     {
         Waiting {
             counted: self.counted.without(call),
@@ -118,6 +127,7 @@ impl Waiting {
                 slope: self.growth.slope - slope,
                 until: self.growth.until,
             },
+            until: self.until,
         }
     }
 }

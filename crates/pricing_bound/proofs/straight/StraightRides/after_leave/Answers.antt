@@ -2,17 +2,17 @@ use Rattle.std.proofs.Common.{◌∙◌, ◌&&◌, ◌<◌, ℕ, ap, sym, subst,
 use Rattle.std.specs.Prelude.{ℤ, ◌+ℤ◌, ◌-ℤ◌}
 use Rattle.call_sets.specs.Counting.{has}
 use Rattle.search_model.specs.Prices.{scaled}
-use Rattle.search_model.specs.Sums.{int_sum_where}
 use Rattle.elevator_model.specs.declared.Move.TheVariants.{Leave}
 use Rattle.elevator_model.specs.Partial.{course_of}
-use Rattle.elevator_model.specs.Snapshot.{call_count, car_count}
+use Rattle.elevator_model.specs.Snapshot.{car_count}
 use Rattle.partial_tours.specs.Courses.{reached}
 use Rattle.partial_tours.proofs.Follow.{is_some_has}
-use Rattle.pricing_bound.specs.Rates.{adds_at, aim_at, counts_at}
+use Rattle.pricing_bound.specs.Rates.{aim_at, counts_at}
 use Rattle.pricing_bound.specs.declared.waiting.Waiting.{Waiting}
 use Rattle.pricing_bound.specs.Running.{AreWaiting, IsAfterNow, StandFor}
 use Rattle.pricing_bound.proofs.Late.{left_after_now}
 use Rattle.pricing_bound.proofs.RateLemmas.{stored_paid}
+use Rattle.pricing_bound.proofs.SteadyLemmas.{adds_of}
 use Rattle.pricing_bound.proofs.RunningLemmas.{step_of, aimed_at, aimed_from, leave_sums, leaves_later}
 use Rattle.pricing_bound.proofs.straight.StraightRides.after_leave.Goals as goal
 
@@ -52,7 +52,8 @@ returns c = λ y e.
     let settled = c.settled.ensures.value y e in
     let bounded = c.settled.ensures.bounded in
     let opened = c.opened.ensures.value y e in
-    let waiting = c.waiting_later-waiting.ensures.sum ∙ ap (λ (m : ℕ). int_sum_where (call_count a.snapshot) (has c.args.sums.now.waiting.counted) (adds_at a m)) opened in
+    let later = c.waiting_later-waiting.ensures in
+    let waiting = adds_of a (reached t.snapshot t.car y).opened c.args.sums.now.waiting.counted c.waiting_later-waiting.result later.are (later.moment ∙ opened) (λ k. later.counted k ∙ ap (λ (m : ℕ). has c.args.sums.now.waiting.counted k && counts_at a m k) opened) in
     let waits = c.sums_of.ensures.waiting in
     let same = stored_paid c.args.sums.now.paid c.requires.leads.stands_before.paid_small in
     leave_sums a t c.args.sums.now c.sums_of.result c.args.floor y c.settled.result c.cost_of_carried-carried.result c.waiting_later-waiting.result.sum c.requires.for_it c.requires.leads c.snapshot-accepted.ensures.accepted car c.snapshot-accepted.ensures.prices e (omega (arith, bounded)) settled (c.cost_of_carried-carried.ensures.cost y e) waiting (c.sums_of.ensures.bound ∙ ap (λ (z : ℤ). ((scaled c.settled.result +ℤ scaled c.cost_of_carried-carried.result) -ℤ z) +ℤ c.waiting_later-waiting.result.sum) same) (c.sums_of.ensures.paid ∙ same) (λ k. ap (λ (w : Waiting). has w.counted k) waits ∙ c.waiting_later-waiting.ensures.counted k ∙ ap (λ (m : ℕ). has c.args.sums.now.waiting.counted k && counts_at a m k) opened) (subst (AreWaiting a) (sym waits) c.waiting_later-waiting.ensures.are) (ap (λ (w : Waiting). w.moment) waits ∙ c.waiting_later-waiting.ensures.moment ∙ opened)

@@ -1,12 +1,13 @@
-use Rattle.std.proofs.Common.{◌∙◌, ℕ, ap, sym, subst, arith}
+use Rattle.std.proofs.Common.{◌+◌, ◌*◌, ◌-◌, ◌∙◌, ℕ, ap, sym, subst, arith}
 use Rattle.std.specs.List.{sum_by}
 use Rattle.call_sets.specs.Counting.{has, members, is_among}
 use Rattle.elevator_model.specs.Snapshot.{call_count}
+use Rattle.search_model.specs.Bounds.{cost_if_alone}
 use Rattle.partial_tours.proofs.Departing.{AreBelow, members_sum, members_below, below_first, below_rest, sum_step}
 use Rattle.tour_rules.proofs.Stops.{most_calls_few}
 use Rattle.pricing_bound.specs.Rates.{aim_at, rise_at}
 use Rattle.pricing_bound.proofs.CarriedLemmas.{one_taken}
-use Rattle.pricing_bound.proofs.SteadyLemmas.{not_left, steady_step}
+use Rattle.pricing_bound.proofs.SteadyLemmas.{not_left, even_step}
 use Rattle.pricing_bound.proofs.WaitingLemmas.{AllPass, members_few, members_pass, passes_first}
 use Rattle.pricing_bound.proofs.straight.StraightRides.growth.Goals as goal
 
@@ -25,14 +26,11 @@ loop-call-init c =
       slope = omega (arith, all, moved);
       few = members_few 128 c.into_iter-call-iterator.result.left;
       gentle = omega arith;
-      steady = λ j h none. not_left j (c.into_iter-call-iterator.result.left) (let near = c.requires.within j h in omega (arith, near, high)) (ap (λ (set : ℕ). has set j) left ∙ h) none;
+      even = λ j h none. not_left j (c.into_iter-call-iterator.result.left) (let near = c.requires.within j h in omega (arith, near, high)) (ap (λ (set : ℕ). has set j) left ∙ h) none;
     }
 
-pub growth_of-requires-clause-call : goal.growth_of-requires-clause-call
-growth_of-requires-clause-call c = below_first (call_count c.args.self.now.rates.now.snapshot) c.in-Some.call _ _ c.loop-call.invariant.below c.in-Some.ensures.steps
-
-pub growth_of-requires-clause-counts : goal.growth_of-requires-clause-counts
-growth_of-requires-clause-counts c = c.requires.counts c.in-Some.call (passes_first (has c.args.calls) _ _ c.in-Some.call c.loop-call.invariant.within c.in-Some.ensures.steps).0
+pub growth-requires : goal.growth-requires
+growth-requires c = below_first (call_count c.args.self.now.rates.now.snapshot) c.in-Some.call _ _ c.loop-call.invariant.below c.in-Some.ensures.steps
 
 pub with-growth-requires-clause-slope : goal.with-growth-requires-clause-slope
 with-growth-requires-clause-slope c = let gentle = c.loop-call.invariant.gentle in omega (arith, gentle)
@@ -44,8 +42,8 @@ loop-call-preserved c =
     let a = aim_at it.rates.now it.car it.allowed it.required in
     let one = c.in-Some.call in
     let with = c.with-growth.ensures in
-    let own = c.growth_of.ensures in
-    let taken = one_taken _ _ one 128 16000 c.loop-call.growth.slope c.growth_of.result.slope c.loop-call.invariant.few c.in-Some.ensures.steps c.loop-call.invariant.gentle own.gentle in
+    let own = c.growth.ensures in
+    let taken = one_taken _ _ one 128 16000 c.loop-call.growth.slope c.growth.result.slope c.loop-call.invariant.few c.in-Some.ensures.steps c.loop-call.invariant.gentle own.gentle in
     let step = sum_step (rise_at s c.args.moment) c.loop-call.growth.slope _ one _ _ c.loop-call.invariant.slope c.in-Some.ensures.steps in
     let gentle = taken.1 in
     let sum = with.slope in
@@ -56,8 +54,8 @@ loop-call-preserved c =
       slope = omega (arith, step, sum, rise);
       few = taken.0;
       gentle = omega (arith, gentle, sum);
-      steady = steady_step a c.args.moment one _ _ c.args.calls c.loop-call.growth.until c.growth_of.result.until c.with-growth.result.until c.in-Some.ensures.steps c.loop-call.invariant.steady own.steady with.first with.second;
+      even = even_step a c.args.moment one _ _ c.args.calls c.loop-call.growth.until c.growth.result.until c.with-growth.result.until c.in-Some.ensures.steps c.loop-call.invariant.even (λ k later most. own.even k later most ∙ ap (λ (r : ℕ). cost_if_alone s one c.args.moment + r * (k - c.args.moment)) own.slope) with.first with.second;
     }
 
-pub returns-clause-steady : goal.returns-clause-steady
-returns-clause-steady c = λ j h. c.loop-call.invariant.steady j h (ap (is_among j) c.in-None.ensures.steps.0)
+pub returns-clause-even : goal.returns-clause-even
+returns-clause-even c = λ j h. c.loop-call.invariant.even j h (ap (is_among j) c.in-None.ensures.steps.0)
