@@ -356,8 +356,8 @@ impl<'a> StraightRides<'a> {
         let _accepted = self.rates.snapshot();
         let _car = prefix.car();
         let _lawful = prefix.moves();
-        let carried = cost_of_carried(self.rates, prefix);
         let waiting = self.waiting_later(&sums.waiting, prefix.opened());
+        let carried = cost_of_carried(self.rates, prefix);
         sums_of(prefix.settled(), carried, sums.paid, waiting)
     }
 }
