@@ -1,6 +1,6 @@
 -- Rates of calls, one by one and as a list.
 use Rattle.std.proofs.Common.{◌≡◌, ℕ, ◌+◌, ◌-◌, ◌*◌, ◌<◌, ◌≤◌, ◌^◌, Bool, true, false, ltb, List, [], ◌∷◌, ◌++◌, map, set, take, length, get_or, refl, sym, ap, ◌∙◌, subst, inl, inr, arith, length-append, ◌==◌}
-use Rattle.std.specs.Prelude.{ℤ, pos, negsuc, neg_ℤ, ◌+ℤ◌, ◌-ℤ◌, ◌≤ℤ◌}
+use Rattle.std.specs.Prelude.{ℤ, pos, negsuc, neg_ℤ, ◌-ℤ◌, ◌≤ℤ◌}
 use Rattle.std.proofs.lemmas.Int.{ints, to_z-of_z}
 use Rattle.std.proofs.lemmas.List.{get_or-map, get_or_past, get_or_append_left, get_or_push, get_or_default, length-map, get_or-set_same, get_or-set_other, length-set, take_more, take_more_set, map-append}
 use Rattle.std.proofs.lemmas.Bool.{ltb-true, ltb-false, eqb-true, eq-eqb, both_ways}
@@ -221,14 +221,6 @@ size_set rates new n j rate e is =
     let same = length-set rates j rate in
     let all = ap length is in
     omega (arith, e, same, all)
-
--- a sum, as the code finds it
-pub stored_sum : (x y : ℤ) → neg_ℤ (pos (10 ^ 29)) ≤ℤ x → x ≤ℤ pos (10 ^ 29) → neg_ℤ (pos (10 ^ 29)) ≤ℤ y → y ≤ℤ pos (10 ^ 29) → to_z w128 (of_z w128 (to_z w128 (of_z w128 x) +ℤ to_z w128 (of_z w128 y))) ≡ x +ℤ y
-stored_sum x y a b c d =
-    let one = stored x (omega (arith, ints, a)) (omega (arith, ints, b)) in
-    let two = stored y (omega (arith, ints, c)) (omega (arith, ints, d)) in
-    let both : (to_z w128 (of_z w128 x) +ℤ to_z w128 (of_z w128 y)) ≡ (x +ℤ y) = ap (λ (z : ℤ). z +ℤ to_z w128 (of_z w128 y)) one ∙ ap (λ (z : ℤ). x +ℤ z) two in
-    ap (λ (z : ℤ). to_z w128 (of_z w128 z)) both ∙ stored (x +ℤ y) (omega (arith, ints, a, c)) (omega (arith, ints, b, d))
 
 pub stored_paid : (z : ℤ) → IsPriceSum z → to_z w128 (of_z w128 z) ≡ z
 stored_paid z h = let low = h.0 in let high = h.1 in stored z (omega (arith, ints, low)) (omega (arith, ints, high))

@@ -176,18 +176,6 @@ others w new one counted j ne = counted j ∙ kept (has w.counted j) (j == one) 
     kept true c e = ap not e
     kept false c e = refl
 
--- those that count at the moment
-pub even_at : (a : Aim) (m calls : ℕ) (w : Waiting) → w.moment ≡ m → ((j : ℕ) → has calls j ≡ true → j < call_count a.snapshot) → ((j : ℕ) → has w.counted j ≡ (has calls j && counts_at a m j)) → w.sum ≡ int_sum_where (call_count a.snapshot) (has calls) (adds_at a m) → neg_ℤ (pos (256 * 10 ^ 24)) ≤ℤ w.sum → w.sum ≤ℤ pos (256 * 10 ^ 24) → w.growth.slope ≡ sum_where (call_count a.snapshot) (has w.counted) (rise_at a.snapshot m) → w.growth.slope ≤ 2048000 → ((j : ℕ) → has w.counted j ≡ true → IsEven a m w.growth.until j) → AreEven a w
-even_at a m calls w moment within counted sum low high slope gentle even = record {
-  calls = λ j h. within j (and_parts (has calls j) (counts_at a m j) (sym (counted j) ∙ h)).0;
-  sum = sum ∙ adds_counted a m calls w.counted counted ∙ ap (λ (k : ℕ). int_sum_where (call_count a.snapshot) (has w.counted) (term_at a k)) (sym moment);
-  low = low;
-  high = high;
-  slope = slope ∙ ap (λ (k : ℕ). sum_where (call_count a.snapshot) (has w.counted) (rise_at a.snapshot k)) (sym moment);
-  gentle = gentle;
-  even = λ j h. subst (λ (k : ℕ). IsEven a k w.growth.until j) (sym moment) (even j h);
-}
-
 -- what they add, of the calls of which they are those that count
 pub adds_of : (a : Aim) (m calls : ℕ) (w : Waiting) → AreWaiting a w → w.moment ≡ m → ((j : ℕ) → has w.counted j ≡ (has calls j && counts_at a m j)) → w.sum ≡ int_sum_where (call_count a.snapshot) (has calls) (adds_at a m)
 adds_of a m calls w h moment counted = h.are.sum ∙ ap (λ (k : ℕ). int_sum_where (call_count a.snapshot) (has w.counted) (term_at a k)) moment ∙ sym (adds_counted a m calls w.counted counted)

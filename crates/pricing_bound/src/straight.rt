@@ -11,7 +11,7 @@ ghost use Rattle.price_scale.specs.Scale.{IsPrice, IsPriceSum};
 ghost use Rattle.search_model.specs.Prices.{scaled as scaled_lem};
 ghost use Rattle.search_model.specs.Sums.{int_sum_where};
 ghost use Rattle.pricing_bound.specs.Aims.{AimsAt, IsBoundSize, IsLastMove, completion_bound_for};
-ghost use Rattle.pricing_bound.specs.Rates.{adds_at, aim_at, counts_at, rise_at, term_at};
+ghost use Rattle.pricing_bound.specs.Rates.{aim_at, counts_at, rise_at, term_at};
 ghost use Rattle.pricing_bound.specs.Running.{AreEven, AreWaiting, IsEven, IsSiftedOf, StandFor};
 ghost use Rattle.search_model.specs.Prices.{price_at};
 ghost use Rattle.search_model.proofs.BoundLemmas.{bound_is_at_least};
@@ -38,13 +38,6 @@ pub struct Sums {
     /// The calls that have not boarded and add to the bound: those that are required, and those that lower it. Later
     /// a call costs no less, so one that does not lower the bound never will.
     waiting: Waiting,
-}
-
-/// Calls that have not boarded: what those of them add to a bound that do, and which these are.
-#[derive(Clone, Copy)]
-struct Terms {
-    sum: i128,
-    counted: CallSet,
 }
 
 impl Sums {
@@ -137,34 +130,24 @@ impl<'a> StraightRides<'a> {
         term < 0 || self.required.contains(call)
     }
 
-    /// What calls add that board at this moment, and which of them do.
-    fn terms(&self, calls: CallSet, moment: u64) -> Terms
+    /// What calls cost without their prices that board at this moment.
+    fn terms(&self, calls: CallSet, moment: u64) -> i128
         requires within { (j : ℕ) → has calls j ≡ true
             → j < call_count self.now.rates.now.snapshot }
         requires early { moment ≤ MOMENT_LIMIT }
-        ensures sum { result.sum ≡ int_sum_where (call_count self.now.rates.now.snapshot)
-            (has calls) (adds_at (aim_at self.now.rates.now self.now.car self.now.allowed
+        ensures sum { result ≡ int_sum_where (call_count self.now.rates.now.snapshot)
+            (has calls) (term_at (aim_at self.now.rates.now self.now.car self.now.allowed
             self.now.required) moment) }
-        ensures counted { (j : ℕ) → has result.counted j ≡ (has calls j && counts_at (aim_at
-            self.now.rates.now self.now.car self.now.allowed self.now.required) moment j) }
-        ensures low { neg_ℤ (pos (256 * 10 ^ 24)) ≤ℤ result.sum }
-        ensures high { result.sum ≤ℤ pos (256 * 10 ^ 24) }
+        ensures low { neg_ℤ (pos (256 * 10 ^ 24)) ≤ℤ result }
+        ensures high { result ≤ℤ pos (256 * 10 ^ 24) }
     {
         // The snapshot is accepted, so it has at most 128 calls.
         let _accepted = self.rates.snapshot();
-        let mut terms = Terms {
-            sum: 0,
-            counted: calls,
-        };
+        let mut sum = 0;
         for call in calls.iter() {
-            let term = self.rates.term(call, moment);
-            if self.counts(call, term) {
-                terms.sum += term;
-            } else {
-                terms.counted = terms.counted.without(call);
-            }
+            sum += self.rates.term(call, moment);
         }
-        terms
+        sum
     }
 
     /// How what calls cost grows from this moment on.
@@ -246,11 +229,10 @@ impl<'a> StraightRides<'a> {
             self.now.required) result }
         ensures moment { result.moment ≡ moment }
     {
-        let terms = self.terms(calls, moment);
-        let growth = self.growth(terms.counted, moment);
+        let growth = self.growth(calls, moment);
         self.sifted(&Waiting {
-            counted: terms.counted,
-            sum: terms.sum,
+            counted: calls,
+            sum: self.terms(calls, moment),
             moment,
             growth,
             until: growth.until,
