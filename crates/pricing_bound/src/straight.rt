@@ -157,7 +157,8 @@ impl<'a> StraightRides<'a> {
         ensures slope { result.slope ≡ sum_where (call_count self.now.rates.now.snapshot)
             (has calls) (rise_at self.now.rates.now.snapshot moment) }
         ensures gentle { result.slope ≤ 2048000 }
-        ensures even { (j : ℕ) → has calls j ≡ true → IsEven (aim_at self.now.rates.now self.now.car self.now.allowed
+        ensures even { (j : ℕ) → has calls j ≡ true → IsEven
+            (aim_at self.now.rates.now self.now.car self.now.allowed
             self.now.required) moment result.until j }
     {
         // The snapshot is accepted, so it has at most 128 calls.
@@ -203,7 +204,8 @@ impl<'a> StraightRides<'a> {
         requires until { waiting.now.until ≡ waiting.now.growth.until }
         requires early { waiting.now.moment < LATEST_MOMENT }
         ensures counted { (j : ℕ) → has result.counted j
-            ≡ (has waiting.now.counted j && counts_at (aim_at self.now.rates.now self.now.car self.now.allowed
+            ≡ (has waiting.now.counted j && counts_at
+            (aim_at self.now.rates.now self.now.car self.now.allowed
             self.now.required) waiting.now.moment j) }
         ensures are { AreWaiting (aim_at self.now.rates.now self.now.car self.now.allowed
             self.now.required) result }
@@ -223,7 +225,8 @@ impl<'a> StraightRides<'a> {
         requires within { (j : ℕ) → has calls j ≡ true
             → j < call_count self.now.rates.now.snapshot }
         requires early { moment < LATEST_MOMENT }
-        ensures counted { (j : ℕ) → has result.counted j ≡ (has calls j && counts_at (aim_at self.now.rates.now self.now.car self.now.allowed
+        ensures counted { (j : ℕ) → has result.counted j ≡ (has calls j && counts_at
+            (aim_at self.now.rates.now self.now.car self.now.allowed
             self.now.required) moment j) }
         ensures are { AreWaiting (aim_at self.now.rates.now self.now.car self.now.allowed
             self.now.required) result }
@@ -246,7 +249,8 @@ impl<'a> StraightRides<'a> {
         requires later { waiting.now.moment ≤ moment }
         requires early { moment < LATEST_MOMENT }
         ensures counted { (j : ℕ) → has result.counted j
-            ≡ (has waiting.now.counted j && counts_at (aim_at self.now.rates.now self.now.car self.now.allowed
+            ≡ (has waiting.now.counted j && counts_at
+            (aim_at self.now.rates.now self.now.car self.now.allowed
             self.now.required) moment j) }
         ensures are { AreWaiting (aim_at self.now.rates.now self.now.car self.now.allowed
             self.now.required) result }
@@ -290,7 +294,8 @@ impl<'a> StraightRides<'a> {
     fn board_adds(&self, prefix: &Prefix, sums: &Sums, call: u32) -> i128
         requires { call < call_count self.now.rates.now.snapshot }
         ensures more { (x : Course) → course prefix.now ≡ Some x → result
-            ≡ (if has sums.now.waiting.counted call then pos 0 else term_at (aim_at self.now.rates.now
+            ≡ (if has sums.now.waiting.counted call then pos 0 else term_at
+            (aim_at self.now.rates.now
             self.now.car self.now.allowed self.now.required)
             (reached prefix.now.snapshot prefix.now.car x).opened call) }
         ensures low { neg_ℤ (pos (2 * 10 ^ 24)) ≤ℤ result }
