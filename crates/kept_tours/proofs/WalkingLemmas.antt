@@ -1,5 +1,7 @@
 -- What holds along the moves of a walk.
-use Rattle.std.proofs.Common.{◌≡◌, ℕ, Bool, true, List, [], ◌∷◌, ◌++◌, subst, sym, ap, refl}
+use Rattle.std.proofs.Common.{◌≡◌, ℕ, Bool, true, false, arith, List, [], ◌∷◌, ◌++◌, subst, sym, ap, refl}
+use Rattle.std.specs.Prelude.{ℤ, ◌≤ℤ◌, int_lt}
+use Rattle.std.proofs.lemmas.Int.{ints}
 use Rattle.call_sets.specs.Counting.{has}
 use Rattle.elevator_model.specs.declared.Move.{Move}
 use Rattle.elevator_model.specs.Partial.{Course, boards_allowed}
@@ -28,3 +30,6 @@ last_move a stands demand t m w o may = record {
   stands_before = o.stands_there;
   may = subst (λ (allowed : ℕ → Bool). AreAllowed allowed (t.moves ++ m ∷ [])) (sym (ap (λ (b : Aim). b.allowed) w.aim)) (allowed_more (has demand.allowed) t.moves m w.may may);
 }
+
+pub not_below : (b worth : ℤ) → worth ≤ℤ b → int_lt b worth ≡ false
+not_below b worth le = grind (arith, ints)

@@ -9,6 +9,7 @@ use Rattle.search_model.specs.Orders.{AreAllowed}
 use Rattle.partial_tours.specs.PartialTour.{PartialTour, course}
 use Rattle.tour_extension.specs.declared.demands.Demand.{Demand}
 use Rattle.pricing_bound.specs.Aims.{Aim}
+use Rattle.kept_tours.specs.Kept.{is_kept_by}
 
 -- the car of a partial tour with what is asked of it
 abbrev pub aim_at : PartialTour → Demand → (price : ℕ → ℤ) → Aim
@@ -36,6 +37,11 @@ pub record IsOpen (stands : Course → Type 0) (demand : Demand) (t : PartialTou
 -- No tour of the node begins with the partial tour.
 abbrev pub IsShut : Demand → PartialTour → Type 0
 IsShut demand t = (x : Course) → course t ≡ Some x → goes_on t demand x ≡ false
+
+-- It is not one of those that are kept for the worth: no tour of the node begins with it, or its bound is not below.
+abbrev pub IsNotKept : Demand → (bound : Course → ℤ) → (worth : ℤ) → PartialTour → Type 0
+IsNotKept demand bound worth t =
+    (x : Course) → course t ≡ Some x → is_kept_by t.snapshot t.car bound (has demand.allowed) (has demand.required) worth x ≡ false
 
 -- The move may come next.
 pub record MayFollow (demand : Demand) (t : PartialTour) (m : Move) : Type 0 where

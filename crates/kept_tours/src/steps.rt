@@ -1,4 +1,4 @@
-//! One step of a walk over the kept partial tours of a car.
+//! One step of a walk over the partial tours of a car that some tour begins with.
 
 ghost use Rattle.std.specs.Prelude.{◌≡◌, IfSome, None};
 ghost use Rattle.partial_tours.specs.PartialTour.{with_move};

@@ -5,3 +5,4 @@ pub mod Sizes
 pub mod WaitingLemmas
 pub mod RunningLemmas
 pub mod CarriedLemmas
+pub mod SteadyLemmas

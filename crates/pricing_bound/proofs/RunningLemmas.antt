@@ -29,7 +29,7 @@ use Rattle.pricing_bound.specs.declared.straight.Sums.{Sums}
 use Rattle.pricing_bound.specs.Aims.{Aim, AimsAt, IsBoundSize, IsLastMove, value_for}
 use Rattle.pricing_bound.specs.Parts.{group_part}
 use Rattle.pricing_bound.specs.Rates.{term_at, counts_at, adds_at}
-use Rattle.pricing_bound.specs.Running.{AreSums, StandFor, is_counted, cost_of_rides}
+use Rattle.pricing_bound.specs.Running.{AreSums, AreWaiting, StandFor, is_counted, cost_of_rides}
 use Rattle.pricing_bound.specs.Costs.{int_sum_one_off}
 use Rattle.pricing_bound.specs.GrowthLemmas.{Boards, boards_now, board_adds, no_boards, or_none, term-later, paid_here}
 use Rattle.pricing_bound.specs.LowerLemmas.{allowed_rest}
@@ -96,15 +96,15 @@ board_counted a c b stop j k counted fewer h is without = by_place (k == j) refl
     by_place true e = without ∙ ap (λ (v : Bool). has counted k && not v) e ∙ gone_now (ltb k (call_count a.snapshot)) (a.allowed k) (b.boarded k) (boards_at a.snapshot (with_call_on stop j) k) (counts_at a (make_stop a.snapshot c b stop).opened k) (has counted k) (ap (boards_at a.snapshot (with_call_on stop j)) (eqb-true k j e) ∙ h.present)
     by_place false e = without ∙ ap (λ (v : Bool). has counted k && not v) e ∙ still_there (has counted k) ∙ is ∙ ap (λ (v : Bool). ((ltb k (call_count a.snapshot) && a.allowed k) && not (b.boarded k || v)) && counts_at a (make_stop a.snapshot c b stop).opened k) (sym (h.others k (λ at. both_ways (k == j) e (eq-eqb k j at))))
 
-board_core : (a : Aim) (b : Progress) (stop : Stop) (j : ℕ) (sums new : Sums) (more : ℤ) → a.allowed j ≡ true → Boards a.snapshot a.car b stop j → AreSums a sums (make_stop a.snapshot a.car b stop) → more ≡ cond (has sums.counted j) (pos 0) (term_at a (make_stop a.snapshot a.car b stop).opened j) → new.bound ≡ sums.bound +ℤ more → new.paid ≡ sums.paid +ℤ a.price j → ((k : ℕ) → has new.counted k ≡ (has sums.counted k && not (k == j))) → IsBoundSize (bound_after a.snapshot a.car a.price a.allowed a.required (make_stop a.snapshot a.car b (with_call_on stop j))) → ((test : ℕ → Bool) → IsPriceSum (int_sum_where (call_count a.snapshot) test a.price)) → AreSums a new (make_stop a.snapshot a.car b (with_call_on stop j))
-board_core a b stop j sums new more may h old more_at bound paid counted small paid_small =
+board_core : (a : Aim) (b : Progress) (stop : Stop) (j : ℕ) (sums new : Sums) (more : ℤ) → a.allowed j ≡ true → Boards a.snapshot a.car b stop j → AreSums a sums (make_stop a.snapshot a.car b stop) → more ≡ cond (has sums.waiting.counted j) (pos 0) (term_at a (make_stop a.snapshot a.car b stop).opened j) → new.bound ≡ sums.bound +ℤ more → new.paid ≡ sums.paid +ℤ a.price j → ((k : ℕ) → has new.waiting.counted k ≡ (has sums.waiting.counted k && not (k == j))) → AreWaiting a new.waiting → new.waiting.moment ≡ sums.waiting.moment → IsBoundSize (bound_after a.snapshot a.car a.price a.allowed a.required (make_stop a.snapshot a.car b (with_call_on stop j))) → ((test : ℕ → Bool) → IsPriceSum (int_sum_where (call_count a.snapshot) test a.price)) → AreSums a new (make_stop a.snapshot a.car b (with_call_on stop j))
+board_core a b stop j sums new more may h old more_at bound paid counted waiting moment small paid_small =
     let s = a.snapshot in
     let c = a.car in
     let p = make_stop s c b stop in
     let q = make_stop s c b (with_call_on stop j) in
     let adds = board_adds s c a.price a.allowed a.required b stop j may h in
     let counts = old.counted j ∙ all_but_counts (ltb j (call_count s)) (a.allowed j) (b.boarded j) (boards_at s stop j) (counts_at a p.opened j) (lt-ltb j (call_count s) h.call) may h.fresh h.absent in
-    let exact = more_is (has sums.counted j) (a.required j) (term_at a p.opened j) more counts more_at in
+    let exact = more_is (has sums.waiting.counted j) (a.required j) (term_at a p.opened j) more counts more_at in
     let new_is = together new.bound sums.bound more (bound_after s c a.price a.allowed a.required p) (bound_after s c a.price a.allowed a.required q) (waiting_term s a.price a.required p j) (term_at a p.opened j) bound old.bound exact adds in
     let priced = int_sum_one_off (call_count s) j (λ k. cond (p.boarded k) (a.price k) (pos 0)) (λ k. cond (q.boarded k) (a.price k) (pos 0)) (a.price j) h.call (paid_here (b.boarded j) (boards_at s stop j) (boards_at s (with_call_on stop j) j) (a.price j) h.fresh h.absent h.present) (λ k ne. ap (λ (v : Bool). cond (b.boarded k || v) (a.price k) (pos 0)) (h.others k ne)) in
     let paid_is : new.paid ≡ int_sum_where (call_count s) q.boarded a.price = paid ∙ ap (λ (z : ℤ). z +ℤ a.price j) old.paid ∙ sym priced in
@@ -113,14 +113,16 @@ board_core a b stop j sums new more may h old more_at bound paid counted small p
       small = subst IsBoundSize (sym new_is) small;
       paid = paid_is;
       paid_small = subst IsPriceSum (sym paid_is) (paid_small q.boarded);
-      counted = λ k. board_counted a c b stop j k sums.counted new.counted h (old.counted k) (counted k);
+      counted = λ k. board_counted a c b stop j k sums.waiting.counted new.waiting.counted h (old.counted k) (counted k);
+      waiting = waiting;
+      opened = moment ∙ old.opened;
     }
   where
     together : (new old more p q w t : ℤ) → new ≡ old +ℤ more → old ≡ p → more ≡ t -ℤ w → q ≡ ((p -ℤ w) +ℤ t) → new ≡ q
     together new old more p q w t e f g h = omega (arith, ints, e, f, g, h)
 
-pub board_sums : (a : Aim) (t : PartialTour) (sums new : Sums) (j : ℕ) (y : Course) (more : ℤ) → AimsAt a t → IsLastMove a (StandFor a sums) t (Board j) → IsAccepted a.snapshot → a.car < car_count a.snapshot → ((k : ℕ) → IsPrice (a.price k)) → course t ≡ Some y → settled_cost t.snapshot t.car (reached t.snapshot t.car y) ≤ 10 ^ 18 → more ≡ cond (has sums.counted j) (pos 0) (term_at a (reached t.snapshot t.car y).opened j) → new.bound ≡ sums.bound +ℤ more → new.paid ≡ sums.paid +ℤ a.price j → ((k : ℕ) → has new.counted k ≡ (has sums.counted k && not (k == j))) → StandFor a new y
-board_sums a t sums new j y more aims last accepted car prices leads settled more_at bound paid counted =
+pub board_sums : (a : Aim) (t : PartialTour) (sums new : Sums) (j : ℕ) (y : Course) (more : ℤ) → AimsAt a t → IsLastMove a (StandFor a sums) t (Board j) → IsAccepted a.snapshot → a.car < car_count a.snapshot → ((k : ℕ) → IsPrice (a.price k)) → course t ≡ Some y → settled_cost t.snapshot t.car (reached t.snapshot t.car y) ≤ 10 ^ 18 → more ≡ cond (has sums.waiting.counted j) (pos 0) (term_at a (reached t.snapshot t.car y).opened j) → new.bound ≡ sums.bound +ℤ more → new.paid ≡ sums.paid +ℤ a.price j → ((k : ℕ) → has new.waiting.counted k ≡ (has sums.waiting.counted k && not (k == j))) → AreWaiting a new.waiting → new.waiting.moment ≡ sums.waiting.moment → StandFor a new y
+board_sums a t sums new j y more aims last accepted car prices leads settled more_at bound paid counted waiting moment =
     let s = a.snapshot in
     let c = a.car in
     let x = last.before in
@@ -132,8 +134,8 @@ board_sums a t sums new j y more aims last accepted car prices leads settled mor
     let old = subst (λ (o : Option Stop). AreSums a sums (progress_after s c x.before o)) at.present last.stands_before in
     let settled_here = aimed_at a t (λ s c. settled_cost s c (reached s c y) ≤ 10 ^ 18) aims settled in
     let small = subst (λ (z : Course). IsBoundSize (bound_after s c a.price a.allowed a.required (reached s c z))) at.leads (bound_size s c a.price a.allowed a.required t.moves y accepted car prices step.whole settled_here) in
-    let more_here = subst (λ (z : Course). more ≡ cond (has sums.counted j) (pos 0) (term_at a (reached s c z).opened j)) at.leads (aimed_at a t (λ s c. more ≡ cond (has sums.counted j) (pos 0) (term_at a (reached s c y).opened j)) aims more_at) in
-    subst (λ (z : Course). AreSums a new (reached s c z)) (sym at.leads) (board_core a x.before at.stop j sums new more may boards old more_here bound paid counted small (λ test. prices_size s test a.price accepted prices))
+    let more_here = subst (λ (z : Course). more ≡ cond (has sums.waiting.counted j) (pos 0) (term_at a (reached s c z).opened j)) at.leads (aimed_at a t (λ s c. more ≡ cond (has sums.waiting.counted j) (pos 0) (term_at a (reached s c y).opened j)) aims more_at) in
+    subst (λ (z : Course). AreSums a new (reached s c z)) (sym at.leads) (board_core a x.before at.stop j sums new more may boards old more_here bound paid counted waiting moment small (λ test. prices_size s test a.price accepted prices))
 
 -- ---- a leave
 
@@ -166,14 +168,14 @@ adds_later true true false false false t u e f h = by_cases (int_lt t (pos 0)) (
     by_cases false true e = absurd (false≢true e)
     by_cases false false e = refl
 
-leave_core : (a : Aim) (p : Progress) (g : ℕ) (sums new : Sums) (settled carried : ℕ) (waiting : ℤ) → p.opened ≤ (make_stop a.snapshot a.car p (empty_stop g)).opened → AreSums a sums p → settled ≡ settled_cost a.snapshot a.car (make_stop a.snapshot a.car p (empty_stop g)) → carried ≡ cost_of_rides a.snapshot (make_stop a.snapshot a.car p (empty_stop g)) → waiting ≡ int_sum_where (call_count a.snapshot) (has sums.counted) (adds_at a (make_stop a.snapshot a.car p (empty_stop g)).opened) → new.bound ≡ (((scaled settled +ℤ scaled carried) -ℤ sums.paid) +ℤ waiting) → new.paid ≡ sums.paid → ((k : ℕ) → has new.counted k ≡ (has sums.counted k && counts_at a (make_stop a.snapshot a.car p (empty_stop g)).opened k)) → IsBoundSize (bound_after a.snapshot a.car a.price a.allowed a.required (make_stop a.snapshot a.car p (empty_stop g))) → AreSums a new (make_stop a.snapshot a.car p (empty_stop g))
-leave_core a p g sums new settled carried waiting later old settled_is carried_is waiting_is bound paid counted small =
+leave_core : (a : Aim) (p : Progress) (g : ℕ) (sums new : Sums) (settled carried : ℕ) (waiting : ℤ) → p.opened ≤ (make_stop a.snapshot a.car p (empty_stop g)).opened → AreSums a sums p → settled ≡ settled_cost a.snapshot a.car (make_stop a.snapshot a.car p (empty_stop g)) → carried ≡ cost_of_rides a.snapshot (make_stop a.snapshot a.car p (empty_stop g)) → waiting ≡ int_sum_where (call_count a.snapshot) (has sums.waiting.counted) (adds_at a (make_stop a.snapshot a.car p (empty_stop g)).opened) → new.bound ≡ (((scaled settled +ℤ scaled carried) -ℤ sums.paid) +ℤ waiting) → new.paid ≡ sums.paid → ((k : ℕ) → has new.waiting.counted k ≡ (has sums.waiting.counted k && counts_at a (make_stop a.snapshot a.car p (empty_stop g)).opened k)) → AreWaiting a new.waiting → new.waiting.moment ≡ (make_stop a.snapshot a.car p (empty_stop g)).opened → IsBoundSize (bound_after a.snapshot a.car a.price a.allowed a.required (make_stop a.snapshot a.car p (empty_stop g))) → AreSums a new (make_stop a.snapshot a.car p (empty_stop g))
+leave_core a p g sums new settled carried waiting later old settled_is carried_is waiting_is bound paid counted are opened small =
     let s = a.snapshot in
     let c = a.car in
     let q = make_stop s c p (empty_stop g) in
     let terms = λ (k : ℕ). term-later s a.price k p.opened q.opened later in
     let same_paid = int_sum-same (call_count s) (λ j. cond (q.boarded j) (a.price j) (pos 0)) (λ j. cond (p.boarded j) (a.price j) (pos 0)) (λ j b. ap (λ (x : Bool). cond x (a.price j) (pos 0)) (or_none (p.boarded j) (boards_at s (empty_stop g) j) (no_boards s g j))) in
-    let same_waiting = int_sum-same (call_count s) (λ j. cond (has sums.counted j) (adds_at a q.opened j) (pos 0)) (λ j. cond (a.allowed j && not (q.boarded j)) (waiting_term s a.price a.required q j) (pos 0)) (λ j b. ap (λ (v : Bool). cond v (adds_at a q.opened j) (pos 0)) (old.counted j) ∙ adds_later (ltb j (call_count s)) (a.allowed j) (p.boarded j) (boards_at s (empty_stop g) j) (a.required j) (term_at a p.opened j) (term_at a q.opened j) (lt-ltb j (call_count s) b) (no_boards s g j) (terms j)) in
+    let same_waiting = int_sum-same (call_count s) (λ j. cond (has sums.waiting.counted j) (adds_at a q.opened j) (pos 0)) (λ j. cond (a.allowed j && not (q.boarded j)) (waiting_term s a.price a.required q j) (pos 0)) (λ j b. ap (λ (v : Bool). cond v (adds_at a q.opened j) (pos 0)) (old.counted j) ∙ adds_later (ltb j (call_count s)) (a.allowed j) (p.boarded j) (boards_at s (empty_stop g) j) (a.required j) (term_at a p.opened j) (term_at a q.opened j) (lt-ltb j (call_count s) b) (no_boards s g j) (terms j)) in
     let paid_is : new.paid ≡ int_sum_where (call_count s) q.boarded a.price = paid ∙ old.paid ∙ sym same_paid in
     let new_is = together new.bound settled carried (settled_cost s c q) (cost_of_rides s q) sums.paid waiting (int_sum_where (call_count s) q.boarded a.price) (int_sum_where (call_count s) (λ j. a.allowed j && not (q.boarded j)) (waiting_term s a.price a.required q)) bound settled_is carried_is (old.paid ∙ sym same_paid) (waiting_is ∙ same_waiting) in
     record {
@@ -182,13 +184,15 @@ leave_core a p g sums new settled carried waiting later old settled_is carried_i
       paid = paid_is;
       paid_small = subst IsPriceSum (sym paid) old.paid_small;
       counted = λ k. counted k ∙ ap (λ (v : Bool). v && counts_at a q.opened k) (old.counted k) ∙ counted_later (ltb k (call_count s)) (a.allowed k) (p.boarded k) (boards_at s (empty_stop g) k) (a.required k) (term_at a p.opened k) (term_at a q.opened k) (no_boards s g k) (terms k);
+      waiting = are;
+      opened = opened;
     }
   where
     together : (new : ℤ) (settled carried settled' carried' : ℕ) (paid waiting paid' waiting' : ℤ) → new ≡ (((scaled settled +ℤ scaled carried) -ℤ paid) +ℤ waiting) → settled ≡ settled' → carried ≡ carried' → paid ≡ paid' → waiting ≡ waiting' → new ≡ (((scaled settled' +ℤ scaled carried') -ℤ paid') +ℤ waiting')
     together new settled carried settled' carried' paid waiting paid' waiting' e f g h i = omega (arith, ints, e, f, g, h, i)
 
-pub leave_sums : (a : Aim) (t : PartialTour) (sums new : Sums) (g : ℕ) (y : Course) (settled carried : ℕ) (waiting : ℤ) → AimsAt a t → IsLastMove a (StandFor a sums) t (Leave g) → IsAccepted a.snapshot → a.car < car_count a.snapshot → ((k : ℕ) → IsPrice (a.price k)) → course t ≡ Some y → settled ≤ 10 ^ 18 → settled ≡ settled_cost t.snapshot t.car (reached t.snapshot t.car y) → carried ≡ cost_of_rides t.snapshot (reached t.snapshot t.car y) → waiting ≡ int_sum_where (call_count a.snapshot) (has sums.counted) (adds_at a (reached t.snapshot t.car y).opened) → new.bound ≡ (((scaled settled +ℤ scaled carried) -ℤ sums.paid) +ℤ waiting) → new.paid ≡ sums.paid → ((k : ℕ) → has new.counted k ≡ (has sums.counted k && counts_at a (reached t.snapshot t.car y).opened k)) → StandFor a new y
-leave_sums a t sums new g y settled carried waiting aims last accepted car prices leads small settled_is carried_is waiting_is bound paid counted =
+pub leave_sums : (a : Aim) (t : PartialTour) (sums new : Sums) (g : ℕ) (y : Course) (settled carried : ℕ) (waiting : ℤ) → AimsAt a t → IsLastMove a (StandFor a sums) t (Leave g) → IsAccepted a.snapshot → a.car < car_count a.snapshot → ((k : ℕ) → IsPrice (a.price k)) → course t ≡ Some y → settled ≤ 10 ^ 18 → settled ≡ settled_cost t.snapshot t.car (reached t.snapshot t.car y) → carried ≡ cost_of_rides t.snapshot (reached t.snapshot t.car y) → waiting ≡ int_sum_where (call_count a.snapshot) (has sums.waiting.counted) (adds_at a (reached t.snapshot t.car y).opened) → new.bound ≡ (((scaled settled +ℤ scaled carried) -ℤ sums.paid) +ℤ waiting) → new.paid ≡ sums.paid → ((k : ℕ) → has new.waiting.counted k ≡ (has sums.waiting.counted k && counts_at a (reached t.snapshot t.car y).opened k)) → AreWaiting a new.waiting → new.waiting.moment ≡ (reached t.snapshot t.car y).opened → StandFor a new y
+leave_sums a t sums new g y settled carried waiting aims last accepted car prices leads small settled_is carried_is waiting_is bound paid counted are opened =
     let s = a.snapshot in
     let c = a.car in
     let x = last.before in
@@ -199,10 +203,29 @@ leave_sums a t sums new g y settled carried waiting aims last accepted car price
     let arrives = arrives_after s c p g accepted placed at.1 in
     let settled_here = aimed_at a t (λ s c. settled ≡ settled_cost s c (reached s c y)) aims settled_is in
     let carried_here = aimed_at a t (λ s c. carried ≡ cost_of_rides s (reached s c y)) aims carried_is in
-    let waiting_here = aimed_at a t (λ s c. waiting ≡ int_sum_where (call_count a.snapshot) (has sums.counted) (adds_at a (reached s c y).opened)) aims waiting_is in
-    let counted_here = aimed_at a t (λ s c. (k : ℕ) → has new.counted k ≡ (has sums.counted k && counts_at a (reached s c y).opened k)) aims counted in
+    let waiting_here = aimed_at a t (λ s c. waiting ≡ int_sum_where (call_count a.snapshot) (has sums.waiting.counted) (adds_at a (reached s c y).opened)) aims waiting_is in
+    let counted_here = aimed_at a t (λ s c. (k : ℕ) → has new.waiting.counted k ≡ (has sums.waiting.counted k && counts_at a (reached s c y).opened k)) aims counted in
+    let opened_here = aimed_at a t (λ s c. new.waiting.moment ≡ (reached s c y).opened) aims opened in
     let size = bound_size s c a.price a.allowed a.required t.moves y accepted car prices step.whole (omega (arith, small, settled_here)) in
-    subst (λ (z : Course). AreSums a new (reached s c z)) (sym at.2) (leave_core a p g sums new settled carried waiting (omega (arith, arrives)) last.stands_before (subst (λ (z : Course). settled ≡ settled_cost s c (reached s c z)) at.2 settled_here) (subst (λ (z : Course). carried ≡ cost_of_rides s (reached s c z)) at.2 carried_here) (subst (λ (z : Course). waiting ≡ int_sum_where (call_count a.snapshot) (has sums.counted) (adds_at a (reached s c z).opened)) at.2 waiting_here) bound paid (subst (λ (z : Course). (k : ℕ) → has new.counted k ≡ (has sums.counted k && counts_at a (reached s c z).opened k)) at.2 counted_here) (subst (λ (z : Course). IsBoundSize (bound_after s c a.price a.allowed a.required (reached s c z))) at.2 size))
+    subst (λ (z : Course). AreSums a new (reached s c z)) (sym at.2) (leave_core a p g sums new settled carried waiting (omega (arith, arrives)) last.stands_before (subst (λ (z : Course). settled ≡ settled_cost s c (reached s c z)) at.2 settled_here) (subst (λ (z : Course). carried ≡ cost_of_rides s (reached s c z)) at.2 carried_here) (subst (λ (z : Course). waiting ≡ int_sum_where (call_count a.snapshot) (has sums.waiting.counted) (adds_at a (reached s c z).opened)) at.2 waiting_here) bound paid (subst (λ (z : Course). (k : ℕ) → has new.waiting.counted k ≡ (has sums.waiting.counted k && counts_at a (reached s c z).opened k)) at.2 counted_here) are (subst (λ (z : Course). new.waiting.moment ≡ (reached s c z).opened) at.2 opened_here) (subst (λ (z : Course). IsBoundSize (bound_after s c a.price a.allowed a.required (reached s c z))) at.2 size))
+
+-- the doors open no sooner than they did before
+pub leaves_later : (a : Aim) (t : PartialTour) (sums : Sums) (g : ℕ) (y : Course) → AimsAt a t → IsLastMove a (StandFor a sums) t (Leave g) → IsAccepted a.snapshot → a.car < car_count a.snapshot → course t ≡ Some y → sums.waiting.moment ≤ (reached t.snapshot t.car y).opened
+leaves_later a t sums g y aims last accepted car leads =
+    let step = step_of a (StandFor a sums) t (Leave g) y aims last leads in
+    let placed = placed_reached a.snapshot a.car last.before (course_standing a.snapshot a.car last.moves last.before accepted car step.front) in
+    let at = leave_leads_to a.snapshot a.car last.before g y step.leads in
+    let arrives = arrives_after a.snapshot a.car (reached a.snapshot a.car last.before) g accepted placed at.1 in
+    let opened = last.stands_before.opened in
+    aimed_from a t (λ s c. sums.waiting.moment ≤ (reached s c y).opened) aims (subst (λ (z : Course). sums.waiting.moment ≤ (reached a.snapshot a.car z).opened) (sym at.2) (omega (arith, arrives, opened)))
+
+-- they stay open where a call boards
+pub boards_then : (a : Aim) (t : PartialTour) (sums : Sums) (j : ℕ) (y : Course) → AimsAt a t → IsLastMove a (StandFor a sums) t (Board j) → course t ≡ Some y → sums.waiting.moment ≡ (reached t.snapshot t.car y).opened
+boards_then a t sums j y aims last leads =
+    let step = step_of a (StandFor a sums) t (Board j) y aims last leads in
+    let at = board_leads_to a.snapshot a.car last.before j y step.leads in
+    let before = subst (λ (o : Option Stop). sums.waiting.moment ≡ (progress_after a.snapshot a.car last.before.before o).opened) at.present last.stands_before.opened in
+    aimed_from a t (λ s c. sums.waiting.moment ≡ (reached s c y).opened) aims (subst (λ (z : Course). sums.waiting.moment ≡ (reached a.snapshot a.car z).opened) (sym at.leads) before)
 
 -- ---- the end
 
@@ -225,8 +248,8 @@ fresh_counted false false c = refl
 none_ride : (n : ℕ) (carried : ℕ → Bool) (cost : ℕ → ℤ) → ((j : ℕ) → j < n → carried j ≡ false) → int_sum_below n (λ j. cond (carried j) (cost j) (pos 0)) ≡ pos 0
 none_ride n carried cost none = int_sum-same n (λ j. cond (carried j) (cost j) (pos 0)) (λ _. pos 0) (λ j lt. ap (λ (v : Bool). cond v (cost j) (pos 0)) (none j lt)) ∙ int_sum-zero n
 
-start_core : (a : Aim) (sums : Sums) (calls : ℕ) (groups waiting : ℤ) → groups ≡ int_sum_below (length a.snapshot.aboard) (group_part a.snapshot (start_of a.snapshot a.car)) → waiting ≡ int_sum_where (call_count a.snapshot) (has calls) (adds_at a (start_of a.snapshot a.car).opened) → ((k : ℕ) → has calls k ≡ (a.allowed k && ltb k (call_count a.snapshot))) → sums.bound ≡ groups +ℤ waiting → sums.paid ≡ pos 0 → ((k : ℕ) → has sums.counted k ≡ (has calls k && counts_at a (start_of a.snapshot a.car).opened k)) → IsBoundSize (bound_after a.snapshot a.car a.price a.allowed a.required (start_of a.snapshot a.car)) → AreSums a sums (start_of a.snapshot a.car)
-start_core a sums calls groups waiting groups_are waiting_is calls_are bound paid counted small =
+start_core : (a : Aim) (sums : Sums) (calls : ℕ) (groups waiting : ℤ) → groups ≡ int_sum_below (length a.snapshot.aboard) (group_part a.snapshot (start_of a.snapshot a.car)) → waiting ≡ int_sum_where (call_count a.snapshot) (has calls) (adds_at a (start_of a.snapshot a.car).opened) → ((k : ℕ) → has calls k ≡ (a.allowed k && ltb k (call_count a.snapshot))) → sums.bound ≡ groups +ℤ waiting → sums.paid ≡ pos 0 → ((k : ℕ) → has sums.waiting.counted k ≡ (has calls k && counts_at a (start_of a.snapshot a.car).opened k)) → AreWaiting a sums.waiting → sums.waiting.moment ≡ (start_of a.snapshot a.car).opened → IsBoundSize (bound_after a.snapshot a.car a.price a.allowed a.required (start_of a.snapshot a.car)) → AreSums a sums (start_of a.snapshot a.car)
+start_core a sums calls groups waiting groups_are waiting_is calls_are bound paid counted are opened small =
     let s = a.snapshot in
     let p = start_of s a.car in
     let apart = rides_apart s p in
@@ -241,13 +264,15 @@ start_core a sums calls groups waiting groups_are waiting_is calls_are bound pai
       paid = paid ∙ sym none_paid;
       paid_small = subst IsPriceSum (sym paid) (omega (arith, ints), omega (arith, ints));
       counted = λ k. counted k ∙ ap (λ (v : Bool). v && counts_at a p.opened k) (calls_are k) ∙ fresh_counted (ltb k (call_count s)) (a.allowed k) (counts_at a p.opened k);
+      waiting = are;
+      opened = opened;
     }
   where
     together : (new groups waiting : ℤ) (settled rides : ℕ) (call_rides group_rides paid waits : ℤ) → new ≡ groups +ℤ waiting → settled ≡ 0 → scaled rides ≡ call_rides +ℤ group_rides → call_rides ≡ pos 0 → groups ≡ group_rides → paid ≡ pos 0 → waiting ≡ waits → new ≡ (((scaled settled +ℤ scaled rides) -ℤ paid) +ℤ waits)
     together new groups waiting settled rides call_rides group_rides paid waits e f g h i j k = omega (arith, ints, e, f, g, h, i, j, k)
 
-pub start_sums : (a : Aim) (t : PartialTour) (sums : Sums) (x : Course) (calls : ℕ) (groups waiting : ℤ) → AimsAt a t → t.moves ≡ [] → IsAccepted a.snapshot → a.car < car_count a.snapshot → ((k : ℕ) → IsPrice (a.price k)) → course t ≡ Some x → groups ≡ int_sum_below (length t.snapshot.aboard) (group_part t.snapshot (reached t.snapshot t.car x)) → waiting ≡ int_sum_where (call_count a.snapshot) (has calls) (adds_at a (reached t.snapshot t.car x).opened) → ((k : ℕ) → has calls k ≡ (a.allowed k && ltb k (call_count a.snapshot))) → sums.bound ≡ groups +ℤ waiting → sums.paid ≡ pos 0 → ((k : ℕ) → has sums.counted k ≡ (has calls k && counts_at a (reached t.snapshot t.car x).opened k)) → StandFor a sums x
-start_sums a t sums x calls groups waiting aims empty accepted car prices leads groups_are waiting_is calls_are bound paid counted =
+pub start_sums : (a : Aim) (t : PartialTour) (sums : Sums) (x : Course) (calls : ℕ) (groups waiting : ℤ) → AimsAt a t → t.moves ≡ [] → IsAccepted a.snapshot → a.car < car_count a.snapshot → ((k : ℕ) → IsPrice (a.price k)) → course t ≡ Some x → groups ≡ int_sum_below (length t.snapshot.aboard) (group_part t.snapshot (reached t.snapshot t.car x)) → waiting ≡ int_sum_where (call_count a.snapshot) (has calls) (adds_at a (reached t.snapshot t.car x).opened) → ((k : ℕ) → has calls k ≡ (a.allowed k && ltb k (call_count a.snapshot))) → sums.bound ≡ groups +ℤ waiting → sums.paid ≡ pos 0 → ((k : ℕ) → has sums.waiting.counted k ≡ (has calls k && counts_at a (reached t.snapshot t.car x).opened k)) → AreWaiting a sums.waiting → sums.waiting.moment ≡ (reached t.snapshot t.car x).opened → StandFor a sums x
+start_sums a t sums x calls groups waiting aims empty accepted car prices leads groups_are waiting_is calls_are bound paid counted are opened =
     let s = a.snapshot in
     let c = a.car in
     let first : x ≡ course_start s c = same x (course_start s c) (sym (aimed_course a t t.moves aims ∙ leads) ∙ ap (course_of s c) empty) in
@@ -255,8 +280,9 @@ start_sums a t sums x calls groups waiting aims empty accepted car prices leads 
     let size = bound_size s c a.price a.allowed a.required [] (course_start s c) accepted car prices refl (omega (arith, settled)) in
     let groups_here = subst (λ (z : Course). groups ≡ int_sum_below (length s.aboard) (group_part s (reached s c z))) first (aimed_at a t (λ s c. groups ≡ int_sum_below (length s.aboard) (group_part s (reached s c x))) aims groups_are) in
     let waiting_here = subst (λ (z : Course). waiting ≡ int_sum_where (call_count s) (has calls) (adds_at a (reached s c z).opened)) first (aimed_at a t (λ s c. waiting ≡ int_sum_where (call_count a.snapshot) (has calls) (adds_at a (reached s c x).opened)) aims waiting_is) in
-    let counted_here = subst (λ (z : Course). (k : ℕ) → has sums.counted k ≡ (has calls k && counts_at a (reached s c z).opened k)) first (aimed_at a t (λ s c. (k : ℕ) → has sums.counted k ≡ (has calls k && counts_at a (reached s c x).opened k)) aims counted) in
-    subst (λ (z : Course). AreSums a sums (reached s c z)) (sym first) (start_core a sums calls groups waiting groups_here waiting_here calls_are bound paid counted_here size)
+    let counted_here = subst (λ (z : Course). (k : ℕ) → has sums.waiting.counted k ≡ (has calls k && counts_at a (reached s c z).opened k)) first (aimed_at a t (λ s c. (k : ℕ) → has sums.waiting.counted k ≡ (has calls k && counts_at a (reached s c x).opened k)) aims counted) in
+    let opened_here = subst (λ (z : Course). sums.waiting.moment ≡ (reached s c z).opened) first (aimed_at a t (λ s c. sums.waiting.moment ≡ (reached s c x).opened) aims opened) in
+    subst (λ (z : Course). AreSums a sums (reached s c z)) (sym first) (start_core a sums calls groups waiting groups_here waiting_here calls_are bound paid counted_here are opened_here size)
   where
     same : (x y : Course) → Some x ≡ Some y → x ≡ y
     same x y e = cc

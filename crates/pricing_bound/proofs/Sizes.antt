@@ -44,7 +44,7 @@ price_or_none : (b : Bool) (z : ℤ) → IsPrice z → IsWithin (10 ^ 24) (cond 
 price_or_none true z h = h
 price_or_none false z h = (omega (arith, ints), omega (arith, ints))
 
-few_within : (n most all : ℕ) (z : ℤ) → n ≤ all → IsWithin (n * most) z → IsWithin (all * most) z
+pub few_within : (n most all : ℕ) (z : ℤ) → n ≤ all → IsWithin (n * most) z → IsWithin (all * most) z
 few_within n most all z le h =
     let more = mul-le-mul_right most le in
     (let l = h.0 in omega (arith, ints, more, l), let l = h.1 in omega (arith, ints, more, l))
@@ -76,7 +76,7 @@ straight_small s p r a lt floor early boarded =
     let time = a.building.travel.bounded p.floor (destination_of s r) (omega (arith, floors, floor)) (omega (arith, floors, ends)) in
     rider-le s r (p.boarded_at r) (p.opened + time_between s.building.travel p.floor (destination_of s r)) a lt boarded (omega (arith, early, time))
 
-alone_small : (s : Snapshot) (j m : ℕ) → IsAccepted s → j < call_count s → m < 10000000000 → cost_if_alone s j m ≤ 2400000000000000
+pub alone_small : (s : Snapshot) (j m : ℕ) → IsAccepted s → j < call_count s → m < 10000000000 → cost_if_alone s j m ≤ 2400000000000000
 alone_small s j m a lt early =
     let floors = a.building.travel_floors in
     let from = (a.calls j lt).origin in

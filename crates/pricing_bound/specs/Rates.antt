@@ -1,6 +1,7 @@
--- What calls cost alone, laid out, and what they add to a bound.
-use Rattle.std.specs.Prelude.{◌≡◌, ◌≤◌, ◌<◌, ℕ, ◌+◌, ◌-◌, ◌*◌, ℤ, pos, ◌-ℤ◌, int_lt, Bool, ◌||◌, List, length, slice_index_or, if◌then◌else◌}
+-- What calls cost, laid out, and what they add to a bound.
+use Rattle.std.specs.Prelude.{◌≡◌, ◌≤◌, ◌<◌, ℕ, ◌+◌, ◌-◌, ◌*◌, ℤ, pos, ◌-ℤ◌, int_lt, Bool, true, ◌||◌, List, length, slice_index_or, if◌then◌else◌}
 use Rattle.call_sets.specs.Counting.{has}
+use Rattle.elevator_model.specs.Costs.{cost_of_rider}
 use Rattle.elevator_model.specs.Snapshot.{Snapshot, call_count}
 use Rattle.price_scale.specs.Scale.{IsPrice}
 use Rattle.search_model.specs.Bounds.{cost_if_alone}
@@ -30,17 +31,26 @@ counts_at a m j = a.required j || int_lt (term_at a m j) (pos 0)
 abbrev pub adds_at : Aim → (m j : ℕ) → ℤ
 adds_at a m j = if a.required j then term_at a m j else (if int_lt (term_at a m j) (pos 0) then term_at a m j else pos 0)
 
--- the cost in thousandths that the rate gives for the moment m
-abbrev pub cost_at : Rate → (m : ℕ) → ℕ
-cost_at rate m = (rate.ride + rate.slope * (m - rate.released)) + rate.steeper * (m - rate.late)
+-- how much more call j costs that boards a ms past the moment m and rides straight to its destination
+abbrev pub rise_at : Snapshot → (m j : ℕ) → ℕ
+rise_at s m j = cost_if_alone s j (m + 1) - cost_if_alone s j m
+
+-- what the wait until the moment m costs at the rate
+abbrev pub wait_at : Rate → (m : ℕ) → ℕ
+wait_at rate m = rate.wait * (m - rate.released) + rate.over * (m - rate.late)
 
 -- the rate is that of call j
 pub record IsRate (s : Snapshot) (j : ℕ) (rate : Rate) : Type 0 where
-  pub cost : (m : ℕ) → pos (cost_at rate m) ≡ scaled (cost_if_alone s j m)
-  pub slope : rate.slope ≤ 8000000
-  pub steeper : rate.steeper ≤ 8000000
-  pub ride : rate.ride ≤ 160000000000000
+  pub cost : (boarded delivered : ℕ) → wait_at rate boarded + rate.travel * (delivered - boarded) ≡ cost_of_rider s j boarded delivered
+  pub alone : (m : ℕ) → wait_at rate m + rate.ride ≡ cost_if_alone s j m
+  pub wait : rate.wait ≤ 8000
+  pub over : rate.over ≤ 8000
+  pub travel : rate.travel ≤ 8000
+  pub ride : rate.ride ≤ 160000000000
+  pub ordered : rate.released ≤ rate.late
+  pub early : rate.released ≤ 1000000000
   pub price : IsPrice rate.price
+  pub below : (k : ℕ) → k < rate.below → int_lt (scaled (wait_at rate k + rate.ride) -ℤ rate.price) (pos 0) ≡ true
 
 -- the rates are those of the calls, in their order
 pub record AreRates (s : Snapshot) (rates : List Rate) : Type 0 where

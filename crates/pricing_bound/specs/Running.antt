@@ -1,31 +1,66 @@
 -- The running sums of a bound.
-use Rattle.std.specs.Prelude.{◌≡◌, ◌+◌, ◌*◌, ◌-◌, ◌≤◌, ◌&&◌, not, nat_lt, ℕ, Bool, length}
+use Rattle.std.specs.Prelude.{◌≡◌, ◌+◌, ◌*◌, ◌-◌, ◌^◌, ◌<◌, ◌≤◌, ◌&&◌, not, nat_lt, ℕ, Bool, true, length, pos, neg_ℤ, ◌≤ℤ◌}
 use Rattle.call_sets.specs.Counting.{has, sum_where}
 use Rattle.elevator_model.specs.Snapshot.{Snapshot, call_count, spec_of}
 use Rattle.elevator_model.specs.Travel.{time_between}
 use Rattle.elevator_model.specs.Tours.{Progress, rider_count}
 use Rattle.elevator_model.specs.Partial.{Course}
 use Rattle.price_scale.specs.Scale.{IsPriceSum}
-use Rattle.search_model.specs.Bounds.{cost_if_straight, bound_after}
+use Rattle.search_model.specs.Bounds.{cost_if_alone, cost_if_straight, bound_after}
 use Rattle.search_model.specs.Sums.{int_sum_where}
 use Rattle.car_layout.specs.Layouts.{persons_to, moments_to}
 use Rattle.partial_tours.specs.Courses.{reached}
 use Rattle.pricing_bound.specs.declared.straight.Sums.{Sums}
+use Rattle.pricing_bound.specs.declared.waiting.Waiting.{Waiting}
 use Rattle.pricing_bound.specs.Aims.{Aim, IsBoundSize}
-use Rattle.pricing_bound.specs.Rates.{counts_at}
+use Rattle.pricing_bound.specs.Rates.{counts_at, rise_at, term_at}
 
 -- call j is allowed, has not boarded, and is required or lowers the bound
 abbrev pub is_counted : Aim → Progress → ℕ → Bool
 is_counted a p j = nat_lt j (call_count a.snapshot) && a.allowed j && not (p.boarded j) && counts_at a p.opened j
 
+-- from the moment m to another one what call j costs alone grows evenly
+abbrev pub IsEven : Aim → (m until j : ℕ) → Type 0
+IsEven a m until j = (k : ℕ) → m ≤ k → k ≤ until → cost_if_alone a.snapshot j k ≡ cost_if_alone a.snapshot j m + rise_at a.snapshot m j * (k - m)
+
+-- calls, what they cost at the moment without their prices, and how that grows
+pub record AreEven (a : Aim) (w : Waiting) : Type 0 where
+  pub calls : (j : ℕ) → has w.counted j ≡ true → j < call_count a.snapshot
+  pub sum : w.sum ≡ int_sum_where (call_count a.snapshot) (has w.counted) (term_at a w.moment)
+  pub low : neg_ℤ (pos (256 * 10 ^ 24)) ≤ℤ w.sum
+  pub high : w.sum ≤ℤ pos (256 * 10 ^ 24)
+  pub slope : w.growth.slope ≡ sum_where (call_count a.snapshot) (has w.counted) (rise_at a.snapshot w.moment)
+  pub gentle : w.growth.slope ≤ 2048000
+  pub even : (j : ℕ) → has w.counted j ≡ true → IsEven a w.moment w.growth.until j
+
+-- They count before a moment.
+pub record AreWaiting (a : Aim) (w : Waiting) : Type 0 where
+  pub are : AreEven a w
+  pub within : w.until ≤ w.growth.until
+  pub counts : (j k : ℕ) → has w.counted j ≡ true → w.moment ≤ k → k < w.until → counts_at a k j ≡ true
+
+-- Of these calls one is left out where it does not count at the moment, and the others stay.
+pub record IsSiftedOf (a : Aim) (w : Waiting) (one : ℕ) (new : Waiting) : Type 0 where
+  pub are : AreEven a new
+  pub moment : new.moment ≡ w.moment
+  pub inside : (j : ℕ) → has new.counted j ≡ true → has w.counted j ≡ true
+  pub others : (j : ℕ) → (j ≡ one → ⊥) → has new.counted j ≡ has w.counted j
+  pub stays : counts_at a w.moment one ≡ true → has new.counted one ≡ true
+  pub counts_now : has new.counted one ≡ true → counts_at a w.moment one ≡ true
+  pub counts : (k : ℕ) → has new.counted one ≡ true → w.moment ≤ k → k < new.until → counts_at a k one ≡ true
+  pub until : new.until ≤ w.until
+  pub within : new.until ≤ new.growth.until
+
 -- the sums are those of a progress: the completion bound, the prices of the calls that boarded, and the calls that
--- are counted
+-- are counted, with what they add where the doors are open
 pub record AreSums (a : Aim) (sums : Sums) (p : Progress) : Type 0 where
   pub bound : sums.bound ≡ bound_after a.snapshot a.car a.price a.allowed a.required p
   pub small : IsBoundSize sums.bound
   pub paid : sums.paid ≡ int_sum_where (call_count a.snapshot) p.boarded a.price
   pub paid_small : IsPriceSum sums.paid
-  pub counted : (j : ℕ) → has sums.counted j ≡ is_counted a p j
+  pub counted : (j : ℕ) → has sums.waiting.counted j ≡ is_counted a p j
+  pub waiting : AreWaiting a sums.waiting
+  pub opened : sums.waiting.moment ≡ p.opened
 
 -- they are those of where moves lead
 abbrev pub StandFor : Aim → Sums → Course → Type 0

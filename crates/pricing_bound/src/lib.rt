@@ -10,6 +10,7 @@ mod rates;
 mod rides;
 mod running;
 mod straight;
+mod waiting;
 
 pub use bounds::bound;
 pub use rates::Rates;

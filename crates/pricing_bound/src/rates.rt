@@ -1,51 +1,131 @@
-//! What calls cost alone, laid out once for a snapshot, with one price for each call.
+//! What calls cost, laid out once for a snapshot, with one price for each call.
 
-ghost use Rattle.std.specs.Prelude.{◌≡◌, ℕ, ℤ, pos, neg_ℤ, ◌-ℤ◌, ◌*◌, ◌^◌, ◌<◌, ◌≤◌, ◌≤ℤ◌, IfOk, length, map, nat_lt};
+ghost use Rattle.std.specs.Prelude.{◌≡◌, ℕ, ℤ, pos, neg_ℤ, ◌-ℤ◌, ◌+◌, ◌-◌, ◌*◌, ◌^◌, ◌<◌, ◌≤◌, ◌≤ℤ◌, int_lt, true, IfOk, length, map, nat_lt};
 ghost use Rattle.call_sets.specs.Counting.{has};
 ghost use Rattle.elevator_model.specs.Snapshot.{IsAccepted, Snapshot as SnapshotValue, call_count, call_of};
 ghost use Rattle.price_scale.specs.Scale.{IsPrice};
+ghost use Rattle.elevator_model.specs.Costs.{cost_of_rider};
 ghost use Rattle.search_model.specs.Bounds.{cost_if_alone};
 ghost use Rattle.search_model.specs.Prices.{price_at, scaled as scaled_lem};
-ghost use Rattle.pricing_bound.specs.Rates.{AreRates, IsRate, ArePrices, cost_at};
+ghost use Rattle.pricing_bound.specs.Rates.{AreRates, IsRate, ArePrices, rise_at, wait_at};
 
+use crate::waiting::Growth;
 use call_sets::CallSet;
 use call_state::{Building, Call, Snapshot};
-use elevator_model::MOMENT_LIMIT;
-use price_scale::Price;
+use elevator_model::{MOMENT_LIMIT, MOST_CALL_COST};
+use price_scale::{Price, scaled};
 use std::alloc::{AllocError, Global};
 use std::marker::Model;
 
-/// What a call costs if it boards and rides straight to its destination, by the moment at which it boards: a
-/// fixed cost, one for each ms past its release, and one more for each ms past its patience. In thousandths of a
-/// cost unit; moments are in ms.
+/// What a call costs by the moments at which it boards and gets off: so many cost units for each ms past its
+/// release until it boards, so many more for each ms past its patience, and so many for each ms from there on.
+/// Moments are in ms.
 #[derive(Clone, Copy)]
 pub(crate) struct Rate {
     released: u64,
     /// The moment at which its patience ends.
     late: u64,
-    slope: u64,
-    steeper: u64,
+    wait: u64,
+    over: u64,
+    travel: u64,
+    /// What the straight ride to its destination costs, in cost units.
     ride: u64,
-    /// The price of the call, of absolute value at most 10^24.
+    /// The price of the call in thousandths of a cost unit, of absolute value at most 10^24.
     price: i128,
+    /// A moment before which it costs less than its price if it boards and rides straight to its destination.
+    below: u64,
+}
+
+/// The greatest depth that is told.
+const DEEPEST: i128 = 1_000_000_000_000_000_000;
+
+/// How far a term is below 0, or less where that is more than 10^18.
+fn depth_of(term: i128) -> u64
+    requires below { int_lt term (pos 0) ≡ true }
+    requires low { neg_ℤ (pos (2 * 10 ^ 24)) ≤ℤ term }
+    ensures deep { pos result ≤ℤ neg_ℤ term }
+    ensures small { result ≤ 10 ^ 18 }
+{
+    (-term).min(DEEPEST) as u64
 }
 
 impl Rate {
-    /// The cost where it boards at this moment.
-    ///
-    /// Eight persons wait at most 10^11 ms, of which each costs at most two million thousandths for each of them,
-    /// so all of it is below 2 * 10^18 and fits 64 bits.
-    fn cost(&self, moment: u64) -> u64
-        requires slope { self.now.slope ≤ 8000000 }
-        requires steeper { self.now.steeper ≤ 8000000 }
-        requires ride { self.now.ride ≤ 160000000000000 }
+    /// What its wait until this moment costs.
+    fn wait_cost(&self, moment: u64) -> u64
+        requires wait { self.now.wait ≤ 8000 }
+        requires over { self.now.over ≤ 8000 }
         requires early { moment ≤ MOMENT_LIMIT }
-        ensures value { result ≡ cost_at self.now moment }
-        ensures small { result ≤ 2 * 10 ^ 18 }
+        ensures value { result ≡ wait_at self.now moment }
+        ensures small { result ≤ 1600000000000000 }
     {
-        self.ride
-            + self.slope * moment.saturating_sub(self.released)
-            + self.steeper * moment.saturating_sub(self.late)
+        self.wait * moment.saturating_sub(self.released)
+            + self.over * moment.saturating_sub(self.late)
+    }
+
+    /// A moment before which it costs less than this price if it boards and rides straight to its destination: the
+    /// first one at which it costs no less, rounded down, where its patience costs nothing.
+    fn below_price(&self, price: i128) -> u64
+        requires wait { self.now.wait ≤ 8000 }
+        requires over { self.now.over ≤ 8000 }
+        requires ride { self.now.ride ≤ 160000000000 }
+        requires ordered { self.now.released ≤ self.now.late }
+        requires early { self.now.released ≤ 1000000000 }
+        requires price { IsPrice price }
+        ensures { (k : ℕ) → k < result → int_lt (scaled_lem (wait_at self.now k + self.now.ride)
+            -ℤ price) (pos 0) ≡ true }
+    {
+        let term = scaled(self.ride) - price;
+        if term >= 0 {
+            return 0;
+        }
+        self.released + depth_of(term) / (1000 * (self.wait + self.over)).max(1)
+    }
+
+    /// The same call at a price.
+    fn at_price(&self, price: i128) -> Rate
+        requires rate { (s : SnapshotValue) × (j : ℕ) × IsRate s j self.now }
+        requires price { IsPrice price }
+        ensures rate { (s : SnapshotValue) (j : ℕ) → IsRate s j self.now → IsRate s j result }
+        ensures price { result.price ≡ price }
+    {
+        Rate {
+            released: self.released,
+            late: self.late,
+            wait: self.wait,
+            over: self.over,
+            travel: self.travel,
+            ride: self.ride,
+            price,
+            below: self.below_price(price),
+        }
+    }
+
+    /// How its wait grows from this moment on.
+    fn growth(&self, moment: u64) -> Growth
+        requires wait { self.now.wait ≤ 8000 }
+        requires over { self.now.over ≤ 8000 }
+        requires ordered { self.now.released ≤ self.now.late }
+        ensures even { (k : ℕ) → moment ≤ k → k ≤ result.until
+            → wait_at self.now k ≡ wait_at self.now moment + result.slope * (k - moment) }
+        ensures slope { wait_at self.now (moment + 1) ≡ wait_at self.now moment + result.slope }
+        ensures gentle { result.slope ≤ 16000 }
+    {
+        if moment >= self.late {
+            Growth {
+                slope: self.wait + self.over,
+                until: u64::MAX,
+            }
+        } else if moment >= self.released {
+            Growth {
+                slope: self.wait,
+                until: self.late,
+            }
+        } else {
+            Growth {
+                slope: 0,
+                until: self.released,
+            }
+        }
     }
 }
 
@@ -59,15 +139,18 @@ fn rate_of(building: &Building, call: &Call) -> Rate
         → j < call_count s → IsRate s j result }
     ensures price { result.price ≡ pos 0 }
 {
-    let ride = building.travel().time(call.origin, call.destination);
-    let persons = 1000 * call.persons as u64;
+    let time = building.travel().time(call.origin, call.destination);
+    let persons = call.persons as u64;
+    let travel = persons * building.travel_weight();
     Rate {
         released: call.released,
         late: call.released + building.patience(),
-        slope: persons * building.wait_weight(),
-        steeper: persons * building.patience_weight(),
-        ride: persons * (building.travel_weight() * ride),
+        wait: persons * building.wait_weight(),
+        over: persons * building.patience_weight(),
+        travel,
+        ride: travel * time,
         price: 0,
+        below: 0,
     }
 }
 
@@ -100,12 +183,13 @@ fn calls_of(snapshot: &Snapshot) -> CallSet
 
 /// Gives each call its price.
 fn set_prices(rates: &mut [Rate], prices: &[Price])
-    requires { length prices.now ≡ length rates.old }
+    requires size { length prices.now ≡ length rates.old }
+    requires are { (s : SnapshotValue) × AreRates s rates.old }
     ensures prices { map (λ rate. rate.price) rates.new ≡ prices.now }
     ensures rates { (s : SnapshotValue) → AreRates s rates.old → AreRates s rates.new }
 {
     for j in 0..prices.len() {
-        rates[j].price = prices[j].value();
+        rates[j] = rates[j].at_price(prices[j].value());
     }
 }
 
@@ -178,6 +262,18 @@ impl<'a> Rates<'a> {
         self.rates[call as usize].price
     }
 
+    /// What a call costs that boards and gets off at these moments, in cost units.
+    pub(crate) fn cost(&self, call: u32, boarded: u64, delivered: u64) -> u64
+        requires call { call < call_count self.now.snapshot }
+        requires boarded { boarded ≤ MOMENT_LIMIT }
+        requires delivered { delivered ≤ MOMENT_LIMIT }
+        ensures value { result ≡ cost_of_rider self.now.snapshot call boarded delivered }
+        ensures bounded { result ≤ MOST_CALL_COST }
+    {
+        let rate = &self.rates[call as usize];
+        rate.wait_cost(boarded) + rate.travel * delivered.saturating_sub(boarded)
+    }
+
     /// What a call costs without its price, if it boards at this moment and rides straight to its destination, in
     /// thousandths of a cost unit.
     pub(crate) fn term(&self, call: u32, moment: u64) -> i128
@@ -189,6 +285,27 @@ impl<'a> Rates<'a> {
         ensures high { result ≤ℤ pos (2 * 10 ^ 24) }
     {
         let rate = &self.rates[call as usize];
-        i128::from(rate.cost(moment)) - rate.price
+        scaled(rate.wait_cost(moment) + rate.ride) - rate.price
+    }
+
+    /// A moment before which what a call costs alone is below its price.
+    pub(crate) fn below(&self, call: u32) -> u64
+        requires { call < call_count self.now.snapshot }
+        ensures { (k : ℕ) → k < result → int_lt (scaled_lem (cost_if_alone self.now.snapshot call k)
+            -ℤ price_at self.now.prices call) (pos 0) ≡ true }
+    {
+        self.rates[call as usize].below
+    }
+
+    /// How what a call costs that rides straight to its destination grows from this moment of its board on.
+    pub(crate) fn growth(&self, call: u32, moment: u64) -> Growth
+        requires { call < call_count self.now.snapshot }
+        ensures even { (k : ℕ) → moment ≤ k → k ≤ result.until
+            → cost_if_alone self.now.snapshot call k
+            ≡ cost_if_alone self.now.snapshot call moment + result.slope * (k - moment) }
+        ensures slope { result.slope ≡ rise_at self.now.snapshot moment call }
+        ensures gentle { result.slope ≤ 16000 }
+    {
+        self.rates[call as usize].growth(moment)
     }
 }

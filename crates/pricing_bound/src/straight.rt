@@ -1,7 +1,7 @@
 //! The completion bound in which each rider goes straight to its destination, kept along the moves.
 
 ghost use Rattle.std.specs.Prelude.{◌≡◌, ℕ, pos, neg_ℤ, int_lt, not, ◌==◌, ◌*◌, ◌^◌, ◌&&◌, ◌||◌, ◌<◌, ◌≤◌, ◌+ℤ◌, ◌-ℤ◌, ◌≤ℤ◌, if◌then◌else◌, Some, true};
-ghost use Rattle.call_sets.specs.Counting.{has};
+ghost use Rattle.call_sets.specs.Counting.{has, sum_where};
 ghost use Rattle.elevator_model.specs.Partial.{Course};
 ghost use Rattle.elevator_model.specs.Snapshot.{call_count};
 ghost use Rattle.elevator_model.specs.declared.Move.{Move as MoveValue};
@@ -11,8 +11,8 @@ ghost use Rattle.price_scale.specs.Scale.{IsPrice, IsPriceSum};
 ghost use Rattle.search_model.specs.Prices.{scaled as scaled_lem};
 ghost use Rattle.search_model.specs.Sums.{int_sum_where};
 ghost use Rattle.pricing_bound.specs.Aims.{AimsAt, IsBoundSize, IsLastMove, completion_bound_for};
-ghost use Rattle.pricing_bound.specs.Rates.{adds_at, aim_at, counts_at, term_at};
-ghost use Rattle.pricing_bound.specs.Running.{StandFor};
+ghost use Rattle.pricing_bound.specs.Rates.{aim_at, counts_at, rise_at, term_at};
+ghost use Rattle.pricing_bound.specs.Running.{AreEven, AreWaiting, IsEven, IsSiftedOf, StandFor};
 ghost use Rattle.search_model.specs.Prices.{price_at};
 ghost use Rattle.search_model.proofs.BoundLemmas.{bound_is_at_least};
 ghost use Rattle.pricing_bound.specs.GrowthLemmas.{bound_grows};
@@ -23,8 +23,9 @@ use crate::bounds::groups_part;
 use crate::carried::cost_of_carried;
 use crate::rates::Rates;
 use crate::running::CompletionBound;
+use crate::waiting::{Growth, Waiting};
 use call_sets::CallSet;
-use elevator_model::{MOMENT_LIMIT, MOST_COST, Move};
+use elevator_model::{LATEST_MOMENT, MOMENT_LIMIT, MOST_COST, Move};
 use partial_tours::Prefix;
 use price_scale::scaled;
 
@@ -36,19 +37,12 @@ pub struct Sums {
     paid: i128,
     /// The calls that have not boarded and add to the bound: those that are required, and those that lower it. Later
     /// a call costs no less, so one that does not lower the bound never will.
-    counted: CallSet,
-}
-
-/// Calls that have not boarded: what those of them add to a bound that do, and which these are.
-#[derive(Clone, Copy)]
-struct Waiting {
-    sum: i128,
-    counted: CallSet,
+    waiting: Waiting,
 }
 
 impl Sums {
-    /// A call boards that adds so much to the bound, at this price.
-    fn with_board(&self, call: u32, more: i128, price: i128) -> Sums
+    /// A call boards that adds so much to the bound, at this price, and these wait.
+    fn with_board(&self, more: i128, price: i128, waiting: Waiting) -> Sums
         requires bound { IsBoundSize self.now.bound }
         requires paid { IsPriceSum self.now.paid }
         requires low { neg_ℤ (pos (2 * 10 ^ 24)) ≤ℤ more }
@@ -56,13 +50,12 @@ impl Sums {
         requires price { IsPrice price }
         ensures bound { result.bound ≡ self.now.bound +ℤ more }
         ensures paid { result.paid ≡ self.now.paid +ℤ price }
-        ensures counted { (j : ℕ) → has result.counted j
-            ≡ (has self.now.counted j && not (j == call)) }
+        ensures waiting { result.waiting ≡ waiting }
     {
         Sums {
             bound: self.bound + more,
             paid: self.paid + price,
-            counted: self.counted.without(call),
+            waiting,
         }
     }
 }
@@ -78,12 +71,12 @@ fn sums_of(settled: u64, carried: u64, paid: i128, waiting: Waiting) -> Sums
     ensures bound { result.bound ≡ (((scaled_lem settled +ℤ scaled_lem carried) -ℤ paid)
         +ℤ waiting.sum) }
     ensures paid { result.paid ≡ paid }
-    ensures counted { result.counted ≡ waiting.counted }
+    ensures waiting { result.waiting ≡ waiting }
 {
     Sums {
         bound: scaled(settled) + scaled(carried) - paid + waiting.sum,
         paid,
-        counted: waiting.counted,
+        waiting,
     }
 }
 
@@ -95,12 +88,12 @@ fn sums_at_start(groups: i128, waiting: Waiting) -> Sums
     requires high { waiting.sum ≤ℤ pos (256 * 10 ^ 24) }
     ensures bound { result.bound ≡ groups +ℤ waiting.sum }
     ensures paid { result.paid ≡ pos 0 }
-    ensures counted { result.counted ≡ waiting.counted }
+    ensures waiting { result.waiting ≡ waiting }
 {
     Sums {
         bound: groups + waiting.sum,
         paid: 0,
-        counted: waiting.counted,
+        waiting,
     }
 }
 
@@ -137,34 +130,163 @@ impl<'a> StraightRides<'a> {
         term < 0 || self.required.contains(call)
     }
 
-    /// What calls add that board at this moment, and which of them do.
-    fn waiting(&self, calls: CallSet, moment: u64) -> Waiting
+    /// What calls cost without their prices that board at this moment.
+    fn terms(&self, calls: CallSet, moment: u64) -> i128
         requires within { (j : ℕ) → has calls j ≡ true
             → j < call_count self.now.rates.now.snapshot }
         requires early { moment ≤ MOMENT_LIMIT }
-        ensures sum { result.sum ≡ int_sum_where (call_count self.now.rates.now.snapshot)
-            (has calls) (adds_at (aim_at self.now.rates.now self.now.car self.now.allowed
+        ensures sum { result ≡ int_sum_where (call_count self.now.rates.now.snapshot)
+            (has calls) (term_at (aim_at self.now.rates.now self.now.car self.now.allowed
             self.now.required) moment) }
-        ensures counted { (j : ℕ) → has result.counted j ≡ (has calls j && counts_at (aim_at
-            self.now.rates.now self.now.car self.now.allowed self.now.required) moment j) }
-        ensures low { neg_ℤ (pos (256 * 10 ^ 24)) ≤ℤ result.sum }
-        ensures high { result.sum ≤ℤ pos (256 * 10 ^ 24) }
+        ensures low { neg_ℤ (pos (256 * 10 ^ 24)) ≤ℤ result }
+        ensures high { result ≤ℤ pos (256 * 10 ^ 24) }
     {
         // The snapshot is accepted, so it has at most 128 calls.
         let _accepted = self.rates.snapshot();
-        let mut waiting = Waiting {
-            sum: 0,
-            counted: calls,
+        let mut sum = 0;
+        for call in calls.iter() {
+            sum += self.rates.term(call, moment);
+        }
+        sum
+    }
+
+    /// How what calls cost grows from this moment on.
+    fn growth(&self, calls: CallSet, moment: u64) -> Growth
+        requires within { (j : ℕ) → has calls j ≡ true
+            → j < call_count self.now.rates.now.snapshot }
+        ensures slope { result.slope ≡ sum_where (call_count self.now.rates.now.snapshot)
+            (has calls) (rise_at self.now.rates.now.snapshot moment) }
+        ensures gentle { result.slope ≤ 2048000 }
+        ensures even { (j : ℕ) → has calls j ≡ true → IsEven
+            (aim_at self.now.rates.now self.now.car self.now.allowed
+            self.now.required) moment result.until j }
+    {
+        // The snapshot is accepted, so it has at most 128 calls.
+        let _accepted = self.rates.snapshot();
+        let mut growth = Growth {
+            slope: 0,
+            until: u64::MAX,
         };
         for call in calls.iter() {
-            let term = self.rates.term(call, moment);
-            if self.counts(call, term) {
-                waiting.sum += term;
-            } else {
-                waiting.counted = waiting.counted.without(call);
-            }
+            growth = growth.with(self.rates.growth(call, moment));
         }
-        waiting
+        growth
+    }
+
+    /// The same calls without one that does not count any more. If it does, it is told until when.
+    fn sifted_of(&self, waiting: &Waiting, call: u32) -> Waiting
+        requires are { AreEven (aim_at self.now.rates.now self.now.car self.now.allowed
+            self.now.required) waiting.now }
+        requires within { waiting.now.until ≤ waiting.now.growth.until }
+        requires call { has waiting.now.counted call ≡ true }
+        requires early { waiting.now.moment < LATEST_MOMENT }
+        ensures { IsSiftedOf (aim_at self.now.rates.now self.now.car self.now.allowed
+            self.now.required) waiting.now call result }
+    {
+        // The snapshot is accepted, and no term is great.
+        let _accepted = self.rates.snapshot();
+        let below = self.rates.below(call);
+        if waiting.moment < below {
+            return waiting.told_until(below);
+        }
+        let term = self.rates.term(call, waiting.moment);
+        if self.counts(call, term) {
+            return waiting.told_until(waiting.moment);
+        }
+        let slope = self.rates.growth(call, waiting.moment).slope;
+        waiting.without(call, term, slope)
+    }
+
+    /// Those of the calls that count at the moment, and until when each of them does.
+    fn sifted(&self, waiting: &Waiting) -> Waiting
+        requires are { AreEven (aim_at self.now.rates.now self.now.car self.now.allowed
+            self.now.required) waiting.now }
+        requires until { waiting.now.until ≡ waiting.now.growth.until }
+        requires early { waiting.now.moment < LATEST_MOMENT }
+        ensures counted { (j : ℕ) → has result.counted j
+            ≡ (has waiting.now.counted j && counts_at
+            (aim_at self.now.rates.now self.now.car self.now.allowed
+            self.now.required) waiting.now.moment j) }
+        ensures are { AreWaiting (aim_at self.now.rates.now self.now.car self.now.allowed
+            self.now.required) result }
+        ensures moment { result.moment ≡ waiting.now.moment }
+    {
+        // The snapshot is accepted, so it has at most 128 calls.
+        let _accepted = self.rates.snapshot();
+        let mut sifted = *waiting;
+        for call in waiting.counted.minus(self.required).iter() {
+            sifted = self.sifted_of(&sifted, call);
+        }
+        sifted
+    }
+
+    /// Those of the calls that count where they board at this moment, with what they add.
+    fn waiting(&self, calls: CallSet, moment: u64) -> Waiting
+        requires within { (j : ℕ) → has calls j ≡ true
+            → j < call_count self.now.rates.now.snapshot }
+        requires early { moment < LATEST_MOMENT }
+        ensures counted { (j : ℕ) → has result.counted j ≡ (has calls j && counts_at
+            (aim_at self.now.rates.now self.now.car self.now.allowed
+            self.now.required) moment j) }
+        ensures are { AreWaiting (aim_at self.now.rates.now self.now.car self.now.allowed
+            self.now.required) result }
+        ensures moment { result.moment ≡ moment }
+    {
+        let growth = self.growth(calls, moment);
+        self.sifted(&Waiting {
+            counted: calls,
+            sum: self.terms(calls, moment),
+            moment,
+            growth,
+            until: growth.until,
+        })
+    }
+
+    /// The same of calls that wait, at a later moment. No call is looked at as long as each of them is told to count.
+    fn waiting_later(&self, waiting: &Waiting, moment: u64) -> Waiting
+        requires are { AreWaiting (aim_at self.now.rates.now self.now.car self.now.allowed
+            self.now.required) waiting.now }
+        requires later { waiting.now.moment ≤ moment }
+        requires early { moment < LATEST_MOMENT }
+        ensures counted { (j : ℕ) → has result.counted j
+            ≡ (has waiting.now.counted j && counts_at
+            (aim_at self.now.rates.now self.now.car self.now.allowed
+            self.now.required) moment j) }
+        ensures are { AreWaiting (aim_at self.now.rates.now self.now.car self.now.allowed
+            self.now.required) result }
+        ensures moment { result.moment ≡ moment }
+    {
+        // The snapshot is accepted, and no term is great.
+        let _accepted = self.rates.snapshot();
+        if moment < waiting.until {
+            waiting.later(moment)
+        } else if moment < waiting.growth.until {
+            self.sifted(&waiting.later(moment).told_for_all())
+        } else {
+            self.waiting(waiting.counted, moment)
+        }
+    }
+
+    /// Those that wait but this call.
+    fn waiting_without(&self, waiting: &Waiting, call: u32) -> Waiting
+        requires are { AreWaiting (aim_at self.now.rates.now self.now.car self.now.allowed
+            self.now.required) waiting.now }
+        requires call { call < call_count self.now.rates.now.snapshot }
+        requires early { waiting.now.moment < LATEST_MOMENT }
+        ensures counted { (j : ℕ) → has result.counted j
+            ≡ (has waiting.now.counted j && not (j == call)) }
+        ensures are { AreWaiting (aim_at self.now.rates.now self.now.car self.now.allowed
+            self.now.required) result }
+        ensures moment { result.moment ≡ waiting.now.moment }
+    {
+        // The snapshot is accepted, and no term is great.
+        let _accepted = self.rates.snapshot();
+        if !waiting.counted.contains(call) {
+            return *waiting;
+        }
+        let term = self.rates.term(call, waiting.moment);
+        let slope = self.rates.growth(call, waiting.moment).slope;
+        waiting.without(call, term, slope)
     }
 
     /// What a call that boards adds to the bound: nothing where it was counted, since it boards at the moment for
@@ -172,13 +294,14 @@ impl<'a> StraightRides<'a> {
     fn board_adds(&self, prefix: &Prefix, sums: &Sums, call: u32) -> i128
         requires { call < call_count self.now.rates.now.snapshot }
         ensures more { (x : Course) → course prefix.now ≡ Some x → result
-            ≡ (if has sums.now.counted call then pos 0 else term_at (aim_at self.now.rates.now
+            ≡ (if has sums.now.waiting.counted call then pos 0 else term_at
+            (aim_at self.now.rates.now
             self.now.car self.now.allowed self.now.required)
             (reached prefix.now.snapshot prefix.now.car x).opened call) }
         ensures low { neg_ℤ (pos (2 * 10 ^ 24)) ≤ℤ result }
         ensures high { result ≤ℤ pos (2 * 10 ^ 24) }
     {
-        if sums.counted.contains(call) {
+        if sums.waiting.counted.contains(call) {
             0
         } else {
             self.rates.term(call, prefix.opened())
@@ -200,8 +323,10 @@ impl<'a> StraightRides<'a> {
         let _car = prefix.car();
         let _lawful = prefix.moves();
         prove!(prefix.settled() < MOST_COST);
+        prove!(prefix.opened() < LATEST_MOMENT);
         let more = self.board_adds(prefix, sums, call);
-        sums.with_board(call, more, self.rates.price(call))
+        let waiting = self.waiting_without(&sums.waiting, call);
+        sums.with_board(more, self.rates.price(call), waiting)
     }
 
     /// The sums after the car went to a stop: later, those carried have ridden on, and calls cost more.
@@ -214,11 +339,12 @@ impl<'a> StraightRides<'a> {
         ensures { (x : Course) → course prefix.now ≡ Some x → StandFor (aim_at self.now.rates.now
             self.now.car self.now.allowed self.now.required) result x }
     {
-        // The car is one of the snapshot's, and the moves are lawful.
+        // The snapshot is accepted, the car one of its cars and the moves lawful.
+        let _accepted = self.rates.snapshot();
         let _car = prefix.car();
         let _lawful = prefix.moves();
-        let carried = cost_of_carried(self.rates.snapshot(), prefix, self.rates.calls());
-        let waiting = self.waiting(sums.counted, prefix.opened());
+        let waiting = self.waiting_later(&sums.waiting, prefix.opened());
+        let carried = cost_of_carried(self.rates, prefix);
         sums_of(prefix.settled(), carried, sums.paid, waiting)
     }
 }

@@ -1,6 +1,6 @@
 -- What a walk keeps, move after move.
 use Rattle.std.proofs.Common.{◌≡◌, ℕ, zero, suc, ◌+◌, ◌<◌, ◌≤◌, Bool, true, false, cond, List, [], ◌∷◌, ◌++◌, length, get_or, refl, sym, ap, ◌∙◌, subst, inl, inr, arith, append-nil, Option, Some, None}
-use Rattle.std.specs.Prelude.{ℤ, ◌≤ℤ◌, int_lt, not, ◌-◌}
+use Rattle.std.specs.Prelude.{ℤ, ◌≤ℤ◌, int_lt, not, ◌-◌, ◌&&◌}
 use Rattle.std.specs.List.{flat_map}
 use Rattle.std.proofs.Math.Nat.{eq-or-lt_of_le}
 use Rattle.std.proofs.lemmas.Int.{ints}
@@ -182,6 +182,20 @@ reached_best a demand t bound stands most p least w o lower le found are high =
     let above = not_less least p.best high in
     let is = are o.at o.stands_there in
     passed_by t demand a.price bound most p p o.at w.accepted w.car (lower_at a demand t bound w lower) o.leads (goes_nowhere most p le) refl found (λ worth may. let b = may.best in omega (arith, ints, b, above, is)) (λ z under may. may)
+
+not_yet : (b x : Bool) → b ≡ true → (b && x) ≡ false → not x ≡ true
+not_yet true x e h = ap not h
+not_yet false x e h = absurd (both_ways false refl e)
+
+-- It is not one of those that are kept for the best value.
+pub kept_out : (t : PartialTour) (demand : Demand) (price : ℕ → ℤ) (bound : Course → ℤ) (most : ℕ) (p : Progress) (at : Course) → IsAccepted t.snapshot → t.car < car_count t.snapshot → IsLower (aim_at t demand price) bound → IsDemand t.snapshot t.car (has demand.allowed) (has demand.required) → course t ≡ Some at → keeps t demand bound p.best at ≡ false → p.visits ≤ most → HasFound (aim_at t demand price) p → Visited t demand price bound most p p
+kept_out t demand price bound most p at ok car_in lower demands leads out le found = by_test (goes_on t demand at) refl
+  where
+    by_test : (v : Bool) → goes_on t demand at ≡ v → Visited t demand price bound most p p
+    by_test true e =
+        let above = not_less (bound at) p.best (not_yet (goes_on t demand at) (int_lt (bound at) p.best) e out) in
+        passed_by t demand price bound most p p at ok car_in lower leads (goes_nowhere most p le) refl found (λ worth may. let b = may.best in omega (arith, ints, b, above)) (λ z under may. may)
+    by_test false e = shut_out t demand price bound most p at ok demands leads e le found
 
 lesser-le : (a b : ℤ) → cond (int_lt a b) a b ≤ℤ a
 lesser-le a b = grind (arith, ints)

@@ -7,7 +7,7 @@ ghost use Rattle.pricing_search.specs.Walks.{HasFound, Visited};
 
 use crate::progress::Progress;
 use elevator_model::Move;
-use kept_tours::step;
+use kept_tours::step_below;
 use partial_tours::Prefix;
 use pricing_bound::CompletionBound;
 use tour_extension::{Demand, is_useless};
@@ -53,7 +53,8 @@ pub(crate) fn visit<B: CompletionBound>(
     }
 }
 
-/// The same of the partial tour with one move more, where some tour of the node begins with it.
+/// The same of the partial tour with one move more, where some tour of the node begins with it and its bound is below the
+/// best value.
 #[cycle(walk)]
 fn visit_after<B: CompletionBound>(
     bound: &B,
@@ -76,7 +77,7 @@ fn visit_after<B: CompletionBound>(
     if is_useless(prefix, demand, next) {
         return;
     }
-    if let Some(sums) = step(bound, demand, prefix, sums, next) {
+    if let Some(sums) = step_below(bound, demand, prefix, sums, next, progress.best) {
         visit(bound, demand, limit, prefix, &sums, progress);
     }
     prefix.pop();

@@ -13,9 +13,9 @@ use Rattle.pricing_bound.proofs.carried.cost_of_calls.Goals as goal
 pub loop-call-init : goal.loop-call-init
 loop-call-init c =
     let t = c.args.prefix.now in
-    let n = call_count c.args.snapshot.now in
+    let n = call_count c.args.rates.now.snapshot in
     let left = ap (λ it. it.left) c.into_iter-call-iterator.ensures.into_iter_gives ∙ c.iter-call-items.ensures in
-    let high = most_calls_few c.args.snapshot.now c.requires.accepted in
+    let high = most_calls_few c.args.rates.now.snapshot c.requires.accepted in
     record {
       below = subst (λ (set : ℕ). AreBelow n (members 128 set)) (sym left) (members_below 128 c.args.calls n c.requires.within);
       within = subst (λ (set : ℕ). AllPass (has c.args.calls) (members 128 set)) (sym left) (members_pass 128 c.args.calls);
@@ -24,28 +24,28 @@ loop-call-init c =
       small = omega arith;
     }
 
-pub straight_cost_of_call-cost-requires-clause-call : goal.straight_cost_of_call-cost-requires-clause-call
-straight_cost_of_call-cost-requires-clause-call c = below_first (call_count c.args.snapshot.now) c.in-Some.call _ _ c.loop-call.invariant.below c.in-Some.ensures.steps
+pub cost_at_rate-cost-requires-clause-call : goal.cost_at_rate-cost-requires-clause-call
+cost_at_rate-cost-requires-clause-call c = below_first (call_count c.args.rates.now.snapshot) c.in-Some.call _ _ c.loop-call.invariant.below c.in-Some.ensures.steps
 
-pub straight_cost_of_call-cost-requires-clause-boarded : goal.straight_cost_of_call-cost-requires-clause-boarded
-straight_cost_of_call-cost-requires-clause-boarded c =
+pub cost_at_rate-cost-requires-clause-boarded : goal.cost_at_rate-cost-requires-clause-boarded
+cost_at_rate-cost-requires-clause-boarded c =
     let at = c.requires.boarded in
     (at.0, at.1, at.2 c.in-Some.call (passes_first (has c.args.calls) _ _ c.in-Some.call c.loop-call.invariant.within c.in-Some.ensures.steps).0)
 
 pub overflow_add-cost : goal.overflow_add-cost
 overflow_add-cost c =
-    let taken = one_taken _ _ c.in-Some.call 128 2400000000000000 c.loop-call.cost c.straight_cost_of_call-cost.result c.loop-call.invariant.few c.in-Some.ensures.steps c.loop-call.invariant.small c.straight_cost_of_call-cost.ensures.bounded in
+    let taken = one_taken _ _ c.in-Some.call 128 2400000000000000 c.loop-call.cost c.cost_at_rate-cost.result c.loop-call.invariant.few c.in-Some.ensures.steps c.loop-call.invariant.small c.cost_at_rate-cost.ensures.bounded in
     let few = taken.1 in
     omega (arith, few)
 
 pub loop-call-preserved : goal.loop-call-preserved
 loop-call-preserved c =
     let t = c.args.prefix.now in
-    let taken = one_taken _ _ c.in-Some.call 128 2400000000000000 c.loop-call.cost c.straight_cost_of_call-cost.result c.loop-call.invariant.few c.in-Some.ensures.steps c.loop-call.invariant.small c.straight_cost_of_call-cost.ensures.bounded in
+    let taken = one_taken _ _ c.in-Some.call 128 2400000000000000 c.loop-call.cost c.cost_at_rate-cost.result c.loop-call.invariant.few c.in-Some.ensures.steps c.loop-call.invariant.small c.cost_at_rate-cost.ensures.bounded in
     record {
-      below = below_rest (call_count c.args.snapshot.now) c.in-Some.call _ _ c.loop-call.invariant.below c.in-Some.ensures.steps;
+      below = below_rest (call_count c.args.rates.now.snapshot) c.in-Some.call _ _ c.loop-call.invariant.below c.in-Some.ensures.steps;
       within = (passes_first (has c.args.calls) _ _ c.in-Some.call c.loop-call.invariant.within c.in-Some.ensures.steps).1;
-      cost = λ x e. let f = cost_if_straight t.snapshot (reached t.snapshot t.car x) in let step = sum_step f c.loop-call.cost _ c.in-Some.call _ _ (c.loop-call.invariant.cost x e) c.in-Some.ensures.steps in let here = c.straight_cost_of_call-cost.ensures.cost x e in omega (arith, step, here);
+      cost = λ x e. let f = cost_if_straight t.snapshot (reached t.snapshot t.car x) in let step = sum_step f c.loop-call.cost _ c.in-Some.call _ _ (c.loop-call.invariant.cost x e) c.in-Some.ensures.steps in let here = c.cost_at_rate-cost.ensures.cost x e in omega (arith, step, here);
       few = taken.0;
       small = taken.1;
     }

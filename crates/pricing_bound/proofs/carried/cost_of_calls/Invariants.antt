@@ -14,7 +14,7 @@ use Rattle.pricing_bound.proofs.carried.cost_of_calls.Given as goal
 
 abbrev pub invariant-loop-call : goal.invariant-loop-call
 invariant-loop-call l = record {
-  below : AreBelow (call_count l.snapshot) (members 128 l.call-iterator.left);
+  below : AreBelow (call_count l.rates.snapshot) (members 128 l.call-iterator.left);
   within : AllPass (has l.fn.calls) (members 128 l.call-iterator.left);
   cost : (x : Course) → course l.prefix ≡ Some x → l.cost + sum_by (cost_if_straight l.prefix.snapshot (reached l.prefix.snapshot l.prefix.car x)) (members 128 l.call-iterator.left) ≡ cost_of_call_rides l.prefix.snapshot (reached l.prefix.snapshot l.prefix.car x) l.fn.calls;
   few : length (members 128 l.call-iterator.left) ≤ 128;

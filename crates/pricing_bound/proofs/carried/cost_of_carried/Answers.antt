@@ -18,10 +18,10 @@ both x y a b all e f g = omega (arith, e, f, g)
 pub cost_of_calls-requires-clause-boarded : goal.cost_of_calls-requires-clause-boarded
 cost_of_calls-requires-clause-boarded c =
     let t = c.args.prefix.now in
-    let a = subst IsAccepted c.requires.same c.requires.accepted in
+    let a = subst IsAccepted c.requires.same c.snapshot-snapshot.ensures.accepted in
     let b = subst (λ (s : Snapshot). t.car < car_count s) c.requires.same c.requires.car in
     let at = c.requires.late in
-    (at.0, at.1, λ j h. let parts = and_parts (has c.carried.result j) (has c.args.calls j) (sym (c.intersection.ensures j) ∙ h) in let lt = subst (λ (s : Snapshot). j < call_count s) c.requires.same (ltb-true j (call_count c.args.snapshot.now) (sym (c.requires.calls j) ∙ parts.1)) in carried_boarded t.snapshot t.car (reached t.snapshot t.car at.0) j (placed_at t at.0 a b at.1) lt (sym (c.carried.ensures at.0 at.1 j lt) ∙ parts.0))
+    (at.0, at.1, λ j h. let parts = and_parts (has c.carried.result j) (has c.calls.result j) (sym (c.intersection-calls.ensures j) ∙ h) in let lt = subst (λ (s : Snapshot). j < call_count s) c.requires.same (ltb-true j (call_count c.args.rates.now.snapshot) (sym (c.calls.ensures j) ∙ parts.1)) in carried_boarded t.snapshot t.car (reached t.snapshot t.car at.0) j (placed_at t at.0 a b at.1) lt (sym (c.carried.ensures at.0 at.1 j lt) ∙ parts.0))
 
 pub returns-clause-cost : goal.returns-clause-cost
 returns-clause-cost c = λ x e.
@@ -29,5 +29,5 @@ returns-clause-cost c = λ x e.
     let p = reached t.snapshot t.car x in
     let calls = c.cost_of_calls.ensures.cost x e in
     let groups = c.cost_of_groups.ensures.cost x e in
-    let all = all_rides t.snapshot t.car p c.intersection.result (λ j lt. c.intersection.ensures j ∙ with_all (has c.carried.result j) (has c.args.calls j) (c.requires.calls j ∙ lt-ltb j (call_count c.args.snapshot.now) (subst (λ (s : Snapshot). j < call_count s) (sym c.requires.same) lt)) ∙ c.carried.ensures x e j lt) in
+    let all = all_rides t.snapshot t.car p c.intersection-calls.result (λ j lt. c.intersection-calls.ensures j ∙ with_all (has c.carried.result j) (has c.calls.result j) (c.calls.ensures j ∙ lt-ltb j (call_count c.args.rates.now.snapshot) (subst (λ (s : Snapshot). j < call_count s) (sym c.requires.same) lt)) ∙ c.carried.ensures x e j lt) in
     both c.cost_of_calls.result c.cost_of_groups.result _ _ _ calls groups all

@@ -13,12 +13,12 @@ returns-clause-rate c = λ s j same_building same_call lt.
     let wait = c.wait_weight.ensures.value in
     let late = c.patience_weight.ensures.value in
     let travel = c.travel_weight.ensures.value in
-    let time = c.time-ride.ensures.value ∙ ap (λ (t : Square). time_between t call.origin call.destination) c.travel.ensures.value in
+    let time = c.time-time.ensures.value ∙ ap (λ (t : Square). time_between t call.origin call.destination) c.travel.ensures.value in
     let wait_small = weights.wait_weight in
     let late_small = weights.patience_weight in
     let travel_small = weights.travel_weight in
-    let slope = product_small (1000 * call.persons) c.wait_weight.result 8000 1000 (omega (arith, persons)) (omega (arith, wait, wait_small)) in
-    let steeper = product_small (1000 * call.persons) c.patience_weight.result 8000 1000 (omega (arith, persons)) (omega (arith, late, late_small)) in
-    let rides = product_small c.travel_weight.result c.time-ride.result 1000 20000000 (omega (arith, travel, travel_small)) c.time-ride.ensures.bounded in
-    let ride = product_small (1000 * call.persons) (c.travel_weight.result * c.time-ride.result) 8000 20000000000 (omega (arith, persons)) (omega (arith, rides)) in
-    rate_is s j b call _ same_building same_call lt refl (ap (λ (x : ℕ). call.released + x) c.patience.ensures.value) (ap (λ (x : ℕ). 1000 * call.persons * x) wait) (ap (λ (x : ℕ). 1000 * call.persons * x) late) (ap (λ (x : ℕ). 1000 * call.persons * (x * c.time-ride.result)) travel ∙ ap (λ (x : ℕ). 1000 * call.persons * (b.travel_weight * x)) time) (omega (arith, slope)) (omega (arith, steeper)) (omega (arith, ride)) refl
+    let each = product_small call.persons c.wait_weight.result 8 1000 persons (omega (arith, wait, wait_small)) in
+    let over = product_small call.persons c.patience_weight.result 8 1000 persons (omega (arith, late, late_small)) in
+    let rides = product_small call.persons c.travel_weight.result 8 1000 persons (omega (arith, travel, travel_small)) in
+    let ride = product_small (call.persons * c.travel_weight.result) c.time-time.result 8000 20000000 (omega (arith, rides)) c.time-time.ensures.bounded in
+    rate_is s j b call _ c.time-time.result same_building same_call lt time refl (ap (λ (x : ℕ). call.released + x) c.patience.ensures.value) (ap (λ (x : ℕ). call.persons * x) wait) (ap (λ (x : ℕ). call.persons * x) late) (ap (λ (x : ℕ). call.persons * x) travel) refl (omega (arith, each)) (omega (arith, over)) (omega (arith, rides)) (omega (arith, ride)) c.requires.released refl refl

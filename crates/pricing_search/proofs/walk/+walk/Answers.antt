@@ -1,16 +1,17 @@
-use Rattle.std.proofs.Common.{◌≡◌, ◌∙◌, refl, sym, ap, subst, arith, rules, Option}
+use Rattle.std.proofs.Common.{◌≡◌, ◌∙◌, false, refl, sym, ap, subst, arith, rules, Option}
+use Rattle.std.specs.Prelude.{ℤ}
 use mir.Val.{to_z, of_z}
 use mir.Syntax.{w128}
 use Rattle.elevator_model.specs.declared.Move.{Move}
 use Rattle.partial_tours.specs.PartialTour.{PartialTour, course, with_move}
 use Rattle.partial_tours.proofs.Follow.{is_some_has}
 use Rattle.partial_tours.proofs.Search.{left_in, left_falls, from_next}
-use Rattle.kept_tours.specs.Walking.{IsWalking, IsOpen, IsShut, MayFollow, aim_at}
+use Rattle.kept_tours.specs.Walking.{IsWalking, IsNotKept, IsOpen, MayFollow, aim_at}
 use Rattle.kept_tours.proofs.Followers.{followers, follower}
 use Rattle.pricing_search.specs.declared.progress.Progress.{Progress}
 use Rattle.pricing_search.specs.Walks.{HasFound, Visited}
 use Rattle.pricing_search.proofs.StepLemmas.{only_move, next_is, back_again, none_there}
-use Rattle.pricing_search.proofs.Visiting.{Visits, IsCounted, counted_found, reached_best, left_out, ended_visited, all_visited, visits_first, visits_on, shut_out, grows_at}
+use Rattle.pricing_search.proofs.Visiting.{Visits, IsCounted, counted_found, reached_best, left_out, ended_visited, all_visited, visits_first, visits_on, shut_out, kept_out, keeps, lower_at, grows_at}
 use Rattle.pricing_search.proofs.walk.+walk.Goals as goal
 use Rattle.pricing_search.proofs.walk.+walk.Goals.{visit_after-in-Some, visit_after-in_default}
 
@@ -109,14 +110,14 @@ pub visit_after-visit-requires : goal.visit_after-visit-requires
 visit_after-visit-requires g t c κs within =
     let a = g.B.CompletionBound.aim c.args.bound.now in
     let falls = left_falls c.args.prefix.now c.args.next c.requires.next.lawful in
-    let here = ap left_in c.step.ensures.prefix in
-    (omega (arith, falls, here), (search rules, (search rules, (c.step.ensures.walking, (c.in-Some.ensures.stands, (c.requires.limit, subst (λ (q : PartialTour). HasFound (aim_at q c.args.demand.now a.price) c.args.progress.now) (sym c.step.ensures.prefix) c.requires.found))))))
+    let here = ap left_in c.step_below.ensures.prefix in
+    (omega (arith, falls, here), (search rules, (search rules, (c.step_below.ensures.walking, (c.in-Some.ensures.stands, (c.requires.limit, subst (λ (q : PartialTour). HasFound (aim_at q c.args.demand.now a.price) c.args.progress.now) (sym c.step_below.ensures.prefix) c.requires.found))))))
 
 pub visit_after-returns-clause-prefix : goal.visit_after-returns-clause-prefix
 visit_after-returns-clause-prefix g t c =
-    elim c.match-step.branch [
-      | visit_after-in-Some w ↦ back_again c.pop.result c.args.prefix.now c.pop.new.self c.match-step.prefix c.args.next (w.prefix-is ∙ w.visit.ensures.prefix ∙ c.step.ensures.prefix) c.pop.ensures
-      | visit_after-in_default w ↦ back_again c.pop.result c.args.prefix.now c.pop.new.self c.match-step.prefix c.args.next (w.prefix-is ∙ c.step.ensures.prefix) c.pop.ensures
+    elim c.match-step_below.branch [
+      | visit_after-in-Some w ↦ back_again c.pop.result c.args.prefix.now c.pop.new.self c.match-step_below.prefix c.args.next (w.prefix-is ∙ w.visit.ensures.prefix ∙ c.step_below.ensures.prefix) c.pop.ensures
+      | visit_after-in_default w ↦ back_again c.pop.result c.args.prefix.now c.pop.new.self c.match-step_below.prefix c.args.next (w.prefix-is ∙ c.step_below.ensures.prefix) c.pop.ensures
     ]
 
 pub visit_after-returns-clause-visited : goal.visit_after-returns-clause-visited
@@ -124,11 +125,14 @@ visit_after-returns-clause-visited g t c =
     let a = g.B.CompletionBound.aim c.args.bound.now in
     let bound = g.B.CompletionBound.bound c.args.bound.now in
     let to = with_move c.args.prefix.now c.args.next in
-    elim c.match-step.branch [
-      | visit_after-in-Some w ↦ subst (λ (p : Progress). Visited to c.args.demand.now a.price bound c.args.limit c.args.progress.now p) (sym w.progress-is) (subst (λ (q : PartialTour). Visited q c.args.demand.now a.price bound c.args.limit c.args.progress.now w.visit.new.progress) c.step.ensures.prefix w.visit.ensures.visited)
+    elim c.match-step_below.branch [
+      | visit_after-in-Some w ↦ subst (λ (p : Progress). Visited to c.args.demand.now a.price bound c.args.limit c.args.progress.now p) (sym w.progress-is) (subst (λ (q : PartialTour). Visited q c.args.demand.now a.price bound c.args.limit c.args.progress.now w.visit.new.progress) c.step_below.ensures.prefix w.visit.ensures.visited)
       | visit_after-in_default w ↦ (
+          let best = to_z w128 (of_z w128 c.args.progress.now.best) in
+          let same : best ≡ c.args.progress.now.best = search rules in
           let led = is_some_has (course to) c.requires.next.lawful in
-          let shut = subst (λ (q : PartialTour). IsShut c.args.demand.now q) c.step.ensures.prefix (c.step.ensures.shut (none_there c.step.result w.in_default.not-Some)) in
-          subst (λ (p : Progress). Visited to c.args.demand.now a.price bound c.args.limit c.args.progress.now p) (sym w.progress-is) (shut_out to c.args.demand.now a.price bound c.args.limit c.args.progress.now led.0 c.requires.walking.accepted c.requires.walking.demands led.1 (shut led.0 led.1) c.requires.limit c.requires.found)
+          let out = subst (λ (q : PartialTour). IsNotKept c.args.demand.now bound best q) c.step_below.ensures.prefix (c.step_below.ensures.none (none_there c.step_below.result w.in_default.not-Some)) in
+          let here = subst (λ (z : ℤ). keeps to c.args.demand.now bound z led.0 ≡ false) same (out led.0 led.1) in
+          subst (λ (p : Progress). Visited to c.args.demand.now a.price bound c.args.limit c.args.progress.now p) (sym w.progress-is) (kept_out to c.args.demand.now a.price bound c.args.limit c.args.progress.now led.0 c.requires.walking.accepted c.requires.walking.car (lower_at a c.args.demand.now c.args.prefix.now bound c.requires.walking (g.met.B.CompletionBound.lower c.args.bound.now)) c.requires.walking.demands led.1 here c.requires.limit c.requires.found)
           )
     ]

@@ -1,5 +1,5 @@
-use Rattle.std.proofs.Common.{◌∙◌, ◌<◌, subst, sym, ap}
-use Rattle.std.specs.Prelude.{ℤ, pos, ◌-ℤ◌}
+use Rattle.std.proofs.Common.{◌∙◌, ◌<◌, ◌+◌, ℕ, subst, sym, ap, arith}
+use Rattle.std.specs.Prelude.{ℤ, ◌-ℤ◌}
 use Rattle.elevator_model.specs.Snapshot.{call_count}
 use Rattle.search_model.specs.Bounds.{cost_if_alone}
 use Rattle.search_model.specs.Prices.{scaled, price_at}
@@ -15,5 +15,8 @@ returns-clause-value c =
     let lt = subst (λ (r : Rated). j < call_count r.snapshot) (sym c.self.view_is) c.requires.call in
     let rate = rate_read s rates j c.index-rate.result.now c.self.invariant.1 lt c.index-rate.ensures in
     let price = price_read s rates j c.index-rate.result.now c.self.invariant.1 lt c.index-rate.ensures in
-    let found = term_found c.from.result (scaled (cost_if_alone s j c.args.moment)) c.index-rate.result.now.price c.cost.result c.from.ensures c.cost.ensures.small (ap pos c.cost.ensures.value ∙ rate.cost c.args.moment) rate.price in
-    found ∙ ap (λ (z : ℤ). scaled (cost_if_alone s j c.args.moment) -ℤ z) price ∙ ap (λ (r : Rated). scaled (cost_if_alone r.snapshot j c.args.moment) -ℤ price_at r.prices j) c.self.view_is
+    let wait_small = c.wait_cost.ensures.small in
+    let ride_small = rate.ride in
+    let alone = ap (λ (x : ℕ). x + c.index-rate.result.now.ride) c.wait_cost.ensures.value ∙ rate.alone c.args.moment in
+    let found = term_found c.scaled.result c.index-rate.result.now.price (c.wait_cost.result + c.index-rate.result.now.ride) c.scaled.ensures (omega (arith, wait_small, ride_small)) rate.price in
+    found ∙ ap (λ (n : ℕ). scaled n -ℤ c.index-rate.result.now.price) alone ∙ ap (λ (z : ℤ). scaled (cost_if_alone s j c.args.moment) -ℤ z) price ∙ ap (λ (r : Rated). scaled (cost_if_alone r.snapshot j c.args.moment) -ℤ price_at r.prices j) c.self.view_is

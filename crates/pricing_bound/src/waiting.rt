@@ -1,0 +1,133 @@
+//! What calls that wait add to a bound, and how that grows while they wait.
+
+ghost use Rattle.std.specs.Prelude.{◌≡◌, ℕ, pos, neg_ℤ, not, ◌==◌, ◌&&◌, ◌+◌, ◌-◌, ◌*◌, ◌^◌, ◌<◌, ◌≤◌, ◌+ℤ◌, ◌-ℤ◌, ◌≤ℤ◌};
+ghost use Rattle.call_sets.specs.Counting.{has};
+ghost use Rattle.search_model.specs.Prices.{scaled as scaled_lem};
+
+use call_sets::CallSet;
+use elevator_model::MOMENT_LIMIT;
+use price_scale::scaled;
+
+/// How a cost grows: by so many cost units each ms, until a moment in ms.
+#[derive(Clone, Copy)]
+pub(crate) struct Growth {
+    pub(crate) slope: u64,
+    pub(crate) until: u64,
+}
+
+impl Growth {
+    /// That of two costs together.
+    pub(crate) fn with(self, other: Growth) -> Growth
+        requires slope { self.slope ≤ 2048000 }
+        requires gentle { other.slope ≤ 16000 }
+        ensures slope { result.slope ≡ self.slope + other.slope }
+        ensures first { result.until ≤ self.until }
+        ensures second { result.until ≤ other.until }
+    {
+        Growth {
+            slope: self.slope + other.slope,
+            until: self.until.min(other.until),
+        }
+    }
+}
+
+/// Calls that wait and count, and what they add to a bound where they board at a moment.
+#[derive(Clone, Copy)]
+pub(crate) struct Waiting {
+    pub(crate) counted: CallSet,
+    /// What they add, in thousandths of a cost unit.
+    pub(crate) sum: i128,
+    /// The moment in ms, and how what they cost grows from there on.
+    pub(crate) moment: u64,
+    pub(crate) growth: Growth,
+    /// A moment before which each of them still counts.
+    pub(crate) until: u64,
+}
+
+impl Waiting {
+    /// What they add at a later moment, as long as the growth is told.
+    pub(crate) fn later(&self, moment: u64) -> Waiting
+        requires later { self.now.moment ≤ moment }
+        requires early { moment ≤ MOMENT_LIMIT }
+        requires gentle { self.now.growth.slope ≤ 2048000 }
+        requires low { neg_ℤ (pos (256 * 10 ^ 24)) ≤ℤ self.now.sum }
+        requires high { self.now.sum ≤ℤ pos (256 * 10 ^ 24) }
+        ensures counted { result.counted ≡ self.now.counted }
+        ensures sum { result.sum ≡ self.now.sum
+            +ℤ scaled_lem (self.now.growth.slope * (moment - self.now.moment)) }
+        ensures moment { result.moment ≡ moment }
+        ensures growth { result.growth ≡ self.now.growth }
+        ensures until { result.until ≡ self.now.until }
+    {
+        let grown = self.growth.slope * (moment - self.moment);
+        Waiting {
+            counted: self.counted,
+            sum: self.sum + scaled(grown),
+            moment,
+            growth: self.growth,
+            until: self.until,
+        }
+    }
+
+    /// The same, where each is taken to count as long as the growth is told.
+    pub(crate) fn told_for_all(&self) -> Waiting
+        ensures counted { result.counted ≡ self.now.counted }
+        ensures sum { result.sum ≡ self.now.sum }
+        ensures moment { result.moment ≡ self.now.moment }
+        ensures growth { result.growth ≡ self.now.growth }
+        ensures until { result.until ≡ self.now.growth.until }
+    {
+        Waiting {
+            counted: self.counted,
+            sum: self.sum,
+            moment: self.moment,
+            growth: self.growth,
+            until: self.growth.until,
+        }
+    }
+
+    /// The same, where one of them may count no more from a moment on.
+    pub(crate) fn told_until(&self, until: u64) -> Waiting
+        ensures counted { result.counted ≡ self.now.counted }
+        ensures sum { result.sum ≡ self.now.sum }
+        ensures moment { result.moment ≡ self.now.moment }
+        ensures growth { result.growth ≡ self.now.growth }
+        ensures first { result.until ≤ self.now.until }
+        ensures second { result.until ≤ until }
+    {
+        Waiting {
+            counted: self.counted,
+            sum: self.sum,
+            moment: self.moment,
+            growth: self.growth,
+            until: self.until.min(until),
+        }
+    }
+
+    /// Without a call that adds so much and grows by so much.
+    pub(crate) fn without(&self, call: u32, term: i128, slope: u64) -> Waiting
+        requires less { slope ≤ self.now.growth.slope }
+        requires low { neg_ℤ (pos (256 * 10 ^ 24)) ≤ℤ self.now.sum }
+        requires high { self.now.sum ≤ℤ pos (256 * 10 ^ 24) }
+        requires term_low { neg_ℤ (pos (2 * 10 ^ 24)) ≤ℤ term }
+        requires term_high { term ≤ℤ pos (2 * 10 ^ 24) }
+        ensures counted { (j : ℕ) → has result.counted j
+            ≡ (has self.now.counted j && not (j == call)) }
+        ensures sum { result.sum ≡ self.now.sum -ℤ term }
+        ensures moment { result.moment ≡ self.now.moment }
+        ensures slope { result.growth.slope + slope ≡ self.now.growth.slope }
+        ensures told { result.growth.until ≡ self.now.growth.until }
+        ensures until { result.until ≡ self.now.until }
+    {
+        Waiting {
+            counted: self.counted.without(call),
+            sum: self.sum - term,
+            moment: self.moment,
+            growth: Growth {
+                slope: self.growth.slope - slope,
+                until: self.growth.until,
+            },
+            until: self.until,
+        }
+    }
+}
