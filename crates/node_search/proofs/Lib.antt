@@ -1,0 +1,13 @@
+pub mod TurnPrices
+pub mod PoolLists
+pub mod TurnLists
+pub mod RootLaws
+pub mod PlanLaws
+pub mod SettleLaws
+pub mod RoundChoices
+pub mod RoundLaws
+pub mod RoundTasks
+pub mod RootTurns
+pub mod SearchStart
+pub mod SearchEnd
+pub mod RootDue

@@ -1,0 +1,215 @@
+-- What a search that has ended answers.
+use Rattle.std.proofs.Common.{◌≡◌, ℕ, suc, ◌^◌, ◌<◌, ◌≤◌, false, List, [], ◌∷◌, length, map, refl, sym, ap, ◌∙◌, subst, inl, inr, arith}
+use Rattle.std.proofs.Common.{to_z, of_z, w64}
+use mir.Val.{Fits as FitsWord}
+use Rattle.std.specs.Int.{w128}
+use lib.Dec.{T}
+use lib.Signed.{non_neg}
+use lib.IntN.{nat_abs}
+use Rattle.std.specs.Prelude.{min, ℤ, pos, negsuc, ◌≤ℤ◌, ◌<ℤ◌, ◌⊎◌, IsTrue, Option, Some, None, Result, Ok, Err, IfOk}
+use Rattle.std.specs.List.{list_any}
+use Rattle.std.proofs.lemmas.Int.{ints, int_min_is}
+use Rattle.std.proofs.lemmas.Bool.{both_ways}
+use Rattle.std.proofs.lemmas.List.Elements.{All-weaker}
+use Rattle.elevator_model.specs.declared.Stop.{Stop}
+use Rattle.elevator_model.specs.Snapshot.{Snapshot, car_count}
+use Rattle.search_model.specs.declared.Turn.{Turn}
+use Rattle.search_model.specs.declared.Twig.{Twig}
+use Rattle.search_model.specs.declared.Twig.TheVariants.{Split, Leaf as Tip}
+use Rattle.search_model.specs.declared.StopReason.{StopReason}
+use Rattle.search_model.specs.declared.StopReason.TheVariants.{Solved, Rounds, Moves}
+use Rattle.search_model.specs.Certificates.{Place, places_after, root_place}
+use Rattle.search_model.specs.Solving.{Fits, HasChoice, IsFound, IsReason, IsOutOfMoves, is_split, bound_of_leaf, least_bound, sum_of_turn}
+use Rattle.search_tree.specs.declared.branches.SplitAt.{SplitAt}
+use Rattle.search_tree.specs.declared.branches.Branch.{Branch}
+use Rattle.search_tree.specs.Sheets.{PriceSheet, sum_of_sheet}
+use Rattle.search_tree.specs.Branches.{at_place, twig_at, twig_of}
+use Rattle.search_tree.specs.Standing.{AllInTree, AllStand, IfLeaf, IsAtLeast, IsResting, IsRestingAt, bound_of_sheet, pricings_of}
+use Rattle.search_tree.proofs.EndLaws.{IsAbove}
+use Rattle.search_tree.proofs.TreeLaws.{of_leaf, if_leaf}
+use Rattle.search_tree.proofs.StandingLemmas.{stand-at}
+use Rattle.search_tree.proofs.FoundLaws.{IsStuck, IsStuckAt, IsSpentEnd, bound_exists, found, least-of-leaves, out_of_moves, out_of_rounds, some_below}
+use Rattle.node_search.specs.declared.best.Best.{Best}
+use Rattle.node_search.specs.declared.found.Found.{Found}
+use Rattle.node_search.specs.declared.root.Root.{Root}
+use Rattle.node_search.specs.declared.search.Search.{Search}
+use Rattle.node_search.specs.Best.{IsBest}
+use Rattle.node_search.specs.Roots.{IsRoot, leaf_of_root}
+use Rattle.node_search.specs.Searches.{HasRun, IsAtRest, IsLeft, IsSearching}
+use Rattle.node_search.specs.Found.{HasTurnsAbove, IsAnswerOf, IsBegun, IsBelow, IsEnded, IsReasonOf, IsTurned, least_of}
+use Rattle.node_search.proofs.RootTurns.{root_branch}
+use Rattle.node_search.proofs.TurnPrices.{stored}
+use Rattle.node_search.proofs.SearchStart.{branches_alone, lone_stands, turns_above}
+
+-- what stands below the root stands after the rounds
+pub ended_of : (fits : Fits) (s : Snapshot) (rounds moves : ℕ) (start : PriceSheet) (turns : List Turn) (old new : Search) → IsBegun fits s rounds moves start turns old → IsSearching fits s moves new → HasRun s rounds old new → IsEnded fits s rounds moves start turns new
+ended_of fits s rounds moves start turns old new begun searching run =
+    record {
+      begun = record {
+        searching = searching;
+        above = record {
+          sheet = begun.above.sheet;
+          root_turns = begun.above.root_turns;
+          few_turns = begun.above.few_turns;
+          above_start = run.sums (sum_of_sheet start) begun.above.above_start;
+          above_turns = All-weaker (λ (turn : Turn). AllInTree (IsAtLeast (sum_of_turn turn)) s old.tree) (λ (turn : Turn). AllInTree (IsAtLeast (sum_of_turn turn)) s new.tree) (λ turn h. run.sums (sum_of_turn turn) h) turns begun.above.above_turns;
+          tours = λ enough other feasible of. (let le = begun.above.tours enough other feasible of in let cheaper = run.cheaper in omega (arith, le, cheaper));
+        };
+        few = run.few;
+        many = begun.many;
+      };
+      ended = run.ended;
+    }
+
+-- ---- the bound
+
+pub least-cost : (cost : ℕ) (twigs : List Twig) → least_bound cost twigs ≤ℤ pos cost
+least-cost cost [] = omega (arith, ints)
+least-cost cost (Split j part ∷ twigs) = least-cost cost twigs
+least-cost cost (Tip leaf ∷ twigs) =
+    let rest = least-cost cost twigs in
+    let is = int_min_is (bound_of_leaf leaf) (least_bound cost twigs) in
+    omega (arith, ints, rest, is)
+
+pub bound_natural : (fits : Fits) (s : Snapshot) (moves : ℕ) (start : PriceSheet) (turns : List Turn) (tree : List Branch) (best : Best) → IsBest s best → HasTurnsAbove fits s moves start turns tree best.cost → pos 0 ≤ℤ sum_of_sheet start → pos 0 ≤ℤ least_of best.cost tree
+bound_natural fits s moves start turns tree best is above natural =
+    bound_exists fits s moves start tree best.plan best.cost above.sheet natural above.above_start is.feasible is.costs
+
+-- ---- a root that is not open
+
+-- Its tree is one leaf, whose bound is not below the cost.
+pub found_solved : (fits : Fits) (s : Snapshot) (rounds moves : ℕ) (start : PriceSheet) (root : Root) (bound : ℕ) → 1 ≤ car_count s → IsTurned fits s rounds moves start root → pos root.best.cost ≤ℤ bound_of_sheet (leaf_of_root root).sheet → pos bound ≡ least_of root.best.cost root.tree → IsFound fits start.prices (bound_of_sheet start) s rounds moves root.best.plan root.best.cost bound (map twig_of root.tree) root.turns.items Solved
+found_solved fits s rounds moves start root bound cars turned closed bound_is =
+    found fits s rounds moves start root.turns.items root.tree root.best.plan root.best.cost bound Solved (record {
+      sheet = above.sheet;
+      root_turns = above.root_turns;
+      few_turns = above.few_turns;
+      branches = branches_alone fits s rounds moves start root turned;
+      above_start = above.above_start;
+      above_turns = above.above_turns;
+    }) (let one = ap length is.lone in omega (arith, one)) is.best.feasible is.best.costs bound_is many above.tours solved
+  where
+    is : IsRoot fits s moves root
+    is = turned.stands
+
+    above : HasTurnsAbove fits s moves start root.turns.items root.tree root.best.cost
+    above = turns_above fits s rounds moves start root turned cars
+
+    high : pos root.best.cost ≤ℤ bound_of_sheet is.branch.sheet
+    high = subst (λ (b : Branch). pos root.best.cost ≤ℤ bound_of_sheet b.sheet) (root_branch fits s moves root is) closed
+
+    leaves : AllInTree (IsAbove (pos root.best.cost)) s root.tree
+    leaves = subst (AllInTree (IsAbove (pos root.best.cost)) s) (sym is.lone) (lone_stands (IsAbove (pos root.best.cost)) s is.branch is.leaf (of_leaf (pos root.best.cost ≤ℤ bound_of_sheet is.branch.sheet) is.branch.split high))
+
+    solved : root.best.cost ≡ bound
+    solved =
+        let low = least-of-leaves (pos root.best.cost) root.best.cost (omega (arith, ints)) (root_place s ∷ []) root.tree leaves in
+        let most = least-cost root.best.cost (map twig_of root.tree) in
+        omega (arith, ints, low, most, bound_is)
+
+    unsplit : list_any is_split (map twig_of root.tree) ≡ false
+    unsplit = ap (λ (bs : List Branch). list_any is_split (map twig_of bs)) is.lone ∙ ap (λ (x : Option SplitAt). list_any is_split (twig_at x is.branch.sheet ∷ [])) is.leaf
+
+    many : HasChoice s → IsTrue (list_any is_split (map twig_of root.tree)) ⊎ (bound < root.best.cost) → length root.turns.items ≡ min rounds 20
+    many choice (inl some) = absurd (both_ways (list_any is_split (map twig_of root.tree)) unsplit some)
+    many choice (inr less) = let same = solved in absurd (omega (arith, less, same))
+
+-- ---- a search below the root
+
+module _ (fits : Fits) (s : Snapshot) (rounds moves : ℕ) (start : PriceSheet) (turns : List Turn) (x : Search) (ended : IsEnded fits s rounds moves start turns x) where
+  abbrev tree : List Branch
+  tree = x.tree
+
+  abbrev cost : ℕ
+  cost = x.best.cost
+
+  pub found_ended : (bound : ℕ) (why : StopReason) → pos bound ≡ least_of x.best.cost x.tree → IsReason s rounds moves x.best.cost bound (map twig_of x.tree) why → IsFound fits start.prices (bound_of_sheet start) s rounds moves x.best.plan x.best.cost bound (map twig_of x.tree) turns why
+  found_ended bound why bound_is reason =
+      let above = ended.begun.above in
+      let way = ended.begun.searching.under_way in
+      found fits s rounds moves start turns x.tree x.best.plan x.best.cost bound why (record {
+        sheet = above.sheet;
+        root_turns = above.root_turns;
+        few_turns = above.few_turns;
+        branches = way.tree.branches;
+        above_start = above.above_start;
+        above_turns = above.above_turns;
+      }) (let size = ended.begun.searching.size in let few = ended.begun.few in omega (arith, size, few)) way.best.feasible way.best.costs bound_is (λ choice _. ended.begun.many choice) above.tours reason
+
+  resting_at : (k : ℕ) → IsBelow x.best.cost x.tree k → IsResting s x.best.cost (at_place x.tree k)
+  resting_at k below =
+      if_leaf (IsResting s x.best.cost (at_place x.tree k)) (at_place x.tree k).split below.leaf (stand-at (IsRestingAt s x.best.cost) k (root_place s ∷ []) x.tree below.in_tree ended.begun.searching.under_way.tree.resting).1
+
+  -- a leaf that is left below the cost was spent
+  left_spent : (k : ℕ) → IsBelow x.best.cost x.tree k → IsAtRest s x → (at_place x.tree k).spent ≡ None → ⊥
+  left_spent k below rest none =
+      let left = rest k below.in_tree in
+      let high = (resting_at k below).single (left.single below.leaf below.below) (left.was below.leaf below.below) none in
+      let low = below.below in
+      omega (arith, ints, high, low)
+
+  below_at : (bound : ℕ) → pos bound ≡ least_of x.best.cost x.tree → bound < x.best.cost → (k : ℕ) × IsBelow x.best.cost x.tree k
+  below_at bound bound_is lt =
+      let at = some_below x.best.cost bound x.tree bound_is lt in
+      (at.0, record { in_tree = at.1.in_tree; leaf = at.1.leaf; below = at.1.below })
+
+  stuck : (b : Branch) → IsRestingAt s x.best.cost (root_place s) b → IsLeft s x.best.cost b → IsStuckAt s x.best.cost (root_place s) b
+  stuck b resting left = by_kind b.split refl resting
+    where
+      spent : b.split ≡ None → IsResting s x.best.cost b → bound_of_sheet b.sheet <ℤ pos x.best.cost → (o : Option ℕ) → b.spent ≡ o → IsSpentEnd s b
+      spent leaf rests below None e =
+          let high = rests.single (left.single leaf below) (left.was leaf below) e in
+          absurd (omega (arith, ints, high, below))
+      spent leaf rests below (Some car) e = record { single = left.single leaf below; car = car; spent = e }
+
+      by_kind : (o : Option SplitAt) → b.split ≡ o → IfLeaf o (IsResting s x.best.cost b) → IfLeaf o (IsStuck s x.best.cost b)
+      by_kind None leaf rests = λ below. spent leaf rests below b.spent refl
+      by_kind (Some at) leaf rests = tt
+
+  stuck_all : (places : List Place) (bs : List Branch) → AllStand (IsRestingAt s x.best.cost) places bs → ((k : ℕ) → k < length bs → IsLeft s x.best.cost (at_place bs k)) → AllStand (IsStuckAt s x.best.cost) places bs
+  stuck_all [] [] h left = tt
+  stuck_all [] (b ∷ bs) h left = absurd h
+  stuck_all (place ∷ places) [] h left = absurd h
+  stuck_all (place ∷ places) (b ∷ bs) h left =
+      (stuck b h.0 (left 0 (omega arith)), stuck_all (places_after place (twig_of b) places) bs h.1 (λ k lt. left (suc k) (omega (arith, lt))))
+
+  -- Why it ended.
+  pub reason_is : (bound : ℕ) (why : StopReason) → pos bound ≡ least_of x.best.cost x.tree → IsReasonOf s moves x why → IsReason s rounds moves x.best.cost bound (map twig_of x.tree) why
+  reason_is bound Solved bound_is high =
+      let most = least-cost x.best.cost (map twig_of x.tree) in
+      omega (arith, ints, high, most, bound_is)
+  reason_is bound (Rounds done) bound_is why =
+      let low = why.below in
+      let lt : bound < x.best.cost = omega (arith, ints, low, bound_is) in
+      let way = ended.begun.searching.under_way in
+      let all : x.done ≡ rounds = (elim ended.ended [ inl e ↦ e | inr rest ↦ (let at = below_at bound bound_is lt in absurd (left_spent at.0 at.1 rest (why.unspent rest at.0 at.1))) ]) in
+      out_of_rounds fits s rounds moves x.best.cost bound done x.tree way.tree.priced way.tree.branches (subst (λ (n : ℕ). n ≤ pricings_of x.tree) (sym why.done_is) ended.begun.searching.pricings) (why.done_is ∙ all) lt
+  reason_is bound (Moves car count) bound_is why =
+      let low = why.below in
+      let lt : bound < x.best.cost = omega (arith, ints, low, bound_is) in
+      let way = ended.begun.searching.under_way in
+      subst (λ (n : ℕ). IsOutOfMoves s moves x.best.cost bound car n (map twig_of x.tree)) (sym why.count_is) (out_of_moves fits s moves x.best.cost bound car x.tree why.place (stuck_all (root_place s ∷ []) x.tree way.tree.resting why.rest) way.tree.priced way.tree.branches lt why.at.in_tree why.at.leaf why.at.below why.spent)
+
+-- ---- the bound in 64 bits
+
+natural_fits : (z : ℤ) (cost : ℕ) → cost < 2 ^ 64 → pos 0 ≤ℤ z → z ≤ℤ pos cost → T (non_neg z) × FitsWord w64 (nat_abs z)
+natural_fits (pos n) cost few low high = (tt, record { fits = omega (arith, ints, few, high) })
+natural_fits (negsuc n) cost few low high = absurd (omega (arith, ints, low))
+
+pub natural_cast : (z : ℤ) (cost : ℕ) → cost < 2 ^ 64 → pos 0 ≤ℤ z → z ≤ℤ pos cost → T (non_neg (to_z w128 (of_z w128 z))) × FitsWord w64 (nat_abs (to_z w128 (of_z w128 z)))
+natural_cast z cost few low high =
+    subst (λ (y : ℤ). T (non_neg y) × FitsWord w64 (nat_abs y)) (sym (stored z (omega (arith, ints, low)) (omega (arith, ints, few, high)))) (natural_fits z cost few low high)
+
+-- ---- the answer
+
+pub answer_found : (fits : Fits) (start : List ℤ) (least : ℤ) (s : Snapshot) (rounds moves : ℕ) (tree : List Branch) (best : Best) (turns : List Turn) (why : StopReason) (f : Found) → IsAnswerOf tree best turns why f → IsFound fits start least s rounds moves best.plan best.cost f.bound (map twig_of tree) turns why → IsFound fits start least s rounds moves f.plan f.cost f.bound f.tree.twigs f.turns f.why
+answer_found fits start least s rounds moves tree best turns why f is h =
+    let a = subst (λ (p : List (List Stop)). IsFound fits start least s rounds moves p best.cost f.bound (map twig_of tree) turns why) (sym is.plan) h in
+    let b = subst (λ (n : ℕ). IsFound fits start least s rounds moves f.plan n f.bound (map twig_of tree) turns why) (sym is.cost) a in
+    let c = subst (λ (ts : List Twig). IsFound fits start least s rounds moves f.plan f.cost f.bound ts turns why) (sym is.twigs) b in
+    let d = subst (λ (ts : List Turn). IsFound fits start least s rounds moves f.plan f.cost f.bound f.tree.twigs ts why) (sym is.turns_are) c in
+    subst (λ (w : StopReason). IsFound fits start least s rounds moves f.plan f.cost f.bound f.tree.twigs f.turns w) (sym is.why_is) d
+
+pub if_ok : {X E : Type 0} (r : Result X E) (P Q : X → Type 0) → ((x : X) → P x → Q x) → IfOk r P → IfOk r Q
+if_ok (Ok x) P Q f h = f x h
+if_ok (Err e) P Q f h = tt

@@ -1,0 +1,149 @@
+-- A leaf that was priced: it rests, or it is split.
+use Rattle.std.proofs.Common.{◌≡◌, ℕ, ◌^◌, ◌<◌, ◌≤◌, true, false, not, ◌&&◌, List, [], ◌∷◌, length, set, refl, sym, ap, ◌∙◌, subst, arith}
+use Rattle.std.specs.Prelude.{ℤ, pos, ◌≤ℤ◌, Option, Some, None, is_some, IfSome, MatchOption}
+use Rattle.std.proofs.lemmas.Int.{ints}
+use Rattle.std.proofs.lemmas.Bool.{and_parts, both_ways, not-true}
+use Rattle.std.proofs.lemmas.List.{length-set, get_or-set_other}
+use Rattle.call_sets.specs.Counting.{has, any_below}
+use Rattle.call_sets.proofs.BelowTests.{any_below-true}
+use Rattle.elevator_model.specs.Snapshot.{Snapshot, IsAccepted, car_count, call_count}
+use Rattle.search_model.specs.declared.TurnOf.{TurnOf}
+use Rattle.search_model.specs.Nodes.{Node, IsNodeOf, set_of, is_part}
+use Rattle.search_model.specs.Solving.{Fits}
+use Rattle.search_model.specs.Certificates.{Place, places_after, root_place}
+use Rattle.search_model.proofs.SetLemmas.{has-single}
+use Rattle.search_model.proofs.NodeLemmas.{part-from}
+use Rattle.assign_branch.specs.Pricings.{FitsInSplits}
+use Rattle.search_tree.specs.declared.branches.Branch.{Branch}
+use Rattle.search_tree.specs.declared.branches.SplitAt.{SplitAt}
+use Rattle.search_tree.specs.Sheets.{sum_of_sheet, sheet_of_turn}
+use Rattle.search_tree.specs.Branches.{AreSingle, at_place, noted, twig_of, twig_at, split_at, first_part, second_part, split_tree}
+use Rattle.search_tree.specs.Standing.{AllInTree, IsBranchAt, IsTreeOf, IsResting, IsAtLeast, IsLeafIn, bound_of_sheet, pricings_of}
+use Rattle.search_tree.proofs.StandingLemmas.{stand-set, stand-split, stand-at, set-sum, noted_split, split_tree-noted, split_branch-before, split_branch-length, split_branch-more}
+use Rattle.search_tree.proofs.TurnLaws.{IsNotedSheet, noted-sheet}
+use Rattle.search_tree.proofs.TreeLaws.{tree-noted, tree-split, if_leaf, of_leaf, leaf_of_kind}
+use Rattle.node_search.specs.declared.search.Search.{Search}
+use Rattle.node_search.specs.Best.{IsBest}
+use Rattle.node_search.specs.Searches.{IsUnderWay, IsPricingOf, HasSettled}
+
+-- a set of which one member alone is left has no part
+pub single_no_part : (calls call part : ℕ) (node : Node) → call < calls → is_part (set_of node call) part ≡ true → AreSingle calls node → ⊥
+single_no_part calls call part node lt h single =
+    let both = and_parts (any_below 16 (has part) && any_below 16 (λ d. has (set_of node call) d && not (has part d))) (not (any_below 16 (λ d. has part d && not (has (set_of node call) d)))) h in
+    let two = and_parts (any_below 16 (has part)) (any_below 16 (λ d. has (set_of node call) d && not (has part d))) both.0 in
+    let member = any_below-true 16 (has part) two.0 in
+    let other = any_below-true 16 (λ d. has (set_of node call) d && not (has part d)) two.1 in
+    let parts = and_parts (has (set_of node call) other.0) (not (has part other.0)) other.2 in
+    let in_set : has (set_of node call) member.0 ≡ true = (part-from (set_of node call) part h).within member.0 member.1 member.2 in
+    let one : set_of node call ≡ 2 ^ member.0 = single call lt member.0 in_set in
+    let same : other.0 ≡ member.0 = has-single member.0 other.0 (subst (λ (x : ℕ). has x other.0 ≡ true) one parts.0) in
+    both_ways (has part other.0) (not-true (has part other.0) parts.1) (subst (λ (x : ℕ). has part x ≡ true) (sym same) member.2)
+
+-- where a call with two cars or more is found, some call has two cars left
+pub choice_many : (calls : ℕ) (node : Node) (o : Option SplitAt) → MatchOption o (AreSingle calls node) (λ at. (at.call < calls) × AreSingle at.call node) → IfSome o (λ at. is_part (set_of node at.call) at.part ≡ true) → is_some o ≡ true → AreSingle calls node → ⊥
+choice_many calls node None m p e single = both_ways false refl e
+choice_many calls node (Some at) m p e single = single_no_part calls at.call at.part node m.0 p single
+
+-- the sizes of a pricing of a leaf, and its node
+module _ (fits : Fits) (s : Snapshot) (moves : ℕ) (x : Search) (k : ℕ) (prices : List ℤ) (cars : List TurnOf) (way : IsUnderWay fits s moves x) (pricing : IsPricingOf fits s moves x k prices cars) where
+  in_leaf : IsLeafIn fits s moves (at_place x.tree k).node (at_place x.tree k)
+  in_leaf =
+      let at = stand-at (IsBranchAt fits s moves) k (root_place s ∷ []) x.tree pricing.within way.tree.branches in
+      leaf_of_kind fits s moves (at_place x.tree k).node (at_place x.tree k) pricing.leaf at.1.kind
+
+  pub pricing_calls : length prices ≡ length (at_place x.tree k).sheet.prices
+  pricing_calls = pricing.answers.calls ∙ sym in_leaf.sheet.calls
+
+  pub pricing_cars : length cars ≡ length (at_place x.tree k).sheet.worths
+  pricing_cars = pricing.answers.count ∙ sym in_leaf.sheet.cars
+
+  pub pricing_node : IsNodeOf s (at_place x.tree k).node
+  pricing_node = (stand-at (IsBranchAt fits s moves) k (root_place s ∷ []) x.tree pricing.within way.tree.branches).1.is_node
+
+-- ---- when a leaf rests
+
+pub single_rests : (s : Snapshot) (cost : ℕ) (b : Branch) → AreSingle (call_count s) b.node → (b.spent ≡ None → pos cost ≤ℤ bound_of_sheet b.sheet) → IsResting s cost b
+single_rests s cost b single h = record { single = λ _ was none. h none; many = λ some most. absurd (some single) }
+
+pub open_rests : (s : Snapshot) (cost call part : ℕ) (b : Branch) → call < call_count s → is_part (set_of b.node call) part ≡ true → (20 ≤ b.rounds → pos cost ≤ℤ bound_of_sheet b.sheet) → IsResting s cost b
+open_rests s cost call part b lt is h = record { single = λ single was none. absurd (single_no_part (call_count s) call part b.node lt is single); many = λ some most. h most }
+
+module _ (fits : Fits) (s : Snapshot) (moves : ℕ) (few_cars : car_count s ≤ 16) (old new : Search) (k : ℕ) (prices : List ℤ) (cars : List TurnOf) (way : IsUnderWay fits s moves old) (pricing : IsPricingOf fits s moves old k prices cars) (best : IsBest s new.best) (cheaper : new.best.cost ≤ old.best.cost) (done : new.done ≡ old.done) where
+  abbrev b : Branch
+  b = at_place old.tree k
+
+  abbrev noted_b : Branch
+  noted_b = noted (at_place old.tree k) prices cars
+
+  abbrev n : Branch → Branch
+  n a = noted a prices cars
+
+  sheet : IsNotedSheet fits s moves b.node b.sheet (sheet_of_turn prices cars) noted_b.sheet
+  sheet =
+      let at = stand-at (IsBranchAt fits s moves) k (root_place s ∷ []) old.tree pricing.within way.tree.branches in
+      noted-sheet fits s moves b.node b prices cars (leaf_of_kind fits s moves b.node b pricing.leaf at.1.kind) pricing.begins pricing.answers
+
+  pub sheet-takes : sum_of_sheet (sheet_of_turn prices cars) ≤ℤ sum_of_sheet noted_b.sheet
+  sheet-takes = sheet.takes
+
+  same_after : (place : Place) (rest : List Place) → places_after place (twig_of noted_b) rest ≡ places_after place (twig_of b) rest
+  same_after place rest = ap (λ (x : Option SplitAt). places_after place (twig_at x noted_b.sheet) rest) pricing.leaf ∙ ap (λ (x : Option SplitAt). places_after place (twig_at x b.sheet) rest) (sym pricing.leaf)
+
+  rises : (z : ℤ) (place : Place) → IsAtLeast z place b → z ≤ℤ sum_of_sheet noted_b.sheet
+  rises z place h =
+      let was = if_leaf (z ≤ℤ sum_of_sheet b.sheet) b.split pricing.leaf h in
+      let up = sheet.rises in
+      omega (arith, ints, was, up)
+
+  -- ---- it rests
+
+  module _ (is : new.tree ≡ set old.tree k (noted (at_place old.tree k) prices cars)) (rests : IsResting s new.best.cost (noted (at_place old.tree k) prices cars)) where
+    pub rests_way : IsUnderWay fits s moves new
+    rests_way =
+        record {
+          best = best;
+          tree = subst (IsTreeOf fits s moves new.best.cost) (sym is) (tree-noted fits s moves old.best.cost new.best.cost few_cars cheaper old.tree k pricing.within pricing.leaf pricing.few prices cars pricing.begins pricing.answers way.tree rests);
+        }
+
+    pub rests_settled : HasSettled s old new k
+    rests_settled =
+        let count = ap length is ∙ length-set old.tree k noted_b in
+        let sum = set-sum (λ (a : Branch). a.rounds) old.tree k noted_b pricing.within in
+        let all = ap pricings_of is in
+        record {
+          cheaper = cheaper;
+          pricings = omega (arith, sum, all);
+          least = omega (arith, count);
+          size = omega (arith, count);
+          before = λ i lt. ap (λ (tree : List Branch). at_place tree i) is ∙ get_or-set_other old.tree k i noted_b _ (λ e. omega (arith, e, lt));
+          done = done;
+          sums = λ z h. subst (AllInTree (IsAtLeast z) s) (sym is) (stand-set (IsBranchAt fits s moves) (IsAtLeast z) noted_b k (root_place s ∷ []) old.tree pricing.within (λ place p q. of_leaf (z ≤ℤ sum_of_sheet noted_b.sheet) b.split (rises z place q)) same_after way.tree.branches h);
+        }
+
+  -- ---- it is split
+
+  module _ (accepted : IsAccepted s) (splits : FitsInSplits fits s) (call part : ℕ) (small : part < 2 ^ 16) (part_is : is_part (set_of (at_place old.tree k).node call) part ≡ true) (is : new.tree ≡ split_tree (set old.tree k (noted (at_place old.tree k) prices cars)) k call part) where
+    pub split_way : IsUnderWay fits s moves new
+    split_way =
+        record {
+          best = best;
+          tree = subst (IsTreeOf fits s moves new.best.cost) (sym is) (tree-split fits s moves old.best.cost new.best.cost few_cars cheaper old.tree k pricing.within pricing.leaf pricing.few prices cars pricing.begins pricing.answers way.tree accepted splits call part small part_is);
+        }
+
+    is_noted : new.tree ≡ noted_split n call part old.tree k
+    is_noted = is ∙ split_tree-noted n call part k old.tree pricing.within
+
+    pub split_settled : HasSettled s old new k
+    split_settled =
+        let count = ap length is_noted ∙ split_branch-length (λ a. split_at (n a) call part) (λ a. first_part (n a) call part) (λ a. second_part (n a) call part) old.tree k pricing.within in
+        let sum = split_branch-more (λ (a : Branch). a.rounds) (λ a. split_at (n a) call part) (λ a. first_part (n a) call part) (λ a. second_part (n a) call part) old.tree k pricing.within (λ a. omega arith) in
+        let all = ap pricings_of is_noted in
+        record {
+          cheaper = cheaper;
+          pricings = omega (arith, sum, all);
+          least = omega (arith, count);
+          size = omega (arith, count);
+          before = λ i lt. ap (λ (tree : List Branch). at_place tree i) is_noted ∙ split_branch-before (λ a. split_at (n a) call part) (λ a. first_part (n a) call part) (λ a. second_part (n a) call part) old.tree k i lt;
+          done = done;
+          sums = λ z h. subst (AllInTree (IsAtLeast z) s) (sym is_noted) (stand-split (IsBranchAt fits s moves) (IsAtLeast z) n call part k (root_place s ∷ []) old.tree pricing.within pricing.leaf (λ place p q. (let up = rises z place q in (tt, up, up))) way.tree.branches h);
+        }

@@ -1,0 +1,19 @@
+use Rattle.std.proofs.Common.{rules, ◌≡◌, ◌<◌, ℕ, List, length, get_or, sym, ap, ◌∙◌, subst}
+use Rattle.std.specs.Prelude.{false, is_some}
+use Rattle.search_model.specs.declared.TurnOf.{TurnOf}
+use Rattle.search_model.specs.Solving.{no_turn}
+use Rattle.search_tree.specs.Branches.{first_spent}
+use Rattle.search_tree.proofs.TurnLaws.{none-spent}
+use Rattle.node_search.proofs.RootTurns.{none_of, root-cheaper}
+use Rattle.node_search.proofs.root.Root.offer_turn.Goals as goal
+
+pub offer_tours-requires-clause-none : goal.offer_tours-requires-clause-none
+offer_tours-requires-clause-none g c κs within =
+    let cars : c.as_slice-cars.result.now ≡ c.requires.one.turn.cars = search rules in
+    let at : c.index-branches-0.result.spent ≡ first_spent 0 c.requires.one.turn.cars = search rules in
+    let none : is_some c.index-branches-0.result.spent ≡ false = search rules in
+    subst (λ (ts : List TurnOf). (k : ℕ) → k < length ts → (get_or ts k no_turn).priced.spent ≡ false) (sym cars) (none-spent 0 c.requires.one.turn.cars (none_of (first_spent 0 c.requires.one.turn.cars) (ap is_some (sym at) ∙ none)))
+
+pub returns-in_ok-offer_tours-clause-root : goal.returns-in_ok-offer_tours-clause-root
+returns-in_ok-offer_tours-clause-root g c =
+    root-cheaper (g.P.Pricer.fits c.args.pricer.now) (g.P.Pricer.snapshot c.args.pricer.now) c.args.moves c.args.self.now c.offer_tours.new.self c.requires.root c.in_ok-offer_tours.ensures.best c.in_ok-offer_tours.ensures.pool c.in_ok-offer_tours.ensures.cheaper

@@ -1,0 +1,13 @@
+use Rattle.std.proofs.Common.{rules, ◌≡◌, get_or}
+use Rattle.search_model.specs.Nodes.{root_of}
+use Rattle.pricing_rounds.proofs.RoundLemmas.{ok_both}
+use Rattle.node_search.proofs.RootTurns.{one_task, root_calls, root_node}
+use Rattle.node_search.proofs.root.Root.price.Goals as goal
+
+pub returns-clause-answers : goal.returns-clause-answers
+returns-clause-answers g c =
+    let s = g.P.Pricer.snapshot c.args.pricer.now in
+    let fits = g.P.Pricer.fits c.args.pricer.now in
+    let prices : c.deref.result.now ≡ c.args.self.now.prices.items = search rules in
+    let node' : (get_or c.branches.result.now 0 c.index-branches-0.result).node ≡ root_of s = search rules in
+    ok_both c.price_nodes.result _ _ _ (λ cars count right. one_task fits s c.args.moves (root_of s) c.args.self.now.prices.items _ _ cars.items right node' prices (search rules) count (root_node fits s c.args.moves c.args.self.now c.requires.root) (root_calls fits s c.args.moves c.args.self.now c.requires.root)) c.price_nodes.ensures.count c.price_nodes.ensures.answers

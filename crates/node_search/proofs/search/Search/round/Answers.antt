@@ -1,0 +1,44 @@
+use Rattle.std.proofs.Common.{rules, ◌≡◌, ◌<◌, ◌+◌, ℕ, List, length, sym, ap, ◌∙◌, subst, refl}
+use Rattle.std.specs.Prelude.{Some, slice_get}
+use Rattle.std.proofs.lemmas.Option.{slice_get_read}
+use Rattle.elevator_model.specs.Snapshot.{Snapshot, call_count}
+use Rattle.node_search.specs.Best.{IsBest}
+use Rattle.node_search.specs.declared.rounds.Chosen.{Chosen}
+use Rattle.node_search.specs.Searches.{AreTaken, HasAdvanced}
+use Rattle.node_search.proofs.RoundLaws.{taken_busy, taken_calls, round_searching}
+use Rattle.node_search.proofs.search.Search.round.Goals as goal
+
+pub select-requires-clause-prices : goal.select-requires-clause-prices
+select-requires-clause-prices g c =
+    let fits = g.P.Pricer.fits c.args.pricer.now in
+    let s = g.P.Pricer.snapshot c.args.pricer.now in
+    let old = c.args.self.now in
+    let chosen = c.in_ok-chosen.chosen.items in
+    let taken : AreTaken s old chosen = subst (λ (x : Snapshot). AreTaken x old chosen) c.requires.searching.under_way.best.snapshot c.in_ok-chosen.ensures in
+    let some : 0 < length chosen = search rules in
+    let at : slice_get chosen 0 ≡ Some c.index.result.now = slice_get_read chosen (length chosen) 0 c.index.result.now refl some c.index.ensures in
+    let same : c.settle_all.new.self.best.pool.snapshot ≡ s = c.in_ok-settle_all.ensures.way.best.snapshot in
+    ap length c.deref-4.ensures.value ∙ taken_calls fits s c.args.moves old chosen c.requires.searching.under_way taken 0 c.index.result.now at ∙ ap call_count (sym same)
+
+pub returns-clause-searching : goal.returns-clause-searching
+returns-clause-searching g c =
+    let fits = g.P.Pricer.fits c.args.pricer.now in
+    let s = g.P.Pricer.snapshot c.args.pricer.now in
+    let old = c.args.self.now in
+    let mid = c.settle_all.new.self in
+    let chosen = c.in_ok-chosen.chosen.items in
+    let taken : AreTaken s old chosen = subst (λ (x : Snapshot). AreTaken x old chosen) c.requires.searching.under_way.best.snapshot c.in_ok-chosen.ensures in
+    let some : 0 < length chosen = search rules in
+    let advanced : HasAdvanced s (length chosen) old mid = subst (λ (cs : List Chosen). HasAdvanced s (length cs) old mid) c.deref-2.ensures.value c.in_ok-settle_all.ensures.advanced in
+    let same : mid.best.pool.snapshot ≡ s = c.in_ok-settle_all.ensures.way.best.snapshot in
+    let best : IsBest s c.select.new.self = subst (λ (x : Snapshot). IsBest x c.select.new.self) same c.in_ok-select.ensures.best in
+    round_searching fits s c.args.moves (length chosen) old mid _ c.requires.searching some taken.few c.in_ok-settle_all.ensures.way advanced best c.in_ok-select.ensures.cheaper refl (ap (λ (n : ℕ). n + 1) advanced.done)
+
+pub returns-clause-busy : goal.returns-clause-busy
+returns-clause-busy g c _ rest =
+    let s = g.P.Pricer.snapshot c.args.pricer.now in
+    let old = c.args.self.now in
+    let chosen = c.in_ok-chosen.chosen.items in
+    let taken : AreTaken s old chosen = subst (λ (x : Snapshot). AreTaken x old chosen) c.requires.searching.under_way.best.snapshot c.in_ok-chosen.ensures in
+    let some : 0 < length chosen = search rules in
+    taken_busy s old chosen c.index.result.now (slice_get_read chosen (length chosen) 0 c.index.result.now refl some c.index.ensures) taken rest

@@ -1,0 +1,10 @@
+use Rattle.std.proofs.Common.{◌≡◌, ◌≤◌, take}
+use Rattle.node_search.specs.Turns.{boards_of_cars}
+use Rattle.node_search.proofs.turns.boards_count.Given as goal
+
+abbrev pub invariant-loop-car : goal.invariant-loop-car
+invariant-loop-car l =
+    record {
+      count : l.count ≡ boards_of_cars (take l.car l.cars) l.call;
+      few : l.count ≤ l.car;
+    }

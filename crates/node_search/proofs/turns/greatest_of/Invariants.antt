@@ -1,0 +1,10 @@
+use Rattle.std.proofs.Common.{◌≡◌, ◌^◌, take, pos, ◌≤ℤ◌}
+use Rattle.search_model.specs.Solving.{greatest_price}
+use Rattle.node_search.proofs.turns.greatest_of.Given as goal
+
+abbrev pub invariant-loop-place : goal.invariant-loop-place
+invariant-loop-place l =
+    record {
+      value : l.greatest ≡ pos (greatest_price (take l.place l.prices));
+      high : l.greatest ≤ℤ pos (10 ^ 24);
+    }

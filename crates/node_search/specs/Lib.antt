@@ -1,0 +1,5 @@
+pub mod Best
+pub mod Turns
+pub mod Roots
+pub mod Searches
+pub mod Found

@@ -1,0 +1,115 @@
+//! The cheapest plan that is known.
+
+ghost use Rattle.std.specs.Prelude.{◌≡◌, ◌<◌, ◌≤◌, ◌^◌, ℕ, IfOk, OnOk, IfSome, List, length, slice_index_or, Some};
+ghost use Rattle.elevator_model.specs.Snapshot.{car_count, call_count};
+ghost use Rattle.elevator_model.specs.Tours.{IsFeasible};
+ghost use Rattle.elevator_model.specs.declared.Stop.{Stop};
+ghost use Rattle.elevator_model.specs.Plans.{IsFeasiblePlan, plan_cost_of};
+ghost use Rattle.search_model.specs.Solving.{no_turn};
+ghost use Rattle.restricted_master.specs.Pools.{IsMadeOf, tours_of_car};
+ghost use Rattle.node_search.specs.Best.{IsBest, AreToursOf, with_turn};
+
+use call_state::Snapshot;
+use elevator_model::{Plan, Tour};
+use price_scale::Price;
+use restricted_master::{Choice, Pool};
+use search_model::TurnOf;
+use std::alloc::{AllocError, Global};
+use tour_cost::plan_cost;
+
+/// The cheapest plan that is known, with what it costs, and the tours of which a cheaper one may be made.
+#[derive(Drop)]
+pub(crate) struct Best<'a> {
+    pub(crate) plan: Plan,
+    /// In cost units.
+    pub(crate) cost: u64,
+    pub(crate) pool: Pool<'a>,
+}
+
+/// A pool with the tours of a feasible plan. It fails only where there is no memory left.
+fn pool_of<'a>(alloc: Global, snapshot: &'a Snapshot, plan: &Plan) -> Result<Pool<'a>, AllocError>
+    requires { IsFeasiblePlan snapshot.now plan.now }
+    ensures snapshot { IfOk result (λ pool. pool.snapshot ≡ snapshot.now) }
+    ensures few { IfOk result (λ pool. (c : ℕ) → length (tours_of_car pool c) ≤ 1) }
+{
+    prove!(snapshot.calls().len() <= 128);
+    let mut pool = Pool::new(alloc, snapshot)?;
+    for car in 0..plan.tours().len() {
+        pool.put(car as u32, plan.tours()[car].copy(alloc)?);
+    }
+    Ok(pool)
+}
+
+impl<'a> Best<'a> {
+    /// A feasible plan, whose tours are in the pool. It fails only where there is no memory left.
+    pub(crate) fn new(alloc: Global, snapshot: &'a Snapshot, plan: Plan) -> Result<Self, AllocError>
+        requires { IsFeasiblePlan snapshot.now plan }
+        ensures best { IfOk result (IsBest snapshot.now) }
+        ensures few { IfOk result (λ best. (c : ℕ) → length (tours_of_car best.pool c) ≤ 1) }
+    {
+        Ok(Best {
+            cost: plan_cost(snapshot, &plan),
+            pool: pool_of(alloc, snapshot, &plan)?,
+            plan,
+        })
+    }
+
+    /// Takes a feasible plan with its cost where it is cheaper.
+    pub(crate) fn offer(&mut self, plan: Plan, cost: u64)
+        requires best { IsBest self.old.pool.snapshot self.old }
+        requires feasible { IsFeasiblePlan self.old.pool.snapshot plan }
+        requires costs { plan_cost_of self.old.pool.snapshot plan ≡ cost }
+        ensures best { IsBest self.old.pool.snapshot self.new }
+        ensures pool { self.new.pool ≡ self.old.pool }
+        ensures cheaper { self.new.cost ≤ self.old.cost }
+        ensures least { self.new.cost ≤ cost }
+    {
+        if cost < self.cost {
+            self.plan = plan;
+            self.cost = cost;
+        }
+    }
+
+    /// Puts the tours of a pricing of all cars into the pool. It fails only where there is no memory left.
+    pub(crate) fn put_tours(&mut self, alloc: Global, cars: &[TurnOf]) -> Result<(), AllocError>
+        requires best { IsBest self.old.pool.snapshot self.old }
+        requires count { length cars.now ≡ car_count self.old.pool.snapshot }
+        requires tours { AreToursOf self.old.pool.snapshot cars.now }
+        ensures best { OnOk result (IsBest self.old.pool.snapshot self.new) }
+        ensures cost { OnOk result (self.new.cost ≡ self.old.cost) }
+        ensures pool { OnOk result (self.new.pool ≡ with_turn self.old.pool 0 cars.now) }
+        ensures cars { length self.old.pool.tours ≡ car_count self.old.pool.snapshot }
+    {
+        prove!(self.pool.snapshot().calls().len() <= 128);
+        for car in 0..cars.len() {
+            if let Some(tour) = &cars[car].tour {
+                self.pool.put(car as u32, tour.copy(alloc)?);
+            }
+        }
+        Ok(())
+    }
+
+    /// Takes the cheapest plan that the pool's tours make, found in at most `limit` tries, where it is cheaper. It fails
+    /// only where there is no memory left.
+    pub(crate) fn select(
+        &mut self,
+        alloc: Global,
+        prices: &[Price],
+        limit: u64,
+    ) -> Result<(), AllocError>
+        requires best { IsBest self.old.pool.snapshot self.old }
+        requires prices { length prices.now ≡ call_count self.old.pool.snapshot }
+        requires limit { 1 ≤ limit }
+        ensures best { OnOk result (IsBest self.old.pool.snapshot self.new) }
+        ensures pool { OnOk result (self.new.pool ≡ self.old.pool) }
+        ensures cheaper { OnOk result (self.new.cost ≤ self.old.cost) }
+        ensures least { OnOk result (34 ^ car_count self.old.pool.snapshot ≤ limit → (plan : List (List Stop))
+            → IsMadeOf self.old.pool plan → self.new.cost ≤ plan_cost_of self.old.pool.snapshot plan) }
+    {
+        let Choice { plan, cost, .. } = self.pool.select(alloc, prices, self.cost, limit)?;
+        if let Some(plan) = plan {
+            self.offer(plan, cost);
+        }
+        Ok(())
+    }
+}

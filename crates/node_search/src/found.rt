@@ -1,0 +1,386 @@
+//! The whole search: turns at the root, rounds below it, and what is answered at the end.
+
+ghost use Rattle.std.specs.Prelude.{◌≡◌, ◌<◌, ◌≤◌, ◌^◌, ◌⊎◌, ℕ, ℤ, pos, ◌≤ℤ◌, ◌<ℤ◌, IfOk, OnOk, MatchOption, length, None, Some, IfSome, true};
+ghost use Rattle.elevator_model.specs.Snapshot.{Snapshot as SnapshotOf, IsAccepted, call_count, car_count};
+ghost use Rattle.elevator_model.specs.Plans.{IsFeasiblePlan};
+ghost use Rattle.search_model.specs.Sums.{rounded_up};
+ghost use Rattle.search_model.specs.Nodes.{is_part, root_of, set_of};
+ghost use Rattle.search_model.specs.Solving.{IsFound};
+ghost use Rattle.search_tree.specs.Sheets.{PriceSheet, sum_of_sheet};
+ghost use Rattle.search_tree.specs.Branches.{at_place};
+ghost use Rattle.search_tree.specs.Standing.{IsSheetIn, bound_of_sheet};
+ghost use Rattle.work_fan.specs.Work.{Serving};
+ghost use Rattle.node_search.specs.Best.{IsBest};
+ghost use Rattle.node_search.specs.Roots.{IsRoot};
+ghost use Rattle.node_search.specs.Found.{IsAnswerOf, IsBegun, IsBelow, IsEnded, IsKeptRoot, IsOpenRoot, IsReasonOf, IsSplitRoot, IsTurned, least_of};
+
+use crate::best::Best;
+use crate::choosing::first_wanted;
+use crate::root::{MOST_TURNS, Root};
+use crate::search::Search;
+use crate::steps::NodeSteps;
+use assign_branch::{Pricer, Tree};
+use byte_streams::Gate;
+use call_state::Snapshot;
+use elevator_model::Plan;
+use pricing_rounds::desks_for;
+use search_model::{Items, StopReason, Turn};
+use search_tree::{Branch, SearchTree, Sheet, SplitAt, first_choice};
+use std::alloc::{AllocError, Global};
+use std::marker::Sync;
+use std::thread::Threads;
+
+/// How long a search may go on.
+#[derive(Clone, Copy, PartialEq, Eq, Debug)]
+pub struct Limits {
+    /// How many rounds it may do: 1 to 10^18.
+    pub rounds: u64,
+    /// How many partial tours each pricing may try: 1 to 10^18.
+    pub moves: u64,
+}
+
+/// What a search answers.
+#[derive(Drop)]
+pub struct Found {
+    /// The cheapest plan that was found.
+    pub plan: Plan,
+    /// What it costs, in cost units.
+    pub cost: u64,
+    /// No feasible plan costs less, in cost units.
+    pub bound: u64,
+    /// It proves the bound.
+    pub tree: Tree,
+    /// The turns at the root.
+    pub turns: Items<Turn>,
+    pub why: StopReason,
+}
+
+/// A search below the root, and the turns at the root before it.
+#[derive(Drop)]
+struct Begun<'a> {
+    search: Search<'a>,
+    turns: Vec<Turn>,
+}
+
+/// The choices at the root after its turns. It fails only where there is no memory left.
+fn steps_of(
+    alloc: Global,
+    turns: &[Turn],
+    calls: usize,
+    cars: usize,
+) -> Result<NodeSteps, AllocError> {
+    let mut steps = NodeSteps::new(alloc, calls, cars)?;
+    for turn in turns {
+        let spent = turn.cars.as_slice().iter().any(|car| car.priced.spent);
+        // By how much a turn raised the root's sum counts for nothing here: the root is split after its last turn.
+        steps.note(0, turn.cars.as_slice(), 0, spent);
+    }
+    Ok(steps)
+}
+
+/// Splits the root: as `first` says where nothing else is proposed. It fails only where there is no memory left.
+fn split_root(
+    alloc: Global,
+    tree: &mut SearchTree,
+    steps: &mut NodeSteps,
+    calls: usize,
+    first: SplitAt,
+) -> Result<(), AllocError>
+    requires some { 0 < length tree.old }
+    requires calls { calls ≤ 128 }
+    requires part { is_part (set_of (at_place tree.old 0).node first.call) first.part ≡ true }
+    ensures { OnOk result (IsSplitRoot tree.old tree.new) }
+{
+    let at = steps.choice(0, &tree.branches()[0].node, calls, first);
+    if tree.split(alloc, 0, at.call, at.part)? {
+        steps.split(alloc, 0)?;
+    }
+    Ok(())
+}
+
+/// The car whose pricing reached the limit last in the first such leaf whose bound is below the cost.
+fn spent_car(branches: &[Branch], cost: u64) -> Option<u32>
+    ensures { MatchOption result
+        ((k : ℕ) → IsBelow cost branches.now k → (at_place branches.now k).spent ≡ None)
+        (λ car. (k : ℕ) × IsBelow cost branches.now k × ((at_place branches.now k).spent ≡ Some car)) }
+{
+    for place in 0..branches.len() {
+        let branch = &branches[place];
+        let is_below = !branch.is_split() && branch.sheet.bound() < i128::from(cost);
+        if is_below && branch.spent.is_some() {
+            return branch.spent;
+        }
+    }
+    None
+}
+
+impl<'a> Search<'a> {
+    /// Why it ended, where each pricing may try so many partial tours.
+    fn reason(&self, calls: usize, moves: u64) -> StopReason
+        requires { calls ≤ 128 }
+        ensures { (s : SnapshotOf) → call_count s ≡ calls → IsReasonOf s moves self.now result }
+    {
+        let (branches, cost) = (self.tree.branches(), self.best.cost);
+        let done = self.done;
+        if self.tree.bound(cost) >= i128::from(cost) {
+            return StopReason::Solved;
+        }
+        if first_wanted(branches, cost, calls).is_some() {
+            return StopReason::Rounds { done };
+        }
+        match spent_car(branches, cost) {
+            Some(car) => StopReason::Moves { car, count: moves },
+            None => StopReason::Rounds { done },
+        }
+    }
+}
+
+/// The answer of a search that ended with this tree, this plan and these turns. It fails only where there is no memory
+/// left.
+fn answer(
+    alloc: Global,
+    tree: SearchTree,
+    best: Best,
+    turns: Vec<Turn>,
+    why: StopReason,
+) -> Result<Found, AllocError>
+    requires { pos 0 ≤ℤ least_of best.cost tree }
+    ensures { IfOk result (IsAnswerOf tree best.entry turns.items why) }
+{
+    let bound = tree.bound(best.cost) as u64;
+    Ok(Found {
+        tree: tree.to_tree(alloc)?,
+        plan: best.plan,
+        cost: best.cost,
+        bound,
+        turns: Items::from_vec(turns),
+        why,
+    })
+}
+
+/// Splits the root where it had as many turns as it may have and some call has two cars. It fails only where there is no
+/// memory left.
+fn split_where_due(
+    alloc: Global,
+    tree: &mut SearchTree,
+    steps: &mut NodeSteps,
+    turns: usize,
+    calls: usize,
+) -> Result<(), AllocError>
+    requires some { 0 < length tree.old }
+    requires calls { calls ≤ 128 }
+    ensures { OnOk result (IsSplitRoot tree.old tree.new ⊎ IsKeptRoot calls turns tree.old tree.new) }
+{
+    if turns < MOST_TURNS {
+        return Ok(());
+    }
+    if let Some(first) = first_choice(&tree.branches()[0].node, calls) {
+        split_root(alloc, tree, steps, calls, first)?;
+    }
+    Ok(())
+}
+
+/// The search below a root that is open after its turns. It fails only where there is no memory left.
+fn begin<'a, P: Pricer>(
+    alloc: Global,
+    pricer: &P,
+    root: Root<'a>,
+    limits: Limits,
+) -> Result<Begun<'a>, AllocError>
+    requires accepted { IsAccepted (P.snapshot pricer.now) }
+    requires root { IsRoot (P.fits pricer.now) (P.snapshot pricer.now) limits.moves root }
+    ensures { IfOk result (λ begun. (start : PriceSheet)
+        → IsTurned (P.fits pricer.now) (P.snapshot pricer.now) limits.rounds limits.moves start root.entry
+        → IsOpenRoot root.entry → IsBegun (P.fits pricer.now) (P.snapshot pricer.now) limits.rounds limits.moves start
+        begun.turns.items begun.search) }
+{
+    let cars = root.best.pool.snapshot().building().cars().len();
+    let Root {
+        mut tree,
+        best,
+        turns,
+        prices,
+        ..
+    } = root;
+    let calls = prices.len();
+    let mut steps = steps_of(alloc, &turns, calls, cars)?;
+    split_where_due(alloc, &mut tree, &mut steps, turns.len(), calls)?;
+    let done = turns.len() as u64;
+    let search = Search {
+        tree,
+        best,
+        steps,
+        done,
+    };
+    Ok(Begun { search, turns })
+}
+
+/// The rounds below a root that is open after its turns. It fails only where there is no memory left.
+fn go_on<'a, P: Pricer, G: Gate + Sync>(
+    rt: &(impl Threads + Sync),
+    alloc: Global,
+    pricer: &P,
+    root: Root<'a>,
+    limits: Limits,
+    desks: &mut [P::Desk],
+    gate: &G,
+) -> Result<Begun<'a>, AllocError>
+    requires accepted { IsAccepted (P.snapshot pricer.now) }
+    requires turned { (start : PriceSheet)
+        × IsTurned (P.fits pricer.now) (P.snapshot pricer.now) limits.rounds limits.moves start root }
+    requires open_yet { IsOpenRoot root }
+    requires rounds { (1 ≤ limits.rounds) × (limits.rounds ≤ 10 ^ 18) }
+    requires moves { (1 ≤ limits.moves) × (limits.moves ≤ 10 ^ 18) }
+    requires desks { Serving (P.owns pricer.now) desks.old }
+    ensures { IfOk result (λ begun. (start : PriceSheet)
+        → IsTurned (P.fits pricer.now) (P.snapshot pricer.now) limits.rounds limits.moves start root.entry
+        → IsEnded (P.fits pricer.now) (P.snapshot pricer.now) limits.rounds limits.moves start
+        begun.turns.items begun.search) }
+{
+    let Begun { mut search, turns } = begin(alloc, pricer, root, limits)?;
+    search.run(rt, alloc, pricer, limits.rounds, limits.moves, desks, gate)?;
+    Ok(Begun { search, turns })
+}
+
+/// The answer of a search whose rounds have ended. It fails only where there is no memory left.
+fn end<P: Pricer>(
+    alloc: Global,
+    pricer: &P,
+    begun: Begun,
+    limits: Limits,
+) -> Result<Found, AllocError>
+    requires ended { (start : PriceSheet) × (pos 0 ≤ℤ sum_of_sheet start)
+        × IsEnded (P.fits pricer.now) (P.snapshot pricer.now) limits.rounds limits.moves start
+        begun.turns.items begun.search }
+    ensures { IfOk result (λ f. (start : PriceSheet)
+        → IsEnded (P.fits pricer.now) (P.snapshot pricer.now) limits.rounds limits.moves start
+        begun.entry.turns.items begun.entry.search
+        → IsFound (P.fits pricer.now) start.prices (rounded_up (sum_of_sheet start)) (P.snapshot pricer.now)
+        limits.rounds limits.moves f.plan f.cost f.bound f.tree.twigs f.turns f.why) }
+{
+    let Begun { search, turns } = begun;
+    let calls = search.best.pool.snapshot().calls().len();
+    let why = search.reason(calls, limits.moves);
+    let Search { tree, best, .. } = search;
+    answer(alloc, tree, best, turns, why)
+}
+
+/// The answer where the root is not open after its turns. It fails only where there is no memory left.
+fn close<P: Pricer>(
+    alloc: Global,
+    pricer: &P,
+    root: Root,
+    limits: Limits,
+) -> Result<Found, AllocError>
+    requires accepted { IsAccepted (P.snapshot pricer.now) }
+    requires turned { (start : PriceSheet) × (pos 0 ≤ℤ sum_of_sheet start)
+        × IsTurned (P.fits pricer.now) (P.snapshot pricer.now) limits.rounds limits.moves start root }
+    requires closed { pos root.best.cost ≤ℤ bound_of_sheet (at_place root.tree 0).sheet }
+    ensures { IfOk result (λ f. (start : PriceSheet)
+        → IsTurned (P.fits pricer.now) (P.snapshot pricer.now) limits.rounds limits.moves start root.entry
+        → IsFound (P.fits pricer.now) start.prices (rounded_up (sum_of_sheet start)) (P.snapshot pricer.now)
+        limits.rounds limits.moves f.plan f.cost f.bound f.tree.twigs f.turns f.why) }
+{
+    let Root {
+        tree,
+        best,
+        turns,
+        ..
+    } = root;
+    answer(alloc, tree, best, turns, StopReason::Solved)
+}
+
+/// The root after the turns that are due. It fails only where there is no memory left.
+fn turned<'a, P: Pricer, G: Gate + Sync>(
+    rt: &(impl Threads + Sync),
+    alloc: Global,
+    snapshot: &'a Snapshot,
+    pricer: &P,
+    start: Plan,
+    sheet: Sheet,
+    limits: Limits,
+    desks: &mut [P::Desk],
+    gate: &G,
+) -> Result<Root<'a>, AllocError>
+    requires snapshot { P.snapshot pricer.now ≡ snapshot.now }
+    requires start { IsFeasiblePlan snapshot.now start }
+    requires sheet { IsSheetIn (P.fits pricer.now) snapshot.now limits.moves (root_of snapshot.now) sheet }
+    requires rounds { 1 ≤ limits.rounds }
+    requires moves { (1 ≤ limits.moves) × (limits.moves ≤ 10 ^ 18) }
+    requires desks { Serving (P.owns pricer.now) desks.old }
+    ensures turned { IfOk result (IsTurned (P.fits pricer.now) (P.snapshot pricer.now) limits.rounds limits.moves sheet) }
+    ensures accepted { IsAccepted (P.snapshot pricer.now) }
+    ensures desks { IfOk result (λ _. Serving (P.owns pricer.now) desks.new) }
+{
+    prove!(snapshot.calls().len() <= 128);
+    let mut root = Root::new(alloc, snapshot, start, sheet)?;
+    root.turn_as_due(rt, alloc, pricer, limits.rounds, limits.moves, desks, gate)?;
+    Ok(root)
+}
+
+/// Searches as `find_plan` does, with one worker for each desk.
+fn find_at<P: Pricer, G: Gate + Sync>(
+    rt: &(impl Threads + Sync),
+    alloc: Global,
+    snapshot: &Snapshot,
+    pricer: &P,
+    start: Plan,
+    sheet: Sheet,
+    limits: Limits,
+    desks: &mut [P::Desk],
+    gate: &G,
+) -> Result<Found, AllocError>
+    requires snapshot { P.snapshot pricer.now ≡ snapshot.now }
+    requires start { IsFeasiblePlan snapshot.now start }
+    requires sheet { IsSheetIn (P.fits pricer.now) snapshot.now limits.moves (root_of snapshot.now) sheet }
+    requires sum { pos 0 ≤ℤ sum_of_sheet sheet }
+    requires rounds { (1 ≤ limits.rounds) × (limits.rounds ≤ 10 ^ 18) }
+    requires moves { (1 ≤ limits.moves) × (limits.moves ≤ 10 ^ 18) }
+    requires desks { Serving (P.owns pricer.now) desks.old }
+    ensures { IfOk result (λ f. IsFound (P.fits pricer.now) sheet.prices (rounded_up (sum_of_sheet sheet)) snapshot.now
+        limits.rounds limits.moves f.plan f.cost f.bound f.tree.twigs f.turns f.why) }
+{
+    let root = turned(
+        rt, alloc, snapshot, pricer, start, sheet, limits, desks, gate,
+    )?;
+    if !root.is_open() {
+        return close(alloc, pricer, root, limits);
+    }
+    let begun = go_on(rt, alloc, pricer, root, limits, desks, gate)?;
+    end(alloc, pricer, begun, limits)
+}
+
+/// Searches for a plan of the snapshot that costs least, from a feasible one, and from prices of the calls with a worth of
+/// each car in the root.
+///
+/// The plan that it answers costs `cost`, and no feasible plan costs less than `bound`, as the tree proves. It starts
+/// with turns at the root: up to 20 pricings of all cars, at prices that move from turn to turn. Then rounds each price a
+/// few leaves of the tree, which are split in time, until cost and bound are the same, as many rounds were done as
+/// `limits` allows, or nothing is left to split. `workers` is 1 to 16, and `gate` is told of each pricing before it begins.
+/// It fails only where there is no memory left.
+pub fn find_plan<P: Pricer, G: Gate + Sync>(
+    rt: &(impl Threads + Sync),
+    alloc: Global,
+    snapshot: &Snapshot,
+    pricer: &P,
+    start: Plan,
+    sheet: Sheet,
+    limits: Limits,
+    workers: u32,
+    gate: &G,
+) -> Result<Found, AllocError>
+    requires snapshot { P.snapshot pricer.now ≡ snapshot.now }
+    requires start { IsFeasiblePlan snapshot.now start }
+    requires sheet { IsSheetIn (P.fits pricer.now) snapshot.now limits.moves (root_of snapshot.now) sheet }
+    requires sum { pos 0 ≤ℤ sum_of_sheet sheet }
+    requires rounds { (1 ≤ limits.rounds) × (limits.rounds ≤ 10 ^ 18) }
+    requires moves { (1 ≤ limits.moves) × (limits.moves ≤ 10 ^ 18) }
+    requires workers { (1 ≤ workers) × (workers ≤ 16) }
+    ensures { IfOk result (λ f. IsFound (P.fits pricer.now) sheet.prices (rounded_up (sum_of_sheet sheet)) snapshot.now
+        limits.rounds limits.moves f.plan f.cost f.bound f.tree.twigs f.turns f.why) }
+{
+    let mut desks = desks_for(alloc, pricer, workers)?;
+    find_at(
+        rt, alloc, snapshot, pricer, start, sheet, limits, &mut desks, gate,
+    )
+}

@@ -1,0 +1,282 @@
+//! Turns at the root.
+
+ghost use Rattle.std.specs.Prelude.{◌≡◌, ◌<◌, ◌≤◌, ◌+◌, ◌^◌, ℕ, pos, int_lt, IfOk, OnOk, length, slice_set, [], ◌∷◌, ◌++◌};
+ghost use Rattle.elevator_model.specs.Snapshot.{call_count};
+ghost use Rattle.elevator_model.specs.Plans.{IsFeasiblePlan};
+ghost use Rattle.search_tree.specs.Branches.{AreSingle, at_place, noted};
+ghost use Rattle.search_tree.specs.Standing.{bound_of_sheet};
+ghost use Rattle.work_fan.specs.Work.{Serving};
+ghost use Rattle.node_search.specs.Found.{HasDueTurns};
+
+use crate::best::Best;
+use crate::turns::{greatest_of, prices_after, step_after};
+use assign_branch::{Pricer, root as root_node};
+use byte_streams::Gate;
+use call_state::Snapshot;
+use elevator_model::Plan;
+use price_scale::Price;
+use pricing_rounds::{Task, price_nodes};
+use search_model::{Items, Turn, TurnOf};
+use search_tree::{SearchTree, Sheet, first_choice};
+use std::alloc::{AllocError, Global};
+use std::marker::Sync;
+use std::mem::replace;
+use std::thread::Threads;
+
+/// The root, which is not split yet, and the turns that were made at it.
+#[derive(Drop)]
+pub(crate) struct Root<'a> {
+    /// One leaf.
+    pub(crate) tree: SearchTree,
+    pub(crate) best: Best<'a>,
+    pub(crate) turns: Vec<Turn>,
+    /// The prices of the next turn.
+    pub(crate) prices: Vec<Price>,
+    /// The greatest of 0 and the prices of the first turn, in thousandths of a cost unit.
+    pub(crate) step: i128,
+}
+
+/// The most turns that are made at the root.
+pub(crate) const MOST_TURNS: usize = 20;
+
+impl<'a> Root<'a> {
+    ghost use Rattle.elevator_model.specs.Snapshot.{IsAccepted};
+    ghost use Rattle.search_model.specs.Nodes.{root_of};
+    ghost use Rattle.search_tree.specs.Answers.{AreAnswersIn};
+    ghost use Rattle.node_search.specs.Roots.{HasOneTurn, HasTurned, IsEnough, IsNewRoot, IsRoot, IsSolvedIfUnspent, turn_with};
+
+    /// The root with these prices and worths, before its first turn. It fails only where there is no memory left.
+    pub(crate) fn new(
+        alloc: Global,
+        snapshot: &'a Snapshot,
+        start: Plan,
+        sheet: Sheet,
+    ) -> Result<Self, AllocError>
+        requires start { IsFeasiblePlan snapshot.now start }
+        requires calls { length sheet.prices ≡ call_count snapshot.now }
+        ensures { IfOk result (IsNewRoot snapshot.now sheet) }
+    {
+        let prices = sheet.prices().to_vec(alloc)?;
+        let step = greatest_of(&prices);
+        let node = root_node(alloc, snapshot)?;
+        Ok(Root {
+            tree: SearchTree::new(alloc, node, sheet)?,
+            best: Best::new(alloc, snapshot, start)?,
+            turns: Vec::new(alloc),
+            prices,
+            step,
+        })
+    }
+
+    /// Whether its bound is below the cost of the cheapest plan that is known.
+    pub(crate) fn is_open(&self) -> bool
+        requires { 0 < length self.now.tree }
+        ensures { result ≡ int_lt (bound_of_sheet (at_place self.now.tree 0).sheet) (pos self.now.best.cost) }
+    {
+        self.tree.branches()[0].sheet.bound() < i128::from(self.best.cost)
+    }
+
+    /// The pricings of all cars at the present prices. It fails only where there is no memory left.
+    fn price<P: Pricer, G: Gate + Sync>(
+        &self,
+        rt: &(impl Threads + Sync),
+        alloc: Global,
+        pricer: &P,
+        moves: u64,
+        desks: &mut [P::Desk],
+        gate: &G,
+    ) -> Result<Vec<TurnOf>, AllocError>
+        requires accepted { IsAccepted (P.snapshot pricer.now) }
+        requires root { IsRoot (P.fits pricer.now) (P.snapshot pricer.now) moves self.now }
+        requires moves { (1 ≤ moves) × (moves ≤ 10 ^ 18) }
+        requires desks { Serving (P.owns pricer.now) desks.old }
+        ensures answers { IfOk result (λ cars. AreAnswersIn (P.fits pricer.now) (P.snapshot pricer.now) moves
+            (root_of (P.snapshot pricer.now)) self.now.prices.items cars.items) }
+        ensures desks { Serving (P.owns pricer.now) desks.new }
+    {
+        let cars = self.best.pool.snapshot().building().cars().len() as u32;
+        let tasks = [Task {
+            node: &self.tree.branches()[0].node,
+            prices: &self.prices,
+        }];
+        price_nodes(rt, alloc, pricer, cars, &tasks, moves, desks, gate)
+    }
+
+    /// Takes in the pricings of all cars at the present prices. It fails only where there is no memory left.
+    pub(crate) fn take<P: Pricer>(
+        &mut self,
+        alloc: Global,
+        pricer: &P,
+        moves: u64,
+        cars: Vec<TurnOf>,
+    ) -> Result<(), AllocError>
+        requires accepted { IsAccepted (P.snapshot pricer.now) }
+        requires root { IsRoot (P.fits pricer.now) (P.snapshot pricer.now) moves self.old }
+        requires turns { length self.old.turns.items < MOST_TURNS }
+        requires answers { AreAnswersIn (P.fits pricer.now) (P.snapshot pricer.now) moves
+            (root_of (P.snapshot pricer.now)) self.old.prices.items cars.items }
+        requires moves { 1 ≤ moves }
+        ensures root { OnOk result (IsRoot (P.fits pricer.now) (P.snapshot pricer.now) moves self.new) }
+        ensures turned { OnOk result (HasTurned self.old self.new) }
+        ensures turns { OnOk result
+            (self.new.turns.items ≡ self.old.turns.items ++ turn_with self.old.prices.items cars.items ∷ []) }
+        ensures tree { OnOk result
+            (self.new.tree ≡ slice_set self.old.tree 0 (noted (at_place self.old.tree 0) self.old.prices.items cars.items)) }
+    {
+        self.tree.note(0, &self.prices, &cars);
+        self.best.put_tours(alloc, &cars)?;
+        self.best.select(alloc, &self.prices, moves)?;
+        let step = step_after(self.step, self.turns.len());
+        let next = prices_after(alloc, &self.prices, &cars, step)?;
+        let prices = Items::from_vec(replace(&mut self.prices, next));
+        let cars = Items::from_vec(cars);
+        self.turns.push(Turn { prices, cars })?;
+        Ok(())
+    }
+
+    /// One turn: the pricings of all cars at the present prices. It fails only where there is no memory left.
+    fn turn<P: Pricer, G: Gate + Sync>(
+        &mut self,
+        rt: &(impl Threads + Sync),
+        alloc: Global,
+        pricer: &P,
+        moves: u64,
+        desks: &mut [P::Desk],
+        gate: &G,
+    ) -> Result<(), AllocError>
+        requires accepted { IsAccepted (P.snapshot pricer.now) }
+        requires root { IsRoot (P.fits pricer.now) (P.snapshot pricer.now) moves self.old }
+        requires turns { length self.old.turns.items < MOST_TURNS }
+        requires moves { (1 ≤ moves) × (moves ≤ 10 ^ 18) }
+        requires desks { Serving (P.owns pricer.now) desks.old }
+        ensures root { OnOk result (IsRoot (P.fits pricer.now) (P.snapshot pricer.now) moves self.new) }
+        ensures turned { OnOk result (HasTurned self.old self.new) }
+        ensures turns { OnOk result
+            (length self.new.turns.items ≡ length self.old.turns.items + 1) }
+        ensures first { OnOk result (self.old.turns.items ≡ []
+            → HasOneTurn (P.fits pricer.now) (P.snapshot pricer.now) moves self.new) }
+        ensures desks { OnOk result (Serving (P.owns pricer.now) desks.new) }
+    {
+        let cars = self.price(rt, alloc, pricer, moves, desks, gate)?;
+        self.take(alloc, pricer, moves, cars)?;
+        Ok(())
+    }
+
+    /// Turns until there are so many or the root is not open. It fails only where there is no memory left.
+    pub(crate) fn turn_until<P: Pricer, G: Gate + Sync>(
+        &mut self,
+        rt: &(impl Threads + Sync),
+        alloc: Global,
+        pricer: &P,
+        moves: u64,
+        most: usize,
+        desks: &mut [P::Desk],
+        gate: &G,
+    ) -> Result<(), AllocError>
+        requires accepted { IsAccepted (P.snapshot pricer.now) }
+        requires root { IsRoot (P.fits pricer.now) (P.snapshot pricer.now) moves self.old }
+        requires most { length self.old.turns.items ≤ most }
+        requires few { most ≤ MOST_TURNS }
+        requires moves { (1 ≤ moves) × (moves ≤ 10 ^ 18) }
+        requires desks { Serving (P.owns pricer.now) desks.old }
+        ensures root { OnOk result (IsRoot (P.fits pricer.now) (P.snapshot pricer.now) moves self.new) }
+        ensures turned { OnOk result (HasTurned self.old self.new) }
+        ensures enough { OnOk result (IsEnough most self.new) }
+        ensures desks { OnOk result (Serving (P.owns pricer.now) desks.new) }
+    {
+        for _turn in self.turns.len()..most {
+            if !self.is_open() {
+                break;
+            }
+            self.turn(rt, alloc, pricer, moves, desks, gate)?;
+        }
+        Ok(())
+    }
+
+    /// Takes the plan of the tours of the only turn where it is cheaper and no car reached the limit. It fails only where
+    /// there is no memory left.
+    fn offer_turn<P: Pricer>(
+        &mut self,
+        alloc: Global,
+        pricer: &P,
+        moves: u64,
+    ) -> Result<(), AllocError>
+        requires root { IsRoot (P.fits pricer.now) (P.snapshot pricer.now) moves self.old }
+        requires single { AreSingle (call_count (P.snapshot pricer.now)) (root_of (P.snapshot pricer.now)) }
+        requires one { HasOneTurn (P.fits pricer.now) (P.snapshot pricer.now) moves self.old }
+        ensures root { OnOk result (IsRoot (P.fits pricer.now) (P.snapshot pricer.now) moves self.new) }
+        ensures turned { OnOk result (HasTurned self.old self.new) }
+        ensures turns { OnOk result (self.new.turns.items ≡ self.old.turns.items) }
+        ensures solved { OnOk result (IsSolvedIfUnspent self.new) }
+    {
+        let branch = &self.tree.branches()[0];
+        if branch.spent.is_none() {
+            let turn = &self.turns[0];
+            let (prices, cars) = (turn.prices.as_slice(), turn.cars.as_slice());
+            self.best
+                .offer_tours(alloc, pricer, moves, &branch.node, prices, cars)?;
+        }
+        Ok(())
+    }
+
+    /// The only turn of a root in which each call has one car: where no car reached the limit, its tours make a plan that
+    /// costs no more than the leaf's bound. It fails only where there is no memory left.
+    pub(crate) fn turn_once<P: Pricer, G: Gate + Sync>(
+        &mut self,
+        rt: &(impl Threads + Sync),
+        alloc: Global,
+        pricer: &P,
+        moves: u64,
+        desks: &mut [P::Desk],
+        gate: &G,
+    ) -> Result<(), AllocError>
+        requires accepted { IsAccepted (P.snapshot pricer.now) }
+        requires root { IsRoot (P.fits pricer.now) (P.snapshot pricer.now) moves self.old }
+        requires single { AreSingle (call_count (P.snapshot pricer.now)) (root_of (P.snapshot pricer.now)) }
+        requires turns { self.old.turns.items ≡ [] }
+        requires moves { (1 ≤ moves) × (moves ≤ 10 ^ 18) }
+        requires desks { Serving (P.owns pricer.now) desks.old }
+        ensures root { OnOk result (IsRoot (P.fits pricer.now) (P.snapshot pricer.now) moves self.new) }
+        ensures turned { OnOk result (HasTurned self.old self.new) }
+        ensures turns { OnOk result (length self.new.turns.items ≡ 1) }
+        ensures solved { OnOk result (IsSolvedIfUnspent self.new) }
+        ensures desks { OnOk result (Serving (P.owns pricer.now) desks.new) }
+    {
+        self.turn(rt, alloc, pricer, moves, desks, gate)?;
+        self.offer_turn(alloc, pricer, moves)?;
+        Ok(())
+    }
+
+    /// The turns that are due: where some call has two cars, as many as there may be rounds and 20 at most, or until the
+    /// root is not open; else one where it is open. It fails only where there is no memory left.
+    pub(crate) fn turn_as_due<P: Pricer, G: Gate + Sync>(
+        &mut self,
+        rt: &(impl Threads + Sync),
+        alloc: Global,
+        pricer: &P,
+        rounds: u64,
+        moves: u64,
+        desks: &mut [P::Desk],
+        gate: &G,
+    ) -> Result<(), AllocError>
+        requires accepted { IsAccepted (P.snapshot pricer.now) }
+        requires root { IsRoot (P.fits pricer.now) (P.snapshot pricer.now) moves self.old }
+        requires turns { self.old.turns.items ≡ [] }
+        requires rounds { 1 ≤ rounds }
+        requires moves { (1 ≤ moves) × (moves ≤ 10 ^ 18) }
+        requires desks { Serving (P.owns pricer.now) desks.old }
+        ensures root { OnOk result (IsRoot (P.fits pricer.now) (P.snapshot pricer.now) moves self.new) }
+        ensures turned { OnOk result (HasTurned self.old self.new) }
+        ensures due { OnOk result (HasDueTurns (P.snapshot pricer.now) rounds self.new) }
+        ensures desks { OnOk result (Serving (P.owns pricer.now) desks.new) }
+    {
+        let calls = self.prices.len();
+        if first_choice(&self.tree.branches()[0].node, calls).is_some() {
+            let most = rounds.min(MOST_TURNS as u64) as usize;
+            self.turn_until(rt, alloc, pricer, moves, most, desks, gate)?;
+        } else if self.is_open() {
+            self.turn_once(rt, alloc, pricer, moves, desks, gate)?;
+        }
+        Ok(())
+    }
+}

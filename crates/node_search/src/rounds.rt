@@ -1,0 +1,192 @@
+//! One round: which leaves it prices, at which prices, and what is made of the answers.
+
+ghost use Rattle.std.specs.Prelude.{◌≡◌, ◌<◌, ◌≤◌, ◌^◌, All, IfOk, OnOk, length, true, false};
+ghost use Rattle.elevator_model.specs.Snapshot.{IsAccepted, car_count};
+ghost use Rattle.work_fan.specs.Work.{Serving};
+ghost use Rattle.node_search.specs.Searches.{ArePriced, AreTaken, AreTasksFor, HasAdvanced, HasDoneRound, HasRun, IsAtRest, IsPricedFrom, IsSearching, IsUnderWay};
+
+use crate::choosing::chosen;
+use crate::search::Search;
+use assign_branch::Pricer;
+use byte_streams::Gate;
+use price_scale::Price;
+use pricing_rounds::{Task, price_nodes};
+use search_model::TurnOf;
+use std::alloc::{AllocError, Global};
+use std::marker::Sync;
+use std::thread::Threads;
+
+/// A leaf that a round prices, and at which prices.
+#[derive(Drop)]
+pub(crate) struct Chosen {
+    pub(crate) place: usize,
+    pub(crate) prices: Vec<Price>,
+}
+
+impl<'a> Search<'a> {
+    /// The leaf at this place, with the prices of its next pricing. It fails only where there is no memory left.
+    fn chosen_at(&self, alloc: Global, place: usize) -> Result<Chosen, AllocError>
+        requires { place < length self.now.tree }
+        ensures { IfOk result (IsPricedFrom self.now place) }
+    {
+        let branch = &self.tree.branches()[place];
+        let (cost, pool) = (self.best.cost, &self.best.pool);
+        let prices = self.steps.next_prices(alloc, place, branch, cost, pool)?;
+        Ok(Chosen { place, prices })
+    }
+
+    /// The leaves that a round prices, in the order of the tree: at most four, and none only where no leaf may be priced
+    /// any more. It fails only where there is no memory left.
+    fn choose(&self, alloc: Global) -> Result<Vec<Chosen>, AllocError>
+        ensures { IfOk result (λ chosen. AreTaken self.now.best.pool.snapshot self.now chosen.items) }
+    {
+        let calls = self.best.pool.snapshot().calls().len();
+        let places = chosen(alloc, self.tree.branches(), self.best.cost, calls)?;
+        let mut chosen = Vec::new(alloc);
+        for index in 0..places.len() {
+            chosen.push(self.chosen_at(alloc, places[index])?)?;
+        }
+        Ok(chosen)
+    }
+
+    /// The tasks of a round. It fails only where there is no memory left.
+    fn tasks_of<'b>(
+        &'b self,
+        alloc: Global,
+        chosen: &'b [Chosen],
+    ) -> Result<Vec<Task<'b>>, AllocError>
+        requires { All (λ (c : Chosen). c.place < length self.now.tree) chosen.now }
+        ensures { IfOk result (λ tasks. AreTasksFor self.now chosen.now tasks.items) }
+    {
+        let mut tasks = Vec::new(alloc);
+        for index in 0..chosen.len() {
+            let Chosen { place, prices } = &chosen[index];
+            let node = &self.tree.branches()[*place].node;
+            tasks.push(Task { node, prices })?;
+        }
+        Ok(tasks)
+    }
+
+    /// Prices every car in each of these leaves, with one worker for each desk. It fails only where there is no memory
+    /// left.
+    fn price<P: Pricer, G: Gate + Sync>(
+        &self,
+        rt: &(impl Threads + Sync),
+        alloc: Global,
+        pricer: &P,
+        moves: u64,
+        chosen: &[Chosen],
+        desks: &mut [P::Desk],
+        gate: &G,
+    ) -> Result<Vec<TurnOf>, AllocError>
+        requires accepted { IsAccepted (P.snapshot pricer.now) }
+        requires way { IsUnderWay (P.fits pricer.now) (P.snapshot pricer.now) moves self.now }
+        requires taken { AreTaken (P.snapshot pricer.now) self.now chosen.now }
+        requires moves { (1 ≤ moves) × (moves ≤ 10 ^ 18) }
+        requires desks { Serving (P.owns pricer.now) desks.old }
+        ensures priced { IfOk result (λ answers. ArePriced (P.fits pricer.now)
+            (P.snapshot pricer.now) moves self.now chosen.now answers.items) }
+        ensures desks { All (P.owns pricer.now) desks.new }
+    {
+        let cars = self.best.pool.snapshot().building().cars().len() as u32;
+        let tasks = self.tasks_of(alloc, chosen)?;
+        price_nodes(rt, alloc, pricer, cars, &tasks, moves, desks, gate)
+    }
+
+    /// Takes in the pricings of every car in each of these leaves, the last leaf first: a split moves only what stands
+    /// behind it. It fails only where there is no memory left.
+    fn settle_all<P: Pricer>(
+        &mut self,
+        alloc: Global,
+        pricer: &P,
+        moves: u64,
+        cars: usize,
+        chosen: &[Chosen],
+        answers: &[TurnOf],
+    ) -> Result<(), AllocError>
+        requires accepted { IsAccepted (P.snapshot pricer.now) }
+        requires way { IsUnderWay (P.fits pricer.now) (P.snapshot pricer.now) moves self.old }
+        requires cars { cars ≡ car_count (P.snapshot pricer.now) }
+        requires priced { ArePriced (P.fits pricer.now) (P.snapshot pricer.now) moves self.old
+            chosen.now answers.now }
+        ensures way { OnOk result
+            (IsUnderWay (P.fits pricer.now) (P.snapshot pricer.now) moves self.new) }
+        ensures advanced { OnOk result
+            (HasAdvanced (P.snapshot pricer.now) (length chosen.now) self.old self.new) }
+    {
+        for index in (0..chosen.len()).rev() {
+            let Chosen { place, prices } = &chosen[index];
+            let start = index * cars;
+            let priced = &answers[start..start + cars];
+            self.settle(alloc, pricer, moves, *place, prices, priced)?;
+        }
+        Ok(())
+    }
+
+    /// Prices up to four leaves and takes in what was answered. False, and all is as before, exactly where no leaf may be
+    /// priced any more. It fails only where there is no memory left.
+    fn round<P: Pricer, G: Gate + Sync>(
+        &mut self,
+        rt: &(impl Threads + Sync),
+        alloc: Global,
+        pricer: &P,
+        moves: u64,
+        desks: &mut [P::Desk],
+        gate: &G,
+    ) -> Result<bool, AllocError>
+        requires accepted { IsAccepted (P.snapshot pricer.now) }
+        requires searching { IsSearching (P.fits pricer.now) (P.snapshot pricer.now) moves self.old }
+        requires moves { (1 ≤ moves) × (moves ≤ 10 ^ 18) }
+        requires done { self.old.done < 10 ^ 18 }
+        requires desks { Serving (P.owns pricer.now) desks.old }
+        ensures searching { OnOk result
+            (IsSearching (P.fits pricer.now) (P.snapshot pricer.now) moves self.new) }
+        ensures done { IfOk result
+            (λ more. more ≡ true → HasDoneRound (P.snapshot pricer.now) self.old self.new) }
+        ensures busy { IfOk result
+            (λ more. more ≡ true → IsAtRest (P.snapshot pricer.now) self.old → ⊥) }
+        ensures rest { IfOk result (λ more. more ≡ false → IsAtRest (P.snapshot pricer.now) self.new) }
+        ensures same { IfOk result (λ more. more ≡ false → self.new ≡ self.old) }
+        ensures desks { All (P.owns pricer.now) desks.new }
+    {
+        let chosen = self.choose(alloc)?;
+        if chosen.is_empty() {
+            return Ok(false);
+        }
+        let answers = self.price(rt, alloc, pricer, moves, &chosen, desks, gate)?;
+        let cars = self.best.pool.snapshot().building().cars().len();
+        self.settle_all(alloc, pricer, moves, cars, &chosen, &answers)?;
+        self.best.select(alloc, &chosen[0].prices, moves)?;
+        self.done += 1;
+        Ok(true)
+    }
+
+    /// Rounds until so many were done or no leaf may be priced any more. It fails only where there is no memory left.
+    pub(crate) fn run<P: Pricer, G: Gate + Sync>(
+        &mut self,
+        rt: &(impl Threads + Sync),
+        alloc: Global,
+        pricer: &P,
+        rounds: u64,
+        moves: u64,
+        desks: &mut [P::Desk],
+        gate: &G,
+    ) -> Result<(), AllocError>
+        requires accepted { IsAccepted (P.snapshot pricer.now) }
+        requires searching { IsSearching (P.fits pricer.now) (P.snapshot pricer.now) moves self.old }
+        requires moves { (1 ≤ moves) × (moves ≤ 10 ^ 18) }
+        requires rounds { (self.old.done ≤ rounds) × (rounds ≤ 10 ^ 18) }
+        requires desks { Serving (P.owns pricer.now) desks.old }
+        ensures searching { OnOk result
+            (IsSearching (P.fits pricer.now) (P.snapshot pricer.now) moves self.new) }
+        ensures run { OnOk result (HasRun (P.snapshot pricer.now) rounds self.old self.new) }
+        ensures desks { All (P.owns pricer.now) desks.new }
+    {
+        while self.done < rounds {
+            if !self.round(rt, alloc, pricer, moves, desks, gate)? {
+                break;
+            }
+        }
+        Ok(())
+    }
+}

@@ -1,0 +1,205 @@
+//! Rounds over the tree.
+
+ghost use Rattle.std.specs.Prelude.{◌≡◌, ◌<◌, ◌≤◌, ◌^◌, ℕ, ℤ, pos, ◌≤ℤ◌, ◌<ℤ◌, true, IfOk, OnOk, length, slice_index_or, false, IsSome, IfSome};
+ghost use Rattle.elevator_model.specs.Snapshot.{IsAccepted, call_count, car_count};
+ghost use Rattle.search_model.specs.Sums.{rounded_up};
+ghost use Rattle.search_model.specs.Nodes.{IsNodeOf, is_part, set_of};
+ghost use Rattle.search_model.specs.Solving.{no_turn};
+ghost use Rattle.search_tree.specs.Sheets.{PriceSheet, sum_of_sheet, sheet_of_turn};
+ghost use Rattle.search_tree.specs.Standing.{bound_of_sheet};
+ghost use Rattle.search_tree.specs.Branches.{AreSingle, at_place};
+ghost use Rattle.search_tree.specs.Answers.{AreAnswersIn};
+ghost use Rattle.node_search.specs.Best.{IsBest};
+ghost use Rattle.node_search.specs.Searches.{HasSettled, IsPlanOf, IsPricingOf, IsUnderWay};
+
+use crate::best::Best;
+use crate::steps::NodeSteps;
+use assign_branch::{Node, Pricer};
+use elevator_model::Plan;
+use price_scale::{Price, SCALE};
+use search_model::TurnOf;
+use search_tree::{SearchTree, SplitAt, first_choice};
+use std::alloc::{AllocError, Global};
+use tour_cost::plan_cost;
+
+/// The most rounds that price a node before it is split.
+const MOST_PRICINGS: u32 = 20;
+
+/// A search below the root.
+#[derive(Drop)]
+pub(crate) struct Search<'a> {
+    pub(crate) tree: SearchTree,
+    pub(crate) best: Best<'a>,
+    pub(crate) steps: NodeSteps,
+    /// How many rounds were done.
+    pub(crate) done: u64,
+}
+
+/// The plan of the tours that the pricings of all cars gave. It fails only where there is no memory left.
+fn plan_of(alloc: Global, cars: &[TurnOf]) -> Result<Plan, AllocError>
+    requires { (c : ℕ) → c < length cars.now → IsSome (slice_index_or cars.now c no_turn).tour }
+    ensures { IfOk result (IsPlanOf cars.now) }
+{
+    let mut plan = Plan::new(alloc);
+    for car in 0..cars.len() {
+        let Some(tour) = &cars[car].tour else {
+            unreachable!()
+        };
+        plan.push(tour.copy(alloc)?)?;
+    }
+    Ok(plan)
+}
+
+impl<'a> Best<'a> {
+    /// Takes the plan of the tours of a pricing in a node in which each call has one car left and no car reached the
+    /// limit, where it is cheaper. It fails only where there is no memory left.
+    pub(crate) fn offer_tours<P: Pricer>(
+        &mut self,
+        alloc: Global,
+        pricer: &P,
+        moves: u64,
+        node: &Node,
+        prices: &[Price],
+        cars: &[TurnOf],
+    ) -> Result<(), AllocError>
+        requires best { IsBest (P.snapshot pricer.now) self.old }
+        requires node { IsNodeOf (P.snapshot pricer.now) node.now }
+        requires single { AreSingle (call_count (P.snapshot pricer.now)) node.now }
+        requires answers { AreAnswersIn (P.fits pricer.now) (P.snapshot pricer.now) moves node.now prices.now cars.now }
+        requires none { (c : ℕ) → c < length cars.now
+            → (slice_index_or cars.now c no_turn).priced.spent ≡ false }
+        ensures best { OnOk result (IsBest (P.snapshot pricer.now) self.new) }
+        ensures pool { OnOk result (self.new.pool ≡ self.old.pool) }
+        ensures cheaper { OnOk result (self.new.cost ≤ self.old.cost) }
+        ensures least { OnOk result ((sheet : PriceSheet)
+            → sum_of_sheet (sheet_of_turn prices.now cars.now) ≤ℤ sum_of_sheet sheet
+            → pos self.new.cost ≤ℤ bound_of_sheet sheet) }
+    {
+        let plan = plan_of(alloc, cars)?;
+        let cost = plan_cost(self.pool.snapshot(), &plan);
+        self.offer(plan, cost);
+        Ok(())
+    }
+}
+
+impl<'a> Search<'a> {
+    /// Whether the leaf is to be split: after so many pricings as it may have, or where they gain little.
+    fn is_due(&self, place: usize) -> bool
+        requires { place < length self.now.tree }
+        ensures open { result ≡ true
+            → bound_of_sheet (at_place self.now.tree place).sheet <ℤ pos self.now.best.cost }
+        ensures most { result ≡ false → MOST_PRICINGS ≤ (at_place self.now.tree place).rounds
+            → pos self.now.best.cost ≤ℤ bound_of_sheet (at_place self.now.tree place).sheet }
+        ensures root { result ≡ true → (at_place self.now.tree place).depth ≡ 0
+            → MOST_PRICINGS ≤ (at_place self.now.tree place).rounds }
+    {
+        let branch = &self.tree.branches()[place];
+        if branch.sheet.bound() >= i128::from(self.best.cost) {
+            return false;
+        }
+        if branch.depth == 0 {
+            return branch.rounds >= MOST_PRICINGS;
+        }
+        let gap = SCALE
+            .saturating_mul(i128::from(self.best.cost))
+            .saturating_sub(branch.sheet.sum());
+        branch.rounds >= MOST_PRICINGS || self.steps.is_due(place, gap)
+    }
+}
+
+impl<'a> Search<'a> {
+    /// Takes in a pricing of a leaf in whose node each call has one car left. Where no car reached the limit, the tours
+    /// make a plan, which costs no more than the leaf's bound. It fails only where there is no memory left.
+    fn settle_single<P: Pricer>(
+        &mut self,
+        alloc: Global,
+        pricer: &P,
+        moves: u64,
+        place: usize,
+        prices: &[Price],
+        cars: &[TurnOf],
+    ) -> Result<(), AllocError>
+        requires accepted { IsAccepted (P.snapshot pricer.now) }
+        requires way { IsUnderWay (P.fits pricer.now) (P.snapshot pricer.now) moves self.old }
+        requires pricing { IsPricingOf (P.fits pricer.now) (P.snapshot pricer.now) moves self.old place prices.now cars.now }
+        requires single { AreSingle (call_count (P.snapshot pricer.now)) (at_place self.old.tree place).node }
+        ensures way { OnOk result
+            (IsUnderWay (P.fits pricer.now) (P.snapshot pricer.now) moves self.new) }
+        ensures settled { OnOk result (HasSettled (P.snapshot pricer.now) self.old self.new place) }
+    {
+        self.tree.note(place, prices, cars);
+        let branch = &self.tree.branches()[place];
+        if branch.spent.is_none() {
+            self.best
+                .offer_tours(alloc, pricer, moves, &branch.node, prices, cars)?;
+        }
+        Ok(())
+    }
+
+    /// Takes in a pricing of a leaf in whose node some call has two cars or more, and splits it where that is due: as
+    /// `first` says where nothing else is proposed. It fails only where there is no memory left.
+    fn settle_open<P: Pricer>(
+        &mut self,
+        alloc: Global,
+        pricer: &P,
+        moves: u64,
+        place: usize,
+        prices: &[Price],
+        cars: &[TurnOf],
+        first: SplitAt,
+    ) -> Result<(), AllocError>
+        requires accepted { IsAccepted (P.snapshot pricer.now) }
+        requires way { IsUnderWay (P.fits pricer.now) (P.snapshot pricer.now) moves self.old }
+        requires pricing { IsPricingOf (P.fits pricer.now) (P.snapshot pricer.now) moves self.old place prices.now cars.now }
+        requires call { first.call < call_count (P.snapshot pricer.now) }
+        requires part { is_part (set_of (at_place self.old.tree place).node first.call) first.part ≡ true }
+        ensures way { OnOk result
+            (IsUnderWay (P.fits pricer.now) (P.snapshot pricer.now) moves self.new) }
+        ensures settled { OnOk result (HasSettled (P.snapshot pricer.now) self.old self.new place) }
+    {
+        let sum = self.tree.branches()[place].sheet.sum();
+        self.tree.note(place, prices, cars);
+        let branch = &self.tree.branches()[place];
+        let gain = branch.sheet.sum().saturating_sub(sum);
+        self.steps.note(place, cars, gain, branch.spent.is_some());
+        if self.is_due(place) {
+            let at = self.steps.choice(
+                place,
+                &self.tree.branches()[place].node,
+                prices.len(),
+                first,
+            );
+            if self.tree.split(alloc, place, at.call, at.part)? {
+                self.steps.split(alloc, place)?;
+            }
+        }
+        Ok(())
+    }
+
+    /// Takes in the pricings of all cars in the leaf at this place, at these prices: its prices and worths and the tours,
+    /// and a plan where they make one; and splits the leaf where that is due. It fails only where there is no memory
+    /// left.
+    pub(crate) fn settle<P: Pricer>(
+        &mut self,
+        alloc: Global,
+        pricer: &P,
+        moves: u64,
+        place: usize,
+        prices: &[Price],
+        cars: &[TurnOf],
+    ) -> Result<(), AllocError>
+        requires accepted { IsAccepted (P.snapshot pricer.now) }
+        requires way { IsUnderWay (P.fits pricer.now) (P.snapshot pricer.now) moves self.old }
+        requires pricing { IsPricingOf (P.fits pricer.now) (P.snapshot pricer.now) moves self.old place prices.now cars.now }
+        ensures way { OnOk result
+            (IsUnderWay (P.fits pricer.now) (P.snapshot pricer.now) moves self.new) }
+        ensures settled { OnOk result (HasSettled (P.snapshot pricer.now) self.old self.new place) }
+    {
+        prove!(self.best.pool.snapshot().calls().len() <= 128);
+        self.best.put_tours(alloc, cars)?;
+        match first_choice(&self.tree.branches()[place].node, prices.len()) {
+            Some(first) => self.settle_open(alloc, pricer, moves, place, prices, cars, first),
+            None => self.settle_single(alloc, pricer, moves, place, prices, cars),
+        }
+    }
+}
