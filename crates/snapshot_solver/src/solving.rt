@@ -1,0 +1,46 @@
+//! The cheapest plan of a snapshot.
+
+ghost use Rattle.std.specs.Prelude.{◌≡◌, ◌≤◌, ◌^◌, IfOk};
+ghost use Rattle.search_model.specs.declared.StopReason.TheVariants.{Solved};
+ghost use Rattle.search_model.specs.Solving.{IsSolveAnswer};
+ghost use Rattle.search_model.specs.Verdicts.{moves_enough, rounds_enough};
+
+use crate::starts::start_leaf;
+use byte_streams::Gate;
+use call_state::Snapshot;
+use first_plan::first;
+use node_search::{Found, Limits, find_plan};
+use pricing_search::Searcher;
+use std::alloc::{AllocError, Global};
+use std::marker::Sync;
+use std::thread::Threads;
+
+/// Searches for the cheapest plan of the snapshot within the limits, with 1 to 16 workers.
+///
+/// What it answers is a feasible plan with its cost, a bound that no feasible plan's cost is below, and the tree that
+/// proves them. Cost and bound are equal unless a limit was reached, and where the limits are enough for the snapshot none
+/// is. `gate` is told of each pricing before it begins. It fails only where there is no memory left.
+pub fn solve<G: Gate + Sync>(
+    rt: &(impl Threads + Sync),
+    alloc: Global,
+    snapshot: &Snapshot,
+    limits: Limits,
+    workers: u32,
+    gate: &G,
+) -> Result<Found, AllocError>
+    requires rounds { (1 ≤ limits.rounds) × (limits.rounds ≤ 10 ^ 18) }
+    requires moves { (1 ≤ limits.moves) × (limits.moves ≤ 10 ^ 18) }
+    requires workers { (1 ≤ workers) × (workers ≤ 16) }
+    ensures answer { IfOk result (λ f. IsSolveAnswer snapshot.now limits.rounds limits.moves f.plan f.cost f.bound
+        f.tree.twigs f.turns f.why) }
+    ensures enough { rounds_enough snapshot.now ≤ limits.rounds → moves_enough snapshot.now ≤ limits.moves
+        → IfOk result (λ f. f.why ≡ Solved) }
+{
+    prove!(snapshot.calls().len() <= 128);
+    let start = first(alloc, snapshot)?;
+    let sheet = start_leaf(alloc, snapshot)?;
+    let searcher = Searcher::new(snapshot);
+    find_plan(
+        rt, alloc, snapshot, &searcher, start, sheet, limits, workers, gate,
+    )
+}
