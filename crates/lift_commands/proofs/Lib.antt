@@ -1,3 +1,3 @@
 pub mod Outcomes
-pub mod Solutions
 pub mod MadeCases
+pub mod Solutions

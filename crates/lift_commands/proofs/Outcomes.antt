@@ -46,11 +46,11 @@ ends_more due more old new Memory as_more end = end
 -- ---- by the words
 
 -- what is due of `solve` is due of a run whose words are its words
-pub solve_due : (words : List (List ℕ)) (left left' : Option (List ℕ)) (options : SolveOptions) → AreTaken words (Solve options) → (status : Status) (text : List ℕ) → SolveDue left left' status text → RunDue words left left' status text
+pub solve_due : (words : List (List ℕ)) (left left' : Option (List ℕ)) (options : SolveOptions) → AreTaken words (Solve options) → (status : Status) (text : List ℕ) → SolveDue options left left' status text → RunDue words left left' status text
 solve_due words left left' options taken Done text due = inl (record { options = options; taken = taken; answer = due })
 solve_due words left left' options taken Input text due = record { options = options; taken = taken; refusal = due }
 solve_due words left left' options taken Words text due = absurd due
-solve_due words left left' options taken Stopped text due = due
+solve_due words left left' options taken Stopped text due = record { options = options; taken = taken; answer = due }
 solve_due words left left' options taken Refused text due = due
 solve_due words left left' options taken Read text due = due
 solve_due words left left' options taken Write text due = due
@@ -61,7 +61,7 @@ pub make_due : (words : List (List ℕ)) (left : Option (List ℕ)) (sizes : Cas
 make_due words left sizes taken Done text due = inr (record { sizes = sizes; taken = taken; unread = refl; case = due })
 make_due words left sizes taken Input text due = absurd due
 make_due words left sizes taken Words text due = absurd due
-make_due words left sizes taken Stopped text due = due
+make_due words left sizes taken Stopped text due = absurd due
 make_due words left sizes taken Refused text due = due
 make_due words left sizes taken Read text due = due
 make_due words left sizes taken Write text due = due

@@ -1,15 +1,21 @@
 -- What a run of the program leaves: what was read and written, and why it ended.
-use Rattle.std.specs.Prelude.{◌≡◌, ℕ, ◌≤◌, ◌⊎◌, List, [], ◌∷◌, ◌++◌, length, take, codes, Option, Some, Result}
+use Rattle.std.specs.Prelude.{◌≡◌, ℕ, ◌<◌, ◌≤◌, ◌⊎◌, List, [], ◌∷◌, ◌++◌, length, take, codes, Option, Some, Result}
 use Rattle.std.specs.Io.KnownBytes.{append_known, IsAtEnd}
 use Rattle.elevator_model.specs.declared.Stop.{Stop}
-use Rattle.elevator_model.specs.Snapshot.{Snapshot, IsAccepted}
-use Rattle.elevator_model.specs.Plans.{IsOptimal, plan_cost_of}
+use Rattle.elevator_model.specs.Snapshot.{Snapshot, IsAccepted, car_count, spec_of}
+use Rattle.elevator_model.specs.Plans.{IsOptimal}
 use Rattle.lift_text.specs.Reading.{reading, whole_text}
 use Rattle.lift_text.specs.Text.{words, line}
 use Rattle.lift_text.specs.declared.faults.TextFault.{TextFault}
 use Rattle.lift_text.specs.declared.faults.TextFault.TheVariants.{Read as FailedRead, TooLong, Bad, NoMemory}
 use Rattle.case_text.specs.CaseTexts.{IsCaseText, IsLoneCaseFault, IsAnsweredAlone, case_text}
-use Rattle.answer_text.specs.Texts.{solved_text}
+use Rattle.answer_text.specs.Texts.{answer_text, solved_line}
+use Rattle.search_model.specs.declared.Twig.{Twig}
+use Rattle.search_model.specs.declared.Turn.{Turn}
+use Rattle.search_model.specs.declared.StopReason.{StopReason}
+use Rattle.search_model.specs.declared.StopReason.TheVariants.{Solved, Rounds, Moves}
+use Rattle.search_model.specs.Solving.{IsSolveAnswer}
+use Rattle.search_model.specs.Verdicts.{rounds_enough, moves_enough}
 use Rattle.search_model.specs.Cases.{IsCase}
 use Rattle.lift_words.specs.Taken.{AreTaken}
 use Rattle.lift_words.specs.declared.request.Request.{Request}
@@ -75,23 +81,48 @@ Puts text status result old new before after =
 
 -- ---- the command `solve`
 
--- the text of an optimal plan of the snapshot, with its cost and a bound equal to that
-pub record IsSolution (s : Snapshot) (text : List ℕ) : Type 0 where
+-- the comment line that says why a search ended
+abbrev pub closing_line : Snapshot → StopReason → List ℕ
+closing_line s Solved = solved_line
+closing_line s (Rounds done) = line (codes "# stopped rounds") (done ∷ [])
+closing_line s (Moves car count) = line (codes "# stopped moves") ((spec_of s car).id ∷ count ∷ [])
+
+-- the car that the reason names is one of the snapshot's
+abbrev pub IsCarOf : Snapshot → StopReason → Type 0
+IsCarOf s Solved = Unit {0}
+IsCarOf s (Rounds done) = Unit {0}
+IsCarOf s (Moves car count) = car < car_count s
+
+abbrev pub status_of : StopReason → Status
+status_of Solved = Done
+status_of (Rounds done) = Stopped
+status_of (Moves car count) = Stopped
+
+-- A plan, its cost and a bound as a search of the snapshot answers them within these limits, with the reason why it ended;
+-- where that is that it is solved, the plan is optimal.
+pub record IsSolution (options : SolveOptions) (s : Snapshot) (status : Status) (text : List ℕ) : Type 0 where
   pub plan : List (List Stop)
-  pub optimal : IsOptimal s plan
-  pub is_text : text ≡ solved_text s (record { plan = plan; cost = plan_cost_of s plan; bound = plan_cost_of s plan })
+  pub cost : ℕ
+  pub bound : ℕ
+  pub tree : List Twig
+  pub turns : List Turn
+  pub why : StopReason
+  pub answer : IsSolveAnswer s options.rounds options.moves plan cost bound tree turns why
+  pub status_is : status ≡ status_of why
+  pub optimal : status ≡ Done → IsOptimal s plan
+  pub is_text : text ≡ answer_text s (record { plan = plan; cost = cost; bound = bound }) ++ closing_line s why
 
 -- where the input is the text of a snapshot, that one is read, unless a read fails or memory is wanting
 abbrev pub AnswersCases : Option (List ℕ) → Result Snapshot TextFault → Type 0
 AnswersCases left answer = (input : List ℕ) (s : Snapshot) → left ≡ Some input → IsCaseText input s → IsAnsweredAlone s answer
 
 -- The answer is due where the whole input was read and is the text of an accepted snapshot.
-pub record AnswerIsDue (left left' : Option (List ℕ)) (text : List ℕ) : Type 0 where
+pub record AnswerIsDue (options : SolveOptions) (left left' : Option (List ℕ)) (status : Status) (text : List ℕ) : Type 0 where
   pub snapshot : Snapshot
   pub accepted : IsAccepted snapshot
   pub read : (input : List ℕ) → left ≡ Some input → IsCaseText input snapshot
   pub ended : IsAtEnd left'
-  pub solution : IsSolution snapshot text
+  pub solution : IsSolution options snapshot status text
 
 -- the line that tells the first bad line and its code, or that the input is too long
 abbrev pub IsRefusalLine : TextFault → List ℕ → Type 0
@@ -107,20 +138,25 @@ pub record RefusalIsDue (left : Option (List ℕ)) (text : List ℕ) : Type 0 wh
   pub read : (input : List ℕ) → left ≡ Some input → IsLoneCaseFault (reading (whole_text input)) fault
 
 -- the texts of `solve`, by what the source had left before it and has left behind it
-abbrev pub SolveDue : (left left' : Option (List ℕ)) → Due
-SolveDue left left' Done text = AnswerIsDue left left' text
-SolveDue left left' Words text = ⊥
-SolveDue left left' Stopped text = ⊥
-SolveDue left left' Refused text = ⊥
-SolveDue left left' Input text = RefusalIsDue left text
-SolveDue left left' Read text = ⊥
-SolveDue left left' Write text = ⊥
-SolveDue left left' Memory text = ⊥
+abbrev pub SolveDue : SolveOptions → (left left' : Option (List ℕ)) → Due
+SolveDue options left left' Done text = AnswerIsDue options left left' Done text
+SolveDue options left left' Words text = ⊥
+SolveDue options left left' Stopped text = AnswerIsDue options left left' Stopped text
+SolveDue options left left' Refused text = ⊥
+SolveDue options left left' Input text = RefusalIsDue left text
+SolveDue options left left' Read text = ⊥
+SolveDue options left left' Write text = ⊥
+SolveDue options left left' Memory text = ⊥
 
--- the input is the text of a snapshot, so a plan is answered, unless the source or the sink fails or memory is wanting
-abbrev pub Solves : (old new : Streams) → Status → Type 0
-Solves old new status = (input : List ℕ) (s : Snapshot) → old.left ≡ Some input → IsCaseText input s
-    → (Rose old.read_faults new.read_faults → ⊥) → (Rose old.write_faults new.write_faults → ⊥) → (status ≡ Done) ⊎ (status ≡ Memory)
+-- The input is the text of a snapshot, so a plan is answered, unless the source or the sink fails or memory is wanting;
+-- and where the limits are enough for the snapshot, no limit is reached.
+pub record IsAnswered (options : SolveOptions) (s : Snapshot) (status : Status) : Type 0 where
+  pub ended : (status ≡ Done) ⊎ (status ≡ Stopped) ⊎ (status ≡ Memory)
+  pub enough : rounds_enough s ≤ options.rounds → moves_enough s ≤ options.moves → (status ≡ Done) ⊎ (status ≡ Memory)
+
+abbrev pub Solves : SolveOptions → (old new : Streams) → Status → Type 0
+Solves options old new status = (input : List ℕ) (s : Snapshot) → old.left ≡ Some input → IsCaseText input s
+    → (Rose old.read_faults new.read_faults → ⊥) → (Rose old.write_faults new.write_faults → ⊥) → IsAnswered options s status
 
 -- the input is the text of no snapshot, so it is refused, unless the source or the sink fails or memory is wanting
 abbrev pub Refuses : (old new : Streams) → Status → Type 0
@@ -161,10 +197,10 @@ pub record UsageIsDue (words : List (List ℕ)) (left left' : Option (List ℕ))
   pub is_text : text ≡ usage_line
 
 -- the words are those of `solve`, and an answer is due
-pub record AnswerIsAsked (words : List (List ℕ)) (left left' : Option (List ℕ)) (text : List ℕ) : Type 0 where
+pub record AnswerIsAsked (words : List (List ℕ)) (left left' : Option (List ℕ)) (status : Status) (text : List ℕ) : Type 0 where
   pub options : SolveOptions
   pub taken : AreTaken words (Solve options)
-  pub answer : AnswerIsDue left left' text
+  pub answer : AnswerIsDue options left left' status text
 
 -- the words are those of `make`, nothing is read, and a case is due
 pub record CaseIsAsked (words : List (List ℕ)) (left left' : Option (List ℕ)) (text : List ℕ) : Type 0 where
@@ -181,9 +217,9 @@ pub record RefusalIsAsked (words : List (List ℕ)) (left : Option (List ℕ)) (
 
 -- the texts of a run
 abbrev pub RunDue : List (List ℕ) → (left left' : Option (List ℕ)) → Due
-RunDue words left left' Done text = AnswerIsAsked words left left' text ⊎ CaseIsAsked words left left' text
+RunDue words left left' Done text = AnswerIsAsked words left left' Done text ⊎ CaseIsAsked words left left' text
 RunDue words left left' Words text = UsageIsDue words left left' text
-RunDue words left left' Stopped text = ⊥
+RunDue words left left' Stopped text = AnswerIsAsked words left left' Stopped text
 RunDue words left left' Refused text = ⊥
 RunDue words left left' Input text = RefusalIsAsked words left text
 RunDue words left left' Read text = ⊥
@@ -192,7 +228,7 @@ RunDue words left left' Memory text = ⊥
 
 -- words of `solve` solve
 abbrev pub SolvesByWords : List (List ℕ) → (old new : Streams) → Status → Type 0
-SolvesByWords words old new status = (options : SolveOptions) → AreTaken words (Solve options) → Solves old new status
+SolvesByWords words old new status = (options : SolveOptions) → AreTaken words (Solve options) → Solves options old new status
 
 -- and refuse
 abbrev pub RefusesByWords : List (List ℕ) → (old new : Streams) → Status → Type 0

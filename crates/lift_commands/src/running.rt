@@ -19,16 +19,17 @@ const USAGE: &[u8] = b"usage: lift solve/check/day/report/make [options]\n";
 /// Runs the program: what the words of the command line ask for, the program's name first, from the source to
 /// the sink.
 ///
-/// `solve --brief` reads a case, to its end, and writes an optimal plan with its cost and an equal bound, or what
-/// is wrong with the input: its first bad line with its code, or that it is too long. A limit is never reached yet.
+/// `solve --brief` reads a case, to its end, and writes a plan with its cost and a bound that no feasible plan's cost is
+/// below, equal to the cost unless a limit was reached; or what is wrong with the input: its first bad line with its code, or
+/// that it is too long.
 /// `make` writes a generated case and reads nothing. Other words are refused with the usage line.
 pub fn run<S: Source, K: Sink, G: Gate + Sync>(
-    _rt: &(impl Threads + Sync),
+    rt: &(impl Threads + Sync),
     alloc: Global,
     words: &[String],
     source: &mut S,
     sink: &mut K,
-    _gate: &G,
+    gate: &G,
 ) -> Status
     // What was read and written, and why it ended.
     ensures ends { Ends (RunDue (map string_bytes words.now) (S.left source.old) (S.left source.new))
@@ -61,7 +62,7 @@ pub fn run<S: Source, K: Sink, G: Gate + Sync>(
         (K.faults sink.new)) result }
 {
     match read_words(alloc, words) {
-        Ok(Request::Solve(_)) => solve(alloc, source, sink),
+        Ok(Request::Solve(options)) => solve(rt, alloc, options, source, sink, gate),
         Ok(Request::Make(sizes)) => write_made_case(alloc, sizes, sink),
         Err(WordsFault::NotTaken) => put(sink, USAGE, Status::Words),
         Err(WordsFault::NoMemory) => Status::Memory,

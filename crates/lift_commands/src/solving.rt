@@ -1,21 +1,27 @@
 //! The command `solve`.
-ghost use Rattle.std.specs.Prelude.{◌≡◌, ◌≤◌, List, ℕ, Some, IfErr, IfOk, OnOk, IsErrOf};
+ghost use Rattle.std.specs.Prelude.{◌≡◌, ◌≤◌, ◌++◌, List, ℕ, Some, IfErr, IfOk, OnOk, IsErrOf};
 ghost use Rattle.std.specs.Io.KnownBytes.{IsAtEnd};
 ghost use Rattle.byte_streams.specs.Streams.{Rose};
 ghost use Rattle.elevator_model.specs.Snapshot.{IsAccepted};
 ghost use Rattle.lift_text.specs.Reading.{whole_text, reading};
 ghost use Rattle.case_text.specs.CaseTexts.{IsCaseText, IsLoneCaseFault, Tells};
-ghost use Rattle.lift_commands.specs.Outcome.{AnswersCases, Ends, SolveDue, Solves, Refuses, IsSolution, streams};
+ghost use Rattle.search_model.specs.Verdicts.{moves_enough, rounds_enough};
+ghost use Rattle.lift_words.specs.Taken.{AreSolveOptions};
+ghost use Rattle.lift_commands.specs.Outcome.{AnswersCases, Ends, IsCarOf, IsSolution, Refuses, SolveDue, Solves, closing_line, status_of as status_of_lem, streams};
 
 use crate::putting::{TOO_LONG, put, refusal_line};
 use crate::status::Status;
 use answer_text::{Stated, write_answer};
-use byte_streams::{Sink, Source};
+use byte_streams::{Gate, Sink, Source};
 use call_state::Snapshot;
 use case_text::read_lone_case;
-use lift_text::{LineReader, TextFault};
-use plain_solver::cheapest_plan;
+use lift_text::{LineReader, TextFault, put_line};
+use lift_words::SolveOptions;
+use search_model::StopReason;
+use snapshot_solver::{Limits, solve as solve_within};
 use std::alloc::{AllocError, Global};
+use std::marker::Sync;
+use std::thread::Threads;
 
 /// The snapshot that the whole input is the text of.
 fn read_input<S: Source>(alloc: Global, source: &mut S) -> Result<Snapshot, TextFault>
@@ -38,29 +44,85 @@ fn read_input<S: Source>(alloc: Global, source: &mut S) -> Result<Snapshot, Text
     read
 }
 
-/// The text of an optimal plan, with its cost and an equal bound.
-fn solution_of(alloc: Global, snapshot: &Snapshot) -> Result<Vec<u8>, AllocError>
-    ensures { IfOk result (λ text. IsSolution snapshot.now text.items) }
+/// An answer of `solve`, and the status with which it is written.
+#[derive(Drop)]
+struct Answer {
+    status: Status,
+    text: Vec<u8>,
+}
+
+/// The status with which an answer is written.
+fn status_of(why: StopReason) -> Status
+    ensures { result ≡ status_of_lem why }
 {
-    let best = cheapest_plan(alloc, snapshot)?;
+    match why {
+        StopReason::Solved => Status::Done,
+        StopReason::Rounds { .. } | StopReason::Moves { .. } => Status::Stopped,
+    }
+}
+
+/// Appends the comment line that says why a search ended.
+fn put_closing(snapshot: &Snapshot, why: StopReason, text: &mut Vec<u8>) -> Result<(), AllocError>
+    requires car { IsCarOf snapshot.now why }
+    ensures { OnOk result (text.new.items ≡ text.old.items ++ closing_line snapshot.now why) }
+{
+    match why {
+        StopReason::Solved => text.extend_from_slice(b"# solved\n"),
+        StopReason::Rounds { done } => put_line(text, b"# stopped rounds", &[done]),
+        StopReason::Moves { car, count } => {
+            let id = snapshot.building().cars()[car as usize].id;
+            put_line(text, b"# stopped moves", &[u64::from(id), count])
+        }
+    }
+}
+
+/// The text of a plan with its cost and a bound, and why the search for it ended.
+fn solution_of<G: Gate + Sync>(
+    rt: &(impl Threads + Sync),
+    alloc: Global,
+    options: SolveOptions,
+    snapshot: &Snapshot,
+    gate: &G,
+) -> Result<Answer, AllocError>
+    requires options { AreSolveOptions options }
+    ensures solution { IfOk result (λ answer. IsSolution options snapshot.now answer.status answer.text.items) }
+    ensures enough { rounds_enough snapshot.now ≤ options.rounds → moves_enough snapshot.now ≤ options.moves
+        → IfOk result (λ answer. answer.status ≡ Status.Done) }
+{
+    prove!(snapshot.calls().len() <= 128);
+    let limits = Limits {
+        rounds: options.rounds,
+        moves: options.moves,
+    };
+    let found = solve_within(rt, alloc, snapshot, limits, options.workers, gate)?;
+    let status = status_of(found.why);
     let stated = Stated {
-        plan: best.plan,
-        cost: best.cost,
-        bound: best.cost,
+        plan: found.plan,
+        cost: found.cost,
+        bound: found.bound,
     };
     let mut text = Vec::new(alloc);
     write_answer(snapshot, &stated, &mut text)?;
-    text.extend_from_slice(b"# solved\n")?;
-    Ok(text)
+    put_closing(snapshot, found.why, &mut text)?;
+    Ok(Answer { status, text })
 }
 
-/// Reads a case and writes an optimal plan of it, or what is wrong with the input.
-pub(crate) fn solve<S: Source, K: Sink>(alloc: Global, source: &mut S, sink: &mut K) -> Status
-    ensures ends { Ends (SolveDue (S.left source.old) (S.left source.new))
+/// Reads a case and writes the cheapest plan of it that the search finds within the limits, or what is wrong with the
+/// input.
+pub(crate) fn solve<S: Source, K: Sink, G: Gate + Sync>(
+    rt: &(impl Threads + Sync),
+    alloc: Global,
+    options: SolveOptions,
+    source: &mut S,
+    sink: &mut K,
+    gate: &G,
+) -> Status
+    requires { AreSolveOptions options }
+    ensures ends { Ends (SolveDue options (S.left source.old) (S.left source.new))
         (streams (S.left source.old) (K.taken sink.old) (S.faults source.old) (K.faults sink.old))
         (streams (S.left source.new) (K.taken sink.new) (S.faults source.new)
         (K.faults sink.new)) result }
-    ensures solves { Solves
+    ensures solves { Solves options
         (streams (S.left source.old) (K.taken sink.old) (S.faults source.old) (K.faults sink.old))
         (streams (S.left source.new) (K.taken sink.new) (S.faults source.new)
         (K.faults sink.new)) result }
@@ -70,8 +132,8 @@ pub(crate) fn solve<S: Source, K: Sink>(alloc: Global, source: &mut S, sink: &mu
         (K.faults sink.new)) result }
 {
     match read_input(alloc, source) {
-        Ok(snapshot) => match solution_of(alloc, &snapshot) {
-            Ok(text) => put(sink, text.as_slice(), Status::Done),
+        Ok(snapshot) => match solution_of(rt, alloc, options, &snapshot, gate) {
+            Ok(answer) => put(sink, answer.text.as_slice(), answer.status),
             Err(_) => Status::Memory,
         },
         Err(TextFault::Bad { line, code }) => match refusal_line(alloc, line, code) {

@@ -28,6 +28,40 @@ pub(crate) fn joined(alloc: Global, pieces: &[&str]) -> Option<Vec<u8>> {
     Some(all)
 }
 
+/// How a run with these words over the input, which comes in pieces of so many bytes, ends, and what it writes.
+fn written_from(
+    rt: &(impl Threads + Sync),
+    alloc: Global,
+    words: &[&str],
+    input: &[u8],
+    each: usize,
+) -> Option<(Status, Vec<u8>)> {
+    let words = words_of(alloc, words)?;
+    let bytes = Vec::from_slice(alloc, input).ok()?;
+    let mut sink = SureSink::new(alloc, 16384).ok()?;
+    let mut source = MemorySource::new(bytes, each.max(1), Vec::new(alloc));
+    let ended = run(
+        rt,
+        alloc,
+        words.as_slice(),
+        &mut source,
+        &mut sink,
+        &OpenGate,
+    );
+    let text = Vec::from_slice(alloc, sink.taken()).ok()?;
+    Some((ended, text))
+}
+
+/// How a run with these words over the input ends, and what it writes.
+pub(crate) fn written(
+    rt: &(impl Threads + Sync),
+    alloc: Global,
+    words: &[&str],
+    input: &[u8],
+) -> Option<(Status, Vec<u8>)> {
+    written_from(rt, alloc, words, input, 4096)
+}
+
 /// Whether a run with these words over the input, which comes in pieces of so many bytes, ends with the status
 /// and writes one of the two texts.
 pub(crate) fn gives_either(
@@ -39,25 +73,10 @@ pub(crate) fn gives_either(
     status: Status,
     texts: [&[u8]; 2],
 ) -> bool {
-    let Some(words) = words_of(alloc, words) else {
+    let Some((ended, text)) = written_from(rt, alloc, words, input, each) else {
         return false;
     };
-    let Ok(bytes) = Vec::from_slice(alloc, input) else {
-        return false;
-    };
-    let Ok(mut sink) = SureSink::new(alloc, 16384) else {
-        return false;
-    };
-    let mut source = MemorySource::new(bytes, each.max(1), Vec::new(alloc));
-    let ended = run(
-        rt,
-        alloc,
-        words.as_slice(),
-        &mut source,
-        &mut sink,
-        &OpenGate,
-    );
-    ended == status && (sink.taken() == texts[0] || sink.taken() == texts[1])
+    ended == status && (text.as_slice() == texts[0] || text.as_slice() == texts[1])
 }
 
 /// The same with one text.

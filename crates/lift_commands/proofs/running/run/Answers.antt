@@ -1,8 +1,9 @@
-use Rattle.std.proofs.Common.{map, string_bytes, subst, refl}
+use Rattle.std.proofs.Common.{map, string_bytes, subst, refl, sym, ◌≡◌, ◌∙◌}
 use Rattle.lift_words.specs.Taken.{AreTaken}
+use Rattle.lift_words.specs.declared.request.SolveOptions.{SolveOptions}
 use Rattle.lift_words.specs.declared.request.Request.TheVariants.{Solve, Make}
 use Rattle.lift_commands.specs.declared.status.Status.TheVariants.{Words}
-use Rattle.lift_commands.specs.Outcome.{SolveDue, MakeDue, RunDue, UsageIsDue, usage_line, streams}
+use Rattle.lift_commands.specs.Outcome.{IsAnswered, SolveDue, MakeDue, RunDue, UsageIsDue, usage_line, streams}
 use Rattle.lift_commands.proofs.Outcomes.{ends_put, ends_more, solve_due, make_due}
 use Rattle.lift_commands.proofs.running.run.Goals as goal
 
@@ -15,7 +16,7 @@ returns-in-Ok-Solve-clause-ends g c =
     let old = streams before (g.K.Sink.taken c.args.sink.now) (g.S.Source.faults c.args.source.now) (g.K.Sink.faults c.args.sink.now) in
     let new = streams after (g.K.Sink.taken c.solve.new.sink) (g.S.Source.faults c.solve.new.source) (g.K.Sink.faults c.solve.new.sink) in
     let taken = subst (AreTaken words) c.in-Ok-Solve.field-0-is c.in-Ok-Solve.ensures.taken in
-    ends_more (SolveDue before after) (RunDue words before after) old new c.solve.result (solve_due words before after c.in-Ok-Solve.field-0-0 taken) c.solve.ensures.ends
+    ends_more (SolveDue c.in-Ok-Solve.options before after) (RunDue words before after) old new c.solve.result (solve_due words before after c.in-Ok-Solve.options taken) c.solve.ensures.ends
 
 pub returns-in-Ok-Make-clause-ends : goal.returns-in-Ok-Make-clause-ends
 returns-in-Ok-Make-clause-ends g c =
@@ -52,3 +53,9 @@ returns-in-Err-NotTaken-clause-refuses g c = λ options taken input given none r
 pub returns-in-Err-NotTaken-clause-makes : goal.returns-in-Err-NotTaken-clause-makes
 returns-in-Err-NotTaken-clause-makes g c = λ sizes taken writes.
     absurd (c.in-Err-NotTaken.ensures.refused c.in-Err-NotTaken.field-0-is (Make sizes) taken)
+
+pub returns-in-Ok-Solve-clause-solves : goal.returns-in-Ok-Solve-clause-solves
+returns-in-Ok-Solve-clause-solves g c options taken input s given case reads writes =
+    let same : Solve options ≡ Solve c.in-Ok-Solve.options = c.in-Ok-Solve.ensures.one (Solve options) taken ∙ c.in-Ok-Solve.field-0-is in
+    let is : options ≡ c.in-Ok-Solve.options = cc same in
+    subst (λ (o : SolveOptions). IsAnswered o s c.solve.result) (sym is) (c.solve.ensures.solves input s given case reads writes)
