@@ -1,0 +1,24 @@
+#!/bin/sh
+# Solves generated cases of 12 and 20 floors, 2 to 8 cars and 4 to 20 calls, with so many numbers each (3 where no number is
+# given), and prints for each group how many were solved within the default limits, the cases, and the ms for all of them.
+# Groups of more than seven calls a car are left out: a single car cannot be priced there within its moves.
+numbers="${1:-3}"
+workers="${2:-1}"
+lift="$(dirname "$0")/../crates/lift/out/lift"
+[ -x "$lift" ] || (cd "$(dirname "$0")/../crates/lift" && rt run -- solve --brief < ../../examples/lunch.txt > /dev/null) || exit 1
+for floors in 12 20; do
+    for cars in 2 4 6 8; do
+        for calls in 4 6 8 10 12 15 20; do
+            [ "$calls" -gt $((cars * 7)) ] && continue
+            solved=0
+            start=$(date +%s%N)
+            for number in $(seq 1 "$numbers"); do
+                last=$("$lift" make --number "$number" --floors "$floors" --cars "$cars" --calls "$calls" \
+                    | "$lift" solve --brief --workers "$workers" | tail -1)
+                [ "$last" = "# solved" ] && solved=$((solved + 1))
+            done
+            end=$(date +%s%N)
+            echo "floors $floors cars $cars calls $calls solved $solved of $numbers ms $(((end - start) / 1000000))"
+        done
+    done
+done
