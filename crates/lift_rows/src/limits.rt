@@ -58,13 +58,14 @@ fn number_of(digits: &[u8]) -> Option<u64> {
 fn ends_within(
     rt: &(impl Threads + Sync),
     alloc: Global,
+    case: &str,
     words: &[&str],
     status: Status,
     cost: [u64; 2],
     bound: [u64; 2],
     last: &[u8],
 ) -> bool {
-    let Some(input) = joined(alloc, &[TWO_EACH_WAY]) else {
+    let Some(input) = joined(alloc, &[case]) else {
         return false;
     };
     let Some((ended, text)) = written(rt, alloc, words, &input) else {
@@ -92,6 +93,7 @@ fn it_is_solved_and_stops_at_few_rounds(rt: HostRuntime) -> Result<(), Fail> {
         ends_within(
             &rt,
             alloc,
+            TWO_EACH_WAY,
             &solve,
             Status::Done,
             [61000, 61000],
@@ -104,6 +106,7 @@ fn it_is_solved_and_stops_at_few_rounds(rt: HostRuntime) -> Result<(), Fail> {
         ends_within(
             &rt,
             alloc,
+            TWO_EACH_WAY,
             &one,
             Status::Stopped,
             [61000, 100000],
@@ -116,11 +119,45 @@ fn it_is_solved_and_stops_at_few_rounds(rt: HostRuntime) -> Result<(), Fail> {
         ends_within(
             &rt,
             alloc,
+            TWO_EACH_WAY,
             &two,
             Status::Stopped,
             [61000, 100000],
             [45500, 56000],
             b"\n# stopped rounds 2\n"
+        )
+    );
+    Ok(())
+}
+
+/// One call and one car for it. The call rides 4000 ms at least and waits 3500 ms.
+const ONE_EACH: &str = "building 1
+speed 2000
+accel 1000
+weights 1 1
+floors 0 4000 8000 12000
+car 7 8 1000 1000 500 500 all
+end
+snapshot 1
+now 0
+car 7 idle 0 0
+call 1 0 1 1 0 any
+end
+";
+
+#[test]
+fn it_stops_where_a_pricing_has_too_few_moves(rt: HostRuntime) -> Result<(), Fail> {
+    let words = ["lift", "solve", "--brief", "--moves", "1"];
+    assert!(rt;
+        ends_within(
+            &rt,
+            rt.alloc(),
+            ONE_EACH,
+            &words,
+            Status::Stopped,
+            [7500, 7500],
+            [4000, 7499],
+            b"\n# stopped moves 7 1\n"
         )
     );
     Ok(())

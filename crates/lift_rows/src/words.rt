@@ -55,7 +55,15 @@ fn options_come_in_any_order(rt: HostRuntime) -> Result<(), Fail> {
     for line in [
         ["lift", "solve", "--rounds=5", "--brief"].as_slice(),
         ["lift", "solve", "--brief", "--rounds", "5"].as_slice(),
-        ["lift", "solve", "--workers", "016", "--moves=1", "--brief"].as_slice(),
+        [
+            "lift",
+            "solve",
+            "--workers",
+            "016",
+            "--moves=00099",
+            "--brief",
+        ]
+        .as_slice(),
     ] {
         assert!(rt;
             gives(
