@@ -27,31 +27,38 @@ call 4 2 0 1 0 any
 end
 ";
 
-/// The number behind the word, of the first line that begins with it.
-fn number_after(text: &[u8], word: &[u8]) -> Option<u64> {
-    let mut rest = text;
-    while let Some(place) = rest.iter().position(|byte| *byte == b'\n') {
-        let line = &rest[..place];
-        if line.starts_with(word) {
-            return number_of(&line[word.len()..]);
+/// Whether the word stands at this place of the text.
+fn stands_at(text: &[u8], place: usize, word: &[u8]) -> bool {
+    for (k, byte) in word.iter().enumerate() {
+        if text.get(place.saturating_add(k)).copied() != Some(*byte) {
+            return false;
         }
-        rest = &rest[place + 1..];
+    }
+    true
+}
+
+/// The number that the digits from this place to the end of the line write.
+fn number_at(text: &[u8], place: usize) -> Option<u64> {
+    let mut number: u64 = 0;
+    for k in place..text.len() {
+        let byte = text.get(k).copied()?;
+        if byte == b'\n' {
+            return Some(number);
+        }
+        let digit = byte.checked_sub(b'0')?;
+        number = number.checked_mul(10)?.checked_add(u64::from(digit))?;
     }
     None
 }
 
-/// The number that these digits write.
-fn number_of(digits: &[u8]) -> Option<u64> {
-    let mut number: u64 = 0;
-    for digit in digits {
-        if !digit.is_ascii_digit() {
-            return None;
+/// The number behind the word, where it stands first.
+fn number_after(text: &[u8], word: &[u8]) -> Option<u64> {
+    for place in 0..text.len() {
+        if stands_at(text, place, word) {
+            return number_at(text, place.saturating_add(word.len()));
         }
-        number = number
-            .checked_mul(10)?
-            .checked_add(u64::from(*digit - b'0'))?;
     }
-    Some(number)
+    None
 }
 
 /// Whether a run with these words ends with the status, a cost and a bound in these ranges, and this last line.
@@ -72,8 +79,8 @@ fn ends_within(
         return false;
     };
     let (Some(stated), Some(proved)) = (
-        number_after(&text, b"cost "),
-        number_after(&text, b"bound "),
+        number_after(&text, b"\ncost "),
+        number_after(&text, b"\nbound "),
     ) else {
         return false;
     };
