@@ -9,13 +9,14 @@ use Rattle.clap.specs.Simple.{matches_of}
 use Rattle.clap.specs.Takes.{takes}
 use Rattle.lift_words.specs.Table.{app, command_of, word_of}
 use Rattle.lift_words.specs.Repeats.{IsRepeated}
-use Rattle.lift_words.specs.Taken.{AreTaken, Asks, AsksBy, AsksToMake, AsksToSolve, IsSecond, command_asked}
+use Rattle.lift_words.specs.Taken.{AreTaken, Asks, AsksBy, AsksForSizes, AsksToRun, AsksToSolve, IsSecond, command_asked}
 use Rattle.lift_words.specs.declared.table.CommandWord.{CommandWord}
 use Rattle.lift_words.specs.declared.table.CommandWord.TheVariants as command
 use Rattle.lift_words.specs.declared.request.Request.{Request}
-use Rattle.lift_words.specs.declared.request.Request.TheVariants.{Solve, Make}
+use Rattle.lift_words.specs.declared.request.Request.TheVariants.{Solve, Make, Run}
 use Rattle.lift_words.specs.declared.request.SolveOptions.{SolveOptions}
 use Rattle.lift_words.specs.declared.request.CaseSizes.{CaseSizes}
+use Rattle.lift_words.specs.declared.request.RunOptions.{RunOptions}
 
 -- ---- the words behind some of them
 
@@ -61,17 +62,29 @@ asks_to_solve_one rows a b x y =
     let workers = only (sym x.workers ∙ y.workers) in
     λ i. record { rounds = rounds i; moves = moves i; workers = workers i }
 
-asks_to_make_one : (rows : List Row) (a b : CaseSizes) → AsksToMake rows a → AsksToMake rows b → a ≡ b
-asks_to_make_one rows a b x y =
+asks_for_sizes_one : (rows : List Row) (a b : CaseSizes) → AsksForSizes rows a → AsksForSizes rows b → a ≡ b
+asks_for_sizes_one rows a b x y =
     let number = only (sym x.number ∙ y.number) in
     let floors = only (sym x.floors ∙ y.floors) in
     let cars = only (sym x.cars ∙ y.cars) in
     let calls = only (sym x.calls ∙ y.calls) in
     λ i. record { number = number i; floors = floors i; cars = cars i; calls = calls i }
 
+asks_to_run_one : (rows : List Row) (a b : RunOptions) → AsksToRun rows a → AsksToRun rows b → a ≡ b
+asks_to_run_one rows a b x y =
+    let sizes = asks_for_sizes_one rows a.sizes b.sizes x.case y.case in
+    let rounds = only (sym x.rounds ∙ y.rounds) in
+    let moves = only (sym x.moves ∙ y.moves) in
+    λ i. record { sizes = sizes i; rounds = rounds i; moves = moves i }
+
 pub asks_one : (named : CommandWord) (rows : List Row) (a b : Request) → AsksBy named rows a → AsksBy named rows b → a ≡ b
 asks_one named rows (Solve a) (Solve b) x y = ap Solve (asks_to_solve_one rows a b x.1 y.1)
-asks_one named rows (Make a) (Make b) x y = ap Make (asks_to_make_one rows a b x.1 y.1)
+asks_one named rows (Make a) (Make b) x y = ap Make (asks_for_sizes_one rows a b x.1.case y.1.case)
+asks_one named rows (Run a) (Run b) x y = ap Run (asks_to_run_one rows a b x.1 y.1)
+asks_one named rows (Make a) (Run b) x y = absurd (x.1.no_run y.1.run)
+asks_one named rows (Run a) (Make b) x y = absurd (y.1.no_run x.1.run)
+asks_one named rows (Solve a) (Run b) x y = let same : command.Solve ≡ command.Make = x.0 ∙ sym y.0 in absurd cc
+asks_one named rows (Run a) (Solve b) x y = let same : command.Make ≡ command.Solve = x.0 ∙ sym y.0 in absurd cc
 asks_one named rows (Solve a) (Make b) x y = let same : command.Solve ≡ command.Make = x.0 ∙ sym y.0 in absurd cc
 asks_one named rows (Make a) (Solve b) x y = let same : command.Make ≡ command.Solve = x.0 ∙ sym y.0 in absurd cc
 

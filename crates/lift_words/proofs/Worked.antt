@@ -1,17 +1,28 @@
 -- Worked rows: words that are taken, and words that are not.
-use Rattle.std.specs.Prelude.{zero, suc, [], ◌∷◌, codes, refl}
+use Rattle.std.specs.Prelude.{◌≡◌, ◌<◌, ℕ, zero, suc, [], ◌∷◌, codes, refl, slice_index_or}
 use Rattle.std.proofs.Common.{arith, lit<}
 use Rattle.std.specs.List.{Contains}
 use Rattle.clap.proofs.OnLiterals.{clap_on_literals}
 use Rattle.clap.specs.Walk.{Text}
-use Rattle.lift_words.specs.Repeats.{IsRepeated}
+use Rattle.lift_words.specs.Repeats.{IsRepeated, Repeats}
 use Rattle.lift_words.specs.Taken.{AreTaken}
 use Rattle.lift_words.specs.declared.request.Request.{Request}
-use Rattle.lift_words.specs.declared.request.Request.TheVariants.{Solve, Make}
+use Rattle.lift_words.specs.declared.request.Request.TheVariants.{Solve, Make, Run}
 
 -- one word alone repeats none
 alone : (word : Text) → IsRepeated (word ∷ []) → ⊥
 alone word r = absurd (omega (arith, r.order, r.within))
+
+-- two words repeat none where the second does not repeat the first
+two : (one other : Text) → (Repeats one other → ⊥) → IsRepeated (one ∷ other ∷ []) → ⊥
+two one other unlike r = by_places r.first r.second r.order r.within r.repeats
+  where
+    by_places : (first second : ℕ) → first < second → second < 2
+        → Repeats (slice_index_or (one ∷ other ∷ []) first []) (slice_index_or (one ∷ other ∷ []) second []) → ⊥
+    by_places zero zero order within same = absurd (omega arith)
+    by_places zero (suc zero) order within same = unlike same
+    by_places zero (suc (suc k)) order within same = absurd (omega arith)
+    by_places (suc j) k order within same = absurd (omega arith)
 
 pub solve_by_defaults : AreTaken (codes "lift" ∷ codes "solve" ∷ codes "--brief" ∷ []) (Solve (record { rounds = 2000; moves = 75000; workers = 1 }))
 unfolding clap_on_literals
@@ -34,27 +45,60 @@ make_with_four_floors = record {
   unrepeated = alone (codes "--floors=004");
   no_dashes = only;
   accepted = refl;
-  asks = record { number = refl; floors = refl; cars = refl; calls = refl; rounds = refl; moves = refl };
+  asks = record { no_run = λ e. absurd cc; case = record { number = refl; floors = refl; cars = refl; calls = refl }; rounds = refl; moves = refl };
 }
   where
     only : Contains (codes "--floors=004" ∷ []) (codes "--") → ⊥
     only (zero, lt, same) = absurd cc
     only (suc k, lt, same) = absurd (omega arith)
 
+pub run_with_five_rounds : AreTaken (codes "lift" ∷ codes "make" ∷ codes "--run" ∷ codes "--rounds=5" ∷ []) (Run (record { sizes = record { number = 1; floors = 12; cars = 4; calls = 20 }; rounds = 5; moves = 75000 }))
+unfolding clap_on_literals
+run_with_five_rounds = record {
+  command = refl;
+  unrepeated = different;
+  no_dashes = only;
+  accepted = refl;
+  asks = record { run = refl; case = record { number = refl; floors = refl; cars = refl; calls = refl }; rounds = refl; moves = refl };
+}
+  where
+    different : IsRepeated (codes "--run" ∷ codes "--rounds=5" ∷ []) → ⊥
+    different = two (codes "--run") (codes "--rounds=5") (λ r. let same : codes "--run" ≡ codes "--rounds" = r.same in absurd cc)
+
+    only : Contains (codes "--run" ∷ codes "--rounds=5" ∷ []) (codes "--") → ⊥
+    only (zero, lt, same) = absurd cc
+    only (suc zero, lt, same) = absurd cc
+    only (suc (suc k), lt, same) = absurd (omega arith)
+
 pub brief_is_wanted : (request : Request) → AreTaken (codes "lift" ∷ codes "solve" ∷ codes "--rounds=5" ∷ []) request → ⊥
 unfolding clap_on_literals
 brief_is_wanted (Solve options) t = let none = t.asks.brief in absurd cc
 brief_is_wanted (Make sizes) t = let other = t.command in absurd cc
+brief_is_wanted (Run options) t = let other = t.command in absurd cc
 
 pub no_rounds : (request : Request) → AreTaken (codes "lift" ∷ codes "solve" ∷ codes "--brief" ∷ codes "--rounds" ∷ codes "0" ∷ []) request → ⊥
 unfolding clap_on_literals
 no_rounds (Solve options) t = let none = t.asks.rounds in absurd cc
 no_rounds (Make sizes) t = let other = t.command in absurd cc
+no_rounds (Run options) t = let other = t.command in absurd cc
 
 pub shortened : (request : Request) → AreTaken (codes "lift" ∷ codes "make" ∷ codes "--floor" ∷ codes "4" ∷ []) request → ⊥
 unfolding clap_on_literals
 shortened (Make sizes) t = let refused = t.accepted in absurd cc
 shortened (Solve options) t = let other = t.command in absurd cc
+shortened (Run options) t = let refused = t.accepted in absurd cc
+
+pub run_of_no_rounds : (request : Request) → AreTaken (codes "lift" ∷ codes "make" ∷ codes "--rounds" ∷ codes "0" ∷ []) request → ⊥
+unfolding clap_on_literals
+run_of_no_rounds (Make sizes) t = let none = t.asks.rounds in absurd cc
+run_of_no_rounds (Solve options) t = let other = t.command in absurd cc
+run_of_no_rounds (Run options) t = let none = t.asks.rounds in absurd cc
+
+pub run_with_value : (request : Request) → AreTaken (codes "lift" ∷ codes "make" ∷ codes "--run=1" ∷ []) request → ⊥
+unfolding clap_on_literals
+run_with_value (Make sizes) t = let refused = t.accepted in absurd cc
+run_with_value (Solve options) t = let other = t.command in absurd cc
+run_with_value (Run options) t = let refused = t.accepted in absurd cc
 
 pub brief_twice : (request : Request) → AreTaken (codes "lift" ∷ codes "solve" ∷ codes "--brief" ∷ codes "--brief" ∷ []) request → ⊥
 brief_twice request t = t.unrepeated (record { first = 0; second = 1; order = lit< tt; within = lit< tt; repeats = record { first_option = refl; second_option = refl; same = refl } })

@@ -48,7 +48,7 @@ numbers_of Make = Number ∷ Floors ∷ Cars ∷ Calls ∷ Rounds ∷ Moves ∷ 
 -- and those that take no value
 abbrev pub flags_of : CommandWord → List Text
 flags_of Solve = codes "brief" ∷ []
-flags_of Make = []
+flags_of Make = codes "run" ∷ []
 
 -- ---- as `clap` sees it: long options alone, each with one value, and flags
 

@@ -12,9 +12,10 @@ use Rattle.lift_words.specs.declared.table.CommandWord.TheVariants as command
 use Rattle.lift_words.specs.declared.table.NumberOption.{NumberOption}
 use Rattle.lift_words.specs.declared.table.NumberOption.TheVariants.{Rounds, Moves, Workers, Number, Floors, Cars, Calls}
 use Rattle.lift_words.specs.declared.request.Request.{Request}
-use Rattle.lift_words.specs.declared.request.Request.TheVariants.{Solve, Make}
+use Rattle.lift_words.specs.declared.request.Request.TheVariants.{Solve, Make, Run}
 use Rattle.lift_words.specs.declared.request.SolveOptions.{SolveOptions}
 use Rattle.lift_words.specs.declared.request.CaseSizes.{CaseSizes}
+use Rattle.lift_words.specs.declared.request.RunOptions.{RunOptions}
 
 abbrev pub within : ℕ → ℕ → ℕ → Option ℕ
 within low high n = if nat_le low n && nat_le n high then Some n else None
@@ -38,22 +39,38 @@ pub record AsksToSolve (rows : List Row) (options : SolveOptions) : Type 0 where
   pub moves : number_of rows Moves ≡ Some options.moves
   pub workers : number_of rows Workers ≡ Some options.workers
 
-pub record AsksToMake (rows : List Row) (sizes : CaseSizes) : Type 0 where
+pub record AsksForSizes (rows : List Row) (sizes : CaseSizes) : Type 0 where
   pub number : number_of rows Number ≡ Some sizes.number
   pub floors : number_of rows Floors ≡ Some sizes.floors
   pub cars : number_of rows Cars ≡ Some sizes.cars
   pub calls : number_of rows Calls ≡ Some sizes.calls
+
+-- the case is to be solved, and not written
+abbrev pub AsksForRun : List Row → Type 0
+AsksForRun rows = first_of (codes "run") rows ≡ Some (codes "true")
+
+pub record AsksToMake (rows : List Row) (sizes : CaseSizes) : Type 0 where
+  pub no_run : AsksForRun rows → ⊥
+  pub case : AsksForSizes rows sizes
   -- in their ranges, and of no effect
   pub rounds : IsSome (number_of rows Rounds)
   pub moves : IsSome (number_of rows Moves)
 
+pub record AsksToRun (rows : List Row) (options : RunOptions) : Type 0 where
+  pub run : AsksForRun rows
+  pub case : AsksForSizes rows options.sizes
+  pub rounds : number_of rows Rounds ≡ Some options.rounds
+  pub moves : number_of rows Moves ≡ Some options.moves
+
 abbrev pub command_asked : Request → CommandWord
 command_asked (Solve options) = command.Solve
 command_asked (Make sizes) = command.Make
+command_asked (Run options) = command.Make
 
 abbrev pub Asks : List Row → Request → Type 0
 Asks rows (Solve options) = AsksToSolve rows options
 Asks rows (Make sizes) = AsksToMake rows sizes
+Asks rows (Run options) = AsksToRun rows options
 
 -- the request is one of this command, and has the numbers that were found
 abbrev pub AsksBy : CommandWord → List Row → Request → Type 0
@@ -97,6 +114,12 @@ pub record AreCaseSizes (sizes : CaseSizes) : Type 0 where
   pub cars : IsInRange Cars sizes.cars
   pub calls : IsInRange Calls sizes.calls
 
+pub record AreRunOptions (options : RunOptions) : Type 0 where
+  pub sizes : AreCaseSizes options.sizes
+  pub rounds : IsInRange Rounds options.rounds
+  pub moves : IsInRange Moves options.moves
+
 abbrev pub IsWithin : Request → Type 0
 IsWithin (Solve options) = AreSolveOptions options
 IsWithin (Make sizes) = AreCaseSizes sizes
+IsWithin (Run options) = AreRunOptions options

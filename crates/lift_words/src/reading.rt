@@ -1,13 +1,13 @@
 //! Reads the words.
 ghost use Rattle.std.specs.Prelude.{◌≡◌, ◌≤◌, IfErr, IfOk, IfSome, None, length, IsTrue, ◌↔◌, Some, codes, map, option_map, string_bytes};
 ghost use Rattle.clap.specs.Words.{first_of, found_of, rows_of};
-ghost use Rattle.lift_words.specs.Taken.{AreCaseSizes, AreSolveOptions, AreTaken, AsksBy, AsksToMake, AsksToSolve, ExactlyWhere, IsInRange, IsSecond, IsWithin, number_in_range, number_of};
+ghost use Rattle.lift_words.specs.Taken.{AreCaseSizes, AreSolveOptions, AreTaken, AsksBy, AsksForSizes, AsksToSolve, ExactlyWhere, IsInRange, IsSecond, IsWithin, number_in_range, number_of};
 ghost use Rattle.lift_words.specs.declared.request.Request.{Request};
 ghost use Rattle.lift_words.specs.declared.table.CommandWord.{CommandWord};
 
 use crate::parsing::parse;
 use crate::repeats::{has_lone_dashes, has_repeats};
-use crate::request::{CaseSizes, Request, SolveOptions, WordsFault};
+use crate::request::{CaseSizes, Request, RunOptions, SolveOptions, WordsFault};
 use crate::table::{CommandWord, NumberOption};
 use clap::ArgMatches;
 use lift_text::number_in;
@@ -57,7 +57,7 @@ fn asked(command: CommandWord, matches: &ArgMatches<'_>) -> Option<Request>
 {
     match command {
         CommandWord::Solve => Some(Request::Solve(solve_options(matches)?)),
-        CommandWord::Make => Some(Request::Make(case_sizes(matches)?)),
+        CommandWord::Make => asked_of_make(matches),
     }
 }
 
@@ -80,18 +80,34 @@ fn solve_options(matches: &ArgMatches<'_>) -> Option<SolveOptions>
     })
 }
 
-/// The options of `make`.
+/// What `make` asks for: a case, or with `--run` its solution.
+fn asked_of_make(matches: &ArgMatches<'_>) -> Option<Request>
+    ensures asked { let rows = rows_of (found_of matches.now) in
+        ExactlyWhere (AsksBy CommandWord.Make rows) result }
+    ensures within { IfSome result IsWithin }
+{
+    let options = RunOptions {
+        sizes: case_sizes(matches)?,
+        rounds: number(matches, NumberOption::Rounds)?,
+        moves: number(matches, NumberOption::Moves)?,
+    };
+    if is_given(matches, "run") {
+        Some(Request::Run(options))
+    } else {
+        Some(Request::Make(options.sizes))
+    }
+}
+
+/// The sizes of a case.
 fn case_sizes(matches: &ArgMatches<'_>) -> Option<CaseSizes>
     ensures asked { let rows = rows_of (found_of matches.now) in
-        ExactlyWhere (AsksToMake rows) result }
+        ExactlyWhere (AsksForSizes rows) result }
     ensures within { IfSome result AreCaseSizes }
 {
     let number_of_case = number(matches, NumberOption::Number)?;
     let floors = number(matches, NumberOption::Floors)?;
     let cars = number(matches, NumberOption::Cars)?;
     let calls = number(matches, NumberOption::Calls)?;
-    let _rounds = number(matches, NumberOption::Rounds)?;
-    let _moves = number(matches, NumberOption::Moves)?;
     Some(CaseSizes {
         number: number_of_case,
         floors: floors as u32,

@@ -13,6 +13,8 @@ pub enum Request {
     Solve(SolveOptions),
     /// `make`: a generated case is to be written.
     Make(CaseSizes),
+    /// `make --run`: a generated case is to be solved.
+    Run(RunOptions),
 }
 
 /// The options of `solve`.
@@ -26,7 +28,7 @@ pub struct SolveOptions {
     pub workers: u32,
 }
 
-/// The options of `make`. It takes `--rounds` and `--moves` too, which change nothing.
+/// The sizes of a generated case. `make` takes `--rounds` and `--moves` too, which change nothing without `--run`.
 #[derive(Clone, Copy, Debug, PartialEq, Eq)]
 pub struct CaseSizes {
     /// `--number`: the number that the case is made from, any of 64 bits. The default is 1.
@@ -37,6 +39,17 @@ pub struct CaseSizes {
     pub cars: u32,
     /// `--calls`: 0 to 64. The default is 20.
     pub calls: u32,
+}
+
+/// The options of `make --run`.
+#[derive(Clone, Copy, Debug, PartialEq, Eq)]
+pub struct RunOptions {
+    /// The sizes of the case.
+    pub sizes: CaseSizes,
+    /// `--rounds`: at most so many rounds, 1 to 10^18. The default is 2000.
+    pub rounds: u64,
+    /// `--moves`: at most so many moves in one pricing, 1 to 10^18. The default is 75000.
+    pub moves: u64,
 }
 
 /// Why the words give no request.

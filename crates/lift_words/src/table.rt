@@ -83,7 +83,7 @@ impl CommandWord {
     {
         match self {
             CommandWord::Solve => &["brief"],
-            CommandWord::Make => &[],
+            CommandWord::Make => &["run"],
         }
     }
 }
