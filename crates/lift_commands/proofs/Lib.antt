@@ -1,3 +1,4 @@
 pub mod Outcomes
 pub mod MadeCases
 pub mod Solutions
+pub mod SolvedCases

@@ -7,12 +7,13 @@ use Rattle.lift_text.specs.declared.faults.TextFault.{TextFault}
 use Rattle.case_text.specs.CaseTexts.{TakesLoneCases}
 use Rattle.lift_words.specs.Taken.{AreTaken}
 use Rattle.lift_words.specs.declared.request.Request.{Request}
-use Rattle.lift_words.specs.declared.request.Request.TheVariants.{Solve, Make}
+use Rattle.lift_words.specs.declared.request.Request.TheVariants.{Solve, Make, Run}
 use Rattle.lift_words.specs.declared.request.SolveOptions.{SolveOptions}
 use Rattle.lift_words.specs.declared.request.CaseSizes.{CaseSizes}
+use Rattle.lift_words.specs.declared.request.RunOptions.{RunOptions}
 use Rattle.lift_commands.specs.declared.status.Status.{Status}
 use Rattle.lift_commands.specs.declared.status.Status.TheVariants.{Done, Words, Stopped, Refused, Input, Read, Write, Memory}
-use Rattle.lift_commands.specs.Outcome.{Streams, Due, Wrote, Ends, Puts, AnswersCases, SolveDue, MakeDue, RunDue}
+use Rattle.lift_commands.specs.Outcome.{Streams, Due, Wrote, Ends, Puts, AnswersCases, SolveDue, MakeDue, SolvedCaseDue, RunDue}
 
 -- what a reader of the whole text says of the input
 pub answers_cases : (left : Option (List ℕ)) (before : Option TextState) (answer : Result Snapshot TextFault) → before ≡ option_map whole_text left → TakesLoneCases before answer → AnswersCases left answer
@@ -50,7 +51,7 @@ pub solve_due : (words : List (List ℕ)) (left left' : Option (List ℕ)) (opti
 solve_due words left left' options taken Done text due = inl (record { options = options; taken = taken; answer = due })
 solve_due words left left' options taken Input text due = record { options = options; taken = taken; refusal = due }
 solve_due words left left' options taken Words text due = absurd due
-solve_due words left left' options taken Stopped text due = record { options = options; taken = taken; answer = due }
+solve_due words left left' options taken Stopped text due = inl (record { options = options; taken = taken; answer = due })
 solve_due words left left' options taken Refused text due = due
 solve_due words left left' options taken Read text due = due
 solve_due words left left' options taken Write text due = due
@@ -58,7 +59,7 @@ solve_due words left left' options taken Memory text due = due
 
 -- and so of `make`, which reads nothing
 pub make_due : (words : List (List ℕ)) (left : Option (List ℕ)) (sizes : CaseSizes) → AreTaken words (Make sizes) → (status : Status) (text : List ℕ) → MakeDue sizes status text → RunDue words left left status text
-make_due words left sizes taken Done text due = inr (record { sizes = sizes; taken = taken; unread = refl; case = due })
+make_due words left sizes taken Done text due = inr (inl (record { sizes = sizes; taken = taken; unread = refl; case = due }))
 make_due words left sizes taken Input text due = absurd due
 make_due words left sizes taken Words text due = absurd due
 make_due words left sizes taken Stopped text due = absurd due
@@ -66,6 +67,17 @@ make_due words left sizes taken Refused text due = due
 make_due words left sizes taken Read text due = due
 make_due words left sizes taken Write text due = due
 make_due words left sizes taken Memory text due = due
+
+-- and so of `make --run`
+pub solved_case_due : (words : List (List ℕ)) (left : Option (List ℕ)) (options : RunOptions) → AreTaken words (Run options) → (status : Status) (text : List ℕ) → SolvedCaseDue options status text → RunDue words left left status text
+solved_case_due words left options taken Done text due = inr (inr (record { options = options; taken = taken; unread = refl; solved = due }))
+solved_case_due words left options taken Stopped text due = inr (record { options = options; taken = taken; unread = refl; solved = due })
+solved_case_due words left options taken Input text due = absurd due
+solved_case_due words left options taken Words text due = absurd due
+solved_case_due words left options taken Refused text due = due
+solved_case_due words left options taken Read text due = due
+solved_case_due words left options taken Write text due = due
+solved_case_due words left options taken Memory text due = due
 
 -- no words are those of both commands
 pub not_both : (asked other : Request) (options : SolveOptions) (sizes : CaseSizes) → other ≡ asked → other ≡ Solve options → asked ≡ Make sizes → ⊥

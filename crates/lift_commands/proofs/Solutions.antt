@@ -28,12 +28,13 @@ cost_is_bound s rounds moves cost bound tree Solved e reason = reason
 cost_is_bound s rounds moves cost bound tree (Rounds done) e reason = absurd (cc e)
 cost_is_bound s rounds moves cost bound tree (Moves car count) e reason = absurd (cc e)
 
-module _ (options : SolveOptions) (s : Snapshot) (plan : List (List Stop)) (cost bound : ℕ) (tree : List Twig) (turns : List Turn) (why : StopReason) (accepted : IsAccepted s) (answer : IsSolveAnswer s options.rounds options.moves plan cost bound tree turns why) where
-  optimal : (status : Status) → status ≡ status_of why → status ≡ Done → IsOptimal s plan
-  optimal status is done =
-      let same : plan_cost_of s plan ≡ bound = answer.proves.costs ∙ cost_is_bound s options.rounds options.moves cost bound tree why (sym is ∙ done) answer.reason in
-      record { feasible = answer.proves.feasible; least = λ other feasible. subst (λ (n : ℕ). n ≤ plan_cost_of s other) (sym same) (proves-bound s plan cost bound tree (cars-le s accepted) answer.proves other feasible) }
+-- and its plan is optimal
+pub optimal : (s : Snapshot) (rounds moves : ℕ) (plan : List (List Stop)) (cost bound : ℕ) (tree : List Twig) (turns : List Turn) (why : StopReason) → IsAccepted s → IsSolveAnswer s rounds moves plan cost bound tree turns why → (status : Status) → status ≡ status_of why → status ≡ Done → IsOptimal s plan
+optimal s rounds moves plan cost bound tree turns why accepted answer status is done =
+    let same : plan_cost_of s plan ≡ bound = answer.proves.costs ∙ cost_is_bound s rounds moves cost bound tree why (sym is ∙ done) answer.reason in
+    record { feasible = answer.proves.feasible; least = λ other feasible. subst (λ (n : ℕ). n ≤ plan_cost_of s other) (sym same) (proves-bound s plan cost bound tree (cars-le s accepted) answer.proves other feasible) }
 
+module _ (options : SolveOptions) (s : Snapshot) (plan : List (List Stop)) (cost bound : ℕ) (tree : List Twig) (turns : List Turn) (why : StopReason) (accepted : IsAccepted s) (answer : IsSolveAnswer s options.rounds options.moves plan cost bound tree turns why) where
   pub solution_text : (status : Status) (out written text : List ℕ) → status ≡ status_of why → out ≡ [] → written ≡ out ++ answer_text s (record { plan = plan; cost = cost; bound = bound }) → text ≡ written ++ closing_line s why → IsSolution options s status text
   solution_text status out written text is empty wrote ended =
       let stated = answer_text s (record { plan = plan; cost = cost; bound = bound }) in
@@ -46,12 +47,12 @@ module _ (options : SolveOptions) (s : Snapshot) (plan : List (List Stop)) (cost
         why = why;
         answer = answer;
         status_is = is;
-        optimal = optimal status is;
+        optimal = optimal s options.rounds options.moves plan cost bound tree turns why accepted answer status is;
         is_text = ended ∙ ap (λ (front : List ℕ). front ++ closing_line s why) (wrote ∙ ap (λ (front : List ℕ). front ++ stated) empty);
       }
 
 -- the status of an answer
-ended_by : (why : StopReason) (status : Status) → status ≡ status_of why → (status ≡ Done) ⊎ (status ≡ Stopped)
+pub ended_by : (why : StopReason) (status : Status) → status ≡ status_of why → (status ≡ Done) ⊎ (status ≡ Stopped)
 ended_by Solved status is = inl is
 ended_by (Rounds done) status is = inr is
 ended_by (Moves car count) status is = inr is

@@ -1,5 +1,5 @@
 -- What a run of the program leaves: what was read and written, and why it ended.
-use Rattle.std.specs.Prelude.{◌≡◌, ℕ, ◌<◌, ◌≤◌, ◌⊎◌, List, [], ◌∷◌, ◌++◌, length, take, codes, Option, Some, Result}
+use Rattle.std.specs.Prelude.{◌≡◌, ℕ, ◌<◌, ◌≤◌, ◌⊎◌, ◌↔◌, List, [], ◌∷◌, ◌++◌, length, take, codes, Option, Some, Result}
 use Rattle.std.specs.Io.KnownBytes.{append_known, IsAtEnd}
 use Rattle.elevator_model.specs.declared.Stop.{Stop}
 use Rattle.elevator_model.specs.Snapshot.{Snapshot, IsAccepted, car_count, spec_of}
@@ -19,9 +19,10 @@ use Rattle.search_model.specs.Verdicts.{rounds_enough, moves_enough}
 use Rattle.search_model.specs.Cases.{IsCase}
 use Rattle.lift_words.specs.Taken.{AreTaken}
 use Rattle.lift_words.specs.declared.request.Request.{Request}
-use Rattle.lift_words.specs.declared.request.Request.TheVariants.{Solve, Make}
+use Rattle.lift_words.specs.declared.request.Request.TheVariants.{Solve, Make, Run}
 use Rattle.lift_words.specs.declared.request.SolveOptions.{SolveOptions}
 use Rattle.lift_words.specs.declared.request.CaseSizes.{CaseSizes}
+use Rattle.lift_words.specs.declared.request.RunOptions.{RunOptions}
 use Rattle.byte_streams.specs.Streams.{Rose}
 use Rattle.lift_commands.specs.declared.status.Status.{Status}
 use Rattle.lift_commands.specs.declared.status.Status.TheVariants.{Done, Words, Stopped, Refused, Input, Read, Write, Memory}
@@ -165,10 +166,14 @@ Refuses old new status = (input : List ℕ) → old.left ≡ Some input → ((s 
 
 -- ---- the command `make`
 
--- the text of the generated case with this number and these sizes; it is read as that snapshot again
+-- the generated case with this number and these sizes
+abbrev pub IsCaseOf : CaseSizes → Snapshot → Type 0
+IsCaseOf sizes s = IsCase sizes.number sizes.floors sizes.cars sizes.calls s
+
+-- the text of that case; it is read as that snapshot again
 pub record IsMadeCase (sizes : CaseSizes) (text : List ℕ) : Type 0 where
   pub snapshot : Snapshot
-  pub case : IsCase sizes.number sizes.floors sizes.cars sizes.calls snapshot
+  pub case : IsCaseOf sizes snapshot
   pub accepted : IsAccepted snapshot
   pub is_text : text ≡ case_text snapshot
   pub again : IsCaseText text snapshot
@@ -183,6 +188,49 @@ MakeDue sizes Input text = ⊥
 MakeDue sizes Read text = ⊥
 MakeDue sizes Write text = ⊥
 MakeDue sizes Memory text = ⊥
+
+-- ---- the command `make --run`
+
+-- the six lines of a case that was solved
+abbrev pub run_text : CaseSizes → (cost bound : ℕ) → List ℕ
+run_text sizes cost bound =
+    line (codes "number") (sizes.number ∷ []) ++ line (codes "floors") (sizes.floors ∷ []) ++ line (codes "cars") (sizes.cars ∷ [])
+    ++ line (codes "calls") (sizes.calls ∷ []) ++ line (codes "cost") (cost ∷ []) ++ line (codes "bound") (bound ∷ [])
+
+-- The lines of the generated case, with the cost and the bound of a plan as a search answers them within these limits. The
+-- status tells whether they are equal; then the plan is optimal.
+pub record IsSolvedCase (options : RunOptions) (status : Status) (text : List ℕ) : Type 0 where
+  pub snapshot : Snapshot
+  pub case : IsCaseOf options.sizes snapshot
+  pub accepted : IsAccepted snapshot
+  pub plan : List (List Stop)
+  pub cost : ℕ
+  pub bound : ℕ
+  pub tree : List Twig
+  pub turns : List Turn
+  pub why : StopReason
+  pub answer : IsSolveAnswer snapshot options.rounds options.moves plan cost bound tree turns why
+  pub done : (status ≡ Done) ↔ (cost ≡ bound)
+  pub stopped : (status ≡ Stopped) ↔ (bound < cost)
+  pub optimal : status ≡ Done → IsOptimal snapshot plan
+  pub is_text : text ≡ run_text options.sizes cost bound
+
+-- the texts of `make --run`
+abbrev pub SolvedCaseDue : RunOptions → Due
+SolvedCaseDue options Done text = IsSolvedCase options Done text
+SolvedCaseDue options Words text = ⊥
+SolvedCaseDue options Stopped text = IsSolvedCase options Stopped text
+SolvedCaseDue options Refused text = ⊥
+SolvedCaseDue options Input text = ⊥
+SolvedCaseDue options Read text = ⊥
+SolvedCaseDue options Write text = ⊥
+SolvedCaseDue options Memory text = ⊥
+
+-- The case is solved within the limits, or memory is wanting; and where the limits are enough for it, no limit is reached.
+pub record IsCaseSolved (options : RunOptions) (status : Status) : Type 0 where
+  pub ended : (status ≡ Done) ⊎ (status ≡ Stopped) ⊎ (status ≡ Memory)
+  pub enough : (s : Snapshot) → IsCaseOf options.sizes s → rounds_enough s ≤ options.rounds → moves_enough s ≤ options.moves
+      → (status ≡ Done) ⊎ (status ≡ Memory)
 
 -- ---- the whole program
 
@@ -209,6 +257,13 @@ pub record CaseIsAsked (words : List (List ℕ)) (left left' : Option (List ℕ)
   pub unread : left' ≡ left
   pub case : IsMadeCase sizes text
 
+-- the words are those of `make --run`, nothing is read, and the lines of a solved case are due
+pub record SolvedCaseIsAsked (words : List (List ℕ)) (left left' : Option (List ℕ)) (status : Status) (text : List ℕ) : Type 0 where
+  pub options : RunOptions
+  pub taken : AreTaken words (Run options)
+  pub unread : left' ≡ left
+  pub solved : IsSolvedCase options status text
+
 -- the words are those of `solve`, and the input is refused
 pub record RefusalIsAsked (words : List (List ℕ)) (left : Option (List ℕ)) (text : List ℕ) : Type 0 where
   pub options : SolveOptions
@@ -217,9 +272,9 @@ pub record RefusalIsAsked (words : List (List ℕ)) (left : Option (List ℕ)) (
 
 -- the texts of a run
 abbrev pub RunDue : List (List ℕ) → (left left' : Option (List ℕ)) → Due
-RunDue words left left' Done text = AnswerIsAsked words left left' Done text ⊎ CaseIsAsked words left left' text
+RunDue words left left' Done text = AnswerIsAsked words left left' Done text ⊎ CaseIsAsked words left left' text ⊎ SolvedCaseIsAsked words left left' Done text
 RunDue words left left' Words text = UsageIsDue words left left' text
-RunDue words left left' Stopped text = AnswerIsAsked words left left' Stopped text
+RunDue words left left' Stopped text = AnswerIsAsked words left left' Stopped text ⊎ SolvedCaseIsAsked words left left' Stopped text
 RunDue words left left' Refused text = ⊥
 RunDue words left left' Input text = RefusalIsAsked words left text
 RunDue words left left' Read text = ⊥
@@ -238,6 +293,11 @@ RefusesByWords words old new status = (options : SolveOptions) → AreTaken word
 abbrev pub MakesByWords : List (List ℕ) → (old new : Streams) → Status → Type 0
 MakesByWords words old new status = (sizes : CaseSizes) → AreTaken words (Make sizes)
     → (Rose old.write_faults new.write_faults → ⊥) → (status ≡ Done) ⊎ (status ≡ Memory)
+
+-- words of `make --run` solve a case, unless the sink fails or memory is wanting
+abbrev pub RunsByWords : List (List ℕ) → (old new : Streams) → Status → Type 0
+RunsByWords words old new status = (options : RunOptions) → AreTaken words (Run options)
+    → (Rose old.write_faults new.write_faults → ⊥) → IsCaseSolved options status
 
 -- other words are refused, unless the sink fails or memory is wanting
 abbrev pub RefusesWords : List (List ℕ) → (old new : Streams) → Status → Type 0

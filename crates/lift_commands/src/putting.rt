@@ -11,6 +11,13 @@ use std::alloc::{AllocError, Global};
 /// What is written where the input is longer than any that is read.
 pub(crate) const TOO_LONG: &[u8] = b"refused long\n";
 
+/// The answer of a search, and the status with which it is written.
+#[derive(Drop)]
+pub(crate) struct Answer {
+    pub(crate) status: Status,
+    pub(crate) text: Vec<u8>,
+}
+
 /// Writes the text and answers the status, or `Write` where the sink fails.
 pub(crate) fn put<K: Sink>(sink: &mut K, text: &[u8], status: Status) -> Status
     ensures { Puts text.now status result (K.taken sink.old) (K.taken sink.new) (K.faults sink.old)

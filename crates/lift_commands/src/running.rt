@@ -1,9 +1,9 @@
 //! The top call of the program.
 
 ghost use Rattle.std.specs.Prelude.{map, string_bytes};
-ghost use Rattle.lift_commands.specs.Outcome.{Ends, RunDue, SolvesByWords, RefusesByWords, MakesByWords, RefusesWords, streams};
+ghost use Rattle.lift_commands.specs.Outcome.{Ends, RunDue, SolvesByWords, RefusesByWords, MakesByWords, RunsByWords, RefusesWords, streams};
 
-use crate::making::write_made_case;
+use crate::making::{write_made_case, write_solved_case};
 use crate::putting::put;
 use crate::solving::solve;
 use crate::status::Status;
@@ -22,7 +22,8 @@ const USAGE: &[u8] = b"usage: lift solve/check/day/report/make [options]\n";
 /// `solve --brief` reads a case, to its end, and writes a plan with its cost and a bound that no feasible plan's cost is
 /// below, equal to the cost unless a limit was reached; or what is wrong with the input: its first bad line with its code, or
 /// that it is too long.
-/// `make` writes a generated case and reads nothing. Other words are refused with the usage line.
+/// `make` writes a generated case, and `make --run` the cost and the bound of such a case; they read nothing. Other words are
+/// refused with the usage line.
 pub fn run<S: Source, K: Sink, G: Gate + Sync>(
     rt: &(impl Threads + Sync),
     alloc: Global,
@@ -55,6 +56,12 @@ pub fn run<S: Source, K: Sink, G: Gate + Sync>(
         (streams (S.left source.new) (K.taken sink.new) (S.faults source.new)
         (K.faults sink.new)) result }
 
+    // `make --run`: a case is solved, unless the sink fails or memory is wanting.
+    ensures runs { RunsByWords (map string_bytes words.now)
+        (streams (S.left source.old) (K.taken sink.old) (S.faults source.old) (K.faults sink.old))
+        (streams (S.left source.new) (K.taken sink.new) (S.faults source.new)
+        (K.faults sink.new)) result }
+
     // Other words get the usage line, unless the sink fails or memory is wanting.
     ensures refuses_words { RefusesWords (map string_bytes words.now)
         (streams (S.left source.old) (K.taken sink.old) (S.faults source.old) (K.faults sink.old))
@@ -64,6 +71,7 @@ pub fn run<S: Source, K: Sink, G: Gate + Sync>(
     match read_words(alloc, words) {
         Ok(Request::Solve(options)) => solve(rt, alloc, options, source, sink, gate),
         Ok(Request::Make(sizes)) => write_made_case(alloc, sizes, sink),
+        Ok(Request::Run(options)) => write_solved_case(rt, alloc, options, sink, gate),
         Err(WordsFault::NotTaken) => put(sink, USAGE, Status::Words),
         Err(WordsFault::NoMemory) => Status::Memory,
     }

@@ -7,10 +7,10 @@ ghost use Rattle.lift_text.specs.Reading.{whole_text, reading};
 ghost use Rattle.case_text.specs.CaseTexts.{IsCaseText, IsLoneCaseFault, Tells};
 ghost use Rattle.search_model.specs.Verdicts.{moves_enough, rounds_enough};
 ghost use Rattle.lift_words.specs.Taken.{AreSolveOptions};
-ghost use Rattle.lift_commands.specs.Outcome.{AnswersCases, Ends, IsCarOf, IsSolution, Refuses, SolveDue, Solves, closing_line, status_of as status_of_lem, streams};
+ghost use Rattle.lift_commands.specs.Outcome.{AnswersCases, Ends, IsCarOf, IsSolution, Refuses, SolveDue, Solves, closing_line, streams};
 
-use crate::putting::{TOO_LONG, put, refusal_line};
-use crate::status::Status;
+use crate::putting::{Answer, TOO_LONG, put, refusal_line};
+use crate::status::{Status, status_of};
 use answer_text::{Stated, write_answer};
 use byte_streams::{Gate, Sink, Source};
 use call_state::Snapshot;
@@ -42,23 +42,6 @@ fn read_input<S: Source>(alloc: Global, source: &mut S) -> Result<Snapshot, Text
     let read = read_lone_case(alloc, &mut lines);
     lines.into_source();
     read
-}
-
-/// An answer of `solve`, and the status with which it is written.
-#[derive(Drop)]
-struct Answer {
-    status: Status,
-    text: Vec<u8>,
-}
-
-/// The status with which an answer is written.
-fn status_of(why: StopReason) -> Status
-    ensures { result ≡ status_of_lem why }
-{
-    match why {
-        StopReason::Solved => Status::Done,
-        StopReason::Rounds { .. } | StopReason::Moves { .. } => Status::Stopped,
-    }
 }
 
 /// Appends the comment line that says why a search ended.

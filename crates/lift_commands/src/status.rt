@@ -1,5 +1,10 @@
 //! How a run ends.
 
+ghost use Rattle.std.specs.Prelude.{◌≡◌};
+ghost use Rattle.lift_commands.specs.Outcome.{status_of as status_of_lem};
+
+use search_model::StopReason;
+
 /// How a run ended. The numbers are the program's exit statuses.
 #[derive(Clone, Copy, PartialEq, Eq, Debug)]
 pub enum Status {
@@ -19,4 +24,14 @@ pub enum Status {
     Write = 7,
     /// Memory was wanting.
     Memory = 8,
+}
+
+/// The status with which the answer of a search is written.
+pub(crate) fn status_of(why: StopReason) -> Status
+    ensures { result ≡ status_of_lem why }
+{
+    match why {
+        StopReason::Solved => Status::Done,
+        StopReason::Rounds { .. } | StopReason::Moves { .. } => Status::Stopped,
+    }
 }

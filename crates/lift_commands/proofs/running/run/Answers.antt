@@ -1,10 +1,11 @@
 use Rattle.std.proofs.Common.{map, string_bytes, subst, refl, sym, ◌≡◌, ◌∙◌}
 use Rattle.lift_words.specs.Taken.{AreTaken}
+use Rattle.lift_words.specs.declared.request.RunOptions.{RunOptions}
 use Rattle.lift_words.specs.declared.request.SolveOptions.{SolveOptions}
-use Rattle.lift_words.specs.declared.request.Request.TheVariants.{Solve, Make}
+use Rattle.lift_words.specs.declared.request.Request.TheVariants.{Solve, Make, Run}
 use Rattle.lift_commands.specs.declared.status.Status.TheVariants.{Words}
-use Rattle.lift_commands.specs.Outcome.{IsAnswered, SolveDue, MakeDue, RunDue, UsageIsDue, usage_line, streams}
-use Rattle.lift_commands.proofs.Outcomes.{ends_put, ends_more, solve_due, make_due}
+use Rattle.lift_commands.specs.Outcome.{IsAnswered, IsCaseSolved, SolveDue, MakeDue, SolvedCaseDue, RunDue, UsageIsDue, usage_line, streams}
+use Rattle.lift_commands.proofs.Outcomes.{ends_put, ends_more, solve_due, make_due, solved_case_due}
 use Rattle.lift_commands.proofs.running.run.Goals as goal
 
 pub returns-in-Ok-Solve-clause-ends : goal.returns-in-Ok-Solve-clause-ends
@@ -59,3 +60,23 @@ returns-in-Ok-Solve-clause-solves g c options taken input s given case reads wri
     let same : Solve options ≡ Solve c.in-Ok-Solve.options = c.in-Ok-Solve.ensures.one (Solve options) taken ∙ c.in-Ok-Solve.field-0-is in
     let is : options ≡ c.in-Ok-Solve.options = cc same in
     subst (λ (o : SolveOptions). IsAnswered o s c.solve.result) (sym is) (c.solve.ensures.solves input s given case reads writes)
+
+pub returns-in-Ok-Run-clause-ends : goal.returns-in-Ok-Run-clause-ends
+returns-in-Ok-Run-clause-ends g c =
+    let words = map string_bytes c.args.words.now in
+    let before = g.S.Source.left c.args.source.now in
+    let faults = g.S.Source.faults c.args.source.now in
+    let old = streams before (g.K.Sink.taken c.args.sink.now) faults (g.K.Sink.faults c.args.sink.now) in
+    let new = streams before (g.K.Sink.taken c.write_solved_case.new.sink) faults (g.K.Sink.faults c.write_solved_case.new.sink) in
+    let taken = subst (AreTaken words) c.in-Ok-Run.field-0-is c.in-Ok-Run.ensures.taken in
+    ends_more (SolvedCaseDue c.in-Ok-Run.options) (RunDue words before before) old new c.write_solved_case.result (solved_case_due words before c.in-Ok-Run.options taken) (c.write_solved_case.ensures.ends before faults)
+
+pub returns-in-Ok-Run-clause-runs : goal.returns-in-Ok-Run-clause-runs
+returns-in-Ok-Run-clause-runs g c options taken writes =
+    let same : Run options ≡ Run c.in-Ok-Run.options = c.in-Ok-Run.ensures.one (Run options) taken ∙ c.in-Ok-Run.field-0-is in
+    let is : options ≡ c.in-Ok-Run.options = cc same in
+    subst (λ (o : RunOptions). IsCaseSolved o c.write_solved_case.result) (sym is) (c.write_solved_case.ensures.solves writes)
+
+pub returns-in-Err-NotTaken-clause-runs : goal.returns-in-Err-NotTaken-clause-runs
+returns-in-Err-NotTaken-clause-runs g c = λ options taken writes.
+    absurd (c.in-Err-NotTaken.ensures.refused c.in-Err-NotTaken.field-0-is (Run options) taken)
