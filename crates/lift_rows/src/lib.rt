@@ -10,6 +10,10 @@ mod refusals;
 #[cfg(test)]
 mod runs;
 #[cfg(test)]
+mod solved_cases;
+#[cfg(test)]
 mod words;
 #[cfg(test)]
 mod worked;
+#[cfg(test)]
+mod workers;

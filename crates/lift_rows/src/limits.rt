@@ -1,6 +1,6 @@
 //! A case of two cars whose root proves less than its cheapest plan costs: solved, and stopped at a limit of rounds.
 
-use crate::runs::{joined, written};
+use crate::runs::{joined, number_after, written};
 use lift_commands::Status;
 use std::alloc::Global;
 use std::test::Fail;
@@ -8,7 +8,7 @@ use std::thread::Threads;
 
 /// Two calls up and two calls down, and cars for one and two persons. The cheapest plan costs 61000, and no prices at the
 /// root prove more than 56000: half of each of four tours of cost 28000 covers every call once.
-const TWO_EACH_WAY: &str = "building 1
+pub(crate) const TWO_EACH_WAY: &str = "building 1
 speed 2000
 accel 1000
 weights 1 1
@@ -26,40 +26,6 @@ call 3 2 0 1 0 any
 call 4 2 0 1 0 any
 end
 ";
-
-/// Whether the word stands at this place of the text.
-fn stands_at(text: &[u8], place: usize, word: &[u8]) -> bool {
-    for (k, byte) in word.iter().enumerate() {
-        if text.get(place.saturating_add(k)).copied() != Some(*byte) {
-            return false;
-        }
-    }
-    true
-}
-
-/// The number that the digits from this place to the end of the line write.
-fn number_at(text: &[u8], place: usize) -> Option<u64> {
-    let mut number: u64 = 0;
-    for k in place..text.len() {
-        let byte = text.get(k).copied()?;
-        if byte == b'\n' {
-            return Some(number);
-        }
-        let digit = byte.checked_sub(b'0')?;
-        number = number.checked_mul(10)?.checked_add(u64::from(digit))?;
-    }
-    None
-}
-
-/// The number behind the word, where it stands first.
-fn number_after(text: &[u8], word: &[u8]) -> Option<u64> {
-    for place in 0..text.len() {
-        if stands_at(text, place, word) {
-            return number_at(text, place.saturating_add(word.len()));
-        }
-    }
-    None
-}
 
 /// Whether a run with these words ends with the status, a cost and a bound in these ranges, and this last line.
 fn ends_within(

@@ -2,9 +2,10 @@
 //!
 //! A helper that says whether something is so says no where memory is wanting, so that its test fails.
 
-use byte_streams::{MemorySource, OpenGate, SureSink};
+use byte_streams::{Gate, MemorySource, OpenGate, SureSink};
 use lift_commands::{Status, run};
 use std::alloc::Global;
+use std::marker::Sync;
 use std::thread::Threads;
 
 /// The words of most runs.
@@ -28,7 +29,26 @@ pub(crate) fn joined(alloc: Global, pieces: &[&str]) -> Option<Vec<u8>> {
     Some(all)
 }
 
-/// How a run with these words over the input, which comes in pieces of so many bytes, ends, and what it writes.
+/// How a run with these words over the input, which comes in pieces of so many bytes, ends, and what it writes. Each
+/// pricing passes the gate.
+pub(crate) fn written_past<G: Gate + Sync>(
+    rt: &(impl Threads + Sync),
+    alloc: Global,
+    words: &[&str],
+    input: &[u8],
+    each: usize,
+    gate: &G,
+) -> Option<(Status, Vec<u8>)> {
+    let words = words_of(alloc, words)?;
+    let bytes = Vec::from_slice(alloc, input).ok()?;
+    let mut sink = SureSink::new(alloc, 16384).ok()?;
+    let mut source = MemorySource::new(bytes, each.max(1), Vec::new(alloc));
+    let ended = run(rt, alloc, words.as_slice(), &mut source, &mut sink, gate);
+    let text = Vec::from_slice(alloc, sink.taken()).ok()?;
+    Some((ended, text))
+}
+
+/// The same with an open gate.
 fn written_from(
     rt: &(impl Threads + Sync),
     alloc: Global,
@@ -36,20 +56,7 @@ fn written_from(
     input: &[u8],
     each: usize,
 ) -> Option<(Status, Vec<u8>)> {
-    let words = words_of(alloc, words)?;
-    let bytes = Vec::from_slice(alloc, input).ok()?;
-    let mut sink = SureSink::new(alloc, 16384).ok()?;
-    let mut source = MemorySource::new(bytes, each.max(1), Vec::new(alloc));
-    let ended = run(
-        rt,
-        alloc,
-        words.as_slice(),
-        &mut source,
-        &mut sink,
-        &OpenGate,
-    );
-    let text = Vec::from_slice(alloc, sink.taken()).ok()?;
-    Some((ended, text))
+    written_past(rt, alloc, words, input, each, &OpenGate)
 }
 
 /// How a run with these words over the input ends, and what it writes.
@@ -90,6 +97,40 @@ pub(crate) fn gives(
     text: &[u8],
 ) -> bool {
     gives_either(rt, alloc, words, input, each, status, [text, text])
+}
+
+/// Whether the word stands at this place of the text.
+fn stands_at(text: &[u8], place: usize, word: &[u8]) -> bool {
+    for (k, byte) in word.iter().enumerate() {
+        if text.get(place.saturating_add(k)).copied() != Some(*byte) {
+            return false;
+        }
+    }
+    true
+}
+
+/// The number that the digits from this place to the end of the line write.
+fn number_at(text: &[u8], place: usize) -> Option<u64> {
+    let mut number: u64 = 0;
+    for k in place..text.len() {
+        let byte = text.get(k).copied()?;
+        if byte == b'\n' {
+            return Some(number);
+        }
+        let digit = byte.checked_sub(b'0')?;
+        number = number.checked_mul(10)?.checked_add(u64::from(digit))?;
+    }
+    None
+}
+
+/// The number behind the word, where it stands first.
+pub(crate) fn number_after(text: &[u8], word: &[u8]) -> Option<u64> {
+    for place in 0..text.len() {
+        if stands_at(text, place, word) {
+            return number_at(text, place.saturating_add(word.len()));
+        }
+    }
+    None
 }
 
 /// The line that refuses an input.

@@ -15,7 +15,9 @@ fn other_words_are_refused(rt: HostRuntime) -> Result<(), Fail> {
         ["lift", "solve", "--brief", "--brief"].as_slice(),
         ["lift", "solve", "--rounds", "0"].as_slice(),
         ["lift", "solve"].as_slice(),
-        ["lift", "make", "--run"].as_slice(),
+        ["lift", "make", "--run", "--run"].as_slice(),
+        ["lift", "make", "--run=1"].as_slice(),
+        ["lift", "make", "--rounds", "0"].as_slice(),
         ["lift", "check"].as_slice(),
         ["lift"].as_slice(),
     ] {

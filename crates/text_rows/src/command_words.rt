@@ -1,7 +1,7 @@
 //! Tables of words. A line's words stand between single spaces, so that two spaces have an empty word
 //! between them; the first word is the program's name.
 
-use lift_words::{CaseSizes, Request, SolveOptions, WordsFault, read_words};
+use lift_words::{CaseSizes, Request, RunOptions, SolveOptions, WordsFault, read_words};
 use std::alloc::{AllocError, Global};
 use std::test::Fail;
 
@@ -114,7 +114,41 @@ const MADE: [(&str, u64, u32, u32, u32); 15] = [
     ),
 ];
 
-const REFUSED: [&str; 85] = [
+/// Each line with its number, floors, cars and calls, and its rounds and moves.
+const RUN: [(&str, u64, u32, u32, u32, u64, u64); 6] = [
+    ("lift make --run", 1, 12, 4, 20, 2000, 75000),
+    ("lift make --run --rounds=5", 1, 12, 4, 20, 5, 75000),
+    ("lift make --moves 6 --run", 1, 12, 4, 20, 2000, 6),
+    (
+        "lift make --run --number 1 --floors 6 --cars 2 --calls 4",
+        1,
+        6,
+        2,
+        4,
+        2000,
+        75000,
+    ),
+    (
+        "lift make --calls 33 --moves=17 --cars=6 --run --number 9 --rounds 8 --floors=21",
+        9,
+        21,
+        6,
+        33,
+        8,
+        17,
+    ),
+    (
+        "lift make --rounds 1000000000000000000 --moves=1000000000000000000 --run --calls=0",
+        1,
+        12,
+        4,
+        0,
+        1000000000000000000,
+        1000000000000000000,
+    ),
+];
+
+const REFUSED: [&str; 94] = [
     // No command, or none of the table.
     "",
     "lift",
@@ -132,7 +166,6 @@ const REFUSED: [&str; 85] = [
     // What does not stand yet.
     "lift solve",
     "lift solve --rounds 5",
-    "lift make --run",
     // Outside the range.
     "lift solve --rounds 0 --brief",
     "lift solve --rounds=1000000000000000001 --brief",
@@ -155,6 +188,8 @@ const REFUSED: [&str; 85] = [
     "lift make --rounds 1000000000000000001",
     "lift make --moves=0",
     "lift make --moves 1000000000000000001",
+    "lift make --run --rounds 0",
+    "lift make --run --moves=1000000000000000001",
     // No number word.
     "lift solve --rounds 5x --brief",
     "lift solve --rounds=0x5 --brief",
@@ -177,6 +212,9 @@ const REFUSED: [&str; 85] = [
     "lift solve --brief=1",
     "lift solve --brief=",
     "lift solve --brief true",
+    "lift make --run=1",
+    "lift make --run=",
+    "lift make --run 1",
     // Repeated.
     "lift solve --brief --brief",
     "lift solve --rounds 5 --rounds 5 --brief",
@@ -184,6 +222,8 @@ const REFUSED: [&str; 85] = [
     "lift solve --rounds=5 --rounds=5 --brief",
     "lift solve --rounds --rounds 5 --brief",
     "lift make --number 3 --cars 2 --number=3",
+    "lift make --run --run",
+    "lift make --run --cars 3 --run",
     // `--` alone.
     "lift solve --brief --",
     "lift solve -- --brief",
@@ -198,6 +238,9 @@ const REFUSED: [&str; 85] = [
     "lift solve --floors 3 --brief",
     "lift make --workers 2",
     "lift make --brief",
+    "lift make --ru",
+    "lift make --run --workers 2",
+    "lift solve --brief --run",
     "lift solve --brief case.txt",
     "lift solve --brief ",
     "lift make 5",
@@ -239,6 +282,29 @@ fn make_has_its_sizes(rt: HostRuntime) -> Result<(), Fail> {
         assert_eq!(rt;
             read(rt.alloc(), line)?,
             Ok(Request::Make(sizes)),
+            "at {line}"
+        );
+    }
+    Ok(())
+}
+
+#[test]
+fn make_is_run_with_its_limits(rt: HostRuntime) -> Result<(), Fail> {
+    for (line, number, floors, cars, calls, rounds, moves) in RUN {
+        let sizes = CaseSizes {
+            number,
+            floors,
+            cars,
+            calls,
+        };
+        let options = RunOptions {
+            sizes,
+            rounds,
+            moves,
+        };
+        assert_eq!(rt;
+            read(rt.alloc(), line)?,
+            Ok(Request::Run(options)),
             "at {line}"
         );
     }
