@@ -84,3 +84,7 @@ pub not_both : (asked other : Request) (options : SolveOptions) (sizes : CaseSiz
 not_both asked other options sizes one first second =
     let same : Solve options ≡ Make sizes = sym first ∙ one ∙ second in
     absurd cc
+
+-- nor of `make` with `--run` and without it
+pub not_run_and_make : (options : RunOptions) (sizes : CaseSizes) → Run options ≡ Make sizes → ⊥
+not_run_and_make options sizes same = absurd cc

@@ -5,7 +5,7 @@ use Rattle.lift_words.specs.declared.request.SolveOptions.{SolveOptions}
 use Rattle.lift_words.specs.declared.request.Request.TheVariants.{Solve, Make, Run}
 use Rattle.lift_commands.specs.declared.status.Status.TheVariants.{Words}
 use Rattle.lift_commands.specs.Outcome.{IsAnswered, IsCaseSolved, SolveDue, MakeDue, SolvedCaseDue, RunDue, UsageIsDue, usage_line, streams}
-use Rattle.lift_commands.proofs.Outcomes.{ends_put, ends_more, solve_due, make_due, solved_case_due}
+use Rattle.lift_commands.proofs.Outcomes.{ends_put, ends_more, solve_due, make_due, solved_case_due, not_run_and_make}
 use Rattle.lift_commands.proofs.running.run.Goals as goal
 
 pub returns-in-Ok-Solve-clause-ends : goal.returns-in-Ok-Solve-clause-ends
@@ -80,3 +80,11 @@ returns-in-Ok-Run-clause-runs g c options taken writes =
 pub returns-in-Err-NotTaken-clause-runs : goal.returns-in-Err-NotTaken-clause-runs
 returns-in-Err-NotTaken-clause-runs g c = λ options taken writes.
     absurd (c.in-Err-NotTaken.ensures.refused c.in-Err-NotTaken.field-0-is (Run options) taken)
+
+pub returns-in-Ok-Make-clause-runs : goal.returns-in-Ok-Make-clause-runs
+returns-in-Ok-Make-clause-runs g c = λ options taken writes.
+    absurd (not_run_and_make options c.in-Ok-Make.sizes (c.in-Ok-Make.ensures.one (Run options) taken ∙ c.in-Ok-Make.field-0-is))
+
+pub returns-in-Ok-Run-clause-makes : goal.returns-in-Ok-Run-clause-makes
+returns-in-Ok-Run-clause-makes g c = λ sizes taken writes.
+    absurd (not_run_and_make c.in-Ok-Run.options sizes (sym c.in-Ok-Run.field-0-is ∙ sym (c.in-Ok-Run.ensures.one (Make sizes) taken)))
