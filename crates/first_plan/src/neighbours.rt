@@ -35,14 +35,13 @@ fn nearest(
     let mut keys = Vec::new(alloc);
     for (other, to) in calls.iter().enumerate() {
         if other != call {
-            let apart = distance(from, to).min(0x00ff_ffff);
-            keys.push(apart * 256 + other as u32 % 256)?;
+            keys.push(distance(from, to) as u64 * 256 + other as u64 % 256)?;
         }
     }
     keys.as_mut_slice().sort_unstable();
     let mut nearest = Vec::new(alloc);
     for key in &keys {
-        nearest.push(*key % 256)?;
+        nearest.push((*key % 256) as u32)?;
     }
     Ok(nearest)
 }

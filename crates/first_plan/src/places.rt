@@ -413,9 +413,10 @@ pub(crate) fn best_place(
     wanted: &Call,
     tried: &mut u64,
 ) -> Option<Place> {
+    let cars = snapshot.building().cars().len();
     let mut best = None;
     for (car, draft) in drafts.iter().enumerate() {
-        if snapshot.may_take(car as u32, call) {
+        if car < cars && snapshot.may_take(car as u32, call) {
             let search = search_in(snapshot, queues, draft, car as u32, call, *wanted);
             best = search.best(best, tried);
         }

@@ -16,7 +16,7 @@ fn later_than(calls: &[Call], call: &Call) -> CallSet {
     let mut set = CallSet::empty();
     for (j, other) in calls.iter().enumerate() {
         if other.is_later_in_queue(call) {
-            set = set.with(j as u32 % 128);
+            set = set.with((j % 128) as u32);
         }
     }
     set
@@ -27,7 +27,7 @@ fn earlier_than(calls: &[Call], call: &Call) -> CallSet {
     let mut set = CallSet::empty();
     for (j, other) in calls.iter().enumerate() {
         if call.is_later_in_queue(other) {
-            set = set.with(j as u32 % 128);
+            set = set.with((j % 128) as u32);
         }
     }
     set

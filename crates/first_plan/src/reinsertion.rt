@@ -152,7 +152,7 @@ impl<'a> Moving<'a> {
     fn take_out(&mut self, taken: &Taken) -> Result<(), AllocError> {
         for (car, draft) in self.tried.iter_mut().enumerate() {
             if draft.take_out(self.snapshot, self.queues, taken.set())? {
-                self.changed = self.changed.with(car as u32 % 16);
+                self.changed = self.changed.with((car % 16) as u32);
             }
         }
         Ok(())
