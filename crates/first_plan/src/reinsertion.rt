@@ -3,6 +3,8 @@
 //! Large neighbourhood search: P. Shaw, *Using constraint programming and local search methods to solve vehicle routing
 //! problems*, CP 1998. Nothing here has to be right: what comes of it is judged.
 
+ghost use Rattle.std.specs.Prelude.{◌≤◌};
+
 use crate::drafts::Draft;
 use crate::draws::Draws;
 use crate::neighbours::Neighbours;
@@ -202,6 +204,13 @@ impl<'a> Moving<'a> {
     }
 }
 
+/// How many rounds there are for so many calls.
+fn rounds_for(calls: usize) -> usize
+    ensures { result ≤ MOST_ROUNDS }
+{
+    ROUNDS_PER_CALL.saturating_mul(calls).min(MOST_ROUNDS)
+}
+
 /// The best drafts that come of moving calls, some at a time, as long as there are rounds and work left.
 pub(crate) fn improved(
     alloc: Global,
@@ -214,7 +223,7 @@ pub(crate) fn improved(
     let mut draws = Draws::from_seed(SEED);
     let mut taken = Taken::new(alloc);
     let mut moving = Moving::new(alloc, snapshot, queues, drafts)?;
-    let rounds = ROUNDS_PER_CALL.saturating_mul(order.len());
+    let rounds = rounds_for(order.len());
     for round in 0..rounds {
         if moving.work >= MOST_TRIED {
             break;
