@@ -10,9 +10,10 @@ pub(crate) struct Draws {
 }
 
 impl Draws {
-    /// The factor of Knuth's generator for MMIX, and the summand that goes with it.
+    /// The factor of Knuth's generator for MMIX.
     const FACTOR: u64 = 6_364_136_223_846_793_005;
 
+    /// The summand that goes with it.
     const SUMMAND: u64 = 1_442_695_040_888_963_407;
 
     /// The draws of a seed.

@@ -15,9 +15,13 @@ use call_sets::CarSet;
 use call_state::Snapshot;
 use std::alloc::{AllocError, Global};
 
-/// How many rounds there are for each call, and how many stops may be looked at in all before the search ends.
+/// How many rounds there are for each call.
 const ROUNDS_PER_CALL: usize = 100;
 
+/// How many rounds there are at most.
+const MOST_ROUNDS: usize = 8_000;
+
+/// How many stops may be looked at in all before no further round begins.
 const MOST_TRIED: u64 = 8_000_000;
 
 /// By how many hundredths of the best cost a taken change may exceed it in the first round.
