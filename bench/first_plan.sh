@@ -1,3 +1,20 @@
 #!/bin/sh
-# Compares first plans with the cheapest ones on so many snapshots of each kind (20 where no number is given).
-cd "$(dirname "$0")/../crates/first_plan_bench" && rt run -- "${1:-20}"
+# Compares first plans with cheaper ones. First with the cheapest ones, on so many small snapshots of each kind (20 where no
+# number is given). Then on generated cases with the costs of first_plan_costs.txt, lines of floors, cars, calls, number and
+# the least cost known: for each group the mean and the greatest excess in hundredths of a per cent, and the ms for its plans.
+cd "$(dirname "$0")" || exit 1
+(cd ../crates/first_plan_bench && rt run -- "${1:-20}") || exit 1
+program=../crates/first_plan_bench/out/first_plan_bench
+known=first_plan_costs.txt
+for group in $(awk '{ print $1 "," $2 "," $3 }' $known | uniq); do
+    sizes=$(echo "$group" | tr , ' ')
+    count=$(grep -c "^$sizes " $known)
+    start=$(date +%s%N)
+    costs=$($program $sizes "$count") || exit 1
+    end=$(date +%s%N)
+    echo "$costs" | awk -v group="$sizes" -v ms=$(((end - start) / 1000000)) '
+        NR == FNR { known[$1, $2, $3, $4] = $5; next }
+        { excess = ($5 / known[$1, $2, $3, $4] - 1) * 10000; sum += excess; if (excess > worst || FNR == 1) worst = excess }
+        END { printf "floors cars calls %s plans %d excess_mean %.0f excess_greatest %.0f ms %d\n", group, FNR, sum / FNR, worst, ms }
+    ' $known -
+done

@@ -1,193 +1,183 @@
-//! Draft tours, and where a call is put into them.
+//! Draft tours: they are timed anew after each change.
 
 ghost use Rattle.std.specs.Prelude.{◌<◌};
-ghost use Rattle.elevator_model.specs.Snapshot.{call_count, car_count};
+ghost use Rattle.elevator_model.specs.Snapshot.{car_count};
 
+use crate::places::{Place, Spot};
+use crate::queues::Queues;
 use crate::ride::Ride;
-use crate::visits::Visit;
+use crate::stops::DraftStop;
 use call_sets::CallSet;
 use call_state::{Call, Snapshot};
+use elevator_model::Tour;
+use plain_plan::opening_floors;
 use std::alloc::{AllocError, Global};
+use std::mem;
 
 /// The draft of a car's tour.
 #[derive(Drop)]
 pub(crate) struct Draft {
     pub(crate) start: Ride,
-    pub(crate) visits: Vec<Visit>,
-    /// In cost units, if the draft breaks no rule.
+    pub(crate) stops: Vec<DraftStop>,
+    /// Room for the stops that are timed anew.
+    spare: Vec<DraftStop>,
+    /// The calls that board.
+    pub(crate) calls: CallSet,
+    /// What a ms more of waiting would cost them, in cost units.
+    pub(crate) rate: u64,
+    /// In cost units, and the greatest number where a rule is broken.
     pub(crate) cost: u64,
 }
 
-/// Where a call can be put into the draft of a car: before which visit it boards, and before which it gets
-/// off.
-#[derive(Clone, Copy)]
-pub(crate) struct Place {
-    pub(crate) car: u32,
-    boards_before: usize,
-    leaves_before: usize,
-    /// By how much the cost of the draft rises, in cost units.
-    pub(crate) rise: u64,
-}
-
-/// The draft with those of the visits that are of use.
-pub(crate) fn settled(
-    alloc: Global,
+/// Adds those of the stops that are of use, with their moments, and stops of one floor in a row as one. The car at
+/// its end.
+fn add_timed(
     snapshot: &Snapshot,
-    later: &[CallSet],
+    queues: &Queues,
     start: &Ride,
-    visits: &[Visit],
-) -> Result<Draft, AllocError> {
+    stops: &[DraftStop],
+    timed: &mut Vec<DraftStop>,
+) -> Result<Ride, AllocError> {
     let mut ride = *start;
-    let mut kept = Vec::new(alloc);
-    for visit in visits {
-        if ride.visit(snapshot, later, *visit) {
-            kept.push(*visit)?;
+    for stop in stops {
+        if ride.visit(snapshot, queues, stop) {
+            timed.push(ride.last_stop())?;
+        } else if let Some(last) = timed.last_mut() {
+            *last = ride.last_stop();
         }
     }
-    Ok(Draft {
-        start: *start,
-        visits: kept,
-        cost: ride.cost_at_end().unwrap_or(u64::MAX),
-    })
+    Ok(ride)
 }
 
-/// Whether a car on its way to the destination may stop at this floor after its last one.
-fn is_on_way(last: u32, floor: u32, destination: u32) -> bool {
-    last <= floor && floor < destination || destination < floor && floor <= last
+/// Puts a stop before the one at a place, or at the end.
+fn put_stop(stops: &mut Vec<DraftStop>, place: usize, stop: DraftStop) -> Result<(), AllocError> {
+    let place = place.min(stops.len());
+    stops.insert(place, stop)?;
+    Ok(())
 }
 
-/// What the draft costs with a call that boards before these visits, and before which of them the call gets
-/// off: the car may not turn before that. None where a rule is broken.
-fn tried(
-    snapshot: &Snapshot,
-    later: &[CallSet],
-    ride: &Ride,
-    visits: &[Visit],
-    call: u32,
-    wanted: &Call,
-) -> Option<(u64, usize)> {
-    let mut ride = *ride;
-    ride.visit(snapshot, later, Visit::on(call, wanted));
-    let mut last = wanted.origin;
-    let mut leaves_before = None;
-    for (place, next) in visits.iter().enumerate() {
-        if leaves_before.is_none() && !is_on_way(last, next.floor, wanted.destination) {
-            ride.visit(snapshot, later, Visit::off(wanted));
-            leaves_before = Some(place);
-        }
-        ride.visit(snapshot, later, *next);
-        last = next.floor;
-        if ride.is_broken() {
-            return None;
-        }
+impl Draft {
+    /// The draft with these stops.
+    pub(crate) fn new(
+        alloc: Global,
+        snapshot: &Snapshot,
+        queues: &Queues,
+        car: u32,
+        stops: Vec<DraftStop>,
+    ) -> Result<Self, AllocError>
+        requires { car < car_count snapshot.now }
+    {
+        let mut draft = Self {
+            start: Ride::start(snapshot, car),
+            stops,
+            spare: Vec::new(alloc),
+            calls: CallSet::empty(),
+            rate: 0,
+            cost: 0,
+        };
+        draft.settle(snapshot, queues)?;
+        Ok(draft)
     }
-    if leaves_before.is_none() {
-        ride.visit(snapshot, later, Visit::off(wanted));
-    }
-    let cost = ride.cost_at_end()?;
-    Some((cost, leaves_before.unwrap_or(visits.len())))
-}
 
-/// The place where the cost rises less, and of two like that the first.
-fn cheaper(best: Option<Place>, next: Place) -> Place {
-    match best {
-        Some(best) if best.rise <= next.rise => best,
-        Some(_) | None => next,
+    /// The draft with no calls.
+    pub(crate) fn opening(
+        alloc: Global,
+        snapshot: &Snapshot,
+        queues: &Queues,
+        car: u32,
+    ) -> Result<Self, AllocError>
+        requires { car < car_count snapshot.now }
+    {
+        let floors = opening_floors(alloc, snapshot, car)?;
+        let mut stops = Vec::new(alloc);
+        for floor in &floors {
+            stops.push(DraftStop::new(*floor, CallSet::empty()))?;
+        }
+        Self::new(alloc, snapshot, queues, car, stops)
     }
-}
 
-/// The cheapest place of a call in the draft of a car, if it is cheaper than the best so far.
-fn best_in(
-    snapshot: &Snapshot,
-    later: &[CallSet],
-    draft: &Draft,
-    car: u32,
-    call: u32,
-    best: Option<Place>,
-) -> Option<Place>
-    requires { call < call_count snapshot.now }
-{
-    let wanted = snapshot.calls()[call as usize];
-    let visits = draft.visits.as_slice();
-    let mut best = best;
-    let mut ride = draft.start;
-    for boards_before in 0..visits.len() + 1 {
-        let rest = &visits[boards_before..];
-        if let Some((cost, offset)) = tried(snapshot, later, &ride, rest, call, &wanted) {
-            let place = Place {
-                car,
-                boards_before,
-                leaves_before: boards_before.saturating_add(offset),
-                rise: cost.saturating_sub(draft.cost),
-            };
-            best = Some(cheaper(best, place));
-        }
-        if let Some(visit) = rest.first() {
-            ride.visit(snapshot, later, *visit);
-        }
+    /// Drops the stops that are of no use, and times the others.
+    fn settle(&mut self, snapshot: &Snapshot, queues: &Queues) -> Result<(), AllocError> {
+        self.spare.clear();
+        let stops = self.stops.as_slice();
+        let ride = add_timed(snapshot, queues, &self.start, stops, &mut self.spare)?;
+        mem::swap(&mut self.stops, &mut self.spare);
+        self.calls = ride.boarded();
+        self.rate = ride.rate();
+        self.cost = ride.cost_at_end().unwrap_or(u64::MAX);
+        Ok(())
     }
-    best
-}
 
-/// The cheapest place of a call in all drafts.
-pub(crate) fn best_place(
-    snapshot: &Snapshot,
-    later: &[CallSet],
-    drafts: &[Draft],
-    call: u32,
-) -> Option<Place>
-    requires { call < call_count snapshot.now }
-{
-    let cars = snapshot.building().cars().len();
-    let mut best = None;
-    for (car, draft) in drafts.iter().enumerate() {
-        if car < cars && snapshot.may_take(car as u32, call) {
-            best = best_in(snapshot, later, draft, car as u32, call, best);
+    /// Puts a call at a place.
+    pub(crate) fn put(
+        &mut self,
+        snapshot: &Snapshot,
+        queues: &Queues,
+        place: &Place,
+        call: u32,
+        wanted: &Call,
+    ) -> Result<(), AllocError> {
+        let boards = CallSet::empty().with(call % 128);
+        if let Spot::Before(at) = place.leaves {
+            let stop = DraftStop::new(wanted.destination, CallSet::empty());
+            put_stop(&mut self.stops, at, stop)?;
         }
+        match place.boards {
+            Spot::Before(at) => {
+                put_stop(&mut self.stops, at, DraftStop::new(wanted.origin, boards))?;
+            }
+            Spot::At(at) => {
+                if let Some(stop) = self.stops.get_mut(at) {
+                    stop.boards = stop.boards.union(boards);
+                }
+            }
+        }
+        self.settle(snapshot, queues)
     }
-    best
-}
 
-/// The visits with a call put at a place.
-pub(crate) fn with_call(
-    alloc: Global,
-    visits: &[Visit],
-    place: &Place,
-    call: u32,
-    wanted: &Call,
-) -> Result<Vec<Visit>, AllocError> {
-    let mut longer = Vec::new(alloc);
-    for (k, visit) in visits.iter().enumerate() {
-        if k == place.boards_before {
-            longer.push(Visit::on(call, wanted))?;
+    /// Takes calls out. Whether there was one of them.
+    pub(crate) fn take_out(
+        &mut self,
+        snapshot: &Snapshot,
+        queues: &Queues,
+        calls: CallSet,
+    ) -> Result<bool, AllocError> {
+        if self.calls.intersection(calls).is_empty() {
+            return Ok(false);
         }
-        if k == place.leaves_before {
-            longer.push(Visit::off(wanted))?;
+        for stop in self.stops.iter_mut() {
+            stop.boards = stop.boards.minus(calls);
         }
-        longer.push(*visit)?;
+        self.settle(snapshot, queues)?;
+        Ok(true)
     }
-    if visits.len() <= place.boards_before {
-        longer.push(Visit::on(call, wanted))?;
-    }
-    if visits.len() <= place.leaves_before {
-        longer.push(Visit::off(wanted))?;
-    }
-    Ok(longer)
-}
 
-/// The visits without the boarding of a call. Its floors may still be of use to others.
-pub(crate) fn without_call(
-    alloc: Global,
-    visits: &[Visit],
-    call: u32,
-) -> Result<Vec<Visit>, AllocError> {
-    let mut rest = Vec::new(alloc);
-    for visit in visits {
-        if visit.call == Some(call) {
-            rest.push(Visit::at(visit.floor))?;
-        } else {
-            rest.push(*visit)?;
-        }
+    /// Becomes like another draft of the same car, in the same memory where there is room.
+    pub(crate) fn copy_from(&mut self, other: &Self) -> Result<(), AllocError> {
+        self.stops.clear();
+        self.stops.extend_from_slice(other.stops.as_slice())?;
+        self.calls = other.calls;
+        self.rate = other.rate;
+        self.cost = other.cost;
+        Ok(())
     }
-    Ok(rest)
+
+    /// The draft once more.
+    pub(crate) fn copy(&self, alloc: Global) -> Result<Self, AllocError> {
+        Ok(Self {
+            start: self.start,
+            stops: self.stops.as_slice().to_vec(alloc)?,
+            spare: Vec::new(alloc),
+            calls: self.calls,
+            rate: self.rate,
+            cost: self.cost,
+        })
+    }
+
+    /// What a ms of delay from a stop on would cost those who ride there or board there or later, in cost units.
+    pub(crate) fn delay_rate(&self, stop: &DraftStop, travel_weight: u64) -> u64 {
+        travel_weight
+            .saturating_mul(stop.arriving)
+            .saturating_add(self.rate.saturating_sub(stop.rate_before))
+    }
 }

@@ -4,10 +4,16 @@
 #![tactic(auto)]
 
 mod drafts;
+mod draws;
+mod neighbours;
+mod places;
 mod plans;
 mod proposing;
+mod queues;
+mod reinsertion;
 mod ride;
-mod visits;
+mod stops;
+mod taken;
 
 pub use elevator_model::Plan;
 pub use plans::{first, insert};

@@ -6,10 +6,10 @@
 ghost use Rattle.std.specs.Prelude.{◌<◌};
 ghost use Rattle.elevator_model.specs.Snapshot.{car_count};
 
-use crate::visits::Visit;
+use crate::queues::Queues;
+use crate::stops::DraftStop;
 use call_sets::{CallSet, FloorSet};
-use call_state::{CarSpec, CarState, Snapshot, is_open};
-use std::alloc::{AllocError, Global};
+use call_state::{Call, CarSpec, CarState, Snapshot, is_open};
 
 /// How far a car is in its draft tour. Moments are in ms, costs in cost units.
 #[derive(Clone, Copy)]
@@ -27,7 +27,8 @@ pub(crate) struct Ride {
     /// The moments at which the doors of its last stop are open and at which it leaves.
     opened: u64,
     leaves: u64,
-    /// The persons carried.
+    /// The persons carried when it arrived at its last stop, and now.
+    arriving: u64,
     load: u64,
     /// The floors where someone carried goes.
     bound_for: FloorSet,
@@ -37,13 +38,16 @@ pub(crate) struct Ride {
     /// The calls that boarded at earlier stops, and at this one.
     before: CallSet,
     here: CallSet,
+    /// What a ms more of waiting would have cost the calls that boarded at earlier stops, and all so far.
+    rate_before: u64,
+    rate: u64,
     /// What the riders cost who boarded and got off so far.
     cost: u64,
     is_broken: bool,
 }
 
 /// The time in ms from one floor to another.
-fn travel_time(snapshot: &Snapshot, from: u32, to: u32) -> u64 {
+pub(crate) fn travel_time(snapshot: &Snapshot, from: u32, to: u32) -> u64 {
     let travel = snapshot.building().travel();
     if from >= travel.floors() || to >= travel.floors() {
         return 0;
@@ -59,6 +63,23 @@ fn cost_of_wait(snapshot: &Snapshot, wait: u64) -> u64 {
         .wait_weight()
         .saturating_mul(wait)
         .saturating_add(building.patience_weight().saturating_mul(past))
+}
+
+/// What the wait of a call costs that boards at this moment.
+pub(crate) fn waiting_cost(snapshot: &Snapshot, call: &Call, opened: u64) -> u64 {
+    let wait = opened.saturating_sub(call.released);
+    (call.persons as u64).saturating_mul(cost_of_wait(snapshot, wait))
+}
+
+/// What the next ms of waiting costs a call that has waited until this moment.
+fn waiting_rate(snapshot: &Snapshot, call: &Call, opened: u64) -> u64 {
+    let building = snapshot.building();
+    let wait = opened.saturating_sub(call.released);
+    let mut rate = building.wait_weight();
+    if wait >= building.patience() {
+        rate = rate.saturating_add(building.patience_weight());
+    }
+    (call.persons as u64).saturating_mul(rate)
 }
 
 /// The floors where the car may stop first.
@@ -81,22 +102,6 @@ fn first_floors(snapshot: &Snapshot, car: u32) -> FloorSet
     }
 }
 
-/// For each call the later ones of its queue.
-pub(crate) fn later_calls(alloc: Global, snapshot: &Snapshot) -> Result<Vec<CallSet>, AllocError> {
-    let calls = snapshot.calls();
-    let mut later = Vec::new(alloc);
-    for call in calls {
-        let mut set = CallSet::empty();
-        for (j, other) in calls.iter().enumerate() {
-            if other.is_later_in_queue(call) {
-                set = set.with(j as u32 % 128);
-            }
-        }
-        later.push(set)?;
-    }
-    Ok(later)
-}
-
 impl Ride {
     /// The car at the start of its tour.
     pub(crate) fn start(snapshot: &Snapshot, car: u32) -> Self
@@ -113,12 +118,15 @@ impl Ride {
             floor: state.floor(),
             opened: moment,
             leaves: moment,
+            arriving: 0,
             load: 0,
             bound_for: FloorSet::empty(),
             persons: [0; 64],
             since: [0; 64],
             before: CallSet::empty(),
             here: CallSet::empty(),
+            rate_before: 0,
+            rate: 0,
             cost: 0,
             is_broken: false,
         };
@@ -130,9 +138,44 @@ impl Ride {
         ride
     }
 
-    /// Whether a rule is broken so far.
-    pub(crate) fn is_broken(&self) -> bool {
-        self.is_broken
+    /// The car.
+    pub(crate) fn spec(&self) -> CarSpec {
+        self.spec
+    }
+
+    /// The floor of its last stop, or where it stands, comes to or comes from.
+    pub(crate) fn floor(&self) -> u32 {
+        self.floor
+    }
+
+    /// The moment in ms at which it leaves its last stop, or that of its state.
+    pub(crate) fn leaves(&self) -> u64 {
+        self.leaves
+    }
+
+    /// The persons carried.
+    pub(crate) fn load(&self) -> u64 {
+        self.load
+    }
+
+    /// The calls that boarded so far.
+    pub(crate) fn boarded(&self) -> CallSet {
+        self.before.union(self.here)
+    }
+
+    /// What a ms more of waiting would have cost the calls that boarded so far, in cost units.
+    pub(crate) fn rate(&self) -> u64 {
+        self.rate
+    }
+
+    /// Whether the car may make its first stop at the floor.
+    pub(crate) fn may_begin_at(&self, floor: u32) -> bool {
+        self.first.contains(floor)
+    }
+
+    /// Whether the car has made a stop, and the last one at this floor.
+    fn is_at(&self, floor: u32) -> bool {
+        self.begun && self.floor == floor
     }
 
     /// What the tour costs if it ends here. None where it breaks a rule.
@@ -143,20 +186,33 @@ impl Ride {
         Some(self.cost)
     }
 
-    /// The car visits a floor, if that is of use. Whether it is.
-    pub(crate) fn visit(&mut self, snapshot: &Snapshot, later: &[CallSet], visit: Visit) -> bool {
-        if !self.begun || visit.floor != self.floor {
-            if visit.call.is_none() && !self.has_use_at(visit.floor) {
+    /// The car makes a stop, if that is of use. Whether it arrives there from elsewhere.
+    pub(crate) fn visit(&mut self, snapshot: &Snapshot, queues: &Queues, stop: &DraftStop) -> bool {
+        let arrives = !self.is_at(stop.floor);
+        if arrives {
+            if stop.boards.is_empty() && !self.has_use_at(stop.floor) {
                 return false;
             }
-            self.arrive(snapshot, visit.floor);
-        } else if visit.call.is_none() {
-            return false;
+            self.arrive(snapshot, stop.floor);
         }
-        if let Some(call) = visit.call {
-            self.board(snapshot, later, call);
+        for call in stop.boards.iter() {
+            self.board(snapshot, queues, call);
         }
-        true
+        arrives
+    }
+
+    /// The last stop as far as it was made.
+    pub(crate) fn last_stop(&self) -> DraftStop {
+        DraftStop {
+            floor: self.floor,
+            boards: self.here,
+            opened: self.opened,
+            leaves: self.leaves,
+            arriving: self.arriving,
+            load: self.load,
+            before: self.before,
+            rate_before: self.rate_before,
+        }
     }
 
     /// Whether a stop at the floor is of use though nobody boards.
@@ -197,6 +253,8 @@ impl Ride {
         self.floor = floor;
         self.before = self.before.union(self.here);
         self.here = CallSet::empty();
+        self.rate_before = self.rate;
+        self.arriving = self.load;
         self.let_off(snapshot.building().travel_weight());
     }
 
@@ -220,23 +278,21 @@ impl Ride {
     }
 
     /// A call boards where the car is.
-    fn board(&mut self, snapshot: &Snapshot, later: &[CallSet], call: u32) {
+    fn board(&mut self, snapshot: &Snapshot, queues: &Queues, call: u32) {
         let Some(wanted) = snapshot.calls().get(call as usize).copied() else {
             self.is_broken = true;
             return;
         };
-        let later = later
-            .get(call as usize)
-            .copied()
-            .unwrap_or(CallSet::empty());
+        let later = queues.later(call);
         let persons = wanted.persons as u64;
         let load = self.load.saturating_add(persons);
         if !self.before.intersection(later).is_empty() || load > self.spec.capacity as u64 {
             self.is_broken = true;
         }
-        let wait = self.opened.saturating_sub(wanted.released);
-        let cost = persons.saturating_mul(cost_of_wait(snapshot, wait));
+        let cost = waiting_cost(snapshot, &wanted, self.opened);
         self.cost = self.cost.saturating_add(cost);
+        let rate = waiting_rate(snapshot, &wanted, self.opened);
+        self.rate = self.rate.saturating_add(rate);
         self.leaves = self
             .leaves
             .saturating_add(self.spec.boarding.saturating_mul(persons));

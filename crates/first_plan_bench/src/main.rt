@@ -1,5 +1,6 @@
 //! `first_plan_bench N` compares first plans with the cheapest ones: N small snapshots of each kind are
 //! drawn, and a line for each kind says how much more than the cheapest plans the first ones cost.
+//! `first_plan_bench FLOORS CARS CALLS N` prints what the first plans of N generated cases cost.
 #![tactic(auto)]
 
 ghost use Rattle.std.specs.Prelude.{◌≡◌, ◌≤◌, ◌+◌, IfOk, IfSome};
@@ -7,11 +8,13 @@ ghost use Rattle.std.specs.Prelude.{◌≡◌, ◌≤◌, ◌+◌, IfOk, IfSome}
 mod buildings;
 mod cases;
 mod draws;
+mod generated;
 mod kinds;
 mod scores;
 
 use cases::accepted_snapshot;
 use draws::Draws;
+use generated::{cases_in, print_costs};
 use kinds::{KINDS, Kind};
 use scores::{Costs, Score, costs_of};
 use std::alloc::{AllocError, Global};
@@ -34,15 +37,12 @@ fn count_in(words: &[String]) -> Option<u32>
     }
 }
 
-/// The number on the command line. Words that are not text are no number.
-fn count_wanted(rt: &HostRuntime) -> io::Result<Option<u32>> {
+/// The words of the command line, and none where they are not text.
+fn words_given(rt: &HostRuntime) -> io::Result<Vec<String>> {
     match env::args(rt) {
-        Ok(args) => {
-            let words = args.collect::<Vec<String>>(rt.alloc())?;
-            Ok(count_in(&words))
-        }
+        Ok(args) => Ok(args.collect::<Vec<String>>(rt.alloc())?),
         Err(error) if error.kind() == io::ErrorKind::OutOfMemory => Err(error),
-        Err(_) => Ok(None),
+        Err(_) => Ok(Vec::new(rt.alloc())),
     }
 }
 
@@ -84,15 +84,25 @@ fn print_score(rt: &HostRuntime, kind: Kind, score: &Score) -> io::Result<()> {
     Ok(())
 }
 
-/// Runs the comparison. The status is 2 where the words are other ones than a number up to 1000.
-fn run(rt: &HostRuntime) -> io::Result<ExitCode> {
-    let Some(count) = count_wanted(rt)? else {
-        println!(rt; "usage: first_plan_bench N, with N from 0 to 1000")?;
-        return Ok(ExitCode::from(2));
-    };
+/// Compares the plans of so many snapshots of each kind, and prints the lines.
+fn print_kinds(rt: &HostRuntime, count: u32) -> io::Result<()> {
     for kind in KINDS {
         let score = score_of(rt.alloc(), kind, count)?;
         print_score(rt, kind, &score)?;
+    }
+    Ok(())
+}
+
+/// Does what the words ask for. The status is 2 where they ask for nothing.
+fn run(rt: &HostRuntime) -> io::Result<ExitCode> {
+    let words = words_given(rt)?;
+    if let Some(count) = count_in(&words) {
+        print_kinds(rt, count)?;
+    } else if let Some(cases) = cases_in(&words) {
+        print_costs(rt, cases)?;
+    } else {
+        println!(rt; "usage: first_plan_bench N, or FLOORS CARS CALLS N, with N from 0 to 1000")?;
+        return Ok(ExitCode::from(2));
     }
     Ok(ExitCode::SUCCESS)
 }
