@@ -23,7 +23,7 @@ struct Course {
     /// The greatest sum so far, and the one that is to be reached, in thousandths of a cost unit.
     sum: i128,
     target: i128,
-    /// For each call, in 2^20ths: the average of what it lacked, of which the newest turn makes a third.
+    /// For each call, in 2^20ths: the average of what it lacked, of which the newest turn makes a fifth.
     direction: [i64; MOST_CALLS],
     /// The share of the gap that a turn is to close, in 2^20ths.
     rate: i64,
@@ -55,7 +55,7 @@ impl Course {
     /// Notes a turn, and says whether its sum is the greatest so far.
     fn note(&mut self, turn: &Turn) -> bool {
         for (part, lack) in self.direction.iter_mut().zip(&turn.lacks.per_call) {
-            *part = part.saturating_add(lack.saturating_sub(*part) / 3);
+            *part = part.saturating_add(lack.saturating_sub(*part) / 5);
         }
         let has_gained = self.sum < turn.sum;
         if has_gained {

@@ -71,7 +71,7 @@ pub(crate) fn turn_at(pool: &Pool, node: &Node, prices: &[Price]) -> Turn
 {
     let mut turn = Turn {
         sum: sum_prices(prices),
-        lacks: Lacks::new(),
+        lacks: Lacks::new(prices.len()),
     };
     let cars = pool.snapshot().building().cars().len();
     for car in 0..cars {

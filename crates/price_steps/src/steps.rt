@@ -84,7 +84,7 @@ impl Steps {
 
     /// Takes in which car took which call.
     fn note_tours(&mut self, cars: &[TurnOf]) {
-        let mut lacks = Lacks::new();
+        let mut lacks = Lacks::new(self.violation.len());
         for (car, turn) in cars.iter().enumerate() {
             let calls = calls_in(&turn.tour);
             lacks.note(calls);
