@@ -67,3 +67,20 @@ fn a_large_case_stops_at_few_rounds(rt: HostRuntime) -> Result<(), Fail> {
     assert!(rt; first == second);
     Ok(())
 }
+
+// How the prices move enters no theorem: a step that is too short solves this case too, in some thousand rounds.
+#[test]
+fn a_case_of_eight_cars_takes_few_rounds(rt: HostRuntime) -> Result<(), Fail> {
+    let alloc = rt.alloc();
+    let words = [
+        "lift", "make", "--run", "--number", "3", "--floors", "20", "--cars", "8", "--calls", "12",
+        "--rounds", "150",
+    ];
+    let case = "number 3\nfloors 20\ncars 8\ncalls 12\n";
+    let (status, cost, bound) = solved(&rt, alloc, &words, case).ok_or("other lines")?;
+    assert_eq!(rt; status, Status::Done);
+    // What a search of another program finds, too.
+    assert_eq!(rt; cost, 1119000);
+    assert_eq!(rt; bound, 1119000);
+    Ok(())
+}
