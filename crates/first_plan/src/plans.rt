@@ -51,8 +51,9 @@ fn feasible_plan(alloc: Global, snapshot: &Snapshot) -> Result<Plan, AllocError>
 
 /// A feasible plan of the snapshot: every accepted snapshot has one. The error is want of memory alone.
 ///
-/// It is made by putting the calls one after another where the cost rises least, and then moving each once
-/// or twice where that lowers the cost. Where that fails, each car serves its calls one after another.
+/// It is made by putting the calls one after another where the cost rises least, and then taking calls out and
+/// putting them back, some at a time, for 100 rounds a call and 8,000 at most. Where that fails, each car serves its
+/// calls one after another.
 pub fn first(alloc: Global, snapshot: &Snapshot) -> Result<Plan, AllocError>
     ensures feasible { IfOk result (λ plan. IsFeasiblePlan snapshot.now plan) }
     ensures exists { (plan : List (List Stop)) × IsFeasiblePlan snapshot.now plan }
