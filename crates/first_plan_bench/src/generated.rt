@@ -1,6 +1,6 @@
 //! What first plans of generated cases cost.
 
-ghost use Rattle.std.specs.Prelude.{◌≤◌, ◌×◌, IfSome};
+ghost use Rattle.std.specs.Prelude.{◌≤◌, IfSome};
 
 use case_maker::make;
 use first_plan::first;
