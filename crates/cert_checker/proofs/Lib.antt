@@ -1,3 +1,4 @@
 pub mod Walking
 pub mod Trees
 pub mod Verdicts
+pub mod Entries

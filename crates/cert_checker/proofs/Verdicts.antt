@@ -43,6 +43,7 @@ use Rattle.tour_extension.proofs.NodeDemands.{node_holds}
 use Rattle.pricing_bound.specs.LowerLemmas.{bound_is_lower}
 use Rattle.kept_tours.proofs.EndLemmas.{ended_within, ended_value}
 use Rattle.kept_tours.proofs.KeptLaws.{kept_holds}
+use Rattle.cert_checker.specs.Laws.{HasEnough, SufficientLaw, IsProved, YesLaw}
 
 -- ---- parts of a reason
 
@@ -353,3 +354,32 @@ verdict_holds s plan cost bound tree ok cars whole = record {
         let all = first_parts (reason_of_plan (first_bad s plan)) (first_of (reason_of_cost s plan cost) (reason_of_tree s bound 1 (placed_twigs s tree))) (is_yes _ e) in
         let rest = first_parts (reason_of_cost s plan cost) (reason_of_tree s bound 1 (placed_twigs s tree)) all.1 in
         (all.0, rest.0, rest.1)
+
+-- ---- sufficient claims
+
+enough_fits : (s : Snapshot) (places : List Place) (twigs : List Twig) → All (HasEnough s) twigs → All (Fits s) (placed_from places twigs)
+enough_fits s [] [] enough = All-nil (Fits s)
+enough_fits s (place ∷ places) [] enough = All-nil (Fits s)
+enough_fits s [] (twig ∷ twigs) enough = All-nil (Fits s)
+enough_fits s (place ∷ places) (Split j part ∷ twigs) enough =
+    let twig = Split j part in
+    All-cons (Fits s) (record { place = place; twig = twig }) (placed_from (places_after place twig places) twigs) tt (enough_fits s (places_after place twig places) twigs (All-tail (HasEnough s) twig twigs enough))
+enough_fits s (place ∷ places) (Tip leaf ∷ twigs) enough =
+    let twig = Tip leaf in
+    let here = All-head (HasEnough s) twig twigs enough in
+    All-cons (Fits s) (record { place = place; twig = twig }) (placed_from places twigs) (λ c lt. few c lt (here c lt)) (enough_fits s places twigs (All-tail (HasEnough s) twig twigs enough))
+  where
+    few : (c : ℕ) → c < car_count s → moves_enough s ≤ claim_in leaf c → length (kept_at s place.node leaf c) ≤ claim_in leaf c
+    few c lt claim =
+        let short = tested_lists-few s c (allows place.node c) (is_kept s c (price_in leaf) (allows place.node c) (requires_of place.node c) (worth_in leaf c)) lt in
+        omega (arith, short, claim)
+
+pub sufficient_holds : SufficientLaw
+sufficient_holds s plan cost bound tree ok cars whole enough =
+    let means = verdict_holds s plan cost bound tree ok cars whole in
+    (means.proof, λ proves. means.yes proves (enough_fits s (root_place s ∷ []) tree enough))
+
+pub yes_holds : YesLaw
+yes_holds s plan cost bound tree ok cars whole e =
+    let proves = (verdict_holds s plan cost bound tree ok cars whole).proof e in
+    record { feasible = proves.feasible; costs = proves.costs; least = proves-bound s plan cost bound tree (all_cars s ok) proves }

@@ -9,6 +9,7 @@ mod checker;
 mod desks;
 mod entries;
 mod judging;
+mod laws;
 mod leaves;
 mod plans;
 mod scan;
@@ -18,4 +19,5 @@ mod visits;
 mod walk;
 
 pub use checker::{Checker, check};
+pub use laws::verdict_laws;
 pub use search_model::{Leaf, Reason, Stated, Twig, Verdict};
