@@ -1,4 +1,6 @@
-pub mod Walking
-pub mod Trees
-pub mod Verdicts
-pub mod Entries
+pub mod EntryLemmas
+pub mod WalkLemmas
+pub mod CarLemmas
+pub mod TreeLemmas
+pub mod PieceLemmas
+pub mod VerdictLaws

@@ -88,12 +88,16 @@ pub record IsTask (s : Snapshot) (task : Task) : Type 0 where
   pub node : IsNodeOf s task.node
   pub sizes : All HasWorthSize task.leaf.now.worths
 
+-- where the node and the places are nodes of a snapshot's search, the new places are
+abbrev pub KeepsNodes : Node → (places left : List Node) → Type 0
+KeepsNodes node places left = (s : Snapshot) → IsAccepted s → IsNodeOf s node → All (IsNodeOf s) places → All (IsNodeOf s) left
+
 -- One twig more was put at its node, which has the number k.
 pub record PlacesTwig (k : ℕ) (node : Node) (twig : Twig) (places : List Node) (old : Piece) (left : List Node) (new : Piece) : Type 0 where
   pub reason : (s : Snapshot) (bound : ℕ) → reason_of_piece s bound new ≡ first_of (reason_of_piece s bound old) (reason_of_node s bound k node twig)
   pub left_are : new.bad ≡ None → left ≡ nodes_after node twig places
   pub tasks : (s : Snapshot) → IsNodeOf s node → HasWorthSizes twig → All (IsTask s) old.tasks.items → All (IsTask s) new.tasks.items
-  pub nodes : (s : Snapshot) → IsAccepted s → IsNodeOf s node → All (IsNodeOf s) places → All (IsNodeOf s) left
+  pub nodes : KeepsNodes node places left
   pub few : length new.tasks.items ≤ length old.tasks.items + 1
 
 -- The piece of these twigs at these nodes, after so many twigs, and the nodes that are left.

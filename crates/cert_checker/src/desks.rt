@@ -7,7 +7,7 @@ ghost use Rattle.search_model.specs.Certificates.{has_whole_lists};
 ghost use Rattle.search_model.specs.Nodes.{IsNodeOf};
 ghost use Rattle.search_model.specs.Verdicts.{reason_of_car};
 ghost use Rattle.cert_checker.specs.Leaves.{Holds, IsDesk};
-ghost use Rattle.cert_checker.specs.Judging.{IsReasonOfVisits};
+ghost use Rattle.cert_checker.specs.Judging.{reason_of_visits as reason_of_visits_lem};
 
 use crate::entries::{Stake, write_prices, write_stakes};
 use crate::scan::scan;
@@ -100,7 +100,8 @@ fn reason_of_visits(
     visits: Visits,
     prefix: &Prefix,
 ) -> Result<Option<Reason>, AllocError>
-    ensures { IfOk result (IsReasonOfVisits number car stake visits prefix.now.moves) }
+    ensures { IfOk result (λ reason.
+        reason ≡ reason_of_visits_lem number car stake visits prefix.now.moves) }
 {
     Ok(match visits {
         Visits::Going(_) => None,

@@ -1,10 +1,12 @@
 //! The leaves of a piece of a tree, with their nodes.
 
-ghost use Rattle.std.specs.Prelude.{◌≡◌, [], IfOk, OnOk, None};
+ghost use Rattle.std.specs.Prelude.{◌≡◌, [], List, IfOk, OnOk, None};
+ghost use Rattle.search_model.specs.declared.Twig.TheVariants.{Split, Leaf as Tip};
+ghost use Rattle.search_model.specs.Nodes.{Node as NodeValue};
 ghost use Rattle.cert_checker.specs.Judging.{IsPiece, PlacesTwig};
 
 use crate::tree::Places;
-use assign_branch::Node;
+use assign_branch::{CarSet, Node};
 use search_model::{Leaf, Twig};
 use std::alloc::{AllocError, Global};
 
@@ -37,6 +39,36 @@ impl<'t> Piece<'t> {
         }
     }
 
+    /// Puts a leaf at its node, which has this number. It fails only where there is no memory left.
+    fn add(&mut self, number: u32, node: Node, leaf: &'t Leaf) -> Result<(), AllocError>
+        requires { self.old.bad ≡ None }
+        ensures { OnOk result ((places : List NodeValue)
+            → PlacesTwig number node (Tip leaf.now) places self.old places self.new) }
+    {
+        self.tasks.push(Task { number, node, leaf })?;
+        Ok(())
+    }
+
+    /// Puts a split at its node, which has this number. It fails only where there is no memory left.
+    fn split(
+        &mut self,
+        alloc: Global,
+        places: &mut Places,
+        number: u32,
+        node: &Node,
+        call: u32,
+        part: CarSet,
+    ) -> Result<(), AllocError>
+        requires { self.old.bad ≡ None }
+        ensures { OnOk result
+            (PlacesTwig number node.now (Split call part) places.old self.old places.new self.new) }
+    {
+        if !places.split(alloc, node, call, part)? {
+            self.bad = Some(number);
+        }
+        Ok(())
+    }
+
     /// Puts one twig more at its node, which was the next place and has this number.
     ///
     /// It fails only where there is no memory left.
@@ -49,17 +81,13 @@ impl<'t> Piece<'t> {
         twig: &'t Twig,
     ) -> Result<(), AllocError>
         requires { self.old.bad ≡ None }
-        ensures { OnOk result (PlacesTwig number node twig.now places.old self.old places.new self.new) }
+        ensures { OnOk result
+            (PlacesTwig number node twig.now places.old self.old places.new self.new) }
     {
         match twig {
-            Twig::Leaf(leaf) => self.tasks.push(Task { number, node, leaf })?,
-            Twig::Split { call, part } => {
-                if !places.split(alloc, &node, *call, *part)? {
-                    self.bad = Some(number);
-                }
-            }
+            Twig::Leaf(leaf) => self.add(number, node, leaf),
+            Twig::Split { call, part } => self.split(alloc, places, number, &node, *call, *part),
         }
-        Ok(())
     }
 
     /// The twigs at the places that they fill, up to the first bad split or to where no place is left. So many twigs

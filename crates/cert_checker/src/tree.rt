@@ -1,6 +1,7 @@
 //! The places of a tree that are still to be filled.
 
-ghost use Rattle.std.specs.Prelude.{◌≡◌, [], ◌∷◌, true, IfOk, MatchOption};
+ghost use Rattle.std.specs.Prelude.{◌≡◌, [], ◌∷◌, true, false, IfOk, OnOk, MatchOption};
+ghost use Rattle.cert_checker.specs.Judging.{KeepsNodes};
 ghost use Rattle.search_model.specs.Nodes.{first_of_split, is_part, second_of_split, set_of};
 
 use assign_branch::{CarSet, Node, split};
@@ -68,6 +69,8 @@ impl Places {
         ensures tested { IfOk result (λ done. done ≡ is_part (set_of node.now call) part) }
         ensures split { IfOk result (λ done. done ≡ true → self.new
             ≡ first_of_split node.now call part ∷ second_of_split node.now call part ∷ self.old) }
+        ensures refused { IfOk result (λ done. done ≡ false → self.new ≡ self.old) }
+        ensures nodes { OnOk result (KeepsNodes node.now self.old self.new) }
     {
         let mut first = node.copy(alloc)?;
         let mut second = node.copy(alloc)?;

@@ -1,10 +1,12 @@
 -- Lists with one entry for each number below a count, and what they state of each.
-use Rattle.std.proofs.Common.{◌≡◌, ℕ, zero, suc, ◌+◌, ◌<◌, ◌≤◌, ◌==◌, Bool, true, false, not, ◌&&◌, ◌||◌, cond, eqb, List, [], ◌∷◌, ◌++◌, length, map, take, get_or, refl, sym, ap, ◌∙◌, subst, inl, inr, arith}
+use Rattle.std.proofs.Common.{◌≡◌, ℕ, zero, suc, ◌+◌, ◌<◌, ◌≤◌, ◌==◌, Bool, true, false, not, ◌&&◌, ◌||◌, cond, eqb, List, [], ◌∷◌, ◌++◌, length, map, take, set, get_or, get_or-set_same, get_or-set_other, refl, sym, ap, ◌∙◌, subst, inl, inr, arith, neg_ℤ, negsuc, ◌^◌, ◌*◌, ◌≤ℤ◌, to_z, of_z, SFits}
 use Rattle.std.specs.Prelude.{ℤ, pos, ◌+ℤ◌, nat_lt, count_by, sum_by}
 use Rattle.std.specs.List.{list_all}
-use Rattle.std.proofs.lemmas.Int.{ints}
-use Rattle.std.proofs.lemmas.Bool.{and_parts, and_from, both_ways, cases_Bool, cases_lt, eqb-true, eq-eqb, ne_eqb, cond-true, cond-false, lt-ltb, ltb-true, not_from_false, not-true}
-use Rattle.std.proofs.lemmas.List.{get_or_past, take_more}
+use Rattle.std.proofs.lemmas.Int.{ints, to_z-of_z}
+use Rattle.std.proofs.lemmas.Bool.{and_parts, and_from, cases_Bool, cases_eq, cases_lt, eqb-true, eq-eqb, ne_eqb, cond-true, cond-false, lt-ltb, ltb-true, not_from_false, not-true}
+use Rattle.std.proofs.lemmas.List.{take_more, take_all, get_or_default}
+use Rattle.std.specs.Int.{w128}
+use lib.Signed.{mag}
 use Rattle.std.proofs.lemmas.List.Sums.{sum_by-cons}
 use Rattle.call_sets.specs.Counting.{any_below, sum_below, sum_where, is_among, has}
 use Rattle.call_sets.proofs.BelowTests.{any_below-false, any_below-none}
@@ -83,25 +85,15 @@ once-length n keys h =
 
 among_times : (k : ℕ) (keys : List ℕ) → is_among k keys ≡ true → 1 ≤ times k keys
 among_times k [] h = absurd cc
-among_times k (x ∷ keys) h = by_key (x == k) refl
-  where
-    step : times k (x ∷ keys) ≡ cond (x == k) 1 0 + times k keys
-    step = times-cons k x keys
-
-    by_key : (b : Bool) → (x == k) ≡ b → 1 ≤ times k (x ∷ keys)
-    by_key true e = let one = ap {B = ℕ} (λ (b : Bool). cond b 1 0) e in omega (arith, step, one)
-    by_key false e = let later = among_times k keys (ap (λ (b : Bool). b || is_among k keys) (sym e) ∙ h) in omega (arith, step, later)
+among_times k (x ∷ keys) h =
+    let step = times-cons k x keys in
+    elim (cases_Bool (x == k)) [ inl e ↦ (let one = ap {B = ℕ} (λ (b : Bool). cond b 1 0) e in omega (arith, step, one)) | inr e ↦ (let later = among_times k keys (ap (λ (b : Bool). b || is_among k keys) (sym e) ∙ h) in omega (arith, step, later)) ]
 
 times_among : (k : ℕ) (keys : List ℕ) → times k keys ≡ 1 → is_among k keys ≡ true
 times_among k [] h = absurd cc
-times_among k (x ∷ keys) h = by_key (x == k) refl
-  where
-    step : times k (x ∷ keys) ≡ cond (x == k) 1 0 + times k keys
-    step = times-cons k x keys
-
-    by_key : (b : Bool) → (x == k) ≡ b → is_among k (x ∷ keys) ≡ true
-    by_key true e = ap (λ (b : Bool). b || is_among k keys) e
-    by_key false e = (let none = ap {B = ℕ} (λ (b : Bool). cond b 1 0) e in let later = times_among k keys (omega (arith, step, none, h)) in ap (λ (b : Bool). b || is_among k keys) e ∙ later)
+times_among k (x ∷ keys) h =
+    let step = times-cons k x keys in
+    elim (cases_Bool (x == k)) [ inl e ↦ ap (λ (b : Bool). b || is_among k keys) e | inr e ↦ (let none = ap {B = ℕ} (λ (b : Bool). cond b 1 0) e in let later = times_among k keys (omega (arith, step, none, h)) in ap (λ (b : Bool). b || is_among k keys) e ∙ later) ]
 
 -- as many keys as numbers, all below, and each number among them
 pub once-among : (n : ℕ) (keys : List ℕ) → length keys ≡ n → list_all (λ k. nat_lt k n) keys ≡ true → ((k : ℕ) → k < n → is_among k keys ≡ true) → are_each_once n keys ≡ true
@@ -122,6 +114,9 @@ pub is_false : (b : Bool) → (b ≡ true → ⊥) → b ≡ false
 is_false true h = absurd (h refl)
 is_false false h = refl
 
+pub eqb_other : (a b : ℕ) → (a == b) ≡ (b == a)
+eqb_other a b = same_tests (a == b) (b == a) (λ e. eq-eqb b a (sym (eqb-true a b e))) (λ e. eq-eqb a b (sym (eqb-true b a e)))
+
 -- ---- entries
 
 module _ {X : Type 0} where
@@ -135,28 +130,16 @@ module _ {X : Type 0} where
   -- no entry has the key
   sum_none : (key : X → ℕ) (v : X → ℤ) (j : ℕ) (xs : List X) → times j (map key xs) ≡ 0 → int_sum_by (λ x. cond (key x == j) (v x) (pos 0)) xs ≡ pos 0
   sum_none key v j [] h = refl
-  sum_none key v j (x ∷ xs) h = by_key (key x == j) refl
-    where
-      step : times j (map key (x ∷ xs)) ≡ cond (key x == j) 1 0 + times j (map key xs)
-      step = times-cons j (key x) (map key xs)
-
-      by_key : (b : Bool) → (key x == j) ≡ b → int_sum_by (λ y. cond (key y == j) (v y) (pos 0)) (x ∷ xs) ≡ pos 0
-      by_key true e = absurd (let one = ap {B = ℕ} (λ (b : Bool). cond b 1 0) e in omega (arith, step, one, h))
-      by_key false e = (let rest = sum_none key v j xs (omega (arith, step, h)) in let here = cond-false (key x == j) (v x) (pos 0) e in omega (arith, ints, rest, here))
+  sum_none key v j (x ∷ xs) h =
+      let step = times-cons j (key x) (map key xs) in
+      elim (cases_Bool (key x == j)) [ inl e ↦ absurd (let one = ap {B = ℕ} (λ (b : Bool). cond b 1 0) e in omega (arith, step, one, h)) | inr e ↦ (let rest = sum_none key v j xs (omega (arith, step, h)) in let here = cond-false (key x == j) (v x) (pos 0) e in omega (arith, ints, rest, here)) ]
 
   claims_none : (key : X → ℕ) (v : X → ℕ) (j : ℕ) (xs : List X) → times j (map key xs) ≡ 0 → sum_by (λ x. cond (key x == j) (v x) 0) xs ≡ 0
   claims_none key v j [] h = refl
-  claims_none key v j (x ∷ xs) h = by_key (key x == j) refl
-    where
-      step : times j (map key (x ∷ xs)) ≡ cond (key x == j) 1 0 + times j (map key xs)
-      step = times-cons j (key x) (map key xs)
-
-      more : sum_by (λ y. cond (key y == j) (v y) 0) (x ∷ xs) ≡ cond (key x == j) (v x) 0 + sum_by (λ y. cond (key y == j) (v y) 0) xs
-      more = sum_by-cons (λ y. cond (key y == j) (v y) 0) x xs
-
-      by_key : (b : Bool) → (key x == j) ≡ b → sum_by (λ y. cond (key y == j) (v y) 0) (x ∷ xs) ≡ 0
-      by_key true e = absurd (let one = ap {B = ℕ} (λ (b : Bool). cond b 1 0) e in omega (arith, step, one, h))
-      by_key false e = (let rest = claims_none key v j xs (omega (arith, step, h)) in let here = cond-false (key x == j) (v x) 0 e in omega (arith, more, rest, here))
+  claims_none key v j (x ∷ xs) h =
+      let step = times-cons j (key x) (map key xs) in
+      let more = sum_by-cons (λ y. cond (key y == j) (v y) 0) x xs in
+      elim (cases_Bool (key x == j)) [ inl e ↦ absurd (let one = ap {B = ℕ} (λ (b : Bool). cond b 1 0) e in omega (arith, step, one, h)) | inr e ↦ (let rest = claims_none key v j xs (omega (arith, step, h)) in let here = cond-false (key x == j) (v x) 0 e in omega (arith, more, rest, here)) ]
 
   times_here : (key : X → ℕ) (j : ℕ) (xs : List X) (i : ℕ) (d : X) → i < length xs → key (get_or xs i d) ≡ j → 1 ≤ times j (map key xs)
   times_here key j [] i d lt e = absurd (omega (arith, lt))
@@ -236,6 +219,44 @@ among_push j keys k = list_any-append (λ x. x == j) keys (k ∷ []) ∙ ap (λ 
     or_false true = refl
     or_false false = refl
 
+-- no key is past the count
+times_past : (n j : ℕ) (keys : List ℕ) → list_all (λ k. nat_lt k n) keys ≡ true → n ≤ j → times j keys ≡ 0
+times_past n j [] h past = refl
+times_past n j (x ∷ keys) h past =
+    let both = and_parts (nat_lt x n) (list_all (λ k. nat_lt k n) keys) h in
+    let step = times-cons j x keys in
+    let lt = ltb-true x n both.0 in
+    let none = ap {B = ℕ} (λ (b : Bool). cond b 1 0) (ne_eqb x j (λ e. absurd (omega (arith, lt, past, e)))) in
+    let rest = times_past n j keys both.1 past in
+    omega (arith, step, none, rest)
+
+module _ {X : Type 0} where
+  pub sum_past : (key : X → ℕ) (v : X → ℤ) (n j : ℕ) (xs : List X) → list_all (λ k. nat_lt k n) (map key xs) ≡ true → n ≤ j → int_sum_by (λ x. cond (key x == j) (v x) (pos 0)) xs ≡ pos 0
+  sum_past key v n j xs h past = sum_none key v j xs (times_past n j (map key xs) h past)
+
+  pub claims_past : (key : X → ℕ) (v : X → ℕ) (n j : ℕ) (xs : List X) → list_all (λ k. nat_lt k n) (map key xs) ≡ true → n ≤ j → sum_by (λ x. cond (key x == j) (v x) 0) xs ≡ 0
+  claims_past key v n j xs h past = claims_none key v j xs (times_past n j (map key xs) h past)
+
+-- ---- tables by key
+
+module _ {X V : Type 0} where
+  -- What the first entries state stands in their places.
+  abbrev pub Written : (key : X → ℕ) → (is_right : ℕ → V → Type 0) → List X → List V → (dv : V) → ℕ → Type 0
+  Written key is_right xs table dv i = (k : ℕ) (d : X) → k < i → is_right (key (get_or xs k d)) (get_or table (key (get_or xs k d)) dv)
+
+  pub write_more : (key : X → ℕ) (is_right : ℕ → V → Type 0) (xs : List X) (table : List V) (dv v : V) (i j : ℕ) (d : X) → j ≡ key (get_or xs i d) → j < length table → i < length xs → is_right j v → Written key is_right xs table dv i → Written key is_right xs (set table j v) dv (i + 1)
+  write_more key is_right xs table dv v i j d at lt within right before k e b =
+      elim (cases_eq (key (get_or xs k e)) j) [ inl same ↦ subst (λ (n : ℕ). is_right n (get_or (set table j v) n dv)) (sym same) (subst (is_right j) (sym (get_or-set_same table j v dv lt)) right) | inr other ↦ subst (is_right (key (get_or xs k e))) (sym (get_or-set_other table j (key (get_or xs k e)) v dv other)) (before k e (earlier other)) ]
+    where
+      earlier : (key (get_or xs k e) ≡ j → ⊥) → k < i
+      earlier other = elim (cases_lt k i) [ inl less ↦ less | inr le ↦ absurd (other (let same : k ≡ i = omega (arith, le, b) in ap (λ (n : ℕ). key (get_or xs n e)) same ∙ ap key (get_or_default xs i e d within) ∙ sym at)) ]
+
+  pub written_all : (key : X → ℕ) (is_right : ℕ → V → Type 0) (xs : List X) (table : List V) (dv : V) (n i j : ℕ) → are_each_once n (map key xs) ≡ true → length xs ≤ i → Written key is_right xs table dv i → j < n → X → is_right j (get_or table j dv)
+  written_all key is_right xs table dv n i j once le written lt d =
+      let at = place_of key j xs d (among-once n (map key xs) once j lt) in
+      let within = at.1 in
+      subst (λ (m : ℕ). is_right m (get_or table m dv)) at.2 (written at.0 d (omega (arith, within, le)))
+
 -- ---- sums
 
 pub int_sum_by-append : {X : Type 0} (f : X → ℤ) (xs ys : List X) → int_sum_by f (xs ++ ys) ≡ int_sum_by f xs +ℤ int_sum_by f ys
@@ -246,3 +267,44 @@ int_sum_by-append f (x ∷ xs) ys = omega (arith, ints, int_sum_by-append f xs y
 pub int_sum_by-more : {X : Type 0} (f : X → ℤ) (xs : List X) (i : ℕ) (d : X) → i < length xs → int_sum_by f (take (i + 1) xs) ≡ int_sum_by f (take i xs) +ℤ f (get_or xs i d)
 int_sum_by-more f xs i d h =
     ap (int_sum_by f) (take_more xs i d h) ∙ omega (arith, ints, int_sum_by-append f (take i xs) (get_or xs i d ∷ []))
+
+fits_128 : (z : ℤ) → neg_ℤ (pos (10 ^ 30)) ≤ℤ z → z ≤ℤ pos (10 ^ 30) → SFits w128 z
+fits_128 (pos n) low high = record { sfits = omega (arith, ints, high) }
+fits_128 (negsuc n) low high = record { sfits = omega (arith, ints, low) }
+
+-- a number that is stored in 128 bits and read again
+pub stored : (z : ℤ) → neg_ℤ (pos (10 ^ 30)) ≤ℤ z → z ≤ℤ pos (10 ^ 30) → to_z w128 (of_z w128 z) ≡ z
+stored z low high = to_z-of_z w128 z (fits_128 z low high)
+
+-- the sum of the first k items, of which each is of absolute value at most so much
+pub record SumsTo {X : Type 0} (f : X → ℤ) (xs : List X) (most k : ℕ) (sum : ℤ) : Type 0 where
+  pub sum_is : sum ≡ int_sum_by f (take k xs)
+  pub low : neg_ℤ (pos (most * k)) ≤ℤ sum
+  pub high : sum ≤ℤ pos (most * k)
+
+-- a sum that is stored
+stored_more : (sum v : ℤ) → neg_ℤ (pos (10 ^ 29)) ≤ℤ sum → sum ≤ℤ pos (10 ^ 29) → neg_ℤ (pos (10 ^ 29)) ≤ℤ v → v ≤ℤ pos (10 ^ 29) → to_z w128 (of_z w128 (sum +ℤ to_z w128 (of_z w128 v))) ≡ sum +ℤ v
+stored_more sum v low high low' high' =
+    let one = stored v (omega (arith, ints, low')) (omega (arith, ints, high')) in
+    ap (λ (z : ℤ). to_z w128 (of_z w128 (sum +ℤ z))) one ∙ stored (sum +ℤ v) (omega (arith, ints, low, low')) (omega (arith, ints, high, high'))
+
+pub stored_both : (a b : ℤ) → neg_ℤ (pos (10 ^ 29)) ≤ℤ a → a ≤ℤ pos (10 ^ 29) → neg_ℤ (pos (10 ^ 29)) ≤ℤ b → b ≤ℤ pos (10 ^ 29) → to_z w128 (of_z w128 (to_z w128 (of_z w128 a) +ℤ to_z w128 (of_z w128 b))) ≡ a +ℤ b
+stored_both a b low high low' high' =
+    let one = stored a (omega (arith, ints, low)) (omega (arith, ints, high)) in
+    ap (λ (z : ℤ). to_z w128 (of_z w128 (z +ℤ to_z w128 (of_z w128 b)))) one ∙ stored_more a b low high low' high'
+
+-- a loop's step
+pub sums_more : {X : Type 0} (f : X → ℤ) (xs : List X) (most k : ℕ) (sum v : ℤ) (d : X) → k < length xs → most ≤ 10 ^ 27 → k < 128 → most * k + most ≤ 10 ^ 29 → v ≡ f (get_or xs k d) → neg_ℤ (pos most) ≤ℤ v → v ≤ℤ pos most → SumsTo f xs most k sum → SumsTo f xs most (k + 1) (to_z w128 (of_z w128 (sum +ℤ to_z w128 (of_z w128 v))))
+sums_more f xs most k sum v d lt small few fits e low high so =
+    let l = so.low in
+    let h = so.high in
+    let is = stored_more sum v (omega (arith, ints, l, fits)) (omega (arith, ints, h, fits)) (omega (arith, ints, low, small)) (omega (arith, ints, high, small)) in
+    let step : most * (k + 1) ≡ most * k + most = omega arith in
+    record {
+      sum_is = is ∙ ap (λ (z : ℤ). z +ℤ v) so.sum_is ∙ ap (λ (z : ℤ). int_sum_by f (take k xs) +ℤ z) e ∙ sym (int_sum_by-more f xs k d lt);
+      low = omega (arith, ints, is, l, low, step);
+      high = omega (arith, ints, is, h, high, step);
+    }
+
+pub sums_to_all : {X : Type 0} (f : X → ℤ) (xs : List X) (most k : ℕ) (sum : ℤ) → SumsTo f xs most k sum → length xs ≤ k → sum ≡ int_sum_by f xs
+sums_to_all f xs most k sum so h = so.sum_is ∙ ap (int_sum_by f) (take_all k xs h)

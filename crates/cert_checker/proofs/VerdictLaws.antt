@@ -26,7 +26,7 @@ use Rattle.search_model.specs.Bounds.{completion_bound}
 use Rattle.search_model.specs.Extending.{IsDemand, can_be_extended}
 use Rattle.search_model.specs.Kept.{is_kept, kept_list}
 use Rattle.search_model.specs.Nodes.{Node, IsTourIn, set_of, is_part, rest_of, allows, requires_of, root_of, first_of_split, second_of_split}
-use Rattle.search_model.specs.Orders.{Each, IsAmongLists}
+use Rattle.search_model.specs.Orders.{BeginsWith, Each, IsAmongLists}
 use Rattle.search_model.specs.Prices.{IsWorth, value_of}
 use Rattle.search_model.specs.Certificates.{Place, Placed, has_whole_lists, is_whole, sum_of_leaf, sum_needed, price_in, worth_in, claim_in, places_after, placed_from, placed_twigs, root_place, IsSoundLeaf, IsSound, Proves}
 use Rattle.search_model.specs.Verdicts.{tour_under_at, first_under, kept_at, reason_of_visit, reason_of_car, reason_of_cars, reason_of_leaf, reason_of_twig, reason_of_tree, reason_of_plan, reason_of_cost, verdict_for, verdict_of, FitsClaims, VerdictMeans, VerdictLaw, moves_enough}
@@ -170,7 +170,7 @@ worth_of_car s node c price worth ok car within none tour inside = by_test (int_
     by_test true e =
         let moves = moves_of s tour in
         let at = moves_reach s c tour inside.feasible in
-        let begins = ([], sym (append-nil moves)) in
+        let begins : BeginsWith s tour moves = ([], sym (append-nil moves)) in
         let low = bound_is_lower s c price (allows node c) (requires_of node c) moves _ tour ok car at begins inside in
         let below = through _ (value_of s c price tour) worth low (lower (value_of s c price tour) e) in
         let among = (kept_holds s c price (allows node c) (requires_of node c) worth ok car demand).all moves (_, at, (tour, inside, begins), below) in
