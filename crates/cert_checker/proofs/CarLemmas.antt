@@ -35,7 +35,7 @@ unfolding reason_of_seen
 found_first s k leaf c longer None rest seen e = e
 found_first s k leaf c longer (Some tour) rest seen e = refl
 
-pub seen_reason : (s : Snapshot) (k : ℕ) (leaf : Leaf) (c : ℕ) (price : ℕ → ℤ) (worth : ℤ) (claim : ℕ) (lists : List (List Move)) → reason_of_visit s k leaf c (nat_lt claim (length lists)) (first_under s c price worth (take claim lists)) ≡ reason_of_seen s k leaf c (see (λ w. tour_under_at s c price worth (course_of s c w)) claim lists)
+seen_reason : (s : Snapshot) (k : ℕ) (leaf : Leaf) (c : ℕ) (price : ℕ → ℤ) (worth : ℤ) (claim : ℕ) (lists : List (List Move)) → reason_of_visit s k leaf c (nat_lt claim (length lists)) (first_under s c price worth (take claim lists)) ≡ reason_of_seen s k leaf c (see (λ w. tour_under_at s c price worth (course_of s c w)) claim lists)
 unfolding reason_of_seen
 seen_reason s k leaf c price worth zero [] = refl
 seen_reason s k leaf c price worth (suc n) [] = ap (λ (b : Bool). reason_of_visit s k leaf c b None) (le-ltb (suc n) 0 (omega arith))

@@ -26,7 +26,7 @@ use Rattle.pricing_bound.specs.Aims.{Aim, value_for}
 use Rattle.kept_tours.specs.Kept.{is_kept_by, kept_from}
 use Rattle.kept_tours.specs.Walking.{aim_at, goes_on as leads_on, IsWalking, IsOpen, IsNotKept}
 use Rattle.kept_tours.proofs.Followers.{followers, followers_are, IsAt, at_first, at_move, at_end, at_next, follower, one_course}
-use Rattle.kept_tours.proofs.ListLemmas.{lists_after, flat_map-append, first_lists, own_lists, all_followers, ended_lists}
+use Rattle.kept_tours.proofs.ListLemmas.{lists_after, flat_map-append, first_lists, own_lists, ended_lists}
 use Rattle.cert_checker.specs.declared.visits.Visits.{Visits}
 use Rattle.cert_checker.specs.declared.visits.Visits.TheVariants.{Going, Passed, Under}
 use Rattle.cert_checker.specs.Visiting.{Seen, goes_on, passes, finds, and_then, seen_at, see, under_for, seen_of, GoesBack, Visited}
@@ -224,6 +224,10 @@ whole_seen t demand price bound worth left at seen leads runs kept all x there (
     let a = aim_at t demand price in
     let rest = lists_after t.snapshot t.car (has demand.allowed) (keeps t demand bound worth) n t.moves x (lawful_moves t.snapshot t.car x (has demand.allowed)) in
     ap (see (under_for a worth) (suc left)) (keeps_first t.snapshot t.car (has demand.allowed) (keeps t demand bound worth) n t.moves x (kept x there)) ∙ ap (λ (o : Option (List Stop)). seen_at o (see (under_for a worth) left rest)) (under_none a worth (course t) at leads runs) ∙ all x there n (omega (arith, lt))
+
+-- the followers before the end are all
+all_followers : (t : PartialTour) (set : ℕ) (x : Course) (place : ℕ) → course t ≡ Some x → IsAt t set None place → take place (followers t set) ≡ lawful_moves t.snapshot t.car x (has set)
+all_followers t set x place leads at = ap (λ (k : ℕ). take k (followers t set)) (at_end t set place at) ∙ take-length (followers t set) ∙ followers_are t set x leads
 
 -- no follower is left
 pub all_walked : (t : PartialTour) (demand : Demand) (price : ℕ → ℤ) (bound : Course → ℤ) (worth : ℤ) (first left : ℕ) (at : Course) (new : PartialTour) → new ≡ t → course t ≡ Some at → at.ended ≡ false → ((x : Course) → course t ≡ Some x → keeps t demand bound worth x ≡ true) → Walks t demand price bound worth first None left → Visited t demand price bound worth (suc first) new (Going left)

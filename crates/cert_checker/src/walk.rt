@@ -32,14 +32,16 @@ pub(crate) fn visit<B: CompletionBound>(
         left prefix.new result }
     ensures back { GoesBack prefix.old prefix.new result }
 {
-    if bound.value(sums) >= worth {
+    let least = bound.value(sums);
+    if least >= worth {
         return Visits::Going(left);
     }
     if left == 0 {
         return Visits::Passed;
     }
     if prefix.point().ended {
-        return Visits::of_tour(bound.tour_value(prefix, sums), worth, left - 1);
+        let value = bound.tour_value(prefix, sums);
+        return Visits::of_tour(value, worth, left - 1);
     }
     let mut left = left - 1;
     let mut next = prefix.first_move(demand.allowed);
