@@ -1,7 +1,7 @@
 -- What the visits for a car say of a leaf.
 use Rattle.std.proofs.Common.{◌≡◌, ℕ, zero, suc, ◌+◌, ◌<◌, ◌≤◌, Bool, true, false, List, [], ◌∷◌, length, take, refl, sym, ap, ◌∙◌, subst, arith, Option, Some, None}
 use Rattle.std.specs.Prelude.{ℤ, nat_lt}
-use Rattle.std.proofs.lemmas.Bool.{le-ltb, lt-ltb}
+use Rattle.std.proofs.lemmas.Bool.{le-ltb, lt-ltb, ltb-true}
 use Rattle.elevator_model.specs.declared.Move.{Move}
 use Rattle.elevator_model.specs.declared.Stop.{Stop}
 use Rattle.elevator_model.specs.Partial.{Course, course_of}
@@ -22,6 +22,7 @@ use Rattle.cert_checker.specs.declared.visits.Visits.TheVariants.{Going, Passed,
 use Rattle.cert_checker.specs.Visiting.{Seen, goes_on, passes, finds, seen_at, see, under_for, seen_of}
 use Rattle.cert_checker.specs.Scanning.{Scanned}
 use Rattle.cert_checker.specs.Judging.{reason_of_visits}
+use Rattle.cert_checker.proofs.EntryLemmas.{same_tests}
 
 -- the reason of what was seen
 reason_of_seen : Snapshot → (k : ℕ) → Leaf → ℕ → Seen → Option Reason
@@ -46,7 +47,7 @@ seen_reason s k leaf c price worth (suc n) (w ∷ lists) =
     ap (λ (b : Bool). reason_of_visit s k leaf c b (first_of (under w) rest)) (less_both n (length lists)) ∙ found_first s k leaf c (nat_lt n (length lists)) (under w) rest (see under n lists) (seen_reason s k leaf c price worth n lists)
   where
     less_both : (a b : ℕ) → nat_lt (suc a) (suc b) ≡ nat_lt a b
-    less_both a b = refl
+    less_both a b = same_tests (nat_lt (suc a) (suc b)) (nat_lt a b) (λ e. lt-ltb a b (let h = ltb-true (suc a) (suc b) e in omega (arith, h))) (λ e. lt-ltb (suc a) (suc b) (let h = ltb-true a b e in omega (arith, h)))
 
 -- the aim of a car at a leaf
 abbrev pub leaf_aim : Snapshot → Node → Leaf → ℕ → Aim
