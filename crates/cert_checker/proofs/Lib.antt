@@ -1,4 +1,5 @@
 pub mod EntryLemmas
+pub mod StepLemmas
 pub mod WalkLemmas
 pub mod CarLemmas
 pub mod TreeLemmas
