@@ -6,7 +6,7 @@ ghost use Rattle.search_model.specs.declared.Stated.{Stated as StatedValue};
 ghost use Rattle.search_model.specs.declared.Twig.{Twig as TwigValue};
 ghost use Rattle.search_model.specs.Nodes.{IsNodeOf};
 ghost use Rattle.search_model.specs.Verdicts.{verdict_of};
-ghost use Rattle.cert_checker.specs.Judging.{HasSeen, HasWorthSizes, IsCheckerOf, IsStateOf, GoesOnTo};
+ghost use Rattle.cert_checker.specs.Judging.{HasSeen, HasWorthSizes, IsCheckerOf, IsStateOf, GoesOnTo, reason_of_bad as reason_of_bad_lem};
 
 use crate::judging::judge_tasks;
 use crate::plans::judge_stated;
@@ -50,17 +50,14 @@ impl Checker {
         ensures own { IfOk result (IsCheckerOf snapshot.now) }
         ensures seen { IfOk result (HasSeen snapshot.now stated.now []) }
     {
-        let state = match judge_stated(snapshot, stated) {
-            Some(reason) => State::Found(reason),
-            None => State::Open {
-                places: Places::new(alloc, root(alloc, snapshot)?)?,
-                seen: 0,
-            },
-        };
-        Ok(Checker {
-            bound: stated.bound,
-            state,
-        })
+        let bound = stated.bound;
+        if let Some(reason) = judge_stated(snapshot, stated) {
+            let state = State::Found(reason);
+            return Ok(Checker { bound, state });
+        }
+        let places = Places::new(alloc, root(alloc, snapshot)?)?;
+        let state = State::Open { places, seen: 0 };
+        Ok(Checker { bound, state })
     }
 
     /// Takes the next twigs of the tree, in preorder. Each leaf among them that is still to be judged is one job, numbered
@@ -87,10 +84,13 @@ impl Checker {
             → HasSeen snapshot.now stated (fed ++ twigs.now) self.new) }
         ensures failed { OnErr result (self.new ≡ self.old) }
     {
-        if let State::Open { places, seen } = &self.state {
-            let bound = self.bound;
-            self.state = goes_on(rt, alloc, snapshot, bound, places, *seen, twigs, workers, gate)?;
-        }
+        let State::Open { places, seen } = &self.state else {
+            return Ok(());
+        };
+        let bound = self.bound;
+        self.state = goes_on(
+            rt, alloc, snapshot, bound, places, *seen, twigs, workers, gate,
+        )?;
         Ok(())
     }
 
@@ -105,6 +105,14 @@ impl Checker {
             State::Open { places: _, seen: _ } => Verdict::Yes,
         }
     }
+}
+
+/// The reason that a bad split gives, which has this number.
+fn reason_of_bad(bad: Option<u32>) -> Option<Reason>
+    ensures { result ≡ reason_of_bad_lem bad }
+{
+    let node = bad?;
+    Some(Reason::Split { node })
 }
 
 /// What a checker has seen after some twigs more, where no reason was found before.
@@ -129,14 +137,11 @@ fn goes_on<G: Gate + Sync>(
     let mut places = places.copy(alloc)?;
     let piece = Piece::of_twigs(alloc, &mut places, seen, twigs)?;
     let found = judge_tasks(rt, alloc, snapshot, bound, &piece.tasks, workers, gate)?;
-    let bad = piece.bad.map(|node| Reason::Split { node });
-    Ok(match found.or(bad) {
-        Some(reason) => State::Found(reason),
-        None => State::Open {
-            places,
-            seen: seen.saturating_add(twigs.len() as u32),
-        },
-    })
+    if let Some(reason) = found.or(reason_of_bad(piece.bad)) {
+        return Ok(State::Found(reason));
+    }
+    let seen = seen.saturating_add(twigs.len() as u32);
+    Ok(State::Open { places, seen })
 }
 
 /// Whether the tree proves the plan, its cost and the bound: the verdict of one whole tree, its twigs in preorder.

@@ -40,11 +40,9 @@ impl Places {
     pub(crate) fn copy(&self, alloc: Global) -> Result<Self, AllocError>
         ensures { IfOk result (λ places. places ≡ self.now) }
     {
-        let mut nodes = Vec::with_capacity(alloc, self.nodes.len())?;
-        for node in &self.nodes {
-            nodes.push(node.copy(alloc)?)?;
-        }
-        Ok(Places { nodes })
+        Ok(Places {
+            nodes: copies(alloc, &self.nodes)?,
+        })
     }
 
     /// Takes the next place out. None where no place is left.
@@ -81,4 +79,15 @@ impl Places {
         self.nodes.push(first)?;
         Ok(true)
     }
+}
+
+/// The same nodes once more.
+fn copies(alloc: Global, nodes: &[Node]) -> Result<Vec<Node>, AllocError>
+    ensures { IfOk result (λ copies. copies.items ≡ nodes.now) }
+{
+    let mut copies = Vec::with_capacity(alloc, nodes.len())?;
+    for node in nodes {
+        copies.push(node.copy(alloc)?)?;
+    }
+    Ok(copies)
 }
