@@ -134,6 +134,8 @@ fn goes_on<G: Gate + Sync>(
     ensures own { IfOk result (IsStateOf snapshot.now) }
     ensures on { IfOk result (GoesOnTo snapshot.now bound places.now seen twigs.now) }
 {
+    // Its readers say that the snapshot is accepted.
+    let _calls = snapshot.calls();
     let mut places = places.copy(alloc)?;
     let piece = Piece::of_twigs(alloc, &mut places, seen, twigs)?;
     let found = judge_tasks(rt, alloc, snapshot, bound, &piece.tasks, workers, gate)?;
