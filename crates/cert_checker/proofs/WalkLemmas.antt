@@ -85,6 +85,18 @@ passed_by t demand price bound worth left new at leads out snapshot car = record
   car = car;
 }
 
+-- where nothing stopped the walk, what was seen does not depend on where it is
+pub visited_back : (t : PartialTour) (demand : Demand) (price : ℕ → ℤ) (bound : Course → ℤ) (worth : ℤ) (left : ℕ) (new now : PartialTour) (visits : Visits) (rest : ℕ) → visits ≡ Going rest → Visited t demand price bound worth left new visits → now.snapshot ≡ t.snapshot → now.car ≡ t.car → Visited t demand price bound worth left now visits
+visited_back t demand price bound worth left new now visits rest is v snapshot car = record {
+  seen = λ x there n lt. v.seen x there n lt ∙ ap (λ (u : Visits). seen_of u new.moves) is ∙ sym (ap (λ (u : Visits). seen_of u now.moves) is);
+  value = λ value e. absurd (goes_on_still (sym is ∙ e));
+  snapshot = snapshot;
+  car = car;
+}
+  where
+    goes_on_still : {z : ℤ} → Going rest ≡ Under z → ⊥
+    goes_on_still e = cc
+
 -- Its bound is not below the worth.
 pub not_kept : (a : Aim) (demand : Demand) (t : PartialTour) (bound : Course → ℤ) (stands : Course → Type 0) (worth : ℤ) (left : ℕ) (least : ℤ) → (o : IsOpen stands demand t) → ((x : Course) → stands x → least ≡ bound x) → worth ≤ℤ least → Visited t demand a.price bound worth left t (Going left)
 not_kept a demand t bound stands worth left least o are high =

@@ -1,6 +1,6 @@
 -- What the entries of a leaf state, and the desks at which leaves are judged.
 use Rattle.std.specs.Prelude.{◌≡◌, ℕ, ◌==◌, ◌<◌, ℤ, pos, List, length, All, sum_by, slice_index_or, if◌then◌else◌}
-use Rattle.elevator_model.specs.Snapshot.{Snapshot, IsAccepted, call_count, car_count}
+use Rattle.elevator_model.specs.Snapshot.{Snapshot, call_count, car_count}
 use Rattle.search_model.specs.declared.PriceOf.{PriceOf}
 use Rattle.search_model.specs.declared.WorthOf.{WorthOf}
 use Rattle.search_model.specs.declared.Leaf.{Leaf}
@@ -37,7 +37,6 @@ claim_at stakes c = (slice_index_or stakes c no_stake).claim
 
 -- A desk of the snapshot, with room for a price for each call and a stake for each car.
 pub record IsDesk (s : Snapshot) (prefix : PartialTour) (rates : Rated) (prices : List ℤ) (stakes : List Stake) : Type 0 where
-  pub accepted : IsAccepted s
   pub prefix_is : prefix.snapshot ≡ s
   pub rates_are : rates.snapshot ≡ s
   pub calls : length prices ≡ call_count s
