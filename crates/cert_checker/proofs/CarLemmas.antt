@@ -9,6 +9,7 @@ use Rattle.elevator_model.specs.Snapshot.{Snapshot}
 use Rattle.search_model.specs.declared.Leaf.{Leaf}
 use Rattle.search_model.specs.declared.Reason.{Reason}
 use Rattle.search_model.specs.declared.Reason.TheVariants.{Under as IsUnder, Claim}
+use Rattle.search_model.specs.Extending.{IsDemand}
 use Rattle.search_model.specs.Nodes.{Node, allows, requires_of}
 use Rattle.search_model.specs.Prices.{value_of}
 use Rattle.search_model.specs.Certificates.{price_in, worth_in, claim_in}
@@ -66,3 +67,20 @@ car_reason s k node leaf c stake visits moves a is worth claim scanned =
     let there = subst (λ (w : ℤ). Scanned (leaf_aim s node leaf c) (λ x. completion_bound_for (leaf_aim s node leaf c) x) w stake.claim moves visits) worth here in
     let all = subst (λ (n : ℕ). Scanned (leaf_aim s node leaf c) (λ x. completion_bound_for (leaf_aim s node leaf c) x) (worth_in leaf c) n moves visits) claim there in
     visits_reason s k leaf c stake visits moves worth claim all.value ∙ ap (reason_of_seen s k leaf c) (sym all.seen) ∙ sym (seen_reason s k leaf c (price_in leaf) (worth_in leaf c) (claim_in leaf c) (kept_at s node leaf c))
+
+-- ---- aims
+
+pub aims_same : (a n : Aim) → a.snapshot ≡ n.snapshot → a.car ≡ n.car → a.price ≡ n.price → a.allowed ≡ n.allowed → a.required ≡ n.required → a ≡ n
+aims_same a n s c p l r = λ i. record { snapshot = s i; car = c i; price = p i; allowed = l i; required = r i }
+
+pub same_sets : (f g : ℕ → Bool) → ((j : ℕ) → f j ≡ g j) → f ≡ g
+same_sets f g h = λ i j. h j i
+
+pub same_prices : (f g : ℕ → ℤ) → ((j : ℕ) → f j ≡ g j) → f ≡ g
+same_prices f g h = λ i j. h j i
+
+pub demands_too : (s : Snapshot) (c : ℕ) (allowed required allowed' required' : ℕ → Bool) → ((j : ℕ) → allowed' j ≡ allowed j) → ((j : ℕ) → required' j ≡ required j) → IsDemand s c allowed required → IsDemand s c allowed' required'
+demands_too s c allowed required allowed' required' l r demand = record {
+  within = λ j e. l j ∙ demand.within j (sym (r j) ∙ e);
+  possible = λ j e. demand.possible j (sym (l j) ∙ e);
+}

@@ -1,3 +1,8 @@
+use Rattle.std.proofs.Common.{◌≡◌, subst, rules}
+use Rattle.std.specs.Prelude.{ℤ}
+use mir.Val.{to_z, of_z}
+use mir.Syntax.{w128}
+use Rattle.cert_checker.specs.Visiting.{Visited}
 use Rattle.cert_checker.proofs.ScanLemmas.{walking_first, aims_first, open_first, scanned}
 use Rattle.cert_checker.proofs.scan.scan.Goals as goal
 
@@ -14,4 +19,8 @@ visit-requires-clause-stands g c =
 
 pub returns-clause-scanned : goal.returns-clause-scanned
 returns-clause-scanned g c =
-    scanned c.args.prefix.now c.args.demand.now (g.B.CompletionBound.aim c.args.bound.now).price (g.B.CompletionBound.bound c.args.bound.now) c.args.worth c.args.claim c.visit.new.prefix c.visit.result c.requires.empty c.visit.ensures.visited
+    let a = g.B.CompletionBound.aim c.args.bound.now in
+    let bound = g.B.CompletionBound.bound c.args.bound.now in
+    let worth : to_z w128 (of_z w128 c.args.worth) ≡ c.args.worth = search rules in
+    let visited = subst (λ (w : ℤ). Visited c.args.prefix.now c.args.demand.now a.price bound w c.args.claim c.visit.new.prefix c.visit.result) worth c.visit.ensures.visited in
+    scanned c.args.prefix.now c.args.demand.now a.price bound c.args.worth c.args.claim c.visit.new.prefix c.visit.result c.requires.empty visited
