@@ -95,6 +95,8 @@ pub(crate) fn judge_leaf(
     if !is_whole(desk.snapshot, leaf) {
         return Ok(Some(Reason::Lists { node: number }));
     }
+    // Its readers say that the snapshot is accepted, so it has at most 128 calls and 16 cars.
+    let _calls = desk.snapshot.calls();
     let need = sum_needed(bound);
     let got = sum_of_prices(leaf.prices.as_slice()) + sum_of_worths(leaf.worths.as_slice());
     if got < need {
