@@ -1,10 +1,10 @@
 -- What the visits for a car say of a leaf.
-use Rattle.std.proofs.Common.{◌≡◌, ℕ, zero, suc, ◌+◌, ◌<◌, ◌≤◌, Bool, true, false, List, [], ◌∷◌, length, take, refl, sym, ap, ◌∙◌, subst, arith, Option, Some, None}
+use Rattle.std.proofs.Common.{◌≡◌, ℕ, zero, suc, Bool, List, [], ◌∷◌, length, take, refl, sym, ap, ◌∙◌, subst, arith, Option, Some, None}
 use Rattle.std.specs.Prelude.{ℤ, nat_lt}
 use Rattle.std.proofs.lemmas.Bool.{le-ltb, lt-ltb, ltb-true}
 use Rattle.elevator_model.specs.declared.Move.{Move}
 use Rattle.elevator_model.specs.declared.Stop.{Stop}
-use Rattle.elevator_model.specs.Partial.{Course, course_of}
+use Rattle.elevator_model.specs.Partial.{course_of}
 use Rattle.elevator_model.specs.Snapshot.{Snapshot}
 use Rattle.search_model.specs.declared.Leaf.{Leaf}
 use Rattle.search_model.specs.declared.Reason.{Reason}
@@ -16,11 +16,11 @@ use Rattle.search_model.specs.Certificates.{price_in, worth_in, claim_in}
 use Rattle.search_model.specs.Verdicts.{tour_under_at, first_under, kept_at, reason_of_visit, reason_of_car}
 use Rattle.elevator_model.specs.Plans.{first_of}
 use Rattle.partial_tours.specs.PartialTour.{stops_made}
-use Rattle.pricing_bound.specs.Aims.{Aim, completion_bound_for, value_for}
+use Rattle.pricing_bound.specs.Aims.{Aim, completion_bound_for}
 use Rattle.cert_checker.specs.declared.entries.Stake.{Stake}
 use Rattle.cert_checker.specs.declared.visits.Visits.{Visits}
 use Rattle.cert_checker.specs.declared.visits.Visits.TheVariants.{Going, Passed, Under}
-use Rattle.cert_checker.specs.Visiting.{Seen, goes_on, passes, finds, seen_at, see, under_for, seen_of}
+use Rattle.cert_checker.specs.Visiting.{Seen, goes_on, passes, finds, seen_at, see, seen_of}
 use Rattle.cert_checker.specs.Scanning.{Scanned}
 use Rattle.cert_checker.specs.Judging.{reason_of_visits}
 use Rattle.cert_checker.proofs.EntryLemmas.{same_tests}

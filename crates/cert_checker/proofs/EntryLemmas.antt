@@ -1,14 +1,13 @@
 -- Lists with one entry for each number below a count, and what they state of each.
-use Rattle.std.proofs.Common.{◌≡◌, ℕ, zero, suc, ◌+◌, ◌<◌, ◌≤◌, ◌==◌, Bool, true, false, not, ◌&&◌, ◌||◌, cond, eqb, List, [], ◌∷◌, ◌++◌, length, map, take, set, get_or, get_or-set_same, get_or-set_other, refl, sym, ap, ◌∙◌, subst, inl, inr, arith, neg_ℤ, negsuc, ◌^◌, ◌*◌, ◌≤ℤ◌, to_z, of_z, SFits}
+use Rattle.std.proofs.Common.{◌≡◌, ℕ, zero, suc, ◌+◌, ◌<◌, ◌≤◌, ◌==◌, Bool, true, false, not, ◌||◌, cond, List, [], ◌∷◌, ◌++◌, length, map, take, set, get_or, get_or-set_same, get_or-set_other, refl, sym, ap, ◌∙◌, subst, inl, inr, arith, neg_ℤ, negsuc, ◌^◌, ◌*◌, ◌≤ℤ◌, to_z, of_z, SFits}
 use Rattle.std.specs.Prelude.{ℤ, pos, ◌+ℤ◌, nat_lt, count_by, sum_by}
 use Rattle.std.specs.List.{list_all}
 use Rattle.std.proofs.lemmas.Int.{ints, to_z-of_z}
 use Rattle.std.proofs.lemmas.Bool.{and_parts, and_from, cases_Bool, cases_eq, cases_lt, eqb-true, eq-eqb, ne_eqb, cond-true, cond-false, lt-ltb, ltb-true, not_from_false, not-true}
 use Rattle.std.proofs.lemmas.List.{take_more, take_all, get_or_default}
 use Rattle.std.specs.Int.{w128}
-use lib.Signed.{mag}
 use Rattle.std.proofs.lemmas.List.Sums.{sum_by-cons}
-use Rattle.call_sets.specs.Counting.{any_below, sum_below, sum_where, is_among, has}
+use Rattle.call_sets.specs.Counting.{any_below, sum_below, is_among}
 use Rattle.call_sets.proofs.BelowTests.{any_below-false, any_below-none}
 use Rattle.call_sets.proofs.ListTests.{list_any-append}
 use Rattle.call_sets.proofs.Sums.{sum_below-same, sum_below-add, sum_below-zero, sum_where-one}

@@ -1,9 +1,8 @@
 -- A piece of a tree, twig by twig.
-use Rattle.std.proofs.Common.{◌≡◌, ℕ, zero, suc, ◌+◌, ◌^◌, ◌<◌, ◌≤◌, Bool, true, false, cond, List, [], ◌∷◌, ◌++◌, length, drop, get_or, refl, sym, ap, ◌∙◌, subst, arith, length-append, Option, Some, None}
+use Rattle.std.proofs.Common.{◌≡◌, ℕ, suc, ◌+◌, ◌^◌, ◌<◌, ◌≤◌, Bool, true, false, cond, List, [], ◌∷◌, ◌++◌, length, drop, get_or, refl, sym, ap, ◌∙◌, subst, arith, length-append, Option, Some, None}
 use Rattle.std.specs.Prelude.{All, slice_get}
 use Rattle.std.proofs.lemmas.List.{drop_more, drop_all}
-use Rattle.std.proofs.lemmas.Bool.{cond-true, cond-false}
-use Rattle.std.proofs.lemmas.List.Elements.{All-nil, All-cons, All-head, All-tail, All-push, All-get_or}
+use Rattle.std.proofs.lemmas.List.Elements.{All-nil, All-head, All-tail, All-push, All-get_or}
 use Rattle.elevator_model.specs.Snapshot.{Snapshot, IsAccepted}
 use Rattle.elevator_model.specs.Plans.{first_of}
 use Rattle.search_model.specs.declared.Leaf.{Leaf}
@@ -44,7 +43,7 @@ leaf_placed k node leaf places old new task none bad tasks number at of_leaf = r
 
 pub split_placed : (k : ℕ) (node : Node) (j part : ℕ) (places left : List Node) (old new : Piece) (done : Bool) → old.bad ≡ None → new.tasks.items ≡ old.tasks.items → new.bad ≡ cond done None (Some k) → done ≡ is_part (set_of node j) part → (done ≡ true → left ≡ first_of_split node j part ∷ second_of_split node j part ∷ places) → KeepsNodes node places left → PlacesTwig k node (Split j part) places old left new
 split_placed k node j part places left old new done none tasks bad is split nodes = record {
-  reason = λ s bound. ap (first_of (reason_of_tasks s bound new.tasks.items)) (ap reason_of_bad bad ∙ bad_is ) ∙ ap (λ (l : List Task). first_of (reason_of_tasks s bound l) (reason_of_node s bound k node (Split j part))) tasks ∙ ap (λ (o : Option Reason). first_of o (reason_of_node s bound k node (Split j part))) (sym (piece_is s bound old none));
+  reason = λ s bound. ap (first_of (reason_of_tasks s bound new.tasks.items)) (ap reason_of_bad bad ∙ bad_is) ∙ ap (λ (l : List Task). first_of (reason_of_tasks s bound l) (reason_of_node s bound k node (Split j part))) tasks ∙ ap (λ (o : Option Reason). first_of o (reason_of_node s bound k node (Split j part))) (sym (piece_is s bound old none));
   left_are = λ e. split (was_done done (sym bad ∙ e));
   tasks = λ s at sizes all. subst (All (IsTask s)) (sym tasks) all;
   nodes = nodes;

@@ -14,7 +14,7 @@ use Rattle.pricing_bound.specs.Aims.{Aim, AimsAt}
 use Rattle.kept_tours.specs.Kept.{kept_from}
 use Rattle.kept_tours.specs.Walking.{aim_at, IsWalking, IsOpen}
 use Rattle.cert_checker.specs.declared.visits.Visits.{Visits}
-use Rattle.cert_checker.specs.Visiting.{Seen, see, seen_of, under_for, Visited}
+use Rattle.cert_checker.specs.Visiting.{Seen, see, under_for, Visited}
 use Rattle.cert_checker.specs.Scanning.{Scanned}
 
 abbrev pub empty_of : PartialTour → PartialTour

@@ -1,5 +1,5 @@
 -- Twigs at the nodes that they fill, piece after piece.
-use Rattle.std.proofs.Common.{◌≡◌, ℕ, zero, suc, ◌+◌, ◌<◌, ◌^◌, List, [], ◌∷◌, ◌++◌, length, map, refl, sym, ap, ◌∙◌, arith, length-append, Option, Some, None}
+use Rattle.std.proofs.Common.{◌≡◌, ℕ, suc, ◌+◌, ◌<◌, ◌^◌, List, [], ◌∷◌, ◌++◌, length, map, refl, sym, ap, ◌∙◌, arith, length-append, Option, Some, None}
 use Rattle.elevator_model.specs.Snapshot.{Snapshot}
 use Rattle.elevator_model.specs.Plans.{first_bad, first_of}
 use Rattle.search_model.specs.declared.Twig.{Twig}
@@ -7,8 +7,8 @@ use Rattle.search_model.specs.declared.Twig.TheVariants.{Split, Leaf as Tip}
 use Rattle.search_model.specs.declared.Stated.{Stated}
 use Rattle.search_model.specs.declared.Reason.{Reason}
 use Rattle.search_model.specs.Nodes.{Node, root_of}
-use Rattle.search_model.specs.Certificates.{Place, places_after, placed_from, placed_twigs, root_place}
-use Rattle.search_model.specs.Verdicts.{reason_of_twig, reason_of_tree, reason_of_plan, reason_of_cost}
+use Rattle.search_model.specs.Certificates.{Place, places_after, placed_from, root_place}
+use Rattle.search_model.specs.Verdicts.{reason_of_tree, reason_of_plan, reason_of_cost}
 use Rattle.cert_checker.specs.declared.checker.State.{State}
 use Rattle.cert_checker.specs.declared.checker.State.TheVariants.{Found, Open}
 use Rattle.cert_checker.specs.Judging.{nodes_after, nodes_left, reason_of_node, reason_from, first_reason, IsOpen, StandsAfter, GoesOnTo}

@@ -1,35 +1,34 @@
 -- The verdict is yes exactly where the tree proves the plan, its cost and the bound, and no kept list is longer than
 -- its claim.
-use Rattle.std.proofs.Common.{◌≡◌, ℕ, zero, suc, ◌+◌, ◌^◌, ◌<◌, ◌≤◌, ◌==◌, Bool, true, false, not, ◌&&◌, cond, eqb, ltb, List, [], ◌∷◌, ◌++◌, length, take, set, refl, sym, ap, ◌∙◌, subst, inl, inr, arith, append-nil, Option, Some, None}
-use Rattle.std.specs.Prelude.{ℤ, ◌≤ℤ◌, ◌<ℤ◌, int_lt, nat_lt, All, IsTrue}
+use Rattle.std.proofs.Common.{◌≡◌, ℕ, zero, suc, ◌+◌, ◌^◌, ◌<◌, ◌≤◌, ◌==◌, Bool, true, false, not, ◌&&◌, cond, eqb, List, [], ◌∷◌, length, take, set, refl, sym, ap, ◌∙◌, subst, inl, inr, arith, append-nil, Option, Some, None}
+use Rattle.std.specs.Prelude.{ℤ, ◌≤ℤ◌, ◌<ℤ◌, int_lt, nat_lt, All}
 use Rattle.std.proofs.Math.Nat.{eq-or-lt_of_le}
 use Rattle.std.proofs.lemmas.Int.{ints}
 use Rattle.std.proofs.lemmas.Bool.{and_parts, cases_eq, eqb-true, eq-eqb, cond-true, cond-false, le-ltb, ltb-false}
 use Rattle.std.proofs.lemmas.List.{take_all}
 use Rattle.std.proofs.lemmas.List.Elements.{All-nil, All-cons, All-head, All-tail}
 use Rattle.std.proofs.lemmas.Nat.Bits.{bit_at-pow_same}
-use Rattle.call_sets.specs.Counting.{has, any_below}
+use Rattle.call_sets.specs.Counting.{has}
 use Rattle.elevator_model.specs.declared.Move.{Move}
 use Rattle.elevator_model.specs.declared.Stop.{Stop}
 use Rattle.elevator_model.specs.declared.BadPlan.{BadPlan}
-use Rattle.elevator_model.specs.Snapshot.{Snapshot, IsAccepted, car_count, call_count}
+use Rattle.elevator_model.specs.Snapshot.{Snapshot, IsAccepted, car_count}
 use Rattle.elevator_model.specs.Partial.{Course, course_of, moves_of}
-use Rattle.elevator_model.specs.Plans.{IsFeasiblePlan, IsBound, first_bad, first_of, plan_cost_of}
+use Rattle.elevator_model.specs.Plans.{first_bad, first_of, plan_cost_of}
 use Rattle.search_model.specs.declared.Leaf.{Leaf}
 use Rattle.search_model.specs.declared.Twig.{Twig}
 use Rattle.search_model.specs.declared.Twig.TheVariants.{Split, Leaf as Tip}
 use Rattle.search_model.specs.declared.Reason.{Reason}
 use Rattle.search_model.specs.declared.Reason.TheVariants.{Split as BadSplit, Sum, Lists}
-use Rattle.search_model.specs.declared.Verdict.{Verdict}
-use Rattle.search_model.specs.declared.Verdict.TheVariants.{Yes, No}
+use Rattle.search_model.specs.declared.Verdict.TheVariants.{Yes}
 use Rattle.search_model.specs.Bounds.{completion_bound}
 use Rattle.search_model.specs.Extending.{IsDemand, can_be_extended}
 use Rattle.search_model.specs.Kept.{is_kept, kept_list}
-use Rattle.search_model.specs.Nodes.{Node, IsTourIn, set_of, is_part, rest_of, allows, requires_of, root_of, first_of_split, second_of_split}
+use Rattle.search_model.specs.Nodes.{Node, set_of, is_part, rest_of, allows, requires_of, root_of, first_of_split, second_of_split}
 use Rattle.search_model.specs.Orders.{BeginsWith, Each, IsAmongLists}
 use Rattle.search_model.specs.Prices.{IsWorth, value_of}
-use Rattle.search_model.specs.Certificates.{Place, Placed, has_whole_lists, is_whole, sum_of_leaf, sum_needed, price_in, worth_in, claim_in, places_after, placed_from, placed_twigs, root_place, IsSoundLeaf, IsSound, Proves}
-use Rattle.search_model.specs.Verdicts.{tour_under_at, first_under, kept_at, reason_of_visit, reason_of_car, reason_of_cars, reason_of_leaf, reason_of_twig, reason_of_tree, reason_of_plan, reason_of_cost, verdict_for, verdict_of, FitsClaims, VerdictMeans, VerdictLaw, moves_enough}
+use Rattle.search_model.specs.Certificates.{Place, Placed, has_whole_lists, sum_of_leaf, sum_needed, price_in, worth_in, claim_in, places_after, placed_from, placed_twigs, root_place, IsSoundLeaf, IsSound}
+use Rattle.search_model.specs.Verdicts.{tour_under_at, first_under, kept_at, reason_of_visit, reason_of_car, reason_of_cars, reason_of_leaf, reason_of_twig, reason_of_tree, reason_of_plan, reason_of_cost, verdict_for, verdict_of, FitsClaims, VerdictLaw, moves_enough}
 use Rattle.search_model.proofs.SetLemmas.{has-rest_of}
 use Rattle.search_model.proofs.NodeLemmas.{part-from, set_of-set, set_of-other}
 use Rattle.search_model.proofs.SnapshotNodes.{root_is_node}
@@ -37,13 +36,13 @@ use Rattle.search_model.proofs.TreeLemmas.{part-index, proves-bound}
 use Rattle.search_model.proofs.OrderLemmas.{IsTested, tested_lists-each}
 use Rattle.search_model.proofs.ManyLemmas.{tested_lists-few}
 use Rattle.call_state.proofs.PossibleLemmas.{most_cars-le}
-use Rattle.tour_rules.proofs.Reached.{ended_at, moves_reach, risen}
+use Rattle.tour_rules.proofs.Reached.{moves_reach}
 use Rattle.tour_cost.proofs.Judged.{feasible_where_clear, clear_where_feasible}
 use Rattle.tour_extension.proofs.NodeDemands.{node_holds}
 use Rattle.pricing_bound.specs.LowerLemmas.{bound_is_lower}
 use Rattle.kept_tours.proofs.EndLemmas.{ended_within, ended_value}
 use Rattle.kept_tours.proofs.KeptLaws.{kept_holds}
-use Rattle.cert_checker.specs.Laws.{HasEnough, SufficientLaw, IsProved, YesLaw}
+use Rattle.cert_checker.specs.Laws.{HasEnough, SufficientLaw, YesLaw}
 
 -- ---- parts of a reason
 

@@ -1,17 +1,17 @@
 -- What a walk over the kept partial tours sees, move after move.
 use Rattle.std.proofs.Common.{◌≡◌, ℕ, zero, suc, ◌+◌, ◌<◌, ◌≤◌, Bool, true, false, cond, List, [], ◌∷◌, ◌++◌, length, take, drop, get_or, refl, sym, ap, ◌∙◌, subst, arith, append-nil, Option, Some, None}
-use Rattle.std.specs.Prelude.{ℤ, ◌≤ℤ◌, ◌<ℤ◌, int_lt, ◌&&◌, not}
+use Rattle.std.specs.Prelude.{ℤ, ◌≤ℤ◌, ◌<ℤ◌, int_lt, ◌&&◌}
 use Rattle.std.specs.List.{flat_map}
 use Rattle.std.proofs.Math.Seq.{take-length}
 use Rattle.std.proofs.lemmas.List.{take_more, take-append-drop}
 use Rattle.std.proofs.lemmas.Int.{ints}
-use Rattle.std.proofs.lemmas.Bool.{and_from, and_left, and_right, cond-true, cond-false}
+use Rattle.std.proofs.lemmas.Bool.{and_from, and_right, cond-true, cond-false}
 use Rattle.call_sets.specs.Counting.{has}
 use Rattle.elevator_model.specs.declared.Move.{Move}
 use Rattle.elevator_model.specs.declared.Move.TheVariants.{Board}
 use Rattle.elevator_model.specs.declared.Stop.{Stop}
 use Rattle.elevator_model.specs.Snapshot.{Snapshot}
-use Rattle.elevator_model.specs.Partial.{Course, course_of, lawful_moves, move_on}
+use Rattle.elevator_model.specs.Partial.{Course, lawful_moves, move_on}
 use Rattle.search_model.specs.Orders.{lists_at, lists_from}
 use Rattle.search_model.specs.Prices.{value_of}
 use Rattle.search_model.specs.Verdicts.{tour_under_at}
@@ -23,13 +23,13 @@ use Rattle.partial_tours.proofs.Search.{from_next}
 use Rattle.partial_tours.proofs.Prefixes.{stops_made-ended}
 use Rattle.tour_extension.specs.declared.demands.Demand.{Demand}
 use Rattle.pricing_bound.specs.Aims.{Aim, value_for}
-use Rattle.kept_tours.specs.Kept.{is_kept_by, kept_from}
-use Rattle.kept_tours.specs.Walking.{aim_at, goes_on as leads_on, IsWalking, IsOpen, IsNotKept}
+use Rattle.kept_tours.specs.Kept.{is_kept_by}
+use Rattle.kept_tours.specs.Walking.{aim_at, goes_on as leads_on, IsOpen}
 use Rattle.kept_tours.proofs.Followers.{followers, followers_are, IsAt, at_first, at_move, at_end, at_next, follower, one_course}
 use Rattle.kept_tours.proofs.ListLemmas.{lists_after, flat_map-append, first_lists, own_lists, ended_lists}
 use Rattle.cert_checker.specs.declared.visits.Visits.{Visits}
 use Rattle.cert_checker.specs.declared.visits.Visits.TheVariants.{Going, Passed, Under}
-use Rattle.cert_checker.specs.Visiting.{Seen, goes_on, passes, finds, and_then, seen_at, see, under_for, seen_of, GoesBack, Visited}
+use Rattle.cert_checker.specs.Visiting.{Seen, goes_on, passes, finds, and_then, seen_at, see, under_for, seen_of, Visited}
 
 -- ---- visits to one list after another
 

@@ -1,5 +1,5 @@
 -- What has been seen of a plan, its cost and a tree's twigs, and which reason to say no it gave.
-use Rattle.std.specs.Prelude.{◌≡◌, ℕ, ◌+◌, ◌<◌, ◌≤◌, ◌^◌, ℤ, List, [], ◌∷◌, length, All, Option, Some, None, if◌then◌else◌}
+use Rattle.std.specs.Prelude.{◌≡◌, ℕ, ◌+◌, ◌<◌, ◌≤◌, ◌^◌, List, [], ◌∷◌, length, All, Option, Some, None, if◌then◌else◌}
 use Rattle.elevator_model.specs.declared.Move.{Move}
 use Rattle.elevator_model.specs.Snapshot.{Snapshot, IsAccepted}
 use Rattle.elevator_model.specs.Plans.{first_bad, first_of}

@@ -1,5 +1,5 @@
 -- What the entries of a leaf state, and the desks at which leaves are judged.
-use Rattle.std.specs.Prelude.{◌≡◌, ℕ, ◌==◌, ◌<◌, ℤ, pos, List, length, All, sum_by, slice_index_or, if◌then◌else◌}
+use Rattle.std.specs.Prelude.{◌≡◌, ℕ, ◌==◌, ℤ, pos, List, length, sum_by, slice_index_or, if◌then◌else◌}
 use Rattle.elevator_model.specs.Snapshot.{Snapshot, call_count, car_count}
 use Rattle.search_model.specs.declared.PriceOf.{PriceOf}
 use Rattle.search_model.specs.declared.WorthOf.{WorthOf}

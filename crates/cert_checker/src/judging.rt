@@ -48,7 +48,14 @@ impl<'a> Jobs for Judging<'a> {
 
     fn work(&self, k: u32, desk: &mut Desk<'a>) -> Result<Option<Reason>, AllocError> {
         let task = &self.tasks[k as usize];
-        judge_leaf(self.alloc, self.bound, task.number, &task.node, task.leaf, desk)
+        judge_leaf(
+            self.alloc,
+            self.bound,
+            task.number,
+            &task.node,
+            task.leaf,
+            desk,
+        )
     }
 }
 

@@ -1,8 +1,7 @@
-use Rattle.std.proofs.Common.{◌≡◌, List, sym, subst}
+use Rattle.std.proofs.Common.{sym, subst}
 use Rattle.std.specs.Prelude.{All}
-use Rattle.search_model.specs.Nodes.{Node, IsNodeOf}
-use Rattle.cert_checker.specs.declared.tasks.Task.{Task}
-use Rattle.cert_checker.specs.Judging.{IsTask, IsPiece}
+use Rattle.search_model.specs.Nodes.{IsNodeOf}
+use Rattle.cert_checker.specs.Judging.{IsTask}
 use Rattle.cert_checker.proofs.checker.goes_on.Goals as goal
 
 pub judge_tasks-requires-clause-tasks : goal.judge_tasks-requires-clause-tasks

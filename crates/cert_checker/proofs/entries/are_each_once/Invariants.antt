@@ -1,5 +1,5 @@
 -- All keys so far are below the count, and are the ones that were seen.
-use Rattle.std.proofs.Common.{◌≡◌, ℕ, true, length, map, take}
+use Rattle.std.proofs.Common.{◌≡◌, ℕ, true, map, take}
 use Rattle.std.specs.Prelude.{nat_lt}
 use Rattle.std.specs.List.{list_all}
 use Rattle.call_sets.specs.Counting.{has, is_among}

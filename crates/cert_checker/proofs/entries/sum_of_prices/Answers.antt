@@ -1,4 +1,4 @@
-use Rattle.std.proofs.Common.{sym, ap, ◌∙◌, arith, ◌^◌}
+use Rattle.std.proofs.Common.{ap, ◌∙◌, arith, ◌^◌}
 use Rattle.std.proofs.lemmas.Int.{ints}
 use Rattle.search_model.specs.declared.PriceOf.{PriceOf}
 use Rattle.cert_checker.proofs.EntryLemmas.{sums_more, sums_to_all}

@@ -1,5 +1,4 @@
 use Rattle.std.proofs.Common.{refl, arith, pos, ◌^◌}
-use Rattle.std.proofs.lemmas.Int.{ints}
 use Rattle.std.proofs.lemmas.List.Elements.{All-get_or}
 use Rattle.search_model.specs.declared.WorthOf.{WorthOf}
 use Rattle.cert_checker.specs.Leaves.{HasWorthSize}

@@ -1,11 +1,10 @@
-use Rattle.std.proofs.Common.{◌≡◌, ℕ, ◌∙◌, ◌<◌, List, length, map, get_or, sym, ap, inl, inr, arith, length-set, subst, refl}
+use Rattle.std.proofs.Common.{◌≡◌, ℕ, ◌∙◌, length, map, get_or, sym, ap, inl, inr, arith, length-set}
 use Rattle.std.specs.Prelude.{ℤ, pos}
 use Rattle.std.proofs.lemmas.Bool.{cases_lt}
 use Rattle.std.proofs.lemmas.List.{get_or_past}
 use Rattle.search_model.specs.declared.PriceOf.{PriceOf}
-use Rattle.search_model.specs.Prices.{price_at}
 use Rattle.cert_checker.specs.Leaves.{price_among}
-use Rattle.cert_checker.proofs.EntryLemmas.{EachOnce, once-from, all_at, sum_once, sum_past, write_more, written_all}
+use Rattle.cert_checker.proofs.EntryLemmas.{once-from, all_at, sum_once, sum_past, write_more, written_all}
 use Rattle.cert_checker.proofs.entries.write_prices.Goals as goal
 
 abbrev key : PriceOf → ℕ

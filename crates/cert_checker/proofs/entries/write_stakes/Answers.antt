@@ -1,12 +1,12 @@
-use Rattle.std.proofs.Common.{◌≡◌, ℕ, ◌∙◌, ◌<◌, List, length, map, get_or, sym, ap, inl, inr, arith, rules, length-set, subst, refl, to_z, of_z}
-use Rattle.std.specs.Prelude.{ℤ, pos}
+use Rattle.std.proofs.Common.{◌≡◌, ℕ, ◌∙◌, List, length, map, get_or, sym, ap, inl, inr, arith, rules, length-set, refl, to_z, of_z}
+use Rattle.std.specs.Prelude.{pos}
 use Rattle.std.specs.Int.{w128}
 use Rattle.std.proofs.lemmas.Bool.{cases_lt}
 use Rattle.std.proofs.lemmas.List.{get_or_past}
 use Rattle.search_model.specs.declared.WorthOf.{WorthOf}
 use Rattle.cert_checker.specs.declared.entries.Stake.{Stake}
-use Rattle.cert_checker.specs.Leaves.{no_stake, worth_among, claim_among, worth_at, claim_at}
-use Rattle.cert_checker.proofs.EntryLemmas.{EachOnce, once-from, all_at, sum_once, sum_past, claims_once, claims_past, write_more, written_all}
+use Rattle.cert_checker.specs.Leaves.{no_stake, worth_among, claim_among}
+use Rattle.cert_checker.proofs.EntryLemmas.{once-from, all_at, sum_once, sum_past, claims_once, claims_past, write_more, written_all}
 use Rattle.cert_checker.proofs.entries.write_stakes.Goals as goal
 
 abbrev key : WorthOf → ℕ

@@ -1,4 +1,4 @@
-use Rattle.std.proofs.Common.{◌≡◌, ◌∙◌, ◌++◌, ◌∷◌, [], List, sym, ap, refl, Option, Some, None}
+use Rattle.std.proofs.Common.{◌≡◌, ◌∙◌, List, sym, ap, refl, Option, Some, None}
 use Rattle.std.specs.Option.{option_or}
 use Rattle.elevator_model.specs.Plans.{first_of}
 use Rattle.search_model.specs.declared.Reason.{Reason}

@@ -1,9 +1,8 @@
-use Rattle.std.proofs.Common.{◌≡◌, pos, subst, take, get_or, rules, to_z, of_z}
+use Rattle.std.proofs.Common.{◌≡◌, pos, subst, get_or, rules, to_z, of_z}
 use Rattle.std.specs.Int.{w128}
 use Rattle.std.specs.List.{All}
 use Rattle.std.proofs.lemmas.List.{take_all}
 use Rattle.std.proofs.lemmas.List.Elements.{All-more}
-use Rattle.search_model.specs.declared.WorthOf.{WorthOf}
 use Rattle.assign_branch.specs.Pricings.{IsWorthSize}
 use Rattle.cert_checker.specs.Leaves.{HasWorthSize}
 use Rattle.cert_checker.proofs.leaves.are_sized.Goals as goal

@@ -1,8 +1,7 @@
-use Rattle.std.proofs.Common.{◌≡◌, subst, sym, take}
+use Rattle.std.proofs.Common.{subst}
 use Rattle.std.specs.List.{All}
 use Rattle.std.proofs.lemmas.List.{take_all}
 use Rattle.std.proofs.lemmas.List.Elements.{All-more}
-use Rattle.search_model.specs.declared.Twig.{Twig}
 use Rattle.cert_checker.specs.Judging.{HasWorthSizes}
 use Rattle.cert_checker.proofs.leaves.have_sized_worths.Goals as goal
 

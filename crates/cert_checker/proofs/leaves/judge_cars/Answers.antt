@@ -1,9 +1,8 @@
-use Rattle.std.proofs.Common.{◌≡◌, ◌∙◌, ◌<◌, Option, Some, None, List, length, sym, ap, subst, arith}
+use Rattle.std.proofs.Common.{◌≡◌, ◌∙◌, ◌<◌, Some, List, length, sym, ap, arith}
 use Rattle.elevator_model.specs.declared.CarSpec.{CarSpec}
 use Rattle.elevator_model.specs.Building.{Building}
 use Rattle.elevator_model.specs.Snapshot.{Snapshot, car_count}
-use Rattle.search_model.specs.declared.Reason.{Reason}
-use Rattle.search_model.specs.Verdicts.{reason_of_car, reason_of_cars}
+use Rattle.search_model.specs.Verdicts.{reason_of_car}
 use Rattle.cert_checker.proofs.LeafLemmas.{cars_first}
 use Rattle.cert_checker.proofs.leaves.judge_cars.Goals as goal
 

@@ -1,4 +1,4 @@
-use Rattle.std.proofs.Common.{◌≡◌, ◌∙◌, ℕ, ◌*◌, ◌^◌, List, length, Option, true, sym, ap, subst, arith, rules, to_z, of_z, pos, neg_ℤ, ◌+ℤ◌, ◌≤ℤ◌}
+use Rattle.std.proofs.Common.{◌≡◌, ◌∙◌, ◌*◌, ◌^◌, List, length, Option, sym, ap, arith, rules, to_z, of_z, pos, neg_ℤ, ◌+ℤ◌, ◌≤ℤ◌}
 use Rattle.std.specs.Prelude.{ℤ, IfOk, Result, Ok, Err}
 use Rattle.std.specs.Int.{w128}
 use Rattle.std.proofs.lemmas.Int.{ints}
@@ -7,7 +7,6 @@ use Rattle.search_model.specs.declared.PriceOf.{PriceOf}
 use Rattle.search_model.specs.declared.WorthOf.{WorthOf}
 use Rattle.search_model.specs.declared.Reason.{Reason}
 use Rattle.search_model.specs.Sums.{int_sum_by}
-use Rattle.search_model.specs.Certificates.{has_whole_lists, sum_of_leaf, sum_needed}
 use Rattle.search_model.specs.Verdicts.{reason_of_cars, reason_of_leaf}
 use Rattle.tour_cost.proofs.Short.{calls-le}
 use Rattle.cert_checker.proofs.VerdictLaws.{all_cars}

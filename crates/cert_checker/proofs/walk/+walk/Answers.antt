@@ -1,20 +1,19 @@
-use Rattle.std.proofs.Common.{◌≡◌, ◌∙◌, ◌+◌, ◌-◌, ◌<◌, ℕ, suc, Bool, true, false, cond, refl, sym, ap, subst, arith, rules, Option, Some, None}
+use Rattle.std.proofs.Common.{◌≡◌, ◌∙◌, ◌-◌, ℕ, suc, true, false, cond, refl, sym, ap, subst, arith, rules, Option, Some, None}
 use Rattle.std.specs.Prelude.{ℤ, int_lt, int_le, ◌≤ℤ◌, ◌<ℤ◌}
 use Rattle.std.proofs.lemmas.Bool.{and_left}
 use Rattle.std.proofs.lemmas.Int.{ints}
-use Rattle.std.proofs.lemmas.Option.{same_Some}
 use mir.Val.{to_z, of_z}
 use mir.Syntax.{w128}
 use Rattle.elevator_model.specs.declared.Move.{Move}
 use Rattle.partial_tours.specs.PartialTour.{PartialTour, course, with_move}
 use Rattle.partial_tours.proofs.Follow.{is_some_has}
 use Rattle.partial_tours.proofs.Search.{left_in, left_falls, from_next}
-use Rattle.kept_tours.specs.Walking.{IsWalking, IsNotKept, IsOpen, MayFollow, aim_at, goes_on}
+use Rattle.kept_tours.specs.Walking.{IsWalking, IsNotKept, IsOpen, MayFollow, goes_on}
 use Rattle.kept_tours.proofs.Followers.{followers, follower, IsAt, at_next}
 use Rattle.pricing_bound.specs.Aims.{Aim, value_for}
 use Rattle.cert_checker.specs.declared.visits.Visits.{Visits}
 use Rattle.cert_checker.specs.declared.visits.Visits.TheVariants.{Going, Passed, Under}
-use Rattle.cert_checker.specs.Visiting.{GoesBack, Visited}
+use Rattle.cert_checker.specs.Visiting.{Visited}
 use Rattle.cert_checker.proofs.StepLemmas.{only_move, next_is, back_again, none_there}
 use Rattle.cert_checker.proofs.WalkLemmas.{Walks, keeps, passed_by, visited_back, not_kept, is_kept_here, too_many, tour_visited, walks_first, walks_on, walk_stops, all_walked}
 use Rattle.cert_checker.proofs.walk.+walk.Goals as goal

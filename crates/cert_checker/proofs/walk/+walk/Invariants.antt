@@ -1,5 +1,5 @@
 -- How many moves are left, and in the loop: what was seen in the followers so far.
-use Rattle.std.proofs.Common.{◌≡◌, ◌+◌, ◌*◌, ◌-◌}
+use Rattle.std.proofs.Common.{◌≡◌, ◌+◌, ◌*◌}
 use Rattle.partial_tours.proofs.Search.{left_in, from_next}
 use Rattle.kept_tours.proofs.Followers.{followers}
 use Rattle.cert_checker.proofs.WalkLemmas.{Walks}

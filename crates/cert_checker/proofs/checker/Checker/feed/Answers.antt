@@ -1,5 +1,4 @@
-use Rattle.std.proofs.Common.{◌≡◌, ◌++◌, ℕ, sym, subst}
-use Rattle.cert_checker.specs.declared.checker.State.{State}
+use Rattle.std.proofs.Common.{◌++◌, ℕ, sym, subst}
 use Rattle.cert_checker.specs.Judging.{StandsAfter, GoesOnTo}
 use Rattle.cert_checker.proofs.TreeLemmas.{found_stays, stands_on}
 use Rattle.cert_checker.proofs.checker.Checker.feed.Goals as goal

@@ -1,17 +1,16 @@
-use Rattle.std.proofs.Common.{◌≡◌, ◌∙◌, ℕ, List, get_or, sym, ap, subst, refl, rules, arith, Option}
+use Rattle.std.proofs.Common.{◌≡◌, ◌∙◌, ℕ, get_or, sym, ap, subst, refl, rules, arith, Option}
 use Rattle.std.specs.Prelude.{ℤ, IfOk, Result, Ok, Err}
 use Rattle.std.proofs.lemmas.List.{get_or_default}
 use mir.Val.{to_z, of_z}
 use mir.Syntax.{w128}
 use Rattle.call_sets.specs.Counting.{has}
-use Rattle.elevator_model.specs.declared.Move.{Move}
 use Rattle.elevator_model.specs.Snapshot.{Snapshot}
 use Rattle.search_model.specs.declared.Leaf.{Leaf}
 use Rattle.search_model.specs.declared.Reason.{Reason}
 use Rattle.search_model.specs.Extending.{IsDemand}
 use Rattle.search_model.specs.Nodes.{allows, requires_of}
 use Rattle.search_model.specs.Prices.{price_at}
-use Rattle.search_model.specs.Certificates.{price_in, worth_in, claim_in}
+use Rattle.search_model.specs.Certificates.{price_in}
 use Rattle.search_model.specs.Verdicts.{reason_of_car}
 use Rattle.partial_tours.specs.PartialTour.{PartialTour}
 use Rattle.tour_extension.proofs.NodeDemands.{node_holds}
@@ -61,8 +60,8 @@ returns-clause-reason c =
     let told = subst (λ (v : Aim). Scanned v (λ x. completion_bound_for a x) (to_z w128 (of_z w128 stake.worth)) stake.claim moves visits) (sym here) c.scan-visits.ensures.scanned in
     let scanned = subst (λ (w : ℤ). Scanned a (λ x. completion_bound_for a x) w stake.claim moves visits) worth told in
     ok_map c.reason_of_visits.result (λ (reason : Option Reason). reason ≡ reason_of_visits c.args.number c.args.car stake visits moves) (λ (reason : Option Reason). (leaf : Leaf) → Holds leaf c.args.self.now.rates stakes → reason ≡ reason_of_car s c.args.number node leaf c.args.car) (λ reason is leaf holds. (
-        let prices : price_at b.rates.now.prices ≡ price_in leaf = ap (λ (r : Rated). price_at r.prices) rates ∙ same_prices (price_at c.args.self.now.rates.prices) (price_in leaf) holds.prices in
-        let there = aims_same a (leaf_aim s node leaf c.args.car) of_rates c.new-bound.ensures.car prices (allowed ∙ same_sets (has c.allowed.result) (allows node c.args.car) c.allowed.ensures) (required ∙ same_sets (has c.required.result) (requires_of node c.args.car) c.required.ensures) in
-        let at : stake ≡ get_or stakes c.args.car no_stake = (let cars = own.cars in let lt = c.requires.car in c.index-stake.ensures ∙ get_or_default stakes c.args.car stake no_stake (omega (arith, cars, lt))) in
-        is ∙ car_reason s c.args.number node leaf c.args.car stake visits moves a there (ap (λ (v : Stake). v.worth) at ∙ holds.worths c.args.car) (ap (λ (v : Stake). v.claim) at ∙ holds.claims c.args.car) scanned
-        )) c.reason_of_visits.ensures
+    let prices : price_at b.rates.now.prices ≡ price_in leaf = ap (λ (r : Rated). price_at r.prices) rates ∙ same_prices (price_at c.args.self.now.rates.prices) (price_in leaf) holds.prices in
+    let there = aims_same a (leaf_aim s node leaf c.args.car) of_rates c.new-bound.ensures.car prices (allowed ∙ same_sets (has c.allowed.result) (allows node c.args.car) c.allowed.ensures) (required ∙ same_sets (has c.required.result) (requires_of node c.args.car) c.required.ensures) in
+    let at : stake ≡ get_or stakes c.args.car no_stake = (let cars = own.cars in let lt = c.requires.car in c.index-stake.ensures ∙ get_or_default stakes c.args.car stake no_stake (omega (arith, cars, lt))) in
+    is ∙ car_reason s c.args.number node leaf c.args.car stake visits moves a there (ap (λ (v : Stake). v.worth) at ∙ holds.worths c.args.car) (ap (λ (v : Stake). v.claim) at ∙ holds.claims c.args.car) scanned
+    )) c.reason_of_visits.ensures

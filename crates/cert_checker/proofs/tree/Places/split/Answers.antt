@@ -1,9 +1,9 @@
-use Rattle.std.proofs.Common.{◌≡◌, ◌∙◌, List, [], ◌∷◌, ◌++◌, Bool, true, false, sym, ap, subst, refl, arith, reverse}
+use Rattle.std.proofs.Common.{◌≡◌, ◌∙◌, ◌∷◌, true, false, sym, subst, arith, reverse}
 use Rattle.std.specs.Prelude.{All, IsOk, OnOk, is_err, Result, Ok, Err}
 use Rattle.std.proofs.lemmas.Bool.{true≢false}
 use Rattle.std.proofs.lemmas.Grind.{common_steps}
 use Rattle.std.proofs.lemmas.List.Elements.{All-cons}
-use Rattle.search_model.specs.Nodes.{Node, IsNodeOf}
+use Rattle.search_model.specs.Nodes.{IsNodeOf}
 use Rattle.assign_branch.specs.Splits.{AreNodes}
 use Rattle.cert_checker.proofs.EntryLemmas.{is_false}
 use Rattle.cert_checker.proofs.tree.Places.split.Goals as goal
