@@ -1,0 +1,5 @@
+pub mod Visiting
+pub mod Scanning
+pub mod Leaves
+pub mod Judging
+pub mod Laws

@@ -1,0 +1,118 @@
+//! The leaves of a piece, judged by workers.
+
+ghost use Rattle.std.specs.Prelude.{◌≡◌, ◌<◌, ◌≤◌, ◌^◌, All, IfOk, length};
+ghost use Rattle.elevator_model.specs.Snapshot.{Snapshot as SnapshotValue};
+ghost use Rattle.cert_checker.specs.Judging.{IsTask, first_some, reason_of_tasks};
+
+use crate::desks::Desk;
+use crate::leaves::judge_leaf;
+use crate::tasks::Task;
+use byte_streams::Gate;
+use call_state::Snapshot;
+use search_model::Reason;
+use std::alloc::{AllocError, Global};
+use std::marker::Sync;
+use std::thread::Threads;
+use work_fan::{Jobs, fan};
+
+/// The leaves of a piece: job `k` is to judge that of task `k`.
+#[derive(Drop)]
+struct Judging<'a> {
+    snapshot: &'a Snapshot,
+    bound: u64,
+    tasks: &'a [Task<'a>],
+    alloc: Global,
+    ghost few: { length tasks.now < 2 ^ 32 },
+    ghost are_tasks: { All (IsTask snapshot.now) tasks.now },
+}
+
+impl<'a> Jobs for Judging<'a> {
+    ghost use Rattle.std.specs.Prelude.{◌≡◌, length, slice_get, Some};
+    ghost use Rattle.cert_checker.specs.declared.tasks.Task.{Task as TaskValue};
+    ghost use Rattle.cert_checker.specs.Judging.{reason_of_task};
+
+    type Desk = Desk<'a>;
+
+    type Answer = Option<Reason>;
+
+    ghost number = { λ it. length it.tasks.now };
+
+    ghost serves = { λ it desk. desk.snapshot.now ≡ it.snapshot.now };
+
+    ghost is_right = { λ it k answer. (task : TaskValue) → slice_get it.tasks.now k ≡ Some task
+        → answer ≡ reason_of_task it.snapshot.now it.bound task };
+
+    fn count(&self) -> u32 {
+        self.tasks.len() as u32
+    }
+
+    fn work(&self, k: u32, desk: &mut Desk<'a>) -> Result<Option<Reason>, AllocError> {
+        let task = &self.tasks[k as usize];
+        judge_leaf(
+            self.alloc,
+            self.bound,
+            task.number,
+            &task.node,
+            task.leaf,
+            desk,
+        )
+    }
+}
+
+/// As many desks as there are workers. It fails only where there is no memory left.
+fn desks_for<'a>(
+    alloc: Global,
+    snapshot: &'a Snapshot,
+    workers: u32,
+) -> Result<Vec<Desk<'a>>, AllocError>
+    ensures count { IfOk result (λ desks. length desks.items ≡ workers) }
+    ensures own { IfOk result (λ desks. All (λ desk. desk.snapshot.now ≡ snapshot.now) desks.items) }
+{
+    let mut desks = Vec::new(alloc);
+    for _worker in 0..workers {
+        desks.push(Desk::new(alloc, snapshot)?)?;
+    }
+    Ok(desks)
+}
+
+/// The first reason among answers.
+fn first_of(mut answers: Vec<Option<Reason>>) -> Option<Reason>
+    ensures { result ≡ first_some answers.items }
+{
+    let mut first = None;
+    while let Some(answer) = answers.pop() {
+        first = answer.or(first);
+    }
+    first
+}
+
+/// The first reason of the leaves, which so many workers judge. `gate` is told of each before it begins.
+///
+/// It fails only where there is no memory left.
+pub(crate) fn judge_tasks<G: Gate + Sync>(
+    rt: &(impl Threads + Sync),
+    alloc: Global,
+    snapshot: &Snapshot,
+    bound: u64,
+    tasks: &[Task],
+    workers: u32,
+    gate: &G,
+) -> Result<Option<Reason>, AllocError>
+    requires few { length tasks.now < 2 ^ 32 }
+    requires tasks { All (IsTask snapshot.now) tasks.now }
+    requires workers { (1 ≤ workers) × (workers ≤ 16) }
+    ensures { IfOk result (λ reason. reason ≡ reason_of_tasks snapshot.now bound tasks.now) }
+{
+    if tasks.is_empty() {
+        return Ok(None);
+    }
+    let judging = Judging {
+        snapshot,
+        bound,
+        tasks,
+        alloc,
+    };
+    let mut desks = desks_for(alloc, snapshot, workers)?;
+    let answers = fan(rt, alloc, &judging, desks.as_mut_slice(), gate)?;
+    Ok(first_of(answers))
+}

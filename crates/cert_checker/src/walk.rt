@@ -1,0 +1,88 @@
+//! A walk over the kept partial tours of a car, depth first.
+
+ghost use Rattle.std.specs.Prelude.{◌≡◌};
+ghost use Rattle.partial_tours.specs.PartialTour.{with_move};
+ghost use Rattle.kept_tours.specs.Walking.{IsWalking, IsOpen, MayFollow};
+ghost use Rattle.cert_checker.specs.Visiting.{GoesBack, Visited};
+
+use crate::visits::Visits;
+use elevator_model::Move;
+use kept_tours::step_below;
+use partial_tours::Prefix;
+use pricing_bound::CompletionBound;
+use tour_extension::{Demand, is_useless};
+
+/// Visits a partial tour that some tour of the node begins with, where it is kept for the worth, and the kept ones that
+/// begin with it, depth first in the order of moves.
+///
+/// At most `left` are visited. The walk stops where one more is due, or at one that ends a tour of a value below the
+/// worth, and stays there; else it comes back. It takes no memory.
+#[cycle(walk)]
+pub(crate) fn visit<B: CompletionBound>(
+    bound: &B,
+    demand: &Demand,
+    worth: i128,
+    left: u64,
+    prefix: &mut Prefix,
+    sums: &B::Sums,
+) -> Visits
+    requires walking { IsWalking (B.aim bound.now) demand.now prefix.old }
+    requires stands { IsOpen (B.stands bound.now sums.now) demand.now prefix.old }
+    ensures visited { Visited prefix.old demand.now (B.aim bound.now).price (B.bound bound.now) worth
+        left prefix.new result }
+    ensures back { GoesBack prefix.old prefix.new result }
+{
+    let least = bound.value(sums);
+    if least >= worth {
+        return Visits::Going(left);
+    }
+    if left == 0 {
+        return Visits::Passed;
+    }
+    if prefix.point().ended {
+        let value = bound.tour_value(prefix, sums);
+        return Visits::of_tour(value, worth, left - 1);
+    }
+    let mut left = left - 1;
+    let mut next = prefix.first_move(demand.allowed);
+    while let Some(choice) = next {
+        let visits = visit_after(bound, demand, worth, left, prefix, sums, choice);
+        let Visits::Going(rest) = visits else {
+            return visits;
+        };
+        left = rest;
+        next = prefix.move_after(demand.allowed, choice);
+    }
+    Visits::Going(left)
+}
+
+/// The same of the partial tour with one move more, where it is kept for the worth.
+#[cycle(walk)]
+fn visit_after<B: CompletionBound>(
+    bound: &B,
+    demand: &Demand,
+    worth: i128,
+    left: u64,
+    prefix: &mut Prefix,
+    sums: &B::Sums,
+    next: Move,
+) -> Visits
+    requires walking { IsWalking (B.aim bound.now) demand.now prefix.old }
+    requires stands { IsOpen (B.stands bound.now sums.now) demand.now prefix.old }
+    requires next { MayFollow demand.now prefix.old next }
+    ensures visited { Visited (with_move prefix.old next) demand.now (B.aim bound.now).price
+        (B.bound bound.now) worth left prefix.new result }
+    ensures back { GoesBack prefix.old prefix.new result }
+{
+    if is_useless(prefix, demand, next) {
+        return Visits::Going(left);
+    }
+    let visits = match step_below(bound, demand, prefix, sums, next, worth) {
+        Some(sums) => visit(bound, demand, worth, left, prefix, &sums),
+        None => Visits::Going(left),
+    };
+    if let Visits::Going(_) = visits {
+        prefix.pop();
+    }
+    visits
+}
