@@ -32,7 +32,7 @@ enum Said {
     Lists(u32),
 }
 
-fn said(verdict: &Verdict) -> Said {
+fn summary(verdict: &Verdict) -> Said {
     let Verdict::No(reason) = verdict else {
         return Said::Yes;
     };
@@ -255,7 +255,7 @@ fn judged(
     for twigs in tree.chunks(piece) {
         feed(rt, alloc, case, &mut checker, twigs, workers)?;
     }
-    Ok(Some(said(&checker.verdict())))
+    Ok(Some(summary(&checker.verdict())))
 }
 
 /// What is said of the whole tree at once.
@@ -274,8 +274,16 @@ fn checked(
     {
         return Ok(None);
     }
-    let verdict = check(rt, alloc, &case.snapshot, &case.stated, tree, workers, &OpenGate)?;
-    Ok(Some(said(&verdict)))
+    let verdict = check(
+        rt,
+        alloc,
+        &case.snapshot,
+        &case.stated,
+        tree,
+        workers,
+        &OpenGate,
+    )?;
+    Ok(Some(summary(&verdict)))
 }
 
 /// Whether this is said of the tree, however it is cut into pieces and shared by workers.
@@ -314,7 +322,12 @@ fn worths_and_claims_of_one_call(rt: HostRuntime) -> Result<(), Fail> {
         (0, 7_499_001, 16_807, Said::Yes),
         (1000, 7_498_001, 16_807, Said::Yes),
         (0, 7_499_000, 16_807, Said::Sum(1, 7_499_001, 7_499_000)),
-        (0, 7_500_001, 16_807, Said::Under(1, 0, 7_500_001, 7_500_000, 2)),
+        (
+            0,
+            7_500_001,
+            16_807,
+            Said::Under(1, 0, 7_500_001, 7_500_000, 2),
+        ),
         (0, 7_500_001, 5, Said::Under(1, 0, 7_500_001, 7_500_000, 2)),
         (0, 7_500_001, 4, Said::Claim(1, 0, 4)),
         (0, 7_500_001, 0, Said::Claim(1, 0, 0)),
@@ -403,7 +416,11 @@ fn first_reason_of_an_uneven_tree(rt: HostRuntime) -> Result<(), Fail> {
         ((65_750_000, 5), (0, 3), Said::Claim(2, 1, 5)),
         ((65_750_000, 6), (0, 2), Said::Claim(3, 1, 2)),
         ((65_750_000, 5), (0, 2), Said::Claim(2, 1, 5)),
-        ((65_750_001, 9), (0, 3), Said::Under(2, 1, 65_750_001, 65_750_000, 3)),
+        (
+            (65_750_001, 9),
+            (0, 3),
+            Said::Under(2, 1, 65_750_001, 65_750_000, 3),
+        ),
         ((65_750_001, 8), (0, 2), Said::Claim(2, 1, 8)),
     ] {
         let tree = uneven_tree(alloc, first, second)?;
@@ -411,7 +428,15 @@ fn first_reason_of_an_uneven_tree(rt: HostRuntime) -> Result<(), Fail> {
     }
     let more = uneven(alloc, 727_052, 239_601).ok_or("a case")?;
     let tree = uneven_tree(alloc, (65_750_000, 6), (0, 3))?;
-    assert!(rt; is_said(&rt, alloc, &more, &tree, Said::Sum(3, 239_600_001, 239_600_000))?);
+    assert!(rt;
+        is_said(
+            &rt,
+            alloc,
+            &more,
+            &tree,
+            Said::Sum(3, 239_600_001, 239_600_000)
+        )?
+    );
     Ok(())
 }
 
