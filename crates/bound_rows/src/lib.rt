@@ -1,5 +1,5 @@
 //! Tests of what a search for a cheapest plan stands on: generated cases, nodes and their splits, which partial tours
-//! can be extended, completion bounds, and verdicts on certificates. They stand apart from the crates that they test, since a crate with tests
+//! can be extended, and completion bounds. They stand apart from the crates that they test, since a crate with tests
 //! is proved twice.
 #![tactic(auto)]
 
@@ -15,7 +15,5 @@ mod makers;
 mod nodes;
 #[cfg(test)]
 mod sums;
-#[cfg(test)]
-mod verdicts;
 #[cfg(test)]
 mod walks;
