@@ -1,0 +1,4 @@
+pub mod RisingLemmas
+pub mod DivisorLemmas
+pub mod SpanLemmas
+pub mod TextLemmas

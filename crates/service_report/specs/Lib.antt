@@ -1,0 +1,4 @@
+pub mod Spans
+pub mod ReportTexts
+pub mod Writers
+pub mod WorkedTexts

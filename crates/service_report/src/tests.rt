@@ -1,0 +1,158 @@
+ghost use Rattle.std.specs.Prelude.{◌≤◌, ◌<◌, ◌^◌, IfOk, length};
+ghost use Rattle.search_model.specs.Reports.{report_of};
+ghost use Rattle.service_report.specs.WorkedTexts.{AreReportTexts};
+
+use super::*;
+use std::alloc::{AllocError, Global};
+use std::test::Fail;
+
+fn texts_of_the_definition()
+    ensures { AreReportTexts }
+{}
+
+/// Calls that came, boarded and were delivered at these moments.
+fn calls(alloc: Global, moments: &[(u16, u16, u16)]) -> Result<Vec<Served>, AllocError>
+    requires { length moments.now ≤ 100 }
+    ensures { IfOk result (λ served. (report_of served.items).total.sum < 2 ^ 64) }
+{
+    let mut served = Vec::new(alloc);
+    for (released, boarded, delivered) in moments {
+        served.push(Served {
+            call: 7,
+            released: u64::from(*released),
+            boarded: u64::from(*boarded),
+            delivered: u64::from(*delivered),
+        })?;
+    }
+    Ok(served)
+}
+
+const TEN: [(u16, u16, u16); 10] = [
+    (0, 31, 43),
+    (13, 17, 88),
+    (20, 35, 68),
+    (37, 46, 106),
+    (40, 66, 110),
+    (55, 60, 155),
+    (60, 95, 103),
+    (71, 79, 106),
+    (80, 177, 233),
+    (92, 94, 113),
+];
+
+const ELEVEN: [(u16, u16, u16); 11] = [
+    (0, 31, 43),
+    (13, 17, 88),
+    (100, 150, 151),
+    (20, 35, 68),
+    (37, 46, 106),
+    (40, 66, 110),
+    (55, 60, 155),
+    (60, 95, 103),
+    (71, 79, 106),
+    (80, 177, 233),
+    (92, 94, 113),
+];
+
+#[test]
+fn texts_of_days(rt: HostRuntime) -> Result<(), Fail> {
+    let alloc = rt.alloc();
+    let table: [(&[(u16, u16, u16)], &str); 7] = [
+        (
+            &[(0, 1000, 7500), (6500, 10000, 19000), (9500, 12500, 25500)],
+            "#measure,wait,ride,total\ncount,3,3,3\nsum,7500,28500,36000\ngreatest,3500,13000,16000\n\
+             p50,3000,9000,12500\np90,3500,13000,16000\np99,3500,13000,16000\nmean,2500/1,9500/1,12000/1\n",
+        ),
+        (
+            &[],
+            "#measure,wait,ride,total\ncount,0,0,0\nsum,0,0,0\ngreatest,0,0,0\n\
+             p50,0,0,0\np90,0,0,0\np99,0,0,0\nmean,0/1,0/1,0/1\n",
+        ),
+        (
+            &[(7, 12, 30)],
+            "#measure,wait,ride,total\ncount,1,1,1\nsum,5,18,23\ngreatest,5,18,23\n\
+             p50,5,18,23\np90,5,18,23\np99,5,18,23\nmean,5/1,18/1,23/1\n",
+        ),
+        (
+            &TEN,
+            "#measure,wait,ride,total\ncount,10,10,10\nsum,232,425,657\ngreatest,97,95,153\n\
+             p50,9,33,48\np90,35,71,100\np99,97,95,153\nmean,116/5,85/2,657/10\n",
+        ),
+        (
+            &ELEVEN,
+            "#measure,wait,ride,total\ncount,11,11,11\nsum,282,426,708\ngreatest,97,95,153\n\
+             p50,15,33,51\np90,50,71,100\np99,97,95,153\nmean,282/11,426/11,708/11\n",
+        ),
+        (
+            &[(5, 11, 26), (3, 9, 24), (5, 11, 26), (40, 46, 61)],
+            "#measure,wait,ride,total\ncount,4,4,4\nsum,24,60,84\ngreatest,6,15,21\n\
+             p50,6,15,21\np90,6,15,21\np99,6,15,21\nmean,6/1,15/1,21/1\n",
+        ),
+        (
+            &[(1, 4, 14), (9, 13, 33), (2, 3, 33), (8, 14, 59)],
+            "#measure,wait,ride,total\ncount,4,4,4\nsum,14,105,119\ngreatest,6,45,51\n\
+             p50,3,20,24\np90,6,45,51\np99,6,45,51\nmean,7/2,105/4,119/4\n",
+        ),
+    ];
+    for (moments, want) in table {
+        assert!(rt; moments.len() <= 100);
+        let served = calls(alloc, moments)?;
+        let report = report_of(alloc, served.as_slice())?;
+        let mut text = Vec::from_slice(alloc, b"#")?;
+        write_report(alloc, &report, &mut text)?;
+        assert_eq!(rt; text.as_slice(), want.as_bytes());
+    }
+    Ok(())
+}
+
+#[test]
+fn great_numbers_stay_exact(rt: HostRuntime) -> Result<(), Fail> {
+    let alloc = rt.alloc();
+    let served = [
+        Served {
+            call: u32::MAX,
+            released: 1,
+            boarded: 4611686018427387906,
+            delivered: 9223372036854775806,
+        },
+        Served {
+            call: 1,
+            released: 0,
+            boarded: 4611686018427387903,
+            delivered: 9223372036854775800,
+        },
+    ];
+    let report = report_of(alloc, &served)?;
+    let wait = Column {
+        count: 2,
+        sum: 9223372036854775808,
+        greatest: 4611686018427387905,
+        p50: 4611686018427387903,
+        p90: 4611686018427387905,
+        p99: 4611686018427387905,
+        mean_over: 4611686018427387904,
+        mean_under: 1,
+    };
+    let ride = Column {
+        count: 2,
+        sum: 9223372036854775797,
+        greatest: 4611686018427387900,
+        p50: 4611686018427387897,
+        p90: 4611686018427387900,
+        p99: 4611686018427387900,
+        mean_over: 9223372036854775797,
+        mean_under: 2,
+    };
+    let total = Column {
+        count: 2,
+        sum: 18446744073709551605,
+        greatest: 9223372036854775805,
+        p50: 9223372036854775800,
+        p90: 9223372036854775805,
+        p99: 9223372036854775805,
+        mean_over: 18446744073709551605,
+        mean_under: 2,
+    };
+    assert_eq!(rt; report, Report { wait, ride, total });
+    Ok(())
+}
