@@ -44,7 +44,7 @@ module _ (s : Snapshot) (c : ℕ) where
       let may : is_call_for s c j ≡ true = not-false (is_call_for s c j) (list_any_at_false (λ i. not (is_call_for s c i)) stop.boards d k seventh.0 below) in
       ltb-true j (call_count s) (and_parts (nat_lt j (call_count s)) (is_possible s c (call_of s j)) may).0
 
-  stops_fit : (p : Progress) (k : ℕ) (stops : List Stop) → first_broken_from s c none_taken p k stops ≡ None → BoardsCalls s stops
+  pub stops_fit : (p : Progress) (k : ℕ) (stops : List Stop) → first_broken_from s c none_taken p k stops ≡ None → BoardsCalls s stops
   stops_fit p k [] e = λ i d below. absurd (omega arith)
   stops_fit p k (stop ∷ stops) e =
       let parts = nothing_broken (broken_at s c none_taken p stop) k (first_broken_from s c none_taken (make_stop s c p stop) (k + 1) stops) e in

@@ -226,7 +226,7 @@ module _ (s : Snapshot) (accepted : IsAccepted s) (stated : Stated) (text : HasT
   }
 
   -- the lines of the text stand for the answer with its boards by rising index
-  text_stands : StandsFor s (answer_lines s stated) (stated_by_index s stated)
+  pub text_stands : StandsFor s (answer_lines s stated) (stated_by_index s stated)
   unfolding answer_lines
   text_stands = record {
     head = head_words;
@@ -252,7 +252,7 @@ module _ (s : Snapshot) (accepted : IsAccepted s) (stated : Stated) (text : HasT
       let bound = number_line (codes "bound") stated.bound (name_word (codes "bound") refl refl) (omega arith) (omega (arith, text.within.bound)) in
       (head, (cost, (bound, each-append IsLineOfWords (flat_map (tour_lines s stated.plan) (range_with_len 0 (car_count s))) (end_words ∷ []) tours (end_line, tt))))
 
-  text_begins : (before : TextState) (tail : List ℕ) → before.bytes ≡ answer_text s stated ++ tail → length (answer_text s stated) ≤ before.limit → BeginsWith (answer_lines s stated) (reading before) (reading (behind before s stated tail))
+  pub text_begins : (before : TextState) (tail : List ℕ) → before.bytes ≡ answer_text s stated ++ tail → length (answer_text s stated) ≤ before.limit → BeginsWith (answer_lines s stated) (reading before) (reading (behind before s stated tail))
   unfolding answer_text
   text_begins before tail same room =
       subst (λ (bytes : List ℕ). BeginsWith (answer_lines s stated) (reading (record { line = before.line; limit = before.limit; bytes = bytes })) (reading (behind before s stated tail))) (sym same)

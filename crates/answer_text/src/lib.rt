@@ -13,4 +13,5 @@ mod writing;
 
 pub use answers::Stated;
 pub use reading::read_answer;
+pub use said::{call_named, car_named, short};
 pub use writing::{write_answer, write_body, write_stops};

@@ -13,8 +13,8 @@ use text_sections::{LineFault, TextCode, at_least, exactly, number, numbers};
 /// The greatest cost and the greatest bound, in cost units.
 const MOST_COST: u64 = 1_000_000_000_000_000_000;
 
-/// Word `k` as an id or a floor.
-fn short<S: Source>(lines: &LineReader<S>, k: u32) -> Result<u32, TextCode>
+/// Word `k` as an id or a floor: a number from 0 to 4294967295.
+pub fn short<S: Source>(lines: &LineReader<S>, k: u32) -> Result<u32, TextCode>
     requires { k < length (words lines.now) }
     ensures { result ≡ short (words lines.now) k }
 {
@@ -39,7 +39,7 @@ pub(crate) fn amount_said<S: Source>(lines: &LineReader<S>) -> Result<u64, TextC
 }
 
 /// The index of the car with this id.
-fn car_named(building: &Building, id: u32) -> Result<u32, TextCode>
+pub fn car_named(building: &Building, id: u32) -> Result<u32, TextCode>
     ensures { result ≡ car_named building.now id }
 {
     match building.car_of(id) {
@@ -61,7 +61,7 @@ pub(crate) fn tour_said<S: Source>(
 }
 
 /// The index of the call with this id.
-fn call_named(snapshot: &Snapshot, id: u32) -> Result<u32, TextCode>
+pub fn call_named(snapshot: &Snapshot, id: u32) -> Result<u32, TextCode>
     ensures { result ≡ call_named snapshot.now id }
 {
     match snapshot.call_of(id) {

@@ -1,7 +1,7 @@
 -- The printed codes of what is wrong with the words of a line.
 use Rattle.std.specs.Prelude.{ℕ, Result, Ok, Err}
 use Rattle.text_sections.specs.declared.codes.TextCode.{TextCode}
-use Rattle.text_sections.specs.declared.codes.TextCode.TheVariants.{NoLineWord, Missing, TooMany, NoNumber, OutOfRange, OutOfOrder, CutShort, NoState, UnknownId, NotInOpening, NoTime}
+use Rattle.text_sections.specs.declared.codes.TextCode.TheVariants.{NoLineWord, Missing, TooMany, NoNumber, OutOfRange, OutOfOrder, CutShort, NoState, ClaimsPast, UnknownId, NotInOpening, NoTime}
 
 abbrev pub code_of : TextCode → ℕ
 code_of NoLineWord = 3
@@ -12,6 +12,7 @@ code_of OutOfRange = 7
 code_of OutOfOrder = 8
 code_of CutShort = 9
 code_of NoState = 23
+code_of ClaimsPast = 24
 code_of UnknownId = 25
 code_of NotInOpening = 26
 code_of NoTime = 53

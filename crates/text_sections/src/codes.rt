@@ -25,6 +25,8 @@ pub enum TextCode {
     CutShort,
     /// A car has no state line.
     NoState,
+    /// The claims of a certificate, up to this line, sum past their limit.
+    ClaimsPast,
     /// The id of a car or a call is not known.
     UnknownId,
     /// The line may not stand in the opening snapshot of a day.
@@ -47,6 +49,7 @@ impl TextCode {
             TextCode::OutOfOrder => 8,
             TextCode::CutShort => 9,
             TextCode::NoState => 23,
+            TextCode::ClaimsPast => 24,
             TextCode::UnknownId => 25,
             TextCode::NotInOpening => 26,
             TextCode::NoTime => 53,

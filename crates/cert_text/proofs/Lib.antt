@@ -1,0 +1,13 @@
+pub mod EntryLemmas
+pub mod TreeLemmas
+pub mod SoundLemmas
+pub mod AgainLemmas
+pub mod PieceLemmas
+pub mod WithinLemmas
+pub mod ReaderLemmas
+pub mod LoopLemmas
+pub mod WideLemmas
+pub mod WrittenLemmas
+pub mod PartLemmas
+pub mod LineTexts
+pub mod LengthLemmas

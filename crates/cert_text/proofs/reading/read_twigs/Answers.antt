@@ -1,0 +1,46 @@
+use Rattle.std.proofs.Common.{rules, refl, arith}
+use Rattle.std.proofs.lemmas.Result.{err_from_is_err_and}
+use Rattle.lift_text.specs.LineReader.{text}
+use Rattle.cert_text.proofs.LoopLemmas.{gone_on, tells_whole, tells_fault}
+use Rattle.cert_text.proofs.reading.read_twigs.Goals as goal
+
+pub loop-init : goal.loop-init
+loop-init g c = record {
+  same_source = refl;
+  gone = λ first h. h;
+  sound = c.requires.sound;
+  whole = c.requires.whole;
+  counted = omega arith;
+}
+
+pub loop-preserved : goal.loop-preserved
+loop-preserved g c =
+    let left = g.S.Source.left in
+    let before = c.loop.invariant in
+    let read = rw c.if-is_whole.false at c.in_ok-is_whole.ensures in
+    record {
+      same_source = search rules;
+      gone = gone_on c.args.snapshot.now c.args.reader.now c.loop.reader c.read_twig.new.reader c.args.tree.now c.loop.tree c.read_twig.new.tree
+          (text left c.args.lines.now) (text left c.loop.lines) (text left c.read_twig.new.lines) before.gone read.adds;
+      sound = read.sound;
+      whole = read.ok;
+      counted = omega (arith, before.counted, read.counted);
+    }
+
+pub returns-then-is_whole-clause-tells : goal.returns-then-is_whole-clause-tells
+returns-then-is_whole-clause-tells g c =
+    let left = g.S.Source.left in
+    let read = rw c.if-is_whole.true at c.in_ok-is_whole.ensures in
+    tells_whole c.args.snapshot.now c.args.reader.now c.loop.reader c.read_twig.new.reader c.args.tree.now c.loop.tree c.read_twig.new.tree
+    (text left c.args.lines.now) (text left c.loop.lines) (text left c.read_twig.new.lines) c.loop.invariant.gone read.adds
+
+pub returns-in_err-is_whole-clause-tells : goal.returns-in_err-is_whole-clause-tells
+returns-in_err-is_whole-clause-tells g c =
+    let left = g.S.Source.left in
+    let same = err_from_is_err_and c.from_residual.result c.from_residual.ensures.1 in
+    rw (same.1, same.2)
+    (tells_fault c.args.snapshot.now c.args.reader.now c.loop.reader c.read_twig.new.reader c.args.tree.now c.loop.tree c.read_twig.new.tree c.in_err-is_whole.field-0.0
+    (text left c.args.lines.now) (text left c.loop.lines) (text left c.read_twig.new.lines) c.loop.invariant.gone c.in_err-is_whole.ensures.adds)
+
+pub returns-clause-tells : goal.returns-clause-tells
+returns-clause-tells g c = λ first h. tt

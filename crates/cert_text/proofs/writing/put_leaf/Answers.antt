@@ -1,0 +1,18 @@
+use Rattle.std.proofs.Common.{List, ◌++◌, ◌∙◌, ap, map}
+use Rattle.search_model.specs.declared.PriceOf.{PriceOf}
+use Rattle.search_model.specs.declared.WorthOf.{WorthOf}
+use Rattle.text_sections.specs.Canonical.{lines_text}
+use Rattle.cert_text.specs.Texts.{price_words, worth_words}
+use Rattle.cert_text.proofs.LineTexts.{wrote_leaf, ok_then}
+use Rattle.cert_text.proofs.writing.put_leaf.Goals as goal
+
+pub returns : goal.returns
+returns c =
+    let s = c.args.snapshot.now in
+    let leaf = c.args.leaf.now in
+    let first = c.put_line.new.out.items in
+    let second = c.put_prices.new.out.items in
+    ok_then c.put_worths.result c.put_worths.ensures (λ e.
+    wrote_leaf s leaf c.args.out.now.items first second c.put_worths.new.out.items c.in_ok-put_line.ensures.ok
+    (c.in_ok-put_prices.ensures ∙ ap (λ (ps : List PriceOf). first ++ lines_text (map (price_words s) ps)) c.as_slice.ensures)
+    (e ∙ ap (λ (ws : List WorthOf). second ++ lines_text (map (worth_words s) ws)) c.as_slice-2.ensures))

@@ -1,0 +1,9 @@
+pub mod Words
+pub mod Entries
+pub mod Trees
+pub mod Drafts
+pub mod Pieces
+pub mod Certs
+pub mod Readers
+pub mod Texts
+pub mod Written
