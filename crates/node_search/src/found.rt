@@ -1,12 +1,12 @@
 //! The whole search: turns at the root, rounds below it, and what is answered at the end.
 
-ghost use Rattle.std.specs.Prelude.{◌≡◌, ◌<◌, ◌≤◌, ◌^◌, ◌⊎◌, ℕ, ℤ, pos, ◌≤ℤ◌, ◌<ℤ◌, IfOk, OnOk, MatchOption, length, None, Some, IfSome, true};
+ghost use Rattle.std.specs.Prelude.{◌≡◌, ◌<◌, ◌≤◌, ◌^◌, ◌⊎◌, ℕ, ℤ, pos, ◌≤ℤ◌, ◌<ℤ◌, All, IfOk, OnOk, MatchOption, length, None, Some, IfSome, true};
 ghost use Rattle.elevator_model.specs.Snapshot.{Snapshot as SnapshotOf, IsAccepted, call_count, car_count};
 ghost use Rattle.elevator_model.specs.Plans.{IsFeasiblePlan};
 ghost use Rattle.search_model.specs.Sums.{rounded_up};
 ghost use Rattle.search_model.specs.Nodes.{is_part, root_of, set_of};
 ghost use Rattle.search_model.specs.Solving.{IsFound};
-ghost use Rattle.search_tree.specs.Sheets.{PriceSheet, sum_of_sheet};
+ghost use Rattle.search_tree.specs.Sheets.{IsSizedTwig, PriceSheet, sum_of_sheet};
 ghost use Rattle.search_tree.specs.Branches.{at_place};
 ghost use Rattle.search_tree.specs.Standing.{IsSheetIn, bound_of_sheet};
 ghost use Rattle.work_fan.specs.Work.{Serving};
@@ -145,7 +145,8 @@ fn answer(
     why: StopReason,
 ) -> Result<Found, AllocError>
     requires { pos 0 ≤ℤ least_of best.cost tree }
-    ensures { IfOk result (IsAnswerOf tree best.entry turns.items why) }
+    ensures answer { IfOk result (IsAnswerOf tree best.entry turns.items why) }
+    ensures sized { IfOk result (λ f. All IsSizedTwig f.tree.twigs) }
 {
     let bound = tree.bound(best.cost) as u64;
     Ok(Found {
@@ -252,11 +253,12 @@ fn end<P: Pricer>(
     requires ended { (start : PriceSheet) × (pos 0 ≤ℤ sum_of_sheet start)
         × IsEnded (P.fits pricer.now) (P.snapshot pricer.now) limits.rounds limits.moves start
         begun.turns.items begun.search }
-    ensures { IfOk result (λ f. (start : PriceSheet)
+    ensures found { IfOk result (λ f. (start : PriceSheet)
         → IsEnded (P.fits pricer.now) (P.snapshot pricer.now) limits.rounds limits.moves start
         begun.entry.turns.items begun.entry.search
         → IsFound (P.fits pricer.now) start.prices (rounded_up (sum_of_sheet start)) (P.snapshot pricer.now)
         limits.rounds limits.moves f.plan f.cost f.bound f.tree.twigs f.turns f.why) }
+    ensures sized { IfOk result (λ f. All IsSizedTwig f.tree.twigs) }
 {
     let Begun { search, turns } = begun;
     let calls = search.best.pool.snapshot().calls().len();
@@ -276,10 +278,11 @@ fn close<P: Pricer>(
     requires turned { (start : PriceSheet) × (pos 0 ≤ℤ sum_of_sheet start)
         × IsTurned (P.fits pricer.now) (P.snapshot pricer.now) limits.rounds limits.moves start root }
     requires closed { pos root.best.cost ≤ℤ bound_of_sheet (at_place root.tree 0).sheet }
-    ensures { IfOk result (λ f. (start : PriceSheet)
+    ensures found { IfOk result (λ f. (start : PriceSheet)
         → IsTurned (P.fits pricer.now) (P.snapshot pricer.now) limits.rounds limits.moves start root.entry
         → IsFound (P.fits pricer.now) start.prices (rounded_up (sum_of_sheet start)) (P.snapshot pricer.now)
         limits.rounds limits.moves f.plan f.cost f.bound f.tree.twigs f.turns f.why) }
+    ensures sized { IfOk result (λ f. All IsSizedTwig f.tree.twigs) }
 {
     let Root {
         tree,
@@ -337,8 +340,9 @@ fn find_at<P: Pricer, G: Gate + Sync>(
     requires rounds { (1 ≤ limits.rounds) × (limits.rounds ≤ 10 ^ 18) }
     requires moves { (1 ≤ limits.moves) × (limits.moves ≤ 10 ^ 18) }
     requires desks { Serving (P.owns pricer.now) desks.old }
-    ensures { IfOk result (λ f. IsFound (P.fits pricer.now) sheet.prices (rounded_up (sum_of_sheet sheet)) snapshot.now
+    ensures found { IfOk result (λ f. IsFound (P.fits pricer.now) sheet.prices (rounded_up (sum_of_sheet sheet)) snapshot.now
         limits.rounds limits.moves f.plan f.cost f.bound f.tree.twigs f.turns f.why) }
+    ensures sized { IfOk result (λ f. All IsSizedTwig f.tree.twigs) }
 {
     let root = turned(
         rt, alloc, snapshot, pricer, start, sheet, limits, desks, gate,
@@ -356,7 +360,7 @@ fn find_at<P: Pricer, G: Gate + Sync>(
 /// The plan that it answers costs `cost`, and no feasible plan costs less than `bound`, as the tree proves. It starts
 /// with turns at the root: up to 20 pricings of all cars, at prices that move from turn to turn. Then rounds each price a
 /// few leaves of the tree, which are split in time, until cost and bound are the same, as many rounds were done as
-/// `limits` allows, or nothing is left to split. `workers` is 1 to 16, and `gate` is told of each pricing before it begins.
+/// `limits` allows, or nothing is left to split. Each price and each worth of the tree lies in its range. `workers` is 1 to 16, and `gate` is told of each pricing before it begins.
 /// It fails only where there is no memory left.
 pub fn find_plan<P: Pricer, G: Gate + Sync>(
     rt: &(impl Threads + Sync),
@@ -376,8 +380,9 @@ pub fn find_plan<P: Pricer, G: Gate + Sync>(
     requires rounds { (1 ≤ limits.rounds) × (limits.rounds ≤ 10 ^ 18) }
     requires moves { (1 ≤ limits.moves) × (limits.moves ≤ 10 ^ 18) }
     requires workers { (1 ≤ workers) × (workers ≤ 16) }
-    ensures { IfOk result (λ f. IsFound (P.fits pricer.now) sheet.prices (rounded_up (sum_of_sheet sheet)) snapshot.now
+    ensures found { IfOk result (λ f. IsFound (P.fits pricer.now) sheet.prices (rounded_up (sum_of_sheet sheet)) snapshot.now
         limits.rounds limits.moves f.plan f.cost f.bound f.tree.twigs f.turns f.why) }
+    ensures sized { IfOk result (λ f. All IsSizedTwig f.tree.twigs) }
 {
     let mut desks = desks_for(alloc, pricer, workers)?;
     find_at(

@@ -1,8 +1,11 @@
 -- Prices and worths of a leaf, in the order of the calls and cars.
-use Rattle.std.specs.Prelude.{ℕ, ◌+◌, ◌*◌, ◌^◌, ◌<◌, ◌≤◌, ℤ, pos, neg_ℤ, ◌+ℤ◌, ◌≤ℤ◌, int_lt, List, [], ◌∷◌, length, map, slice_index_or, if◌then◌else◌}
+use Rattle.std.specs.Prelude.{ℕ, ◌+◌, ◌*◌, ◌^◌, ◌<◌, ◌≤◌, ℤ, pos, neg_ℤ, ◌+ℤ◌, ◌≤ℤ◌, int_lt, List, [], ◌∷◌, All, length, map, slice_index_or, if◌then◌else◌}
+use Rattle.price_scale.specs.Scale.{IsPrice}
 use Rattle.search_model.specs.declared.PriceOf.{PriceOf}
 use Rattle.search_model.specs.declared.WorthOf.{WorthOf}
 use Rattle.search_model.specs.declared.Leaf.{Leaf}
+use Rattle.search_model.specs.declared.Twig.{Twig}
+use Rattle.search_model.specs.declared.Twig.TheVariants.{Split, Leaf as Tip}
 use Rattle.search_model.specs.declared.TurnOf.{TurnOf}
 use Rattle.search_model.specs.Sums.{int_sum_by}
 use Rattle.assign_branch.specs.Pricings.{IsWorthSize}
@@ -61,6 +64,16 @@ worths_from car (w ∷ worths) = record { car = car; worth = w.worth; claim = w.
 -- the leaf of a certificate that states these
 abbrev pub leaf_of : PriceSheet → Leaf
 leaf_of sheet = record { prices = prices_from 0 sheet.prices; worths = worths_from 0 sheet.worths }
+
+-- each price of a leaf lies in its range, and each worth
+pub record IsSizedLeaf (leaf : Leaf) : Type 0 where
+  pub prices : All (λ (p : PriceOf). IsPrice p.price) leaf.prices
+  pub worths : All (λ (w : WorthOf). IsWorthSize w.worth) leaf.worths
+
+-- so, and a part is a set of cars
+abbrev pub IsSizedTwig : Twig → Type 0
+IsSizedTwig (Split j part) = part < 2 ^ 16
+IsSizedTwig (Tip leaf) = IsSizedLeaf leaf
 
 -- ---- pricings
 

@@ -2,10 +2,11 @@
 
 ghost use Rattle.std.specs.Prelude.{◌≡◌, ◌<◌, ◌≤◌, IfOk, IfSome, length};
 ghost use Rattle.std.specs.Option.{is_some};
+ghost use Rattle.search_model.specs.declared.Twig.TheVariants.{Split};
 ghost use Rattle.search_model.specs.Nodes.{is_part, set_of};
 ghost use Rattle.search_model.specs.Solving.{lesser_bound};
 ghost use Rattle.search_tree.specs.Parts.{ArePartsOf};
-ghost use Rattle.search_tree.specs.Sheets.{AreTurnSizes};
+ghost use Rattle.search_tree.specs.Sheets.{AreTurnSizes, IsSizedTwig};
 ghost use Rattle.search_tree.specs.Branches.{depth_below, first_spent, leaf_at, noted, twig_of};
 
 use crate::sheets::Sheet;
@@ -19,6 +20,19 @@ use std::alloc::{AllocError, Global};
 pub struct SplitAt {
     pub call: u32,
     pub part: CarSet,
+}
+
+impl SplitAt {
+    /// What a certificate states of it.
+    fn to_twig(self) -> Twig
+        ensures twig { result ≡ Split self.call self.part }
+        ensures sized { IsSizedTwig result }
+    {
+        Twig::Split {
+            call: self.call,
+            part: self.part,
+        }
+    }
 }
 
 /// A node of the tree.
@@ -142,10 +156,11 @@ impl Branch {
 
     /// What a certificate states of it. It fails only where there is no memory left.
     pub(crate) fn to_twig(&self, alloc: Global) -> Result<Twig, AllocError>
-        ensures { IfOk result (λ twig. twig ≡ twig_of self.now) }
+        ensures twig { IfOk result (λ twig. twig ≡ twig_of self.now) }
+        ensures sized { IfOk result IsSizedTwig }
     {
         match self.split {
-            Some(SplitAt { call, part }) => Ok(Twig::Split { call, part }),
+            Some(at) => Ok(at.to_twig()),
             None => Ok(Twig::Leaf(self.sheet.to_leaf(alloc)?)),
         }
     }

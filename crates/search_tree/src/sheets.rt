@@ -1,9 +1,11 @@
 //! Prices and worths, in the order of the calls and cars.
 
-ghost use Rattle.std.specs.Prelude.{◌≡◌, ◌≤◌, IfOk, length, map};
+ghost use Rattle.std.specs.Prelude.{◌≡◌, ◌≤◌, All, IfOk, length, map};
+ghost use Rattle.price_scale.specs.Scale.{IsPrice};
+ghost use Rattle.assign_branch.specs.Pricings.{IsWorthSize};
 ghost use Rattle.search_model.specs.Sums.{rounded_up};
 ghost use Rattle.search_tree.specs.Kept.{KeepsSum, of_lists};
-ghost use Rattle.search_tree.specs.Sheets.{AreTurnSizes, AreWorthSizes, IsSized, IsWorthSum, greater_of, leaf_of, prices_from, raised, sum_of_sheet, sum_of_worths, turn_worth, worths_from};
+ghost use Rattle.search_tree.specs.Sheets.{AreTurnSizes, AreWorthSizes, IsSized, IsSizedLeaf, IsWorthSum, greater_of, leaf_of, prices_from, raised, sum_of_sheet, sum_of_worths, turn_worth, worths_from};
 
 use price_scale::{Price, sum_prices, unscale_up};
 use search_model::{Items, Leaf, PriceOf, TurnOf, WorthOf};
@@ -199,7 +201,8 @@ impl Sheet {
 
     /// The leaf of a certificate that states these. It fails only where there is no memory left.
     pub(crate) fn to_leaf(&self, alloc: Global) -> Result<Leaf, AllocError>
-        ensures { IfOk result (λ leaf. leaf ≡ leaf_of self.now) }
+        ensures leaf { IfOk result (λ leaf. leaf ≡ leaf_of self.now) }
+        ensures sized { IfOk result IsSizedLeaf }
     {
         let prices = list_prices(alloc, &self.prices)?;
         let worths = list_worths(alloc, &self.worths)?;
@@ -210,13 +213,16 @@ impl Sheet {
 /// The prices, each with its call. It fails only where there is no memory left.
 fn list_prices(alloc: Global, prices: &[Price]) -> Result<Items<PriceOf>, AllocError>
     requires { length prices.now ≤ 128 }
-    ensures { IfOk result (λ list. list ≡ prices_from 0 prices.now) }
+    ensures list { IfOk result (λ list. list ≡ prices_from 0 prices.now) }
+    ensures sized { IfOk result (All (λ p. IsPrice p.price)) }
 {
     let mut list = Items::new(alloc);
     for call in 0..prices.len() {
+        let price = prices[call];
+        prove!(price.value() <= 1_000_000_000_000_000_000_000_000);
         list.push(PriceOf {
             call: call as u32,
-            price: prices[call],
+            price,
         })?;
     }
     Ok(list)
@@ -224,8 +230,10 @@ fn list_prices(alloc: Global, prices: &[Price]) -> Result<Items<PriceOf>, AllocE
 
 /// The worths, each with its car. It fails only where there is no memory left.
 fn list_worths(alloc: Global, worths: &[Worth]) -> Result<Items<WorthOf>, AllocError>
-    requires { length worths.now ≤ 16 }
-    ensures { IfOk result (λ list. list ≡ worths_from 0 worths.now) }
+    requires few { length worths.now ≤ 16 }
+    requires sizes { AreWorthSizes worths.now }
+    ensures list { IfOk result (λ list. list ≡ worths_from 0 worths.now) }
+    ensures sized { IfOk result (All (λ w. IsWorthSize w.worth)) }
 {
     let mut list = Items::new(alloc);
     for car in 0..worths.len() {

@@ -1,9 +1,9 @@
 //! The tree.
 
-ghost use Rattle.std.specs.Prelude.{◌≡◌, ◌<◌, ◌≤◌, ◌+◌, [], ◌∷◌, IfOk, OnErr, insert, vec_capacity, vec_len, length, map, true, false, slice_set};
+ghost use Rattle.std.specs.Prelude.{◌≡◌, ◌<◌, ◌≤◌, ◌+◌, [], ◌∷◌, All, IfOk, OnErr, insert, vec_capacity, vec_len, length, map, true, false, slice_set};
 ghost use Rattle.search_model.specs.Nodes.{is_part, set_of};
 ghost use Rattle.search_model.specs.Solving.{least_bound};
-ghost use Rattle.search_tree.specs.Sheets.{AreTurnSizes};
+ghost use Rattle.search_tree.specs.Sheets.{AreTurnSizes, IsSizedTwig};
 ghost use Rattle.search_tree.specs.Branches.{at_place, leaf_at, noted, split_tree, twig_of};
 
 use crate::branches::{Branch, SplitAt};
@@ -101,9 +101,10 @@ impl SearchTree {
         least
     }
 
-    /// The twigs of a certificate. It fails only where there is no memory left.
+    /// The twigs of a certificate: each price and each worth of them lies in its range. It fails only where there is no memory left.
     pub fn to_tree(&self, alloc: Global) -> Result<Tree, AllocError>
-        ensures { IfOk result (λ tree. tree.twigs ≡ map twig_of self.now) }
+        ensures twigs { IfOk result (λ tree. tree.twigs ≡ map twig_of self.now) }
+        ensures sized { IfOk result (λ tree. All IsSizedTwig tree.twigs) }
     {
         let mut twigs = Items::new(alloc);
         for place in 0..self.branches.len() {

@@ -1,9 +1,10 @@
 //! The cheapest plan of a snapshot.
 
-ghost use Rattle.std.specs.Prelude.{◌≡◌, ◌≤◌, ◌^◌, IfOk};
+ghost use Rattle.std.specs.Prelude.{◌≡◌, ◌≤◌, ◌^◌, All, IfOk};
 ghost use Rattle.search_model.specs.declared.StopReason.TheVariants.{Solved};
 ghost use Rattle.search_model.specs.Solving.{IsSolveAnswer};
 ghost use Rattle.search_model.specs.Verdicts.{moves_enough, rounds_enough};
+ghost use Rattle.search_tree.specs.Sheets.{IsSizedTwig};
 
 use crate::starts::start_leaf;
 use byte_streams::Gate;
@@ -18,7 +19,7 @@ use std::thread::Threads;
 /// Searches for the cheapest plan of the snapshot within the limits, with 1 to 16 workers.
 ///
 /// What it answers is a feasible plan with its cost, a bound that no feasible plan's cost is below, and the tree that
-/// proves them. Cost and bound are equal unless a limit was reached, and where the limits are enough for the snapshot none
+/// proves them, whose prices and worths lie in their ranges. Cost and bound are equal unless a limit was reached, and where the limits are enough for the snapshot none
 /// is. `gate` is told of each pricing before it begins. It fails only where there is no memory left.
 pub fn solve<G: Gate + Sync>(
     rt: &(impl Threads + Sync),
@@ -33,6 +34,7 @@ pub fn solve<G: Gate + Sync>(
     requires workers { (1 ≤ workers) × (workers ≤ 16) }
     ensures answer { IfOk result (λ f. IsSolveAnswer snapshot.now limits.rounds limits.moves f.plan f.cost f.bound
         f.tree.twigs f.turns f.why) }
+    ensures sized { IfOk result (λ f. All IsSizedTwig f.tree.twigs) }
     ensures enough { rounds_enough snapshot.now ≤ limits.rounds → moves_enough snapshot.now ≤ limits.moves
         → IfOk result (λ f. f.why ≡ Solved) }
 {

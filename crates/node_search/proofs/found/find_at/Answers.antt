@@ -5,8 +5,8 @@ use Rattle.search_tree.specs.Standing.{bound_of_sheet}
 use Rattle.node_search.proofs.SearchEnd.{if_ok}
 use Rattle.node_search.proofs.found.find_at.Goals as goal
 
-pub returns : goal.returns
-returns g c =
+pub returns-clause-found : goal.returns-clause-found
+returns-clause-found g c =
     let fits = g.P.Pricer.fits c.args.pricer.now in
     let sheet = c.args.sheet in
-    if_ok c.end.result _ _ (λ f h. subst (λ (x : Snapshot). IsFound fits sheet.prices (bound_of_sheet sheet) x c.args.limits.rounds c.args.limits.moves f.plan f.cost f.bound f.tree.twigs f.turns f.why) c.requires.snapshot (h sheet (c.in_ok-begun.ensures sheet c.in_ok-root.ensures.turned))) c.end.ensures
+    if_ok c.end.result _ _ (λ f h. subst (λ (x : Snapshot). IsFound fits sheet.prices (bound_of_sheet sheet) x c.args.limits.rounds c.args.limits.moves f.plan f.cost f.bound f.tree.twigs f.turns f.why) c.requires.snapshot (h sheet (c.in_ok-begun.ensures sheet c.in_ok-root.ensures.turned))) c.end.ensures.found
