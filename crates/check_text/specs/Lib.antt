@@ -1,0 +1,4 @@
+pub mod Laws
+pub mod CheckTexts
+pub mod VerdictTexts
+pub mod Layers
