@@ -13,6 +13,8 @@ mod copies;
 #[cfg(test)]
 mod costs;
 #[cfg(test)]
+mod days;
+#[cfg(test)]
 mod makers;
 #[cfg(test)]
 mod refusals;

@@ -191,3 +191,56 @@ pub(crate) fn four_calls(alloc: Global) -> Result<Snapshot, StateFault> {
     let states = [first, second, coming(1, 4321)];
     shown(alloc, three_cars(alloc)?, 1234, &states, &aboard, &calls)
 }
+
+/// Four uneven floors with a large car and a small one, whose doors and passengers take uneven times.
+fn uneven_floors(alloc: Global) -> Result<BuildingParts, StateFault> {
+    let times = [
+        0, 3875, 7875, 8542, 3875, 0, 5875, 6542, 7875, 5875, 0, 2237, 8542, 6542, 2237, 0,
+    ];
+    let large = CarSpec {
+        id: 7,
+        capacity: 5,
+        opening: 1100,
+        closing: 700,
+        boarding: 300,
+        alighting: 900,
+        serves: FloorSet::from_bits(15),
+    };
+    let small = CarSpec {
+        id: 8,
+        capacity: 3,
+        opening: 800,
+        closing: 500,
+        boarding: 400,
+        alighting: 600,
+        serves: FloorSet::from_bits(15),
+    };
+    Ok(BuildingParts {
+        version: 2,
+        heights: [0, 3000, 9000, 10000].to_vec(alloc)?,
+        speed: 1500,
+        accel: 800,
+        wait_weight: 3,
+        travel_weight: 2,
+        patience: 2000,
+        patience_weight: 5,
+        cars: [large, small].to_vec(alloc)?,
+        travel: Travel::build(4, times.to_vec(alloc)?)?,
+    })
+}
+
+/// The large car stands with three persons for floor 0, and the small one comes there. Three calls are open.
+pub(crate) fn uneven_pair(alloc: Global) -> Result<Snapshot, StateFault> {
+    let calls = [
+        call(5, 1, 3, 2, 900),
+        call(2, 1, 3, 1, 950),
+        call(9, 2, 0, 1, 400),
+    ];
+    let large = CarState::Idle {
+        floor: 2,
+        free: 5000,
+    };
+    let states = [large, coming(0, 2500)];
+    let aboard = [group(30, 0, 3, 400)];
+    shown(alloc, uneven_floors(alloc)?, 1000, &states, &aboard, &calls)
+}

@@ -1,0 +1,17 @@
+pub mod Renaming
+pub mod LaterTours
+pub mod ListedRiders
+pub mod Numbering
+pub mod Boarding
+pub mod LaterRiders
+pub mod LaterNumbers
+pub mod LaterTimes
+pub mod LaterStates
+pub mod AdvanceLaws
+pub mod IdOrders
+pub mod OpeningLaws
+pub mod TakenLaws
+pub mod Steps
+pub mod RideSteps
+pub mod CarsReached
+pub mod PassedRiders

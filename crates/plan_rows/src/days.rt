@@ -1,0 +1,352 @@
+//! Days, step by step: what has happened by a moment, and where everyone is then. The moments were worked
+//! out by hand.
+
+ghost use Rattle.std.specs.Prelude.{◌≡◌, ◌<◌, ℕ, length, IsTrue};
+ghost use Rattle.elevator_model.specs.Snapshot.{call_count, call_of, group_of};
+ghost use Rattle.elevator_model.specs.Plans.{IsFeasiblePlan};
+ghost use Rattle.day_state.specs.Openings.{IsNewCall};
+
+use crate::makers::{call, coming, group, idle, riding_in, snapshot, uneven_pair};
+use crate::written::plan_in;
+use call_state::{Aboard, Call, CarState, Snapshot};
+use day_state::{Event, NotTaken, World};
+use elevator_model::Plan;
+use std::alloc::Global;
+use std::test::Fail;
+use tour_cost::judge_plan;
+
+fn boards(call: u32, car: u32, moment: u64) -> Event {
+    Event::Board { call, car, moment }
+}
+
+fn gets_off(call: u32, car: u32, moment: u64) -> Event {
+    Event::Deliver { call, car, moment }
+}
+
+fn standing(floor: u32, free: u64) -> CarState {
+    CarState::Idle { floor, free }
+}
+
+fn rising(from: u32, left: u64) -> CarState {
+    CarState::Moving {
+        from,
+        up: true,
+        left,
+    }
+}
+
+/// Whether the plan is feasible.
+fn is_feasible(snapshot: &Snapshot, plan: &Plan) -> bool
+    ensures { IsTrue result → IsFeasiblePlan snapshot.now plan.now }
+{
+    if plan.tours().len() != snapshot.building().cars().len() {
+        return false;
+    }
+    judge_plan(snapshot, plan).is_ok()
+}
+
+/// Gives the world a plan in this text, where it is feasible.
+fn plan(alloc: Global, world: &mut World, text: &str) -> bool {
+    match plan_in(alloc, text) {
+        Some(plan) if is_feasible(world.snapshot(), &plan) => {
+            world.set_plan(plan);
+            true
+        }
+        _ => false,
+    }
+}
+
+/// Goes on to the moment, where the plan is feasible and the moment may be.
+fn advance(alloc: Global, world: &mut World, t: u64, events: &mut Vec<Event>) -> bool {
+    if t < world.snapshot().now() || t > 1_000_000_000 {
+        return false;
+    }
+    if !is_feasible(world.snapshot(), world.plan()) {
+        return false;
+    }
+    world.advance(alloc, t, events).is_ok()
+}
+
+/// Whether the rest of the plan brings these events.
+fn runs_out(alloc: Global, world: &World, due: &[Event]) -> bool {
+    if !is_feasible(world.snapshot(), world.plan()) {
+        return false;
+    }
+    let mut events = Vec::new(alloc);
+    world.run_out(alloc, &mut events).is_ok() && events.as_slice() == due
+}
+
+/// Whether these are the states of the cars.
+fn has_states(snapshot: &Snapshot, states: &[CarState]) -> bool {
+    if states.len() != snapshot.building().cars().len() {
+        return false;
+    }
+    for (car, state) in states.iter().enumerate() {
+        if snapshot.car(car as u32) != *state {
+            return false;
+        }
+    }
+    true
+}
+
+/// Whether no call and no group has this id.
+fn is_new_id(snapshot: &Snapshot, id: u32) -> bool
+    ensures calls { IsTrue result → (j : ℕ) → j < call_count snapshot.now
+        → (call_of snapshot.now j).id ≡ id → ⊥ }
+    ensures groups { IsTrue result → (k : ℕ) → k < length snapshot.now.aboard
+        → id ≡ (group_of snapshot.now k).id → ⊥ }
+{
+    for group in snapshot.aboard() {
+        if group.id == id {
+            return false;
+        }
+    }
+    snapshot.call_of(id).is_none()
+}
+
+/// Whether the call may come now.
+fn is_new(snapshot: &Snapshot, call: &Call) -> bool
+    ensures { IsTrue result → IsNewCall snapshot.now call.now }
+{
+    let floors = snapshot.building().heights().len();
+    is_new_id(snapshot, call.id)
+        && call.released == snapshot.now()
+        && (1 <= call.persons && call.persons <= 8)
+        && ((call.origin as usize) < floors && (call.destination as usize) < floors)
+        && call.origin != call.destination
+        && call.pin.is_none()
+}
+
+/// What the world answers to a call that may come, and `None` for another one.
+fn accept(alloc: Global, world: &mut World, call: Call) -> Option<Result<(), NotTaken>> {
+    if !is_new(world.snapshot(), &call) {
+        return None;
+    }
+    Some(world.accept(alloc, call))
+}
+
+/// Goes on to the moment when the call comes, takes it and gets this plan.
+fn step(alloc: Global, world: &mut World, call: Call, text: &str, events: &mut Vec<Event>) -> bool {
+    advance(alloc, world, call.released, events)
+        && accept(alloc, world, call) == Some(Ok(()))
+        && plan(alloc, world, text)
+}
+
+/// The world of a day that begins with one car of this capacity in this state.
+fn opened(alloc: Global, now: u64, capacity: u32, state: CarState) -> Option<World> {
+    let snapshot = snapshot(alloc, now, &[capacity], &[state], &[], &[]).ok()?;
+    if !snapshot.calls().is_empty() || !snapshot.aboard().is_empty() {
+        return None;
+    }
+    World::opening(alloc, snapshot).ok()
+}
+
+/// A day of three calls, the second one at the moment of an arrival, the third during a dwell.
+fn is_day_right(alloc: Global, world: &mut World) -> bool {
+    let mut events = Vec::new(alloc);
+    let done = step(alloc, world, call(1, 0, 1, 1, 0), "0:0 1", &mut events)
+        && step(alloc, world, call(2, 1, 2, 1, 6500), "1:0 2", &mut events)
+        && has_states(world.snapshot(), &[standing(1, 9000)])
+        && step(alloc, world, call(3, 1, 3, 1, 9500), "1:0 2 3", &mut events);
+    let due = [
+        boards(1, 1, 1000),
+        gets_off(1, 1, 7500),
+        boards(2, 1, 10000),
+    ];
+    let last = [
+        boards(3, 1, 12500),
+        gets_off(2, 1, 19000),
+        gets_off(3, 1, 25500),
+    ];
+    done && events.as_slice() == due.as_slice()
+        && has_states(world.snapshot(), &[standing(1, 11500)])
+        && world.snapshot().aboard() == [group(2, 2, 1, 10000)].as_slice()
+        && runs_out(alloc, world, &last)
+}
+
+#[test]
+fn a_day_of_three_calls(rt: HostRuntime) -> Result<(), Fail> {
+    let mut world = opened(rt.alloc(), 0, 8, idle(0)).ok_or("no world")?;
+    assert!(rt; is_day_right(rt.alloc(), &mut world));
+    Ok(())
+}
+
+/// A car that moves picks up a second call on its way, and comes to its floor once it can stop nowhere else.
+fn is_moving_day_right(alloc: Global, world: &mut World) -> bool {
+    let mut events = Vec::new(alloc);
+    let done = step(alloc, world, call(1, 2, 3, 1, 0), "2:0 3", &mut events)
+        && step(
+            alloc,
+            world,
+            call(2, 1, 2, 1, 2000),
+            "1:1 2:0 3",
+            &mut events,
+        )
+        && has_states(world.snapshot(), &[rising(0, 0)]);
+    let last = [
+        boards(2, 1, 5000),
+        gets_off(2, 1, 11500),
+        boards(1, 1, 11500),
+        gets_off(1, 1, 18500),
+    ];
+    done && runs_out(alloc, world, &last)
+        && advance(alloc, world, 2001, &mut events)
+        && has_states(world.snapshot(), &[coming(1, 4000)])
+        && events.is_empty()
+}
+
+#[test]
+fn a_day_of_a_moving_car(rt: HostRuntime) -> Result<(), Fail> {
+    let mut world = opened(rt.alloc(), 0, 8, idle(0)).ok_or("no world")?;
+    assert!(rt; is_moving_day_right(rt.alloc(), &mut world));
+    Ok(())
+}
+
+/// Whether the day of this car begins with this plan.
+fn opens_with(alloc: Global, now: u64, state: CarState, text: &str) -> bool {
+    match (opened(alloc, now, 8, state), plan_in(alloc, text)) {
+        (Some(world), Some(plan)) => *world.plan() == plan,
+        _ => false,
+    }
+}
+
+#[test]
+fn days_open_with_stops_of_cars_on_their_way(rt: HostRuntime) {
+    let falling = CarState::Moving {
+        from: 3,
+        up: false,
+        left: 0,
+    };
+    assert!(rt; opens_with(rt.alloc(), 0, idle(0), ""));
+    assert!(rt; opens_with(rt.alloc(), 0, coming(2, 7), "2"));
+    assert!(rt; opens_with(rt.alloc(), 2000, rising(0, 0), "1"));
+    assert!(rt; opens_with(rt.alloc(), 2001, rising(0, 0), "2"));
+    assert!(rt; opens_with(rt.alloc(), 2000, falling, "2"));
+}
+
+/// The two uneven cars with a plan: the large one delivers its group and takes two calls, the small one stops
+/// where it comes to and takes one.
+fn uneven_world(alloc: Global) -> Option<World> {
+    let plan = plan_in(alloc, "0 1:01 3 / 0 2:2 0")?;
+    Some(World::of_parts(uneven_pair(alloc).ok()?, plan))
+}
+
+/// Whether these calls wait, by their ids.
+fn has_calls(snapshot: &Snapshot, ids: &[u32]) -> bool {
+    if snapshot.calls().len() != ids.len() {
+        return false;
+    }
+    for (call, id) in snapshot.calls().iter().zip(ids) {
+        if call.id != *id {
+            return false;
+        }
+    }
+    true
+}
+
+/// Whether this plan is left.
+fn has_plan(alloc: Global, world: &World, text: &str) -> bool {
+    match plan_in(alloc, text) {
+        Some(plan) => *world.plan() == plan,
+        None => false,
+    }
+}
+
+/// Whether at the moment these have happened and the cars are in these states.
+fn is_then(alloc: Global, world: &mut World, t: u64, states: &[CarState], due: &[Event]) -> bool {
+    let mut events = Vec::new(alloc);
+    advance(alloc, world, t, &mut events)
+        && events.as_slice() == due
+        && has_states(world.snapshot(), states)
+}
+
+#[test]
+fn two_uneven_cars_before_and_at_an_arrival(rt: HostRuntime) -> Result<(), Fail> {
+    let mut world = uneven_world(rt.alloc()).ok_or("no world")?;
+    let states = [standing(2, 5000), coming(0, 2500)];
+    assert!(rt; is_then(rt.alloc(), &mut world, 2499, &states, &[]));
+    assert!(rt; has_plan(rt.alloc(), &world, "0 1:01 3 / 0 2:2 0"));
+    let states = [standing(2, 5000), standing(0, 3800)];
+    assert!(rt; is_then(rt.alloc(), &mut world, 2500, &states, &[]));
+    assert!(rt; has_plan(rt.alloc(), &world, "0 1:01 3 / 2:2 0"));
+    assert!(rt; has_calls(world.snapshot(), &[5, 2, 9]));
+    Ok(())
+}
+
+#[test]
+fn two_uneven_cars_under_way(rt: HostRuntime) -> Result<(), Fail> {
+    let mut world = uneven_world(rt.alloc()).ok_or("no world")?;
+    let due = [gets_off(30, 7, 13975), boards(9, 8, 12475)];
+    let states = [standing(0, 17375), standing(2, 13375)];
+    assert!(rt; is_then(rt.alloc(), &mut world, 12875, &states, &due));
+    assert!(rt; has_plan(rt.alloc(), &world, "1:01 3 / 0"));
+    assert!(rt; has_calls(world.snapshot(), &[5, 2]));
+    let aboard = [riding_in(group(9, 0, 1, 12475), 1)];
+    assert!(rt; world.snapshot().aboard() == aboard.as_slice());
+    let states = [coming(1, 21250), coming(0, 21250)];
+    assert!(rt; is_then(rt.alloc(), &mut world, 21125, &states, &[]));
+    Ok(())
+}
+
+#[test]
+fn those_who_board_together_come_by_their_ids(rt: HostRuntime) -> Result<(), Fail> {
+    let mut world = uneven_world(rt.alloc()).ok_or("no world")?;
+    let due = [
+        gets_off(30, 7, 13975),
+        boards(2, 7, 22350),
+        boards(5, 7, 22350),
+        boards(9, 8, 12475),
+        gets_off(9, 8, 22050),
+    ];
+    let states = [rising(1, 23950), standing(0, 24000)];
+    assert!(rt; is_then(rt.alloc(), &mut world, 24000, &states, &due));
+    assert!(rt; has_plan(rt.alloc(), &world, "3 /"));
+    let aboard = [group(2, 3, 1, 22350), group(5, 3, 2, 22350)];
+    assert!(rt; world.snapshot().aboard() == aboard.as_slice());
+    let last = [gets_off(2, 7, 31592), gets_off(5, 7, 31592)];
+    assert!(rt; runs_out(rt.alloc(), &world, &last));
+    Ok(())
+}
+
+#[test]
+fn the_index_of_a_call_that_waits_falls(rt: HostRuntime) -> Result<(), Fail> {
+    let mut world = uneven_world(rt.alloc()).ok_or("no world")?;
+    let mut events = Vec::new(rt.alloc());
+    assert!(rt; plan(rt.alloc(), &mut world, "0 1:0 3 1:1 3 / 0 2:2 0"));
+    assert!(rt; advance(rt.alloc(), &mut world, 24000, &mut events));
+    assert!(rt; has_plan(rt.alloc(), &world, "3 1:0 3 /"));
+    Ok(())
+}
+
+/// Takes 64 calls while the car comes, and then one that is too many.
+fn is_full(alloc: Global, world: &mut World) -> bool {
+    for id in 1..65 {
+        if accept(alloc, world, call(id, 0, 1, 1, 0)) != Some(Ok(())) {
+            return false;
+        }
+    }
+    accept(alloc, world, call(65, 0, 1, 1, 0)) == Some(Err(NotTaken::Full))
+        && world.snapshot().calls().len() == 64
+}
+
+#[test]
+fn a_world_takes_no_call_that_is_too_many(rt: HostRuntime) -> Result<(), Fail> {
+    let mut world = opened(rt.alloc(), 0, 8, coming(3, 90000000)).ok_or("no world")?;
+    let large = Call {
+        persons: 9,
+        ..call(7, 0, 1, 1, 0)
+    };
+    assert!(rt; accept(rt.alloc(), &mut world, large).is_none());
+    assert!(rt; is_full(rt.alloc(), &mut world));
+    Ok(())
+}
+
+#[test]
+fn a_world_takes_no_call_that_no_car_can_take(rt: HostRuntime) -> Result<(), Fail> {
+    let mut world = opened(rt.alloc(), 0, 2, idle(0)).ok_or("no world")?;
+    let three = call(7, 0, 1, 3, 0);
+    assert!(rt; accept(rt.alloc(), &mut world, three) == Some(Err(NotTaken::NoCar)));
+    assert!(rt; accept(rt.alloc(), &mut world, call(7, 0, 1, 2, 0)) == Some(Ok(())));
+    assert!(rt; world.snapshot().calls().len() == 1);
+    Ok(())
+}
