@@ -1,5 +1,5 @@
 -- What is written of what a search answers.
-use Rattle.std.proofs.Common.{◌≡◌, ℕ, ◌≤◌, List, [], ◌++◌, refl, sym, ap, ◌∙◌, subst, inl, inr, arith}
+use Rattle.std.proofs.Common.{◌≡◌, ℕ, ◌≤◌, List, [], ◌++◌, sym, ap, ◌∙◌, subst, inl, inr, arith}
 use Rattle.std.specs.Prelude.{◌⊎◌, Option}
 use Rattle.search_model.specs.Verdicts.{rounds_enough, moves_enough}
 use Rattle.elevator_model.specs.declared.Stop.{Stop}
@@ -12,14 +12,15 @@ use Rattle.search_model.specs.declared.StopReason.TheVariants.{Solved, Rounds, M
 use Rattle.search_model.specs.Solving.{IsSolveAnswer, IsReason}
 use Rattle.search_model.proofs.TreeLemmas.{proves-bound}
 use Rattle.call_state.proofs.PossibleLemmas.{most_cars-le}
+use Rattle.answer_text.specs.declared.answers.Stated.{Stated}
 use Rattle.answer_text.specs.Texts.{answer_text}
 use Rattle.lift_words.specs.declared.request.SolveOptions.{SolveOptions}
 use Rattle.lift_commands.specs.declared.status.Status.{Status}
 use Rattle.lift_commands.specs.declared.status.Status.TheVariants.{Done, Stopped, Memory}
-use Rattle.lift_commands.specs.Outcome.{Streams, Ends, Puts, SolveDue, AnswerIsDue, IsAnswered, IsSolution, closing_line, status_of}
+use Rattle.lift_commands.specs.Outcome.{Streams, Ends, Puts, SolveDue, AnswerIsDue, IsAnswered, IsSolution, certificate_part, closing_line, status_of}
 use Rattle.lift_commands.proofs.Outcomes.{ends_put}
 
-cars-le : (s : Snapshot) → IsAccepted s → car_count s ≤ 16
+pub cars-le : (s : Snapshot) → IsAccepted s → car_count s ≤ 16
 cars-le s accepted = let high = accepted.building.cars_high in omega (arith, high, most_cars-le s.building.version)
 
 -- where a search ended solved, its cost is its bound
@@ -35,9 +36,19 @@ optimal s rounds moves plan cost bound tree turns why accepted answer status is 
     record { feasible = answer.proves.feasible; least = λ other feasible. subst (λ (n : ℕ). n ≤ plan_cost_of s other) (sym same) (proves-bound s plan cost bound tree (cars-le s accepted) answer.proves other feasible) }
 
 module _ (options : SolveOptions) (s : Snapshot) (plan : List (List Stop)) (cost bound : ℕ) (tree : List Twig) (turns : List Turn) (why : StopReason) (accepted : IsAccepted s) (answer : IsSolveAnswer s options.rounds options.moves plan cost bound tree turns why) where
-  pub solution_text : (status : Status) (out written text : List ℕ) → status ≡ status_of why → out ≡ [] → written ≡ out ++ answer_text s (record { plan = plan; cost = cost; bound = bound }) → text ≡ written ++ closing_line s why → IsSolution options s status text
-  solution_text status out written text is empty wrote ended =
-      let stated = answer_text s (record { plan = plan; cost = cost; bound = bound }) in
+  abbrev stated : Stated
+  stated = record { plan = plan; cost = cost; bound = bound }
+
+  abbrev pub solution_of_text : List ℕ
+  solution_of_text = answer_text s stated ++ certificate_part options s tree ++ closing_line s why
+
+  pub solution_text : (out written proved text : List ℕ) → out ≡ [] → written ≡ out ++ answer_text s (record { plan = plan; cost = cost; bound = bound })
+      → proved ≡ written ++ certificate_part options s tree → text ≡ proved ++ closing_line s why → text ≡ solution_of_text
+  solution_text out written proved text empty wrote certified ended =
+      ended ∙ ap (λ (front : List ℕ). front ++ closing_line s why) (certified ∙ ap (λ (front : List ℕ). front ++ certificate_part options s tree) (wrote ∙ ap (λ (front : List ℕ). front ++ answer_text s stated) empty))
+
+  pub is_solution : (status : Status) (text : List ℕ) → status ≡ status_of why → text ≡ solution_of_text → IsSolution options s status text
+  is_solution status text is written =
       record {
         plan = plan;
         cost = cost;
@@ -48,7 +59,7 @@ module _ (options : SolveOptions) (s : Snapshot) (plan : List (List Stop)) (cost
         answer = answer;
         status_is = is;
         optimal = optimal s options.rounds options.moves plan cost bound tree turns why accepted answer status is;
-        is_text = ended ∙ ap (λ (front : List ℕ). front ++ closing_line s why) (wrote ∙ ap (λ (front : List ℕ). front ++ stated) empty);
+        is_text = written;
       }
 
 -- the status of an answer

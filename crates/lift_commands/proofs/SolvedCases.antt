@@ -18,7 +18,7 @@ use Rattle.lift_commands.specs.declared.status.Status.{Status}
 use Rattle.lift_commands.specs.declared.status.Status.TheVariants.{Done, Stopped, Memory}
 use Rattle.lift_commands.specs.Outcome.{Streams, Ends, Puts, Wrote, IsCaseOf, IsCaseSolved, IsSolvedCase, SolvedCaseDue, run_text, status_of}
 use Rattle.lift_commands.proofs.Outcomes.{ends_put}
-use Rattle.lift_commands.proofs.Solutions.{ended_by, optimal}
+use Rattle.lift_commands.proofs.Solutions.{optimal}
 
 -- ---- the number and the sizes have one case
 

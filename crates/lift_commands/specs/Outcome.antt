@@ -1,26 +1,36 @@
 -- What a run of the program leaves: what was read and written, and why it ended.
-use Rattle.std.specs.Prelude.{◌≡◌, ℕ, ◌<◌, ◌≤◌, ◌⊎◌, ◌↔◌, List, [], ◌∷◌, ◌++◌, length, take, codes, Option, Some, Result}
+use Rattle.std.specs.Prelude.{◌≡◌, ℕ, ◌<◌, ◌≤◌, ◌⊎◌, ◌↔◌, IsTrue, false, List, [], ◌∷◌, ◌++◌, All, length, take, codes, Option, Some, Result, if◌then◌else◌}
+use Rattle.std.specs.Io.BufRead.{ends_with_byte}
 use Rattle.std.specs.Io.KnownBytes.{append_known, IsAtEnd}
 use Rattle.elevator_model.specs.declared.Stop.{Stop}
 use Rattle.elevator_model.specs.Snapshot.{Snapshot, IsAccepted, car_count, spec_of}
-use Rattle.elevator_model.specs.Plans.{IsOptimal}
+use Rattle.elevator_model.specs.Plans.{IsBound, IsOptimal}
 use Rattle.lift_text.specs.Reading.{reading, whole_text}
 use Rattle.lift_text.specs.Text.{words, line}
 use Rattle.lift_text.specs.declared.faults.TextFault.{TextFault}
 use Rattle.lift_text.specs.declared.faults.TextFault.TheVariants.{Read as FailedRead, TooLong, Bad, NoMemory}
 use Rattle.case_text.specs.CaseTexts.{IsCaseText, IsLoneCaseFault, IsAnsweredAlone, case_text}
+use Rattle.cert_text.specs.Texts.{cert_text}
+use Rattle.check_text.specs.CheckTexts.{IsCheckText, IsCheckFault}
+use Rattle.check_text.specs.VerdictTexts.{verdict_text}
+use Rattle.cert_checker.specs.Laws.{HasEnough}
+use Rattle.answer_text.specs.declared.answers.Stated.{Stated}
 use Rattle.answer_text.specs.Texts.{answer_text, solved_line}
+use Rattle.search_model.specs.declared.Verdict.{Verdict}
+use Rattle.search_model.specs.declared.Verdict.TheVariants.{Yes, No}
 use Rattle.search_model.specs.declared.Twig.{Twig}
 use Rattle.search_model.specs.declared.Turn.{Turn}
 use Rattle.search_model.specs.declared.StopReason.{StopReason}
 use Rattle.search_model.specs.declared.StopReason.TheVariants.{Solved, Rounds, Moves}
 use Rattle.search_model.specs.Solving.{IsSolveAnswer}
-use Rattle.search_model.specs.Verdicts.{rounds_enough, moves_enough}
+use Rattle.search_model.specs.Certificates.{Proves}
+use Rattle.search_model.specs.Verdicts.{rounds_enough, moves_enough, verdict_of}
 use Rattle.search_model.specs.Cases.{IsCase}
 use Rattle.lift_words.specs.Taken.{AreTaken}
 use Rattle.lift_words.specs.declared.request.Request.{Request}
-use Rattle.lift_words.specs.declared.request.Request.TheVariants.{Solve, Make, Run}
+use Rattle.lift_words.specs.declared.request.Request.TheVariants.{Solve, Check, Make, Run}
 use Rattle.lift_words.specs.declared.request.SolveOptions.{SolveOptions}
+use Rattle.lift_words.specs.declared.request.CheckOptions.{CheckOptions}
 use Rattle.lift_words.specs.declared.request.CaseSizes.{CaseSizes}
 use Rattle.lift_words.specs.declared.request.RunOptions.{RunOptions}
 use Rattle.byte_streams.specs.Streams.{Rose}
@@ -80,6 +90,27 @@ abbrev pub Puts : (text : List ℕ) → (status result : Status) → (old new : 
 Puts text status result old new before after =
     ((result ≡ status) × (new ≡ append_known old text)) ⊎ ((count : ℕ) × (result ≡ Write) × (count ≤ length text) × Rose before after × (new ≡ append_known old (take count text)))
 
+-- ---- what is wrong with an input
+
+-- the line that tells the first bad line and its code, or that the input is too long
+abbrev pub IsRefusalLine : TextFault → List ℕ → Type 0
+IsRefusalLine (Bad number code) text = text ≡ words (codes "refused line") (number ∷ []) ++ line (codes " code") (code ∷ [])
+IsRefusalLine TooLong text = text ≡ codes "refused long" ++ 10 ∷ []
+IsRefusalLine FailedRead text = ⊥
+IsRefusalLine NoMemory text = ⊥
+
+-- the refusal line was put, or memory was wanting
+abbrev pub PutsRefusal : TextFault → (result : Status) → (old new : Option (List ℕ)) → (before after : ℕ) → Type 0
+PutsRefusal fault result old new before after =
+    ((text : List ℕ) × IsRefusalLine fault text × Puts text Input result old new before after) ⊎ ((result ≡ Memory) × (new ≡ old))
+
+-- How an input is answered that was not taken.
+abbrev pub PutsFault : TextFault → (result : Status) → (old new : Option (List ℕ)) → (before after : ℕ) → Type 0
+PutsFault (Bad number code) result old new before after = PutsRefusal (Bad number code) result old new before after
+PutsFault TooLong result old new before after = PutsRefusal TooLong result old new before after
+PutsFault FailedRead result old new before after = (result ≡ Read) × (new ≡ old)
+PutsFault NoMemory result old new before after = (result ≡ Memory) × (new ≡ old)
+
 -- ---- the command `solve`
 
 -- the comment line that says why a search ended
@@ -99,6 +130,10 @@ status_of Solved = Done
 status_of (Rounds done) = Stopped
 status_of (Moves car count) = Stopped
 
+-- the certificate, where one is wanted
+abbrev pub certificate_part : SolveOptions → Snapshot → List Twig → List ℕ
+certificate_part options s tree = if options.brief then [] else cert_text s tree
+
 -- A plan, its cost and a bound as a search of the snapshot answers them within these limits, with the reason why it ended;
 -- where that is that it is solved, the plan is optimal.
 pub record IsSolution (options : SolveOptions) (s : Snapshot) (status : Status) (text : List ℕ) : Type 0 where
@@ -111,11 +146,27 @@ pub record IsSolution (options : SolveOptions) (s : Snapshot) (status : Status) 
   pub answer : IsSolveAnswer s options.rounds options.moves plan cost bound tree turns why
   pub status_is : status ≡ status_of why
   pub optimal : status ≡ Done → IsOptimal s plan
-  pub is_text : text ≡ answer_text s (record { plan = plan; cost = cost; bound = bound }) ++ closing_line s why
+  pub is_text : text ≡ answer_text s (record { plan = plan; cost = cost; bound = bound }) ++ certificate_part options s tree ++ closing_line s why
 
 -- where the input is the text of a snapshot, that one is read, unless a read fails or memory is wanting
 abbrev pub AnswersCases : Option (List ℕ) → Result Snapshot TextFault → Type 0
 AnswersCases left answer = (input : List ℕ) (s : Snapshot) → left ≡ Some input → IsCaseText input s → IsAnsweredAlone s answer
+
+-- these bytes are an input of `check`, of which its verdict is yes
+pub record IsSaidYes (bytes : List ℕ) (s : Snapshot) : Type 0 where
+  pub stated : Stated
+  pub tree : List Twig
+  pub read : IsCheckText bytes s stated tree
+  pub yes : verdict_of s stated.plan stated.cost stated.bound tree ≡ Yes
+
+-- An answer with its certificate can be checked where the input ends with a line end and is not too long, and the limits
+-- are no greater than the defaults.
+pub record CanBeChecked (options : SolveOptions) (input : List ℕ) : Type 0 where
+  pub certificate : options.brief ≡ false
+  pub rounds : options.rounds ≤ 2000
+  pub moves : options.moves ≤ 75000
+  pub ended : IsTrue (ends_with_byte 10 input)
+  pub short : length input ≤ 1000000
 
 -- The answer is due where the whole input was read and is the text of an accepted snapshot.
 pub record AnswerIsDue (options : SolveOptions) (left left' : Option (List ℕ)) (status : Status) (text : List ℕ) : Type 0 where
@@ -124,13 +175,8 @@ pub record AnswerIsDue (options : SolveOptions) (left left' : Option (List ℕ))
   pub read : (input : List ℕ) → left ≡ Some input → IsCaseText input snapshot
   pub ended : IsAtEnd left'
   pub solution : IsSolution options snapshot status text
-
--- the line that tells the first bad line and its code, or that the input is too long
-abbrev pub IsRefusalLine : TextFault → List ℕ → Type 0
-IsRefusalLine (Bad number code) text = text ≡ words (codes "refused line") (number ∷ []) ++ line (codes " code") (code ∷ [])
-IsRefusalLine TooLong text = text ≡ codes "refused long" ++ 10 ∷ []
-IsRefusalLine FailedRead text = ⊥
-IsRefusalLine NoMemory text = ⊥
+  -- `check` takes the input with the answer behind it, and says yes
+  pub checks : (input : List ℕ) → left ≡ Some input → CanBeChecked options input → IsSaidYes (input ++ text) snapshot
 
 -- The refusal line is due where the input is no such text, with what is wrong with it.
 pub record RefusalIsDue (left : Option (List ℕ)) (text : List ℕ) : Type 0 where
@@ -162,6 +208,60 @@ Solves options old new status = (input : List ℕ) (s : Snapshot) → old.left �
 -- the input is the text of no snapshot, so it is refused, unless the source or the sink fails or memory is wanting
 abbrev pub Refuses : (old new : Streams) → Status → Type 0
 Refuses old new status = (input : List ℕ) → old.left ≡ Some input → ((s : Snapshot) → IsCaseText input s → ⊥)
+    → (Rose old.read_faults new.read_faults → ⊥) → (Rose old.write_faults new.write_faults → ⊥) → (status ≡ Input) ⊎ (status ≡ Memory)
+
+-- ---- the command `check`
+
+abbrev pub status_of_verdict : Verdict → Status
+status_of_verdict Yes = Done
+status_of_verdict (No reason) = Refused
+
+-- The verdict is due where the whole input was read and is the text of an accepted snapshot, an answer to it and a
+-- certificate. Where it is yes, the plan is feasible and has its cost, and no feasible plan costs less than the bound.
+pub record VerdictIsDue (left left' : Option (List ℕ)) (status : Status) (text : List ℕ) : Type 0 where
+  pub snapshot : Snapshot
+  pub stated : Stated
+  pub tree : List Twig
+  pub accepted : IsAccepted snapshot
+  pub read : (input : List ℕ) → left ≡ Some input → IsCheckText input snapshot stated tree
+  pub ended : IsAtEnd left'
+  pub status_is : status ≡ status_of_verdict (verdict_of snapshot stated.plan stated.cost stated.bound tree)
+  pub is_text : text ≡ verdict_text snapshot stated.cost stated.bound (verdict_of snapshot stated.plan stated.cost stated.bound tree)
+  pub proves : status ≡ Done → Proves snapshot stated.plan stated.cost stated.bound tree
+  pub bound : status ≡ Done → IsBound snapshot stated.bound
+
+-- The refusal line is due where the input is no such text, with what is wrong with it.
+pub record CheckRefusalIsDue (left : Option (List ℕ)) (text : List ℕ) : Type 0 where
+  pub fault : TextFault
+  pub is_line : IsRefusalLine fault text
+  pub read : (input : List ℕ) → left ≡ Some input → IsCheckFault (reading (whole_text input)) fault
+
+-- the texts of `check`
+abbrev pub CheckDue : (left left' : Option (List ℕ)) → Due
+CheckDue left left' Done text = VerdictIsDue left left' Done text
+CheckDue left left' Words text = ⊥
+CheckDue left left' Stopped text = ⊥
+CheckDue left left' Refused text = VerdictIsDue left left' Refused text
+CheckDue left left' Input text = CheckRefusalIsDue left text
+CheckDue left left' Read text = ⊥
+CheckDue left left' Write text = ⊥
+CheckDue left left' Memory text = ⊥
+
+-- The verdict is answered, or memory is wanting. It is yes where the tree proves plan, cost and bound, and its claims are
+-- enough for any search.
+pub record IsJudged (s : Snapshot) (stated : Stated) (tree : List Twig) (status : Status) : Type 0 where
+  pub ended : (status ≡ status_of_verdict (verdict_of s stated.plan stated.cost stated.bound tree)) ⊎ (status ≡ Memory)
+  pub enough : Proves s stated.plan stated.cost stated.bound tree → All (HasEnough s) tree → (status ≡ Done) ⊎ (status ≡ Memory)
+
+-- the input is a case with an answer and a certificate, so a verdict is answered, unless the source or the sink fails or
+-- memory is wanting
+abbrev pub Checks : (old new : Streams) → Status → Type 0
+Checks old new status = (input : List ℕ) (s : Snapshot) (stated : Stated) (tree : List Twig) → old.left ≡ Some input → IsCheckText input s stated tree
+    → (Rose old.read_faults new.read_faults → ⊥) → (Rose old.write_faults new.write_faults → ⊥) → IsJudged s stated tree status
+
+-- the input is nothing of the kind, so it is refused, unless the source or the sink fails or memory is wanting
+abbrev pub RefusesChecks : (old new : Streams) → Status → Type 0
+RefusesChecks old new status = (input : List ℕ) → old.left ≡ Some input → ((s : Snapshot) (stated : Stated) (tree : List Twig) → IsCheckText input s stated tree → ⊥)
     → (Rose old.read_faults new.read_faults → ⊥) → (Rose old.write_faults new.write_faults → ⊥) → (status ≡ Input) ⊎ (status ≡ Memory)
 
 -- ---- the command `make`
@@ -270,13 +370,26 @@ pub record RefusalIsAsked (words : List (List ℕ)) (left : Option (List ℕ)) (
   pub taken : AreTaken words (Solve options)
   pub refusal : RefusalIsDue left text
 
+-- the words are those of `check`, and a verdict is due
+pub record VerdictIsAsked (words : List (List ℕ)) (left left' : Option (List ℕ)) (status : Status) (text : List ℕ) : Type 0 where
+  pub options : CheckOptions
+  pub taken : AreTaken words (Check options)
+  pub verdict : VerdictIsDue left left' status text
+
+-- the words are those of `check`, and the input is refused
+pub record CheckRefusalIsAsked (words : List (List ℕ)) (left : Option (List ℕ)) (text : List ℕ) : Type 0 where
+  pub options : CheckOptions
+  pub taken : AreTaken words (Check options)
+  pub refusal : CheckRefusalIsDue left text
+
 -- the texts of a run
 abbrev pub RunDue : List (List ℕ) → (left left' : Option (List ℕ)) → Due
-RunDue words left left' Done text = AnswerIsAsked words left left' Done text ⊎ CaseIsAsked words left left' text ⊎ SolvedCaseIsAsked words left left' Done text
+RunDue words left left' Done text =
+    AnswerIsAsked words left left' Done text ⊎ VerdictIsAsked words left left' Done text ⊎ CaseIsAsked words left left' text ⊎ SolvedCaseIsAsked words left left' Done text
 RunDue words left left' Words text = UsageIsDue words left left' text
 RunDue words left left' Stopped text = AnswerIsAsked words left left' Stopped text ⊎ SolvedCaseIsAsked words left left' Stopped text
-RunDue words left left' Refused text = ⊥
-RunDue words left left' Input text = RefusalIsAsked words left text
+RunDue words left left' Refused text = VerdictIsAsked words left left' Refused text
+RunDue words left left' Input text = RefusalIsAsked words left text ⊎ CheckRefusalIsAsked words left text
 RunDue words left left' Read text = ⊥
 RunDue words left left' Write text = ⊥
 RunDue words left left' Memory text = ⊥
@@ -288,6 +401,14 @@ SolvesByWords words old new status = (options : SolveOptions) → AreTaken words
 -- and refuse
 abbrev pub RefusesByWords : List (List ℕ) → (old new : Streams) → Status → Type 0
 RefusesByWords words old new status = (options : SolveOptions) → AreTaken words (Solve options) → Refuses old new status
+
+-- words of `check` check
+abbrev pub ChecksByWords : List (List ℕ) → (old new : Streams) → Status → Type 0
+ChecksByWords words old new status = (options : CheckOptions) → AreTaken words (Check options) → Checks old new status
+
+-- and refuse
+abbrev pub RefusesChecksByWords : List (List ℕ) → (old new : Streams) → Status → Type 0
+RefusesChecksByWords words old new status = (options : CheckOptions) → AreTaken words (Check options) → RefusesChecks old new status
 
 -- words of `make` make a case, unless the sink fails or memory is wanting
 abbrev pub MakesByWords : List (List ℕ) → (old new : Streams) → Status → Type 0

@@ -1,6 +1,7 @@
 //! The commands of `lift`: from the words of the command line and a source to a sink and a status.
 #![tactic(auto)]
 
+mod checking;
 mod making;
 mod putting;
 mod running;

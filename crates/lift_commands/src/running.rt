@@ -1,8 +1,9 @@
 //! The top call of the program.
 
 ghost use Rattle.std.specs.Prelude.{map, string_bytes};
-ghost use Rattle.lift_commands.specs.Outcome.{Ends, RunDue, SolvesByWords, RefusesByWords, MakesByWords, RunsByWords, RefusesWords, streams};
+ghost use Rattle.lift_commands.specs.Outcome.{Ends, RunDue, SolvesByWords, RefusesByWords, ChecksByWords, RefusesChecksByWords, MakesByWords, RunsByWords, RefusesWords, streams};
 
+use crate::checking::check;
 use crate::making::{write_made_case, write_solved_case};
 use crate::putting::put;
 use crate::solving::solve;
@@ -19,9 +20,12 @@ const USAGE: &[u8] = b"usage: lift solve/check/day/report/make [options]\n";
 /// Runs the program: what the words of the command line ask for, the program's name first, from the source to
 /// the sink.
 ///
-/// `solve --brief` reads a case, to its end, and writes a plan with its cost and a bound that no feasible plan's cost is
-/// below, equal to the cost unless a limit was reached; or what is wrong with the input: its first bad line with its code, or
-/// that it is too long.
+/// `solve` reads a case, to its end, and writes a plan with its cost and a bound that no feasible plan's cost is below, equal
+/// to the cost unless a limit was reached, and, without `--brief`, a certificate that proves them; `check` takes the input with
+/// all that behind it, and says yes.
+/// `check` reads a case with an answer and a certificate of any origin, and writes whether the certificate proves the answer,
+/// or why not.
+/// Both write what is wrong with an input that they do not take: its first bad line with its code, or that it is too long.
 /// `make` writes a generated case, and `make --run` the cost and the bound of such a case; they read nothing. Other words are
 /// refused with the usage line.
 pub fn run<S: Source, K: Sink, G: Gate + Sync>(
@@ -50,6 +54,19 @@ pub fn run<S: Source, K: Sink, G: Gate + Sync>(
         (streams (S.left source.new) (K.taken sink.new) (S.faults source.new)
         (K.faults sink.new)) result }
 
+    // `check`: a verdict is given of a case with an answer and a certificate, unless the source or the sink fails or memory is
+    // wanting.
+    ensures checks { ChecksByWords (map string_bytes words.now)
+        (streams (S.left source.old) (K.taken sink.old) (S.faults source.old) (K.faults sink.old))
+        (streams (S.left source.new) (K.taken sink.new) (S.faults source.new)
+        (K.faults sink.new)) result }
+
+    // `check`: whatever else is read is refused, unless the source or the sink fails or memory is wanting.
+    ensures refuses_checks { RefusesChecksByWords (map string_bytes words.now)
+        (streams (S.left source.old) (K.taken sink.old) (S.faults source.old) (K.faults sink.old))
+        (streams (S.left source.new) (K.taken sink.new) (S.faults source.new)
+        (K.faults sink.new)) result }
+
     // `make`: a case is written, unless the sink fails or memory is wanting.
     ensures makes { MakesByWords (map string_bytes words.now)
         (streams (S.left source.old) (K.taken sink.old) (S.faults source.old) (K.faults sink.old))
@@ -70,6 +87,7 @@ pub fn run<S: Source, K: Sink, G: Gate + Sync>(
 {
     match read_words(alloc, words) {
         Ok(Request::Solve(options)) => solve(rt, alloc, options, source, sink, gate),
+        Ok(Request::Check(options)) => check(rt, alloc, options, source, sink, gate),
         Ok(Request::Make(sizes)) => write_made_case(alloc, sizes, sink),
         Ok(Request::Run(options)) => write_solved_case(rt, alloc, options, sink, gate),
         Err(WordsFault::NotTaken) => put(sink, USAGE, Status::Words),

@@ -6,18 +6,20 @@ ghost use Rattle.elevator_model.specs.Snapshot.{IsAccepted};
 ghost use Rattle.lift_text.specs.Reading.{whole_text, reading};
 ghost use Rattle.case_text.specs.CaseTexts.{IsCaseText, IsLoneCaseFault, Tells};
 ghost use Rattle.search_model.specs.Verdicts.{moves_enough, rounds_enough};
+ghost use Rattle.cert_text.specs.Trees.{AreTwigsKnown};
 ghost use Rattle.lift_words.specs.Taken.{AreSolveOptions};
-ghost use Rattle.lift_commands.specs.Outcome.{AnswersCases, Ends, IsCarOf, IsSolution, Refuses, SolveDue, Solves, closing_line, streams};
+ghost use Rattle.lift_commands.specs.Outcome.{AnswersCases, CanBeChecked, Ends, IsCarOf, IsSaidYes, IsSolution, Refuses, SolveDue, Solves, certificate_part, closing_line, streams};
 
-use crate::putting::{Answer, TOO_LONG, put, refusal_line};
+use crate::putting::{Answer, put, put_fault};
 use crate::status::{Status, status_of};
 use answer_text::{Stated, write_answer};
 use byte_streams::{Gate, Sink, Source};
 use call_state::Snapshot;
 use case_text::read_lone_case;
+use cert_text::write_cert;
 use lift_text::{LineReader, TextFault, put_line};
 use lift_words::SolveOptions;
-use search_model::StopReason;
+use search_model::{StopReason, Twig};
 use snapshot_solver::{Limits, solve as solve_within};
 use std::alloc::{AllocError, Global};
 use std::marker::Sync;
@@ -59,7 +61,24 @@ fn put_closing(snapshot: &Snapshot, why: StopReason, text: &mut Vec<u8>) -> Resu
     }
 }
 
-/// The text of a plan with its cost and a bound, and why the search for it ended.
+/// Appends the certificate, where one is wanted.
+fn put_certificate(
+    options: SolveOptions,
+    snapshot: &Snapshot,
+    tree: &[Twig],
+    text: &mut Vec<u8>,
+) -> Result<(), AllocError>
+    requires { AreTwigsKnown snapshot.now tree.now }
+    ensures { OnOk result (text.new.items
+        ≡ text.old.items ++ certificate_part options snapshot.now tree.now) }
+{
+    if options.brief {
+        return Ok(());
+    }
+    write_cert(snapshot, tree, text)
+}
+
+/// The text of a plan with its cost and a bound, with its certificate unless none is wanted, and why the search for it ended.
 fn solution_of<G: Gate + Sync>(
     rt: &(impl Threads + Sync),
     alloc: Global,
@@ -71,6 +90,8 @@ fn solution_of<G: Gate + Sync>(
     ensures solution { IfOk result (λ answer. IsSolution options snapshot.now answer.status answer.text.items) }
     ensures enough { rounds_enough snapshot.now ≤ options.rounds → moves_enough snapshot.now ≤ options.moves
         → IfOk result (λ answer. answer.status ≡ Status.Done) }
+    ensures checks { (input : List ℕ) → IsCaseText input snapshot.now → CanBeChecked options input
+        → IfOk result (λ answer. IsSaidYes (input ++ answer.text.items) snapshot.now) }
 {
     prove!(snapshot.calls().len() <= 128);
     let limits = Limits {
@@ -86,6 +107,7 @@ fn solution_of<G: Gate + Sync>(
     };
     let mut text = Vec::new(alloc);
     write_answer(snapshot, &stated, &mut text)?;
+    put_certificate(options, snapshot, found.tree.twigs.as_slice(), &mut text)?;
     put_closing(snapshot, found.why, &mut text)?;
     Ok(Answer { status, text })
 }
@@ -119,12 +141,6 @@ pub(crate) fn solve<S: Source, K: Sink, G: Gate + Sync>(
             Ok(answer) => put(sink, answer.text.as_slice(), answer.status),
             Err(_) => Status::Memory,
         },
-        Err(TextFault::Bad { line, code }) => match refusal_line(alloc, line, code) {
-            Ok(text) => put(sink, text.as_slice(), Status::Input),
-            Err(_) => Status::Memory,
-        },
-        Err(TextFault::TooLong) => put(sink, TOO_LONG, Status::Input),
-        Err(TextFault::Read) => Status::Read,
-        Err(TextFault::NoMemory) => Status::Memory,
+        Err(fault) => put_fault(alloc, fault, sink),
     }
 }

@@ -2,6 +2,10 @@
 #![tactic(auto)]
 
 #[cfg(test)]
+mod checks;
+#[cfg(test)]
+mod damage;
+#[cfg(test)]
 mod faults;
 #[cfg(test)]
 mod limits;
@@ -11,6 +15,8 @@ mod refusals;
 mod runs;
 #[cfg(test)]
 mod solved_cases;
+#[cfg(test)]
+mod whole_trees;
 #[cfg(test)]
 mod words;
 #[cfg(test)]

@@ -41,7 +41,7 @@ pub(crate) fn written_past<G: Gate + Sync>(
 ) -> Option<(Status, Vec<u8>)> {
     let words = words_of(alloc, words)?;
     let bytes = Vec::from_slice(alloc, input).ok()?;
-    let mut sink = SureSink::new(alloc, 16384).ok()?;
+    let mut sink = SureSink::new(alloc, 1 << 20).ok()?;
     let mut source = MemorySource::new(bytes, each.max(1), Vec::new(alloc));
     let ended = run(rt, alloc, words.as_slice(), &mut source, &mut sink, gate);
     let text = Vec::from_slice(alloc, sink.taken()).ok()?;

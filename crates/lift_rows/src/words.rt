@@ -14,11 +14,12 @@ fn other_words_are_refused(rt: HostRuntime) -> Result<(), Fail> {
         ["lift", "solv", "--brief"].as_slice(),
         ["lift", "solve", "--brief", "--brief"].as_slice(),
         ["lift", "solve", "--rounds", "0"].as_slice(),
-        ["lift", "solve"].as_slice(),
+        ["lift", "solve", "--rounds"].as_slice(),
         ["lift", "make", "--run", "--run"].as_slice(),
         ["lift", "make", "--run=1"].as_slice(),
         ["lift", "make", "--rounds", "0"].as_slice(),
-        ["lift", "check"].as_slice(),
+        ["lift", "check", "--brief"].as_slice(),
+        ["lift", "check", "--workers", "17"].as_slice(),
         ["lift"].as_slice(),
     ] {
         assert!(rt;

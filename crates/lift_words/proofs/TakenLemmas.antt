@@ -1,5 +1,6 @@
 -- What the words are taken as.
-use Rattle.std.proofs.Common.{◌≡◌, ◌∙◌, ◌-◌, ◌<◌, ℕ, Bool, true, false, cond, List, [], ◌∷◌, map, length, take, drop, codes, Option, Some, None, slice_get, slice_index_or, IfSome, subst, sym, ap, refl, arith}
+use Rattle.std.proofs.Common.{◌≡◌, ◌∙◌, ◌-◌, ◌<◌, ℕ, Bool, true, false, IsTrue, cond, List, [], ◌∷◌, map, length, take, drop, codes, Option, Some, None, slice_get, slice_index_or, IfSome, subst, sym, ap, refl, arith}
+use Rattle.std.specs.Prelude.{◌↔◌}
 use Rattle.std.specs.List.{Contains}
 use Rattle.std.specs.Str.{bytes_eq}
 use Rattle.std.proofs.lemmas.List.{drop-map, take_rest}
@@ -9,12 +10,13 @@ use Rattle.clap.specs.Simple.{matches_of}
 use Rattle.clap.specs.Takes.{takes}
 use Rattle.lift_words.specs.Table.{app, command_of, word_of}
 use Rattle.lift_words.specs.Repeats.{IsRepeated}
-use Rattle.lift_words.specs.Taken.{AreTaken, Asks, AsksBy, AsksForSizes, AsksToRun, AsksToSolve, IsSecond, command_asked}
+use Rattle.lift_words.specs.Taken.{AreTaken, Asks, AsksBy, AsksForBrief, AsksForSizes, AsksToCheck, AsksToRun, AsksToSolve, IsSecond, command_asked}
 use Rattle.lift_words.specs.declared.table.CommandWord.{CommandWord}
 use Rattle.lift_words.specs.declared.table.CommandWord.TheVariants as command
 use Rattle.lift_words.specs.declared.request.Request.{Request}
-use Rattle.lift_words.specs.declared.request.Request.TheVariants.{Solve, Make, Run}
+use Rattle.lift_words.specs.declared.request.Request.TheVariants.{Solve, Check, Make, Run}
 use Rattle.lift_words.specs.declared.request.SolveOptions.{SolveOptions}
+use Rattle.lift_words.specs.declared.request.CheckOptions.{CheckOptions}
 use Rattle.lift_words.specs.declared.request.CaseSizes.{CaseSizes}
 use Rattle.lift_words.specs.declared.request.RunOptions.{RunOptions}
 
@@ -41,9 +43,14 @@ named_word word named is = by_solve (bytes_eq word (codes "solve")) refl is
     by_make true e same = (bytes_eq-Decides word (codes "make")).0 e ∙ ap word_of (only same)
     by_make false e same = absurd cc
 
-    by_solve : (b : Bool) → bytes_eq word (codes "solve") ≡ b → cond b (Some command.Solve) (cond (bytes_eq word (codes "make")) (Some command.Make) None) ≡ Some named → word ≡ word_of named
+    by_check : (b : Bool) → bytes_eq word (codes "check") ≡ b → cond b (Some command.Check) (cond (bytes_eq word (codes "make")) (Some command.Make) None) ≡ Some named → word ≡ word_of named
+    by_check true e same = (bytes_eq-Decides word (codes "check")).0 e ∙ ap word_of (only same)
+    by_check false e same = by_make (bytes_eq word (codes "make")) refl same
+
+    by_solve : (b : Bool) → bytes_eq word (codes "solve") ≡ b
+        → cond b (Some command.Solve) (cond (bytes_eq word (codes "check")) (Some command.Check) (cond (bytes_eq word (codes "make")) (Some command.Make) None)) ≡ Some named → word ≡ word_of named
     by_solve true e same = (bytes_eq-Decides word (codes "solve")).0 e ∙ ap word_of (only same)
-    by_solve false e same = by_make (bytes_eq word (codes "make")) refl same
+    by_solve false e same = by_check (bytes_eq word (codes "check")) refl same
 
 pub known : (words : List Text) (word : Text) (found : Option CommandWord) → slice_get words 1 ≡ Some word → found ≡ command_of word → IfSome found (IsSecond words)
 known words word None second is = tt
@@ -51,16 +58,30 @@ known words word (Some named) second is = second ∙ ap Some (named_word word na
 
 word_names : (named : CommandWord) → command_of (word_of named) ≡ Some named
 word_names command.Solve = refl
+word_names command.Check = refl
 word_names command.Make = refl
 
 -- ---- what is asked
+
+-- both say whether something holds
+same_truth : (P : Type 0) (a b : Bool) → IsTrue a ↔ P → IsTrue b ↔ P → a ≡ b
+same_truth P true true x y = refl
+same_truth P true false x y = absurd (let no : false ≡ true = y.1 (x.0 refl) in cc)
+same_truth P false true x y = absurd (let no : false ≡ true = x.1 (y.0 refl) in cc)
+same_truth P false false x y = refl
 
 asks_to_solve_one : (rows : List Row) (a b : SolveOptions) → AsksToSolve rows a → AsksToSolve rows b → a ≡ b
 asks_to_solve_one rows a b x y =
     let rounds = only (sym x.rounds ∙ y.rounds) in
     let moves = only (sym x.moves ∙ y.moves) in
     let workers = only (sym x.workers ∙ y.workers) in
-    λ i. record { rounds = rounds i; moves = moves i; workers = workers i }
+    let brief = same_truth (AsksForBrief rows) a.brief b.brief x.brief y.brief in
+    λ i. record { rounds = rounds i; moves = moves i; workers = workers i; brief = brief i }
+
+asks_to_check_one : (rows : List Row) (a b : CheckOptions) → AsksToCheck rows a → AsksToCheck rows b → a ≡ b
+asks_to_check_one rows a b x y =
+    let workers = only (sym x ∙ y) in
+    λ i. record { workers = workers i }
 
 asks_for_sizes_one : (rows : List Row) (a b : CaseSizes) → AsksForSizes rows a → AsksForSizes rows b → a ≡ b
 asks_for_sizes_one rows a b x y =
@@ -79,6 +100,13 @@ asks_to_run_one rows a b x y =
 
 pub asks_one : (named : CommandWord) (rows : List Row) (a b : Request) → AsksBy named rows a → AsksBy named rows b → a ≡ b
 asks_one named rows (Solve a) (Solve b) x y = ap Solve (asks_to_solve_one rows a b x.1 y.1)
+asks_one named rows (Check a) (Check b) x y = ap Check (asks_to_check_one rows a b x.1 y.1)
+asks_one named rows (Check a) (Solve b) x y = let same : command.Check ≡ command.Solve = x.0 ∙ sym y.0 in absurd cc
+asks_one named rows (Solve a) (Check b) x y = let same : command.Solve ≡ command.Check = x.0 ∙ sym y.0 in absurd cc
+asks_one named rows (Check a) (Make b) x y = let same : command.Check ≡ command.Make = x.0 ∙ sym y.0 in absurd cc
+asks_one named rows (Make a) (Check b) x y = let same : command.Make ≡ command.Check = x.0 ∙ sym y.0 in absurd cc
+asks_one named rows (Check a) (Run b) x y = let same : command.Check ≡ command.Make = x.0 ∙ sym y.0 in absurd cc
+asks_one named rows (Run a) (Check b) x y = let same : command.Make ≡ command.Check = x.0 ∙ sym y.0 in absurd cc
 asks_one named rows (Make a) (Make b) x y = ap Make (asks_for_sizes_one rows a b x.1.case y.1.case)
 asks_one named rows (Run a) (Run b) x y = ap Run (asks_to_run_one rows a b x.1 y.1)
 asks_one named rows (Make a) (Run b) x y = absurd (x.1.no_run y.1.run)

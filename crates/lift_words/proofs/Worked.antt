@@ -1,17 +1,23 @@
 -- Worked rows: words that are taken, and words that are not.
-use Rattle.std.specs.Prelude.{◌≡◌, ◌<◌, ℕ, zero, suc, [], ◌∷◌, codes, refl, slice_index_or}
-use Rattle.std.proofs.Common.{arith, lit<}
+use Rattle.std.specs.Prelude.{◌≡◌, ◌<◌, ℕ, zero, suc, true, false, [], ◌∷◌, codes, refl, slice_index_or, Option, Some, None}
+use Rattle.std.proofs.Common.{ap, arith, lit<}
 use Rattle.std.specs.List.{Contains}
 use Rattle.clap.proofs.OnLiterals.{clap_on_literals}
 use Rattle.clap.specs.Walk.{Text}
 use Rattle.lift_words.specs.Repeats.{IsRepeated, Repeats}
 use Rattle.lift_words.specs.Taken.{AreTaken}
 use Rattle.lift_words.specs.declared.request.Request.{Request}
-use Rattle.lift_words.specs.declared.request.Request.TheVariants.{Solve, Make, Run}
+use Rattle.lift_words.specs.declared.request.Request.TheVariants.{Solve, Check, Make, Run}
 
 -- one word alone repeats none
 alone : (word : Text) → IsRepeated (word ∷ []) → ⊥
 alone word r = absurd (omega (arith, r.order, r.within))
+
+-- the first byte of a word, if there is one
+abbrev first_byte : Option Text → ℕ
+first_byte None = 0
+first_byte (Some []) = 0
+first_byte (Some (b ∷ word)) = b
 
 -- two words repeat none where the second does not repeat the first
 two : (one other : Text) → (Repeats one other → ⊥) → IsRepeated (one ∷ other ∷ []) → ⊥
@@ -24,14 +30,14 @@ two one other unlike r = by_places r.first r.second r.order r.within r.repeats
     by_places zero (suc (suc k)) order within same = absurd (omega arith)
     by_places (suc j) k order within same = absurd (omega arith)
 
-pub solve_by_defaults : AreTaken (codes "lift" ∷ codes "solve" ∷ codes "--brief" ∷ []) (Solve (record { rounds = 2000; moves = 75000; workers = 1 }))
+pub solve_by_defaults : AreTaken (codes "lift" ∷ codes "solve" ∷ codes "--brief" ∷ []) (Solve (record { rounds = 2000; moves = 75000; workers = 1; brief = true }))
 unfolding clap_on_literals
 solve_by_defaults = record {
   command = refl;
   unrepeated = alone (codes "--brief");
   no_dashes = only;
   accepted = refl;
-  asks = record { brief = refl; rounds = refl; moves = refl; workers = refl };
+  asks = record { brief = (λ _. refl, λ _. refl); rounds = refl; moves = refl; workers = refl };
 }
   where
     only : Contains (codes "--brief" ∷ []) (codes "--") → ⊥
@@ -70,32 +76,65 @@ run_with_five_rounds = record {
     only (suc zero, lt, same) = absurd cc
     only (suc (suc k), lt, same) = absurd (omega arith)
 
-pub brief_is_wanted : (request : Request) → AreTaken (codes "lift" ∷ codes "solve" ∷ codes "--rounds=5" ∷ []) request → ⊥
+pub solve_with_certificate : AreTaken (codes "lift" ∷ codes "solve" ∷ codes "--rounds=5" ∷ []) (Solve (record { rounds = 5; moves = 75000; workers = 1; brief = false }))
 unfolding clap_on_literals
-brief_is_wanted (Solve options) t = let none = t.asks.brief in absurd cc
-brief_is_wanted (Make sizes) t = let other = t.command in absurd cc
-brief_is_wanted (Run options) t = let other = t.command in absurd cc
+solve_with_certificate = record {
+  command = refl;
+  unrepeated = alone (codes "--rounds=5");
+  no_dashes = only;
+  accepted = refl;
+  asks = record { brief = (λ e. absurd cc, λ e. absurd cc); rounds = refl; moves = refl; workers = refl };
+}
+  where
+    only : Contains (codes "--rounds=5" ∷ []) (codes "--") → ⊥
+    only (zero, lt, same) = absurd cc
+    only (suc k, lt, same) = absurd (omega arith)
+
+pub check_with_three : AreTaken (codes "lift" ∷ codes "check" ∷ codes "--workers=3" ∷ []) (Check (record { workers = 3 }))
+unfolding clap_on_literals
+check_with_three = record {
+  command = refl;
+  unrepeated = alone (codes "--workers=3");
+  no_dashes = only;
+  accepted = refl;
+  asks = refl;
+}
+  where
+    only : Contains (codes "--workers=3" ∷ []) (codes "--") → ⊥
+    only (zero, lt, same) = absurd cc
+    only (suc k, lt, same) = absurd (omega arith)
+
+pub check_of_rounds : (request : Request) → AreTaken (codes "lift" ∷ codes "check" ∷ codes "--rounds=5" ∷ []) request → ⊥
+unfolding clap_on_literals
+check_of_rounds (Check options) t = let refused = t.accepted in absurd cc
+check_of_rounds (Solve options) t = let bytes : 99 ≡ 115 = ap first_byte t.command in absurd (omega (arith, bytes))
+check_of_rounds (Make sizes) t = let other = t.command in absurd cc
+check_of_rounds (Run options) t = let other = t.command in absurd cc
 
 pub no_rounds : (request : Request) → AreTaken (codes "lift" ∷ codes "solve" ∷ codes "--brief" ∷ codes "--rounds" ∷ codes "0" ∷ []) request → ⊥
 unfolding clap_on_literals
 no_rounds (Solve options) t = let none = t.asks.rounds in absurd cc
+no_rounds (Check options) t = let bytes : 115 ≡ 99 = ap first_byte t.command in absurd (omega (arith, bytes))
 no_rounds (Make sizes) t = let other = t.command in absurd cc
 no_rounds (Run options) t = let other = t.command in absurd cc
 
 pub shortened : (request : Request) → AreTaken (codes "lift" ∷ codes "make" ∷ codes "--floor" ∷ codes "4" ∷ []) request → ⊥
 unfolding clap_on_literals
+shortened (Check options) t = let other = t.command in absurd cc
 shortened (Make sizes) t = let refused = t.accepted in absurd cc
 shortened (Solve options) t = let other = t.command in absurd cc
 shortened (Run options) t = let refused = t.accepted in absurd cc
 
 pub run_of_no_rounds : (request : Request) → AreTaken (codes "lift" ∷ codes "make" ∷ codes "--rounds" ∷ codes "0" ∷ []) request → ⊥
 unfolding clap_on_literals
+run_of_no_rounds (Check options) t = let other = t.command in absurd cc
 run_of_no_rounds (Make sizes) t = let none = t.asks.rounds in absurd cc
 run_of_no_rounds (Solve options) t = let other = t.command in absurd cc
 run_of_no_rounds (Run options) t = let none = t.asks.rounds in absurd cc
 
 pub run_with_value : (request : Request) → AreTaken (codes "lift" ∷ codes "make" ∷ codes "--run=1" ∷ []) request → ⊥
 unfolding clap_on_literals
+run_with_value (Check options) t = let other = t.command in absurd cc
 run_with_value (Make sizes) t = let refused = t.accepted in absurd cc
 run_with_value (Solve options) t = let other = t.command in absurd cc
 run_with_value (Run options) t = let refused = t.accepted in absurd cc

@@ -1,5 +1,5 @@
 -- Which words are taken, and what they ask for.
-use Rattle.std.specs.Prelude.{◌≡◌, ◌≤◌, ◌&&◌, ℕ, List, drop, codes, slice_get, nat_le, true, Option, Some, None, IsSome, if◌then◌else◌, option_and_then}
+use Rattle.std.specs.Prelude.{◌≡◌, ◌≤◌, ◌↔◌, ◌&&◌, ℕ, List, drop, codes, slice_get, nat_le, true, IsTrue, Option, Some, None, IsSome, if◌then◌else◌, option_and_then}
 use Rattle.std.specs.List.{Contains}
 use Rattle.lift_text.specs.Numbers.{digits_number}
 use Rattle.clap.specs.Walk.{Row, Text, first_of}
@@ -12,8 +12,9 @@ use Rattle.lift_words.specs.declared.table.CommandWord.TheVariants as command
 use Rattle.lift_words.specs.declared.table.NumberOption.{NumberOption}
 use Rattle.lift_words.specs.declared.table.NumberOption.TheVariants.{Rounds, Moves, Workers, Number, Floors, Cars, Calls}
 use Rattle.lift_words.specs.declared.request.Request.{Request}
-use Rattle.lift_words.specs.declared.request.Request.TheVariants.{Solve, Make, Run}
+use Rattle.lift_words.specs.declared.request.Request.TheVariants.{Solve, Check, Make, Run}
 use Rattle.lift_words.specs.declared.request.SolveOptions.{SolveOptions}
+use Rattle.lift_words.specs.declared.request.CheckOptions.{CheckOptions}
 use Rattle.lift_words.specs.declared.request.CaseSizes.{CaseSizes}
 use Rattle.lift_words.specs.declared.request.RunOptions.{RunOptions}
 
@@ -33,11 +34,18 @@ number_from row (Some word) = number_in_range row.low row.high word
 abbrev pub number_of : List Row → NumberOption → Option ℕ
 number_of rows option = number_from (setting_of option) (first_of (setting_of option).name rows)
 
+-- no certificate is to be written
+abbrev pub AsksForBrief : List Row → Type 0
+AsksForBrief rows = first_of (codes "brief") rows ≡ Some (codes "true")
+
 pub record AsksToSolve (rows : List Row) (options : SolveOptions) : Type 0 where
-  pub brief : first_of (codes "brief") rows ≡ Some (codes "true")
+  pub brief : IsTrue options.brief ↔ AsksForBrief rows
   pub rounds : number_of rows Rounds ≡ Some options.rounds
   pub moves : number_of rows Moves ≡ Some options.moves
   pub workers : number_of rows Workers ≡ Some options.workers
+
+abbrev pub AsksToCheck : List Row → CheckOptions → Type 0
+AsksToCheck rows options = number_of rows Workers ≡ Some options.workers
 
 pub record AsksForSizes (rows : List Row) (sizes : CaseSizes) : Type 0 where
   pub number : number_of rows Number ≡ Some sizes.number
@@ -64,11 +72,13 @@ pub record AsksToRun (rows : List Row) (options : RunOptions) : Type 0 where
 
 abbrev pub command_asked : Request → CommandWord
 command_asked (Solve options) = command.Solve
+command_asked (Check options) = command.Check
 command_asked (Make sizes) = command.Make
 command_asked (Run options) = command.Make
 
 abbrev pub Asks : List Row → Request → Type 0
 Asks rows (Solve options) = AsksToSolve rows options
+Asks rows (Check options) = AsksToCheck rows options
 Asks rows (Make sizes) = AsksToMake rows sizes
 Asks rows (Run options) = AsksToRun rows options
 
@@ -108,6 +118,9 @@ pub record AreSolveOptions (options : SolveOptions) : Type 0 where
   pub moves : IsInRange Moves options.moves
   pub workers : IsInRange Workers options.workers
 
+pub record AreCheckOptions (options : CheckOptions) : Type 0 where
+  pub workers : IsInRange Workers options.workers
+
 pub record AreCaseSizes (sizes : CaseSizes) : Type 0 where
   pub number : IsInRange Number sizes.number
   pub floors : IsInRange Floors sizes.floors
@@ -121,5 +134,6 @@ pub record AreRunOptions (options : RunOptions) : Type 0 where
 
 abbrev pub IsWithin : Request → Type 0
 IsWithin (Solve options) = AreSolveOptions options
+IsWithin (Check options) = AreCheckOptions options
 IsWithin (Make sizes) = AreCaseSizes sizes
 IsWithin (Run options) = AreRunOptions options

@@ -8,4 +8,4 @@ mod request;
 mod table;
 
 pub use reading::read_words;
-pub use request::{CaseSizes, Request, RunOptions, SolveOptions, WordsFault};
+pub use request::{CaseSizes, CheckOptions, Request, RunOptions, SolveOptions, WordsFault};

@@ -1,13 +1,13 @@
 //! Reads the words.
 ghost use Rattle.std.specs.Prelude.{◌≡◌, ◌≤◌, IfErr, IfOk, IfSome, None, length, IsTrue, ◌↔◌, Some, codes, map, option_map, string_bytes};
 ghost use Rattle.clap.specs.Words.{first_of, found_of, rows_of};
-ghost use Rattle.lift_words.specs.Taken.{AreCaseSizes, AreSolveOptions, AreTaken, AsksBy, AsksForSizes, AsksToSolve, ExactlyWhere, IsInRange, IsSecond, IsWithin, number_in_range, number_of};
+ghost use Rattle.lift_words.specs.Taken.{AreCaseSizes, AreCheckOptions, AreSolveOptions, AreTaken, AsksBy, AsksForSizes, AsksToCheck, AsksToSolve, ExactlyWhere, IsInRange, IsSecond, IsWithin, number_in_range, number_of};
 ghost use Rattle.lift_words.specs.declared.request.Request.{Request};
 ghost use Rattle.lift_words.specs.declared.table.CommandWord.{CommandWord};
 
 use crate::parsing::parse;
 use crate::repeats::{has_lone_dashes, has_repeats};
-use crate::request::{CaseSizes, Request, RunOptions, SolveOptions, WordsFault};
+use crate::request::{CaseSizes, CheckOptions, Request, RunOptions, SolveOptions, WordsFault};
 use crate::table::{CommandWord, NumberOption};
 use clap::ArgMatches;
 use lift_text::number_in;
@@ -57,11 +57,12 @@ fn asked(command: CommandWord, matches: &ArgMatches<'_>) -> Option<Request>
 {
     match command {
         CommandWord::Solve => Some(Request::Solve(solve_options(matches)?)),
+        CommandWord::Check => Some(Request::Check(check_options(matches)?)),
         CommandWord::Make => asked_of_make(matches),
     }
 }
 
-/// The options of `solve`, where `--brief` is given.
+/// The options of `solve`.
 fn solve_options(matches: &ArgMatches<'_>) -> Option<SolveOptions>
     ensures asked { let rows = rows_of (found_of matches.now) in
         ExactlyWhere (AsksToSolve rows) result }
@@ -70,12 +71,22 @@ fn solve_options(matches: &ArgMatches<'_>) -> Option<SolveOptions>
     let rounds = number(matches, NumberOption::Rounds)?;
     let moves = number(matches, NumberOption::Moves)?;
     let workers = number(matches, NumberOption::Workers)?;
-    if !is_given(matches, "brief") {
-        return None;
-    }
     Some(SolveOptions {
         rounds,
         moves,
+        workers: workers as u32,
+        brief: is_given(matches, "brief"),
+    })
+}
+
+/// The options of `check`.
+fn check_options(matches: &ArgMatches<'_>) -> Option<CheckOptions>
+    ensures asked { let rows = rows_of (found_of matches.now) in
+        ExactlyWhere (AsksToCheck rows) result }
+    ensures within { IfSome result AreCheckOptions }
+{
+    let workers = number(matches, NumberOption::Workers)?;
+    Some(CheckOptions {
         workers: workers as u32,
     })
 }

@@ -9,8 +9,10 @@ use std::fmt;
 /// What the words of the command line ask for.
 #[derive(Clone, Copy, Debug, PartialEq, Eq)]
 pub enum Request {
-    /// `solve --brief`: the case of the input is to be solved.
+    /// `solve`: the case of the input is to be solved.
     Solve(SolveOptions),
+    /// `check`: the answer of the input is to be checked.
+    Check(CheckOptions),
     /// `make`: a generated case is to be written.
     Make(CaseSizes),
     /// `make --run`: a generated case is to be solved.
@@ -24,6 +26,15 @@ pub struct SolveOptions {
     pub rounds: u64,
     /// `--moves`: at most so many moves in one pricing, 1 to 10^18. The default is 75000.
     pub moves: u64,
+    /// `--workers`: so many threads, 1 to 16. The default is 1.
+    pub workers: u32,
+    /// `--brief`: no certificate is to be written.
+    pub brief: bool,
+}
+
+/// The options of `check`.
+#[derive(Clone, Copy, Debug, PartialEq, Eq)]
+pub struct CheckOptions {
     /// `--workers`: so many threads, 1 to 16. The default is 1.
     pub workers: u32,
 }

@@ -6,6 +6,7 @@ ghost use Rattle.lift_words.specs.Table.{Shows, command_of, flags_of, numbers_of
 #[derive(Clone, Copy, Debug, PartialEq, Eq)]
 pub(crate) enum CommandWord {
     Solve,
+    Check,
     Make,
 }
 
@@ -41,6 +42,7 @@ impl CommandWord {
     {
         match word {
             "solve" => Some(CommandWord::Solve),
+            "check" => Some(CommandWord::Check),
             "make" => Some(CommandWord::Make),
             _ => None,
         }
@@ -52,6 +54,7 @@ impl CommandWord {
     {
         match self {
             CommandWord::Solve => "solve",
+            CommandWord::Check => "check",
             CommandWord::Make => "make",
         }
     }
@@ -66,6 +69,7 @@ impl CommandWord {
                 NumberOption::Moves,
                 NumberOption::Workers,
             ],
+            CommandWord::Check => &[NumberOption::Workers],
             CommandWord::Make => &[
                 NumberOption::Number,
                 NumberOption::Floors,
@@ -83,6 +87,7 @@ impl CommandWord {
     {
         match self {
             CommandWord::Solve => &["brief"],
+            CommandWord::Check => &[],
             CommandWord::Make => &["run"],
         }
     }

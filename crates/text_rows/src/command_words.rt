@@ -1,7 +1,9 @@
 //! Tables of words. A line's words stand between single spaces, so that two spaces have an empty word
 //! between them; the first word is the program's name.
 
-use lift_words::{CaseSizes, Request, RunOptions, SolveOptions, WordsFault, read_words};
+use lift_words::{
+    CaseSizes, CheckOptions, Request, RunOptions, SolveOptions, WordsFault, read_words,
+};
 use std::alloc::{AllocError, Global};
 use std::test::Fail;
 
@@ -14,7 +16,7 @@ fn read(alloc: Global, line: &str) -> Result<Result<Request, WordsFault>, AllocE
     Ok(read_words(alloc, words.as_slice()))
 }
 
-/// Each line with its rounds, moves and workers.
+/// Each line of words with `--brief`, with its rounds, moves and workers.
 const SOLVED: [(&str, u64, u64, u32); 16] = [
     ("lift solve --brief", 2000, 75000, 1),
     (" solve --brief", 2000, 75000, 1),
@@ -57,6 +59,24 @@ const SOLVED: [(&str, u64, u64, u32); 16] = [
         31,
         1,
     ),
+];
+
+/// Each line of words without `--brief`, with its rounds, moves and workers.
+const PROVED: [(&str, u64, u64, u32); 5] = [
+    ("lift solve", 2000, 75000, 1),
+    ("lift solve --rounds 5", 5, 75000, 1),
+    ("lift solve --moves=6", 2000, 6, 1),
+    (" solve --workers 7", 2000, 75000, 7),
+    ("lift solve --workers=2 --rounds 8 --moves=09", 8, 9, 2),
+];
+
+/// Each line with its workers.
+const CHECKED: [(&str, u32); 5] = [
+    ("lift check", 1),
+    (" check", 1),
+    ("lift check --workers 1", 1),
+    ("lift check --workers=16", 16),
+    ("lift check --workers 003", 3),
 ];
 
 /// Each line with its number, floors, cars and calls.
@@ -148,7 +168,7 @@ const RUN: [(&str, u64, u32, u32, u32, u64, u64); 6] = [
     ),
 ];
 
-const REFUSED: [&str; 94] = [
+const REFUSED: [&str; 109] = [
     // No command, or none of the table.
     "",
     "lift",
@@ -157,15 +177,15 @@ const REFUSED: [&str; 94] = [
     "lift Solve --brief",
     "lift solve=1 --brief",
     "lift --brief solve",
-    "lift check",
     "lift day",
     "lift report",
     "lift help",
     "lift --help",
     "lift -h",
-    // What does not stand yet.
-    "lift solve",
-    "lift solve --rounds 5",
+    "lift chec",
+    "lift checks",
+    "lift Check",
+    "lift check=1",
     // Outside the range.
     "lift solve --rounds 0 --brief",
     "lift solve --rounds=1000000000000000001 --brief",
@@ -175,6 +195,9 @@ const REFUSED: [&str; 94] = [
     "lift solve --workers=17 --brief",
     "lift solve --workers 18446744073709551617 --brief",
     "lift solve --rounds 9999999999999999999999999999999999999999 --brief",
+    "lift solve --rounds 0",
+    "lift check --workers 0",
+    "lift check --workers=17",
     "lift make --number 18446744073709551616",
     "lift make --number=340282366920938463463374607431768211456",
     "lift make --number 1000000000000000000000000000000000000000",
@@ -199,6 +222,7 @@ const REFUSED: [&str; 94] = [
     "lift solve --rounds=+5 --brief",
     "lift solve --rounds -5 --brief",
     "lift solve --rounds=-5 --brief",
+    "lift check --workers 2x",
     "lift make --calls -0",
     "lift make --calls=-0",
     "lift solve --rounds  --brief",
@@ -212,6 +236,8 @@ const REFUSED: [&str; 94] = [
     "lift solve --brief=1",
     "lift solve --brief=",
     "lift solve --brief true",
+    "lift check --workers",
+    "lift check --workers 2 3",
     "lift make --run=1",
     "lift make --run=",
     "lift make --run 1",
@@ -221,12 +247,14 @@ const REFUSED: [&str; 94] = [
     "lift solve --rounds=5 --moves 4 --rounds 6 --brief",
     "lift solve --rounds=5 --rounds=5 --brief",
     "lift solve --rounds --rounds 5 --brief",
+    "lift check --workers=2 --workers 3",
     "lift make --number 3 --cars 2 --number=3",
     "lift make --run --run",
     "lift make --run --cars 3 --run",
     // `--` alone.
     "lift solve --brief --",
     "lift solve -- --brief",
+    "lift check --",
     "lift make --",
     "lift make --cars --",
     // Other words.
@@ -236,6 +264,12 @@ const REFUSED: [&str; 94] = [
     "lift solve --BRIEF",
     "lift solve ---brief",
     "lift solve --floors 3 --brief",
+    "lift check --brief",
+    "lift check --rounds 5",
+    "lift check --moves=5",
+    "lift check --worker 2",
+    "lift check case.txt",
+    "lift check --help",
     "lift make --workers 2",
     "lift make --brief",
     "lift make --ru",
@@ -260,10 +294,41 @@ fn solve_has_its_options(rt: HostRuntime) -> Result<(), Fail> {
             rounds,
             moves,
             workers,
+            brief: true,
         };
         assert_eq!(rt;
             read(rt.alloc(), line)?,
             Ok(Request::Solve(options)),
+            "at {line}"
+        );
+    }
+    Ok(())
+}
+
+#[test]
+fn solve_writes_a_certificate_unless_it_is_brief(rt: HostRuntime) -> Result<(), Fail> {
+    for (line, rounds, moves, workers) in PROVED {
+        let options = SolveOptions {
+            rounds,
+            moves,
+            workers,
+            brief: false,
+        };
+        assert_eq!(rt;
+            read(rt.alloc(), line)?,
+            Ok(Request::Solve(options)),
+            "at {line}"
+        );
+    }
+    Ok(())
+}
+
+#[test]
+fn check_has_its_workers(rt: HostRuntime) -> Result<(), Fail> {
+    for (line, workers) in CHECKED {
+        assert_eq!(rt;
+            read(rt.alloc(), line)?,
+            Ok(Request::Check(CheckOptions { workers })),
             "at {line}"
         );
     }

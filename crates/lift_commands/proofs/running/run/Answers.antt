@@ -2,10 +2,10 @@ use Rattle.std.proofs.Common.{map, string_bytes, subst, refl, sym, ◌≡◌, �
 use Rattle.lift_words.specs.Taken.{AreTaken}
 use Rattle.lift_words.specs.declared.request.RunOptions.{RunOptions}
 use Rattle.lift_words.specs.declared.request.SolveOptions.{SolveOptions}
-use Rattle.lift_words.specs.declared.request.Request.TheVariants.{Solve, Make, Run}
+use Rattle.lift_words.specs.declared.request.Request.TheVariants.{Solve, Check, Make, Run}
 use Rattle.lift_commands.specs.declared.status.Status.TheVariants.{Words}
-use Rattle.lift_commands.specs.Outcome.{IsAnswered, IsCaseSolved, SolveDue, MakeDue, SolvedCaseDue, RunDue, UsageIsDue, usage_line, streams}
-use Rattle.lift_commands.proofs.Outcomes.{ends_put, ends_more, solve_due, make_due, solved_case_due, not_run_and_make}
+use Rattle.lift_commands.specs.Outcome.{IsAnswered, IsCaseSolved, SolveDue, CheckDue, MakeDue, SolvedCaseDue, RunDue, UsageIsDue, usage_line, streams}
+use Rattle.lift_commands.proofs.Outcomes.{ends_put, ends_more, solve_due, check_due, make_due, solved_case_due, not_run_and_make}
 use Rattle.lift_commands.proofs.running.run.Goals as goal
 
 pub returns-in-Ok-Solve-clause-ends : goal.returns-in-Ok-Solve-clause-ends
@@ -18,6 +18,31 @@ returns-in-Ok-Solve-clause-ends g c =
     let new = streams after (g.K.Sink.taken c.solve.new.sink) (g.S.Source.faults c.solve.new.source) (g.K.Sink.faults c.solve.new.sink) in
     let taken = subst (AreTaken words) c.in-Ok-Solve.field-0-is c.in-Ok-Solve.ensures.taken in
     ends_more (SolveDue c.in-Ok-Solve.options before after) (RunDue words before after) old new c.solve.result (solve_due words before after c.in-Ok-Solve.options taken) c.solve.ensures.ends
+
+pub returns-in-Ok-Check-clause-ends : goal.returns-in-Ok-Check-clause-ends
+returns-in-Ok-Check-clause-ends g c =
+    let left = g.S.Source.left in
+    let words = map string_bytes c.args.words.now in
+    let before = left c.args.source.now in
+    let after = left c.check.new.source in
+    let old = streams before (g.K.Sink.taken c.args.sink.now) (g.S.Source.faults c.args.source.now) (g.K.Sink.faults c.args.sink.now) in
+    let new = streams after (g.K.Sink.taken c.check.new.sink) (g.S.Source.faults c.check.new.source) (g.K.Sink.faults c.check.new.sink) in
+    let taken = subst (AreTaken words) c.in-Ok-Check.field-0-is c.in-Ok-Check.ensures.taken in
+    ends_more (CheckDue before after) (RunDue words before after) old new c.check.result (check_due words before after c.in-Ok-Check.options taken) c.check.ensures.ends
+
+pub returns-in-Ok-Check-clause-checks : goal.returns-in-Ok-Check-clause-checks
+returns-in-Ok-Check-clause-checks g c = λ options taken. c.check.ensures.checks
+
+pub returns-in-Ok-Check-clause-refuses_checks : goal.returns-in-Ok-Check-clause-refuses_checks
+returns-in-Ok-Check-clause-refuses_checks g c = λ options taken. c.check.ensures.refuses
+
+pub returns-in-Err-NotTaken-clause-checks : goal.returns-in-Err-NotTaken-clause-checks
+returns-in-Err-NotTaken-clause-checks g c = λ options taken input s stated tree given case reads writes.
+    absurd (c.in-Err-NotTaken.ensures.refused c.in-Err-NotTaken.field-0-is (Check options) taken)
+
+pub returns-in-Err-NotTaken-clause-refuses_checks : goal.returns-in-Err-NotTaken-clause-refuses_checks
+returns-in-Err-NotTaken-clause-refuses_checks g c = λ options taken input given none reads writes.
+    absurd (c.in-Err-NotTaken.ensures.refused c.in-Err-NotTaken.field-0-is (Check options) taken)
 
 pub returns-in-Ok-Make-clause-ends : goal.returns-in-Ok-Make-clause-ends
 returns-in-Ok-Make-clause-ends g c =

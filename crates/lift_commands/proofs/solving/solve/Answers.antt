@@ -1,8 +1,6 @@
-use Rattle.std.proofs.Common.{rules, ◌++◌, ◌∷◌, [], codes, inl, refl}
-use Rattle.lift_text.specs.declared.faults.TextFault.TheVariants.{Bad, TooLong}
-use Rattle.lift_commands.specs.declared.status.Status.TheVariants.{Done, Input}
-use Rattle.lift_commands.specs.Outcome.{SolveDue, RefusalIsDue, AnswerIsDue, streams}
-use Rattle.lift_commands.proofs.Outcomes.{ends_put, put_whole}
+use Rattle.std.proofs.Common.{Err, ap, inr}
+use Rattle.lift_commands.specs.Outcome.{SolveDue, AnswerIsDue, streams}
+use Rattle.lift_commands.proofs.Outcomes.{ends_fault, fault_memory, fault_status, put_whole, refusal_due}
 use Rattle.lift_commands.proofs.Solutions.{is_answered, ends_answered}
 use Rattle.lift_commands.proofs.solving.solve.Goals as goal
 
@@ -18,6 +16,7 @@ returns-in-Ok-solution_of-clause-ends g c =
       read = c.in-Ok.ensures.case;
       ended = c.in-Ok.ensures.ended;
       solution = c.in-Ok-solution_of.ensures.solution;
+      checks = λ input given can. c.in-Ok-solution_of.ensures.checks input (c.in-Ok.ensures.case input given) can;
     } in
     ends_answered c.args.options (left c.args.source.now) (left c.read_input.new.source) old new answer.text.items answer.status c.put.result due (rw c.as_slice.ensures.value at c.put.ensures)
 
@@ -29,36 +28,19 @@ pub returns-in-Ok-solution_of-clause-refuses : goal.returns-in-Ok-solution_of-cl
 returns-in-Ok-solution_of-clause-refuses g c = λ input given none reads writes.
     absurd (none c.in-Ok.snapshot (c.in-Ok.ensures.case input given))
 
-pub returns-in-Ok-refusal_line-clause-ends : goal.returns-in-Ok-refusal_line-clause-ends
-returns-in-Ok-refusal_line-clause-ends g c =
+pub returns-clause-ends : goal.returns-clause-ends
+returns-clause-ends g c =
     let left = g.S.Source.left in
     let old = streams (left c.args.source.now) (g.K.Sink.taken c.args.sink.now) (g.S.Source.faults c.args.source.now) (g.K.Sink.faults c.args.sink.now) in
-    let new = streams (left c.read_input.new.source) (g.K.Sink.taken c.put-in-Ok-refusal_line.new.sink) (g.S.Source.faults c.read_input.new.source) (g.K.Sink.faults c.put-in-Ok-refusal_line.new.sink) in
-    let text = c.in-Ok-refusal_line.text.items in
-    let due : RefusalIsDue (left c.args.source.now) text = record {
-      fault = Bad c.in-Err-Bad.line c.in-Err-Bad.code;
-      is_line = search rules;
-      read = λ input given. rw c.in-Err-Bad.field-0-is at (c.in-Err-Bad.ensures.refused input given);
-    } in
-    ends_put (SolveDue c.args.options (left c.args.source.now) (left c.read_input.new.source)) old new text Input c.put-in-Ok-refusal_line.result due (λ wrote. wrote) (rw c.as_slice-in-Ok-refusal_line.ensures.value at c.put-in-Ok-refusal_line.ensures)
+    let new = streams (left c.read_input.new.source) (g.K.Sink.taken c.put_fault.new.sink) (g.S.Source.faults c.read_input.new.source) (g.K.Sink.faults c.put_fault.new.sink) in
+    ends_fault (SolveDue c.args.options (left c.args.source.now) (left c.read_input.new.source)) c.in-Err.fault old new c.put_fault.result
+    (λ text is_line. refusal_due (left c.args.source.now) c.in-Err.fault text is_line c.in-Err.ensures.refused) (λ e. c.in-Err.ensures.read (ap Err e)) c.put_fault.ensures
 
-pub returns-in-Ok-refusal_line-clause-solves : goal.returns-in-Ok-refusal_line-clause-solves
-returns-in-Ok-refusal_line-clause-solves g c = λ input s given case reads writes.
-    absurd (rw c.in-Err-Bad.field-0-is at (c.in-Err-Bad.ensures.takes input s given case))
+pub returns-clause-solves : goal.returns-clause-solves
+returns-clause-solves g c = λ input s given case reads writes.
+    (let memory = fault_memory c.in-Err.fault c.put_fault.result _ _ _ _ c.put_fault.ensures (c.in-Err.ensures.takes input s given case) (λ e. reads (c.in-Err.ensures.read (ap Err e))) in
+    record { ended = inr (inr memory); enough = λ rounds moves. inr memory })
 
-pub returns-in-Err-TooLong-clause-ends : goal.returns-in-Err-TooLong-clause-ends
-returns-in-Err-TooLong-clause-ends g c =
-    let left = g.S.Source.left in
-    let old = streams (left c.args.source.now) (g.K.Sink.taken c.args.sink.now) (g.S.Source.faults c.args.source.now) (g.K.Sink.faults c.args.sink.now) in
-    let new = streams (left c.read_input.new.source) (g.K.Sink.taken c.put-in-Err-TooLong.new.sink) (g.S.Source.faults c.read_input.new.source) (g.K.Sink.faults c.put-in-Err-TooLong.new.sink) in
-    let text = codes "refused long" ++ 10 ∷ [] in
-    let due : RefusalIsDue (left c.args.source.now) text = record {
-      fault = TooLong;
-      is_line = refl;
-      read = λ input given. rw c.in-Err-TooLong.field-0-is at (c.in-Err-TooLong.ensures.refused input given);
-    } in
-    ends_put (SolveDue c.args.options (left c.args.source.now) (left c.read_input.new.source)) old new text Input c.put-in-Err-TooLong.result due (λ wrote. wrote) c.put-in-Err-TooLong.ensures
-
-pub returns-in-Err-TooLong-clause-solves : goal.returns-in-Err-TooLong-clause-solves
-returns-in-Err-TooLong-clause-solves g c = λ input s given case reads writes.
-    absurd (rw c.in-Err-TooLong.field-0-is at (c.in-Err-TooLong.ensures.takes input s given case))
+pub returns-clause-refuses : goal.returns-clause-refuses
+returns-clause-refuses g c = λ input given none reads writes.
+    fault_status c.in-Err.fault c.put_fault.result _ _ _ _ c.put_fault.ensures (λ e. reads (c.in-Err.ensures.read (ap Err e))) writes

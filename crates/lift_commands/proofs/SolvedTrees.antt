@@ -1,0 +1,242 @@
+-- The tree that a search answers within the default limits has a text, which is not too long.
+use Rattle.std.proofs.Common.{◌≡◌, ℕ, ◌+◌, ◌*◌, ◌^◌, ◌<◌, ◌≤◌, Bool, true, List, [], ◌∷◌, length, map, get_or, refl, sym, ap, ◌∙◌, subst, inl, inr, arith}
+use Rattle.std.specs.Prelude.{All, sum_by}
+use Rattle.std.proofs.lemmas.Bool.{cases_lt, both_ways, and_parts}
+use Rattle.std.proofs.lemmas.List.{length-map}
+use Rattle.std.proofs.lemmas.List.Elements.{All-nil, All-cons, All-head, All-tail}
+use Rattle.std.proofs.lemmas.List.Sums.{sum_by-cons, sum_by-le}
+use Rattle.call_sets.specs.Counting.{has}
+use Rattle.call_sets.proofs.Bits.{has_none_above}
+use Rattle.elevator_model.specs.Snapshot.{Snapshot, IsAccepted, car_count, call_count, call_of, is_possible}
+use Rattle.search_model.specs.declared.PriceOf.{PriceOf}
+use Rattle.search_model.specs.declared.WorthOf.{WorthOf}
+use Rattle.search_model.specs.declared.Leaf.{Leaf}
+use Rattle.search_model.specs.declared.Twig.{Twig}
+use Rattle.search_model.specs.declared.Twig.TheVariants.{Split, Leaf as Tip}
+use Rattle.search_model.specs.Nodes.{Node, IsNodeOf, set_of, set_where, is_part}
+use Rattle.search_model.specs.Certificates.{Place, Placed, IsSound, are_each_once, claim_in, is_filled, is_whole, placed_from, placed_twigs, places_after, root_place}
+use Rattle.search_model.specs.Solving.{Fits, AreClaimed}
+use Rattle.search_model.proofs.NodeLemmas.{part-from}
+use Rattle.search_model.proofs.SetLemmas.{set_where-below}
+use Rattle.search_model.proofs.SnapshotNodes.{root_is_node, first_is_node, second_is_node, set_of-root}
+use Rattle.search_model.proofs.TreeLemmas.{part-index}
+use Rattle.search_tree.specs.Sheets.{IsSizedTwig}
+use Rattle.cert_checker.proofs.EntryLemmas.{all_at, claims_once, once-from, once-length}
+use Rattle.tour_cost.proofs.Short.{calls-le}
+use Rattle.cert_text.specs.Trees.{IsWorthWithin, IsLeafWithin, IsSplitWithin, IsTwigWithin, IsWithin, IsKnownLeaf, IsKnownTwig, AreTwigsKnown, claims_of, sum_of_claims}
+use Rattle.cert_text.specs.Texts.{cert_text}
+use Rattle.cert_text.specs.Written.{HasText}
+use Rattle.cert_text.proofs.TreeLemmas.{filled_back}
+use Rattle.cert_text.proofs.WithinLemmas.{whole_within}
+use Rattle.cert_text.proofs.LengthLemmas.{HasAtMost, cert_length_of_answer, leaves_of, leaves_of_whole, splits_of}
+use Rattle.lift_commands.proofs.Solutions.{cars-le}
+
+-- what is known of a twig at its place
+pub record IsKnown (fits : Fits) (s : Snapshot) (bound moves : ℕ) (place : Place) (twig : Twig) : Type 0 where
+  pub sound : IsSound s bound place twig
+  pub claimed : AreClaimed fits s moves place twig
+  pub sized : IsSizedTwig twig
+
+-- and of each, at the places that they fill
+abbrev pub AreKnown : Fits → Snapshot → (bound moves : ℕ) → List Place → List Twig → Type 0
+AreKnown fits s bound moves places [] = Unit {0}
+AreKnown fits s bound moves [] (twig ∷ twigs) = ⊥
+AreKnown fits s bound moves (place ∷ places) (twig ∷ twigs) = IsKnown fits s bound moves place twig × AreKnown fits s bound moves (places_after place twig places) twigs
+
+module _ (fits : Fits) (s : Snapshot) (bound moves : ℕ) where
+  pub are_known : (places : List Place) (twigs : List Twig) → is_filled places twigs ≡ true → All (λ (p : Placed). IsSound s bound p.place p.twig) (placed_from places twigs)
+      → All (λ (p : Placed). AreClaimed fits s moves p.place p.twig) (placed_from places twigs) → All IsSizedTwig twigs → AreKnown fits s bound moves places twigs
+  are_known places [] filled sound claimed sized = tt
+  are_known [] (twig ∷ twigs) filled sound claimed sized = absurd cc
+  are_known (place ∷ places) (twig ∷ twigs) filled sound claimed sized =
+      let Sound : Placed → Type 0 = λ p. IsSound s bound p.place p.twig in
+      let Claimed : Placed → Type 0 = λ p. AreClaimed fits s moves p.place p.twig in
+      let here : Placed = record { place = place; twig = twig } in
+      let later = placed_from (places_after place twig places) twigs in (
+        record { sound = All-head Sound here later sound; claimed = All-head Claimed here later claimed; sized = All-head IsSizedTwig twig twigs sized },
+        are_known (places_after place twig places) twigs filled (All-tail Sound here later sound) (All-tail Claimed here later claimed) (All-tail IsSizedTwig twig twigs sized),
+      )
+
+-- ---- splits
+
+module _ (s : Snapshot) where
+  -- a set of a node has cars of the building alone
+  car_below : (node : Node) (j c : ℕ) → IsNodeOf s node → j < call_count s → has (set_of node j) c ≡ true → c < car_count s
+  car_below node j c is lt h =
+      let possible : ℕ → Bool = λ d. is_possible s d (call_of s j) in
+      let in_root : has (set_where (car_count s) possible) c ≡ true = sym (ap (λ (x : ℕ). has x c) (set_of-root s j lt)) ∙ is.within j c h in
+      elim (cases_lt c (car_count s)) [ inl few ↦ few | inr past ↦ absurd (both_ways _ (has_none_above (car_count s) (set_where (car_count s) possible) c (set_where-below (car_count s) possible) past) in_root) ]
+
+  call_of_split : (node : Node) (j part : ℕ) → IsNodeOf s node → is_part (set_of node j) part ≡ true → j < call_count s
+  call_of_split node j part is h = subst (λ (n : ℕ). j < n) is.calls (part-index node j part h)
+
+  split_fits : (node : Node) (j part : ℕ) → IsNodeOf s node → is_part (set_of node j) part ≡ true → part < 2 ^ 16 → IsSplitWithin s j part
+  split_fits node j part is h small =
+      let call = call_of_split node j part is h in
+      record { call = call; cars = λ c e. car_below node j c is call (in_set c e); set = small }
+    where
+      in_set : (c : ℕ) → has part c ≡ true → has (set_of node j) c ≡ true
+      in_set c e =
+          elim (cases_lt c 16) [ inl few ↦ (part-from (set_of node j) part h).within c few e | inr past ↦ absurd (both_ways _ (has_none_above 16 part c small past) e) ]
+
+-- ---- leaves
+
+module _ (fits : Fits) (s : Snapshot) (bound moves : ℕ) (place : Place) (leaf : Leaf) (known : IsKnown fits s bound moves place (Tip leaf)) where
+  each_once : (are_each_once (call_count s) (map (λ (p : PriceOf). p.call) leaf.prices) ≡ true) × (are_each_once (car_count s) (map (λ (w : WorthOf). w.car) leaf.worths) ≡ true)
+  each_once = and_parts (are_each_once (call_count s) (map (λ (p : PriceOf). p.call) leaf.prices)) (are_each_once (car_count s) (map (λ (w : WorthOf). w.car) leaf.worths)) known.sound.whole
+
+  call_at : (k : ℕ) (d : PriceOf) → k < length leaf.prices → (get_or leaf.prices k d).call < call_count s
+  call_at k d lt = all_at (λ (p : PriceOf). p.call) (call_count s) leaf.prices k d (once-from (call_count s) (map (λ (p : PriceOf). p.call) leaf.prices) each_once.0).below lt
+
+  car_at : (k : ℕ) (d : WorthOf) → k < length leaf.worths → (get_or leaf.worths k d).car < car_count s
+  car_at k d lt = all_at (λ (w : WorthOf). w.car) (car_count s) leaf.worths k d (once-from (car_count s) (map (λ (w : WorthOf). w.car) leaf.worths) each_once.1).below lt
+
+  pub leaf_known : IsKnownLeaf s leaf
+  leaf_known = record { prices = call_at; worths = car_at }
+
+  claim_at : (k : ℕ) (d : WorthOf) → k < length leaf.worths → claim_in leaf (get_or leaf.worths k d).car ≡ (get_or leaf.worths k d).claim
+  claim_at k d lt =
+      let c = (get_or leaf.worths k d).car in
+      let each = once-from (car_count s) (map (λ (w : WorthOf). w.car) leaf.worths) each_once.1 in
+      claims_once (λ (x : WorthOf). x.car) (λ (x : WorthOf). x.claim) c leaf.worths k d lt refl (each.once c (car_at k d lt))
+
+  price_count : length leaf.prices ≡ call_count s
+  price_count = sym (length-map leaf.prices (λ (p : PriceOf). p.call)) ∙ once-length (call_count s) (map (λ (p : PriceOf). p.call) leaf.prices) each_once.0
+
+  worth_count : length leaf.worths ≡ car_count s
+  worth_count = sym (length-map leaf.worths (λ (w : WorthOf). w.car)) ∙ once-length (car_count s) (map (λ (w : WorthOf). w.car) leaf.worths) each_once.1
+
+  pub leaf_small : IsAccepted s → HasAtMost 128 16 (Tip leaf)
+  leaf_small accepted =
+      let prices = price_count in
+      let worths = worth_count in
+      let calls = calls-le s accepted in
+      let cars = cars-le s accepted in
+      (omega (arith, prices, calls), omega (arith, worths, cars))
+
+  module _ (few : moves ≤ 75000) where
+    worths_fit : All (IsWorthWithin s) leaf.worths
+    worths_fit k d lt =
+        let car = car_at k d lt in
+        let claim = claim_at k d lt in
+        let claimed = known.claimed (get_or leaf.worths k d).car car in
+        let low = claimed.low in
+        let high = claimed.high in
+        let size = known.sized.worths k d lt in
+        record { car = car; worth_low = size.0; worth_high = size.1; claim_low = omega (arith, claim, low); claim_high = omega (arith, claim, high, few) }
+
+    pub leaf_fits : IsLeafWithin s leaf
+    leaf_fits = record { prices = λ k d lt. record { call = call_at k d lt; price = known.sized.prices k d lt }; worths = worths_fit }
+
+    claims_few : All (λ (w : WorthOf). w.claim ≤ 75000) leaf.worths
+    claims_few k d lt =
+        let claim = claim_at k d lt in
+        let high = (known.claimed (get_or leaf.worths k d).car (car_at k d lt)).high in
+        omega (arith, claim, high, few)
+
+    pub claims_small : IsAccepted s → claims_of (Tip leaf) ≤ 1200000
+    claims_small accepted =
+        let sum = sum_by-le (λ (w : WorthOf). w.claim) 75000 leaf.worths claims_few in
+        let count = worth_count in
+        let cars = cars-le s accepted in
+        omega (arith, sum, count, cars)
+
+-- ---- trees
+
+-- each twig is a split or a leaf
+all_counted : (tree : List Twig) → length tree ≡ sum_by splits_of tree + sum_by leaves_of tree
+all_counted [] = refl
+all_counted (Split j part ∷ tree) =
+    let rest = all_counted tree in
+    let splits = sum_by-cons splits_of (Split j part) tree in
+    let leaves = sum_by-cons leaves_of (Split j part) tree in
+    omega (arith, rest, splits, leaves)
+all_counted (Tip leaf ∷ tree) =
+    let rest = all_counted tree in
+    let splits = sum_by-cons splits_of (Tip leaf) tree in
+    let leaves = sum_by-cons leaves_of (Tip leaf) tree in
+    omega (arith, rest, splits, leaves)
+
+-- each place has a node
+abbrev HaveNodes : Snapshot → List Place → Type 0
+HaveNodes s [] = Unit {0}
+HaveNodes s (place ∷ places) = IsNodeOf s place.node × HaveNodes s places
+
+module _ (fits : Fits) (s : Snapshot) (accepted : IsAccepted s) (bound moves : ℕ) where
+  twigs_known : (places : List Place) (twigs : List Twig) → HaveNodes s places → AreKnown fits s bound moves places twigs → AreTwigsKnown s twigs
+  twigs_known places [] nodes known = All-nil (IsKnownTwig s)
+  twigs_known [] (twig ∷ twigs) nodes known = absurd known
+  twigs_known (place ∷ places) (Split j part ∷ twigs) nodes known =
+      let is = nodes.0 in
+      let h = known.0.sound in
+      let small = known.0.sized in
+      let call = call_of_split s place.node j part is h in
+      let own = split_fits s place.node j part is h small in
+      All-cons (IsKnownTwig s) (Split j part) twigs (record { call = call; cars = own.cars }) (twigs_known (places_after place (Split j part) places) twigs (first_is_node s place.node j part small is call h, (second_is_node s place.node j part is call h, nodes.1)) known.1)
+  twigs_known (place ∷ places) (Tip leaf ∷ twigs) nodes known =
+      All-cons (IsKnownTwig s) (Tip leaf) twigs (leaf_known fits s bound moves place leaf known.0) (twigs_known places twigs nodes.1 known.1)
+
+  pub tree_known : (tree : List Twig) → is_whole s tree ≡ true → All (λ (p : Placed). IsSound s bound p.place p.twig) (placed_twigs s tree)
+      → All (λ (p : Placed). AreClaimed fits s moves p.place p.twig) (placed_twigs s tree) → All IsSizedTwig tree → AreTwigsKnown s tree
+  tree_known tree whole sound claimed sized =
+      twigs_known (root_place s ∷ []) tree (root_is_node s accepted, tt) (are_known fits s bound moves (root_place s ∷ []) tree whole sound claimed sized)
+
+module _ (fits : Fits) (s : Snapshot) (accepted : IsAccepted s) (bound moves : ℕ) (few : moves ≤ 75000) where
+  twigs_fit : (places : List Place) (twigs : List Twig) → HaveNodes s places → AreKnown fits s bound moves places twigs → All (IsTwigWithin s) twigs
+  twigs_fit places [] nodes known = All-nil (IsTwigWithin s)
+  twigs_fit [] (twig ∷ twigs) nodes known = absurd known
+  twigs_fit (place ∷ places) (Split j part ∷ twigs) nodes known =
+      let is = nodes.0 in
+      let h = known.0.sound in
+      let small = known.0.sized in
+      let call = call_of_split s place.node j part is h in
+      All-cons (IsTwigWithin s) (Split j part) twigs (split_fits s place.node j part is h small) (twigs_fit (places_after place (Split j part) places) twigs (first_is_node s place.node j part small is call h, (second_is_node s place.node j part is call h, nodes.1)) known.1)
+  twigs_fit (place ∷ places) (Tip leaf ∷ twigs) nodes known =
+      All-cons (IsTwigWithin s) (Tip leaf) twigs (leaf_fits fits s bound moves place leaf known.0 few) (twigs_fit places twigs nodes.1 known.1)
+
+  claims_few_in : (places : List Place) (twigs : List Twig) → AreKnown fits s bound moves places twigs → sum_of_claims twigs ≤ 1200000 * sum_by leaves_of twigs
+  claims_few_in places [] known = omega arith
+  claims_few_in [] (twig ∷ twigs) known = absurd known
+  claims_few_in (place ∷ places) (Split j part ∷ twigs) known =
+      let rest = claims_few_in (places_after place (Split j part) places) twigs known.1 in
+      let claims = sum_by-cons claims_of (Split j part) twigs in
+      let leaves = sum_by-cons leaves_of (Split j part) twigs in
+      omega (arith, rest, claims, leaves)
+  claims_few_in (place ∷ places) (Tip leaf ∷ twigs) known =
+      let rest = claims_few_in places twigs known.1 in
+      let claims = sum_by-cons claims_of (Tip leaf) twigs in
+      let leaves = sum_by-cons leaves_of (Tip leaf) twigs in
+      let here = claims_small fits s bound moves place leaf known.0 few accepted in
+      omega (arith, rest, claims, leaves, here)
+
+  twigs_small : (places : List Place) (twigs : List Twig) → AreKnown fits s bound moves places twigs → All (HasAtMost 128 16) twigs
+  twigs_small places [] known = All-nil (HasAtMost 128 16)
+  twigs_small [] (twig ∷ twigs) known = absurd known
+  twigs_small (place ∷ places) (Split j part ∷ twigs) known = All-cons (HasAtMost 128 16) (Split j part) twigs tt (twigs_small (places_after place (Split j part) places) twigs known.1)
+  twigs_small (place ∷ places) (Tip leaf ∷ twigs) known =
+      All-cons (HasAtMost 128 16) (Tip leaf) twigs (leaf_small fits s bound moves place leaf known.0 accepted) (twigs_small places twigs known.1)
+
+  module _ (tree : List Twig) (whole : is_whole s tree ≡ true) (sound : All (λ (p : Placed). IsSound s bound p.place p.twig) (placed_twigs s tree))
+      (claimed : All (λ (p : Placed). AreClaimed fits s moves p.place p.twig) (placed_twigs s tree)) (sized : All IsSizedTwig tree) where
+    known : AreKnown fits s bound moves (root_place s ∷ []) tree
+    known = are_known fits s bound moves (root_place s ∷ []) tree whole sound claimed sized
+
+    pub tree_fits : All (IsTwigWithin s) tree
+    tree_fits = twigs_fit (root_place s ∷ []) tree (root_is_node s accepted, tt) known
+
+    leaves_few : length tree ≤ 16001 → sum_by leaves_of tree ≤ 8001
+    leaves_few short =
+        let leaves = leaves_of_whole tree (filled_back (root_place s ∷ []) tree whole) in
+        let all = all_counted tree in
+        omega (arith, leaves, all, short)
+
+    pub tree_within : length tree ≤ 16001 → IsWithin s tree
+    tree_within short =
+        let claims = claims_few_in (root_place s ∷ []) tree known in
+        let leaves = leaves_few short in
+        whole_within s tree tree_fits whole (omega (arith, claims, leaves))
+
+    pub tree_short : length tree ≤ 16001 → HasText s tree → length (cert_text s tree) ≤ 60000000
+    tree_short short text =
+        let size = cert_length_of_answer s tree accepted text (twigs_small (root_place s ∷ []) tree known) (leaves_few short) in
+        omega (arith, size)

@@ -1,0 +1,143 @@
+//! Certificates that are read whole and checked at once, not piece by piece as the program does.
+
+use answer_text::read_answer;
+use byte_streams::{MemorySource, OpenGate};
+use call_state::Snapshot;
+use case_text::read_case;
+use cert_checker::{check, have_sized_worths};
+use cert_text::read_cert;
+use lift_text::LineReader;
+use search_model::{Items, Reason, Stated, Twig, Verdict};
+use std::alloc::Global;
+use std::test::Fail;
+use std::thread::Threads;
+
+/// A case, an answer and a certificate, as they were read.
+#[derive(Drop)]
+struct Certified {
+    snapshot: Snapshot,
+    stated: Stated,
+    tree: Items<Twig>,
+}
+
+fn read(alloc: Global, text: &[u8]) -> Option<Certified> {
+    let bytes = Vec::from_slice(alloc, text).ok()?;
+    let mut source = MemorySource::new(bytes, 4096, Vec::new(alloc));
+    let mut lines = LineReader::new(alloc, &mut source).ok()?;
+    let snapshot = read_case(alloc, &mut lines).ok()?;
+    let answer = read_answer(alloc, &mut lines, &snapshot).ok()?;
+    let tree = read_cert(alloc, &mut lines, &snapshot).ok()?;
+    lines.into_source();
+    let stated = Stated {
+        plan: answer.plan,
+        cost: answer.cost,
+        bound: answer.bound,
+    };
+    Some(Certified {
+        snapshot,
+        stated,
+        tree,
+    })
+}
+
+/// The verdict of so many workers.
+fn verdict(
+    rt: &(impl Threads + Sync),
+    alloc: Global,
+    certified: &Certified,
+    workers: u32,
+) -> Option<Verdict> {
+    let Certified {
+        snapshot,
+        stated,
+        tree,
+    } = certified;
+    let twigs = tree.as_slice();
+    let cars = snapshot.building().cars().len();
+    let fits = twigs.len() < 1000 && have_sized_worths(twigs) && stated.plan.tours().len() == cars;
+    if !fits || workers < 1 || workers > 16 {
+        return None;
+    }
+    check(rt, alloc, snapshot, stated, twigs, workers, &OpenGate).ok()
+}
+
+/// Two cars, of which each may take the call; the first one is nearer.
+const TWO_LEAVES: &[u8] = b"building 1
+speed 2000
+accel 1000
+weights 1 1
+floors 0 4000 8000 12000
+car 5 8 1000 1000 500 500 all
+car 3 8 1000 1000 500 500 all
+end
+snapshot 1
+now 0
+car 3 idle 3 0
+car 5 idle 0 0
+call 9 0 1 1 0 any
+end
+answer 1
+cost 7500
+bound 7500
+tour 5
+stop 0 9
+stop 1
+tour 3
+end
+certificate 1
+split 9 5
+leaf
+price 9 7500000
+worth 5 0 900
+worth 3 0 900
+leaf
+price 9 15500000
+worth 5 0 900
+worth 3 0 900
+end
+";
+
+#[test]
+fn a_tree_is_checked_at_once(rt: HostRuntime) -> Result<(), Fail> {
+    let alloc = rt.alloc();
+    let certified = read(alloc, TWO_LEAVES).ok_or("memory")?;
+    for workers in [1, 2, 3, 16] {
+        let said = verdict(&rt, alloc, &certified, workers);
+        assert!(rt; matches!(said, Some(Verdict::Yes)));
+    }
+    Ok(())
+}
+
+/// The same, in which the second leaf states too much of the first call.
+fn with_too_much(alloc: Global) -> Option<Vec<u8>> {
+    let mut text = Vec::new(alloc);
+    for byte in TWO_LEAVES {
+        // The price 15500000 becomes 16500000.
+        let ends_so = text.as_slice().ends_with(b"price 9 1");
+        text.push(if ends_so { b'6' } else { *byte }).ok()?;
+    }
+    Some(text)
+}
+
+#[test]
+fn a_reason_names_its_leaf_and_car(rt: HostRuntime) -> Result<(), Fail> {
+    let alloc = rt.alloc();
+    let text = with_too_much(alloc).ok_or("memory")?;
+    let certified = read(alloc, &text).ok_or("memory")?;
+    for workers in [1, 2, 3, 16] {
+        let said = verdict(&rt, alloc, &certified, workers);
+        assert!(rt;
+            matches!(
+                said,
+                Some(Verdict::No(Reason::Under {
+                    node: 3,
+                    car: 1,
+                    worth: 0,
+                    value: -1000000,
+                    ..
+                }))
+            )
+        );
+    }
+    Ok(())
+}
