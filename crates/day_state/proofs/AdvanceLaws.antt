@@ -1,36 +1,35 @@
 -- The world at a later moment: an accepted snapshot, and the rest of the plan is feasible there.
-use Rattle.std.proofs.Common.{◌==◌, ◌≡◌, ℕ, zero, suc, ◌+◌, ◌-◌, ◌<◌, ◌≤◌, Bool, true, false, cond, not, ◌&&◌, ◌||◌, eqb, ltb, leb, List, [], ◌∷◌, ◌++◌, map, length, get_or, refl, sym, ap, ◌∙◌, subst, inl, inr, arith, None, Some}
+use Rattle.std.proofs.Common.{◌==◌, ◌≡◌, ℕ, zero, suc, ◌+◌, ◌-◌, ◌<◌, ◌≤◌, Bool, true, cond, ◌&&◌, ◌||◌, eqb, ltb, leb, List, [], ◌∷◌, map, length, get_or, refl, sym, ap, ◌∙◌, subst, inl, inr, arith, None}
 use Rattle.std.proofs.lemmas.List.FromFn.{get_or-map-range_with_len, length-map-range_with_len}
-use Rattle.std.specs.List.{count_by, range_with_len}
-use Rattle.std.proofs.lemmas.Bool.{and_left, and_right, and_parts, or_cases, or_left, or_right, false≢true, lt-ltb, ltb-true, eqb-true, eq-eqb, cases_Bool, cases_lt, cases_order, both_ways, not-true, not_from_true, false_from_ne_true}
+use Rattle.std.specs.List.{count_by}
+use Rattle.std.proofs.lemmas.Bool.{or_cases, or_left, or_right, false≢true, lt-ltb, eq-eqb, cases_lt, cases_order, both_ways, not-true, not_from_true, false_from_ne_true}
 use Rattle.elevator_model.specs.declared.Aboard.{Aboard}
 use Rattle.elevator_model.specs.declared.Call.{Call}
 use Rattle.elevator_model.specs.declared.CarState.{CarState}
 use Rattle.elevator_model.specs.declared.CarState.TheVariants.{Idle, Coming, Moving}
 use Rattle.elevator_model.specs.declared.Stop.{Stop}
 use Rattle.call_sets.specs.Counting.{any_below, is_among, sum_where}
-use Rattle.elevator_model.specs.Building.{floor_count, most_calls}
-use Rattle.elevator_model.specs.Snapshot.{Snapshot, IsAccepted, IsCarPlaced, IsGroupAccepted, IsCallAccepted, IsTimely, IsUnmoving, AreOnOneSide, car_count, call_count, call_of, group_of, spec_of, state_of, no_state, floor_of, is_idle, is_coming, is_open, may_stop_first, serves, persons_aboard}
-use Rattle.elevator_model.specs.Tours.{Progress, rider_count, destination_of, persons_of, persons_where, is_aboard, boards_at, has_leg, make_stop, start_of, after_stops, first_broken_from, broken_at_end, none_taken, IsFeasible}
+use Rattle.elevator_model.specs.Snapshot.{Snapshot, IsAccepted, IsCarPlaced, IsGroupAccepted, IsCallAccepted, IsTimely, AreOnOneSide, car_count, call_count, call_of, group_of, spec_of, state_of, no_state, is_coming, is_open, may_stop_first, serves}
+use Rattle.elevator_model.specs.Tours.{Progress, rider_count, destination_of, persons_of, is_aboard, boards_at, make_stop, start_of, after_stops, first_broken_from, broken_at_end, none_taken, IsFeasible}
 use Rattle.elevator_model.specs.Plans.{IsFeasiblePlan, is_boarded_in, tour_of, times_served}
-use Rattle.search_model.specs.Advancing.{World, StaysAccepted, advanced, done_from, done_by, left_at, progress_at, id_of_rider, is_waiting, index_at, state_then, stop_then}
+use Rattle.search_model.specs.Advancing.{World, StaysAccepted, advanced, done_by, left_at, progress_at, id_of_rider, is_waiting, index_at, state_then, stop_then}
 use Rattle.call_sets.proofs.BelowTests.{any_below-false}
 use Rattle.call_sets.proofs.Counts.{count-le}
 use Rattle.call_sets.proofs.ListTests.{list_any-append}
 use Rattle.call_sets.proofs.Sums.{sum_where-same}
 use Rattle.tour_rules.proofs.Reached.{broken_or-none}
-use Rattle.tour_rules.proofs.Rising.{count-cons, count-none}
+use Rattle.tour_rules.proofs.Rising.{count-cons}
 use Rattle.tour_rules.proofs.RiderSums.{is_call, is_no_call, group_index, persons_of-call, persons_of-group}
 use Rattle.tour_rules.proofs.Sound.{AllFine}
 use Rattle.day_state.specs.Reaching.{renamed_stop}
 use Rattle.day_state.proofs.Boarding.{planned, boarded-on}
-use Rattle.day_state.proofs.LaterNumbers.{waits, renames, stops-wait, start-same, fewer-persons, old-once, old-length, later-call-is, later-group-is, IsLaterGroup}
-use Rattle.day_state.proofs.LaterRiders.{old_riders, old_of, waiting, later-calls, listed, Seat, IsSeat}
-use Rattle.day_state.proofs.LaterStates.{Fits, FirstFor, IsFirstFor, IsLeft, OnSide, IsTimelyState, fits-begun, fits-unbegun}
-use Rattle.day_state.proofs.LaterTimes.{IsTimelyAt, aboard-persons, timely-start, timely-done, next-late}
-use Rattle.day_state.proofs.LaterTours.{AreFirst, MayStart, StopsWait, start-fine}
+use Rattle.day_state.proofs.LaterNumbers.{waits, renames, stops-wait, start-same, fewer-persons, old-once, old-length, later-call-is, later-group-is}
+use Rattle.day_state.proofs.LaterRiders.{old_riders, old_of, later-calls, listed}
+use Rattle.day_state.proofs.LaterStates.{Fits, FirstFor, IsLeft, OnSide, IsTimelyState, fits-begun, fits-unbegun}
+use Rattle.day_state.proofs.LaterTimes.{aboard-persons, timely-start, timely-done, next-late}
+use Rattle.day_state.proofs.LaterTours.{MayStart, StopsWait, start-fine}
 use Rattle.day_state.proofs.Numbering.{length-passing}
-use Rattle.day_state.proofs.Renaming.{Renames, HasSame, renamed-among, same_test}
+use Rattle.day_state.proofs.Renaming.{renamed-among}
 
 -- ---- each car
 

@@ -1,17 +1,17 @@
 -- Which calls have boarded a car at a moment: of the stops left, only calls that wait board.
-use Rattle.std.proofs.Common.{◌≡◌, ℕ, ◌+◌, ◌<◌, ◌≤◌, Bool, true, false, cond, not, ◌&&◌, ◌||◌, eqb, ltb, leb, List, [], ◌∷◌, ◌++◌, drop, length, refl, sym, ap, ◌∙◌, subst, inl, inr, arith, None}
-use Rattle.std.proofs.lemmas.Bool.{and_parts, or_cases, or_left, or_right, false≢true, ltb-true, both_ways, not_from_false, false_from_ne_true, true_from_ne_false, cases_order, cases_Bool}
+use Rattle.std.proofs.Common.{◌≡◌, ℕ, ◌+◌, ◌<◌, Bool, true, false, cond, ◌||◌, ltb, leb, List, [], ◌∷◌, ◌++◌, drop, length, refl, sym, ap, ◌∙◌, subst, inl, inr, arith, None}
+use Rattle.std.proofs.lemmas.Bool.{and_parts, or_cases, or_left, or_right, false≢true, both_ways, not_from_false, false_from_ne_true, cases_order, cases_Bool}
 use Rattle.elevator_model.specs.declared.Stop.{Stop}
-use Rattle.call_sets.specs.Counting.{any_below, is_among, sum_where}
+use Rattle.call_sets.specs.Counting.{any_below, is_among}
 use Rattle.elevator_model.specs.Snapshot.{Snapshot, call_count, car_count}
-use Rattle.elevator_model.specs.Tours.{Progress, boards_at, arrival, make_stop, start_of, after_stops, breaks, broken_at, none_taken, rules_of_stop, first_broken_from, IsFeasible}
+use Rattle.elevator_model.specs.Tours.{Progress, boards_at, arrival, make_stop, start_of, after_stops, breaks, broken_at, none_taken, rules_of_stop, first_broken_from}
 use Rattle.elevator_model.specs.Plans.{IsFeasiblePlan, is_boarded_in, tour_of, times_served}
 use Rattle.search_model.specs.Advancing.{World, done_from, done_by, left_at, progress_at, is_waiting}
-use Rattle.call_sets.proofs.BelowTests.{any_below-at, any_below-none, any_below-false}
+use Rattle.call_sets.proofs.BelowTests.{any_below-none}
 use Rattle.call_sets.proofs.ListTests.{list_any-append}
 use Rattle.call_sets.proofs.Sums.{sum_where-step}
 use Rattle.tour_rules.proofs.BoundedTests.{AllClear-from}
-use Rattle.tour_rules.proofs.Settled.{boards-call, boards_once}
+use Rattle.tour_rules.proofs.Settled.{boards_once}
 use Rattle.tour_rules.proofs.Sound.{AllFine}
 use Rattle.tour_rules.proofs.Reached.{broken_or-none}
 use Rattle.tour_rules.proofs.Taken.{stop_calls, tour_apart}

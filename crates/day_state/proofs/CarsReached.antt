@@ -1,5 +1,5 @@
 -- Each car where the code has reached the moment, against the world then.
-use Rattle.std.proofs.Common.{◌≡◌, ◌==◌, ℕ, zero, suc, ◌+◌, ◌-◌, ◌<◌, ◌≤◌, Bool, true, false, cond, not, ◌&&◌, ◌||◌, eqb, ltb, List, [], ◌∷◌, ◌++◌, map, take, drop, length, get_or, slice_get, refl, sym, ap, ◌∙◌, subst, arith, Some, append_assoc}
+use Rattle.std.proofs.Common.{◌≡◌, ℕ, zero, suc, ◌+◌, ◌-◌, ◌<◌, ◌≤◌, Bool, true, false, cond, not, ◌&&◌, ◌||◌, eqb, ltb, List, [], ◌∷◌, ◌++◌, map, drop, length, get_or, slice_get, refl, sym, ap, ◌∙◌, subst, arith, Some, append_assoc}
 use Rattle.std.specs.List.{filter, range_with_len, list_any, flat_map}
 use Rattle.std.proofs.lemmas.List.{get_or_default}
 use Rattle.std.proofs.lemmas.Bool.{or_left, or_right, eq-eqb}
@@ -8,19 +8,16 @@ use Rattle.std.proofs.lemmas.Option.{slice_get_read}
 use Rattle.elevator_model.specs.declared.Aboard.{Aboard}
 use Rattle.elevator_model.specs.declared.CarState.{CarState}
 use Rattle.elevator_model.specs.declared.Stop.{Stop}
-use Rattle.call_sets.specs.Counting.{has, any_below, is_among, sum_where}
+use Rattle.call_sets.specs.Counting.{has, any_below, is_among}
 use Rattle.elevator_model.specs.Building.{floor_count}
-use Rattle.elevator_model.specs.Snapshot.{Snapshot, IsAccepted, car_count, call_count, call_of, group_of}
-use Rattle.elevator_model.specs.Tours.{Progress, rider_count, destination_of, persons_of, make_stop, after_stops, start_of}
+use Rattle.elevator_model.specs.Snapshot.{Snapshot, car_count, call_count, call_of, group_of}
+use Rattle.elevator_model.specs.Tours.{Progress, destination_of, persons_of, make_stop, after_stops, start_of}
 use Rattle.elevator_model.specs.Plans.{IsFeasiblePlan, tour_of, is_boarded_in}
 use Rattle.search_model.specs.declared.Event.{Event}
 use Rattle.search_model.specs.Advancing.{World, done_from, done_by, events_of_car, left_at, progress_at, riders_after_all, riders_at_start, rides_on, group_from, new_groups, is_waiting, index_at, stop_then, state_then, calls_at}
-use Rattle.tour_rules.specs.Places.{carries, group_in, group_carried, call_in}
-use Rattle.tour_rules.specs.declared.walking.Walker.{Walker}
-use Rattle.tour_rules.specs.Walking.{Walks}
+use Rattle.tour_rules.specs.Places.{carries, group_carried, call_in}
 use Rattle.call_sets.proofs.Sums.{sum_where-same}
 use Rattle.tour_rules.proofs.RiderSums.{is_no_call, group_index, destination_of-call, persons_of-call}
-use Rattle.tour_rules.proofs.BoundedTests.{same_function}
 use Rattle.tour_rules.proofs.Sound.{AllFine}
 use Rattle.tour_cost.proofs.Walked.{stop_of}
 use Rattle.day_state.specs.declared.rides.Reached.{Reached}

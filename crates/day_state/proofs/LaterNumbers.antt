@@ -1,29 +1,28 @@
 -- The riders of the world at a later moment have new numbers: each has one, and its own.
-use Rattle.std.proofs.Common.{◌==◌, ◌≡◌, ℕ, zero, suc, ◌+◌, ◌-◌, ◌*◌, ◌<◌, ◌≤◌, Bool, true, false, cond, not, ◌&&◌, ◌||◌, eqb, ltb, leb, List, [], ◌∷◌, ◌++◌, map, length, get_or, All, refl, sym, ap, ◌∙◌, subst, inl, inr, arith, length-append, None}
+use Rattle.std.proofs.Common.{◌==◌, ◌≡◌, ℕ, zero, suc, ◌+◌, ◌-◌, ◌<◌, ◌≤◌, Bool, true, false, cond, ◌&&◌, ◌||◌, eqb, ltb, leb, List, [], ◌∷◌, ◌++◌, map, length, get_or, All, refl, sym, ap, ◌∙◌, subst, inl, inr, arith, length-append}
 use Rattle.std.proofs.lemmas.List.Elements.{All-append, All-map, All-weaker}
 use Rattle.std.proofs.lemmas.List.Concat.{flat_map-cons}
 use Rattle.std.proofs.lemmas.Simd.{map-map}
 use Rattle.std.proofs.lemmas.List.{length-map}
-use Rattle.std.specs.List.{count_by, filter, range_with_len, flat_map, sum_by}
-use Rattle.std.proofs.lemmas.Bool.{and_left, and_parts, and_from, or_cases, or_left, or_right, false≢true, lt-ltb, ltb-true, le-ltb, leb-true, le-leb, eqb-true, eq-eqb, cases_Bool, both_ways, false_from_ne_true, cases_lt}
+use Rattle.std.specs.List.{count_by, range_with_len, flat_map}
+use Rattle.std.proofs.lemmas.Bool.{and_parts, and_from, or_cases, or_left, or_right, false≢true, lt-ltb, ltb-true, leb-true, eqb-true, eq-eqb, cases_Bool, both_ways, false_from_ne_true, cases_lt}
 use Rattle.std.proofs.lemmas.List.{map-append}
 use Rattle.elevator_model.specs.declared.Aboard.{Aboard}
 use Rattle.elevator_model.specs.declared.Call.{Call}
-use Rattle.elevator_model.specs.declared.Stop.{Stop}
-use Rattle.call_sets.specs.Counting.{any_below, is_among, sum_below, sum_where}
-use Rattle.elevator_model.specs.Snapshot.{Snapshot, IsAccepted, car_count, call_count, call_of, group_of}
-use Rattle.elevator_model.specs.Tours.{Progress, rider_count, destination_of, persons_of, persons_where, is_aboard, start_of}
+use Rattle.call_sets.specs.Counting.{is_among, sum_below}
+use Rattle.elevator_model.specs.Snapshot.{IsAccepted, car_count, call_count, call_of, group_of}
+use Rattle.elevator_model.specs.Tours.{rider_count, destination_of, persons_of, persons_where, is_aboard, start_of}
 use Rattle.elevator_model.specs.Plans.{IsFeasiblePlan}
-use Rattle.search_model.specs.Advancing.{World, advanced, done_by, left_at, progress_at, riders_at_start, riders_after_all, rides_on, for_cars, is_waiting, index_at}
+use Rattle.search_model.specs.Advancing.{World, advanced, done_by, left_at, progress_at, riders_at_start, riders_after_all, rides_on, is_waiting, index_at}
 use Rattle.call_sets.proofs.Sums.{sum_below-le, sum_below-same, sum_below-zero, sum_below-list}
 use Rattle.call_sets.proofs.ListTests.{list_any-append}
 use Rattle.tour_rules.proofs.Rising.{among_chosen, chosen_has, count-cons, count-none, count-append, count-chosen}
-use Rattle.tour_rules.proofs.RiderSums.{group_index, destination_of-call, destination_of-group, persons_of-call, persons_of-group, is_aboard-call, is_aboard-group}
+use Rattle.tour_rules.proofs.RiderSums.{destination_of-call, destination_of-group, persons_of-call, persons_of-group, is_aboard-call, is_aboard-group}
 use Rattle.day_state.proofs.Boarding.{left-wait}
 use Rattle.day_state.proofs.LaterTours.{StopsWait}
 use Rattle.day_state.proofs.LaterRiders.{Seat, no_seat, staying_seat, new_seat, new_riders, new_seats, staying_groups, seats, waiting, old_riders, old_of, map-ranges, all-among, later-calls, later-groups, later-call, later-group, old-call, old-group, IsSeat, listed, all-seats, seat-at, one-carries, waiting-off}
 use Rattle.day_state.proofs.ListedRiders.{among-filter, count-filter}
-use Rattle.day_state.proofs.Numbering.{passing, rank, at-passing, rank-passing, length-passing, sum-once, count-ranges, one-at-most}
+use Rattle.day_state.proofs.Numbering.{at-passing, rank-passing, sum-once, count-ranges, one-at-most}
 use Rattle.day_state.proofs.Renaming.{Renames, HasSame, same_test}
 
 -- ---- each once

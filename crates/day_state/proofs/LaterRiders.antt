@@ -1,27 +1,24 @@
 -- Who is in the world at a later moment: the calls that wait, and the seats of those aboard.
-use Rattle.std.proofs.Common.{◌==◌, ◌≡◌, ℕ, zero, suc, ◌+◌, ◌-◌, ◌<◌, ◌≤◌, Bool, true, false, cond, not, ◌&&◌, ◌||◌, eqb, ltb, leb, List, [], ◌∷◌, ◌++◌, map, length, get_or, All, refl, sym, ap, ◌∙◌, subst, inl, inr, arith, length-append}
+use Rattle.std.proofs.Common.{◌≡◌, ℕ, zero, suc, ◌+◌, ◌-◌, ◌<◌, ◌≤◌, Bool, true, false, cond, ◌&&◌, eqb, ltb, leb, List, [], ◌∷◌, ◌++◌, map, length, get_or, All, refl, sym, ap, ◌∙◌, subst, inl, inr, arith}
 use Rattle.std.proofs.lemmas.List.Elements.{All-nil, All-cons, All-append, All-map, All-get_or}
 use Rattle.std.proofs.lemmas.List.Concat.{flat_map-cons}
 use Rattle.std.proofs.lemmas.Simd.{map-map}
 use Rattle.std.proofs.lemmas.List.{length-map}
-use Rattle.std.specs.List.{count_by, filter, range_with_len, flat_map, sum_by}
-use Rattle.std.proofs.lemmas.Bool.{and_left, and_parts, and_from, or_cases, or_left, or_right, false≢true, lt-ltb, ltb-true, le-ltb, leb-true, le-leb, eqb-true, eq-eqb, ne_eqb, cases_Bool, both_ways, not-true, false_from_ne_true, cases_lt, cases_eq}
+use Rattle.std.specs.List.{filter, range_with_len, flat_map}
+use Rattle.std.proofs.lemmas.Bool.{and_parts, or_cases, or_left, or_right, false≢true, ltb-true, eqb-true, eq-eqb, both_ways, not-true, false_from_ne_true}
 use Rattle.std.proofs.lemmas.List.{map-append, get_or-map, get_or_append_left, get_or-append-add}
 use Rattle.elevator_model.specs.declared.Aboard.{Aboard}
-use Rattle.elevator_model.specs.declared.Call.{Call}
-use Rattle.elevator_model.specs.declared.Stop.{Stop}
-use Rattle.call_sets.specs.Counting.{any_below, is_among, sum_below, sum_where}
+use Rattle.call_sets.specs.Counting.{any_below, is_among}
 use Rattle.elevator_model.specs.Snapshot.{Snapshot, IsAccepted, car_count, call_count, call_of, group_of, no_call, no_group}
-use Rattle.elevator_model.specs.Tours.{Progress, rider_count, destination_of, persons_of, is_aboard, start_of}
+use Rattle.elevator_model.specs.Tours.{rider_count, destination_of, persons_of, is_aboard, start_of}
 use Rattle.elevator_model.specs.Plans.{IsFeasiblePlan}
-use Rattle.search_model.specs.Advancing.{World, advanced, done_by, progress_at, id_of_rider, riders_at_start, riders_after_all, rides_on, group_from, new_groups, for_cars, aboard_at, is_waiting, calls_at, index_at}
+use Rattle.search_model.specs.Advancing.{World, advanced, done_by, progress_at, id_of_rider, riders_at_start, riders_after_all, rides_on, group_from, new_groups, for_cars, is_waiting}
 use Rattle.call_sets.proofs.BelowTests.{any_below-false}
-use Rattle.call_sets.proofs.Sums.{sum_below-same, sum_below-zero}
-use Rattle.tour_rules.proofs.Rising.{among_chosen, count-cons, count-none, count-append, count-chosen}
-use Rattle.tour_rules.proofs.RiderSums.{is_call, is_no_call, group_index, destination_of-group, persons_of-group, is_aboard-call, is_aboard-group}
-use Rattle.day_state.proofs.Boarding.{IsPlanned, planned, one-car, boarded-tour, tour-call}
-use Rattle.day_state.proofs.ListedRiders.{AreListed, ListsRiders, listed-start, listed-after, among-filter, count-filter}
-use Rattle.day_state.proofs.Numbering.{passing, rank, count-ranges, one-at-most}
+use Rattle.tour_rules.proofs.Rising.{among_chosen}
+use Rattle.tour_rules.proofs.RiderSums.{is_call, is_no_call, group_index, destination_of-group, persons_of-group, is_aboard-call}
+use Rattle.day_state.proofs.Boarding.{planned, one-car}
+use Rattle.day_state.proofs.ListedRiders.{AreListed, listed-start, listed-after, among-filter}
+use Rattle.day_state.proofs.Numbering.{passing}
 
 -- a rider aboard a car, as a group of the later snapshot
 pub record Seat : Type 0 where

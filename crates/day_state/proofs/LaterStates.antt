@@ -1,6 +1,6 @@
 -- The state of a car at a later moment keeps the rules of a snapshot, and the rest of its tour may start from it.
-use Rattle.std.proofs.Common.{◌≡◌, ◌==◌, ℕ, ◌+◌, ◌-◌, ◌<◌, ◌≤◌, Bool, true, false, cond, not, ◌&&◌, ◌||◌, eqb, ltb, leb, List, [], ◌∷◌, length, refl, sym, ap, ◌∙◌, subst, inl, inr, arith, None, Some}
-use Rattle.std.proofs.lemmas.Bool.{and_left, and_right, and_parts, and_from, and_cases, or_cases, or_left, or_right, or_parts, false≢true, lt-ltb, le-ltb, ltb-true, ltb-false, leb-true, leb-false, le-leb, eqb-true, eq-eqb, cases_Bool, both_ways, not-true, not-false, not_from_true, false_from_ne_true, true_from_ne_false, cond-true, cond-false, cases_order}
+use Rattle.std.proofs.Common.{◌≡◌, ℕ, ◌+◌, ◌<◌, ◌≤◌, Bool, true, false, cond, not, ◌&&◌, ◌||◌, eqb, ltb, leb, List, [], ◌∷◌, length, refl, sym, ap, ◌∙◌, subst, inl, inr, arith, None, Some}
+use Rattle.std.proofs.lemmas.Bool.{and_parts, and_from, and_cases, or_cases, or_left, or_right, or_parts, false≢true, lt-ltb, ltb-true, ltb-false, leb-true, leb-false, le-leb, eqb-true, eq-eqb, both_ways, not-true, not-false, false_from_ne_true, cond-true, cond-false, cases_order}
 use Rattle.elevator_model.specs.declared.Stop.{Stop}
 use Rattle.elevator_model.specs.declared.CarState.{CarState}
 use Rattle.elevator_model.specs.declared.CarState.TheVariants.{Idle, Coming, Moving}

@@ -1,10 +1,10 @@
 -- Where a car is after the stops that it has reached by a moment: its times, its load, its floor.
-use Rattle.std.proofs.Common.{◌≡◌, ℕ, zero, suc, ◌+◌, ◌-◌, ◌*◌, ◌<◌, ◌≤◌, Bool, true, false, cond, not, ◌&&◌, ◌||◌, eqb, ltb, leb, List, [], ◌∷◌, drop, length, refl, sym, ap, ◌∙◌, subst, inl, inr, arith, None}
+use Rattle.std.proofs.Common.{◌≡◌, ℕ, zero, suc, ◌+◌, ◌-◌, ◌<◌, ◌≤◌, Bool, true, false, cond, not, ◌&&◌, ◌||◌, eqb, ltb, leb, List, [], ◌∷◌, drop, length, refl, sym, ap, ◌∙◌, subst, inl, inr, arith, None}
 use Rattle.std.proofs.Math.Nat.{mul-le-mul_right}
-use Rattle.std.proofs.lemmas.Bool.{and_parts, or_cases, false≢true, lt-ltb, ltb-true, ltb-false, leb-true, leb-false, eqb-true, eqb-false, eq-eqb, cases_Bool, both_ways, not-true, not-false, false_from_ne_true}
+use Rattle.std.proofs.lemmas.Bool.{and_parts, or_cases, false≢true, ltb-true, ltb-false, leb-true, leb-false, eqb-true, eq-eqb, both_ways, not-true, not-false}
 use Rattle.elevator_model.specs.declared.Stop.{Stop}
-use Rattle.call_sets.specs.Counting.{any_below, sum_below, sum_where, is_among}
-use Rattle.elevator_model.specs.Snapshot.{Snapshot, IsAccepted, car_count, call_count, call_of, group_of, spec_of, state_of, serves, persons_aboard, is_possible, is_pinned_elsewhere, can_take}
+use Rattle.call_sets.specs.Counting.{any_below, sum_where, is_among}
+use Rattle.elevator_model.specs.Snapshot.{Snapshot, IsAccepted, car_count, call_count, call_of, group_of, spec_of, serves, persons_aboard, is_possible, is_pinned_elsewhere, can_take}
 use Rattle.elevator_model.specs.Building.{car_of}
 use Rattle.std.specs.List.{list_any}
 use Rattle.call_sets.proofs.ListTests.{list_any-false}
@@ -12,7 +12,6 @@ use Rattle.elevator_model.specs.Tours.{Progress, rider_count, destination_of, pe
 use Rattle.search_model.specs.Advancing.{done_from}
 use Rattle.call_sets.proofs.BelowTests.{any_below-false}
 use Rattle.call_sets.proofs.Sums.{sum_where-less, sum_where-none}
-use Rattle.tour_rules.specs.Leaving.{IsKept}
 use Rattle.tour_rules.proofs.BoundedTests.{AllClear-from}
 use Rattle.tour_rules.proofs.RiderSums.{is_aboard-call, is_aboard-group, persons_of-group, destination_of-call, destination_of-group, sum_riders}
 use Rattle.tour_rules.proofs.Settled.{boards-call, IsKept-start}

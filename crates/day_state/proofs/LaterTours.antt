@@ -1,17 +1,17 @@
 -- Stops and tours that break no rule in a snapshot break none in a later one.
-use Rattle.std.proofs.Common.{◌≡◌, ◌==◌, ℕ, ◌+◌, ◌<◌, ◌≤◌, Bool, true, false, cond, not, ◌&&◌, ◌||◌, eqb, ltb, leb, List, [], ◌∷◌, map, refl, sym, ap, ◌∙◌, subst, inl, inr, arith, Option, None, Some}
+use Rattle.std.proofs.Common.{◌≡◌, ◌==◌, ℕ, ◌+◌, ◌<◌, Bool, true, false, cond, not, ◌&&◌, ◌||◌, eqb, ltb, leb, List, [], ◌∷◌, map, refl, sym, ap, ◌∙◌, subst, inl, inr, arith, Option, None, Some}
 use Rattle.std.specs.List.{count_by, list_any}
-use Rattle.std.proofs.lemmas.Bool.{and_left, and_right, and_parts, and_from, and_cases, or_cases, or_left, or_right, or_from, or_parts, false≢true, ltb-true, ltb-false, lt-ltb, le-ltb, eqb-true, eq-eqb, both_ways, not-false, not-true, not_from_true, false_from_ne_true, cond-false}
+use Rattle.std.proofs.lemmas.Bool.{and_left, and_right, and_parts, and_from, and_cases, or_cases, or_left, or_right, or_from, or_parts, false≢true, ltb-false, lt-ltb, le-ltb, both_ways, not-false, not_from_true, false_from_ne_true, cond-false}
 use Rattle.elevator_model.specs.declared.Stop.{Stop}
 use Rattle.elevator_model.specs.declared.Call.{Call}
 use Rattle.elevator_model.specs.declared.Rule.{Rule}
-use Rattle.elevator_model.specs.declared.Rule.TheVariants.{FirstStop, SameFloorTwice, UselessStop, TurnWithPassengers, Capacity, QueueOrder, Car, Floor, Delivery, CallTwice, Place}
+use Rattle.elevator_model.specs.declared.Rule.TheVariants.{FirstStop, SameFloorTwice, UselessStop, Capacity, Delivery}
 use Rattle.call_sets.specs.Counting.{any_below, is_among}
 use Rattle.elevator_model.specs.Building.{Building, car_of}
 use Rattle.elevator_model.specs.Snapshot.{Snapshot, call_count, call_of, spec_of, state_of, serves, is_idle, is_possible, can_take, is_pinned_elsewhere}
 use Rattle.elevator_model.specs.Tours.{Progress, rider_count, destination_of, boards_at, gets_off, stays_on, persons_where, make_stop, has_leg, turns_with, overtakes, is_later_in_queue, is_call_for, breaks, broken_at, broken_at_end, broken_or, first_broken_from, none_taken, rules_of_stop}
 use Rattle.elevator_model.specs.Plans.{is_boarded_in}
-use Rattle.call_sets.proofs.BelowTests.{any_below-at, any_below-true, any_below-none}
+use Rattle.call_sets.proofs.BelowTests.{any_below-at, any_below-true}
 use Rattle.call_sets.proofs.ListTests.{list_any-false, list_any-none}
 use Rattle.tour_rules.proofs.BoundedTests.{AllClear-from, first_rule-clear}
 use Rattle.tour_rules.proofs.Reached.{broken_or-none}

@@ -1,10 +1,9 @@
 -- The plan with which a day begins is feasible.
-use Rattle.std.proofs.Common.{◌≡◌, ◌==◌, ℕ, zero, suc, ◌+◌, ◌-◌, ◌<◌, ◌≤◌, Bool, true, false, cond, not, ◌&&◌, ◌||◌, eqb, ltb, List, [], ◌∷◌, map, length, refl, sym, ap, ◌∙◌, subst, inl, inr, ◌⊎◌, arith, Option, None, Some}
+use Rattle.std.proofs.Common.{◌≡◌, ℕ, zero, suc, ◌+◌, ◌-◌, ◌<◌, ◌≤◌, Bool, true, false, cond, not, ◌&&◌, ◌||◌, ltb, [], refl, sym, ap, ◌∙◌, subst, inl, inr, ◌⊎◌, arith, Option, None, Some}
 use Rattle.std.proofs.lemmas.List.FromFn.{get_or-map-range_with_len, length-map-range_with_len}
 use Rattle.std.specs.Option.{unwrap_or}
 use Rattle.std.specs.Prelude.{min}
-use Rattle.std.specs.List.{range_with_len}
-use Rattle.std.proofs.lemmas.Bool.{and_left, and_right, and_parts, or_cases, or_from, or_parts, cases_lt, false≢true, le-ltb, ltb-true, eq-eqb, not_from_true, cond-false, cases_Bool}
+use Rattle.std.proofs.lemmas.Bool.{and_left, and_right, and_parts, or_from, or_parts, cases_lt, false≢true, le-ltb, ltb-true, eq-eqb, not_from_true, cond-false}
 use Rattle.elevator_model.specs.declared.Stop.{Stop}
 use Rattle.elevator_model.specs.declared.CarState.{CarState}
 use Rattle.elevator_model.specs.declared.CarState.TheVariants.{Idle, Coming, Moving}
@@ -12,8 +11,8 @@ use Rattle.elevator_model.specs.declared.Rule.TheVariants.{FirstStop, Delivery}
 use Rattle.call_sets.specs.Counting.{any_below, sum_where}
 use Rattle.elevator_model.specs.Travel.{difference}
 use Rattle.elevator_model.specs.Building.{floor_count}
-use Rattle.elevator_model.specs.Snapshot.{Snapshot, IsAccepted, IsTimely, car_count, call_count, spec_of, state_of, floor_of, is_idle, is_coming, is_open, may_stop_first, serves}
-use Rattle.elevator_model.specs.Tours.{Progress, rider_count, persons_of, persons_where, stays_on, boards_at, gets_off, start_of, make_stop, has_leg, turns_with, breaks, broken_at, broken_at_end, none_taken, rules_of_stop, IsFeasible, first_broken_from}
+use Rattle.elevator_model.specs.Snapshot.{Snapshot, IsAccepted, IsTimely, car_count, call_count, spec_of, state_of, floor_of, is_idle, is_open, may_stop_first, serves}
+use Rattle.elevator_model.specs.Tours.{rider_count, persons_of, persons_where, stays_on, boards_at, start_of, make_stop, has_leg, turns_with, breaks, broken_at, broken_at_end, none_taken, rules_of_stop, IsFeasible}
 use Rattle.elevator_model.specs.Plans.{IsFeasiblePlan, tour_of}
 use Rattle.search_model.specs.Sums.{least_where, lesser_of}
 use Rattle.search_model.specs.Days.{floors_to_open, nearest_open, lone_stop, opening_tour, opening_world}

@@ -1,20 +1,12 @@
 -- A later snapshot, in which those who are still there have other numbers: tours over it break no other rules.
-use Rattle.std.proofs.Common.{◌≡◌, ◌==◌, ℕ, ◌+◌, ◌<◌, ◌≤◌, Bool, true, false, cond, not, ◌&&◌, ◌||◌, eqb, ltb, leb, List, [], ◌∷◌, map, refl, sym, ap, ◌∙◌, subst, inl, inr, arith, None, Some}
-use Rattle.std.specs.List.{count_by, list_any}
-use Rattle.std.proofs.lemmas.Bool.{and_left, and_right, and_parts, and_from, and_cases, or_cases, or_left, or_right, or_from, false≢true, ltb-true, ltb-false, lt-ltb, le-ltb, leb-true, lt-leb, eqb-true, eq-eqb, cases_Bool, both_ways, not-false, not_from_true, false_from_ne_true, cond-true, cond-false, cases_lt}
+use Rattle.std.proofs.Common.{◌≡◌, ◌==◌, ℕ, ◌+◌, ◌<◌, ◌≤◌, Bool, true, false, cond, not, ◌&&◌, ◌||◌, eqb, ltb, List, [], ◌∷◌, map, refl, sym, ap, ◌∙◌, subst, inl, inr, arith}
+use Rattle.std.specs.List.{count_by}
+use Rattle.std.proofs.lemmas.Bool.{and_left, and_right, and_parts, or_cases, or_left, or_right, false≢true, lt-ltb, le-ltb, eqb-true, eq-eqb, both_ways, false_from_ne_true, cases_lt}
 use Rattle.elevator_model.specs.declared.Stop.{Stop}
-use Rattle.elevator_model.specs.declared.Call.{Call}
-use Rattle.elevator_model.specs.declared.Rule.TheVariants.{FirstStop, SameFloorTwice, UselessStop, TurnWithPassengers, Capacity, QueueOrder, Car, Floor, Delivery, CallTwice, Place}
-use Rattle.call_sets.specs.Counting.{any_below, sum_where, is_among}
-use Rattle.elevator_model.specs.Building.{Building, car_of}
-use Rattle.elevator_model.specs.Snapshot.{Snapshot, call_count, call_of, spec_of, state_of, serves, is_idle, is_possible, can_take, is_pinned_elsewhere}
-use Rattle.elevator_model.specs.Tours.{Progress, rider_count, destination_of, persons_of, boards_at, gets_off, stays_on, persons_where, make_stop, has_leg, turns_with, overtakes, is_later_in_queue, is_call_for, breaks, broken_at, broken_at_end, first_broken_from, none_taken, rules_of_stop}
-use Rattle.elevator_model.specs.Plans.{is_boarded_in}
-use Rattle.call_sets.proofs.BelowTests.{any_below-at, any_below-false, any_below-true, any_below-none}
-use Rattle.call_sets.proofs.ListTests.{list_any-false, list_any-none}
-use Rattle.tour_rules.proofs.BoundedTests.{AllClear-from, first_rule-clear}
-use Rattle.tour_rules.proofs.Reached.{broken_or-none}
-use Rattle.tour_rules.proofs.Settled.{boards-call}
+use Rattle.call_sets.specs.Counting.{any_below, is_among}
+use Rattle.elevator_model.specs.Snapshot.{Snapshot, call_count, call_of}
+use Rattle.elevator_model.specs.Tours.{Progress, rider_count, destination_of, boards_at, stays_on, persons_where, make_stop}
+use Rattle.call_sets.proofs.BelowTests.{any_below-at, any_below-true}
 use Rattle.tour_rules.proofs.Rising.{count-cons}
 use Rattle.day_state.specs.Reaching.{renamed_stop}
 

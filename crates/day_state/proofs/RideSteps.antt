@@ -1,13 +1,12 @@
 -- A ride after one more stop, and at the end of its stops.
-use Rattle.std.proofs.Common.{◌≡◌, ◌==◌, ℕ, ◌+◌, ◌<◌, ◌≤◌, Bool, true, false, cond, not, ◌&&◌, ◌||◌, eqb, ltb, leb, List, [], ◌∷◌, ◌++◌, map, take, drop, length, get_or, refl, sym, ap, ◌∙◌, subst, arith, append_assoc, append-nil}
+use Rattle.std.proofs.Common.{◌≡◌, ◌==◌, ℕ, ◌+◌, ◌<◌, ◌≤◌, Bool, true, cond, not, ◌&&◌, ltb, leb, List, [], ◌∷◌, ◌++◌, take, drop, length, get_or, refl, sym, ap, ◌∙◌, subst, arith, append_assoc, append-nil}
 use Rattle.std.specs.List.{filter, range_with_len}
 use Rattle.std.proofs.lemmas.Bool.{cond-true, cond-false, lt-leb, le-leb}
-use Rattle.std.proofs.lemmas.List.{take_more, take_all, drop_all, length-take-le}
+use Rattle.std.proofs.lemmas.List.{take_more, drop_all, length-take-le}
 use Rattle.elevator_model.specs.declared.Stop.{Stop}
 use Rattle.call_sets.specs.Counting.{has, is_among}
 use Rattle.call_sets.proofs.Listed.{listed-all}
-use Rattle.elevator_model.specs.Building.{floor_count}
-use Rattle.elevator_model.specs.Snapshot.{Snapshot, IsAccepted, car_count, call_count, call_of}
+use Rattle.elevator_model.specs.Snapshot.{Snapshot, IsAccepted, car_count, call_count}
 use Rattle.elevator_model.specs.Tours.{Progress, destination_of, boards_at, make_stop, stop_at, after_stops, start_of, arrival, IsFeasible}
 use Rattle.search_model.specs.declared.Event.{Event}
 use Rattle.search_model.specs.Advancing.{done_from, by_id, boards_by_id, riders_after, riders_after_all, riders_at_start, events_at, events_from, events_of_car}

@@ -1,5 +1,5 @@
 -- A snapshot that takes a new call is accepted.
-use Rattle.std.proofs.Common.{◌≡◌, ℕ, zero, suc, ◌+◌, ◌-◌, ◌<◌, ◌≤◌, Bool, true, false, cond, not, ◌&&◌, leb, List, [], ◌∷◌, ◌++◌, length, get_or, refl, sym, ap, ◌∙◌, subst, inl, inr, arith, length-append, Option, None, Some}
+use Rattle.std.proofs.Common.{◌≡◌, ℕ, ◌+◌, ◌<◌, Bool, true, false, cond, not, ◌&&◌, leb, [], ◌∷◌, length, refl, sym, ap, ◌∙◌, subst, inl, inr, arith, length-append, Option, None, Some}
 use Rattle.std.proofs.lemmas.Bool.{cases_lt, leb-false}
 use Rattle.std.proofs.lemmas.List.{get_or_append_left, get_or-append-add}
 use Rattle.elevator_model.specs.declared.Call.{Call}
@@ -7,7 +7,7 @@ use Rattle.elevator_model.specs.declared.CarState.{CarState}
 use Rattle.elevator_model.specs.declared.CarState.TheVariants.{Idle, Coming, Moving}
 use Rattle.call_sets.specs.Counting.{any_below}
 use Rattle.elevator_model.specs.Building.{most_calls}
-use Rattle.elevator_model.specs.Snapshot.{Snapshot, IsAccepted, IsCarPlaced, IsGroupAccepted, IsCallAccepted, IsTimely, AreOnOneSide, car_count, call_count, call_of, group_of, state_of, no_call, can_take, is_possible, is_pinned_elsewhere}
+use Rattle.elevator_model.specs.Snapshot.{Snapshot, IsAccepted, IsCallAccepted, IsTimely, AreOnOneSide, car_count, call_count, call_of, group_of, state_of, no_call, can_take, is_possible, is_pinned_elsewhere}
 use Rattle.call_sets.proofs.BelowTests.{any_below-same}
 use Rattle.search_model.specs.declared.RowFault.TheVariants.{Full, NoCar}
 use Rattle.search_model.specs.Days.{fault_of_new_call}

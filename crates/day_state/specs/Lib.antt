@@ -1,3 +1,4 @@
 pub mod Riding
 pub mod Reaching
 pub mod Openings
+pub mod Passing

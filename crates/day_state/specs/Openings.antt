@@ -1,6 +1,5 @@
 -- What a world takes: an opening snapshot, a new call.
 use Rattle.std.specs.Prelude.{◌≡◌, ℕ, ◌≤◌, ◌<◌, ◌++◌, ◌∷◌, [], length, Option, Some, None}
-use Rattle.elevator_model.specs.declared.Aboard.{Aboard}
 use Rattle.elevator_model.specs.declared.Call.{Call}
 use Rattle.search_model.specs.declared.RowFault.{RowFault}
 use Rattle.search_model.specs.declared.RowFault.TheVariants.{Full as FullRow, NoCar as NoCarRow}

@@ -7,7 +7,7 @@ ghost use Rattle.elevator_model.specs.Snapshot.{IsAccepted, car_count, call_coun
 ghost use Rattle.elevator_model.specs.Tours.{Progress, start_of, make_stop, after_stops, IsFeasible};
 ghost use Rattle.tour_rules.specs.Walking.{Walks};
 ghost use Rattle.search_model.specs.Advancing.{done_from, riders_at_start, riders_after, riders_after_all, events_at, events_of_car};
-ghost use Rattle.day_state.specs.Riding.{Rides};
+ghost use Rattle.day_state.specs.Riding.{Rides, RidesAfter, stops_by};
 
 use crate::riders::{board, by_id, deliver, riders_aboard, riders_staying};
 use call_sets::CallSet;
@@ -82,11 +82,11 @@ impl Ride {
         requires boards { (j : ℕ) → is_among j stop.now.boards ≡ true → j < call_count snapshot.now }
         requires calls { length self.boarded_at.items ≤ 128 }
         ensures rides { IfOk result (λ next. (p : Progress) (riders : List ℕ)
-            → Rides snapshot.now car self p riders
-            → Rides snapshot.now car next (make_stop snapshot.now car p stop.now) (riders_after snapshot.now riders stop.now)) }
+            → Rides snapshot.now car self p riders → Rides snapshot.now car next
+            (make_stop snapshot.now car p stop.now) (riders_after snapshot.now riders stop.now)) }
         ensures events { OnOk result ((p : Progress) → Walks snapshot.now car self.walker p
-            → events.new.items ≡ events.old.items ++
-            events_at snapshot.now car (make_stop snapshot.now car p stop.now).opened self.riders.items stop.now) }
+            → events.new.items ≡ events.old.items ++ events_at snapshot.now car
+            (make_stop snapshot.now car p stop.now).opened self.riders.items stop.now) }
         ensures floor { IfOk result (λ next. next.walker.place.floor ≡ stop.now.floor) }
         ensures late { IfOk result (λ next. next.walker.leaves ≤ self.walker.leaves + 150000000) }
     {
@@ -127,9 +127,7 @@ pub(crate) fn ride_along(
     requires car { car < car_count snapshot.now }
     requires feasible { IsFeasible snapshot.now car tour.now }
     requires stops { stops ≤ length tour.now }
-    ensures rides { IfOk result (λ ride. Rides snapshot.now car ride
-        (after_stops snapshot.now car (start_of snapshot.now car) (take stops tour.now))
-        (riders_after_all snapshot.now (riders_at_start snapshot.now car) (take stops tour.now))) }
+    ensures rides { IfOk result (λ ride. RidesAfter snapshot.now car ride (take stops tour.now)) }
     ensures events { OnOk result (events.new.items ≡ events.old.items ++
         events_of_car snapshot.now car (take stops tour.now)) }
     ensures floor { IfOk result (λ ride. ride.walker.place.floor < floor_count snapshot.now.building) }
@@ -146,10 +144,8 @@ pub(crate) fn ride_along(
 fn stops_done(snapshot: &Snapshot, car: u32, tour: &Tour, t: u64) -> usize
     requires car { car < car_count snapshot.now }
     requires feasible { IsFeasible snapshot.now car tour.now }
-    ensures count { result
-        ≡ length (done_from snapshot.now car t (start_of snapshot.now car) tour.now) }
-    ensures stops { take result tour.now
-        ≡ done_from snapshot.now car t (start_of snapshot.now car) tour.now }
+    ensures count { result ≡ length (stops_by snapshot.now car t tour.now) }
+    ensures stops { take result tour.now ≡ stops_by snapshot.now car t tour.now }
     ensures within { result ≤ length tour.now }
 {
     let mut walker = Walker::start(snapshot, car);
@@ -192,16 +188,16 @@ pub(crate) fn ride_until(
 ) -> Result<Reached, AllocError>
     requires car { car < car_count snapshot.now }
     requires feasible { IsFeasible snapshot.now car tour.now }
-    ensures done { IfOk result (λ reached. reached.done
-        ≡ length (done_from snapshot.now car t (start_of snapshot.now car) tour.now)) }
+    ensures done { IfOk result
+        (λ reached. reached.done ≡ length (stops_by snapshot.now car t tour.now)) }
     ensures within { IfOk result (λ reached. reached.done ≤ length tour.now) }
-    ensures floor { IfOk result (λ reached. reached.ride.walker.place.floor < floor_count snapshot.now.building) }
+    ensures floor { IfOk result
+        (λ reached. reached.ride.walker.place.floor < floor_count snapshot.now.building) }
     ensures early { IfOk result (λ reached. reached.ride.walker.leaves ≤ MOMENT_LIMIT) }
-    ensures rides { IfOk result (λ reached. Rides snapshot.now car reached.ride
-        (after_stops snapshot.now car (start_of snapshot.now car) (done_from snapshot.now car t (start_of snapshot.now car) tour.now))
-        (riders_after_all snapshot.now (riders_at_start snapshot.now car) (done_from snapshot.now car t (start_of snapshot.now car) tour.now))) }
+    ensures rides { IfOk result
+        (λ reached. RidesAfter snapshot.now car reached.ride (stops_by snapshot.now car t tour.now)) }
     ensures events { OnOk result (events.new.items ≡ events.old.items ++
-        events_of_car snapshot.now car (done_from snapshot.now car t (start_of snapshot.now car) tour.now)) }
+        events_of_car snapshot.now car (stops_by snapshot.now car t tour.now)) }
 {
     let done = stops_done(snapshot, car, tour, t);
     let ride = ride_along(alloc, snapshot, car, tour, done, events)?;

@@ -7,6 +7,7 @@ ghost use Rattle.elevator_model.specs.Snapshot.{car_count, is_open as is_open_le
 ghost use Rattle.elevator_model.specs.Tours.{Progress, rider_count, destination_of};
 ghost use Rattle.tour_rules.specs.Places.{Tracks, call_in, group_in, group_carried};
 ghost use Rattle.tour_rules.specs.Walking.{Walks};
+ghost use Rattle.day_state.specs.Passing.{call_passed, group_passed};
 ghost use Rattle.day_state.specs.Riding.{AreFloorsOf};
 ghost use Rattle.search_model.specs.Advancing.{can_still_choose as can_still_choose_lem, comes_to as comes_to_lem, state_under_way as state_under_way_lem, state_standing as state_standing_lem, state_moving as state_moving_lem, state_then as state_then_lem};
 
@@ -27,7 +28,7 @@ fn any_call_passed(
 ) -> bool
     requires { length calls.now ≤ 128 }
     ensures { result ≡ any_below (length calls.now)
-        (λ j. has carried j && not (is_open_lem building.now car t state (call_in calls.now j).destination)) }
+        (call_passed calls.now (is_open_lem building.now car t state) carried) }
 {
     for (j, call) in calls.iter().enumerate() {
         if carried.contains(j as u32) && !is_open(building, car, t, state, call.destination) {
@@ -48,7 +49,7 @@ fn any_group_passed(
 ) -> bool
     requires { (k : ℕ) → k < length groups.now → (group_in groups.now k).destination < 64 }
     ensures { result ≡ any_below (length groups.now)
-        (λ k. group_carried groups.now car visited k && not (is_open_lem building.now car t state (group_in groups.now k).destination)) }
+        (group_passed groups.now car (is_open_lem building.now car t state) visited) }
 {
     for group in groups {
         if is_carried(group, car, visited) && !is_open(building, car, t, state, group.destination) {

@@ -252,6 +252,19 @@ fn has_plan(alloc: Global, world: &World, text: &str) -> bool {
     }
 }
 
+/// Whether a copy of the world is the same.
+fn is_copied(alloc: Global, world: &World) -> bool {
+    match world.copy(alloc) {
+        Ok(copy) => {
+            copy.plan() == world.plan()
+                && copy.snapshot().now() == world.snapshot().now()
+                && copy.snapshot().aboard() == world.snapshot().aboard()
+                && copy.snapshot().calls() == world.snapshot().calls()
+        }
+        Err(_) => false,
+    }
+}
+
 /// Whether at the moment these have happened and the cars are in these states.
 fn is_then(alloc: Global, world: &mut World, t: u64, states: &[CarState], due: &[Event]) -> bool {
     let mut events = Vec::new(alloc);
@@ -283,6 +296,7 @@ fn two_uneven_cars_under_way(rt: HostRuntime) -> Result<(), Fail> {
     assert!(rt; has_calls(world.snapshot(), &[5, 2]));
     let aboard = [riding_in(group(9, 0, 1, 12475), 1)];
     assert!(rt; world.snapshot().aboard() == aboard.as_slice());
+    assert!(rt; is_copied(rt.alloc(), &world));
     let states = [coming(1, 21250), coming(0, 21250)];
     assert!(rt; is_then(rt.alloc(), &mut world, 21125, &states, &[]));
     Ok(())

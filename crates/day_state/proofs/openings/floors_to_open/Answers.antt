@@ -1,4 +1,4 @@
-use Rattle.std.proofs.Common.{◌≡◌, ◌∙◌, ◌+◌, ◌-◌, ℕ, Bool, true, false, sym, ap, arith, Some, Option}
+use Rattle.std.proofs.Common.{◌≡◌, ◌∙◌, ℕ, Bool, true, false, sym, ap, arith, Some, Option}
 use Rattle.elevator_model.specs.Building.{Building}
 use Rattle.elevator_model.specs.Snapshot.{is_open}
 use Rattle.elevator_model.specs.Travel.{difference}

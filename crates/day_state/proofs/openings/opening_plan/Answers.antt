@@ -6,7 +6,7 @@ use Rattle.elevator_model.specs.declared.CarSpec.{CarSpec}
 use Rattle.elevator_model.specs.Building.{Building}
 use Rattle.elevator_model.specs.Snapshot.{car_count, state_of}
 use Rattle.elevator_model.specs.Plans.{IsFeasiblePlan}
-use Rattle.search_model.specs.Days.{opening_tour, opening_world}
+use Rattle.search_model.specs.Days.{opening_tour}
 use Rattle.day_state.proofs.OpeningLaws.{opening-feasible}
 use Rattle.day_state.proofs.openings.opening_plan.Goals as goal
 

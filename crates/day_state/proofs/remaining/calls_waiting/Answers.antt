@@ -1,4 +1,4 @@
-use Rattle.std.proofs.Common.{◌≡◌, ◌∙◌, ◌++◌, ◌∷◌, [], List, not, true, false, sym, ap}
+use Rattle.std.proofs.Common.{◌∙◌, ◌++◌, ◌∷◌, [], List, not, sym, ap}
 use Rattle.call_sets.specs.Counting.{has}
 use Rattle.elevator_model.specs.declared.Call.{Call}
 use Rattle.tour_rules.specs.Places.{call_in}

@@ -1,7 +1,6 @@
 -- Those of the groups so far that ride on.
-use Rattle.std.proofs.Common.{◌≡◌, ℕ, List, map}
+use Rattle.std.proofs.Common.{◌≡◌, ℕ, map}
 use Rattle.std.specs.List.{filter, range_with_len}
-use Rattle.elevator_model.specs.declared.Stop.{Stop}
 use Rattle.elevator_model.specs.Snapshot.{group_of}
 use Rattle.search_model.specs.Advancing.{World, rides_on}
 use Rattle.day_state.specs.Reaching.{AreReached}

@@ -1,11 +1,11 @@
-use Rattle.std.proofs.Common.{◌≡◌, ◌∙◌, ℕ, List, refl, sym, ap, map, not, length}
+use Rattle.std.proofs.Common.{◌≡◌, ◌∙◌, ℕ, List, sym, ap, map, not, length}
 use Rattle.std.specs.List.{filter, range_with_len}
 use Rattle.call_sets.specs.Counting.{has}
 use Rattle.elevator_model.specs.declared.Aboard.{Aboard}
 use Rattle.elevator_model.specs.declared.Call.{Call}
 use Rattle.elevator_model.specs.declared.CarState.{CarState}
 use Rattle.elevator_model.specs.Building.{Building}
-use Rattle.elevator_model.specs.Snapshot.{Snapshot, call_count}
+use Rattle.elevator_model.specs.Snapshot.{Snapshot}
 use Rattle.tour_rules.specs.Places.{call_in}
 use Rattle.day_state.proofs.CarsReached.{calls-are}
 use Rattle.day_state.proofs.remaining.parts_at.Goals as goal

@@ -1,8 +1,6 @@
-use Rattle.std.proofs.Common.{◌≡◌, ◌∙◌, ◌<◌, ℕ, List, map, length, sym, ap, subst, arith, slice_index, get_or}
+use Rattle.std.proofs.Common.{◌≡◌, ◌∙◌, ◌<◌, ℕ, List, map, length, ap, arith, get_or}
 use Rattle.std.specs.List.{range_with_len}
-use Rattle.elevator_model.specs.declared.Call.{Call}
-use Rattle.elevator_model.specs.declared.Stop.{Stop}
-use Rattle.elevator_model.specs.Snapshot.{Snapshot, call_count, car_count}
+use Rattle.elevator_model.specs.Snapshot.{call_count, car_count}
 use Rattle.search_model.specs.Advancing.{left_at, stop_then}
 use Rattle.day_state.specs.Reaching.{renamed_stop}
 use Rattle.day_state.proofs.CarsReached.{tour-is, car-reached, left-is, tour-left, tours-more}

@@ -1,11 +1,9 @@
-use Rattle.std.proofs.Common.{◌≡◌, ◌∙◌, ◌<◌, ◌≤◌, ℕ, List, Some, slice_get, length, sym, ap, subst, arith}
+use Rattle.std.proofs.Common.{◌≡◌, ◌∙◌, ◌<◌, ◌≤◌, List, length, sym, ap, subst, arith}
 use Rattle.elevator_model.specs.declared.Stop.{Stop}
 use Rattle.elevator_model.specs.Building.{floor_count}
 use Rattle.elevator_model.specs.Snapshot.{Snapshot, car_count}
-use Rattle.elevator_model.specs.Plans.{tour_of}
 use Rattle.search_model.specs.Advancing.{left_at, progress_at, state_then}
 use Rattle.tour_rules.specs.Walking.{Walks}
-use Rattle.day_state.specs.Reaching.{IsReached}
 use Rattle.day_state.specs.Riding.{AreFloorsOf}
 use Rattle.day_state.proofs.CarsReached.{tour-is, car-reached, left-is, left-floors, states-more}
 use Rattle.day_state.proofs.remaining.states_at.Goals as goal

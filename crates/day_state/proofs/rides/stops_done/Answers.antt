@@ -1,9 +1,8 @@
-use Rattle.std.proofs.Common.{◌≡◌, ◌∙◌, ◌++◌, ◌<◌, ◌≤◌, ℕ, List, get_or, take, refl, sym, ap, subst, length, arith}
+use Rattle.std.proofs.Common.{◌≡◌, ◌∙◌, ◌<◌, ℕ, List, get_or, take, refl, ap, length, arith}
 use Rattle.elevator_model.specs.declared.Stop.{Stop}
-use Rattle.call_sets.specs.Counting.{has, is_among}
 use Rattle.elevator_model.specs.Tours.{start_of}
 use Rattle.search_model.specs.Advancing.{done_from}
-use Rattle.tour_cost.proofs.Walked.{IsWalked-start, IsWalked-stop, IsStopOf, progress}
+use Rattle.tour_cost.proofs.Walked.{IsWalked-start, IsWalked-stop, progress}
 use Rattle.day_state.proofs.RideSteps.{next-stop, walked-early, stop-set, set-walks, done-more, done-here, done-count}
 use Rattle.day_state.proofs.rides.stops_done.Goals as goal
 

@@ -1,4 +1,4 @@
-use Rattle.std.proofs.Common.{◌<◌, List, sym, subst, ◌∙◌, ap, length, arith}
+use Rattle.std.proofs.Common.{List, sym, ◌∙◌, ap, length, arith}
 use Rattle.call_sets.proofs.BelowTests.{any_below-at}
 use Rattle.elevator_model.specs.declared.CarSpec.{CarSpec}
 use Rattle.elevator_model.specs.Building.{Building}

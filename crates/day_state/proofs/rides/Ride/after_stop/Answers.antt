@@ -1,4 +1,4 @@
-use Rattle.std.proofs.Common.{◌≡◌, ◌==◌, ◌∙◌, ◌++◌, ◌<◌, ℕ, List, not, cond, map, get_or, sym, ap, length, arith, append_assoc}
+use Rattle.std.proofs.Common.{◌≡◌, ◌==◌, ◌∙◌, ◌++◌, ℕ, List, not, cond, map, get_or, ap, length, arith, append_assoc}
 use Rattle.std.specs.Vec.{with_items}
 use Rattle.std.specs.List.{filter}
 use Rattle.std.proofs.lemmas.List.{with_items_is}

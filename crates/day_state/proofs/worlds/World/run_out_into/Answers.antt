@@ -1,6 +1,5 @@
-use Rattle.std.proofs.Common.{◌≡◌, ◌∙◌, ◌<◌, ◌≤◌, List, take, length, sym, ap, arith}
+use Rattle.std.proofs.Common.{◌∙◌, ◌<◌, take, length, ap, arith}
 use Rattle.std.proofs.lemmas.List.{take_all}
-use Rattle.elevator_model.specs.declared.Stop.{Stop}
 use Rattle.elevator_model.specs.Plans.{tour_of}
 use Rattle.day_state.proofs.CarsReached.{tour-is, events-here}
 use Rattle.day_state.proofs.worlds.World.run_out_into.Goals as goal
