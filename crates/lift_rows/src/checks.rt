@@ -1,26 +1,11 @@
 //! Answers with their certificates, checked: what the verdict is, and which texts are refused.
 
 use crate::limits::TWO_EACH_WAY;
-use crate::runs::{gives, joined, written};
+use crate::runs::{ONE_CALL, gives, joined, stands_at, written};
 use lift_commands::Status;
 use std::alloc::Global;
 use std::test::Fail;
 use std::thread::Threads;
-
-/// A car and one call: lines 1 to 12.
-const ONE_CALL: &str = "building 1
-speed 2000
-accel 1000
-weights 1 1
-floors 0 4000 8000 12000
-car 1 8 1000 1000 500 500 all
-end
-snapshot 1
-now 0
-car 1 idle 0 0
-call 1 0 1 1 0 any
-end
-";
 
 /// The words of a check by so many workers.
 const CHECKS: [&[&str]; 4] = [
@@ -49,7 +34,8 @@ fn is_checked(
     true
 }
 
-/// An answer to the one call, and the lines of a certificate: with the status, and what is written.
+/// An answer to the one call, whose case has 12 lines, and the lines of a certificate: with the status, and what is
+/// written.
 type Row = (&'static str, &'static str, Status, &'static str);
 
 const CHEAPEST: &str =
@@ -454,21 +440,27 @@ fn what_solve_writes_is_checked_with_a_yes(rt: HostRuntime) -> Result<(), Fail> 
     Ok(())
 }
 
-/// A generated case, in which twenty rounds leave a tree of more twigs than a checker is given at once.
+/// A generated case, of which a search within small limits leaves a tree of more twigs than a checker is given at once.
 const MADE: &[&str] = &[
     "lift", "make", "--number", "5", "--floors", "12", "--cars", "6", "--calls", "14",
 ];
 
 const LIMITED: [&[&str]; 4] = [
-    &["lift", "solve", "--rounds", "60", "--moves", "300"],
-    &["lift", "solve", "--rounds=60", "--moves=300", "--workers=2"],
+    &["lift", "solve", "--rounds", "200", "--moves", "300"],
+    &[
+        "lift",
+        "solve",
+        "--rounds=200",
+        "--moves=300",
+        "--workers=2",
+    ],
     &[
         "lift",
         "solve",
         "--moves",
         "300",
         "--rounds",
-        "60",
+        "200",
         "--workers",
         "3",
     ],
@@ -477,16 +469,30 @@ const LIMITED: [&[&str]; 4] = [
         "solve",
         "--workers",
         "16",
-        "--rounds=60",
+        "--rounds=200",
         "--moves=300",
     ],
 ];
+
+/// How often the word stands in the text.
+fn times_written(text: &[u8], word: &[u8]) -> usize {
+    let mut times: usize = 0;
+    for place in 0..text.len() {
+        if stands_at(text, place, word) {
+            times = times.saturating_add(1);
+        }
+    }
+    times
+}
 
 #[test]
 fn a_large_tree_is_checked_in_pieces(rt: HostRuntime) -> Result<(), Fail> {
     let alloc = rt.alloc();
     let (made, case) = written(&rt, alloc, MADE, b"").ok_or("memory")?;
     assert_eq!(rt; made, Status::Done);
+    let (_, answer) = written(&rt, alloc, LIMITED[0], &case).ok_or("memory")?;
+    // A tree of so many leaves has more twigs than a piece.
+    assert!(rt; times_written(&answer, b"\nleaf\n") > 128);
     assert!(rt; proves_itself(&rt, alloc, &case, LIMITED, Status::Stopped, b"\n", b"yes "));
     Ok(())
 }

@@ -1,28 +1,13 @@
-use crate::runs::{SOLVE, words_of};
+use crate::runs::{ONE_CALL, SOLVE, words_of};
 use byte_streams::{MemorySink, MemorySource, OpenGate, SureSink};
 use lift_commands::{Status, run};
 use std::test::Fail;
-
-/// A car and one call.
-const ONE_CALL: &[u8] = b"building 1
-speed 2000
-accel 1000
-weights 1 1
-floors 0 4000 8000 12000
-car 1 8 1000 1000 500 500 all
-end
-snapshot 1
-now 0
-car 1 idle 0 0
-call 1 0 1 1 0 any
-end
-";
 
 #[test]
 fn a_failing_read_writes_nothing(rt: HostRuntime) -> Result<(), Fail> {
     let alloc = rt.alloc();
     let words = words_of(alloc, SOLVE).ok_or("memory")?;
-    let bytes = ONE_CALL.to_vec(alloc)?;
+    let bytes = ONE_CALL.as_bytes().to_vec(alloc)?;
     let mut source = MemorySource::new(bytes, 4096, [1].to_vec(alloc)?);
     let mut sink = SureSink::new(alloc, 8192)?;
     let status = run(
@@ -42,7 +27,7 @@ fn a_failing_read_writes_nothing(rt: HostRuntime) -> Result<(), Fail> {
 fn a_failing_write_leaves_a_prefix(rt: HostRuntime) -> Result<(), Fail> {
     let alloc = rt.alloc();
     let words = words_of(alloc, SOLVE).ok_or("memory")?;
-    let bytes = ONE_CALL.to_vec(alloc)?;
+    let bytes = ONE_CALL.as_bytes().to_vec(alloc)?;
     let mut source = MemorySource::new(bytes, 4096, Vec::new(alloc));
     let mut sink = MemorySink::new(alloc, 8192, 3, [2].to_vec(alloc)?)?;
     let status = run(

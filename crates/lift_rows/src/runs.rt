@@ -8,6 +8,21 @@ use std::alloc::Global;
 use std::marker::Sync;
 use std::thread::Threads;
 
+/// A car and one call.
+pub(crate) const ONE_CALL: &str = "building 1
+speed 2000
+accel 1000
+weights 1 1
+floors 0 4000 8000 12000
+car 1 8 1000 1000 500 500 all
+end
+snapshot 1
+now 0
+car 1 idle 0 0
+call 1 0 1 1 0 any
+end
+";
+
 /// The words of most runs.
 pub(crate) const SOLVE: &[&str] = &["lift", "solve", "--brief"];
 
@@ -100,7 +115,7 @@ pub(crate) fn gives(
 }
 
 /// Whether the word stands at this place of the text.
-fn stands_at(text: &[u8], place: usize, word: &[u8]) -> bool {
+pub(crate) fn stands_at(text: &[u8], place: usize, word: &[u8]) -> bool {
     for (k, byte) in word.iter().enumerate() {
         if text.get(place.saturating_add(k)).copied() != Some(*byte) {
             return false;

@@ -1,6 +1,6 @@
 //! Words of the command line.
 
-use crate::runs::{SOLVE, gives, joined};
+use crate::runs::{ONE_CALL, SOLVE, gives, joined};
 use lift_commands::Status;
 use std::test::Fail;
 
@@ -37,21 +37,6 @@ fn other_words_are_refused(rt: HostRuntime) -> Result<(), Fail> {
     Ok(())
 }
 
-/// A car and one call.
-const ONE_CALL: &[u8] = b"building 1
-speed 2000
-accel 1000
-weights 1 1
-floors 0 4000 8000 12000
-car 1 8 1000 1000 500 500 all
-end
-snapshot 1
-now 0
-car 1 idle 0 0
-call 1 0 1 1 0 any
-end
-";
-
 #[test]
 fn options_come_in_any_order(rt: HostRuntime) -> Result<(), Fail> {
     let due = b"answer 1\ncost 7500\nbound 7500\ntour 1\nstop 0 1\nstop 1\nend\n# solved\n";
@@ -73,7 +58,7 @@ fn options_come_in_any_order(rt: HostRuntime) -> Result<(), Fail> {
                 &rt,
                 rt.alloc(),
                 line,
-                ONE_CALL,
+                ONE_CALL.as_bytes(),
                 4096,
                 Status::Done,
                 due.as_slice()
