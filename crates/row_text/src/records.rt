@@ -1,0 +1,123 @@
+//! Lines as records of fields.
+
+ghost use Rattle.std.specs.Prelude.{◌≡◌, ◌↔◌, ◌≤◌, Some, IfOk, IsTrue, length, option_map};
+ghost use Rattle.std.specs.List.{list_any};
+ghost use Rattle.csv.specs.Records.{fields_of};
+ghost use Rattle.row_text.specs.Records.{begins_with_mark as begins_with_mark_lem, ends_line, is_set_apart, fields_read as fields_read_lem, fields_of_line, without_spaces as without_spaces_lem, without_spaces_before as without_spaces_before_lem, end_of_field, texts_of_line, header_fields, SaysAt, SaysHeader};
+
+use csv::{ByteRecord, ReaderBuilder};
+use std::alloc::{AllocError, Global};
+
+/// The first bytes of some texts, which name their encoding.
+const BYTE_ORDER_MARK: &[u8] = b"\xEF\xBB\xBF";
+
+fn begins_with_mark(line: &[u8]) -> bool
+    ensures { result ≡ begins_with_mark_lem line.now }
+{
+    line.starts_with(BYTE_ORDER_MARK)
+}
+
+fn has_line_end(line: &[u8]) -> bool
+    ensures { result ≡ list_any ends_line line.now }
+{
+    line.iter().any(|byte| *byte == b'\n' || *byte == b'\r')
+}
+
+/// Whether the line is no record, whatever a reader of records makes of it: it begins with a byte order mark,
+/// or has the end of a line inside it.
+fn is_set_apart(line: &[u8]) -> bool
+    ensures { result ≡ is_set_apart line.now }
+{
+    begins_with_mark(line) || has_line_end(line)
+}
+
+/// The first record that is read from the line.
+fn read_record(alloc: Global, line: &[u8]) -> Result<Option<ByteRecord>, AllocError>
+    ensures { IfOk result (λ read. option_map fields_of read ≡ fields_read_lem line.now) }
+{
+    let mut reader = ReaderBuilder::new()
+        .has_headers(false)
+        .flexible(true)
+        .from_reader(alloc, line);
+    let mut record = ByteRecord::new(alloc);
+    // A line in memory can be read, and no record of any length is refused: nothing but memory can be wanting.
+    match reader.read_byte_record(&mut record) {
+        Ok(true) => Ok(Some(record)),
+        Ok(false) => Ok(None),
+        Err(_) => Err(AllocError),
+    }
+}
+
+/// The record that the line is, if it is one (RFC 4180: commas, double quotes): its fields as they stand.
+pub(crate) fn record_of(alloc: Global, line: &[u8]) -> Result<Option<ByteRecord>, AllocError>
+    ensures { IfOk result (λ read. option_map fields_of read ≡ fields_of_line line.now) }
+{
+    if is_set_apart(line) {
+        return Ok(None);
+    }
+    read_record(alloc, line)
+}
+
+/// The field from its first byte on that is no space.
+fn without_spaces_before(field: &[u8]) -> &[u8]
+    ensures { result.now ≡ without_spaces_before_lem field.now }
+{
+    for (start, byte) in field.iter().enumerate() {
+        if *byte != b' ' {
+            return &field[start..];
+        }
+    }
+    &[]
+}
+
+/// How many bytes come before the spaces at the end.
+fn end_of_field(field: &[u8]) -> usize
+    ensures end { result ≡ end_of_field field.now }
+    ensures within { result ≤ length field.now }
+{
+    let mut end = field.len();
+    while end > 0 && field[end - 1] == b' ' {
+        end -= 1;
+    }
+    end
+}
+
+/// What stands in the field, without the spaces at its ends.
+pub(crate) fn without_spaces(field: &[u8]) -> &[u8]
+    ensures { result.now ≡ without_spaces_lem field.now }
+{
+    let text = without_spaces_before(field);
+    &text[..end_of_field(text)]
+}
+
+/// Whether the field at this place says this, but for spaces at its ends.
+fn says(fields: &ByteRecord, place: usize, text: &[u8]) -> bool
+    ensures { IsTrue result ↔ SaysAt (fields_of fields.now) place text.now }
+{
+    match fields.get(place) {
+        Some(field) => without_spaces(field) == text,
+        None => false,
+    }
+}
+
+/// Whether the record is a header of rows.
+fn is_header_record(fields: &ByteRecord) -> bool
+    ensures { IsTrue result ↔ SaysHeader (fields_of fields.now) }
+{
+    fields.len() == 4
+        && says(fields, 0, b"time")
+        && says(fields, 1, b"origin")
+        && says(fields, 2, b"destination")
+        && says(fields, 3, b"persons")
+}
+
+/// Whether the line is the header of rows: the names time, origin, destination and persons, between commas. Spaces
+/// at both ends of a field do not count. It fails only where there is no memory left.
+pub fn is_header(alloc: Global, line: &[u8]) -> Result<bool, AllocError>
+    ensures { IfOk result (λ is. IsTrue is ↔ (texts_of_line line.now ≡ Some header_fields)) }
+{
+    match record_of(alloc, line)? {
+        Some(record) => Ok(is_header_record(&record)),
+        None => Ok(false),
+    }
+}
