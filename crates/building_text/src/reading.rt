@@ -2,6 +2,7 @@
 ghost use Rattle.std.specs.Prelude.{◌≡◌, ◌≤◌, None, Err, IfErr, IfOk, IfSome, OnOk, IsErrOf};
 ghost use Rattle.byte_streams.specs.Streams.{Rose};
 ghost use Rattle.lift_text.specs.LineReader.{text, failure};
+ghost use Rattle.text_sections.specs.Between.{StandsBehind};
 ghost use Rattle.building_text.specs.BuildingText.{IsReadBuilding, IsRefusedBuilding, StandsInFront, TakesBuildings};
 ghost use Rattle.building_text.specs.Written.{ReadsWritten};
 
@@ -11,7 +12,7 @@ use lift_text::{LineReader, Source, TextFault};
 use std::alloc::Global;
 use text_sections::read_section;
 
-/// Reads a building from its lines: what stands behind its `end` stays unread. The allocator comes first.
+/// Reads a building from its lines: the text goes on right behind its `end`. The allocator comes first.
 ///
 /// It accepts exactly the lines that stand for a building, and gives that building; a building that was
 /// written is read as that building again, whatever follows. The first bad line
@@ -34,6 +35,8 @@ pub fn read_building<S: Source>(
     ensures written { failure lines.old ≡ None
         → ReadsWritten (text S.left lines.old) result (text S.left lines.new) }
     ensures again { IfSome (failure lines.old) (λ fault. result ≡ Err fault) }
+    ensures behind { failure lines.old ≡ None
+        → OnOk result (StandsBehind (text S.left lines.old) (text S.left lines.new)) }
     ensures ok { OnOk result (failure lines.new ≡ None) }
     ensures fault { IfSome (failure lines.new) (λ fault. result ≡ Err fault) }
     ensures read { failure lines.old ≡ None → IsErrOf result TextFault.Read
@@ -51,6 +54,8 @@ fn read_lines<S: Source>(alloc: Global, lines: &mut LineReader<S>) -> Result<Bui
     ensures refused { failure lines.old ≡ None → IfErr result (λ fault.
         IsRefusedBuilding (text S.left lines.old) fault (text S.left lines.new)) }
     ensures again { IfSome (failure lines.old) (λ fault. result ≡ Err fault) }
+    ensures behind { failure lines.old ≡ None
+        → OnOk result (StandsBehind (text S.left lines.old) (text S.left lines.new)) }
     ensures ok { OnOk result (failure lines.new ≡ None) }
     ensures fault { IfSome (failure lines.new) (λ fault. result ≡ Err fault) }
     ensures read { failure lines.old ≡ None → IsErrOf result TextFault.Read

@@ -1,6 +1,5 @@
 use crate::{is_header, read_row};
-use call_sets::FloorSet;
-use call_state::{Building, BuildingParts, CarSpec, StateFault, Travel};
+use call_state::{Building, BuildingParts, CarSpec, FloorSet, StateFault, Travel};
 use std::alloc::{AllocError, Global};
 use std::test::Fail;
 

@@ -3,6 +3,7 @@ ghost use Rattle.std.specs.Prelude.{◌≡◌, ◌≤◌, false, true, None, Som
 ghost use Rattle.byte_streams.specs.Streams.{Rose};
 ghost use Rattle.lift_text.specs.LineReader.{text, failure};
 ghost use Rattle.elevator_model.specs.Snapshot.{IsAccepted};
+ghost use Rattle.text_sections.specs.Between.{StandsBehind};
 ghost use Rattle.snapshot_text.specs.Drafts.{snapshot_read};
 ghost use Rattle.snapshot_text.specs.Texts.{ReadsText};
 ghost use Rattle.snapshot_text.specs.Snapshots.{IsReadSnapshot, IsRefusedSnapshot, IsSaid, ReadsLines, FailsAs};
@@ -41,6 +42,8 @@ fn read<S: Source>(
         → ReadsLines (text S.left lines.old) building is_opening result (text S.left lines.new) }
     ensures accepted { IfOk result IsAccepted }
     ensures again { IfSome (failure lines.old) (FailsAs result) }
+    ensures behind { failure lines.old ≡ None
+        → OnOk result (StandsBehind (text S.left lines.old) (text S.left lines.new)) }
     ensures ok { OnOk result (failure lines.new ≡ None) }
     ensures fault { IfSome (failure lines.new) (FailsAs result) }
     ensures read { failure lines.old ≡ None → IsErrOf result TextFault.Read
@@ -60,7 +63,7 @@ fn read<S: Source>(
     }
 }
 
-/// Reads a snapshot section up to its line `end`: what stands behind it stays unread. The allocator comes
+/// Reads a snapshot section up to its line `end`: the text goes on right behind it. The allocator comes
 /// first. A call that fails drops the building.
 ///
 /// Where the text begins with one that `write_snapshot` wrote for a snapshot of this building, that snapshot
@@ -93,6 +96,8 @@ pub fn read_snapshot<S: Source>(
         → ReadsText (text S.left lines.old) building result (text S.left lines.new) }
     ensures accepted { IfOk result IsAccepted }
     ensures again { IfSome (failure lines.old) (FailsAs result) }
+    ensures behind { failure lines.old ≡ None
+        → OnOk result (StandsBehind (text S.left lines.old) (text S.left lines.new)) }
     ensures ok { OnOk result (failure lines.new ≡ None) }
     ensures fault { IfSome (failure lines.new) (FailsAs result) }
     ensures read { failure lines.old ≡ None → IsErrOf result TextFault.Read
@@ -120,6 +125,8 @@ pub fn read_opening<S: Source>(
         → ReadsLines (text S.left lines.old) building true result (text S.left lines.new) }
     ensures accepted { IfOk result IsAccepted }
     ensures again { IfSome (failure lines.old) (FailsAs result) }
+    ensures behind { failure lines.old ≡ None
+        → OnOk result (StandsBehind (text S.left lines.old) (text S.left lines.new)) }
     ensures ok { OnOk result (failure lines.new ≡ None) }
     ensures fault { IfSome (failure lines.new) (FailsAs result) }
     ensures read { failure lines.old ≡ None → IsErrOf result TextFault.Read

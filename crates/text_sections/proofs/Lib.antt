@@ -2,3 +2,4 @@ pub mod SectionLemmas
 pub mod NumberLemmas
 pub mod CanonicalLemmas
 pub mod NumberListLemmas
+pub mod BetweenLemmas

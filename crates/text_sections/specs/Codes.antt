@@ -1,7 +1,7 @@
 -- The printed codes of what is wrong with the words of a line.
 use Rattle.std.specs.Prelude.{ℕ, Result, Ok, Err}
 use Rattle.text_sections.specs.declared.codes.TextCode.{TextCode}
-use Rattle.text_sections.specs.declared.codes.TextCode.TheVariants.{NoLineWord, Missing, TooMany, NoNumber, OutOfRange, OutOfOrder, CutShort, NoState, ClaimsPast, UnknownId, NotInOpening, NoTime}
+use Rattle.text_sections.specs.declared.codes.TextCode.TheVariants.{NoLineWord, Missing, TooMany, NoNumber, OutOfRange, OutOfOrder, CutShort, NoState, ClaimsPast, UnknownId, NotInOpening, NoHeader, NoTime}
 
 abbrev pub code_of : TextCode → ℕ
 code_of NoLineWord = 3
@@ -15,6 +15,7 @@ code_of NoState = 23
 code_of ClaimsPast = 24
 code_of UnknownId = 25
 code_of NotInOpening = 26
+code_of NoHeader = 27
 code_of NoTime = 53
 
 -- what a step gives, or the first code with which the words are bad

@@ -3,3 +3,4 @@ pub mod Sections
 pub mod Words
 pub mod Canonical
 pub mod NumberLists
+pub mod Between

@@ -21,7 +21,7 @@ pub enum TextCode {
     OutOfRange,
     /// The line stands out of order or is repeated, or lines before it are missing.
     OutOfOrder,
-    /// The input ended before the section did.
+    /// The input ended before the section did, or before the header of the rows of a day.
     CutShort,
     /// A car has no state line.
     NoState,
@@ -31,6 +31,8 @@ pub enum TextCode {
     UnknownId,
     /// The line may not stand in the opening snapshot of a day.
     NotInOpening,
+    /// The line is not the header of the rows of a day.
+    NoHeader,
     /// A time is not 0 from a floor to itself, or is 0 between two floors.
     NoTime,
 }
@@ -52,6 +54,7 @@ impl TextCode {
             TextCode::ClaimsPast => 24,
             TextCode::UnknownId => 25,
             TextCode::NotInOpening => 26,
+            TextCode::NoHeader => 27,
             TextCode::NoTime => 53,
         }
     }

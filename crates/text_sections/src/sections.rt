@@ -4,6 +4,7 @@ ghost use Rattle.byte_streams.specs.Streams.{Rose};
 ghost use Rattle.lift_text.specs.LineReader.{text, words, failure};
 ghost use Rattle.text_sections.specs.Sections.{Line, Step, Did, ReadAs, IsCutAtEnd};
 ghost use Rattle.text_sections.specs.Canonical.{IsMade, ReadsWritten};
+ghost use Rattle.text_sections.specs.Between.{StandsBehind};
 
 use crate::codes::{LineFault, TextCode};
 use lift_text::{LineReader, Source, TextFault};
@@ -31,7 +32,8 @@ pub trait Section {
         ensures { Did (after self.old (words lines.now)) result self.new };
 }
 
-/// Reads the lines of a section up to its last one. What stands behind it stays unread.
+/// Reads the lines of a section up to its last one. What stands behind it stays unread: the text goes on right
+/// behind that line.
 ///
 /// Where the written lines of a section stand in front, that section is read, whatever follows.
 /// The first bad line decides, with its number and one code. Code 9 comes where the input ends before
@@ -46,6 +48,8 @@ pub fn read_section<S: Source, T: Section>(
     ensures written { failure lines.old ≡ None → ReadsWritten T.after (text S.left lines.old) section.old result section.new (text S.left lines.new) }
     ensures again { IfSome (failure lines.old) (λ fault. result ≡ Err fault) }
     ensures made { OnOk result (IsMade T.after section.old section.new) }
+    ensures behind { failure lines.old ≡ None
+        → OnOk result (StandsBehind (text S.left lines.old) (text S.left lines.new)) }
     ensures ok { OnOk result (failure lines.new ≡ None) }
     ensures fault { IfSome (failure lines.new) (λ fault. result ≡ Err fault) }
     ensures cut { failure lines.old ≡ None
@@ -66,6 +70,8 @@ fn read_lines<S: Source, T: Section>(
     ensures outcome { failure lines.old ≡ None → ReadAs T.after (text S.left lines.old) section.old result section.new (text S.left lines.new) }
     ensures again { IfSome (failure lines.old) (λ fault. result ≡ Err fault) }
     ensures made { OnOk result (IsMade T.after section.old section.new) }
+    ensures behind { failure lines.old ≡ None
+        → OnOk result (StandsBehind (text S.left lines.old) (text S.left lines.new)) }
     ensures ok { OnOk result (failure lines.new ≡ None) }
     ensures fault { IfSome (failure lines.new) (λ fault. result ≡ Err fault) }
     ensures cut { failure lines.old ≡ None

@@ -1,6 +1,7 @@
 use Rattle.std.proofs.Common.{◌≤◌, true, sym, ◌∙◌, arith, refl, subst, rules}
 use Rattle.lift_text.specs.LineReader.{text, line, words, failure}
 use Rattle.text_sections.proofs.SectionLemmas.{leads_more, counted_more, was_none}
+use Rattle.text_sections.proofs.BetweenLemmas.{behind_more}
 use Rattle.text_sections.proofs.CanonicalLemmas.{gone_more, made_whole}
 use Rattle.text_sections.proofs.sections.read_lines.Goals as goal
 
@@ -20,6 +21,7 @@ lines-preserved g c =
       risen = λ none. counted_more g.T.Section.after (text left c.args.lines.now) (text left c.lines.lines) (text left c.next_line.new.self) c.args.section.now c.lines.section
           (words c.next_line.new.self) (line c.next_line.new.self) c.lines.counter (before.leads none) (before.risen none) (read.next (before.same_failure ∙ none));
       gone = gone_more g.T.Section.after c.args.section.now c.lines.section c.take_line.new.self (words c.next_line.new.self) before.gone did;
+      behind = λ none. behind_more (text left c.args.lines.now) (text left c.lines.lines) (text left c.next_line.new.self) (words c.next_line.new.self) (line c.next_line.new.self) (before.behind none) (read.next (before.same_failure ∙ none));
       bound = subst (λ n. n ≤ 67108864) c.line-line.ensures.value c.line-line.ensures.bound;
       counted = omega (arith, before.counted, read.counted);
     }
@@ -28,3 +30,10 @@ pub returns-in-Ok-Whole-clause-made : goal.returns-in-Ok-Whole-clause-made
 returns-in-Ok-Whole-clause-made g c =
     let did = rw c.in-Ok-Whole.field-0-is at c.in-Ok-Whole.ensures in
     made_whole g.T.Section.after c.args.section.now c.lines.section c.take_line.new.self (words c.next_line.new.self) c.lines.invariant.gone did
+
+pub returns-in-Ok-Whole-clause-behind : goal.returns-in-Ok-Whole-clause-behind
+returns-in-Ok-Whole-clause-behind g c =
+    let left = g.S.Source.left in
+    let before = c.lines.invariant in
+    let read = rw c.if-not-found.false at c.in_ok-found.ensures in
+    λ none. behind_more (text left c.args.lines.now) (text left c.lines.lines) (text left c.next_line.new.self) (words c.next_line.new.self) (line c.next_line.new.self) (before.behind none) (read.next (before.same_failure ∙ none))

@@ -1,5 +1,6 @@
 use Rattle.std.proofs.Common.{◌≡◌, ◌≤◌, ◌<◌, None, length}
 use Rattle.lift_text.specs.LineReader.{text, line, words, failure}
+use Rattle.text_sections.specs.Between.{StandsBehind}
 use Rattle.text_sections.proofs.SectionLemmas.{Leads, Counted}
 use Rattle.text_sections.proofs.CanonicalLemmas.{Gone}
 use Rattle.text_sections.proofs.sections.read_lines.Given as goal
@@ -14,6 +15,7 @@ invariant-lines g l = record {
   leads : failure l.initial.lines ≡ None → Leads g.T.Section.after (text g.S.Source.left l.initial.lines) l.initial.section l.section (text g.S.Source.left l.lines);
   risen : failure l.initial.lines ≡ None → Counted (text g.S.Source.left l.initial.lines) l.counter (text g.S.Source.left l.lines);
   gone : Gone g.T.Section.after l.initial.section l.section;
+  behind : failure l.initial.lines ≡ None → StandsBehind (text g.S.Source.left l.initial.lines) (text g.S.Source.left l.lines);
   bound : line l.lines ≤ 67108864;
   counted : g.S.Source.faults l.initial.lines.source.now ≤ g.S.Source.faults l.lines.source.now;
 }

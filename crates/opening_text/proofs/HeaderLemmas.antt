@@ -1,0 +1,126 @@
+-- The header of a text, line by line.
+use Rattle.std.proofs.Common.{◌≡◌, ℕ, ◌+◌, ◌≤◌, true, false, List, [], ◌∷◌, length, Option, None, Some, Ok, Err, sym, subst, refl, ap, ◌∙◌, arith, inl, inr}
+use Rattle.std.specs.Prelude.{IsSomeAnd, IfSome, option_map}
+use Rattle.std.specs.Io.KnownBytes.{prepend_known}
+use Rattle.lift_text.specs.Page.{PageState, text_at, limit_of}
+use Rattle.lift_text.specs.declared.faults.RawLine.TheVariants.{Line, Long, End}
+use Rattle.row_text.specs.Records.{texts_of_line, header_fields}
+use Rattle.opening_text.proofs.PieceLemmas.{limit_behind}
+use Rattle.lift_text.specs.Lines.{pieces_of}
+use Rattle.lift_text.specs.Reading.{TextState, Passed, NextRaw, line_limit}
+use Rattle.lift_text.specs.declared.faults.TextFault.{TextFault}
+use Rattle.lift_text.specs.declared.faults.TextFault.TheVariants.{Read, TooLong, Bad, NoMemory}
+use Rattle.opening_text.specs.Headers.{IsEmptyLine, IsHeaderLine, IsNoHeader, HeaderFirst, NoHeaderFirst, HeaderInFront, IsHeaderFault, IsHeaderRead, IsPassed, IsLineRead}
+
+-- ---- one line
+
+passed_line : (holds : List ℕ → Type 0) (before now : TextState) (piece : List ℕ) → pieces_of before.bytes ≡ piece ∷ pieces_of now.bytes → length piece ≤ before.limit → now.line ≡ before.line + 1 → Passed before now → holds piece → IsPassed holds before now
+passed_line holds before now piece pieces within number passed kind =
+    record { piece = piece; pieces = pieces; within = within; line_is = number; limit_is = limit_behind before now piece pieces passed; kind = kind }
+
+pub empty_line : (before now : Option TextState) (raw : List ℕ) → NextRaw before (Ok Line) raw now → raw ≡ [] → IsLineRead before (Ok false) now
+empty_line None now raw next none = tt
+empty_line (Some before) None raw next none = absurd next
+empty_line (Some before) (Some now) raw next none =
+    passed_line IsEmptyLine before now next.0 next.1 next.2 next.5 next.6 (next.3 ∙ none)
+
+pub header_line : (before now : Option TextState) (raw : List ℕ) → NextRaw before (Ok Line) raw now → texts_of_line raw ≡ Some header_fields → IsLineRead before (Ok true) now
+header_line None now raw next names = tt
+header_line (Some before) None raw next names = absurd next
+header_line (Some before) (Some now) raw next names =
+    passed_line IsHeaderLine before now next.0 next.1 next.2 next.5 next.6
+    (record { short = subst (λ (xs : List ℕ). length xs ≤ line_limit) (sym next.3) next.4; names = ap texts_of_line next.3 ∙ names })
+
+-- the first line is neither
+other_line : (before : TextState) (piece : List ℕ) (pieces : List (List ℕ)) (n : ℕ) → pieces_of before.bytes ≡ piece ∷ pieces → length piece ≤ before.limit → IsNoHeader piece → n ≡ before.line + 1 → IsHeaderFault before (Bad n 27)
+other_line before piece pieces n first within other number =
+    subst (λ (xs : List (List ℕ)). NoHeaderFirst before.line before.limit xs (Bad n 27)) (sym first) (inr (within, inr (other, ap (λ (k : ℕ). Bad k 27) number)))
+
+pub no_header : (before now : Option TextState) (raw : List ℕ) (old n : ℕ) → NextRaw before (Ok Line) raw now → (raw ≡ [] → ⊥) → (texts_of_line raw ≡ Some header_fields → ⊥) → IfSome before (λ text. text.line ≡ old) → n ≡ old + 1 → IsLineRead before (Err (Bad n 27)) now
+no_header None now raw old n next some other number counted = tt
+no_header (Some before) None raw old n next some other number counted = absurd next
+no_header (Some before) (Some now) raw old n next some other number counted =
+    other_line before next.0 (pieces_of now.bytes) n next.1 next.2
+    (record { some = λ none. some (sym next.3 ∙ none); other = λ is. other (ap texts_of_line (sym next.3) ∙ is.names) })
+    (omega (arith, number, counted))
+
+pub long_line : (before now : Option TextState) (raw : List ℕ) (old n : ℕ) → NextRaw before (Ok Long) raw now → IfSome before (λ text. text.line ≡ old) → n ≡ old + 1 → IsLineRead before (Err (Bad n 27)) now
+long_line None now raw old n next number counted = tt
+long_line (Some before) None raw old n next number counted = absurd next
+long_line (Some before) (Some now) raw old n next number counted =
+    let long = next.3 in
+    other_line before next.0 (pieces_of now.bytes) n next.1 next.2
+    (record { some = λ none. (let size = ap length none in omega (arith, long, size)); other = λ is. (let short = is.short in omega (arith, long, short)) })
+    (omega (arith, number, counted))
+
+pub no_line : (before now : Option TextState) (raw : List ℕ) (old n : ℕ) → NextRaw before (Ok End) raw now → IfSome before (λ text. text.line ≡ old) → n ≡ old + 1 → IsLineRead before (Err (Bad n 9)) now
+no_line None now raw old n next number counted = tt
+no_line (Some before) now raw old n next number counted =
+    subst (λ (xs : List (List ℕ)). NoHeaderFirst before.line before.limit xs (Bad n 9)) (sym (ap pieces_of next.0)) (ap (λ (k : ℕ). Bad k 9) (omega (arith, number, counted)))
+
+pub failed_line : (before now : Option TextState) (raw : List ℕ) (fault : TextFault) → NextRaw before (Err fault) raw now → IsLineRead before (Err fault) now
+failed_line None now raw fault next = tt
+failed_line (Some before) now raw Read next = tt
+failed_line (Some before) now raw NoMemory next = absurd next
+failed_line (Some before) now raw (Bad line code) next = absurd next
+failed_line (Some before) now raw TooLong next =
+    subst (λ (xs : List (List ℕ)). NoHeaderFirst before.line before.limit xs TooLong) (sym next.2) (inl (next.3, refl))
+
+-- ---- from line to line
+
+-- what is in front of a later text is in front of the first
+abbrev pub LeadsOn : Option TextState → Option TextState → Type 0
+LeadsOn None now = Unit {0}
+LeadsOn (Some text) now = IsSomeAnd now (λ here. ((behind : TextState) → HeaderInFront here behind → HeaderInFront text behind) × ((fault : TextFault) → IsHeaderFault here fault → IsHeaderFault text fault))
+
+pub leads_none : (text : Option TextState) → LeadsOn text text
+leads_none None = tt
+leads_none (Some text) = (λ behind first. first, λ fault first. first)
+
+header_before : (here now behind : TextState) → IsPassed IsEmptyLine here now → HeaderInFront now behind → HeaderInFront here behind
+header_before here now behind is first =
+    let size = length is.piece in
+    let numbered = subst (λ (n : ℕ). HeaderFirst n now.limit (pieces_of now.bytes) behind) is.line_is first in
+    let later = subst (λ (n : ℕ). HeaderFirst (here.line + 1) n (pieces_of now.bytes) behind) is.limit_is numbered in
+    subst (λ (xs : List (List ℕ)). HeaderFirst here.line here.limit xs behind) (sym is.pieces) (is.within, inl (is.kind, later))
+
+fault_before : (here now : TextState) (fault : TextFault) → IsPassed IsEmptyLine here now → IsHeaderFault now fault → IsHeaderFault here fault
+fault_before here now fault is first =
+    let numbered = subst (λ (n : ℕ). NoHeaderFirst n now.limit (pieces_of now.bytes) fault) is.line_is first in
+    let later = subst (λ (n : ℕ). NoHeaderFirst (here.line + 1) n (pieces_of now.bytes) fault) is.limit_is numbered in
+    subst (λ (xs : List (List ℕ)). NoHeaderFirst here.line here.limit xs fault) (sym is.pieces) (inr (is.within, inl (is.kind, later)))
+
+pub leads_more : (text here now : Option TextState) → LeadsOn text here → IsLineRead here (Ok false) now → LeadsOn text now
+leads_more None here now leads line = tt
+leads_more (Some text) None now leads line = absurd leads
+leads_more (Some text) (Some here) None leads line = absurd line
+leads_more (Some text) (Some here) (Some now) leads line =
+    (λ behind first. leads.0 behind (header_before here now behind line first), λ fault first. leads.1 fault (fault_before here now fault line first))
+
+header_here : (here now : TextState) → IsPassed IsHeaderLine here now → HeaderInFront here now
+header_here here now is =
+    subst (λ (xs : List (List ℕ)). HeaderFirst here.line here.limit xs now) (sym is.pieces)
+    (is.within, inr (is.kind, record { line_is = is.line_is; limit_is = is.limit_is; pieces_are = refl }))
+
+pub leads_found : (text here now : Option TextState) → LeadsOn text here → IsLineRead here (Ok true) now → IsHeaderRead text (Ok tt) now
+leads_found None here now leads line = tt
+leads_found (Some text) None now leads line = absurd leads
+leads_found (Some text) (Some here) None leads line = absurd line
+leads_found (Some text) (Some here) (Some now) leads line = leads.0 now (header_here here now line)
+
+pub leads_fault : (text here now : Option TextState) (fault : TextFault) → LeadsOn text here → IsLineRead here (Err fault) now → IsHeaderRead text (Err fault) now
+leads_fault None here now fault leads line = tt
+leads_fault (Some text) None now fault leads line = absurd leads
+leads_fault (Some text) (Some here) now Read leads line = tt
+leads_fault (Some text) (Some here) now NoMemory leads line = tt
+leads_fault (Some text) (Some here) now TooLong leads line = leads.1 TooLong line
+leads_fault (Some text) (Some here) now (Bad number code) leads line = leads.1 (Bad number code) line
+
+-- ---- the number of lines
+
+number_at : (page : PageState) (known : Option (List ℕ)) → IfSome (option_map (λ bytes. record { line = page.line; limit = limit_of page; bytes = bytes }) known) (λ (t : TextState). t.line ≡ page.line)
+number_at page None = tt
+number_at page (Some bytes) = refl
+
+pub number_of : (page : PageState) (left : Option (List ℕ)) → IfSome (text_at page left) (λ (t : TextState). t.line ≡ page.line)
+number_of page left = number_at page (prepend_known page.unread left)

@@ -1,0 +1,4 @@
+pub mod PieceLemmas
+pub mod HeaderLemmas
+pub mod PlaceLemmas
+pub mod OpeningLemmas

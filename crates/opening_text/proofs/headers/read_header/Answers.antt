@@ -1,0 +1,39 @@
+use Rattle.std.proofs.Common.{rules, ◌≡◌, sym, subst, arith, Err}
+use Rattle.lift_text.specs.LineReader.{text}
+use Rattle.opening_text.specs.Headers.{IsHeaderRead}
+use Rattle.opening_text.proofs.HeaderLemmas.{leads_more, leads_found, leads_fault}
+use Rattle.opening_text.proofs.headers.read_header.Goals as goal
+
+pub lines-preserved : goal.lines-preserved
+lines-preserved g c =
+    let left = g.S.Source.left in
+    let before = c.lines.invariant in
+    let read = rw c.if-is_found.false at c.in_ok-is_found.ensures in
+    record {
+      same_source = search rules;
+      no_failure = read.ok;
+      leads = leads_more (text left c.args.lines.now) (text left c.lines.lines) (text left c.read_line.new.lines) before.leads read.line;
+      numbered = let n = read.number in let m = before.numbered in omega (arith, n, m);
+      bound = read.bound;
+      counted = omega (arith, before.counted, read.counted);
+    }
+
+pub returns-then-is_found-clause-header : goal.returns-then-is_found-clause-header
+returns-then-is_found-clause-header g c =
+    let left = g.S.Source.left in
+    let read = rw c.if-is_found.true at c.in_ok-is_found.ensures in
+    leads_found (text left c.args.lines.now) (text left c.lines.lines) (text left c.read_line.new.lines) c.lines.invariant.leads read.line
+
+pub returns-in_err-is_found-clause-header : goal.returns-in_err-is_found-clause-header
+returns-in_err-is_found-clause-header g c =
+    let left = g.S.Source.left in
+    let same : c.from_residual.result ≡ Err c.in_err-is_found.field-0.0 = search rules in
+    let fault = leads_fault (text left c.args.lines.now) (text left c.lines.lines) (text left c.read_line.new.lines) c.in_err-is_found.field-0.0 c.lines.invariant.leads c.in_err-is_found.ensures.line in
+    subst (λ answer. IsHeaderRead (text left c.args.lines.now) answer (text left c.read_line.new.lines)) (sym same) fault
+
+pub returns-clause-header : goal.returns-clause-header
+returns-clause-header g c =
+    let n = c.lines.invariant.numbered in
+    let b = c.lines.invariant.bound in
+    let all = c.lines-test.false in
+    absurd (omega (arith, n, b, all))

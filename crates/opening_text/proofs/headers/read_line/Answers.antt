@@ -1,0 +1,28 @@
+use Rattle.std.proofs.Common.{◌∙◌, sym, subst, rules, Err}
+use Rattle.lift_text.specs.LineReader.{text, line, raw}
+use Rattle.opening_text.specs.Headers.{IsLineRead}
+use Rattle.opening_text.proofs.HeaderLemmas.{empty_line, header_line, no_header, number_of}
+use Rattle.opening_text.proofs.PieceLemmas.{no_bytes}
+use Rattle.opening_text.proofs.headers.read_line.Goals as goal
+
+pub returns-then-is_empty-clause-line : goal.returns-then-is_empty-clause-line
+returns-then-is_empty-clause-line g c =
+    let left = g.S.Source.left in
+    let read = rw c.in-Line.is at c.in_ok-found.ensures in
+    let none = no_bytes c.raw.result.now (sym c.is_empty.ensures ∙ c.if-is_empty.true) in
+    empty_line (text left c.args.lines.now) (text left c.raw_line.new.self) (raw c.raw_line.new.self) (read.next c.requires) (sym c.raw.ensures ∙ none)
+
+pub returns-in-Ok-true-clause-line : goal.returns-in-Ok-true-clause-line
+returns-in-Ok-true-clause-line g c =
+    let left = g.S.Source.left in
+    let read = rw c.in-Line.is at c.in_ok-found.ensures in
+    header_line (text left c.args.lines.now) (text left c.raw_line.new.self) (raw c.raw_line.new.self) (read.next c.requires) (search rules)
+
+pub returns-in-Ok-false-clause-line : goal.returns-in-Ok-false-clause-line
+returns-in-Ok-false-clause-line g c =
+    let left = g.S.Source.left in
+    let before = text left c.args.lines.now in
+    let now = text left c.raw_line.new.self in
+    let read = rw c.in-Line.is at c.in_ok-found.ensures in
+    let bad = no_header before now (raw c.raw_line.new.self) (line c.args.lines.now) c.line-line.result (read.next c.requires) (search rules) (search rules) (number_of c.args.lines.now.page (left c.args.lines.now.source.now)) (search rules) in
+    subst (λ fault. IsLineRead before (Err fault) now) (sym c.bad_line-in-Ok-false.ensures) bad

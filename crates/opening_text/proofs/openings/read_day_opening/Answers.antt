@@ -1,0 +1,58 @@
+use Rattle.std.proofs.Common.{Ok, Err}
+use Rattle.lift_text.specs.LineReader.{text}
+use Rattle.opening_text.proofs.OpeningLemmas.{opening_read, opening_refused, header_refused, takes_no_building, takes_no_snapshot, takes_snapshot}
+use Rattle.opening_text.proofs.openings.read_day_opening.Goals as goal
+
+pub returns-in-Err-clause-takes : goal.returns-in-Err-clause-takes
+returns-in-Err-clause-takes g c =
+    let left = g.S.Source.left in
+    let above = text left c.read_building.new.lines in
+    takes_no_building (text left c.args.lines.now) above above c.in-Err.fault (c.in-Err.ensures.each c.requires)
+
+pub returns-in-Err-read_opening-clause-refused : goal.returns-in-Err-read_opening-clause-refused
+returns-in-Err-read_opening-clause-refused g c =
+    let left = g.S.Source.left in
+    let first = c.in-Ok.ensures in
+    let second = c.in-Err-read_opening.ensures in
+    opening_refused (text left c.args.lines.now) (text left c.read_building.new.lines) (text left c.read_opening.new.lines) c.in-Ok.building c.in-Err-read_opening.fault (first.only c.requires) (first.behind c.requires)
+    (second.refused first.ok)
+
+pub returns-in-Err-read_opening-clause-takes : goal.returns-in-Err-read_opening-clause-takes
+returns-in-Err-read_opening-clause-takes g c =
+    let left = g.S.Source.left in
+    let between = text left c.read_opening.new.lines in
+    let first = c.in-Ok.ensures in
+    let second = c.in-Err-read_opening.ensures in
+    takes_no_snapshot (text left c.args.lines.now) (text left c.read_building.new.lines) between between c.in-Ok.building c.in-Err-read_opening.fault (first.each c.requires) (first.behind c.requires) (second.lines first.ok)
+
+pub returns-in-Ok-read_header-clause-opening : goal.returns-in-Ok-read_header-clause-opening
+returns-in-Ok-read_header-clause-opening g c =
+    let left = g.S.Source.left in
+    let first = c.in-Ok.ensures in
+    let second = c.in-Ok-read_opening.ensures in
+    opening_read (text left c.args.lines.now) (text left c.read_building.new.lines) (text left c.read_opening.new.lines) (text left c.read_header.new.lines) c.in-Ok.building c.in-Ok-read_opening.snapshot
+    (first.only c.requires) (first.behind c.requires) (second.said first.ok) (second.behind first.ok) c.in-Ok-read_header.ensures.header
+
+pub returns-in-Ok-read_header-clause-takes : goal.returns-in-Ok-read_header-clause-takes
+returns-in-Ok-read_header-clause-takes g c =
+    let left = g.S.Source.left in
+    let first = c.in-Ok.ensures in
+    let second = c.in-Ok-read_opening.ensures in
+    takes_snapshot (text left c.args.lines.now) (text left c.read_building.new.lines) (text left c.read_opening.new.lines) (text left c.read_header.new.lines) c.in-Ok.building c.in-Ok-read_opening.snapshot
+    (Ok c.in-Ok-read_header.field-0) (first.each c.requires) (first.behind c.requires) (second.lines first.ok) (second.behind first.ok) c.in-Ok-read_header.ensures.header
+
+pub returns-in-Err-read_header-clause-refused : goal.returns-in-Err-read_header-clause-refused
+returns-in-Err-read_header-clause-refused g c =
+    let left = g.S.Source.left in
+    let first = c.in-Ok.ensures in
+    let second = c.in-Ok-read_opening.ensures in
+    header_refused (text left c.args.lines.now) (text left c.read_building.new.lines) (text left c.read_opening.new.lines) (text left c.read_header.new.lines) c.in-Ok.building c.in-Ok-read_opening.snapshot
+    c.in-Err-read_header.fault (first.only c.requires) (first.behind c.requires) (second.said first.ok) (second.behind first.ok) c.in-Err-read_header.ensures.header
+
+pub returns-in-Err-read_header-clause-takes : goal.returns-in-Err-read_header-clause-takes
+returns-in-Err-read_header-clause-takes g c =
+    let left = g.S.Source.left in
+    let first = c.in-Ok.ensures in
+    let second = c.in-Ok-read_opening.ensures in
+    takes_snapshot (text left c.args.lines.now) (text left c.read_building.new.lines) (text left c.read_opening.new.lines) (text left c.read_header.new.lines) c.in-Ok.building c.in-Ok-read_opening.snapshot
+    (Err c.in-Err-read_header.fault) (first.each c.requires) (first.behind c.requires) (second.lines first.ok) (second.behind first.ok) c.in-Err-read_header.ensures.header

@@ -1,0 +1,75 @@
+-- The header of the rows of a day, as the lines of a text stand.
+use Rattle.std.specs.Prelude.{◌≡◌, ℕ, ◌+◌, ◌-◌, ◌≤◌, ◌<◌, ◌⊎◌, Bool, true, false, List, [], ◌∷◌, length, Option, None, Some, IsSomeAnd, Result, Ok, Err}
+use Rattle.lift_text.specs.Lines.{pieces_of, line_of}
+use Rattle.lift_text.specs.Reading.{TextState, line_limit}
+use Rattle.lift_text.specs.declared.faults.TextFault.{TextFault}
+use Rattle.lift_text.specs.declared.faults.TextFault.TheVariants.{TooLong, Bad}
+use Rattle.case_text.specs.CaseTexts.{Tells}
+use Rattle.row_text.specs.Records.{texts_of_line, header_fields}
+
+-- a line with no byte before its end
+abbrev pub IsEmptyLine : List ℕ → Type 0
+IsEmptyLine piece = line_of piece ≡ []
+
+-- a line that has the four names, and is not over long
+pub record IsHeaderLine (piece : List ℕ) : Type 0 where
+  pub short : length (line_of piece) ≤ line_limit
+  pub names : texts_of_line (line_of piece) ≡ Some header_fields
+
+-- a line that is neither
+pub record IsNoHeader (piece : List ℕ) : Type 0 where
+  pub some : IsEmptyLine piece → ⊥
+  pub other : IsHeaderLine piece → ⊥
+
+-- the text behind the first line of these, which has this piece
+pub record IsBehindPiece (line limit : ℕ) (piece : List ℕ) (pieces : List (List ℕ)) (behind : TextState) : Type 0 where
+  pub line_is : behind.line ≡ line + 1
+  pub limit_is : behind.limit ≡ limit - length piece
+  pub pieces_are : pieces_of behind.bytes ≡ pieces
+
+-- Of the lines with their ends, after so many others, where at most `limit` bytes may be read, the first that is not
+-- empty is the header, and the text goes on right behind it.
+abbrev pub HeaderFirst : (line limit : ℕ) → List (List ℕ) → TextState → Type 0
+HeaderFirst line limit [] behind = ⊥
+HeaderFirst line limit (piece ∷ pieces) behind =
+    (length piece ≤ limit)
+    × ((IsEmptyLine piece × HeaderFirst (line + 1) (limit - length piece) pieces behind) ⊎ (IsHeaderLine piece × IsBehindPiece line limit piece pieces behind))
+
+-- The fault of the first line that is not empty: it is not the header, or goes past the most bytes that may be read,
+-- or there is none.
+abbrev pub NoHeaderFirst : (line limit : ℕ) → List (List ℕ) → TextFault → Type 0
+NoHeaderFirst line limit [] fault = fault ≡ Bad (line + 1) 9
+NoHeaderFirst line limit (piece ∷ pieces) fault =
+    ((limit < length piece) × (fault ≡ TooLong))
+    ⊎ ((length piece ≤ limit)
+    × ((IsEmptyLine piece × NoHeaderFirst (line + 1) (limit - length piece) pieces fault) ⊎ (IsNoHeader piece × (fault ≡ Bad (line + 1) 27))))
+
+abbrev pub HeaderInFront : TextState → TextState → Type 0
+HeaderInFront text behind = HeaderFirst text.line text.limit (pieces_of text.bytes) behind
+
+abbrev pub IsHeaderFault : TextState → TextFault → Type 0
+IsHeaderFault text fault = NoHeaderFirst text.line text.limit (pieces_of text.bytes) fault
+
+-- ---- what the readers answer, where the source tells what it has left
+
+-- the header was in front, and this is left; or this is what is wrong
+abbrev pub IsHeaderRead : Option TextState → Result Unit TextFault → Option TextState → Type 0
+IsHeaderRead None answer now = Unit {0}
+IsHeaderRead (Some text) (Ok done) now = IsSomeAnd now (HeaderInFront text)
+IsHeaderRead (Some text) (Err fault) now = Tells fault (IsHeaderFault text fault)
+
+-- the first line was passed, and it is one of these
+pub record IsPassed (holds : List ℕ → Type 0) (before behind : TextState) : Type 0 where
+  pub piece : List ℕ
+  pub pieces : pieces_of before.bytes ≡ piece ∷ pieces_of behind.bytes
+  pub within : length piece ≤ before.limit
+  pub line_is : behind.line ≡ before.line + 1
+  pub limit_is : behind.limit ≡ before.limit - length piece
+  pub kind : holds piece
+
+-- what one line is, true for the header and false for an empty line
+abbrev pub IsLineRead : Option TextState → Result Bool TextFault → Option TextState → Type 0
+IsLineRead None answer now = Unit {0}
+IsLineRead (Some before) (Ok true) now = IsSomeAnd now (IsPassed IsHeaderLine before)
+IsLineRead (Some before) (Ok false) now = IsSomeAnd now (IsPassed IsEmptyLine before)
+IsLineRead (Some before) (Err fault) now = Tells fault (IsHeaderFault before fault)
