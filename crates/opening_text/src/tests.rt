@@ -1,0 +1,161 @@
+ghost use Rattle.std.specs.Prelude.{◌≤◌};
+
+use crate::read_day_opening;
+use byte_streams::MemorySource;
+use call_state::Snapshot;
+use lift_text::{LineReader, RawLine, TextFault};
+use std::alloc::{AllocError, Global};
+use std::test::Fail;
+
+/// A building and an opening snapshot: twelve lines, 155 bytes.
+const FRONT: &[u8] = b"building 1\nspeed 2000\naccel 1000\nweights 2 1\nfloors 0 4000 9000\n\
+    car 7 5 1000 1100 500 400 all\nend\n# the car stands\nsnapshot 1\nnow 650\ncar 7 idle 2 700\nend\n";
+
+/// The text with these bytes behind the front, a byte in each piece; the reads with the listed numbers fail.
+fn text(alloc: Global, behind: &[u8], failing: &[u64]) -> Result<MemorySource, AllocError> {
+    let mut bytes = Vec::from_slice(alloc, FRONT)?;
+    bytes.extend_from_slice(behind)?;
+    Ok(MemorySource::new(bytes, 1, Vec::from_slice(alloc, failing)?))
+}
+
+/// The line and the code of a bad line. An opening has 0 and 0, a text that is too long or was not read 0 and 1.
+fn fault_of<T: Drop>(answer: Result<T, TextFault>) -> (u64, u8) {
+    match answer {
+        Ok(_) => (0, 0),
+        Err(TextFault::Bad { line, code }) => (line, code),
+        Err(_) => (0, 1),
+    }
+}
+
+/// What is wrong with the text that has these bytes behind the front.
+fn fault(alloc: Global, behind: &[u8], failing: &[u64]) -> Result<(u64, u8), Fail> {
+    let mut source = text(alloc, behind, failing)?;
+    let mut lines = LineReader::new(alloc, &mut source)?;
+    Ok(fault_of(read_day_opening(alloc, &mut lines)))
+}
+
+/// What is wrong with a whole text.
+fn fault_of_text(alloc: Global, whole: &[u8]) -> Result<(u64, u8), Fail> {
+    let mut source = MemorySource::new(Vec::from_slice(alloc, whole)?, 3, Vec::new(alloc));
+    let mut lines = LineReader::new(alloc, &mut source)?;
+    Ok(fault_of(read_day_opening(alloc, &mut lines)))
+}
+
+/// What stands behind the front, whose next line is line 13, and the line and the code of its fault.
+const HEADERS: [(&[u8], u64, u8); 16] = [
+    (b"time,origin,destination,persons\n9,2,0,4\n", 0, 0),
+    (b"time,origin,destination,persons", 0, 0),
+    (b"\n\r\n time , origin,\"destination\",persons\r\n\n", 0, 0),
+    (b"", 13, 9),
+    (b"\n\r\n", 15, 9),
+    (b"\n\n\ntime,origin,persons,destination\n", 16, 27),
+    (b"time,origin,destination\n", 13, 27),
+    (b"time,origin,destination,persons,more\n", 13, 27),
+    (b"9,2,0,4\n", 13, 27),
+    (b" \ntime,origin,destination,persons\n", 13, 27),
+    (b"# rows\ntime,origin,destination,persons\n", 13, 27),
+    (b"\n\rtime,origin,destination,persons\n", 14, 27),
+    (b"\r", 13, 27),
+    (b"\xEF\xBB\xBFtime,origin,destination,persons\n", 13, 27),
+    (b"\x00\n", 13, 27),
+    (b"answer 1\n", 13, 27),
+];
+
+#[test]
+fn headers_behind_the_snapshot(rt: HostRuntime) -> Result<(), Fail> {
+    for (behind, line, code) in &HEADERS {
+        assert!(rt; fault(rt.alloc(), behind, &[])? == (*line, *code));
+    }
+    Ok(())
+}
+
+/// A header of so many bytes.
+fn wide_header(alloc: Global, size: usize) -> Result<Vec<u8>, AllocError> {
+    let mut line = Vec::from_slice(alloc, b"time,origin,destination,persons")?;
+    for _ in 31..size {
+        line.push(b' ')?;
+    }
+    line.extend_from_slice(b"\r\n7,2,0,3\n")?;
+    Ok(line)
+}
+
+#[test]
+fn header_over_long(rt: HostRuntime) -> Result<(), Fail> {
+    let longest = wide_header(rt.alloc(), 4096)?;
+    assert!(rt; fault(rt.alloc(), &longest, &[])? == (0, 0));
+    let longer = wide_header(rt.alloc(), 4097)?;
+    assert!(rt; fault(rt.alloc(), &longer, &[])? == (13, 27));
+    Ok(())
+}
+
+/// Texts with a fault before the header.
+const OTHERS: [(&[u8], u64, u8); 5] = [
+    (b"", 1, 9),
+    (b"building 1\nspeed 99\n", 2, 7),
+    (
+        b"building 1\nspeed 2000\naccel 1000\nweights 2 1\nfloors 0 4000 9000\ncar 7 5 1000 1100 500 400 all\nend\n\
+        snapshot 1\nnow 650\n\ncar 7 idle 2 700\naboard 7 31 0 1 600\nend\ntime,origin,destination,persons\n",
+        12,
+        26,
+    ),
+    (
+        b"building 1\nspeed 2000\naccel 1000\nweights 2 1\nfloors 0 4000 9000\ncar 7 5 1000 1100 500 400 all\nend\n\
+        snapshot 1\nnow 650\ncar 7 idle 2 700\ncall 31 0 1 2 600 any\nend\ntime,origin,destination,persons\n",
+        11,
+        26,
+    ),
+    (
+        b"building 1\nspeed 2000\naccel 1000\nweights 2 1\nfloors 0 4000 9000\ncar 7 5 1000 1100 500 400 all\nend\n\
+        time,origin,destination,persons\n",
+        8,
+        3,
+    ),
+];
+
+#[test]
+fn faults_before_the_header(rt: HostRuntime) -> Result<(), Fail> {
+    for (whole, line, code) in &OTHERS {
+        assert!(rt; fault_of_text(rt.alloc(), whole)? == (*line, *code));
+    }
+    Ok(())
+}
+
+/// Whether the moment of the snapshot is 650 and its car stands at floor 2.
+fn is_as_said(snapshot: &Snapshot) -> bool {
+    snapshot.now() == 650 && snapshot.building().cars().len() == 1 && snapshot.car(0).floor() == 2
+}
+
+/// Whether the next lines are these two, as they stand.
+fn goes_on(lines: &mut LineReader<MemorySource>, first: &[u8], second: &[u8]) -> bool {
+    let has_first = lines.raw_line() == Ok(RawLine::Line) && lines.raw() == first;
+    let has_second = lines.raw_line() == Ok(RawLine::Line) && lines.raw() == second;
+    has_first && has_second
+}
+
+#[test]
+fn rows_come_next(rt: HostRuntime) -> Result<(), Fail> {
+    let alloc = rt.alloc();
+    let mut source = text(
+        alloc,
+        b"\ntime,origin,destination,persons\r\n 7,2 ,0,3# x\r\n\n",
+        &[],
+    )?;
+    let mut lines = LineReader::new(alloc, &mut source)?;
+    match read_day_opening(alloc, &mut lines) {
+        Ok(snapshot) => assert!(rt; is_as_said(&snapshot)),
+        Err(_) => assert!(rt; false),
+    }
+    assert!(rt; goes_on(&mut lines, b" 7,2 ,0,3# x", b""));
+    Ok(())
+}
+
+#[test]
+fn failed_reads(rt: HostRuntime) -> Result<(), Fail> {
+    let header: &[u8] = b"time,origin,destination,persons\n7,2,0,3\n";
+    // The header has 31 bytes before its LF, which read 187 gives.
+    assert!(rt; fault(rt.alloc(), header, &[5])? == (0, 1));
+    assert!(rt; fault(rt.alloc(), header, &[156])? == (0, 1));
+    assert!(rt; fault(rt.alloc(), header, &[187])? == (0, 1));
+    assert!(rt; fault(rt.alloc(), header, &[188])? == (0, 0));
+    Ok(())
+}
