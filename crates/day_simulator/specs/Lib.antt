@@ -1,0 +1,5 @@
+pub mod Planning
+pub mod Texts
+pub mod Logged
+pub mod Standing
+pub mod Rows

@@ -1,0 +1,55 @@
+-- What a row does to a day and to its log, with what a planner answers.
+use Rattle.std.specs.Prelude.{◌≡◌, ℕ, List, [], ◌++◌, Option, None, Some, Result, Ok, Err}
+use Rattle.elevator_model.specs.Snapshot.{Snapshot}
+use Rattle.search_model.specs.declared.RowFault.{RowFault}
+use Rattle.search_model.specs.declared.Stated.{Stated}
+use Rattle.search_model.specs.declared.Event.{Event}
+use Rattle.search_model.specs.Advancing.{World, advanced, events_by}
+use Rattle.search_model.specs.Days.{Day, Row, RowLog, Step, IsRightLog, call_of_row, code_of_row, day_after_refused, day_step, fault_of_row, with_call}
+use Rattle.search_model.specs.Days.RowLog.{Refused, Accepted}
+use Rattle.day_simulator.specs.declared.days.RowAnswer.{RowAnswer}
+use Rattle.day_simulator.specs.declared.days.RowAnswer.TheVariants.{Taken, Refused as RefusedBy}
+use Rattle.day_simulator.specs.declared.planners.Planned.{Planned}
+use Rattle.day_simulator.specs.Standing.{row_number}
+use Rattle.day_simulator.specs.Texts.{row_text, refused_text}
+
+abbrev pub stated_of : Planned → Stated
+stated_of planned = record { plan = planned.plan; cost = planned.cost; bound = planned.bound }
+
+-- what is answered of a row of which the log says this
+abbrev pub answer_of : RowLog → RowAnswer
+answer_of (Refused number fault) = RefusedBy (code_of_row fault)
+answer_of (Accepted number events printed) = Taken printed.cost printed.bound
+
+-- the next row of the day, which says this, with what is printed for it
+abbrev pub next_step : Day → Option Row → Stated → Step
+next_step day said printed = day_step day (row_number day) said printed
+
+-- The row did what the definition says with this plan, which is right where the row was accepted, and its lines
+-- stand behind what stood before.
+pub record DoesRow (right : Snapshot → Stated → List ℕ → Type 0) (old : Day) (said : Option Row) (new : Day) (before after : List ℕ) (answer : RowAnswer) (printed : Stated) (proof : List ℕ) : Type 0 where
+  pub day : new ≡ (next_step old said printed).day
+  pub text : after ≡ before ++ row_text new.world.snapshot (next_step old said printed).log proof
+  pub right_plan : IsRightLog (λ s stated. right s stated proof) new.world (next_step old said printed).log
+  pub answer_is : answer ≡ answer_of (next_step old said printed).log
+
+-- With some plan it did.
+abbrev pub IsRowDone : (right : Snapshot → Stated → List ℕ → Type 0) → (old : Day) → Option Row → (new : Day) → (before after : List ℕ) → RowAnswer → Type 0
+IsRowDone right old said new before after answer =
+    (printed : Stated) × (proof : List ℕ) × DoesRow right old said new before after answer printed proof
+
+-- The row was refused for this fault: nothing changed but the count, and the log says so.
+pub record IsRefused (old : Day) (fault : RowFault) (new : Day) (before after : List ℕ) (answer : RowAnswer) : Type 0 where
+  pub day : new ≡ day_after_refused old
+  pub text : after ≡ before ++ refused_text (row_number old) fault
+  pub answer_is : answer ≡ RefusedBy (code_of_row fault)
+
+-- A row is accepted, and this is the snapshot with its call; or it is refused for this fault.
+pub record IsWorldBrought (day : Day) (row : Row) (events : List Event) (w : World) : Type 0 where
+  pub faultless : fault_of_row day.world (row_number day) (Some row) ≡ None
+  pub snapshot : w.snapshot ≡ (with_call (advanced day.world row.time) (call_of_row (row_number day) row) []).snapshot
+  pub happened : events ≡ events_by day.world row.time
+
+abbrev pub IsBrought : Day → Row → List Event → Result World RowFault → Type 0
+IsBrought day row events (Ok w) = IsWorldBrought day row events w
+IsBrought day row events (Err fault) = fault_of_row day.world (row_number day) (Some row) ≡ Some fault

@@ -1,0 +1,341 @@
+//! A day of calls.
+
+ghost use Rattle.std.specs.Prelude.{◌≡◌, ◌<◌, ◌≤◌, ◌+◌, ◌++◌, ◌∷◌, ◌^◌, [], None, Some, IsTrue, All, length, nat_lt, if◌then◌else◌, IfOk, OnOk, OnErr};
+ghost use Rattle.elevator_model.specs.Plans.{IsFeasiblePlan};
+ghost use Rattle.search_model.specs.Advancing.{advanced, events_by};
+ghost use Rattle.search_model.specs.Days.{opening_day, day_after_accepted, is_row, call_of_row, with_call, fault_of_row, fault_of_new_call, calls_after, loses_none, delivered_count as delivered_count_lem, served_of};
+ghost use Rattle.day_state.specs.Openings.{IsOpeningSnapshot};
+ghost use Rattle.row_text.specs.Records.{row_of_line, row_as_said};
+ghost use Rattle.day_simulator.specs.Logged.{IdsRise, day_call, day_calls};
+ghost use Rattle.day_simulator.specs.Texts.{end_text};
+ghost use Rattle.day_simulator.specs.Standing.{IsEarly, row_number};
+ghost use Rattle.day_simulator.specs.Rows.{IsBrought, IsRowDone, IsRefused};
+
+use crate::lines::{accepted_lines, code_of, put_end, put_refused};
+use crate::logged::{LoggedCall, add_call, delivered_count, note_all, served_by};
+use crate::planners::Planner;
+use call_state::Snapshot;
+use day_state::{NotTaken, World};
+use row_text::{GoodRow, read_row};
+use search_model::{Event, RowFault, Served};
+use std::alloc::{AllocError, Global};
+use std::marker::Model;
+
+/// What became of a row.
+#[derive(Clone, Copy, PartialEq, Eq, Debug)]
+pub enum RowAnswer {
+    /// Its call was taken, with a plan of this cost and this bound, in cost units.
+    Taken { cost: u64, bound: u64 },
+    /// It was refused: 41 is no row, 42 before the present moment, 43 as many calls are open as may be, 44 no car
+    /// can take the call.
+    Refused { code: u8 },
+}
+
+/// A day: the world, how many rows were refused, how many of the accepted ones had a bound below their cost, and
+/// the accepted calls.
+#[derive(Drop)]
+pub struct Day {
+    world: World,
+    refused: u32,
+    unsolved: u32,
+    calls: Vec<LoggedCall>,
+}
+
+/// How many more rows are unsolved, where one has a plan of this cost with this bound.
+fn unsolved_by(cost: u64, bound: u64) -> u32
+    ensures { result ≡ (if nat_lt bound cost then 1 else 0) }
+{
+    if bound < cost { 1 } else { 0 }
+}
+
+/// Brings this world in place of the present one, and notes what happened until then and the call that came. It fails
+/// only where there is no memory left: then all is as before.
+fn go_on_in(
+    next: World,
+    events: &[Event],
+    call: LoggedCall,
+    present: &mut World,
+    calls: &mut Vec<LoggedCall>,
+) -> Result<(), AllocError>
+    requires { IdsRise (day_calls calls.old.items) }
+    ensures world { OnOk result (present.new ≡ next) }
+    ensures calls { OnOk result (day_calls calls.new.items
+        ≡ calls_after (day_calls calls.old.items) events.now ++ day_call call ∷ []) }
+    ensures world_as_before { OnErr result (present.new ≡ present.old) }
+    ensures calls_as_before { OnErr result (calls.new.items ≡ calls.old.items) }
+{
+    add_call(calls, events, call)?;
+    *present = next;
+    Ok(())
+}
+
+impl Model for Day {
+    ghost use Rattle.search_model.specs.Days.{Day as Record};
+    ghost use Rattle.day_simulator.specs.Logged.{day_calls};
+    ghost use Rattle.day_simulator.specs.Standing.{IsStanding};
+
+    ghost Value = { Record };
+
+    ghost view = { λ d. record { world = d.world; refused = d.refused; unsolved = d.unsolved; calls = day_calls d.calls.items } };
+
+    ghost invariant = { λ d. IsStanding
+        (record { world = d.world; refused = d.refused; unsolved = d.unsolved; calls = day_calls d.calls.items }) };
+}
+
+impl Day {
+    /// The day that opens with a snapshot without calls, where nobody is aboard. It fails only where there is no
+    /// memory left.
+    pub fn new(alloc: Global, opening: Snapshot) -> Result<Day, AllocError>
+        requires { IsOpeningSnapshot opening }
+        ensures { IfOk result (λ day. day ≡ opening_day opening) }
+    {
+        let world = World::opening(alloc, opening)?;
+        // A reader of the snapshot tells that it keeps the rules, which is part of what holds of a day.
+        let _moment = world.snapshot().now();
+        Ok(Day {
+            world,
+            refused: 0,
+            unsolved: 0,
+            calls: Vec::new(alloc),
+        })
+    }
+
+    /// How many of the accepted rows had a bound below their cost. No accepted call is ever lost.
+    pub fn unsolved(&self) -> u32
+        ensures value { result ≡ self.now.unsolved }
+        ensures none_lost { IsTrue (loses_none self.now) }
+    {
+        self.unsolved
+    }
+
+    /// The number of the next row, from 1.
+    fn number(&self) -> u32
+        requires { row_number self.now < 2 ^ 32 }
+        ensures { result ≡ row_number self.now }
+    {
+        self.refused + self.calls.len() as u32 + 1
+    }
+
+    /// Refuses the next row for this fault.
+    fn refuse(&mut self, fault: RowFault, out: &mut Vec<u8>) -> Result<RowAnswer, AllocError>
+        requires { row_number self.old < 2 ^ 32 }
+        ensures refused { IfOk result (λ answer.
+            IsRefused self.old fault self.new out.old.items out.new.items answer) }
+        ensures as_before { OnErr result (self.new ≡ self.old) }
+        ensures log_as_before { OnErr result (out.new.items ≡ out.old.items) }
+    {
+        let mut text = Vec::new(*out.allocator());
+        put_refused(&mut text, self.number(), fault)?;
+        out.extend_from_slice(text.as_slice())?;
+        self.refused += 1;
+        Ok(RowAnswer::Refused {
+            code: code_of(fault),
+        })
+    }
+
+    /// Goes on in this world, in which the call of the next row has come and a plan holds of this cost, with this bound.
+    fn take(
+        &mut self,
+        world: World,
+        row: &GoodRow,
+        events: &[Event],
+        cost: u64,
+        bound: u64,
+    ) -> Result<(), AllocError>
+        requires number { row_number self.old < 2 ^ 32 }
+        requires world { world ≡ with_call (advanced self.old.world row.now.time)
+            (call_of_row (row_number self.old) (row_as_said row.now)) world.plan }
+        requires feasible { IsFeasiblePlan world.snapshot world.plan }
+        requires events { events.now ≡ events_by self.old.world row.now.time }
+        ensures taken { OnOk result (self.new ≡ day_after_accepted self.old (row_number self.old)
+            (row_as_said row.now) (record { plan = world.plan; cost = cost; bound = bound })) }
+        ensures as_before { OnErr result (self.new ≡ self.old) }
+    {
+        // A reader of the snapshot tells that it keeps the rules, which is part of what holds of a day.
+        let _moment = world.snapshot().now();
+        let call = LoggedCall::new(self.number(), row.time);
+        go_on_in(world, events, call, &mut self.world, &mut self.calls)?;
+        self.unsolved += unsolved_by(cost, bound);
+        Ok(())
+    }
+
+    /// Asks for a plan in this world, which has taken the call of the next row, and goes on with it.
+    fn accept<P: Planner>(
+        &mut self,
+        alloc: Global,
+        planner: &P,
+        mut world: World,
+        row: &GoodRow,
+        events: &[Event],
+        out: &mut Vec<u8>,
+    ) -> Result<RowAnswer, AllocError>
+        requires number { row_number self.old < 2 ^ 32 }
+        requires taken { fault_of_row self.old.world (row_number self.old) (Some (row_as_said row.now)) ≡ None }
+        requires world { world.snapshot ≡ (with_call (advanced self.old.world row.now.time)
+            (call_of_row (row_number self.old) (row_as_said row.now)) []).snapshot }
+        requires events { events.now ≡ events_by self.old.world row.now.time }
+        ensures row { IfOk result (λ answer. IsRowDone (P.right planner.now) self.old
+            (Some (row_as_said row.now)) self.new out.old.items out.new.items answer) }
+        ensures as_before { OnErr result (self.new ≡ self.old) }
+        ensures log_as_before { OnErr result (out.new.items ≡ out.old.items) }
+    {
+        let planned = planner.plan(alloc, world.snapshot())?;
+        let text = accepted_lines(alloc, self.number(), events, world.snapshot(), &planned)?;
+        let before = out.len();
+        out.extend_from_slice(text.as_slice())?;
+        let (cost, bound) = (planned.cost, planned.bound);
+        world.set_plan(planned.plan);
+        match self.take(world, row, events, cost, bound) {
+            Ok(()) => Ok(RowAnswer::Taken { cost, bound }),
+            Err(error) => {
+                out.truncate(before);
+                Err(error)
+            }
+        }
+    }
+
+    /// The world at the time of the next row with its call, and what happens until then; or why the row is refused.
+    /// What may be refused is tried on a copy of the world.
+    fn brought(
+        &self,
+        alloc: Global,
+        row: &GoodRow,
+        events: &mut Vec<Event>,
+    ) -> Result<Result<World, RowFault>, AllocError>
+        requires number { row_number self.now < 2 ^ 32 }
+        requires good { IsTrue (is_row self.now.world.snapshot.building (row_as_said row.now)) }
+        requires none { events.old.items ≡ [] }
+        ensures { IfOk result (IsBrought self.now (row_as_said row.now) events.new.items) }
+    {
+        if row.time < self.world.snapshot().now() {
+            return Ok(Err(RowFault::BeforeNow));
+        }
+        let mut world = self.world.copy(alloc)?;
+        world.advance(alloc, row.time, events)?;
+        match world.accept(alloc, row.call(self.number())) {
+            Ok(()) => Ok(Ok(world)),
+            Err(NotTaken::Full) => Ok(Err(RowFault::Full)),
+            Err(NotTaken::NoCar) => Ok(Err(RowFault::NoCar)),
+            Err(NotTaken::NoMemory) => Err(AllocError),
+        }
+    }
+
+    /// Takes or refuses a row whose numbers lie in their ranges.
+    fn good_row<P: Planner>(
+        &mut self,
+        alloc: Global,
+        planner: &P,
+        row: &GoodRow,
+        out: &mut Vec<u8>,
+    ) -> Result<RowAnswer, AllocError>
+        requires number { row_number self.old < 2 ^ 32 }
+        requires good { IsTrue (is_row self.old.world.snapshot.building (row_as_said row.now)) }
+        ensures row { IfOk result (λ answer. IsRowDone (P.right planner.now) self.old
+            (Some (row_as_said row.now)) self.new out.old.items out.new.items answer) }
+        ensures as_before { OnErr result (self.new ≡ self.old) }
+        ensures log_as_before { OnErr result (out.new.items ≡ out.old.items) }
+    {
+        let mut events = Vec::new(alloc);
+        match self.brought(alloc, row, &mut events)? {
+            Ok(world) => self.accept(alloc, planner, world, row, events.as_slice(), out),
+            Err(fault) => self.refuse(fault, out),
+        }
+    }
+
+    /// Takes or refuses the next row.
+    fn any_row<P: Planner>(
+        &mut self,
+        alloc: Global,
+        planner: &P,
+        bytes: &[u8],
+        out: &mut Vec<u8>,
+    ) -> Result<RowAnswer, AllocError>
+        requires { row_number self.old < 2 ^ 32 }
+        ensures row { IfOk result (λ answer. IsRowDone (P.right planner.now) self.old
+            (row_of_line bytes.now) self.new out.old.items out.new.items answer) }
+        ensures as_before { OnErr result (self.new ≡ self.old) }
+        ensures log_as_before { OnErr result (out.new.items ≡ out.old.items) }
+    {
+        match read_row(alloc, self.world.snapshot().building(), bytes)? {
+            Some(row) => self.good_row(alloc, planner, &row, out),
+            None => self.refuse(RowFault::NoRow, out),
+        }
+    }
+
+    /// Takes or refuses the next row, and appends its lines to the log. The bytes are those of a line without its
+    /// end. Fewer than 2^32 - 1 rows came before.
+    ///
+    /// The line is one record (RFC 4180) of four fields: the time in ms, at most 10^9, two different floors of the
+    /// building, and 1 to 8 persons. Each is one or more decimal digits; spaces at both ends of a field do not count.
+    /// A line that begins with a byte order mark or has the end of a line inside it is no record. A row that is
+    /// accepted brings the world to its time, adds the call and takes a plan of the planner; one that is refused
+    /// changes nothing but the count of rows.
+    ///
+    /// It fails only where there is no memory left: then the day and the log are as before.
+    pub fn row<P: Planner>(
+        &mut self,
+        alloc: Global,
+        planner: &P,
+        bytes: &[u8],
+        out: &mut Vec<u8>,
+    ) -> Result<RowAnswer, AllocError>
+        requires { row_number self.old < 2 ^ 32 }
+        ensures row { IfOk result (λ answer. IsRowDone (P.right planner.now) self.old
+            (row_of_line bytes.now) self.new out.old.items out.new.items answer) }
+        ensures none_lost { IsTrue (loses_none self.new) }
+        ensures number { OnOk result (row_number self.new ≡ row_number self.old + 1) }
+        ensures as_before { OnErr result (self.new ≡ self.old) }
+        ensures log_as_before { OnErr result (out.new.items ≡ out.old.items) }
+    {
+        let answer = self.any_row(alloc, planner, bytes, out);
+        // A reader tells that no call is lost.
+        let _unsolved = self.unsolved();
+        answer
+    }
+
+    /// Refuses a row that is too long to be one, with 41. Fewer than 2^32 - 1 rows came before.
+    ///
+    /// It fails only where there is no memory left: then the day and the log are as before.
+    pub fn long_row(&mut self, out: &mut Vec<u8>) -> Result<RowAnswer, AllocError>
+        requires { row_number self.old < 2 ^ 32 }
+        ensures refused { IfOk result (λ answer.
+            IsRefused self.old RowFault.NoRow self.new out.old.items out.new.items answer) }
+        ensures none_lost { IsTrue (loses_none self.new) }
+        ensures number { OnOk result (row_number self.new ≡ row_number self.old + 1) }
+        ensures as_before { OnErr result (self.new ≡ self.old) }
+        ensures log_as_before { OnErr result (out.new.items ≡ out.old.items) }
+    {
+        let answer = self.refuse(RowFault::NoRow, out);
+        let _unsolved = self.unsolved();
+        answer
+    }
+
+    /// Runs the last plan to its end, appends what is left of the log, and gives the served calls in the order of
+    /// their ids. Each accepted call is delivered then.
+    ///
+    /// It fails only where there is no memory left: then the log is as before.
+    pub fn finish(self, alloc: Global, out: &mut Vec<u8>) -> Result<Vec<Served>, AllocError>
+        ensures served { IfOk result (λ served. served.items ≡ served_of self) }
+        ensures early { IfOk result (λ served. All IsEarly served.items) }
+        ensures log { OnOk result (out.new.items ≡ out.old.items ++ end_text self) }
+        ensures log_as_before { OnErr result (out.new.items ≡ out.old.items) }
+        ensures delivered { OnOk result (delivered_count_lem self ≡ length self.calls) }
+    {
+        let mut events = Vec::new(alloc);
+        self.world.run_out(alloc, &mut events)?;
+        let mut calls = self.calls;
+        note_all(&mut calls, events.as_slice());
+        let served = served_by(alloc, calls.as_slice())?;
+        let mut text = Vec::new(alloc);
+        put_end(
+            &mut text,
+            events.as_slice(),
+            calls.len() as u64,
+            u64::from(self.refused),
+            delivered_count(calls.as_slice()) as u64,
+            self.unsolved,
+        )?;
+        out.extend_from_slice(text.as_slice())?;
+        Ok(served)
+    }
+}
