@@ -1,21 +1,10 @@
 //! Whole days.
 
-use crate::opening::{ONE_CAR, TWO_CARS, day_of};
+use crate::openings::{ONE_CAR, TWO_CARS};
 use crate::planners::Plain;
-use day_simulator::{Day, RowAnswer, Served};
-use std::alloc::Global;
+use crate::runs::{PLAIN, is_day};
+use search_model::Served;
 use std::test::Fail;
-
-/// A row of a day, and what is answered.
-type RowCase = (&'static [u8], RowAnswer);
-
-fn taken(cost: u64, bound: u64) -> RowAnswer {
-    RowAnswer::Taken { cost, bound }
-}
-
-fn refused(code: u8) -> RowAnswer {
-    RowAnswer::Refused { code }
-}
 
 fn served(call: u32, released: u64, boarded: u64, delivered: u64) -> Served {
     Served {
@@ -26,58 +15,11 @@ fn served(call: u32, released: u64, boarded: u64, delivered: u64) -> Served {
     }
 }
 
-/// Whether each row is answered so.
-fn are_answered(
-    alloc: Global,
-    day: &mut Day,
-    planner: &Plain,
-    rows: &[RowCase],
-    log: &mut Vec<u8>,
-) -> bool {
-    for (bytes, answer) in rows {
-        if day.row(alloc, planner, bytes, log).ok() != Some(*answer) {
-            return false;
-        }
-    }
-    true
-}
-
-/// Whether the day of this text with these rows has this log and these served calls.
-fn is_day(
-    alloc: Global,
-    opening: &str,
-    planner: &Plain,
-    rows: &[RowCase],
-    text: &str,
-    calls: &[Served],
-) -> bool {
-    let Some(mut day) = day_of(alloc, opening) else {
-        return false;
-    };
-    let mut log = Vec::new(alloc);
-    if !are_answered(alloc, &mut day, planner, rows, &mut log) {
-        return false;
-    }
-    match day.finish(alloc, &mut log) {
-        Ok(served) => log.as_slice() == text.as_bytes() && served.as_slice() == calls,
-        Err(_) => false,
-    }
-}
-
-const PLAIN: Plain = Plain { gap: 0, proof: b"" };
-
 // The second row comes at the moment of an arrival, the third during a dwell, the fourth before it.
-fn three_calls() -> [RowCase; 5] {
-    [
-        (b"0,0,1,1", taken(7500, 7500)),
-        (b"6500,1,2,1", taken(10000, 10000)),
-        (b" 09500 ,\"1\",3 , 1", taken(25000, 25000)),
-        (b"9000,0,1,1", refused(42)),
-        (b"10000,0,1,1,", refused(41)),
-    ]
-}
+const THREE_CALLS: &[u8] = b"0,0,1,1\n6500,1,2,1\n 09500 ,\"1\",3 , 1\n9000,0,1,1\n10000,0,1,1,\n";
 
-const LOG_OF_THREE: &str = "row 1 accepted
+const LOG_OF_THREE: &[u8] = b"day 1
+row 1 accepted
 cost 7500
 bound 7500
 tour 1
@@ -118,11 +60,12 @@ fn a_day_of_three_calls(rt: HostRuntime) -> Result<(), Fail> {
     ];
     let is = is_day(
         rt.alloc(),
-        ONE_CAR,
         &PLAIN,
-        &three_calls(),
+        ONE_CAR,
+        THREE_CALLS,
         LOG_OF_THREE,
         &calls,
+        0,
     );
     assert!(rt; is);
     Ok(())
@@ -134,8 +77,8 @@ fn a_proof_in_place_of_the_plan(rt: HostRuntime) -> Result<(), Fail> {
         gap: 1,
         proof: b"as proved\n",
     };
-    let rows: [RowCase; 2] = [(b"0,0,1,1", taken(7500, 7499)), (b"4,1,1,1", refused(41))];
-    let text = "row 1 accepted
+    let log = b"day 1
+row 1 accepted
 as proved
 row 2 refused 41
 board 1 1 1000
@@ -145,51 +88,36 @@ end
 # stopped 1
 ";
     let calls = [served(1, 0, 1000, 7500)];
-    let is = is_day(rt.alloc(), ONE_CAR, &planner, &rows, text, &calls);
-    assert!(rt; is);
+    let rows = b"0,0,1,1\n4,1,1,1";
+    assert!(rt; is_day(rt.alloc(), &planner, ONE_CAR, rows, log, &calls, 1));
     Ok(())
 }
 
 #[test]
 fn rows_that_are_none(rt: HostRuntime) -> Result<(), Fail> {
-    let rows: [RowCase; 17] = [
-        (b"", refused(41)),
-        (b"   ", refused(41)),
-        (b"6000,0,1", refused(41)),
-        (b"6000,0,1,2,3", refused(41)),
-        (b"6000,0,1,0", refused(41)),
-        (b"6000,0,1,9", refused(41)),
-        (b"6000,0,4,2", refused(41)),
-        (b"6000,1,1,2", refused(41)),
-        (b"1000000001,0,1,2", refused(41)),
-        (b"6000,0,1,-2", refused(41)),
-        (b"6000,0,1,2\r", refused(41)),
-        (b"6000,0,1,\"2\n\"", refused(41)),
-        (b"\xEF\xBB\xBF6000,0,1,2", refused(41)),
-        (b"6000, \"0\",1,2", refused(41)),
-        (b"6000,0,1,\t2", refused(41)),
-        (b"4999,0,1,2", refused(42)),
-        (b"5000,1,2,2", refused(44)),
-    ];
-    let mut day = day_of(rt.alloc(), TWO_CARS).ok_or("no day")?;
-    let mut log = Vec::new(rt.alloc());
-    assert!(rt; are_answered(rt.alloc(), &mut day, &PLAIN, &rows, &mut log));
-    assert!(rt;
-        log.as_slice()
-            .ends_with(b"row 16 refused 42\nrow 17 refused 44\n")
-    );
-    Ok(())
-}
-
-#[test]
-fn a_row_that_is_too_long(rt: HostRuntime) -> Result<(), Fail> {
-    let mut day = day_of(rt.alloc(), TWO_CARS).ok_or("no day")?;
-    let mut log = Vec::from_slice(rt.alloc(), b"day 1\n")?;
-    assert!(rt; day.long_row(&mut log).ok() == Some(refused(41)));
-    let served = day.finish(rt.alloc(), &mut log)?;
-    assert!(rt; served.is_empty());
-    assert!(rt;
-        log.as_slice() == b"day 1\nrow 1 refused 41\ntotal 0 1 0\nend\n# solved\n".as_slice()
-    );
+    let rows = b"   \n6000,0,1\n6000,0,1,2,3\n6000,0,1,0\n6000,0,1,9\n6000,0,4,2\n6000,1,1,2\n\
+        1000000001,0,1,2\n6000,0,1,-2\n6000,0,1,2\r\r\n\xEF\xBB\xBF6000,0,1,2\n6000, \"0\",1,2\n\
+        6000,0,1,\t2\n4999,0,1,2\n5000,1,2,2\n";
+    let log = b"day 1
+row 1 refused 41
+row 2 refused 41
+row 3 refused 41
+row 4 refused 41
+row 5 refused 41
+row 6 refused 41
+row 7 refused 41
+row 8 refused 41
+row 9 refused 41
+row 10 refused 41
+row 11 refused 41
+row 12 refused 41
+row 13 refused 41
+row 14 refused 42
+row 15 refused 44
+total 0 15 0
+end
+# solved
+";
+    assert!(rt; is_day(rt.alloc(), &PLAIN, TWO_CARS, rows, log, &[], 0));
     Ok(())
 }

@@ -1,4 +1,4 @@
-//! Tests of days: rows as bytes, and the log as text. The logs were worked out by hand.
+//! Tests of days with the plain solver as planner: rows as text, and the log as text. The logs were worked out by hand.
 //!
 //! A helper that says whether something is so says no where memory is wanting, so that its test fails.
 #![tactic(auto)]
@@ -6,6 +6,10 @@
 #[cfg(test)]
 mod days;
 #[cfg(test)]
-mod opening;
+mod lines;
+#[cfg(test)]
+mod openings;
 #[cfg(test)]
 mod planners;
+#[cfg(test)]
+mod runs;

@@ -1,0 +1,6 @@
+pub mod RunLemmas
+pub mod WholeLemmas
+pub mod ReadLemmas
+pub mod StepLemmas
+pub mod DayLemmas
+pub mod InputLemmas

@@ -1,0 +1,54 @@
+//! Days from their text.
+
+ghost use Rattle.std.specs.Prelude.{◌≡◌, ◌<◌, ◌≤◌, ◌^◌, None, IfOk, IsSomeAnd};
+ghost use Rattle.byte_streams.specs.Streams.{Rose};
+ghost use Rattle.lift_text.specs.LineReader.{text, failure};
+ghost use Rattle.search_model.specs.Reports.{report_of};
+ghost use Rattle.day_runner.specs.Inputs.{DayAnswered, EndsUnlessFailed, IsDayText, IsUnread, IsUnwritten};
+
+use crate::days::{Ended, run_day};
+use crate::rows::RunFault;
+use byte_streams::{Sink, Source};
+use day_simulator::Planner;
+use lift_text::{LineReader, TextFault};
+use opening_text::read_day_opening;
+use std::alloc::Global;
+
+/// Why a day did not come to its end.
+#[derive(Clone, Copy, PartialEq, Eq, Debug)]
+pub enum DayFault {
+    /// What stands before the rows is bad, or could not be read; nothing was written.
+    Opening(TextFault),
+    /// The rows were not run to their end.
+    Rows(RunFault),
+}
+
+/// Reads what stands before the rows of a day, and runs the day over them, with its log.
+///
+/// The sums of the served calls' times have at most 64 bits.
+pub fn run_day_text<P: Planner, S: Source, K: Sink>(
+    alloc: Global,
+    planner: &P,
+    lines: &mut LineReader<S>,
+    sink: &mut K,
+) -> Result<Ended, DayFault>
+    requires { failure lines.old ≡ None }
+    ensures same_source { lines.new.source.ghost_name ≡ lines.old.source.ghost_name }
+    ensures answered { DayAnswered (P.right planner.now) (text S.left lines.old) (S.left lines.new.source.now)
+        (K.taken sink.old) (K.taken sink.new) result }
+    ensures ends { IsSomeAnd (text S.left lines.old) IsDayText → EndsUnlessFailed result }
+    ensures small { IfOk result (λ ended. (report_of ended.served.items).total.sum < 2 ^ 64) }
+    ensures read { IsUnread result
+        → Rose (S.faults lines.old.source.now) (S.faults lines.new.source.now) }
+    ensures write { IsUnwritten result → Rose (K.faults sink.old) (K.faults sink.new) }
+    ensures counted { S.faults lines.old.source.now ≤ S.faults lines.new.source.now }
+    ensures sink_counted { K.faults sink.old ≤ K.faults sink.new }
+{
+    match read_day_opening(alloc, lines) {
+        Ok(opening) => match run_day(alloc, planner, opening, lines, sink) {
+            Ok(ended) => Ok(ended),
+            Err(fault) => Err(DayFault::Rows(fault)),
+        },
+        Err(fault) => Err(DayFault::Opening(fault)),
+    }
+}
