@@ -60,7 +60,7 @@ fn a_day_of_three_calls(rt: HostRuntime) -> Result<(), Fail> {
     ];
     let is = is_day(
         rt.alloc(),
-        &PLAIN,
+        PLAIN,
         ONE_CAR,
         THREE_CALLS,
         LOG_OF_THREE,
@@ -89,7 +89,7 @@ end
 ";
     let calls = [served(1, 0, 1000, 7500)];
     let rows = b"0,0,1,1\n4,1,1,1";
-    assert!(rt; is_day(rt.alloc(), &planner, ONE_CAR, rows, log, &calls, 1));
+    assert!(rt; is_day(rt.alloc(), planner, ONE_CAR, rows, log, &calls, 1));
     Ok(())
 }
 
@@ -118,6 +118,6 @@ total 0 15 0
 end
 # solved
 ";
-    assert!(rt; is_day(rt.alloc(), &PLAIN, TWO_CARS, rows, log, &[], 0));
+    assert!(rt; is_day(rt.alloc(), PLAIN, TWO_CARS, rows, log, &[], 0));
     Ok(())
 }

@@ -30,7 +30,7 @@ end
 # solved
 ";
     let rows = lines_in(rt.alloc())?;
-    assert!(rt; is_day(rt.alloc(), &PLAIN, TWO_CARS, rows.as_slice(), log, &[], 0));
+    assert!(rt; is_day(rt.alloc(), PLAIN, TWO_CARS, rows.as_slice(), log, &[], 0));
     Ok(())
 }
 

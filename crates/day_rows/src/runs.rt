@@ -1,7 +1,12 @@
 //! Runs of days over texts in memory.
 
+ghost use Rattle.std.specs.Prelude.{IfOk};
+ghost use Rattle.day_simulator.specs.Planning.{IsRightPlan};
+ghost use Rattle.day_simulator.specs.Rows.{stated_of};
+
 use crate::planners::Plain;
 use byte_streams::{MemorySink, MemorySource};
+use call_state::Snapshot;
 use day_runner::{DayFault, Ended, run_day_text};
 use lift_text::LineReader;
 use search_model::Served;
@@ -20,7 +25,7 @@ fn text_of(alloc: Global, opening: &[u8], rows: &[u8]) -> Option<Vec<u8>> {
 /// How the day ends, where a read gives 11 bytes, a write takes 5, and one read fails; no read 0 comes.
 fn ended(
     alloc: Global,
-    planner: &Plain,
+    planner: Plain,
     text: Vec<u8>,
     failing: u64,
     sink: &mut MemorySink,
@@ -28,14 +33,17 @@ fn ended(
     let reads = Vec::from_slice(alloc, &[failing]).ok()?;
     let mut source = MemorySource::new(text, 11, reads);
     let mut lines = LineReader::new(alloc, &mut source).ok()?;
-    Some(run_day_text(alloc, planner, &mut lines, sink))
+    let plan = |snapshot: &Snapshot|
+        ensures { IfOk result (λ planned. IsRightPlan snapshot.now (stated_of planned)) }
+        { planner.plan(alloc, snapshot) };
+    Some(run_day_text(alloc, &plan, &mut lines, sink))
 }
 
 /// Whether the day of this opening with these rows comes to its end, with this log, these served calls, and so many rows
 /// with a bound below their cost.
 pub(crate) fn is_day(
     alloc: Global,
-    planner: &Plain,
+    planner: Plain,
     opening: &[u8],
     rows: &[u8],
     log: &[u8],
@@ -72,7 +80,7 @@ pub(crate) fn stops(
     let Ok(mut sink) = MemorySink::new(alloc, room, 5, Vec::new(alloc)) else {
         return false;
     };
-    match ended(alloc, &PLAIN, text, failing, &mut sink) {
+    match ended(alloc, PLAIN, text, failing, &mut sink) {
         Some(Err(why)) => why == fault && sink.taken() == log,
         Some(Ok(_)) | None => false,
     }

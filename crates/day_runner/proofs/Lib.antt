@@ -4,3 +4,4 @@ pub mod ReadLemmas
 pub mod StepLemmas
 pub mod DayLemmas
 pub mod InputLemmas
+pub mod RightLemmas

@@ -1,11 +1,12 @@
 -- Rows done one after another.
-use Rattle.std.proofs.Common.{◌≡◌, ℕ, ◌<◌, ◌≤◌, Bool, cond, ltb, List, [], ◌∷◌, ◌++◌, length, refl, sym, ap, ◌∙◌, subst, arith, Option, None}
+use Rattle.std.proofs.Common.{◌≡◌, ℕ, ◌<◌, ◌≤◌, Bool, false, true≢false, cond, eqb, ltb, List, [], ◌∷◌, ◌++◌, length, refl, sym, ap, ◌∙◌, subst, arith, Option, None}
 use Rattle.std.proofs.lemmas.Bool.{false_from_ne_true, ltb-true, lt-ltb}
 use Rattle.search_model.specs.Days.{Day, Row, day_after_refused}
 use Rattle.search_model.specs.declared.RowFault.TheVariants.{NoRow}
 use Rattle.search_model.specs.declared.Stated.{Stated}
 use Rattle.lift_text.specs.Lines.{line_of}
 use Rattle.lift_text.specs.Reading.{line_limit}
+use Rattle.row_text.specs.Records.{row_of_line}
 use Rattle.day_simulator.specs.declared.days.RowAnswer.{RowAnswer}
 use Rattle.day_simulator.specs.declared.days.RowAnswer.TheVariants.{Refused as RefusedBy}
 use Rattle.day_simulator.specs.Standing.{row_number}
@@ -49,6 +50,14 @@ line-more right a b c ps p t u first later =
 
 pub short-rows : (line : List ℕ) → length line ≤ 4096 → rows_of_line line ≡ rows_of_short line
 short-rows line short = ap (λ (b : Bool). cond {A = List (Option Row)} b (None ∷ []) (rows_of_short line)) (false_from_ne_true (ltb line_limit (length line)) (λ k. let more = ltb-true line_limit (length line) k in omega (arith, more, short)))
+
+pub some-bytes : (line : List ℕ) (none_yet : Bool) → none_yet ≡ eqb (length line) 0 → none_yet ≡ false → line ≡ [] → ⊥
+some-bytes line none_yet is some none = true≢false (sym (is ∙ ap (λ (l : List ℕ). eqb (length l) 0) none) ∙ some)
+
+-- what a row of some bytes did
+pub short-row-done : (right : Right) (old new : Day) (line text : List ℕ) (answer : RowAnswer) → (line ≡ [] → ⊥) → IsRowDone right old (row_of_line line) new [] text answer → AreRowsDone right old (rows_of_short line) new text
+short-row-done right old new [] text answer full done = absurd (full refl)
+short-row-done right old new (b ∷ line) text answer full done = one-row right old (row_of_line (b ∷ line)) new text answer done
 
 pub long-rows : (line : List ℕ) → line_limit < length line → rows_of_line line ≡ None ∷ []
 long-rows line long = ap (λ (b : Bool). cond {A = List (Option Row)} b (None ∷ []) (rows_of_short line)) (lt-ltb line_limit (length line) long)

@@ -1,7 +1,10 @@
 //! Whole days.
 
 ghost use Rattle.std.specs.Prelude.{◌≡◌, ◌≤◌, None, All, length, IfOk, IsErrOf};
+ghost use Rattle.std.specs.Fn.{FnReturnsAt};
 ghost use Rattle.byte_streams.specs.Streams.{Rose};
+ghost use Rattle.day_simulator.specs.Planning.{PlannerLaw};
+ghost use Rattle.day_simulator.specs.Rows.{right_by};
 ghost use Rattle.lift_text.specs.LineReader.{text, failure};
 ghost use Rattle.search_model.specs.Days.{served_of};
 ghost use Rattle.day_state.specs.Openings.{IsOpeningSnapshot};
@@ -10,9 +13,9 @@ ghost use Rattle.day_runner.specs.Days.{EndedAs, RanDay};
 
 use crate::rows::{RunFault, put, run_rows};
 use byte_streams::{Sink, Source};
-use day_simulator::{Day, Planner, Served, Snapshot};
+use day_simulator::{Day, Planned, Served, Snapshot};
 use lift_text::LineReader;
-use std::alloc::Global;
+use std::alloc::{AllocError, Global};
 
 /// The first line of a log.
 const FIRST_LINE: &[u8] = b"day 1\n";
@@ -54,17 +57,21 @@ fn end_day<K: Sink>(alloc: Global, day: Day, sink: &mut K) -> Result<Ended, RunF
 ///
 /// After a fault the log is written as far as the rows go that were done before it; where a write failed, a beginning of
 /// that. Memory may be wanting at any row and at the end, and then what was written before stays.
-pub fn run_day<P: Planner, S: Source, K: Sink>(
+pub fn run_day<F, S: Source, K: Sink>(
     alloc: Global,
-    planner: &P,
+    plan: &F,
     opening: Snapshot,
     lines: &mut LineReader<S>,
     sink: &mut K,
 ) -> Result<Ended, RunFault>
+where
+    F: Fn(&Snapshot) -> Result<Planned, AllocError>,
+    requires callable { F.IsAlwaysCallable plan.now }
+    requires sound { PlannerLaw (right_by (FnReturnsAt F.Fn plan.now)) }
     requires opening { IsOpeningSnapshot opening }
     requires unfailed { failure lines.old ≡ None }
     ensures same_source { lines.new.source.ghost_name ≡ lines.old.source.ghost_name }
-    ensures ran { RanDay (P.right planner.now) opening result (text S.left lines.old)
+    ensures ran { RanDay (right_by (FnReturnsAt F.Fn plan.now)) opening result (text S.left lines.old)
         (S.left lines.new.source.now) (K.taken sink.old) (K.taken sink.new) }
     ensures early { IfOk result (λ ended. All IsEarly ended.served.items) }
     ensures few { IfOk result (λ ended. length ended.served.items ≤ 67108864) }
@@ -81,7 +88,7 @@ pub fn run_day<P: Planner, S: Source, K: Sink>(
     let Ok(mut day) = Day::new(alloc, opening) else {
         return Err(RunFault::NoMemory);
     };
-    match run_rows(alloc, planner, lines, &mut day, sink) {
+    match run_rows(alloc, plan, lines, &mut day, sink) {
         Ok(()) => {
             // A line's number is at most 67,108,864.
             let _last = lines.line();

@@ -1,7 +1,10 @@
 //! Days from their text.
 
 ghost use Rattle.std.specs.Prelude.{◌≡◌, ◌<◌, ◌≤◌, ◌^◌, None, IfOk, IsSomeAnd};
+ghost use Rattle.std.specs.Fn.{FnReturnsAt};
 ghost use Rattle.byte_streams.specs.Streams.{Rose};
+ghost use Rattle.day_simulator.specs.Planning.{PlannerLaw};
+ghost use Rattle.day_simulator.specs.Rows.{right_by};
 ghost use Rattle.lift_text.specs.LineReader.{text, failure};
 ghost use Rattle.search_model.specs.Reports.{report_of};
 ghost use Rattle.day_runner.specs.Inputs.{DayAnswered, EndsUnlessFailed, IsDayText, IsUnread, IsUnwritten};
@@ -9,10 +12,10 @@ ghost use Rattle.day_runner.specs.Inputs.{DayAnswered, EndsUnlessFailed, IsDayTe
 use crate::days::{Ended, run_day};
 use crate::rows::RunFault;
 use byte_streams::{Sink, Source};
-use day_simulator::Planner;
+use day_simulator::{Planned, Snapshot};
 use lift_text::{LineReader, TextFault};
 use opening_text::read_day_opening;
-use std::alloc::Global;
+use std::alloc::{AllocError, Global};
 
 /// Why a day did not come to its end.
 #[derive(Clone, Copy, PartialEq, Eq, Debug)]
@@ -26,15 +29,19 @@ pub enum DayFault {
 /// Reads what stands before the rows of a day, and runs the day over them, with its log.
 ///
 /// The sums of the served calls' times have at most 64 bits.
-pub fn run_day_text<P: Planner, S: Source, K: Sink>(
+pub fn run_day_text<F, S: Source, K: Sink>(
     alloc: Global,
-    planner: &P,
+    plan: &F,
     lines: &mut LineReader<S>,
     sink: &mut K,
 ) -> Result<Ended, DayFault>
-    requires { failure lines.old ≡ None }
+where
+    F: Fn(&Snapshot) -> Result<Planned, AllocError>,
+    requires callable { F.IsAlwaysCallable plan.now }
+    requires sound { PlannerLaw (right_by (FnReturnsAt F.Fn plan.now)) }
+    requires unfailed { failure lines.old ≡ None }
     ensures same_source { lines.new.source.ghost_name ≡ lines.old.source.ghost_name }
-    ensures answered { DayAnswered (P.right planner.now) (text S.left lines.old) (S.left lines.new.source.now)
+    ensures answered { DayAnswered (right_by (FnReturnsAt F.Fn plan.now)) (text S.left lines.old) (S.left lines.new.source.now)
         (K.taken sink.old) (K.taken sink.new) result }
     ensures ends { IsSomeAnd (text S.left lines.old) IsDayText → EndsUnlessFailed result }
     ensures small { IfOk result (λ ended. (report_of ended.served.items).total.sum < 2 ^ 64) }
@@ -45,7 +52,7 @@ pub fn run_day_text<P: Planner, S: Source, K: Sink>(
     ensures sink_counted { K.faults sink.old ≤ K.faults sink.new }
 {
     match read_day_opening(alloc, lines) {
-        Ok(opening) => match run_day(alloc, planner, opening, lines, sink) {
+        Ok(opening) => match run_day(alloc, plan, opening, lines, sink) {
             Ok(ended) => Ok(ended),
             Err(fault) => Err(DayFault::Rows(fault)),
         },

@@ -2,7 +2,10 @@
 
 ghost use Rattle.std.specs.Prelude.{◌≡◌, ◌≤◌, ◌<◌, ◌+◌, ◌^◌, [], ◌∷◌, None, IsTrue, IfOk, IfErr, OnErr, OnOk, IsErrOf, length, take, ℕ};
 ghost use Rattle.std.specs.Io.KnownBytes.{append_known};
+ghost use Rattle.std.specs.Fn.{FnReturnsAt};
 ghost use Rattle.byte_streams.specs.Streams.{Rose};
+ghost use Rattle.day_simulator.specs.Planning.{PlannerLaw};
+ghost use Rattle.day_simulator.specs.Rows.{right_by};
 ghost use Rattle.lift_text.specs.LineReader.{text, line, failure};
 ghost use Rattle.search_model.specs.Days.{day_after_refused, loses_none};
 ghost use Rattle.search_model.specs.declared.RowFault.TheVariants.{NoRow};
@@ -11,7 +14,7 @@ ghost use Rattle.day_simulator.specs.Texts.{refused_text};
 ghost use Rattle.day_runner.specs.Runs.{AreRowsDone, DidNext, Ran, WroteNext, fault_of, rows_of_line, rows_of_short, turn_after, turn_written};
 
 use byte_streams::{Sink, Source, put_all};
-use day_simulator::{Day, Planner};
+use day_simulator::{Day, Planned, Snapshot};
 use lift_text::{LineReader, RawLine, TextFault};
 use std::alloc::{AllocError, Global};
 
@@ -73,40 +76,44 @@ fn do_long_line(day: &mut Day, out: &mut Vec<u8>) -> Result<(), AllocError>
 
 /// Does what a line of at most 4,096 bytes says, and puts what the log says of it into the empty text. A line of no
 /// bytes is no row.
-fn do_short_line<P: Planner>(
+fn do_short_line<F: Fn(&Snapshot) -> Result<Planned, AllocError>>(
     alloc: Global,
-    planner: &P,
+    plan: &F,
     line: &[u8],
     day: &mut Day,
     out: &mut Vec<u8>,
 ) -> Result<(), AllocError>
+    requires callable { F.IsAlwaysCallable plan.now }
+    requires sound { PlannerLaw (right_by (FnReturnsAt F.Fn plan.now)) }
     requires number { row_number day.old < 2 ^ 32 }
     requires none_lost { IsTrue (loses_none day.old) }
     requires empty { out.old.items ≡ [] }
-    ensures done { OnOk result (AreRowsDone (P.right planner.now) day.old (rows_of_short line.now) day.new out.new.items) }
+    ensures done { OnOk result (AreRowsDone (right_by (FnReturnsAt F.Fn plan.now)) day.old (rows_of_short line.now) day.new out.new.items) }
     ensures number { row_number day.new ≤ row_number day.old + 1 }
     ensures as_before { OnErr result (day.new ≡ day.old) }
     ensures none_lost { IsTrue (loses_none day.new) }
 {
     if !line.is_empty() {
-        day.row(alloc, planner, line, out)?;
+        day.row(alloc, plan, line, out)?;
     }
     Ok(())
 }
 
 /// Does what a line says, and puts what the log says of it into the empty text. A line of no bytes is no row, and one
 /// of more than 4,096 bytes says nothing.
-fn do_line<P: Planner>(
+fn do_line<F: Fn(&Snapshot) -> Result<Planned, AllocError>>(
     alloc: Global,
-    planner: &P,
+    plan: &F,
     line: &[u8],
     day: &mut Day,
     out: &mut Vec<u8>,
 ) -> Result<(), AllocError>
+    requires callable { F.IsAlwaysCallable plan.now }
+    requires sound { PlannerLaw (right_by (FnReturnsAt F.Fn plan.now)) }
     requires number { row_number day.old < 2 ^ 32 }
     requires none_lost { IsTrue (loses_none day.old) }
     requires empty { out.old.items ≡ [] }
-    ensures done { OnOk result (AreRowsDone (P.right planner.now) day.old (rows_of_line line.now) day.new out.new.items) }
+    ensures done { OnOk result (AreRowsDone (right_by (FnReturnsAt F.Fn plan.now)) day.old (rows_of_line line.now) day.new out.new.items) }
     ensures number { row_number day.new ≤ row_number day.old + 1 }
     ensures as_before { OnErr result (day.new ≡ day.old) }
     ensures none_lost { IsTrue (loses_none day.new) }
@@ -114,7 +121,7 @@ fn do_line<P: Planner>(
     if line.len() > MOST_BYTES {
         do_long_line(day, out)
     } else {
-        do_short_line(alloc, planner, line, day, out)
+        do_short_line(alloc, plan, line, day, out)
     }
 }
 
@@ -150,19 +157,23 @@ fn fault_of(fault: TextFault) -> RunFault
 }
 
 /// Reads the next line, does what it says, and puts what the log says of it into the empty text.
-fn do_next<P: Planner, S: Source>(
+fn do_next<F, S: Source>(
     alloc: Global,
-    planner: &P,
+    plan: &F,
     lines: &mut LineReader<S>,
     day: &mut Day,
     out: &mut Vec<u8>,
 ) -> Result<Turn, RunFault>
+where
+    F: Fn(&Snapshot) -> Result<Planned, AllocError>,
+    requires callable { F.IsAlwaysCallable plan.now }
+    requires sound { PlannerLaw (right_by (FnReturnsAt F.Fn plan.now)) }
     requires unfailed { failure lines.old ≡ None }
     requires number { row_number day.old ≤ line lines.old + 1 }
     requires none_lost { IsTrue (loses_none day.old) }
     requires empty { out.old.items ≡ [] }
     ensures same_source { lines.new.source.ghost_name ≡ lines.old.source.ghost_name }
-    ensures next { DidNext (P.right planner.now) day.old day.new result out.new.items (text S.left lines.old)
+    ensures next { DidNext (right_by (FnReturnsAt F.Fn plan.now)) day.old day.new result out.new.items (text S.left lines.old)
         (text S.left lines.new) (S.left lines.new.source.now) }
     ensures none_lost { IsTrue (loses_none day.new) }
     ensures unfailed { OnOk result (failure lines.new ≡ None) }
@@ -176,7 +187,7 @@ fn do_next<P: Planner, S: Source>(
     // A line's number is at most 67,108,864.
     let _number = lines.line();
     match lines.raw_line() {
-        Ok(RawLine::Line) => turn_after(do_line(alloc, planner, lines.raw(), day, out)),
+        Ok(RawLine::Line) => turn_after(do_line(alloc, plan, lines.raw(), day, out)),
         Ok(RawLine::Long) => turn_after(do_long_line(day, out)),
         Ok(RawLine::End) => Ok(Turn::End),
         Err(fault) => Err(fault_of(fault)),
@@ -184,18 +195,22 @@ fn do_next<P: Planner, S: Source>(
 }
 
 /// Reads the next line, does what it says, and writes what the log says of it.
-fn write_next<P: Planner, S: Source, K: Sink>(
+fn write_next<F, S: Source, K: Sink>(
     alloc: Global,
-    planner: &P,
+    plan: &F,
     lines: &mut LineReader<S>,
     day: &mut Day,
     sink: &mut K,
 ) -> Result<Turn, RunFault>
+where
+    F: Fn(&Snapshot) -> Result<Planned, AllocError>,
+    requires callable { F.IsAlwaysCallable plan.now }
+    requires sound { PlannerLaw (right_by (FnReturnsAt F.Fn plan.now)) }
     requires unfailed { failure lines.old ≡ None }
     requires number { row_number day.old ≤ line lines.old + 1 }
     requires none_lost { IsTrue (loses_none day.old) }
     ensures same_source { lines.new.source.ghost_name ≡ lines.old.source.ghost_name }
-    ensures next { WroteNext (P.right planner.now) day.old day.new result (text S.left lines.old)
+    ensures next { WroteNext (right_by (FnReturnsAt F.Fn plan.now)) day.old day.new result (text S.left lines.old)
         (text S.left lines.new) (S.left lines.new.source.now) (K.taken sink.old) (K.taken sink.new) }
     ensures none_lost { IsTrue (loses_none day.new) }
     ensures unfailed { OnOk result (failure lines.new ≡ None) }
@@ -209,7 +224,7 @@ fn write_next<P: Planner, S: Source, K: Sink>(
     ensures sink_counted { K.faults sink.old ≤ K.faults sink.new }
 {
     let mut out = Vec::new(alloc);
-    match do_next(alloc, planner, lines, day, &mut out) {
+    match do_next(alloc, plan, lines, day, &mut out) {
         Ok(Turn::More) => turn_written(put(sink, out.as_slice())),
         Ok(Turn::End) => Ok(Turn::End),
         Err(fault) => Err(fault),
@@ -220,18 +235,22 @@ fn write_next<P: Planner, S: Source, K: Sink>(
 /// of the source is read than what its line takes.
 ///
 /// After a fault the rows before it are done and written; where a write failed, the last of them in part.
-pub(crate) fn run_rows<P: Planner, S: Source, K: Sink>(
+pub(crate) fn run_rows<F, S: Source, K: Sink>(
     alloc: Global,
-    planner: &P,
+    plan: &F,
     lines: &mut LineReader<S>,
     day: &mut Day,
     sink: &mut K,
 ) -> Result<(), RunFault>
+where
+    F: Fn(&Snapshot) -> Result<Planned, AllocError>,
+    requires callable { F.IsAlwaysCallable plan.now }
+    requires sound { PlannerLaw (right_by (FnReturnsAt F.Fn plan.now)) }
     requires unfailed { failure lines.old ≡ None }
     requires number { row_number day.old ≤ line lines.old + 1 }
     requires none_lost { IsTrue (loses_none day.old) }
     ensures same_source { lines.new.source.ghost_name ≡ lines.old.source.ghost_name }
-    ensures ran { Ran (P.right planner.now) day.old day.new result (text S.left lines.old)
+    ensures ran { Ran (right_by (FnReturnsAt F.Fn plan.now)) day.old day.new result (text S.left lines.old)
         (S.left lines.new.source.now) (K.taken sink.old) (K.taken sink.new) }
     ensures none_lost { IsTrue (loses_none day.new) }
     ensures number { OnOk result (row_number day.new ≤ line lines.new + 1) }
@@ -242,7 +261,7 @@ pub(crate) fn run_rows<P: Planner, S: Source, K: Sink>(
     ensures sink_counted { K.faults sink.old ≤ K.faults sink.new }
 {
     'lines: for _ in 0..MOST_LINES {
-        match write_next(alloc, planner, lines, day, sink) {
+        match write_next(alloc, plan, lines, day, sink) {
             Ok(Turn::More) => {}
             Ok(Turn::End) => return Ok(()),
             Err(fault) => return Err(fault),

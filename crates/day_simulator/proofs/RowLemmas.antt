@@ -1,6 +1,9 @@
 -- What a row does: refused for a fault, or accepted.
 use Rattle.std.specs.Prelude.{nat_lt, if◌then◌else◌, ◌^◌, Result, Ok, Err, IfOk, OnOk}
+use Rattle.std.specs.Borrow.{Bor}
+use Rattle.std.specs.Fn.{FnReturnsAt, Shared}
 use Rattle.std.specs.declared.alloc.AllocError.{AllocError}
+use Rattle.day_simulator.specs.declared.planners.Planned.{Planned}
 use Rattle.std.proofs.Common.{length, length-append}
 use Rattle.std.proofs.lemmas.List.{length-map}
 use Rattle.std.proofs.Common.{◌≡◌, ℕ, ◌+◌, ◌<◌, ◌≤◌, Bool, true, false, cond, not, ◌&&◌, eqb, ltb, leb, List, [], ◌∷◌, ◌++◌, refl, sym, ap, ◌∙◌, subst, arith, Option, Some, None}
@@ -27,7 +30,7 @@ use Rattle.day_simulator.specs.declared.days.RowAnswer.TheVariants.{Taken}
 use Rattle.row_text.specs.Records.{row_within}
 use Rattle.day_simulator.specs.Standing.{IsStanding, row_number}
 use Rattle.day_simulator.specs.Texts.{row_text, accepted_text}
-use Rattle.day_simulator.specs.Rows.{IsWorldBrought, next_step, answer_of, DoesRow, IsRowDone, IsRefused}
+use Rattle.day_simulator.specs.Rows.{right_by, stated_of, IsWorldBrought, next_step, answer_of, DoesRow, IsRowDone, IsRefused}
 use Rattle.day_simulator.proofs.NoneLost.{later-calls-known, later-aboard-known, accepted-stands, calls-noted, noted_by}
 
 -- ---- steps
@@ -226,3 +229,8 @@ refused-numbered old fault new before after (Err error) refused = tt
 pub done-numbered : (right : Snapshot → Stated → List ℕ → Type 0) (old : Day) (said : Option Row) (new : Day) (before after : List ℕ) (r : Result RowAnswer AllocError) → IfOk r (IsRowDone right old said new before after) → OnOk r (row_number new ≡ row_number old + 1)
 done-numbered right old said new before after (Ok answer) done = ap row_number done.2.day ∙ step-number old (row_number old) said done.0 (fault_of_row old.world (row_number old) said)
 done-numbered right old said new before after (Err error) done = tt
+
+-- what a planner answered is right by its answers
+pub answered : {F : Type 0} (g : Shared F (Bor Snapshot × Unit {0}) (Result Planned AllocError)) (f : F) (shown : Bor Snapshot) (r : Result Planned AllocError) (planned : Planned) → r ≡ Ok planned → g.post f (shown, tt) r → right_by (FnReturnsAt g f) shown.now (stated_of planned) planned.proof.items
+answered g f shown r planned is met =
+    (planned, record { shown = shown; shows = refl; says = record { met = subst (λ (x : Result Planned AllocError). g.post f (shown, tt) x) is met } }, refl, refl)

@@ -1,6 +1,7 @@
 -- What a row does to a day and to its log, with what a planner answers.
 use Rattle.std.specs.Prelude.{◌≡◌, ℕ, List, [], ◌++◌, Option, None, Some, Result, Ok, Err}
 use Rattle.elevator_model.specs.Snapshot.{Snapshot}
+use Rattle.std.specs.declared.alloc.AllocError.{AllocError}
 use Rattle.search_model.specs.declared.RowFault.{RowFault}
 use Rattle.search_model.specs.declared.Stated.{Stated}
 use Rattle.search_model.specs.declared.Event.{Event}
@@ -15,6 +16,10 @@ use Rattle.day_simulator.specs.Texts.{row_text, refused_text}
 
 abbrev pub stated_of : Planned → Stated
 stated_of planned = record { plan = planned.plan; cost = planned.cost; bound = planned.bound }
+
+-- What is right where a planner answers so: what it answers.
+abbrev pub right_by : (Snapshot → Result Planned AllocError → Type 0) → Snapshot → Stated → (proof : List ℕ) → Type 0
+right_by answers s stated proof = (planned : Planned) × answers s (Ok planned) × (stated_of planned ≡ stated) × (planned.proof.items ≡ proof)
 
 -- what is answered of a row of which the log says this
 abbrev pub answer_of : RowLog → RowAnswer

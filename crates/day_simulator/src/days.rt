@@ -9,11 +9,13 @@ ghost use Rattle.row_text.specs.Records.{row_of_line, row_as_said};
 ghost use Rattle.day_simulator.specs.Logged.{IdsRise, day_call, day_calls};
 ghost use Rattle.day_simulator.specs.Texts.{end_text};
 ghost use Rattle.day_simulator.specs.Standing.{IsEarly, row_number};
-ghost use Rattle.day_simulator.specs.Rows.{IsBrought, IsRowDone, IsRefused};
+ghost use Rattle.std.specs.Fn.{FnReturnsAt};
+ghost use Rattle.day_simulator.specs.Planning.{PlannerLaw};
+ghost use Rattle.day_simulator.specs.Rows.{IsBrought, IsRowDone, IsRefused, right_by};
 
 use crate::lines::{accepted_lines, code_of, put_end, put_refused};
 use crate::logged::{LoggedCall, add_call, delivered_count, note_all, served_by};
-use crate::planners::Planner;
+use crate::planners::Planned;
 use call_state::Snapshot;
 use day_state::{NotTaken, World};
 use row_text::{GoodRow, read_row};
@@ -160,26 +162,28 @@ impl Day {
     }
 
     /// Asks for a plan in this world, which has taken the call of the next row, and goes on with it.
-    fn accept<P: Planner>(
+    fn accept<F: Fn(&Snapshot) -> Result<Planned, AllocError>>(
         &mut self,
         alloc: Global,
-        planner: &P,
+        plan: &F,
         mut world: World,
         row: &GoodRow,
         events: &[Event],
         out: &mut Vec<u8>,
     ) -> Result<RowAnswer, AllocError>
+        requires callable { F.IsAlwaysCallable plan.now }
+        requires sound { PlannerLaw (right_by (FnReturnsAt F.Fn plan.now)) }
         requires number { row_number self.old < 2 ^ 32 }
         requires taken { fault_of_row self.old.world (row_number self.old) (Some (row_as_said row.now)) ≡ None }
         requires world { world.snapshot ≡ (with_call (advanced self.old.world row.now.time)
             (call_of_row (row_number self.old) (row_as_said row.now)) []).snapshot }
         requires events { events.now ≡ events_by self.old.world row.now.time }
-        ensures row { IfOk result (λ answer. IsRowDone (P.right planner.now) self.old
+        ensures row { IfOk result (λ answer. IsRowDone (right_by (FnReturnsAt F.Fn plan.now)) self.old
             (Some (row_as_said row.now)) self.new out.old.items out.new.items answer) }
         ensures as_before { OnErr result (self.new ≡ self.old) }
         ensures log_as_before { OnErr result (out.new.items ≡ out.old.items) }
     {
-        let planned = planner.plan(alloc, world.snapshot())?;
+        let planned = plan(world.snapshot())?;
         let text = accepted_lines(alloc, self.number(), events, world.snapshot(), &planned)?;
         let before = out.len();
         out.extend_from_slice(text.as_slice())?;
@@ -221,43 +225,47 @@ impl Day {
     }
 
     /// Takes or refuses a row whose numbers lie in their ranges.
-    fn good_row<P: Planner>(
+    fn good_row<F: Fn(&Snapshot) -> Result<Planned, AllocError>>(
         &mut self,
         alloc: Global,
-        planner: &P,
+        plan: &F,
         row: &GoodRow,
         out: &mut Vec<u8>,
     ) -> Result<RowAnswer, AllocError>
+        requires callable { F.IsAlwaysCallable plan.now }
+        requires sound { PlannerLaw (right_by (FnReturnsAt F.Fn plan.now)) }
         requires number { row_number self.old < 2 ^ 32 }
         requires good { IsTrue (is_row self.old.world.snapshot.building (row_as_said row.now)) }
-        ensures row { IfOk result (λ answer. IsRowDone (P.right planner.now) self.old
+        ensures row { IfOk result (λ answer. IsRowDone (right_by (FnReturnsAt F.Fn plan.now)) self.old
             (Some (row_as_said row.now)) self.new out.old.items out.new.items answer) }
         ensures as_before { OnErr result (self.new ≡ self.old) }
         ensures log_as_before { OnErr result (out.new.items ≡ out.old.items) }
     {
         let mut events = Vec::new(alloc);
         match self.brought(alloc, row, &mut events)? {
-            Ok(world) => self.accept(alloc, planner, world, row, events.as_slice(), out),
+            Ok(world) => self.accept(alloc, plan, world, row, events.as_slice(), out),
             Err(fault) => self.refuse(fault, out),
         }
     }
 
     /// Takes or refuses the next row.
-    fn any_row<P: Planner>(
+    fn any_row<F: Fn(&Snapshot) -> Result<Planned, AllocError>>(
         &mut self,
         alloc: Global,
-        planner: &P,
+        plan: &F,
         bytes: &[u8],
         out: &mut Vec<u8>,
     ) -> Result<RowAnswer, AllocError>
-        requires { row_number self.old < 2 ^ 32 }
-        ensures row { IfOk result (λ answer. IsRowDone (P.right planner.now) self.old
+        requires callable { F.IsAlwaysCallable plan.now }
+        requires sound { PlannerLaw (right_by (FnReturnsAt F.Fn plan.now)) }
+        requires number { row_number self.old < 2 ^ 32 }
+        ensures row { IfOk result (λ answer. IsRowDone (right_by (FnReturnsAt F.Fn plan.now)) self.old
             (row_of_line bytes.now) self.new out.old.items out.new.items answer) }
         ensures as_before { OnErr result (self.new ≡ self.old) }
         ensures log_as_before { OnErr result (out.new.items ≡ out.old.items) }
     {
         match read_row(alloc, self.world.snapshot().building(), bytes)? {
-            Some(row) => self.good_row(alloc, planner, &row, out),
+            Some(row) => self.good_row(alloc, plan, &row, out),
             None => self.refuse(RowFault::NoRow, out),
         }
     }
@@ -272,22 +280,24 @@ impl Day {
     /// changes nothing but the count of rows.
     ///
     /// It fails only where there is no memory left: then the day and the log are as before.
-    pub fn row<P: Planner>(
+    pub fn row<F: Fn(&Snapshot) -> Result<Planned, AllocError>>(
         &mut self,
         alloc: Global,
-        planner: &P,
+        plan: &F,
         bytes: &[u8],
         out: &mut Vec<u8>,
     ) -> Result<RowAnswer, AllocError>
-        requires { row_number self.old < 2 ^ 32 }
-        ensures row { IfOk result (λ answer. IsRowDone (P.right planner.now) self.old
+        requires callable { F.IsAlwaysCallable plan.now }
+        requires sound { PlannerLaw (right_by (FnReturnsAt F.Fn plan.now)) }
+        requires number { row_number self.old < 2 ^ 32 }
+        ensures row { IfOk result (λ answer. IsRowDone (right_by (FnReturnsAt F.Fn plan.now)) self.old
             (row_of_line bytes.now) self.new out.old.items out.new.items answer) }
         ensures none_lost { IsTrue (loses_none self.new) }
         ensures number { OnOk result (row_number self.new ≡ row_number self.old + 1) }
         ensures as_before { OnErr result (self.new ≡ self.old) }
         ensures log_as_before { OnErr result (out.new.items ≡ out.old.items) }
     {
-        let answer = self.any_row(alloc, planner, bytes, out);
+        let answer = self.any_row(alloc, plan, bytes, out);
         // A reader tells that no call is lost.
         let _unsolved = self.unsolved();
         answer

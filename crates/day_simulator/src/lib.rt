@@ -12,5 +12,5 @@ mod planners;
 pub use call_state::Snapshot;
 pub use days::{Day, RowAnswer};
 pub use elevator_model::Plan;
-pub use planners::{Planned, Planner};
+pub use planners::Planned;
 pub use search_model::Served;

@@ -1,3 +1,5 @@
+use Rattle.std.specs.Fn.{FnReturnsAt}
+use Rattle.day_simulator.specs.Rows.{right_by}
 use Rattle.std.proofs.Common.{◌≤◌, subst, ℕ}
 use Rattle.lift_text.specs.LineReader.{text, line}
 use Rattle.day_runner.proofs.DayLemmas.{day-ended, few-answer, day-stopped, day-unmade, day-unopened}
@@ -8,14 +10,14 @@ returns-in-Err-clause-ran g c =
     let left = g.S.Source.left in
     let taken = g.K.Sink.taken in
     let lines = c.args.lines.now in
-    day-unopened (g.P.Planner.right c.args.planner.now) c.args.opening c.in-Err.fault (text left lines) (left lines.source.now) (taken c.args.sink.now) (taken c.put.new.sink) c.in-Err.ensures.write c.in-Err.ensures.front_taken
+    day-unopened (right_by (FnReturnsAt g.F.Fn c.args.plan.now)) c.args.opening c.in-Err.fault (text left lines) (left lines.source.now) (taken c.args.sink.now) (taken c.put.new.sink) c.in-Err.ensures.write c.in-Err.ensures.front_taken
 
 pub returns-in_default-clause-ran : goal.returns-in_default-clause-ran
 returns-in_default-clause-ran g c =
     let left = g.S.Source.left in
     let taken = g.K.Sink.taken in
     let lines = c.args.lines.now in
-    day-unmade (g.P.Planner.right c.args.planner.now) c.args.opening (text left lines) (left lines.source.now) (taken c.args.sink.now) (taken c.put.new.sink) c.in-Ok.ensures.ok
+    day-unmade (right_by (FnReturnsAt g.F.Fn c.args.plan.now)) c.args.opening (text left lines) (left lines.source.now) (taken c.args.sink.now) (taken c.put.new.sink) c.in-Ok.ensures.ok
 
 pub returns-in-Ok-run_rows-clause-ran : goal.returns-in-Ok-run_rows-clause-ran
 returns-in-Ok-run_rows-clause-ran g c =
@@ -23,7 +25,7 @@ returns-in-Ok-run_rows-clause-ran g c =
     let taken = g.K.Sink.taken in
     let ran = c.in-Ok-run_rows.ensures in
     let new = c.run_rows.new in
-    day-ended (g.P.Planner.right c.args.planner.now) c.args.opening c.in-Ok-new.day new.day c.in-Ok-run_rows.field-0 c.end_day.result (text left c.args.lines.now) (left new.lines.source.now)
+    day-ended (right_by (FnReturnsAt g.F.Fn c.args.plan.now)) c.args.opening c.in-Ok-new.day new.day c.in-Ok-run_rows.field-0 c.end_day.result (text left c.args.lines.now) (left new.lines.source.now)
     (taken c.args.sink.now) (taken c.put.new.sink) (taken new.sink) (taken c.end_day.new.sink) c.in-Ok-new.ensures c.in-Ok.ensures.ok ran.none_lost ran.ran c.end_day.ensures.ended
 
 pub returns-in-Err-run_rows-clause-ran : goal.returns-in-Err-run_rows-clause-ran
@@ -32,7 +34,7 @@ returns-in-Err-run_rows-clause-ran g c =
     let taken = g.K.Sink.taken in
     let ran = c.in-Err-run_rows.ensures in
     let new = c.run_rows.new in
-    day-stopped (g.P.Planner.right c.args.planner.now) c.args.opening c.in-Ok-new.day new.day c.in-Err-run_rows.fault (text left c.args.lines.now) (left new.lines.source.now)
+    day-stopped (right_by (FnReturnsAt g.F.Fn c.args.plan.now)) c.args.opening c.in-Ok-new.day new.day c.in-Err-run_rows.fault (text left c.args.lines.now) (left new.lines.source.now)
     (taken c.args.sink.now) (taken c.put.new.sink) (taken new.sink) c.in-Ok-new.ensures c.in-Ok.ensures.ok ran.none_lost ran.ran
 
 pub returns-in-Ok-run_rows-clause-few : goal.returns-in-Ok-run_rows-clause-few

@@ -1,3 +1,5 @@
+use Rattle.std.specs.Fn.{FnReturnsAt}
+use Rattle.day_simulator.specs.Rows.{right_by}
 use Rattle.std.proofs.Common.{Err, ap}
 use Rattle.lift_text.specs.LineReader.{text}
 use Rattle.day_runner.proofs.InputLemmas.{opening-taken, rows-end, small-report}
@@ -27,7 +29,7 @@ pub returns-in-Err-run_day-clause-ends : goal.returns-in-Err-run_day-clause-ends
 returns-in-Err-run_day-clause-ends g c =
     let left = g.S.Source.left in
     let taken = g.K.Sink.taken in
-    rows-end (g.P.Planner.right c.args.planner.now) c.in-Ok.opening c.in-Err-run_day.fault (text left c.args.lines.now) (text left c.read_day_opening.new.lines) (left c.run_day.new.lines.source.now) (taken c.args.sink.now) (taken c.run_day.new.sink) c.in-Ok.ensures.takes c.in-Err-run_day.ensures.ran
+    rows-end (right_by (FnReturnsAt g.F.Fn c.args.plan.now)) c.in-Ok.opening c.in-Err-run_day.fault (text left c.args.lines.now) (text left c.read_day_opening.new.lines) (left c.run_day.new.lines.source.now) (taken c.args.sink.now) (taken c.run_day.new.sink) c.in-Ok.ensures.takes c.in-Err-run_day.ensures.ran
 
 pub returns-in-Err-run_day-clause-read : goal.returns-in-Err-run_day-clause-read
 returns-in-Err-run_day-clause-read g c = λ e. rose-before _ _ _ c.in-Ok.ensures.counted (c.in-Err-run_day.ensures.read (ap Err e))

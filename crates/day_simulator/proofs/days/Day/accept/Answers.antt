@@ -1,35 +1,39 @@
+use Rattle.std.specs.Fn.{FnReturnsAt}
 use Rattle.std.proofs.Common.{◌++◌, List, sym, subst, ap, ◌∙◌, ℕ}
 use Rattle.elevator_model.specs.Snapshot.{Snapshot}
 use Rattle.elevator_model.specs.Plans.{IsFeasiblePlan}
 use Rattle.search_model.specs.Advancing.{World}
 use Rattle.row_text.specs.Records.{row_as_said}
-use Rattle.day_simulator.specs.Rows.{stated_of}
-use Rattle.day_simulator.proofs.RowLemmas.{taken-row}
+use Rattle.day_simulator.specs.Rows.{stated_of, right_by}
+use Rattle.day_simulator.proofs.RowLemmas.{answered, taken-row}
 use Rattle.day_simulator.proofs.days.Day.accept.Goals as goal
 
 pub accepted_lines-requires : goal.accepted_lines-requires
 accepted_lines-requires g c =
     let planned = c.in_ok-planned.planned in
-    let right_plan = g.met.P.Planner.sound c.args.planner.now c.snapshot.result.now (stated_of planned) planned.proof.items c.in_ok-planned.ensures in
+    let told = answered g.F.Fn c.args.plan.now c.snapshot.result c.plan.result planned c.in_ok-planned.was c.plan.ensures in
+    let right_plan = c.requires.sound c.snapshot.result.now (stated_of planned) planned.proof.items told in
     subst (λ (s : Snapshot). IsFeasiblePlan s planned.plan) (c.snapshot.ensures.value ∙ sym c.snapshot-2.ensures.value) right_plan.feasible
 
 pub set_plan-requires : goal.set_plan-requires
 set_plan-requires g c =
     let planned = c.in_ok-planned.planned in
-    let right_plan = g.met.P.Planner.sound c.args.planner.now c.snapshot.result.now (stated_of planned) planned.proof.items c.in_ok-planned.ensures in
+    let told = answered g.F.Fn c.args.plan.now c.snapshot.result c.plan.result planned c.in_ok-planned.was c.plan.ensures in
+    let right_plan = c.requires.sound c.snapshot.result.now (stated_of planned) planned.proof.items told in
     subst (λ (s : Snapshot). IsFeasiblePlan s planned.plan) c.snapshot.ensures.value right_plan.feasible
 
 pub take-requires-clause-feasible : goal.take-requires-clause-feasible
 take-requires-clause-feasible g c =
     let planned = c.in_ok-planned.planned in
-    let right_plan = g.met.P.Planner.sound c.args.planner.now c.snapshot.result.now (stated_of planned) planned.proof.items c.in_ok-planned.ensures in
+    let told = answered g.F.Fn c.args.plan.now c.snapshot.result c.plan.result planned c.in_ok-planned.was c.plan.ensures in
+    let right_plan = c.requires.sound c.snapshot.result.now (stated_of planned) planned.proof.items told in
     subst (λ (w : World). IsFeasiblePlan w.snapshot w.plan) (sym c.set_plan.ensures) (subst (λ (s : Snapshot). IsFeasiblePlan s planned.plan) c.snapshot.ensures.value right_plan.feasible)
 
 pub returns-in-Ok-clause-row : goal.returns-in-Ok-clause-row
 returns-in-Ok-clause-row g c =
     let planned = c.in_ok-planned.planned in
     let there = c.snapshot.ensures.value ∙ sym c.snapshot-2.ensures.value in
-    taken-row (g.P.Planner.right c.args.planner.now) c.args.self.now (row_as_said c.args.row.now) c.take.new.self c.args.out.now.items c.extend_from_slice.new.self.items c.in_ok-text.text.items c.snapshot-2.result.now c.number.result c.args.events.now
+    taken-row (right_by (FnReturnsAt g.F.Fn c.args.plan.now)) c.args.self.now (row_as_said c.args.row.now) c.take.new.self c.args.out.now.items c.extend_from_slice.new.self.items c.in_ok-text.text.items c.snapshot-2.result.now c.number.result c.args.events.now
     c.set_plan.new.self.plan (stated_of planned) planned.proof.items c.requires.taken c.in-Ok.ensures.taken (ap (λ (w : World). w.plan) c.set_plan.ensures) (c.snapshot-2.ensures.value ∙ c.requires.world) c.number.ensures c.requires.events c.in_ok-text.ensures
     (c.in_ok-extend_from_slice.ensures.items ∙ ap (λ (xs : List ℕ). c.args.out.now.items ++ xs) c.as_slice.ensures.value)
-    (subst (λ (s : Snapshot). g.P.Planner.right c.args.planner.now s (stated_of planned) planned.proof.items) there c.in_ok-planned.ensures)
+    (subst (λ (s : Snapshot). right_by (FnReturnsAt g.F.Fn c.args.plan.now) s (stated_of planned) planned.proof.items) there (answered g.F.Fn c.args.plan.now c.snapshot.result c.plan.result planned c.in_ok-planned.was c.plan.ensures))
