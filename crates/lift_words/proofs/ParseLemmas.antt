@@ -9,18 +9,22 @@ use Rattle.clap.specs.declared.error.kind.ErrorKind.TheVariants.{OutOfMemory}
 use Rattle.clap.proofs.OnLiterals.{clap_on_literals}
 use Rattle.lift_words.specs.Table.{app}
 use Rattle.lift_words.specs.declared.table.CommandWord.{CommandWord}
-use Rattle.lift_words.specs.declared.table.CommandWord.TheVariants.{Solve, Check, Make}
+use Rattle.lift_words.specs.declared.table.CommandWord.TheVariants.{Solve, Check, Day, Report, Make}
 
 pub simple_and_free : (command : CommandWord) → is_simple_and_free (app command) ≡ true
 unfolding clap_on_literals
 simple_and_free Solve = refl
 simple_and_free Check = refl
+simple_and_free Day = refl
+simple_and_free Report = refl
 simple_and_free Make = refl
 
 pub simple : (command : CommandWord) → is_simple (app command) ≡ true
 unfolding clap_on_literals
 simple Solve = refl
 simple Check = refl
+simple Day = refl
+simple Report = refl
 simple Make = refl
 
 module _ (built : App) (command : CommandWord) (words : List Text) (is : built ≡ app command) where

@@ -10,13 +10,14 @@ use Rattle.clap.specs.Simple.{matches_of}
 use Rattle.clap.specs.Takes.{takes}
 use Rattle.lift_words.specs.Table.{app, command_of, word_of}
 use Rattle.lift_words.specs.Repeats.{IsRepeated}
-use Rattle.lift_words.specs.Taken.{AreTaken, Asks, AsksBy, AsksForBrief, AsksForSizes, AsksToCheck, AsksToRun, AsksToSolve, IsSecond, command_asked}
+use Rattle.lift_words.specs.Taken.{AreTaken, Asks, AsksBy, AsksForBrief, AsksForDay, AsksForSizes, AsksToCheck, AsksToRun, AsksToSolve, IsSecond, command_asked}
 use Rattle.lift_words.specs.declared.table.CommandWord.{CommandWord}
 use Rattle.lift_words.specs.declared.table.CommandWord.TheVariants as command
 use Rattle.lift_words.specs.declared.request.Request.{Request}
-use Rattle.lift_words.specs.declared.request.Request.TheVariants.{Solve, Check, Make, Run}
+use Rattle.lift_words.specs.declared.request.Request.TheVariants.{Solve, Check, Day, Report, Make, Run}
 use Rattle.lift_words.specs.declared.request.SolveOptions.{SolveOptions}
 use Rattle.lift_words.specs.declared.request.CheckOptions.{CheckOptions}
+use Rattle.lift_words.specs.declared.request.DayOptions.{DayOptions}
 use Rattle.lift_words.specs.declared.request.CaseSizes.{CaseSizes}
 use Rattle.lift_words.specs.declared.request.RunOptions.{RunOptions}
 
@@ -39,17 +40,39 @@ only e = cc
 pub named_word : (word : Text) (named : CommandWord) → command_of word ≡ Some named → word ≡ word_of named
 named_word word named is = by_solve (bytes_eq word (codes "solve")) refl is
   where
+    names : (command : CommandWord) → bytes_eq word (word_of command) ≡ true → Some command ≡ Some named → word ≡ word_of named
+    names command e same = (bytes_eq-Decides word (word_of command)).0 e ∙ ap word_of (only same)
+
+    from_make : Option CommandWord
+    from_make = cond (bytes_eq word (codes "make")) (Some command.Make) None
+
+    from_report : Option CommandWord
+    from_report = cond (bytes_eq word (codes "report")) (Some command.Report) from_make
+
+    from_day : Option CommandWord
+    from_day = cond (bytes_eq word (codes "day")) (Some command.Day) from_report
+
+    from_check : Option CommandWord
+    from_check = cond (bytes_eq word (codes "check")) (Some command.Check) from_day
+
     by_make : (b : Bool) → bytes_eq word (codes "make") ≡ b → cond b (Some command.Make) None ≡ Some named → word ≡ word_of named
-    by_make true e same = (bytes_eq-Decides word (codes "make")).0 e ∙ ap word_of (only same)
+    by_make true e same = names command.Make e same
     by_make false e same = absurd cc
 
-    by_check : (b : Bool) → bytes_eq word (codes "check") ≡ b → cond b (Some command.Check) (cond (bytes_eq word (codes "make")) (Some command.Make) None) ≡ Some named → word ≡ word_of named
-    by_check true e same = (bytes_eq-Decides word (codes "check")).0 e ∙ ap word_of (only same)
-    by_check false e same = by_make (bytes_eq word (codes "make")) refl same
+    by_report : (b : Bool) → bytes_eq word (codes "report") ≡ b → cond b (Some command.Report) from_make ≡ Some named → word ≡ word_of named
+    by_report true e same = names command.Report e same
+    by_report false e same = by_make (bytes_eq word (codes "make")) refl same
 
-    by_solve : (b : Bool) → bytes_eq word (codes "solve") ≡ b
-        → cond b (Some command.Solve) (cond (bytes_eq word (codes "check")) (Some command.Check) (cond (bytes_eq word (codes "make")) (Some command.Make) None)) ≡ Some named → word ≡ word_of named
-    by_solve true e same = (bytes_eq-Decides word (codes "solve")).0 e ∙ ap word_of (only same)
+    by_day : (b : Bool) → bytes_eq word (codes "day") ≡ b → cond b (Some command.Day) from_report ≡ Some named → word ≡ word_of named
+    by_day true e same = names command.Day e same
+    by_day false e same = by_report (bytes_eq word (codes "report")) refl same
+
+    by_check : (b : Bool) → bytes_eq word (codes "check") ≡ b → cond b (Some command.Check) from_day ≡ Some named → word ≡ word_of named
+    by_check true e same = names command.Check e same
+    by_check false e same = by_day (bytes_eq word (codes "day")) refl same
+
+    by_solve : (b : Bool) → bytes_eq word (codes "solve") ≡ b → cond b (Some command.Solve) from_check ≡ Some named → word ≡ word_of named
+    by_solve true e same = names command.Solve e same
     by_solve false e same = by_check (bytes_eq word (codes "check")) refl same
 
 pub known : (words : List Text) (word : Text) (found : Option CommandWord) → slice_get words 1 ≡ Some word → found ≡ command_of word → IfSome found (IsSecond words)
@@ -59,6 +82,8 @@ known words word (Some named) second is = second ∙ ap Some (named_word word na
 word_names : (named : CommandWord) → command_of (word_of named) ≡ Some named
 word_names command.Solve = refl
 word_names command.Check = refl
+word_names command.Day = refl
+word_names command.Report = refl
 word_names command.Make = refl
 
 -- ---- what is asked
@@ -83,6 +108,13 @@ asks_to_check_one rows a b x y =
     let workers = only (sym x ∙ y) in
     λ i. record { workers = workers i }
 
+asks_for_day_one : (rows : List Row) (a b : DayOptions) → AsksForDay rows a → AsksForDay rows b → a ≡ b
+asks_for_day_one rows a b x y =
+    let rounds = only (sym x.rounds ∙ y.rounds) in
+    let moves = only (sym x.moves ∙ y.moves) in
+    let workers = only (sym x.workers ∙ y.workers) in
+    λ i. record { rounds = rounds i; moves = moves i; workers = workers i }
+
 asks_for_sizes_one : (rows : List Row) (a b : CaseSizes) → AsksForSizes rows a → AsksForSizes rows b → a ≡ b
 asks_for_sizes_one rows a b x y =
     let number = only (sym x.number ∙ y.number) in
@@ -98,23 +130,47 @@ asks_to_run_one rows a b x y =
     let moves = only (sym x.moves ∙ y.moves) in
     λ i. record { sizes = sizes i; rounds = rounds i; moves = moves i }
 
+-- rows ask for one request of a command
+asks_of_one : (rows : List Row) (a b : Request) → command_asked a ≡ command_asked b → Asks rows a → Asks rows b → a ≡ b
+asks_of_one rows (Solve a) (Solve b) same x y = ap Solve (asks_to_solve_one rows a b x y)
+asks_of_one rows (Solve a) (Check b) same x y = absurd cc
+asks_of_one rows (Solve a) (Day b) same x y = absurd cc
+asks_of_one rows (Solve a) (Report b) same x y = absurd cc
+asks_of_one rows (Solve a) (Make b) same x y = absurd cc
+asks_of_one rows (Solve a) (Run b) same x y = absurd cc
+asks_of_one rows (Check a) (Solve b) same x y = absurd cc
+asks_of_one rows (Check a) (Check b) same x y = ap Check (asks_to_check_one rows a b x y)
+asks_of_one rows (Check a) (Day b) same x y = absurd cc
+asks_of_one rows (Check a) (Report b) same x y = absurd cc
+asks_of_one rows (Check a) (Make b) same x y = absurd cc
+asks_of_one rows (Check a) (Run b) same x y = absurd cc
+asks_of_one rows (Day a) (Solve b) same x y = absurd cc
+asks_of_one rows (Day a) (Check b) same x y = absurd cc
+asks_of_one rows (Day a) (Day b) same x y = ap Day (asks_for_day_one rows a b x y)
+asks_of_one rows (Day a) (Report b) same x y = absurd cc
+asks_of_one rows (Day a) (Make b) same x y = absurd cc
+asks_of_one rows (Day a) (Run b) same x y = absurd cc
+asks_of_one rows (Report a) (Solve b) same x y = absurd cc
+asks_of_one rows (Report a) (Check b) same x y = absurd cc
+asks_of_one rows (Report a) (Day b) same x y = absurd cc
+asks_of_one rows (Report a) (Report b) same x y = ap Report (asks_for_day_one rows a b x y)
+asks_of_one rows (Report a) (Make b) same x y = absurd cc
+asks_of_one rows (Report a) (Run b) same x y = absurd cc
+asks_of_one rows (Make a) (Solve b) same x y = absurd cc
+asks_of_one rows (Make a) (Check b) same x y = absurd cc
+asks_of_one rows (Make a) (Day b) same x y = absurd cc
+asks_of_one rows (Make a) (Report b) same x y = absurd cc
+asks_of_one rows (Make a) (Make b) same x y = ap Make (asks_for_sizes_one rows a b x.case y.case)
+asks_of_one rows (Make a) (Run b) same x y = absurd (x.no_run y.run)
+asks_of_one rows (Run a) (Solve b) same x y = absurd cc
+asks_of_one rows (Run a) (Check b) same x y = absurd cc
+asks_of_one rows (Run a) (Day b) same x y = absurd cc
+asks_of_one rows (Run a) (Report b) same x y = absurd cc
+asks_of_one rows (Run a) (Make b) same x y = absurd (y.no_run x.run)
+asks_of_one rows (Run a) (Run b) same x y = ap Run (asks_to_run_one rows a b x y)
+
 pub asks_one : (named : CommandWord) (rows : List Row) (a b : Request) → AsksBy named rows a → AsksBy named rows b → a ≡ b
-asks_one named rows (Solve a) (Solve b) x y = ap Solve (asks_to_solve_one rows a b x.1 y.1)
-asks_one named rows (Check a) (Check b) x y = ap Check (asks_to_check_one rows a b x.1 y.1)
-asks_one named rows (Check a) (Solve b) x y = let same : command.Check ≡ command.Solve = x.0 ∙ sym y.0 in absurd cc
-asks_one named rows (Solve a) (Check b) x y = let same : command.Solve ≡ command.Check = x.0 ∙ sym y.0 in absurd cc
-asks_one named rows (Check a) (Make b) x y = let same : command.Check ≡ command.Make = x.0 ∙ sym y.0 in absurd cc
-asks_one named rows (Make a) (Check b) x y = let same : command.Make ≡ command.Check = x.0 ∙ sym y.0 in absurd cc
-asks_one named rows (Check a) (Run b) x y = let same : command.Check ≡ command.Make = x.0 ∙ sym y.0 in absurd cc
-asks_one named rows (Run a) (Check b) x y = let same : command.Make ≡ command.Check = x.0 ∙ sym y.0 in absurd cc
-asks_one named rows (Make a) (Make b) x y = ap Make (asks_for_sizes_one rows a b x.1.case y.1.case)
-asks_one named rows (Run a) (Run b) x y = ap Run (asks_to_run_one rows a b x.1 y.1)
-asks_one named rows (Make a) (Run b) x y = absurd (x.1.no_run y.1.run)
-asks_one named rows (Run a) (Make b) x y = absurd (y.1.no_run x.1.run)
-asks_one named rows (Solve a) (Run b) x y = let same : command.Solve ≡ command.Make = x.0 ∙ sym y.0 in absurd cc
-asks_one named rows (Run a) (Solve b) x y = let same : command.Make ≡ command.Solve = x.0 ∙ sym y.0 in absurd cc
-asks_one named rows (Solve a) (Make b) x y = let same : command.Solve ≡ command.Make = x.0 ∙ sym y.0 in absurd cc
-asks_one named rows (Make a) (Solve b) x y = let same : command.Make ≡ command.Solve = x.0 ∙ sym y.0 in absurd cc
+asks_one named rows a b x y = asks_of_one rows a b (x.0 ∙ sym y.0) x.1 y.1
 
 -- ---- the words that are taken
 

@@ -20,7 +20,7 @@ use Rattle.clap.proofs.OnLiterals.{clap_on_literals}
 use Rattle.lift_words.specs.Table.{app}
 use Rattle.lift_words.proofs.ParseLemmas.{simple}
 use Rattle.lift_words.specs.declared.table.CommandWord.{CommandWord}
-use Rattle.lift_words.specs.declared.table.CommandWord.TheVariants.{Solve, Check, Make}
+use Rattle.lift_words.specs.declared.table.CommandWord.TheVariants.{Solve, Check, Day, Report, Make}
 use Rattle.clap.specs.declared.builder.action.ArgAction.{ArgAction}
 use Rattle.clap.specs.declared.builder.action.ArgAction.TheVariants as action
 use Rattle.clap.specs.declared.builder.value_parser.ValueParser.{ValueParser}
@@ -293,18 +293,24 @@ leaf_takes a words none passes =
 no_subcommand : (command : CommandWord) → (built (app command)).subs ≡ []
 no_subcommand Solve = refl
 no_subcommand Check = refl
+no_subcommand Day = refl
+no_subcommand Report = refl
 no_subcommand Make = refl
 
 defaults_pass : (command : CommandWord) → list_all default_passes (built (app command)).top.rules ≡ true
 unfolding clap_on_literals
 defaults_pass Solve = refl
 defaults_pass Check = refl
+defaults_pass Day = refl
+defaults_pass Report = refl
 defaults_pass Make = refl
 
 is_free : (command : CommandWord) → list_all (λ a. a.is_free) (built (app command)).top.rules ≡ true
 unfolding clap_on_literals
 is_free Solve = refl
 is_free Check = refl
+is_free Day = refl
+is_free Report = refl
 is_free Make = refl
 
 -- where `clap` finds no fault in the words of a command, it takes them

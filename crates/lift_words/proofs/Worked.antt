@@ -7,7 +7,7 @@ use Rattle.clap.specs.Walk.{Text}
 use Rattle.lift_words.specs.Repeats.{IsRepeated, Repeats}
 use Rattle.lift_words.specs.Taken.{AreTaken}
 use Rattle.lift_words.specs.declared.request.Request.{Request}
-use Rattle.lift_words.specs.declared.request.Request.TheVariants.{Solve, Check, Make, Run}
+use Rattle.lift_words.specs.declared.request.Request.TheVariants.{Solve, Check, Day, Report, Make, Run}
 
 -- one word alone repeats none
 alone : (word : Text) → IsRepeated (word ∷ []) → ⊥
@@ -104,10 +104,40 @@ check_with_three = record {
     only (zero, lt, same) = absurd cc
     only (suc k, lt, same) = absurd (omega arith)
 
+pub day_of_five_rounds : AreTaken (codes "lift" ∷ codes "day" ∷ codes "--rounds=5" ∷ []) (Day (record { rounds = 5; moves = 75000; workers = 1 }))
+unfolding clap_on_literals
+day_of_five_rounds = record {
+  command = refl;
+  unrepeated = alone (codes "--rounds=5");
+  no_dashes = only;
+  accepted = refl;
+  asks = record { rounds = refl; moves = refl; workers = refl };
+}
+  where
+    only : Contains (codes "--rounds=5" ∷ []) (codes "--") → ⊥
+    only (zero, lt, same) = absurd cc
+    only (suc k, lt, same) = absurd (omega arith)
+
+pub report_with_three : AreTaken (codes "lift" ∷ codes "report" ∷ codes "--workers=3" ∷ []) (Report (record { rounds = 2000; moves = 75000; workers = 3 }))
+unfolding clap_on_literals
+report_with_three = record {
+  command = refl;
+  unrepeated = alone (codes "--workers=3");
+  no_dashes = only;
+  accepted = refl;
+  asks = record { rounds = refl; moves = refl; workers = refl };
+}
+  where
+    only : Contains (codes "--workers=3" ∷ []) (codes "--") → ⊥
+    only (zero, lt, same) = absurd cc
+    only (suc k, lt, same) = absurd (omega arith)
+
 pub check_of_rounds : (request : Request) → AreTaken (codes "lift" ∷ codes "check" ∷ codes "--rounds=5" ∷ []) request → ⊥
 unfolding clap_on_literals
 check_of_rounds (Check options) t = let refused = t.accepted in absurd cc
 check_of_rounds (Solve options) t = let bytes : 99 ≡ 115 = ap first_byte t.command in absurd (omega (arith, bytes))
+check_of_rounds (Day options) t = let other = t.command in absurd cc
+check_of_rounds (Report options) t = let other = t.command in absurd cc
 check_of_rounds (Make sizes) t = let other = t.command in absurd cc
 check_of_rounds (Run options) t = let other = t.command in absurd cc
 
@@ -115,19 +145,43 @@ pub no_rounds : (request : Request) → AreTaken (codes "lift" ∷ codes "solve"
 unfolding clap_on_literals
 no_rounds (Solve options) t = let none = t.asks.rounds in absurd cc
 no_rounds (Check options) t = let bytes : 115 ≡ 99 = ap first_byte t.command in absurd (omega (arith, bytes))
+no_rounds (Day options) t = let other = t.command in absurd cc
+no_rounds (Report options) t = let other = t.command in absurd cc
 no_rounds (Make sizes) t = let other = t.command in absurd cc
 no_rounds (Run options) t = let other = t.command in absurd cc
 
 pub shortened : (request : Request) → AreTaken (codes "lift" ∷ codes "make" ∷ codes "--floor" ∷ codes "4" ∷ []) request → ⊥
 unfolding clap_on_literals
 shortened (Check options) t = let other = t.command in absurd cc
+shortened (Day options) t = let other = t.command in absurd cc
+shortened (Report options) t = let other = t.command in absurd cc
 shortened (Make sizes) t = let refused = t.accepted in absurd cc
 shortened (Solve options) t = let other = t.command in absurd cc
 shortened (Run options) t = let refused = t.accepted in absurd cc
 
+pub brief_day : (request : Request) → AreTaken (codes "lift" ∷ codes "day" ∷ codes "--brief" ∷ []) request → ⊥
+unfolding clap_on_literals
+brief_day (Solve options) t = let other = t.command in absurd cc
+brief_day (Check options) t = let other = t.command in absurd cc
+brief_day (Day options) t = let refused = t.accepted in absurd cc
+brief_day (Report options) t = let other = t.command in absurd cc
+brief_day (Make sizes) t = let other = t.command in absurd cc
+brief_day (Run options) t = let other = t.command in absurd cc
+
+pub report_by_many : (request : Request) → AreTaken (codes "lift" ∷ codes "report" ∷ codes "--workers=17" ∷ []) request → ⊥
+unfolding clap_on_literals
+report_by_many (Solve options) t = let other = t.command in absurd cc
+report_by_many (Check options) t = let other = t.command in absurd cc
+report_by_many (Day options) t = let other = t.command in absurd cc
+report_by_many (Report options) t = let none = t.asks.workers in absurd cc
+report_by_many (Make sizes) t = let other = t.command in absurd cc
+report_by_many (Run options) t = let other = t.command in absurd cc
+
 pub run_of_no_rounds : (request : Request) → AreTaken (codes "lift" ∷ codes "make" ∷ codes "--rounds" ∷ codes "0" ∷ []) request → ⊥
 unfolding clap_on_literals
 run_of_no_rounds (Check options) t = let other = t.command in absurd cc
+run_of_no_rounds (Day options) t = let other = t.command in absurd cc
+run_of_no_rounds (Report options) t = let other = t.command in absurd cc
 run_of_no_rounds (Make sizes) t = let none = t.asks.rounds in absurd cc
 run_of_no_rounds (Solve options) t = let other = t.command in absurd cc
 run_of_no_rounds (Run options) t = let none = t.asks.rounds in absurd cc
@@ -135,6 +189,8 @@ run_of_no_rounds (Run options) t = let none = t.asks.rounds in absurd cc
 pub run_with_value : (request : Request) → AreTaken (codes "lift" ∷ codes "make" ∷ codes "--run=1" ∷ []) request → ⊥
 unfolding clap_on_literals
 run_with_value (Check options) t = let other = t.command in absurd cc
+run_with_value (Day options) t = let other = t.command in absurd cc
+run_with_value (Report options) t = let other = t.command in absurd cc
 run_with_value (Make sizes) t = let refused = t.accepted in absurd cc
 run_with_value (Solve options) t = let other = t.command in absurd cc
 run_with_value (Run options) t = let refused = t.accepted in absurd cc

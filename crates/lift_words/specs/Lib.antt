@@ -1,3 +1,4 @@
 pub mod Table
 pub mod Repeats
 pub mod Taken
+pub mod Faults

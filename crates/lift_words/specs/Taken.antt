@@ -12,9 +12,10 @@ use Rattle.lift_words.specs.declared.table.CommandWord.TheVariants as command
 use Rattle.lift_words.specs.declared.table.NumberOption.{NumberOption}
 use Rattle.lift_words.specs.declared.table.NumberOption.TheVariants.{Rounds, Moves, Workers, Number, Floors, Cars, Calls}
 use Rattle.lift_words.specs.declared.request.Request.{Request}
-use Rattle.lift_words.specs.declared.request.Request.TheVariants.{Solve, Check, Make, Run}
+use Rattle.lift_words.specs.declared.request.Request.TheVariants.{Solve, Check, Day, Report, Make, Run}
 use Rattle.lift_words.specs.declared.request.SolveOptions.{SolveOptions}
 use Rattle.lift_words.specs.declared.request.CheckOptions.{CheckOptions}
+use Rattle.lift_words.specs.declared.request.DayOptions.{DayOptions}
 use Rattle.lift_words.specs.declared.request.CaseSizes.{CaseSizes}
 use Rattle.lift_words.specs.declared.request.RunOptions.{RunOptions}
 
@@ -47,6 +48,12 @@ pub record AsksToSolve (rows : List Row) (options : SolveOptions) : Type 0 where
 abbrev pub AsksToCheck : List Row → CheckOptions → Type 0
 AsksToCheck rows options = number_of rows Workers ≡ Some options.workers
 
+-- by the words of `day` or of `report`
+pub record AsksForDay (rows : List Row) (options : DayOptions) : Type 0 where
+  pub rounds : number_of rows Rounds ≡ Some options.rounds
+  pub moves : number_of rows Moves ≡ Some options.moves
+  pub workers : number_of rows Workers ≡ Some options.workers
+
 pub record AsksForSizes (rows : List Row) (sizes : CaseSizes) : Type 0 where
   pub number : number_of rows Number ≡ Some sizes.number
   pub floors : number_of rows Floors ≡ Some sizes.floors
@@ -73,12 +80,16 @@ pub record AsksToRun (rows : List Row) (options : RunOptions) : Type 0 where
 abbrev pub command_asked : Request → CommandWord
 command_asked (Solve options) = command.Solve
 command_asked (Check options) = command.Check
+command_asked (Day options) = command.Day
+command_asked (Report options) = command.Report
 command_asked (Make sizes) = command.Make
 command_asked (Run options) = command.Make
 
 abbrev pub Asks : List Row → Request → Type 0
 Asks rows (Solve options) = AsksToSolve rows options
 Asks rows (Check options) = AsksToCheck rows options
+Asks rows (Day options) = AsksForDay rows options
+Asks rows (Report options) = AsksForDay rows options
 Asks rows (Make sizes) = AsksToMake rows sizes
 Asks rows (Run options) = AsksToRun rows options
 
@@ -121,6 +132,11 @@ pub record AreSolveOptions (options : SolveOptions) : Type 0 where
 pub record AreCheckOptions (options : CheckOptions) : Type 0 where
   pub workers : IsInRange Workers options.workers
 
+pub record AreDayOptions (options : DayOptions) : Type 0 where
+  pub rounds : IsInRange Rounds options.rounds
+  pub moves : IsInRange Moves options.moves
+  pub workers : IsInRange Workers options.workers
+
 pub record AreCaseSizes (sizes : CaseSizes) : Type 0 where
   pub number : IsInRange Number sizes.number
   pub floors : IsInRange Floors sizes.floors
@@ -135,5 +151,7 @@ pub record AreRunOptions (options : RunOptions) : Type 0 where
 abbrev pub IsWithin : Request → Type 0
 IsWithin (Solve options) = AreSolveOptions options
 IsWithin (Check options) = AreCheckOptions options
+IsWithin (Day options) = AreDayOptions options
+IsWithin (Report options) = AreDayOptions options
 IsWithin (Make sizes) = AreCaseSizes sizes
 IsWithin (Run options) = AreRunOptions options

@@ -8,4 +8,6 @@ mod request;
 mod table;
 
 pub use reading::read_words;
-pub use request::{CaseSizes, CheckOptions, Request, RunOptions, SolveOptions, WordsFault};
+pub use request::{
+    CaseSizes, CheckOptions, DayOptions, Request, RunOptions, SolveOptions, WordsFault,
+};

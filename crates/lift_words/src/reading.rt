@@ -1,13 +1,15 @@
 //! Reads the words.
 ghost use Rattle.std.specs.Prelude.{◌≡◌, ◌≤◌, IfErr, IfOk, IfSome, None, length, IsTrue, ◌↔◌, Some, codes, map, option_map, string_bytes};
 ghost use Rattle.clap.specs.Words.{first_of, found_of, rows_of};
-ghost use Rattle.lift_words.specs.Taken.{AreCaseSizes, AreCheckOptions, AreSolveOptions, AreTaken, AsksBy, AsksForSizes, AsksToCheck, AsksToSolve, ExactlyWhere, IsInRange, IsSecond, IsWithin, number_in_range, number_of};
+ghost use Rattle.lift_words.specs.Taken.{AreCaseSizes, AreCheckOptions, AreDayOptions, AreSolveOptions, AreTaken, AsksBy, AsksForDay, AsksForSizes, AsksToCheck, AsksToSolve, ExactlyWhere, IsInRange, IsSecond, IsWithin, number_in_range, number_of};
 ghost use Rattle.lift_words.specs.declared.request.Request.{Request};
 ghost use Rattle.lift_words.specs.declared.table.CommandWord.{CommandWord};
 
 use crate::parsing::parse;
 use crate::repeats::{has_lone_dashes, has_repeats};
-use crate::request::{CaseSizes, CheckOptions, Request, RunOptions, SolveOptions, WordsFault};
+use crate::request::{
+    CaseSizes, CheckOptions, DayOptions, Request, RunOptions, SolveOptions, WordsFault,
+};
 use crate::table::{CommandWord, NumberOption};
 use clap::ArgMatches;
 use lift_text::number_in;
@@ -58,23 +60,23 @@ fn asked(command: CommandWord, matches: &ArgMatches<'_>) -> Option<Request>
     match command {
         CommandWord::Solve => Some(Request::Solve(solve_options(matches)?)),
         CommandWord::Check => Some(Request::Check(check_options(matches)?)),
+        CommandWord::Day => Some(Request::Day(day_options(matches)?)),
+        CommandWord::Report => Some(Request::Report(day_options(matches)?)),
         CommandWord::Make => asked_of_make(matches),
     }
 }
 
-/// The options of `solve`.
+/// The options of `solve`: those of `day`, and a flag.
 fn solve_options(matches: &ArgMatches<'_>) -> Option<SolveOptions>
     ensures asked { let rows = rows_of (found_of matches.now) in
         ExactlyWhere (AsksToSolve rows) result }
     ensures within { IfSome result AreSolveOptions }
 {
-    let rounds = number(matches, NumberOption::Rounds)?;
-    let moves = number(matches, NumberOption::Moves)?;
-    let workers = number(matches, NumberOption::Workers)?;
+    let limits = day_options(matches)?;
     Some(SolveOptions {
-        rounds,
-        moves,
-        workers: workers as u32,
+        rounds: limits.rounds,
+        moves: limits.moves,
+        workers: limits.workers,
         brief: is_given(matches, "brief"),
     })
 }
@@ -87,6 +89,22 @@ fn check_options(matches: &ArgMatches<'_>) -> Option<CheckOptions>
 {
     let workers = number(matches, NumberOption::Workers)?;
     Some(CheckOptions {
+        workers: workers as u32,
+    })
+}
+
+/// The options of `day` and of `report`.
+fn day_options(matches: &ArgMatches<'_>) -> Option<DayOptions>
+    ensures asked { let rows = rows_of (found_of matches.now) in
+        ExactlyWhere (AsksForDay rows) result }
+    ensures within { IfSome result AreDayOptions }
+{
+    let rounds = number(matches, NumberOption::Rounds)?;
+    let moves = number(matches, NumberOption::Moves)?;
+    let workers = number(matches, NumberOption::Workers)?;
+    Some(DayOptions {
+        rounds,
+        moves,
         workers: workers as u32,
     })
 }

@@ -1,5 +1,6 @@
 //! What the words ask for.
-ghost use Rattle.std.specs.Prelude.{◌≡◌};
+ghost use Rattle.std.specs.Prelude.{◌≡◌, Some};
+ghost use Rattle.lift_words.specs.Faults.{printed};
 ghost use Rattle.lift_words.specs.declared.request.WordsFault.TheVariants.{NoMemory};
 
 use std::alloc::{AllocError, AllocFailed};
@@ -13,6 +14,10 @@ pub enum Request {
     Solve(SolveOptions),
     /// `check`: the answer of the input is to be checked.
     Check(CheckOptions),
+    /// `day`: the day of the input is to be run.
+    Day(DayOptions),
+    /// `report`: the service of the day of the input is to be reported.
+    Report(DayOptions),
     /// `make`: a generated case is to be written.
     Make(CaseSizes),
     /// `make --run`: a generated case is to be solved.
@@ -35,6 +40,17 @@ pub struct SolveOptions {
 /// The options of `check`.
 #[derive(Clone, Copy, Debug, PartialEq, Eq)]
 pub struct CheckOptions {
+    /// `--workers`: so many threads, 1 to 16. The default is 1.
+    pub workers: u32,
+}
+
+/// The options of `day` and of `report`.
+#[derive(Clone, Copy, Debug, PartialEq, Eq)]
+pub struct DayOptions {
+    /// `--rounds`: at most so many rounds at each accepted call, 1 to 10^18. The default is 2000.
+    pub rounds: u64,
+    /// `--moves`: at most so many moves in one pricing, 1 to 10^18. The default is 75000.
+    pub moves: u64,
     /// `--workers`: so many threads, 1 to 16. The default is 1.
     pub workers: u32,
 }
@@ -73,6 +89,8 @@ pub enum WordsFault {
 }
 
 impl fmt::Display for WordsFault {
+    ghost output = { λ fault. Some (printed fault) };
+
     fn fmt<W: fmt::Write>(&self, f: &mut fmt::Formatter<W>) -> fmt::Result {
         match self {
             WordsFault::NotTaken => write!(f, "the words are not taken"),

@@ -7,6 +7,8 @@ ghost use Rattle.lift_words.specs.Table.{Shows, command_of, flags_of, numbers_of
 pub(crate) enum CommandWord {
     Solve,
     Check,
+    Day,
+    Report,
     Make,
 }
 
@@ -43,6 +45,8 @@ impl CommandWord {
         match word {
             "solve" => Some(CommandWord::Solve),
             "check" => Some(CommandWord::Check),
+            "day" => Some(CommandWord::Day),
+            "report" => Some(CommandWord::Report),
             "make" => Some(CommandWord::Make),
             _ => None,
         }
@@ -55,6 +59,8 @@ impl CommandWord {
         match self {
             CommandWord::Solve => "solve",
             CommandWord::Check => "check",
+            CommandWord::Day => "day",
+            CommandWord::Report => "report",
             CommandWord::Make => "make",
         }
     }
@@ -64,7 +70,7 @@ impl CommandWord {
         ensures { result.now ≡ numbers_of self }
     {
         match self {
-            CommandWord::Solve => &[
+            CommandWord::Solve | CommandWord::Day | CommandWord::Report => &[
                 NumberOption::Rounds,
                 NumberOption::Moves,
                 NumberOption::Workers,
@@ -87,7 +93,7 @@ impl CommandWord {
     {
         match self {
             CommandWord::Solve => &["brief"],
-            CommandWord::Check => &[],
+            CommandWord::Check | CommandWord::Day | CommandWord::Report => &[],
             CommandWord::Make => &["run"],
         }
     }

@@ -2,7 +2,7 @@
 //! between them; the first word is the program's name.
 
 use lift_words::{
-    CaseSizes, CheckOptions, Request, RunOptions, SolveOptions, WordsFault, read_words,
+    CaseSizes, CheckOptions, DayOptions, Request, RunOptions, SolveOptions, WordsFault, read_words,
 };
 use std::alloc::{AllocError, Global};
 use std::test::Fail;
@@ -77,6 +77,50 @@ const CHECKED: [(&str, u32); 5] = [
     ("lift check --workers 1", 1),
     ("lift check --workers=16", 16),
     ("lift check --workers 003", 3),
+];
+
+/// Each line of `day`, with its rounds, moves and workers.
+const RUN_DAYS: [(&str, u64, u64, u32); 8] = [
+    ("lift day", 2000, 75000, 1),
+    (" day", 2000, 75000, 1),
+    ("lift day --rounds 5", 5, 75000, 1),
+    ("lift day --moves=6", 2000, 6, 1),
+    ("lift day --workers 7", 2000, 75000, 7),
+    (
+        "lift day --rounds=1000000000000000000 --workers 16",
+        1000000000000000000,
+        75000,
+        16,
+    ),
+    (
+        "lift day --moves 1000000000000000000 --rounds=1",
+        1,
+        1000000000000000000,
+        1,
+    ),
+    ("lift day --moves=0013 --workers=2 --rounds 11", 11, 13, 2),
+];
+
+/// Each line of `report`, with its rounds, moves and workers.
+const REPORTED: [(&str, u64, u64, u32); 8] = [
+    ("lift report", 2000, 75000, 1),
+    (" report", 2000, 75000, 1),
+    ("lift report --rounds=4", 4, 75000, 1),
+    ("lift report --moves 9", 2000, 9, 1),
+    ("lift report --workers=16", 2000, 75000, 16),
+    (
+        "lift report --rounds 1000000000000000000 --moves=1",
+        1000000000000000000,
+        1,
+        1,
+    ),
+    (
+        "lift report --workers 012 --moves=1000000000000000000",
+        2000,
+        1000000000000000000,
+        12,
+    ),
+    ("lift report --workers=3 --rounds 17 --moves=08", 17, 8, 3),
 ];
 
 /// Each line with its number, floors, cars and calls.
@@ -168,7 +212,7 @@ const RUN: [(&str, u64, u32, u32, u32, u64, u64); 6] = [
     ),
 ];
 
-const REFUSED: [&str; 109] = [
+const REFUSED: [&str; 148] = [
     // No command, or none of the table.
     "",
     "lift",
@@ -177,8 +221,13 @@ const REFUSED: [&str; 109] = [
     "lift Solve --brief",
     "lift solve=1 --brief",
     "lift --brief solve",
-    "lift day",
-    "lift report",
+    "lift days",
+    "lift Day",
+    "lift da",
+    "lift day=1",
+    "lift reports",
+    "lift Report",
+    "lift --rounds 5 report",
     "lift help",
     "lift --help",
     "lift -h",
@@ -198,6 +247,14 @@ const REFUSED: [&str; 109] = [
     "lift solve --rounds 0",
     "lift check --workers 0",
     "lift check --workers=17",
+    "lift day --rounds 0",
+    "lift day --rounds=1000000000000000001",
+    "lift day --moves=0",
+    "lift day --workers 17",
+    "lift report --rounds=0",
+    "lift report --moves 1000000000000000001",
+    "lift report --workers=0",
+    "lift report --workers 18446744073709551617",
     "lift make --number 18446744073709551616",
     "lift make --number=340282366920938463463374607431768211456",
     "lift make --number 1000000000000000000000000000000000000000",
@@ -223,6 +280,8 @@ const REFUSED: [&str; 109] = [
     "lift solve --rounds -5 --brief",
     "lift solve --rounds=-5 --brief",
     "lift check --workers 2x",
+    "lift day --moves 6x",
+    "lift report --rounds=-5",
     "lift make --calls -0",
     "lift make --calls=-0",
     "lift solve --rounds  --brief",
@@ -238,6 +297,9 @@ const REFUSED: [&str; 109] = [
     "lift solve --brief true",
     "lift check --workers",
     "lift check --workers 2 3",
+    "lift day --moves",
+    "lift day --rounds 5 6",
+    "lift report --workers",
     "lift make --run=1",
     "lift make --run=",
     "lift make --run 1",
@@ -248,6 +310,10 @@ const REFUSED: [&str; 109] = [
     "lift solve --rounds=5 --rounds=5 --brief",
     "lift solve --rounds --rounds 5 --brief",
     "lift check --workers=2 --workers 3",
+    "lift day --rounds 5 --moves 6 --rounds=7",
+    "lift day --workers=2 --workers=2",
+    "lift report --moves 3 --moves 3",
+    "lift report --workers=2 --rounds 4 --workers 3",
     "lift make --number 3 --cars 2 --number=3",
     "lift make --run --run",
     "lift make --run --cars 3 --run",
@@ -255,6 +321,8 @@ const REFUSED: [&str; 109] = [
     "lift solve --brief --",
     "lift solve -- --brief",
     "lift check --",
+    "lift day --",
+    "lift report -- --rounds 3",
     "lift make --",
     "lift make --cars --",
     // Other words.
@@ -270,6 +338,21 @@ const REFUSED: [&str; 109] = [
     "lift check --worker 2",
     "lift check case.txt",
     "lift check --help",
+    "lift day --brief",
+    "lift day --rounds 5 --brief",
+    "lift day --run",
+    "lift day --floors=3",
+    "lift day --round 5",
+    "lift day report",
+    "lift day calls.csv",
+    "lift day --help",
+    "lift report --brief",
+    "lift report --workers 2 --brief",
+    "lift report --run",
+    "lift report --number 3",
+    "lift report --move=5",
+    "lift report day",
+    "lift report --version",
     "lift make --workers 2",
     "lift make --brief",
     "lift make --ru",
@@ -329,6 +412,40 @@ fn check_has_its_workers(rt: HostRuntime) -> Result<(), Fail> {
         assert_eq!(rt;
             read(rt.alloc(), line)?,
             Ok(Request::Check(CheckOptions { workers })),
+            "at {line}"
+        );
+    }
+    Ok(())
+}
+
+#[test]
+fn day_has_its_limits(rt: HostRuntime) -> Result<(), Fail> {
+    for (line, rounds, moves, workers) in RUN_DAYS {
+        let options = DayOptions {
+            rounds,
+            moves,
+            workers,
+        };
+        assert_eq!(rt;
+            read(rt.alloc(), line)?,
+            Ok(Request::Day(options)),
+            "at {line}"
+        );
+    }
+    Ok(())
+}
+
+#[test]
+fn report_has_its_limits(rt: HostRuntime) -> Result<(), Fail> {
+    for (line, rounds, moves, workers) in REPORTED {
+        let options = DayOptions {
+            rounds,
+            moves,
+            workers,
+        };
+        assert_eq!(rt;
+            read(rt.alloc(), line)?,
+            Ok(Request::Report(options)),
             "at {line}"
         );
     }
