@@ -35,7 +35,7 @@ fn ended(
     let mut lines = LineReader::new(alloc, &mut source).ok()?;
     let plan = |snapshot: &Snapshot|
         ensures { IfOk result (λ planned. IsRightPlan snapshot.now (stated_of planned)) }
-        { planner.plan(alloc, snapshot) };
+    { planner.plan(alloc, snapshot) };
     Some(run_day_text(alloc, &plan, &mut lines, sink))
 }
 

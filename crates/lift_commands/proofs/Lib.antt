@@ -5,3 +5,5 @@ pub mod SolvedCases
 pub mod SolvedTrees
 pub mod SaidYes
 pub mod Verdicts
+pub mod SolvedRows
+pub mod DayOutcomes

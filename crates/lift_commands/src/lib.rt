@@ -2,7 +2,9 @@
 #![tactic(auto)]
 
 mod checking;
+mod days;
 mod making;
+mod planning;
 mod putting;
 mod running;
 mod solving;

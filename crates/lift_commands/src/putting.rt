@@ -1,5 +1,5 @@
 //! Writing what is due.
-ghost use Rattle.std.specs.Prelude.{◌≡◌, ◌∷◌, [], ◌++◌, IfOk, codes};
+ghost use Rattle.std.specs.Prelude.{◌≡◌, ◌∷◌, [], ◌++◌, ◌≤◌, IfOk, codes};
 ghost use Rattle.lift_text.specs.Text.{words, line as line_of};
 ghost use Rattle.lift_commands.specs.Outcome.{Puts, PutsFault};
 
@@ -9,7 +9,7 @@ use lift_text::{TextFault, put_line, put_words};
 use std::alloc::{AllocError, Global};
 
 /// What is written where the input is longer than any that is read.
-const TOO_LONG: &[u8] = b"refused long\n";
+pub(crate) const TOO_LONG: &[u8] = b"refused long\n";
 
 /// A text that answers the input, and the status with which it is written.
 #[derive(Drop)]
@@ -20,8 +20,9 @@ pub(crate) struct Answer {
 
 /// Writes the text and answers the status, or `Write` where the sink fails.
 pub(crate) fn put<K: Sink>(sink: &mut K, text: &[u8], status: Status) -> Status
-    ensures { Puts text.now status result (K.taken sink.old) (K.taken sink.new) (K.faults sink.old)
+    ensures put { Puts text.now status result (K.taken sink.old) (K.taken sink.new) (K.faults sink.old)
         (K.faults sink.new) }
+    ensures counted { K.faults sink.old ≤ K.faults sink.new }
 {
     match put_all(sink, text) {
         Ok(()) => status,

@@ -1,9 +1,11 @@
 //! The top call of the program.
 
 ghost use Rattle.std.specs.Prelude.{map, string_bytes};
+ghost use Rattle.lift_commands.specs.DayOutcome.{AskNoDay, DaysByWords, ReportsByWords};
 ghost use Rattle.lift_commands.specs.Outcome.{Ends, RunDue, SolvesByWords, RefusesByWords, ChecksByWords, RefusesChecksByWords, MakesByWords, RunsByWords, RefusesWords, streams};
 
 use crate::checking::check;
+use crate::days::{day, report};
 use crate::making::{write_made_case, write_solved_case};
 use crate::putting::put;
 use crate::solving::solve;
@@ -25,7 +27,11 @@ const USAGE: &[u8] = b"usage: lift solve/check/day/report/make [options]\n";
 /// all that behind it, and says yes.
 /// `check` reads a case with an answer and a certificate of any origin, and writes whether the certificate proves the answer,
 /// or why not.
-/// Both write what is wrong with an input that they do not take: its first bad line with its code, or that it is too long.
+/// `day` reads what stands before the rows of a day, and then the rows, and writes the log of the day: what each row that is
+/// accepted brings about, with a plan as `solve` finds it, and at the end that every accepted call was delivered. The lines of a
+/// row are written before more of the source is read than what its line takes. `report` reads the same and writes how long the
+/// calls waited and rode.
+/// All write what is wrong with an input that they do not take: its first bad line with its code, or that it is too long.
 /// `make` writes a generated case, and `make --run` the cost and the bound of such a case; they read nothing. Other words are
 /// refused with the usage line.
 pub fn run<S: Source, K: Sink, G: Gate + Sync>(
@@ -36,8 +42,8 @@ pub fn run<S: Source, K: Sink, G: Gate + Sync>(
     sink: &mut K,
     gate: &G,
 ) -> Status
-    // What was read and written, and why it ended.
-    ensures ends { Ends (RunDue (map string_bytes words.now) (S.left source.old) (S.left source.new))
+    // What was read and written, and why it ended, by words of other commands than `day` and `report`.
+    ensures ends { AskNoDay (map string_bytes words.now) → Ends (RunDue (map string_bytes words.now) (S.left source.old) (S.left source.new))
         (streams (S.left source.old) (K.taken sink.old) (S.faults source.old) (K.faults sink.old))
         (streams (S.left source.new) (K.taken sink.new) (S.faults source.new)
         (K.faults sink.new)) result }
@@ -67,6 +73,19 @@ pub fn run<S: Source, K: Sink, G: Gate + Sync>(
         (streams (S.left source.new) (K.taken sink.new) (S.faults source.new)
         (K.faults sink.new)) result }
 
+    // `day`: the log of a day is written as its rows come, and the day comes to its end unless the source or the sink fails or
+    // memory is wanting.
+    ensures days { DaysByWords (map string_bytes words.now)
+        (streams (S.left source.old) (K.taken sink.old) (S.faults source.old) (K.faults sink.old))
+        (streams (S.left source.new) (K.taken sink.new) (S.faults source.new)
+        (K.faults sink.new)) result }
+
+    // `report`: the report of a day is written, unless the source or the sink fails or memory is wanting.
+    ensures reports { ReportsByWords (map string_bytes words.now)
+        (streams (S.left source.old) (K.taken sink.old) (S.faults source.old) (K.faults sink.old))
+        (streams (S.left source.new) (K.taken sink.new) (S.faults source.new)
+        (K.faults sink.new)) result }
+
     // `make`: a case is written, unless the sink fails or memory is wanting.
     ensures makes { MakesByWords (map string_bytes words.now)
         (streams (S.left source.old) (K.taken sink.old) (S.faults source.old) (K.faults sink.old))
@@ -88,6 +107,8 @@ pub fn run<S: Source, K: Sink, G: Gate + Sync>(
     match read_words(alloc, words) {
         Ok(Request::Solve(options)) => solve(rt, alloc, options, source, sink, gate),
         Ok(Request::Check(options)) => check(rt, alloc, options, source, sink, gate),
+        Ok(Request::Day(options)) => day(rt, alloc, options, source, sink, gate),
+        Ok(Request::Report(options)) => report(rt, alloc, options, source, sink, gate),
         Ok(Request::Make(sizes)) => write_made_case(alloc, sizes, sink),
         Ok(Request::Run(options)) => write_solved_case(rt, alloc, options, sink, gate),
         Err(WordsFault::NotTaken) => put(sink, USAGE, Status::Words),

@@ -11,11 +11,11 @@ returns-in-Ok-verdict_answer-clause-ends g c =
     let new = streams (left c.read_input.new.source) (g.K.Sink.taken c.put.new.sink) (g.S.Source.faults c.read_input.new.source) (g.K.Sink.faults c.put.new.sink) in
     let answer = c.in-Ok-verdict_answer.answer in
     let due = verdict_due (left c.args.source.now) (left c.read_input.new.source) c.in-Ok.checked c.in-Ok.ensures.checked c.in-Ok.ensures.ended answer.status answer.text.items c.in-Ok-verdict_answer.ensures.status c.in-Ok-verdict_answer.ensures.text in
-    ends_judged (left c.args.source.now) (left c.read_input.new.source) old new answer.text.items answer.status c.put.result due (rw c.as_slice.ensures.value at c.put.ensures)
+    ends_judged (left c.args.source.now) (left c.read_input.new.source) old new answer.text.items answer.status c.put.result due (rw c.as_slice.ensures.value at c.put.ensures.put)
 
 pub returns-in-Ok-verdict_answer-clause-checks : goal.returns-in-Ok-verdict_answer-clause-checks
 returns-in-Ok-verdict_answer-clause-checks g c = λ input s stated tree given case reads writes.
-    is_judged (g.S.Source.left c.args.source.now) input s stated tree c.in-Ok.checked c.in-Ok-verdict_answer.answer.status c.put.result case c.in-Ok.ensures.checked (takes_input (g.S.Source.left c.args.source.now) input s stated tree (Ok c.in-Ok.checked) given case c.in-Ok.ensures.takes) c.in-Ok-verdict_answer.ensures.status (put_whole _ c.in-Ok-verdict_answer.answer.status c.put.result _ _ _ _ c.put.ensures writes)
+    is_judged (g.S.Source.left c.args.source.now) input s stated tree c.in-Ok.checked c.in-Ok-verdict_answer.answer.status c.put.result case c.in-Ok.ensures.checked (takes_input (g.S.Source.left c.args.source.now) input s stated tree (Ok c.in-Ok.checked) given case c.in-Ok.ensures.takes) c.in-Ok-verdict_answer.ensures.status (put_whole _ c.in-Ok-verdict_answer.answer.status c.put.result _ _ _ _ c.put.ensures.put writes)
 
 pub returns-in-Ok-verdict_answer-clause-refuses : goal.returns-in-Ok-verdict_answer-clause-refuses
 returns-in-Ok-verdict_answer-clause-refuses g c = λ input given none reads writes.

@@ -1,34 +1,36 @@
 use Rattle.std.proofs.Common.{map, string_bytes, subst, refl, sym, ◌≡◌, ◌∙◌}
 use Rattle.lift_words.specs.Taken.{AreTaken}
 use Rattle.lift_words.specs.declared.request.RunOptions.{RunOptions}
+use Rattle.lift_words.specs.declared.request.DayOptions.{DayOptions}
 use Rattle.lift_words.specs.declared.request.SolveOptions.{SolveOptions}
-use Rattle.lift_words.specs.declared.request.Request.TheVariants.{Solve, Check, Make, Run}
+use Rattle.lift_words.specs.declared.request.Request.TheVariants.{Solve, Check, Day, Report, Make, Run}
 use Rattle.lift_commands.specs.declared.status.Status.TheVariants.{Words}
 use Rattle.lift_commands.specs.Outcome.{IsAnswered, IsCaseSolved, SolveDue, CheckDue, MakeDue, SolvedCaseDue, RunDue, UsageIsDue, usage_line, streams}
+use Rattle.lift_commands.specs.DayOutcome.{ReportsDay, RunsDay}
 use Rattle.lift_commands.proofs.Outcomes.{ends_put, ends_more, solve_due, check_due, make_due, solved_case_due, not_run_and_make}
 use Rattle.lift_commands.proofs.running.run.Goals as goal
 
 pub returns-in-Ok-Solve-clause-ends : goal.returns-in-Ok-Solve-clause-ends
-returns-in-Ok-Solve-clause-ends g c =
-    let left = g.S.Source.left in
+returns-in-Ok-Solve-clause-ends g c = λ none.
+    (let left = g.S.Source.left in
     let words = map string_bytes c.args.words.now in
     let before = left c.args.source.now in
     let after = left c.solve.new.source in
     let old = streams before (g.K.Sink.taken c.args.sink.now) (g.S.Source.faults c.args.source.now) (g.K.Sink.faults c.args.sink.now) in
     let new = streams after (g.K.Sink.taken c.solve.new.sink) (g.S.Source.faults c.solve.new.source) (g.K.Sink.faults c.solve.new.sink) in
     let taken = subst (AreTaken words) c.in-Ok-Solve.field-0-is c.in-Ok-Solve.ensures.taken in
-    ends_more (SolveDue c.in-Ok-Solve.options before after) (RunDue words before after) old new c.solve.result (solve_due words before after c.in-Ok-Solve.options taken) c.solve.ensures.ends
+    ends_more (SolveDue c.in-Ok-Solve.options before after) (RunDue words before after) old new c.solve.result (solve_due words before after c.in-Ok-Solve.options taken) c.solve.ensures.ends)
 
 pub returns-in-Ok-Check-clause-ends : goal.returns-in-Ok-Check-clause-ends
-returns-in-Ok-Check-clause-ends g c =
-    let left = g.S.Source.left in
+returns-in-Ok-Check-clause-ends g c = λ none.
+    (let left = g.S.Source.left in
     let words = map string_bytes c.args.words.now in
     let before = left c.args.source.now in
     let after = left c.check.new.source in
     let old = streams before (g.K.Sink.taken c.args.sink.now) (g.S.Source.faults c.args.source.now) (g.K.Sink.faults c.args.sink.now) in
     let new = streams after (g.K.Sink.taken c.check.new.sink) (g.S.Source.faults c.check.new.source) (g.K.Sink.faults c.check.new.sink) in
     let taken = subst (AreTaken words) c.in-Ok-Check.field-0-is c.in-Ok-Check.ensures.taken in
-    ends_more (CheckDue before after) (RunDue words before after) old new c.check.result (check_due words before after c.in-Ok-Check.options taken) c.check.ensures.ends
+    ends_more (CheckDue before after) (RunDue words before after) old new c.check.result (check_due words before after c.in-Ok-Check.options taken) c.check.ensures.ends)
 
 pub returns-in-Ok-Check-clause-checks : goal.returns-in-Ok-Check-clause-checks
 returns-in-Ok-Check-clause-checks g c = λ options taken. c.check.ensures.checks
@@ -45,18 +47,18 @@ returns-in-Err-NotTaken-clause-refuses_checks g c = λ options taken input given
     absurd (c.in-Err-NotTaken.ensures.refused c.in-Err-NotTaken.field-0-is (Check options) taken)
 
 pub returns-in-Ok-Make-clause-ends : goal.returns-in-Ok-Make-clause-ends
-returns-in-Ok-Make-clause-ends g c =
-    let words = map string_bytes c.args.words.now in
+returns-in-Ok-Make-clause-ends g c = λ none.
+    (let words = map string_bytes c.args.words.now in
     let before = g.S.Source.left c.args.source.now in
     let faults = g.S.Source.faults c.args.source.now in
     let old = streams before (g.K.Sink.taken c.args.sink.now) faults (g.K.Sink.faults c.args.sink.now) in
     let new = streams before (g.K.Sink.taken c.write_made_case.new.sink) faults (g.K.Sink.faults c.write_made_case.new.sink) in
     let taken = subst (AreTaken words) c.in-Ok-Make.field-0-is c.in-Ok-Make.ensures.taken in
-    ends_more (MakeDue c.in-Ok-Make.sizes) (RunDue words before before) old new c.write_made_case.result (make_due words before c.in-Ok-Make.sizes taken) (c.write_made_case.ensures.ends before faults)
+    ends_more (MakeDue c.in-Ok-Make.sizes) (RunDue words before before) old new c.write_made_case.result (make_due words before c.in-Ok-Make.sizes taken) (c.write_made_case.ensures.ends before faults))
 
 pub returns-in-Err-NotTaken-clause-ends : goal.returns-in-Err-NotTaken-clause-ends
-returns-in-Err-NotTaken-clause-ends g c =
-    let words = map string_bytes c.args.words.now in
+returns-in-Err-NotTaken-clause-ends g c = λ none.
+    (let words = map string_bytes c.args.words.now in
     let before = g.S.Source.left c.args.source.now in
     let faults = g.S.Source.faults c.args.source.now in
     let old = streams before (g.K.Sink.taken c.args.sink.now) faults (g.K.Sink.faults c.args.sink.now) in
@@ -66,7 +68,7 @@ returns-in-Err-NotTaken-clause-ends g c =
       unread = refl;
       is_text = refl;
     } in
-    ends_put (RunDue words before before) old new usage_line Words c.put.result due (λ wrote. wrote) c.put.ensures
+    ends_put (RunDue words before before) old new usage_line Words c.put.result due (λ wrote. wrote) c.put.ensures.put)
 
 pub returns-in-Err-NotTaken-clause-solves : goal.returns-in-Err-NotTaken-clause-solves
 returns-in-Err-NotTaken-clause-solves g c = λ options taken input s given case reads writes.
@@ -87,14 +89,14 @@ returns-in-Ok-Solve-clause-solves g c options taken input s given case reads wri
     subst (λ (o : SolveOptions). IsAnswered o s c.solve.result) (sym is) (c.solve.ensures.solves input s given case reads writes)
 
 pub returns-in-Ok-Run-clause-ends : goal.returns-in-Ok-Run-clause-ends
-returns-in-Ok-Run-clause-ends g c =
-    let words = map string_bytes c.args.words.now in
+returns-in-Ok-Run-clause-ends g c = λ none.
+    (let words = map string_bytes c.args.words.now in
     let before = g.S.Source.left c.args.source.now in
     let faults = g.S.Source.faults c.args.source.now in
     let old = streams before (g.K.Sink.taken c.args.sink.now) faults (g.K.Sink.faults c.args.sink.now) in
     let new = streams before (g.K.Sink.taken c.write_solved_case.new.sink) faults (g.K.Sink.faults c.write_solved_case.new.sink) in
     let taken = subst (AreTaken words) c.in-Ok-Run.field-0-is c.in-Ok-Run.ensures.taken in
-    ends_more (SolvedCaseDue c.in-Ok-Run.options) (RunDue words before before) old new c.write_solved_case.result (solved_case_due words before c.in-Ok-Run.options taken) (c.write_solved_case.ensures.ends before faults)
+    ends_more (SolvedCaseDue c.in-Ok-Run.options) (RunDue words before before) old new c.write_solved_case.result (solved_case_due words before c.in-Ok-Run.options taken) (c.write_solved_case.ensures.ends before faults))
 
 pub returns-in-Ok-Run-clause-runs : goal.returns-in-Ok-Run-clause-runs
 returns-in-Ok-Run-clause-runs g c options taken writes =
@@ -113,3 +115,35 @@ returns-in-Ok-Make-clause-runs g c = λ options taken writes.
 pub returns-in-Ok-Run-clause-makes : goal.returns-in-Ok-Run-clause-makes
 returns-in-Ok-Run-clause-makes g c = λ sizes taken writes.
     absurd (not_run_and_make c.in-Ok-Run.options sizes (sym c.in-Ok-Run.field-0-is ∙ sym (c.in-Ok-Run.ensures.one (Make sizes) taken)))
+
+pub returns-in-Ok-Day-clause-ends : goal.returns-in-Ok-Day-clause-ends
+returns-in-Ok-Day-clause-ends g c = λ none.
+    absurd (none.no_day c.in-Ok-Day.options (subst (AreTaken (map string_bytes c.args.words.now)) c.in-Ok-Day.field-0-is c.in-Ok-Day.ensures.taken))
+
+pub returns-in-Ok-Day-clause-days : goal.returns-in-Ok-Day-clause-days
+returns-in-Ok-Day-clause-days g c options taken =
+    let same : Day options ≡ Day c.in-Ok-Day.options = c.in-Ok-Day.ensures.one (Day options) taken ∙ c.in-Ok-Day.field-0-is in
+    let is : options ≡ c.in-Ok-Day.options = cc same in
+    let old = streams (g.S.Source.left c.args.source.now) (g.K.Sink.taken c.args.sink.now) (g.S.Source.faults c.args.source.now) (g.K.Sink.faults c.args.sink.now) in
+    let new = streams (g.S.Source.left c.day.new.source) (g.K.Sink.taken c.day.new.sink) (g.S.Source.faults c.day.new.source) (g.K.Sink.faults c.day.new.sink) in
+    subst (λ (o : DayOptions). RunsDay o old new c.day.result) (sym is) c.day.ensures
+
+pub returns-in-Ok-Report-clause-ends : goal.returns-in-Ok-Report-clause-ends
+returns-in-Ok-Report-clause-ends g c = λ none.
+    absurd (none.no_report c.in-Ok-Report.options (subst (AreTaken (map string_bytes c.args.words.now)) c.in-Ok-Report.field-0-is c.in-Ok-Report.ensures.taken))
+
+pub returns-in-Ok-Report-clause-reports : goal.returns-in-Ok-Report-clause-reports
+returns-in-Ok-Report-clause-reports g c options taken =
+    let same : Report options ≡ Report c.in-Ok-Report.options = c.in-Ok-Report.ensures.one (Report options) taken ∙ c.in-Ok-Report.field-0-is in
+    let is : options ≡ c.in-Ok-Report.options = cc same in
+    let old = streams (g.S.Source.left c.args.source.now) (g.K.Sink.taken c.args.sink.now) (g.S.Source.faults c.args.source.now) (g.K.Sink.faults c.args.sink.now) in
+    let new = streams (g.S.Source.left c.report.new.source) (g.K.Sink.taken c.report.new.sink) (g.S.Source.faults c.report.new.source) (g.K.Sink.faults c.report.new.sink) in
+    subst (λ (o : DayOptions). ReportsDay o old new c.report.result) (sym is) c.report.ensures
+
+pub returns-in-Err-NotTaken-clause-days : goal.returns-in-Err-NotTaken-clause-days
+returns-in-Err-NotTaken-clause-days g c = λ options taken.
+    absurd (c.in-Err-NotTaken.ensures.refused c.in-Err-NotTaken.field-0-is (Day options) taken)
+
+pub returns-in-Err-NotTaken-clause-reports : goal.returns-in-Err-NotTaken-clause-reports
+returns-in-Err-NotTaken-clause-reports g c = λ options taken.
+    absurd (c.in-Err-NotTaken.ensures.refused c.in-Err-NotTaken.field-0-is (Report options) taken)

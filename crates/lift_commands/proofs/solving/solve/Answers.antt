@@ -18,11 +18,11 @@ returns-in-Ok-solution_of-clause-ends g c =
       solution = c.in-Ok-solution_of.ensures.solution;
       checks = λ input given can. c.in-Ok-solution_of.ensures.checks input (c.in-Ok.ensures.case input given) can;
     } in
-    ends_answered c.args.options (left c.args.source.now) (left c.read_input.new.source) old new answer.text.items answer.status c.put.result due (rw c.as_slice.ensures.value at c.put.ensures)
+    ends_answered c.args.options (left c.args.source.now) (left c.read_input.new.source) old new answer.text.items answer.status c.put.result due (rw c.as_slice.ensures.value at c.put.ensures.put)
 
 pub returns-in-Ok-solution_of-clause-solves : goal.returns-in-Ok-solution_of-clause-solves
 returns-in-Ok-solution_of-clause-solves g c = λ input s given case reads writes.
-    is_answered c.args.options c.in-Ok.snapshot s c.in-Ok-solution_of.answer.status c.put.result c.in-Ok-solution_of.answer.text.items (c.in-Ok.ensures.takes input s given case) (put_whole _ c.in-Ok-solution_of.answer.status c.put.result _ _ _ _ c.put.ensures writes) c.in-Ok-solution_of.ensures.solution c.in-Ok-solution_of.ensures.enough
+    is_answered c.args.options c.in-Ok.snapshot s c.in-Ok-solution_of.answer.status c.put.result c.in-Ok-solution_of.answer.text.items (c.in-Ok.ensures.takes input s given case) (put_whole _ c.in-Ok-solution_of.answer.status c.put.result _ _ _ _ c.put.ensures.put writes) c.in-Ok-solution_of.ensures.solution c.in-Ok-solution_of.ensures.enough
 
 pub returns-in-Ok-solution_of-clause-refuses : goal.returns-in-Ok-solution_of-clause-refuses
 returns-in-Ok-solution_of-clause-refuses g c = λ input given none reads writes.

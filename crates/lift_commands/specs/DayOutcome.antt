@@ -1,0 +1,164 @@
+-- What `day` and `report` leave: what was read and written, and why it ended.
+use Rattle.std.specs.Prelude.{◌≡◌, ℕ, ◌≤◌, ◌⊎◌, List, [], length, take, zero, suc, Option, None, IsSomeAnd, option_map, Result, Ok, Err}
+use Rattle.std.specs.Io.KnownBytes.{append_known}
+use Rattle.elevator_model.specs.Snapshot.{Snapshot, IsAccepted}
+use Rattle.byte_streams.specs.Streams.{Rose}
+use Rattle.lift_text.specs.Reading.{whole_text}
+use Rattle.lift_text.specs.declared.faults.TextFault.{TextFault}
+use Rattle.lift_text.specs.declared.faults.TextFault.TheVariants.{TooLong as LongText}
+use Rattle.opening_text.specs.DayOpenings.{IsDayOpeningRefused}
+use Rattle.search_model.specs.declared.Stated.{Stated}
+use Rattle.search_model.specs.declared.Twig.{Twig}
+use Rattle.search_model.specs.declared.Turn.{Turn}
+use Rattle.search_model.specs.declared.StopReason.{StopReason}
+use Rattle.search_model.specs.declared.StopReason.TheVariants.{Solved}
+use Rattle.search_model.specs.Solving.{IsSolveAnswer}
+use Rattle.day_simulator.specs.Planning.{IsRightPlan}
+use Rattle.search_model.specs.Verdicts.{rounds_enough, moves_enough}
+use Rattle.search_model.specs.Reports.{report_of}
+use Rattle.service_report.specs.ReportTexts.{report_text}
+use Rattle.day_runner.specs.Inputs.{DayRan, IsDayText}
+use Rattle.day_runner.specs.declared.days.Ended.{Ended}
+use Rattle.day_runner.specs.declared.rows.RunFault.{RunFault}
+use Rattle.day_runner.specs.declared.rows.RunFault.TheVariants.{TooLong, Read as RowsUnread, Write as RowsUnwritten, NoMemory}
+use Rattle.lift_words.specs.declared.request.DayOptions.{DayOptions}
+use Rattle.lift_words.specs.Taken.{AreTaken}
+use Rattle.lift_words.specs.declared.request.Request.TheVariants.{Day, Report}
+use Rattle.lift_commands.specs.Outcome.{Streams, Ends, Puts, IsRefusalLine}
+use Rattle.lift_commands.specs.declared.status.Status.{Status}
+use Rattle.lift_commands.specs.declared.status.Status.TheVariants.{Done, Words, Stopped, Refused, Input, Read, Write, Memory}
+
+-- ---- plans
+
+-- A right plan of an accepted snapshot, its cost and a bound as a search answers them within these limits, written in full.
+-- Where the limits are enough for the snapshot, none was reached.
+pub record IsSolvedRow (options : DayOptions) (s : Snapshot) (stated : Stated) (proof : List ℕ) : Type 0 where
+  pub accepted : IsAccepted s
+  pub right_plan : IsRightPlan s stated
+  pub written : proof ≡ []
+  pub tree : List Twig
+  pub turns : List Turn
+  pub why : StopReason
+  pub answer : IsSolveAnswer s options.rounds options.moves stated.plan stated.cost stated.bound tree turns why
+  pub enough : rounds_enough s ≤ options.rounds → moves_enough s ≤ options.moves → why ≡ Solved
+
+-- ---- days
+
+abbrev pub status_of_unsolved : ℕ → Status
+status_of_unsolved zero = Done
+status_of_unsolved (suc n) = Stopped
+
+-- ---- how they end
+
+-- the text was written
+pub record WroteText (is_due : List ℕ → Type 0) (old new : Option (List ℕ)) : Type 0 where
+  pub text : List ℕ
+  pub due : is_due text
+  pub written : new ≡ append_known old text
+
+-- a beginning of the text was
+pub record WrotePart (is_due : List ℕ → Type 0) (old new : Option (List ℕ)) : Type 0 where
+  pub text : List ℕ
+  pub due : is_due text
+  pub count : ℕ
+  pub within : count ≤ length text
+  pub written : new ≡ append_known old (take count text)
+
+-- the line that refuses what begins with no opening
+pub record IsNoDayLine (left : Option (List ℕ)) (text : List ℕ) : Type 0 where
+  pub fault : TextFault
+  pub is_line : IsRefusalLine fault text
+  pub no_day : IsDayOpeningRefused (option_map whole_text left) fault
+
+-- a day of `day` with the limits of the words
+abbrev pub RanBy : DayOptions → (old new : Streams) → (taken' : Option (List ℕ)) → Result Ended RunFault → Type 0
+RanBy options old new taken' result = DayRan (IsSolvedRow options) (option_map whole_text old.left) new.left old.taken taken' result
+
+-- a day of `report`, which writes no log
+abbrev pub ToldBy : DayOptions → (left left' : Option (List ℕ)) → Result Ended RunFault → Type 0
+ToldBy options left left' result = DayRan (IsSolvedRow options) (option_map whole_text left) left' None None result
+
+-- The day came to its end, and its log was written.
+pub record DayDone (options : DayOptions) (old new : Streams) (status : Status) : Type 0 where
+  pub ended : Ended
+  pub ran : RanBy options old new new.taken (Ok ended)
+  pub status_is : status ≡ status_of_unsolved ended.unsolved
+
+-- The rows that end within the most bytes were done and their lines of the log written; then the refusal line is due.
+pub record DayCut (options : DayOptions) (old new : Streams) (Then : (before after : Option (List ℕ)) → Type 0) : Type 0 where
+  pub between : Option (List ℕ)
+  pub ran : RanBy options old new between (Err TooLong)
+  pub then : Then between new.taken
+
+-- How `day` ends.
+abbrev pub DayEnds : DayOptions → (old new : Streams) → Status → Type 0
+DayEnds options old new Done = DayDone options old new Done
+DayEnds options old new Words = ⊥
+DayEnds options old new Stopped = DayDone options old new Stopped
+DayEnds options old new Refused = ⊥
+DayEnds options old new Input = WroteText (IsNoDayLine old.left) old.taken new.taken ⊎ DayCut options old new (WroteText (IsRefusalLine LongText))
+DayEnds options old new Read = Rose old.read_faults new.read_faults × ((new.taken ≡ old.taken) ⊎ RanBy options old new new.taken (Err RowsUnread))
+DayEnds options old new Write =
+    Rose old.write_faults new.write_faults
+    × (WrotePart (IsNoDayLine old.left) old.taken new.taken ⊎ (RanBy options old new new.taken (Err RowsUnwritten) ⊎ DayCut options old new (WrotePart (IsRefusalLine LongText))))
+DayEnds options old new Memory = (new.taken ≡ old.taken) ⊎ RanBy options old new new.taken (Err NoMemory)
+
+-- the text of the report of a day that came to its end
+pub record IsReport (options : DayOptions) (left left' : Option (List ℕ)) (status : Status) (text : List ℕ) : Type 0 where
+  pub ended : Ended
+  pub ran : ToldBy options left left' (Ok ended)
+  pub status_is : status ≡ status_of_unsolved ended.unsolved
+  pub is_text : text ≡ report_text (report_of ended.served.items)
+
+-- the refusal line of an input that is too long
+pub record IsLongLine (options : DayOptions) (left left' : Option (List ℕ)) (text : List ℕ) : Type 0 where
+  pub ran : ToldBy options left left' (Err TooLong)
+  pub is_line : IsRefusalLine LongText text
+
+-- Which text of `report` is due with a status.
+abbrev pub ReportDue : DayOptions → (left left' : Option (List ℕ)) → Status → List ℕ → Type 0
+ReportDue options left left' Done text = IsReport options left left' Done text
+ReportDue options left left' Words text = ⊥
+ReportDue options left left' Stopped text = IsReport options left left' Stopped text
+ReportDue options left left' Refused text = ⊥
+ReportDue options left left' Input text = IsNoDayLine left text ⊎ IsLongLine options left left' text
+ReportDue options left left' Read text = ⊥
+ReportDue options left left' Write text = ⊥
+ReportDue options left left' Memory text = ⊥
+
+-- the day of an opening and rows comes to its end, unless the source or the sink fails or memory is wanting
+abbrev pub Completes : (old new : Streams) → Status → Type 0
+Completes old new status = IsSomeAnd (option_map whole_text old.left) IsDayText
+    → (Rose old.read_faults new.read_faults → ⊥) → (Rose old.write_faults new.write_faults → ⊥) → (status ≡ Done) ⊎ ((status ≡ Stopped) ⊎ (status ≡ Memory))
+
+-- ---- by the words
+
+-- words of `day` run a day
+pub record RunsDay (options : DayOptions) (old new : Streams) (status : Status) : Type 0 where
+  pub ends : DayEnds options old new status
+  pub completes : Completes old new status
+
+abbrev pub DaysByWords : List (List ℕ) → (old new : Streams) → Status → Type 0
+DaysByWords words old new status = (options : DayOptions) → AreTaken words (Day options) → RunsDay options old new status
+
+-- words of `report` report one
+pub record ReportsDay (options : DayOptions) (old new : Streams) (status : Status) : Type 0 where
+  pub ends : Ends (ReportDue options old.left new.left) old new status
+  pub completes : Completes old new status
+
+abbrev pub ReportsByWords : List (List ℕ) → (old new : Streams) → Status → Type 0
+ReportsByWords words old new status = (options : DayOptions) → AreTaken words (Report options) → ReportsDay options old new status
+
+-- the words are neither those of `day` nor those of `report`
+pub record AskNoDay (words : List (List ℕ)) : Type 0 where
+  pub no_day : (options : DayOptions) → AreTaken words (Day options) → ⊥
+  pub no_report : (options : DayOptions) → AreTaken words (Report options) → ⊥
+
+-- ---- how rows that were not run to their end are answered
+
+-- where the input is too long, the refusal line was put; otherwise nothing more
+abbrev pub PutsRowsFault : RunFault → (result : Status) → (old new : Option (List ℕ)) → (before after : ℕ) → Type 0
+PutsRowsFault TooLong result old new before after = (text : List ℕ) × IsRefusalLine LongText text × Puts text Input result old new before after
+PutsRowsFault RowsUnread result old new before after = (result ≡ Read) × (new ≡ old)
+PutsRowsFault RowsUnwritten result old new before after = (result ≡ Write) × (new ≡ old)
+PutsRowsFault NoMemory result old new before after = (result ≡ Memory) × (new ≡ old)

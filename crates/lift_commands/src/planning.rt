@@ -1,0 +1,41 @@
+//! By what a day is planned.
+
+ghost use Rattle.std.specs.Prelude.{IfOk};
+ghost use Rattle.day_simulator.specs.Rows.{stated_of};
+ghost use Rattle.lift_words.specs.Taken.{AreDayOptions};
+ghost use Rattle.lift_commands.specs.DayOutcome.{IsSolvedRow};
+
+use byte_streams::Gate;
+use call_state::Snapshot;
+use day_simulator::Planned;
+use lift_words::DayOptions;
+use snapshot_solver::{Limits, solve};
+use std::alloc::{AllocError, Global};
+use std::marker::Sync;
+use std::thread::Threads;
+
+/// A plan of the snapshot, as a search within these limits finds it.
+pub(crate) fn plan_within<G: Gate + Sync>(
+    rt: &(impl Threads + Sync),
+    alloc: Global,
+    options: DayOptions,
+    snapshot: &Snapshot,
+    gate: &G,
+) -> Result<Planned, AllocError>
+    requires { AreDayOptions options }
+    ensures { IfOk result (λ planned. IsSolvedRow options snapshot.now (stated_of planned) planned.proof.items) }
+{
+    // A reader tells that the snapshot keeps the rules.
+    let _moment = snapshot.now();
+    let limits = Limits {
+        rounds: options.rounds,
+        moves: options.moves,
+    };
+    let found = solve(rt, alloc, snapshot, limits, options.workers, gate)?;
+    Ok(Planned {
+        plan: found.plan,
+        cost: found.cost,
+        bound: found.bound,
+        proof: Vec::new(alloc),
+    })
+}
