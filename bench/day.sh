@@ -1,10 +1,11 @@
 #!/bin/sh
 # Runs two generated days: a morning peak of so many rows (500 where no number is given), and a quiet day of so many (20,000).
-# For each it prints the rows, the seconds, the rows a second, the greatest memory in KB, and the last lines of the log.
+# For each it prints the rows, the seconds, the rows a second, the greatest memory in KB, and the last lines of the log. The
+# limits are the program's own where none are given.
 peak="${1:-500}"
 quiet="${2:-20000}"
-rounds="${3:-20}"
-moves="${4:-2000}"
+rounds="${3:-2000}"
+moves="${4:-75000}"
 lift="$(dirname "$0")/../crates/lift/out/lift"
 [ -x "$lift" ] || (cd "$(dirname "$0")/../crates/lift" && rt run -- solve --brief < ../../examples/lunch.txt > /dev/null) || exit 1
 folder=$(mktemp -d) || exit 1
@@ -27,7 +28,8 @@ rows() {
 run() {
     (opening; rows "$2" "$3") > "$folder/day"
     /usr/bin/env time -f '%e %M' -o "$folder/time" "$lift" day --rounds "$rounds" --moves "$moves" < "$folder/day" > "$folder/log"
-    echo "$1 rows $2 seconds and KB $(cat "$folder/time" | tail -1) $(tail -3 "$folder/log" | tr '\n' ' ')"
+    awk -v name="$1" -v rows="$2" -v end="$(tail -3 "$folder/log" | tr '\n' ' ')" \
+        '{ print name, "rows", rows, "seconds", $1, "a_second", int(rows / $1), "KB", $2, end }' "$folder/time"
 }
 run peak "$peak" 7000
 run quiet "$quiet" 40000
