@@ -1,7 +1,7 @@
-//! Days whose source fails: the log has the rows whose lines were read whole.
+//! Days whose source or sink fails: the log has the rows whose lines were read whole, and what the sink took is its front.
 
-use crate::runs::{IDLE, ONE_CAR, joined, written_from};
-use crate::three_calls::ROWS;
+use crate::runs::{IDLE, ONE_CAR, joined, written_from, written_to};
+use crate::three_calls::{LOG, ROWS};
 use lift_commands::Status;
 use std::alloc::{AllocError, Global};
 use std::test::Fail;
@@ -41,6 +41,21 @@ fn each_read_fails_in_turn(rt: HostRuntime) -> Result<(), Fail> {
         let run = written_from(&rt, alloc, &["lift", "day"], input.as_slice(), 1, failing);
         let (status, log) = run.ok_or("memory")?;
         assert!(rt; status == Status::Read && log.as_slice() == due.as_slice());
+    }
+    Ok(())
+}
+
+// One byte is taken with each write.
+#[test]
+fn each_write_fails_in_turn(rt: HostRuntime) -> Result<(), Fail> {
+    let alloc = rt.alloc();
+    let input = joined(alloc, &[ONE_CAR, IDLE, ROWS]).ok_or("memory")?;
+    let due = LOG.as_bytes();
+    for k in 0..due.len() {
+        let failing = [k as u64 + 1].to_vec(alloc)?;
+        let run = written_to(&rt, alloc, &["lift", "day"], input.as_slice(), failing);
+        let (status, log) = run.ok_or("memory")?;
+        assert!(rt; status == Status::Write && log.as_slice() == &due[..k]);
     }
     Ok(())
 }

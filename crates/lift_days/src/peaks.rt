@@ -1,9 +1,11 @@
 //! A morning peak.
 
-use crate::runs::{has_lines, written_from};
+use crate::runs::{bounds_within, has_lines, written_from};
 use lift_commands::Status;
 use std::alloc::{AllocError, Global};
+use std::marker::Sync;
 use std::test::Fail;
+use std::thread::Threads;
 
 /// Twelve floors and four cars that stand at the lowest one.
 const OPENING: &[u8] = b"building 1\nspeed 2000\naccel 1000\nweights 1 1\n\
@@ -28,14 +30,25 @@ fn peak(alloc: Global) -> Result<Vec<u8>, AllocError> {
     Ok(input)
 }
 
+/// Whether the peak within these limits has each call delivered, and each bound at most its cost.
+fn peak_ends(rt: &(impl Threads + Sync), alloc: Global, rounds: &str, moves: &str) -> bool {
+    let Ok(input) = peak(alloc) else {
+        return false;
+    };
+    let words = ["lift", "day", "--rounds", rounds, "--moves", moves];
+    match written_from(rt, alloc, &words, input.as_slice(), 4096, Vec::new(alloc)) {
+        Some((status, log)) => {
+            (status == Status::Done || status == Status::Stopped)
+                && bounds_within(log.as_slice()) == Some(40)
+                && has_lines(log.as_slice(), b"total 40 0 40\nend\n".as_slice())
+        }
+        None => false,
+    }
+}
+
 #[test]
 fn a_morning_peak(rt: HostRuntime) -> Result<(), Fail> {
-    let alloc = rt.alloc();
-    let input = peak(alloc)?;
-    let words = ["lift", "day", "--rounds", "20", "--moves", "2000"];
-    let run = written_from(&rt, alloc, &words, input.as_slice(), 4096, Vec::new(alloc));
-    let (status, log) = run.ok_or("memory")?;
-    assert!(rt; status == Status::Done || status == Status::Stopped);
-    assert!(rt; has_lines(log.as_slice(), b"total 40 0 40\nend\n".as_slice()));
+    assert!(rt; peak_ends(&rt, rt.alloc(), "20", "2000"));
+    assert!(rt; peak_ends(&rt, rt.alloc(), "2", "200"));
     Ok(())
 }

@@ -1,6 +1,6 @@
 //! Runs of the program over inputs in memory.
 
-use byte_streams::{MemorySource, OpenGate, SureSink};
+use byte_streams::{MemorySink, MemorySource, OpenGate, SureSink};
 use lift_commands::{Status, run};
 use std::alloc::Global;
 use std::marker::Sync;
@@ -102,4 +102,75 @@ pub(crate) fn has_lines(text: &[u8], lines: &[u8]) -> bool {
         }
     }
     false
+}
+
+/// How a run with these words over the input ends, and what the sink has taken, where it takes a byte with each write and
+/// these writes fail.
+pub(crate) fn written_to(
+    rt: &(impl Threads + Sync),
+    alloc: Global,
+    words: &[&str],
+    input: &[u8],
+    failing: Vec<u64>,
+) -> Option<(Status, Vec<u8>)> {
+    let words = words_of(alloc, words)?;
+    let bytes = Vec::from_slice(alloc, input).ok()?;
+    let mut sink = MemorySink::new(alloc, 1 << 17, 1, failing).ok()?;
+    let mut source = MemorySource::new(bytes, 61, Vec::new(alloc));
+    let ended = run(
+        rt,
+        alloc,
+        words.as_slice(),
+        &mut source,
+        &mut sink,
+        &OpenGate,
+    );
+    let text = Vec::from_slice(alloc, sink.taken()).ok()?;
+    Some((ended, text))
+}
+
+/// The bytes in front of the end of the first line.
+fn first_line(text: &[u8]) -> &[u8] {
+    for end in 0..text.len() {
+        if text[end] == b'\n' {
+            return &text[..end];
+        }
+    }
+    text
+}
+
+/// Whether a number is at most another one, both as digits without zeros in front.
+fn is_at_most(digits: &[u8], most: &[u8]) -> bool {
+    if digits.len() == most.len() {
+        for place in 0..digits.len() {
+            if digits[place] != most[place] {
+                return digits[place] < most[place];
+            }
+        }
+        return true;
+    }
+    digits.len() < most.len()
+}
+
+const COST: &[u8] = b"\ncost ";
+
+const BOUND: &[u8] = b"\nbound ";
+
+/// How many bounds a log has, if each is at most the cost in front of it.
+pub(crate) fn bounds_within(log: &[u8]) -> Option<u32> {
+    let mut cost: &[u8] = &[];
+    let mut count = 0_u32;
+    for start in 0..log.len() {
+        let rest = &log[start..];
+        if rest.starts_with(COST) {
+            cost = first_line(&rest[COST.len()..]);
+        }
+        if rest.starts_with(BOUND) {
+            if !is_at_most(first_line(&rest[BOUND.len()..]), cost) {
+                return None;
+            }
+            count = count.saturating_add(1);
+        }
+    }
+    Some(count)
 }

@@ -6,7 +6,7 @@ use std::test::Fail;
 
 pub(crate) const ROWS: &str = "0,0,1,1\n6500,1,2,1\n\"9500\",1,3,1\n9000,0,1,1\nx,0,1,1\n";
 
-const LOG: &str = "day 1
+pub(crate) const LOG: &str = "day 1
 row 1 accepted
 cost 7500
 bound 7500
