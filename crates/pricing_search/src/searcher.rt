@@ -36,9 +36,6 @@ pub struct Desk<'a> {
     rates: Rates<'a>,
     progress: Progress,
     has_priced: bool,
-    /// Desks of several workers lie one behind another: what one of them writes at each visit shares no line of a cache
-    /// with what the next one reads.
-    apart: [u64; 16],
 }
 
 impl<'a> Searcher<'a> {
@@ -102,7 +99,6 @@ impl<'a> Pricer for Searcher<'a> {
             rates: Rates::new(alloc, self.snapshot)?,
             progress: Progress::new(alloc)?,
             has_priced: false,
-            apart: [0; 16],
         })
     }
 
