@@ -50,3 +50,16 @@ fn no_days(rt: HostRuntime) -> Result<(), Fail> {
     assert!(rt; gives(&rt, alloc, DAY, &[ONE_CAR], Status::Input, text));
     Ok(())
 }
+
+// The car serves two floors alone. The row that no car can take comes later than the next one.
+#[test]
+fn a_refused_row_moves_no_clock(rt: HostRuntime) -> Result<(), Fail> {
+    let alloc = rt.alloc();
+    let low = "building 1\nspeed 2000\naccel 1000\nweights 1 1\nfloors 0 4000 8000 12000\n\
+        car 1 8 1000 1000 500 500 0 1\nend\n";
+    let rows = "20000,0,3,1\n10000,0,1,1\n";
+    let log = "day 1\nrow 1 refused 44\nrow 2 accepted\ncost 7500\nbound 7500\ntour 1\n\
+        stop 0 2\nstop 1\nboard 2 1 11000\ndeliver 2 1 17500\ntotal 1 1 1\nend\n# solved\n";
+    assert!(rt; gives(&rt, alloc, DAY, &[low, IDLE, rows], Status::Done, log));
+    Ok(())
+}
