@@ -212,8 +212,8 @@ const RUN: [(&str, u64, u32, u32, u32, u64, u64); 6] = [
     ),
 ];
 
-const REFUSED: [&str; 148] = [
-    // No command, or none of the table.
+/// No command, or none of the table.
+const NO_COMMAND: [&str; 21] = [
     "",
     "lift",
     "lift ",
@@ -235,7 +235,10 @@ const REFUSED: [&str; 148] = [
     "lift checks",
     "lift Check",
     "lift check=1",
-    // Outside the range.
+];
+
+/// A number outside its range.
+const OUT_OF_RANGE: [&str; 34] = [
     "lift solve --rounds 0 --brief",
     "lift solve --rounds=1000000000000000001 --brief",
     "lift solve --moves=0 --brief",
@@ -270,7 +273,10 @@ const REFUSED: [&str; 148] = [
     "lift make --moves 1000000000000000001",
     "lift make --run --rounds 0",
     "lift make --run --moves=1000000000000000001",
-    // No number word.
+];
+
+/// A value that is no number word.
+const NO_NUMBER: [&str; 16] = [
     "lift solve --rounds 5x --brief",
     "lift solve --rounds=0x5 --brief",
     "lift solve --rounds 5.0 --brief",
@@ -287,7 +293,10 @@ const REFUSED: [&str; 148] = [
     "lift solve --rounds  --brief",
     "lift solve --rounds= --brief",
     "lift make --moves=many",
-    // No value, or one more.
+];
+
+/// No value, or one more.
+const NO_VALUE: [&str; 15] = [
     "lift solve --brief --rounds",
     "lift solve --rounds --brief",
     "lift solve --rounds --moves 5 --brief",
@@ -303,7 +312,10 @@ const REFUSED: [&str; 148] = [
     "lift make --run=1",
     "lift make --run=",
     "lift make --run 1",
-    // Repeated.
+];
+
+/// An option that is repeated.
+const REPEATED: [&str; 13] = [
     "lift solve --brief --brief",
     "lift solve --rounds 5 --rounds 5 --brief",
     "lift solve --rounds=5 --moves 4 --rounds 6 --brief",
@@ -317,7 +329,10 @@ const REFUSED: [&str; 148] = [
     "lift make --number 3 --cars 2 --number=3",
     "lift make --run --run",
     "lift make --run --cars 3 --run",
-    // `--` alone.
+];
+
+/// `--` alone.
+const BARE: [&str; 7] = [
     "lift solve --brief --",
     "lift solve -- --brief",
     "lift check --",
@@ -325,7 +340,10 @@ const REFUSED: [&str; 148] = [
     "lift report -- --rounds 3",
     "lift make --",
     "lift make --cars --",
-    // Other words.
+];
+
+/// Other words.
+const OTHERS: [&str; 42] = [
     "lift solve --round 5 --brief",
     "lift solve --b",
     "lift solve -brief",
@@ -493,15 +511,55 @@ fn make_is_run_with_its_limits(rt: HostRuntime) -> Result<(), Fail> {
     Ok(())
 }
 
+/// The first of the lines whose words are not refused.
+fn taken_one<'a>(alloc: Global, lines: &[&'a str]) -> Result<Option<&'a str>, AllocError> {
+    for line in lines {
+        if read(alloc, line)? != Err(WordsFault::NotTaken) {
+            return Ok(Some(*line));
+        }
+    }
+    Ok(None)
+}
+
+#[test]
+fn no_command_is_refused(rt: HostRuntime) -> Result<(), Fail> {
+    assert_eq!(rt; taken_one(rt.alloc(), &NO_COMMAND)?, None);
+    Ok(())
+}
+
+#[test]
+fn values_outside_their_range_are_refused(rt: HostRuntime) -> Result<(), Fail> {
+    assert_eq!(rt; taken_one(rt.alloc(), &OUT_OF_RANGE)?, None);
+    Ok(())
+}
+
+#[test]
+fn values_that_are_no_number_are_refused(rt: HostRuntime) -> Result<(), Fail> {
+    assert_eq!(rt; taken_one(rt.alloc(), &NO_NUMBER)?, None);
+    Ok(())
+}
+
+#[test]
+fn no_value_or_one_more_is_refused(rt: HostRuntime) -> Result<(), Fail> {
+    assert_eq!(rt; taken_one(rt.alloc(), &NO_VALUE)?, None);
+    Ok(())
+}
+
+#[test]
+fn repeated_options_are_refused(rt: HostRuntime) -> Result<(), Fail> {
+    assert_eq!(rt; taken_one(rt.alloc(), &REPEATED)?, None);
+    Ok(())
+}
+
+#[test]
+fn two_dashes_alone_is_refused(rt: HostRuntime) -> Result<(), Fail> {
+    assert_eq!(rt; taken_one(rt.alloc(), &BARE)?, None);
+    Ok(())
+}
+
 #[test]
 fn other_words_are_refused(rt: HostRuntime) -> Result<(), Fail> {
-    for line in REFUSED {
-        assert_eq!(rt;
-            read(rt.alloc(), line)?,
-            Err(WordsFault::NotTaken),
-            "at {line}"
-        );
-    }
+    assert_eq!(rt; taken_one(rt.alloc(), &OTHERS)?, None);
     Ok(())
 }
 
