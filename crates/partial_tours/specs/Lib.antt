@@ -4,3 +4,4 @@ pub mod Courses
 pub mod Prefixes
 pub mod Tallies
 pub mod Listed
+pub mod Followers

@@ -65,7 +65,9 @@ pub record IsTallied (s : Snapshot) (c : ℕ) (moves : List Move) (steps : List 
 pub record StandsAt (s : Snapshot) (c : ℕ) (step : Step) (x : Course) : Type 0 where
   pub tracks : TracksCourse s c step.point x
   pub opened : step.tally.opened ≡ (reached s c x).opened
+  pub leaves : step.tally.leaves ≡ (reached s c x).leaves
   pub settled : step.tally.settled ≡ settled_cost s c (reached s c x)
   pub small : step.tally.settled ≤ 460800000000000000
   pub early : step.tally.opened < 10000000000
+  pub late : step.tally.leaves ≤ 90000000000
   pub floor : step.point.place.floor < floor_count s.building

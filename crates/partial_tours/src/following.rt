@@ -7,6 +7,7 @@ ghost use Rattle.elevator_model.specs.declared.Move.{Move};
 ghost use Rattle.elevator_model.specs.Snapshot.{Snapshot, call_count, call_of, state_of, is_coming as is_coming_lem, is_idle as is_idle_lem};
 ghost use Rattle.elevator_model.specs.Partial.{Course, move_on, lawful_moves, may_stand};
 ghost use Rattle.partial_tours.specs.Courses.{TracksCourse, is_after, may_be_next, reached, empty_stop, IsOnWay};
+ghost use Rattle.partial_tours.specs.Followers.{AreFollowers};
 ghost use Rattle.partial_tours.specs.Orders.{first_of, next_after, first_choice as first_choice_lem};
 
 use crate::points::Point;
@@ -194,65 +195,67 @@ fn first_choice(call: Option<u32>, floor: Option<u32>, ends: bool) -> Option<Mov
     }
 }
 
-/// The first move that may follow.
-pub(crate) fn first_move(layout: &Layout, point: &Point, allowed: CallSet) -> Option<Move>
-    ensures { (x : Course) → TracksCourse layout.now.snapshot layout.now.car point.now x
-        → result ≡ first_of (lawful_moves layout.now.snapshot layout.now.car x (has allowed)) }
-{
-    let call = boards_next(layout, point, allowed).least();
-    if call.is_some() {
-        return first_choice(call, None, false);
+/// The moves that may follow a partial tour, with boards of allowed calls only, as sets.
+#[derive(Clone, Copy, Debug)]
+pub struct Followers {
+    boards: CallSet,
+    leaves: FloorSet,
+    ends: bool,
+}
+
+impl Followers {
+    /// The first of them.
+    pub fn first(&self) -> Option<Move>
+        ensures { (s : Snapshot) (c : ℕ) (x : Course) (allowed : ℕ → Bool)
+            → AreFollowers s c x allowed self.now → result
+            ≡ first_of (lawful_moves s c x allowed) }
+    {
+        first_choice(self.boards.least(), self.leaves.least(), self.ends)
     }
-    first_choice(
-        None,
-        leaves_next(layout, point).least(),
-        ends_next(layout, point),
-    )
-}
 
-/// The first move that may follow and comes after the board of a call.
-fn board_after(layout: &Layout, point: &Point, allowed: CallSet, last: u32) -> Option<Move>
-    ensures { (x : Course) → TracksCourse layout.now.snapshot layout.now.car point.now x → result
-        ≡ next_after (Move.Board last)
-        (lawful_moves layout.now.snapshot layout.now.car x (has allowed)) }
-{
-    let call = boards_next(layout, point, allowed).above(last).least();
-    if call.is_some() {
-        return first_choice(call, None, false);
+    /// The first of them that comes after a move.
+    pub fn after(&self, last: Move) -> Option<Move>
+        ensures { (s : Snapshot) (c : ℕ) (x : Course) (allowed : ℕ → Bool)
+            → AreFollowers s c x allowed self.now → result
+            ≡ next_after last (lawful_moves s c x allowed) }
+    {
+        match last {
+            Move::Board(call) => self.after_board(call),
+            Move::Leave(floor) => self.after_leave(floor),
+            Move::End => None,
+        }
     }
-    first_choice(
-        None,
-        leaves_next(layout, point).least(),
-        ends_next(layout, point),
-    )
+
+    /// The first of them that comes after the board of a call.
+    fn after_board(&self, last: u32) -> Option<Move>
+        ensures { (s : Snapshot) (c : ℕ) (x : Course) (allowed : ℕ → Bool)
+            → AreFollowers s c x allowed self.now → result
+            ≡ next_after (Move.Board last) (lawful_moves s c x allowed) }
+    {
+        let call = self.boards.above(last).least();
+        first_choice(call, self.leaves.least(), self.ends)
+    }
+
+    /// The first of them that comes after the leave to a floor.
+    fn after_leave(&self, last: u32) -> Option<Move>
+        ensures { (s : Snapshot) (c : ℕ) (x : Course) (allowed : ℕ → Bool)
+            → AreFollowers s c x allowed self.now → result
+            ≡ next_after (Move.Leave last) (lawful_moves s c x allowed) }
+    {
+        let floor = self.leaves.above(last).least();
+        first_choice(None, floor, self.ends)
+    }
 }
 
-/// The first move that may follow and comes after the leave to a floor.
-fn leave_after(layout: &Layout, point: &Point, last: u32) -> Option<Move>
-    ensures { (x : Course) (allowed : ℕ → Bool)
-        → TracksCourse layout.now.snapshot layout.now.car point.now x → result
-        ≡ next_after (Move.Leave last)
-        (lawful_moves layout.now.snapshot layout.now.car x allowed) }
-{
-    let floor = leaves_next(layout, point).above(last).least();
-    first_choice(None, floor, ends_next(layout, point))
-}
-
-/// The first move that may follow and comes after this one.
-pub(crate) fn move_after(
-    layout: &Layout,
-    point: &Point,
-    allowed: CallSet,
-    last: Move,
-) -> Option<Move>
+/// The moves that may follow.
+pub(crate) fn followers_at(layout: &Layout, point: &Point, allowed: CallSet) -> Followers
     ensures { (x : Course) → TracksCourse layout.now.snapshot layout.now.car point.now x
-        → result
-        ≡ next_after last (lawful_moves layout.now.snapshot layout.now.car x (has allowed)) }
+        → AreFollowers layout.now.snapshot layout.now.car x (has allowed) result }
 {
-    match last {
-        Move::Board(call) => board_after(layout, point, allowed, call),
-        Move::Leave(floor) => leave_after(layout, point, floor),
-        Move::End => None,
+    Followers {
+        boards: boards_next(layout, point, allowed),
+        leaves: leaves_next(layout, point),
+        ends: ends_next(layout, point),
     }
 }
 

@@ -12,6 +12,6 @@ mod tally;
 
 pub use call_sets::CallSet;
 pub use elevator_model::{Boards, Move, Stop, Tour};
-pub use following::{after_last, calls_with_room};
+pub use following::{Followers, after_last, calls_with_room};
 pub use points::Point;
 pub use prefix::{Moves, Prefix, next_moves, tour_of};

@@ -6,9 +6,9 @@ ghost use Rattle.elevator_model.specs.Partial.{Course, lawful_moves, moves_of, s
 ghost use Rattle.partial_tours.specs.PartialTour.{course, with_move_made, stops_made};
 ghost use Rattle.partial_tours.specs.Orders.{first_of, next_after};
 
-use crate::following::{fill, first_move, move_after};
+use crate::following::{Followers, fill, followers_at};
 use crate::points::Point;
-use crate::steps::Step;
+use crate::steps::{Step, opened_at};
 use crate::tally::note;
 use call_sets::CallSet;
 use call_state::Snapshot;
@@ -89,6 +89,8 @@ impl<'a> Prefix<'a> {
     ghost use Rattle.partial_tours.specs.Courses.{TracksCourse, reached};
     ghost use Rattle.partial_tours.specs.Tallies.{StandsAt};
     ghost use Rattle.elevator_model.specs.Partial.{IsLawful};
+    ghost use Rattle.elevator_model.specs.declared.Move.{Move as MoveValue};
+    ghost use Rattle.partial_tours.specs.Followers.{AreFollowers};
     ghost use Rattle.partial_tours.specs.PartialTour.{with_move};
     ghost use Rattle.tour_rules.specs.Measure.{most_moves};
 
@@ -174,6 +176,15 @@ impl<'a> Prefix<'a> {
         Some(last)
     }
 
+    /// The moves after which the partial tour is lawful: boards of allowed calls, leaves and the end.
+    pub fn followers(&self, allowed: CallSet) -> Followers
+        ensures value { (x : Course) → course self.now ≡ Some x
+            → AreFollowers self.now.snapshot self.now.car x (has allowed) result }
+        ensures course { (x : Course) × (course self.now ≡ Some x) }
+    {
+        followers_at(&self.layout, &self.last_step().point, allowed)
+    }
+
     /// The first move after which the partial tour is lawful, of boards of allowed calls, leaves and the end.
     /// None where there is none.
     pub fn first_move(&self, allowed: CallSet) -> Option<Move>
@@ -182,7 +193,7 @@ impl<'a> Prefix<'a> {
         ensures lawful { IfSome result
             (λ m. IsLawful self.now.snapshot self.now.car (self.now.moves ++ m ∷ [])) }
     {
-        first_move(&self.layout, &self.last_step().point, allowed)
+        self.followers(allowed).first()
     }
 
     /// The first such move that comes after this one. None where there is none.
@@ -192,7 +203,7 @@ impl<'a> Prefix<'a> {
         ensures lawful { IfSome result
             (λ m. IsLawful self.now.snapshot self.now.car (self.now.moves ++ m ∷ [])) }
     {
-        move_after(&self.layout, &self.last_step().point, allowed, last)
+        self.followers(allowed).after(last)
     }
 
     /// The cost in cost units of those who got off within the partial tour. The present stop counts: those
@@ -236,6 +247,19 @@ impl<'a> Prefix<'a> {
         ensures early { result < LATEST_MOMENT }
     {
         self.last_step().tally.opened
+    }
+
+    /// The moment in ms at which the doors would be open at a next stop at this floor. The leave to it has to be
+    /// lawful.
+    pub fn opened_after(&self, floor: u32) -> u64
+        requires { IsLawful self.now.snapshot self.now.car
+            (self.now.moves ++ MoveValue.Leave floor ∷ []) }
+        ensures value { (y : Course) → course (with_move self.now (MoveValue.Leave floor)) ≡ Some y
+            → result ≡ (reached self.now.snapshot self.now.car y).opened }
+        ensures early { result < LATEST_MOMENT }
+    {
+        let step = self.last_step();
+        opened_at(&self.layout, &step.point.place, step.tally.leaves, floor)
     }
 
     /// The calls that boarded.
@@ -288,6 +312,7 @@ impl<'a> Prefix<'a> {
         ensures stands { (x : Course) → course self.now ≡ Some x
             → StandsAt self.now.snapshot self.now.car result.now x }
         ensures course { (x : Course) × (course self.now ≡ Some x) }
+        ensures leaves { result.now.tally.leaves ≤ 90000000000 }
         ensures small { result.now.tally.settled ≤ 460800000000000000 }
         ensures early { result.now.tally.opened < 10000000000 }
         ensures floor { result.now.point.place.floor < floor_count self.now.snapshot.building }

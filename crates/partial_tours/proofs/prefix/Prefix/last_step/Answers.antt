@@ -22,12 +22,15 @@ stands c x h =
     let opened = last.tallies.counts.opened in
     let floor = last.tallies.floor in
     let same = last.tracks.place.floor in
+    let late = last.tallies.late in
     subst (λ (p : PartialTour). StandsAt p.snapshot p.car step x) c.self.view_is (record {
       tracks = last.tracks;
       opened = opened;
+      leaves = last.tallies.counts.leaves;
       settled = last.tallies.counts.settled;
       small = tally_small s car (length f.moves.items) step.tally x c.self.invariant.0.accepted c.self.invariant.0.car last.tallies few;
       early = omega (arith, early, opened);
+      late = omega (arith, late, few);
       floor = omega (arith, floor, same);
     })
 
@@ -51,3 +54,6 @@ returns-clause-early c = let x = here c in (stands c x.0 x.1).early
 
 pub returns-clause-floor : goal.returns-clause-floor
 returns-clause-floor c = let x = here c in (stands c x.0 x.1).floor
+
+pub returns-clause-leaves : goal.returns-clause-leaves
+returns-clause-leaves c = let x = here c in (stands c x.0 x.1).late
