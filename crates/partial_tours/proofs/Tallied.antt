@@ -19,6 +19,7 @@ use Rattle.elevator_model.specs.Partial.{Course, course_start, course_of, moves_
 use Rattle.partial_tours.specs.declared.steps.Step.{Step}
 use Rattle.partial_tours.specs.declared.tally.Tally.{Tally}
 use Rattle.partial_tours.specs.Courses.{TracksCourse, reached, empty_stop, with_call_on}
+use Rattle.elevator_model.specs.Costs.{settled_cost}
 use Rattle.tour_rules.specs.Leaving.{IsKept, AreBoarded, AreEarly, leaving_cost}
 use Rattle.partial_tours.specs.Prefixes.{IsPrefix}
 use Rattle.partial_tours.specs.Tallies.{IsPunctual, Counts, IsTally, AreNoted, LeadsOnTallied, with_moment, IsTallied}
@@ -48,12 +49,16 @@ early_after s c before (Some stop) early h = AreEarly-stop s c before stop early
 pub kept_reached : (s : Snapshot) (c count : ℕ) (tally : Tally) (x : Course) → IsTally s c count tally x → IsKept s c (reached s c x)
 kept_reached s c count tally x t = kept_after s c x.before x.present t.kept
 
-early_reached : (s : Snapshot) (c count : ℕ) (tally : Tally) (x : Course) → IsTally s c count tally x → count ≤ 450 → AreEarly s (reached s c x)
+pub early_reached : (s : Snapshot) (c count : ℕ) (tally : Tally) (x : Course) → IsTally s c count tally x → count ≤ 450 → AreEarly s (reached s c x)
 early_reached s c count tally x t few =
     let same = t.counts.opened in
     let timely = t.timely in
     let late = t.late in
     early_after s c x.before x.present t.early (omega (arith, same, timely, late, few))
+
+-- the cost is small where the car goes on to a stop
+pub left_small : (s : Snapshot) (c : ℕ) (p : Progress) (g : ℕ) → IsAccepted s → c < car_count s → IsKept s c p → AreEarly s p → (make_stop s c p (empty_stop g)).opened ≤ 100000000000 → settled_cost s c (make_stop s c p (empty_stop g)) ≤ 460800000000000000
+left_small s c p g a b kept early low = settled-le s c (make_stop s c p (empty_stop g)) a b (IsKept-stop s c p (empty_stop g) kept) (AreEarly-stop s c p (empty_stop g) early low)
 
 -- the cost so far is small
 pub tally_small : (s : Snapshot) (c count : ℕ) (tally : Tally) (x : Course) → IsAccepted s → c < car_count s → IsTally s c count tally x → count ≤ 450 → tally.settled ≤ 460800000000000000

@@ -70,4 +70,6 @@ pub record StandsAt (s : Snapshot) (c : ℕ) (step : Step) (x : Course) : Type 0
   pub small : step.tally.settled ≤ 460800000000000000
   pub early : step.tally.opened < 10000000000
   pub late : step.tally.leaves ≤ 90000000000
+  pub kept : IsKept s c (reached s c x)
+  pub riders : AreEarly s (reached s c x)
   pub floor : step.point.place.floor < floor_count s.building

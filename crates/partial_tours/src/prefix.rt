@@ -250,13 +250,15 @@ impl<'a> Prefix<'a> {
     }
 
     /// The moment in ms at which the doors would be open at a next stop at this floor. The leave to it has to be
-    /// lawful.
+    /// lawful. Those who would have got off then cost less than `MOST_COST`.
     pub fn opened_after(&self, floor: u32) -> u64
         requires { IsLawful self.now.snapshot self.now.car
             (self.now.moves ++ MoveValue.Leave floor ∷ []) }
         ensures value { (y : Course) → course (with_move self.now (MoveValue.Leave floor)) ≡ Some y
             → result ≡ (reached self.now.snapshot self.now.car y).opened }
         ensures early { result < LATEST_MOMENT }
+        ensures small { (y : Course) → course (with_move self.now (MoveValue.Leave floor)) ≡ Some y
+            → settled_of self.now.snapshot self.now.car y < MOST_COST }
     {
         let step = self.last_step();
         opened_at(&self.layout, &step.point.place, step.tally.leaves, floor)

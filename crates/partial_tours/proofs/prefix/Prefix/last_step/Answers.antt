@@ -4,7 +4,7 @@ use Rattle.std.proofs.Common.{Some, ◌≡◌, ◌∙◌, ℕ, ap, sym, subst, l
 use Rattle.partial_tours.specs.PartialTour.{PartialTour, course}
 use Rattle.partial_tours.specs.Tallies.{StandsAt}
 use Rattle.partial_tours.proofs.Prefixes.{moves_few}
-use Rattle.partial_tours.proofs.Tallied.{stands_last, tally_small}
+use Rattle.partial_tours.proofs.Tallied.{stands_last, tally_small, kept_reached, early_reached}
 use Rattle.partial_tours.proofs.Early.{course_early, opened_early}
 use Rattle.partial_tours.proofs.prefix.Prefix.last_step.Goals as goal
 
@@ -31,6 +31,8 @@ stands c x h =
       small = tally_small s car (length f.moves.items) step.tally x c.self.invariant.0.accepted c.self.invariant.0.car last.tallies few;
       early = omega (arith, early, opened);
       late = omega (arith, late, few);
+      kept = kept_reached s car (length f.moves.items) step.tally x last.tallies;
+      riders = early_reached s car (length f.moves.items) step.tally x last.tallies few;
       floor = omega (arith, floor, same);
     })
 
