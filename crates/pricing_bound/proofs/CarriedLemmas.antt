@@ -15,7 +15,7 @@ use Rattle.tour_rules.specs.Leaving.{AreCarried, cost_of_group, is_group_off}
 use Rattle.tour_rules.specs.Places.{group_carried}
 use Rattle.car_layout.specs.Layouts.{is_group_to, any_group_to, persons_to, moments_to}
 use Rattle.partial_tours.proofs.Departing.{groups_gone, groups_cost, groups_fit, weighed_rides}
-use Rattle.pricing_bound.specs.Running.{IsAfterNow, cost_of_rides, cost_of_call_rides, cost_of_group_rides, ridden_to}
+use Rattle.pricing_bound.specs.Running.{IsAfterNow, cost_of_rides, cost_of_call_rides, cost_of_group_rides, ridden_to, standing_at}
 use Rattle.pricing_bound.proofs.PartLemmas.{group_straight}
 use Rattle.pricing_bound.specs.Standing.{IsPlaced}
 
@@ -64,6 +64,14 @@ floor_cost s c p visited set g a late is = by_floor (has visited g) (any_group_t
         let fit = groups_fit s c g (straight_at s p g) a on_time in
         let ridden = weighed_rides (sum_where (length s.aboard) (is_group_off s c visited g) (λ k. cost_of_group s k (straight_at s p g))) s.building.travel_weight s.building.travel_weight (persons_to s.aboard c g) (persons_to s.aboard c g) (moments_to s.aboard c g) (moments_to s.aboard c g) (straight_at s p g) refl refl refl fit cost in
         there ∙ ridden ∙ sum_where-same (length s.aboard) (is_group_off s c visited g) (is_group_off s c visited g) (λ k. cost_of_group s k (straight_at s p g)) (λ k. cost_of_group s k (straight_at s p (group_of s k).destination)) (λ k lt. refl) (λ k lt h. ap (λ (d : ℕ). cost_of_group s k (straight_at s p d)) (sym (eqb-true (group_of s k).destination g (and_parts (group_carried s.aboard c visited k) ((group_of s k).destination == g) h).1)))
+
+-- ---- the car at another stop
+
+pub placed_standing : (s : Snapshot) (c : ℕ) (p : Progress) (g m : ℕ) → IsPlaced s c p → g < floor_count s.building → IsPlaced s c (standing_at p g m)
+placed_standing s c p g m h near = record { kept = record { carried = h.kept.carried; calls = h.kept.calls; groups = h.kept.groups }; floor = near; timely = omega arith; first = λ e. absurd (false≢true (sym e)) }
+
+pub carried_standing : (s : Snapshot) (c carried visited : ℕ) (p : Progress) (g m : ℕ) → AreCarried s c carried visited p → AreCarried s c carried visited (standing_at p g m)
+carried_standing s c carried visited p g m are = record { calls = are.calls; groups = are.groups }
 
 -- ---- all floors
 

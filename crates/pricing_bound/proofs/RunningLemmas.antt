@@ -1,5 +1,5 @@
 -- How running sums go from move to move.
-use Rattle.std.proofs.Common.{◌≡◌, ◌==◌, ℕ, ◌^◌, ◌<◌, ◌≤◌, Bool, true, false, cond, not, ◌&&◌, ◌||◌, ltb, List, [], ◌∷◌, length, refl, sym, ap, ◌∙◌, subst, arith, Option, Some, None}
+use Rattle.std.proofs.Common.{◌≡◌, ◌==◌, ℕ, ◌+◌, ◌^◌, eqb, ◌<◌, ◌≤◌, Bool, true, false, cond, not, ◌&&◌, ◌||◌, ltb, List, [], ◌∷◌, ◌++◌, length, refl, sym, ap, ◌∙◌, subst, arith, Option, Some, None}
 use Rattle.std.specs.Prelude.{ℤ, pos, ◌+ℤ◌, ◌-ℤ◌, ◌≤ℤ◌, int_lt}
 use Rattle.std.proofs.lemmas.Int.{ints}
 use Rattle.std.proofs.lemmas.Bool.{and_right, or_right, false≢true, eqb-true, eq-eqb, both_ways, lt-ltb}
@@ -7,9 +7,12 @@ use Rattle.elevator_model.specs.declared.Stop.{Stop}
 use Rattle.elevator_model.specs.declared.Move.{Move}
 use Rattle.elevator_model.specs.declared.Move.TheVariants.{Board, Leave, End}
 use Rattle.call_sets.specs.Counting.{has}
+use Rattle.call_sets.proofs.Sums.{sum_below-same, sum_below-add}
+use Rattle.elevator_model.specs.Building.{floor_count}
+use Rattle.elevator_model.specs.Travel.{time_between}
 use Rattle.elevator_model.specs.Snapshot.{Snapshot, IsAccepted, car_count, call_count}
-use Rattle.elevator_model.specs.Tours.{Progress, boards_at, make_stop, start_of, after_stops}
-use Rattle.elevator_model.specs.Costs.{settled_cost, cost_of}
+use Rattle.elevator_model.specs.Tours.{Progress, boards_at, destination_of, gets_off, make_stop, rider_count, start_of, after_stops}
+use Rattle.elevator_model.specs.Costs.{cost_of_rider, settled_cost, cost_of}
 use Rattle.elevator_model.specs.Plans.{is_boarded_in}
 use Rattle.elevator_model.specs.Partial.{Course, course_start, course_of, moves_on, move_on, progress_after}
 use Rattle.price_scale.specs.Scale.{IsPrice, IsPriceSum}
@@ -19,25 +22,43 @@ use Rattle.search_model.specs.Prices.{scaled, prices_of_tour}
 use Rattle.search_model.specs.Bounds.{cost_if_straight, waiting_term, bound_after}
 use Rattle.search_model.proofs.SumLemmas.{int_sum-same, int_sum-zero}
 use Rattle.partial_tours.specs.Courses.{reached, empty_stop, with_call_on}
-use Rattle.partial_tours.specs.PartialTour.{PartialTour, course}
+use Rattle.partial_tours.specs.PartialTour.{PartialTour, course, with_move}
 use Rattle.partial_tours.proofs.Boarded.{boarded_in}
-use Rattle.partial_tours.proofs.Follow.{leave_leads_to, board_leads_to, ending_leads_to, last_move}
+use Rattle.partial_tours.proofs.Follow.{leave_leads_to, board_leads_to, ending_leads_to, last_move, stands_in}
 use Rattle.tour_rules.proofs.RiderSums.{is_aboard-call}
-use Rattle.tour_rules.proofs.Settled.{settled_start}
+use Rattle.tour_rules.specs.Leaving.{IsKept}
+use Rattle.tour_rules.proofs.Settled.{settled_start, settled_more_once}
 use Rattle.tour_rules.proofs.Sound.{IsSound-moves, IsSound-start, leads_on}
 use Rattle.pricing_bound.specs.declared.straight.Sums.{Sums}
-use Rattle.pricing_bound.specs.Aims.{Aim, AimsAt, IsBoundSize, IsLastMove, value_for}
+use Rattle.pricing_bound.specs.Aims.{Aim, AimsAt, IsBoundSize, IsNextMove, value_for}
 use Rattle.pricing_bound.specs.Parts.{group_part}
 use Rattle.pricing_bound.specs.Rates.{term_at, counts_at, adds_at}
-use Rattle.pricing_bound.specs.Running.{AreSums, AreWaiting, StandFor, is_counted, cost_of_rides}
+use Rattle.pricing_bound.specs.Running.{AreSums, AreWaiting, StandFor, is_counted, cost_of_rides, standing_at}
 use Rattle.pricing_bound.specs.Costs.{int_sum_one_off}
-use Rattle.pricing_bound.specs.GrowthLemmas.{Boards, boards_now, board_adds, no_boards, or_none, term-later, paid_here}
+use Rattle.pricing_bound.specs.GrowthLemmas.{Boards, boards_now, board_adds, board_settles, no_boards, or_none, term-later, paid_here}
 use Rattle.pricing_bound.specs.LowerLemmas.{allowed_rest}
 use Rattle.pricing_bound.proofs.PartLemmas.{rides_apart}
 use Rattle.pricing_bound.proofs.Sizes.{bound_size, prices_size}
 use Rattle.pricing_bound.specs.Standing.{placed_reached, course_standing, arrives_after}
 
 -- ---- the last move, in the words of the aim
+
+-- The last move of a partial tour that boards allowed calls only is this one, and something stands where the moves
+-- before it lead.
+pub record IsLastMove (a : Aim) (stands : Course → Type 0) (t : PartialTour) (last : Move) : Type 0 where
+  pub moves : List Move
+  pub before : Course
+  pub moves_are : t.moves ≡ moves ++ last ∷ []
+  pub leads : course_of t.snapshot t.car moves ≡ Some before
+  pub stands_before : stands before
+  pub may : AreAllowed a.allowed t.moves
+
+-- a move that may come next is the last one, once it is made
+abbrev pub last_of : (a : Aim) (P : Course → Type 0) (t : PartialTour) (m : Move) → IsNextMove a P t m → IsLastMove a P (with_move t m) m
+last_of a P t m h = record { moves = t.moves; before = h.before; moves_are = refl; leads = h.leads; stands_before = h.stands_before; may = h.may }
+
+pub aims_on : (a : Aim) (t : PartialTour) (m : Move) → AimsAt a t → AimsAt a (with_move t m)
+aims_on a t m h = record { snapshot = h.snapshot; car = h.car }
 
 pub record IsStep (a : Aim) (t : PartialTour) (moves : List Move) (x : Course) (m : Move) (y : Course) : Type 0 where
   pub front : course_of a.snapshot a.car moves ≡ Some x
@@ -121,7 +142,7 @@ board_core a b stop j sums new more may h old more_at bound paid counted waiting
     together : (new old more p q w t : ℤ) → new ≡ old +ℤ more → old ≡ p → more ≡ t -ℤ w → q ≡ ((p -ℤ w) +ℤ t) → new ≡ q
     together new old more p q w t e f g h = omega (arith, ints, e, f, g, h)
 
-pub board_sums : (a : Aim) (t : PartialTour) (sums new : Sums) (j : ℕ) (y : Course) (more : ℤ) → AimsAt a t → IsLastMove a (StandFor a sums) t (Board j) → IsAccepted a.snapshot → a.car < car_count a.snapshot → ((k : ℕ) → IsPrice (a.price k)) → course t ≡ Some y → settled_cost t.snapshot t.car (reached t.snapshot t.car y) ≤ 10 ^ 18 → more ≡ cond (has sums.waiting.counted j) (pos 0) (term_at a (reached t.snapshot t.car y).opened j) → new.bound ≡ sums.bound +ℤ more → new.paid ≡ sums.paid +ℤ a.price j → ((k : ℕ) → has new.waiting.counted k ≡ (has sums.waiting.counted k && not (k == j))) → AreWaiting a new.waiting → new.waiting.moment ≡ sums.waiting.moment → StandFor a new y
+pub board_sums : (a : Aim) (t : PartialTour) (sums new : Sums) (j : ℕ) (y : Course) (more : ℤ) → AimsAt a t → (last : IsLastMove a (StandFor a sums) t (Board j)) → IsAccepted a.snapshot → a.car < car_count a.snapshot → ((k : ℕ) → IsPrice (a.price k)) → course t ≡ Some y → settled_cost t.snapshot t.car (reached t.snapshot t.car last.before) ≤ 10 ^ 18 → more ≡ cond (has sums.waiting.counted j) (pos 0) (term_at a sums.waiting.moment j) → new.bound ≡ sums.bound +ℤ more → new.paid ≡ sums.paid +ℤ a.price j → ((k : ℕ) → has new.waiting.counted k ≡ (has sums.waiting.counted k && not (k == j))) → AreWaiting a new.waiting → new.waiting.moment ≡ sums.waiting.moment → StandFor a new y
 board_sums a t sums new j y more aims last accepted car prices leads settled more_at bound paid counted waiting moment =
     let s = a.snapshot in
     let c = a.car in
@@ -132,9 +153,11 @@ board_sums a t sums new j y more aims last accepted car prices leads settled mor
     let may = (allowed_rest a.allowed last.moves (Board j ∷ []) (subst (AreAllowed a.allowed) last.moves_are last.may)).0 in
     let boards = boards_now s c x j y standing.before.kept at in
     let old = subst (λ (o : Option Stop). AreSums a sums (progress_after s c x.before o)) at.present last.stands_before in
-    let settled_here = aimed_at a t (λ s c. settled_cost s c (reached s c y) ≤ 10 ^ 18) aims settled in
+    let settled_before = subst (λ (o : Option Stop). settled_cost s c (progress_after s c x.before o) ≤ 10 ^ 18) at.present (aimed_at a t (λ s c. settled_cost s c (reached s c x) ≤ 10 ^ 18) aims settled) in
+    let none = board_settles s c x.before at.stop j boards in
+    let settled_here = subst (λ (z : Course). settled_cost s c (reached s c z) ≤ 10 ^ 18) (sym at.leads) (omega (arith, settled_before, none)) in
     let small = subst (λ (z : Course). IsBoundSize (bound_after s c a.price a.allowed a.required (reached s c z))) at.leads (bound_size s c a.price a.allowed a.required t.moves y accepted car prices step.whole settled_here) in
-    let more_here = subst (λ (z : Course). more ≡ cond (has sums.waiting.counted j) (pos 0) (term_at a (reached s c z).opened j)) at.leads (aimed_at a t (λ s c. more ≡ cond (has sums.waiting.counted j) (pos 0) (term_at a (reached s c y).opened j)) aims more_at) in
+    let more_here = more_at ∙ ap (λ (m : ℕ). cond (has sums.waiting.counted j) (pos 0) (term_at a m j)) old.opened in
     subst (λ (z : Course). AreSums a new (reached s c z)) (sym at.leads) (board_core a x.before at.stop j sums new more may boards old more_here bound paid counted waiting moment small (λ test. prices_size s test a.price accepted prices))
 
 -- ---- a leave
@@ -168,8 +191,34 @@ adds_later true true false false false t u e f h = by_cases (int_lt t (pos 0)) (
     by_cases false true e = absurd (false≢true e)
     by_cases false false e = refl
 
-leave_core : (a : Aim) (p : Progress) (g : ℕ) (sums new : Sums) (settled carried : ℕ) (waiting : ℤ) → p.opened ≤ (make_stop a.snapshot a.car p (empty_stop g)).opened → AreSums a sums p → settled ≡ settled_cost a.snapshot a.car (make_stop a.snapshot a.car p (empty_stop g)) → carried ≡ cost_of_rides a.snapshot (make_stop a.snapshot a.car p (empty_stop g)) → waiting ≡ int_sum_where (call_count a.snapshot) (has sums.waiting.counted) (adds_at a (make_stop a.snapshot a.car p (empty_stop g)).opened) → new.bound ≡ (((scaled settled +ℤ scaled carried) -ℤ sums.paid) +ℤ waiting) → new.paid ≡ sums.paid → ((k : ℕ) → has new.waiting.counted k ≡ (has sums.waiting.counted k && counts_at a (make_stop a.snapshot a.car p (empty_stop g)).opened k)) → AreWaiting a new.waiting → new.waiting.moment ≡ (make_stop a.snapshot a.car p (empty_stop g)).opened → IsBoundSize (bound_after a.snapshot a.car a.price a.allowed a.required (make_stop a.snapshot a.car p (empty_stop g))) → AreSums a new (make_stop a.snapshot a.car p (empty_stop g))
-leave_core a p g sums new settled carried waiting later old settled_is carried_is waiting_is bound paid counted are opened small =
+-- a rider carried gets off or rides on, and costs the same either way
+off_or_on_same : (k d x : Bool) (now off on : ℕ) → x ≡ false → (d ≡ true → now ≡ off) → (d ≡ false → now ≡ on) → cond k now 0 ≡ cond (k && d) off 0 + cond ((k && not d) || x) on 0
+off_or_on_same false d true now off on none here there = absurd (false≢true (sym none))
+off_or_on_same false d false now off on none here there = refl
+off_or_on_same true true false now off on none here there = let is = here refl in omega (arith, is)
+off_or_on_same true false false now off on none here there = let is = there refl in omega (arith, is)
+off_or_on_same true d true now off on none here there = absurd (false≢true (sym none))
+
+rides_over : (s : Snapshot) (c : ℕ) (p : Progress) (g r : ℕ) → IsAccepted s → g < floor_count s.building → let q = make_stop s c p (empty_stop g) in cond (p.carried r) (cost_if_straight s (standing_at p g q.opened) r) 0 ≡ cond (gets_off s p g r) (cost_of_rider s r (p.boarded_at r) q.opened) 0 + cond (q.carried r) (cost_if_straight s q r) 0
+rides_over s c p g r a to =
+    let q = make_stop s c p (empty_stop g) in
+    let none = no_boards s g r in
+    let floors = a.building.travel_floors in
+    let rest = a.building.travel.at_rest g (omega (arith, floors, to)) in
+    let boarded : q.boarded_at r ≡ p.boarded_at r = ap (λ (x : Bool). cond x q.opened (p.boarded_at r)) none in
+    off_or_on_same (p.carried r) (eqb (destination_of s r) g) (boards_at s (empty_stop g) r) (cost_if_straight s (standing_at p g q.opened) r) (cost_of_rider s r (p.boarded_at r) q.opened) (cost_if_straight s q r) none (λ e. let way = ap (time_between s.building.travel g) (eqb-true (destination_of s r) g e) in ap (cost_of_rider s r (p.boarded_at r)) (omega (arith, way, rest))) (λ e. ap (λ (m : ℕ). cost_of_rider s r m (q.opened + time_between s.building.travel g (destination_of s r))) (sym boarded))
+
+-- What is settled and what those carried cost is the same together, seen before the stop at which some get off.
+pub settles_over : (s : Snapshot) (c : ℕ) (p : Progress) (g : ℕ) → IsAccepted s → IsKept s c p → g < floor_count s.building → let q = make_stop s c p (empty_stop g) in settled_cost s c q + cost_of_rides s q ≡ settled_cost s c p + cost_of_rides s (standing_at p g q.opened)
+settles_over s c p g a kept to =
+    let q = make_stop s c p (empty_stop g) in
+    let settled = settled_more_once s c p (empty_stop g) kept (λ j boards. absurd (false≢true (sym (no_boards s g j) ∙ boards))) in
+    let each = sum_below-same (rider_count s) (λ r. cond (p.carried r) (cost_if_straight s (standing_at p g q.opened) r) 0) (λ r. cond (gets_off s p g r) (cost_of_rider s r (p.boarded_at r) q.opened) 0 + cond (q.carried r) (cost_if_straight s q r) 0) (λ r b. rides_over s c p g r a to) in
+    let parts = sum_below-add (rider_count s) (λ r. cond (gets_off s p g r) (cost_of_rider s r (p.boarded_at r) q.opened) 0) (λ r. cond (q.carried r) (cost_if_straight s q r) 0) in
+    omega (arith, settled, each, parts)
+
+leave_core : (a : Aim) (p : Progress) (g : ℕ) (sums new : Sums) (settled carried : ℕ) (waiting : ℤ) → p.opened ≤ (make_stop a.snapshot a.car p (empty_stop g)).opened → AreSums a sums p → settled + carried ≡ settled_cost a.snapshot a.car (make_stop a.snapshot a.car p (empty_stop g)) + cost_of_rides a.snapshot (make_stop a.snapshot a.car p (empty_stop g)) → waiting ≡ int_sum_where (call_count a.snapshot) (has sums.waiting.counted) (adds_at a (make_stop a.snapshot a.car p (empty_stop g)).opened) → new.bound ≡ (((scaled settled +ℤ scaled carried) -ℤ sums.paid) +ℤ waiting) → new.paid ≡ sums.paid → ((k : ℕ) → has new.waiting.counted k ≡ (has sums.waiting.counted k && counts_at a (make_stop a.snapshot a.car p (empty_stop g)).opened k)) → AreWaiting a new.waiting → new.waiting.moment ≡ (make_stop a.snapshot a.car p (empty_stop g)).opened → IsBoundSize (bound_after a.snapshot a.car a.price a.allowed a.required (make_stop a.snapshot a.car p (empty_stop g))) → AreSums a new (make_stop a.snapshot a.car p (empty_stop g))
+leave_core a p g sums new settled carried waiting later old both_are waiting_is bound paid counted are opened small =
     let s = a.snapshot in
     let c = a.car in
     let q = make_stop s c p (empty_stop g) in
@@ -177,7 +226,7 @@ leave_core a p g sums new settled carried waiting later old settled_is carried_i
     let same_paid = int_sum-same (call_count s) (λ j. cond (q.boarded j) (a.price j) (pos 0)) (λ j. cond (p.boarded j) (a.price j) (pos 0)) (λ j b. ap (λ (x : Bool). cond x (a.price j) (pos 0)) (or_none (p.boarded j) (boards_at s (empty_stop g) j) (no_boards s g j))) in
     let same_waiting = int_sum-same (call_count s) (λ j. cond (has sums.waiting.counted j) (adds_at a q.opened j) (pos 0)) (λ j. cond (a.allowed j && not (q.boarded j)) (waiting_term s a.price a.required q j) (pos 0)) (λ j b. ap (λ (v : Bool). cond v (adds_at a q.opened j) (pos 0)) (old.counted j) ∙ adds_later (ltb j (call_count s)) (a.allowed j) (p.boarded j) (boards_at s (empty_stop g) j) (a.required j) (term_at a p.opened j) (term_at a q.opened j) (lt-ltb j (call_count s) b) (no_boards s g j) (terms j)) in
     let paid_is : new.paid ≡ int_sum_where (call_count s) q.boarded a.price = paid ∙ old.paid ∙ sym same_paid in
-    let new_is = together new.bound settled carried (settled_cost s c q) (cost_of_rides s q) sums.paid waiting (int_sum_where (call_count s) q.boarded a.price) (int_sum_where (call_count s) (λ j. a.allowed j && not (q.boarded j)) (waiting_term s a.price a.required q)) bound settled_is carried_is (old.paid ∙ sym same_paid) (waiting_is ∙ same_waiting) in
+    let new_is = together new.bound settled carried (settled_cost s c q) (cost_of_rides s q) sums.paid waiting (int_sum_where (call_count s) q.boarded a.price) (int_sum_where (call_count s) (λ j. a.allowed j && not (q.boarded j)) (waiting_term s a.price a.required q)) bound both_are (old.paid ∙ sym same_paid) (waiting_is ∙ same_waiting) in
     record {
       bound = new_is;
       small = subst IsBoundSize (sym new_is) small;
@@ -188,26 +237,26 @@ leave_core a p g sums new settled carried waiting later old settled_is carried_i
       opened = opened;
     }
   where
-    together : (new : ℤ) (settled carried settled' carried' : ℕ) (paid waiting paid' waiting' : ℤ) → new ≡ (((scaled settled +ℤ scaled carried) -ℤ paid) +ℤ waiting) → settled ≡ settled' → carried ≡ carried' → paid ≡ paid' → waiting ≡ waiting' → new ≡ (((scaled settled' +ℤ scaled carried') -ℤ paid') +ℤ waiting')
-    together new settled carried settled' carried' paid waiting paid' waiting' e f g h i = omega (arith, ints, e, f, g, h, i)
+    together : (new : ℤ) (settled carried settled' carried' : ℕ) (paid waiting paid' waiting' : ℤ) → new ≡ (((scaled settled +ℤ scaled carried) -ℤ paid) +ℤ waiting) → settled + carried ≡ settled' + carried' → paid ≡ paid' → waiting ≡ waiting' → new ≡ (((scaled settled' +ℤ scaled carried') -ℤ paid') +ℤ waiting')
+    together new settled carried settled' carried' paid waiting paid' waiting' e f h i = omega (arith, ints, e, f, h, i)
 
-pub leave_sums : (a : Aim) (t : PartialTour) (sums new : Sums) (g : ℕ) (y : Course) (settled carried : ℕ) (waiting : ℤ) → AimsAt a t → IsLastMove a (StandFor a sums) t (Leave g) → IsAccepted a.snapshot → a.car < car_count a.snapshot → ((k : ℕ) → IsPrice (a.price k)) → course t ≡ Some y → settled ≤ 10 ^ 18 → settled ≡ settled_cost t.snapshot t.car (reached t.snapshot t.car y) → carried ≡ cost_of_rides t.snapshot (reached t.snapshot t.car y) → waiting ≡ int_sum_where (call_count a.snapshot) (has sums.waiting.counted) (adds_at a (reached t.snapshot t.car y).opened) → new.bound ≡ (((scaled settled +ℤ scaled carried) -ℤ sums.paid) +ℤ waiting) → new.paid ≡ sums.paid → ((k : ℕ) → has new.waiting.counted k ≡ (has sums.waiting.counted k && counts_at a (reached t.snapshot t.car y).opened k)) → AreWaiting a new.waiting → new.waiting.moment ≡ (reached t.snapshot t.car y).opened → StandFor a new y
-leave_sums a t sums new g y settled carried waiting aims last accepted car prices leads small settled_is carried_is waiting_is bound paid counted are opened =
+pub leave_sums : (a : Aim) (t : PartialTour) (sums new : Sums) (g : ℕ) (y : Course) (settled carried opened : ℕ) (waiting : ℤ) → AimsAt a t → (last : IsLastMove a (StandFor a sums) t (Leave g)) → IsAccepted a.snapshot → a.car < car_count a.snapshot → ((k : ℕ) → IsPrice (a.price k)) → course t ≡ Some y → settled_cost t.snapshot t.car (reached t.snapshot t.car y) ≤ 10 ^ 18 → opened ≡ (reached t.snapshot t.car y).opened → settled ≡ settled_cost t.snapshot t.car (reached t.snapshot t.car last.before) → carried ≡ cost_of_rides t.snapshot (standing_at (reached t.snapshot t.car last.before) g opened) → waiting ≡ int_sum_where (call_count a.snapshot) (has sums.waiting.counted) (adds_at a opened) → new.bound ≡ (((scaled settled +ℤ scaled carried) -ℤ sums.paid) +ℤ waiting) → new.paid ≡ sums.paid → ((k : ℕ) → has new.waiting.counted k ≡ (has sums.waiting.counted k && counts_at a opened k)) → AreWaiting a new.waiting → new.waiting.moment ≡ opened → StandFor a new y
+leave_sums a t sums new g y settled carried opened waiting aims last accepted car prices leads small opened_is settled_is carried_is waiting_is bound paid counted are moment =
     let s = a.snapshot in
     let c = a.car in
     let x = last.before in
     let p = reached s c x in
+    let q = make_stop s c p (empty_stop g) in
     let step = step_of a (StandFor a sums) t (Leave g) y aims last leads in
     let placed = placed_reached s c x (course_standing s c last.moves x accepted car step.front) in
     let at = leave_leads_to s c x g y step.leads in
     let arrives = arrives_after s c p g accepted placed at.1 in
-    let settled_here = aimed_at a t (λ s c. settled ≡ settled_cost s c (reached s c y)) aims settled_is in
-    let carried_here = aimed_at a t (λ s c. carried ≡ cost_of_rides s (reached s c y)) aims carried_is in
-    let waiting_here = aimed_at a t (λ s c. waiting ≡ int_sum_where (call_count a.snapshot) (has sums.waiting.counted) (adds_at a (reached s c y).opened)) aims waiting_is in
-    let counted_here = aimed_at a t (λ s c. (k : ℕ) → has new.waiting.counted k ≡ (has sums.waiting.counted k && counts_at a (reached s c y).opened k)) aims counted in
-    let opened_here = aimed_at a t (λ s c. new.waiting.moment ≡ (reached s c y).opened) aims opened in
-    let size = bound_size s c a.price a.allowed a.required t.moves y accepted car prices step.whole (omega (arith, small, settled_here)) in
-    subst (λ (z : Course). AreSums a new (reached s c z)) (sym at.2) (leave_core a p g sums new settled carried waiting (omega (arith, arrives)) last.stands_before (subst (λ (z : Course). settled ≡ settled_cost s c (reached s c z)) at.2 settled_here) (subst (λ (z : Course). carried ≡ cost_of_rides s (reached s c z)) at.2 carried_here) (subst (λ (z : Course). waiting ≡ int_sum_where (call_count a.snapshot) (has sums.waiting.counted) (adds_at a (reached s c z).opened)) at.2 waiting_here) bound paid (subst (λ (z : Course). (k : ℕ) → has new.waiting.counted k ≡ (has sums.waiting.counted k && counts_at a (reached s c z).opened k)) at.2 counted_here) are (subst (λ (z : Course). new.waiting.moment ≡ (reached s c z).opened) at.2 opened_here) (subst (λ (z : Course). IsBoundSize (bound_after s c a.price a.allowed a.required (reached s c z))) at.2 size))
+    let opened_there : opened ≡ q.opened = subst (λ (z : Course). opened ≡ (reached s c z).opened) at.2 (aimed_at a t (λ s c. opened ≡ (reached s c y).opened) aims opened_is) in
+    let settled_here = aimed_at a t (λ s c. settled ≡ settled_cost s c (reached s c x)) aims settled_is in
+    let carried_here = aimed_at a t (λ s c. carried ≡ cost_of_rides s (standing_at (reached s c x) g opened)) aims carried_is ∙ ap (λ (m : ℕ). cost_of_rides s (standing_at p g m)) opened_there in
+    let over = settles_over s c p g accepted placed.kept (stands_in s c p g at.1) in
+    let size = bound_size s c a.price a.allowed a.required t.moves y accepted car prices step.whole (aimed_at a t (λ s c. settled_cost s c (reached s c y) ≤ 10 ^ 18) aims small) in
+    subst (λ (z : Course). AreSums a new (reached s c z)) (sym at.2) (leave_core a p g sums new settled carried waiting (omega (arith, arrives)) last.stands_before (omega (arith, settled_here, carried_here, over)) (waiting_is ∙ ap (λ (m : ℕ). int_sum_where (call_count s) (has sums.waiting.counted) (adds_at a m)) opened_there) bound paid (λ k. counted k ∙ ap (λ (m : ℕ). has sums.waiting.counted k && counts_at a m k) opened_there) are (moment ∙ opened_there) (subst (λ (z : Course). IsBoundSize (bound_after s c a.price a.allowed a.required (reached s c z))) at.2 size))
 
 -- the doors open no sooner than they did before
 pub leaves_later : (a : Aim) (t : PartialTour) (sums : Sums) (g : ℕ) (y : Course) → AimsAt a t → IsLastMove a (StandFor a sums) t (Leave g) → IsAccepted a.snapshot → a.car < car_count a.snapshot → course t ≡ Some y → sums.waiting.moment ≤ (reached t.snapshot t.car y).opened
@@ -218,14 +267,6 @@ leaves_later a t sums g y aims last accepted car leads =
     let arrives = arrives_after a.snapshot a.car (reached a.snapshot a.car last.before) g accepted placed at.1 in
     let opened = last.stands_before.opened in
     aimed_from a t (λ s c. sums.waiting.moment ≤ (reached s c y).opened) aims (subst (λ (z : Course). sums.waiting.moment ≤ (reached a.snapshot a.car z).opened) (sym at.2) (omega (arith, arrives, opened)))
-
--- they stay open where a call boards
-pub boards_then : (a : Aim) (t : PartialTour) (sums : Sums) (j : ℕ) (y : Course) → AimsAt a t → IsLastMove a (StandFor a sums) t (Board j) → course t ≡ Some y → sums.waiting.moment ≡ (reached t.snapshot t.car y).opened
-boards_then a t sums j y aims last leads =
-    let step = step_of a (StandFor a sums) t (Board j) y aims last leads in
-    let at = board_leads_to a.snapshot a.car last.before j y step.leads in
-    let before = subst (λ (o : Option Stop). sums.waiting.moment ≡ (progress_after a.snapshot a.car last.before.before o).opened) at.present last.stands_before.opened in
-    aimed_from a t (λ s c. sums.waiting.moment ≡ (reached s c y).opened) aims (subst (λ (z : Course). sums.waiting.moment ≡ (reached a.snapshot a.car z).opened) (sym at.leads) before)
 
 -- ---- the end
 

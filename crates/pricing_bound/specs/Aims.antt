@@ -3,7 +3,7 @@ use Rattle.std.specs.Prelude.{◌≡◌, ◌<◌, ◌≤ℤ◌, ◌-ℤ◌, ◌^
 use Rattle.elevator_model.specs.declared.Move.{Move}
 use Rattle.elevator_model.specs.declared.Stop.{Stop}
 use Rattle.elevator_model.specs.Snapshot.{Snapshot, IsAccepted, car_count, call_count}
-use Rattle.elevator_model.specs.Partial.{Course, course_of, move_on, boards_allowed, settled_of}
+use Rattle.elevator_model.specs.Partial.{Course, IsLawful, course_of, move_on, boards_allowed, settled_of}
 use Rattle.search_model.specs.Bounds.{positive_part, completion_bound}
 use Rattle.search_model.specs.Nodes.{IsTourWithin}
 use Rattle.search_model.specs.Orders.{AreAllowed, BeginsWith}
@@ -25,15 +25,13 @@ pub record AimsAt (a : Aim) (t : PartialTour) : Type 0 where
   pub snapshot : a.snapshot ≡ t.snapshot
   pub car : a.car ≡ t.car
 
--- The last move of a partial tour that boards allowed calls only is this one, and something stands where the moves
--- before it lead.
-pub record IsLastMove (a : Aim) (stands : Course → Type 0) (t : PartialTour) (last : Move) : Type 0 where
-  pub moves : List Move
+-- The move may follow a partial tour that boards allowed calls only, and something stands where the partial tour leads.
+pub record IsNextMove (a : Aim) (stands : Course → Type 0) (t : PartialTour) (next : Move) : Type 0 where
   pub before : Course
-  pub moves_are : t.moves ≡ moves ++ last ∷ []
-  pub leads : course_of t.snapshot t.car moves ≡ Some before
+  pub leads : course t ≡ Some before
   pub stands_before : stands before
-  pub may : AreAllowed a.allowed t.moves
+  pub lawful : IsLawful t.snapshot t.car (t.moves ++ next ∷ [])
+  pub may : AreAllowed a.allowed (t.moves ++ next ∷ [])
 
 -- the partial tour has ended, and something stands where it leads
 pub record HasEnded (stands : Course → Type 0) (t : PartialTour) : Type 0 where

@@ -150,6 +150,16 @@ waiting_here a b x x' term e f h p = cc
 boarded_together : (settled straight settled' straight' cost : ℕ) (paid paid' waiting waiting' price term : ℤ) → settled' ≡ settled + 0 → straight' ≡ straight + cost → paid' ≡ paid +ℤ price → waiting ≡ waiting' +ℤ term → (((scaled settled' +ℤ scaled straight') -ℤ paid') +ℤ waiting') ≡ (((((scaled settled +ℤ scaled straight) -ℤ paid) +ℤ waiting) -ℤ term) +ℤ (scaled cost -ℤ price))
 boarded_together settled straight settled' straight' cost paid paid' waiting waiting' price term e d same less = omega (arith, ints, e, d, same, less)
 
+-- where a call boards nobody gets off
+pub board_settles : (s : Snapshot) (c : ℕ) (b : Progress) (stop : Stop) (j : ℕ) → Boards s c b stop j → settled_cost s c (make_stop s c b (with_call_on stop j)) ≡ settled_cost s c (make_stop s c b stop) + 0
+board_settles s c b stop j h =
+    let p = make_stop s c b stop in
+    let q = make_stop s c b (with_call_on stop j) in
+    let x = boards_at s stop in
+    let x' = boards_at s (with_call_on stop j) in
+    let in_all : j < rider_count s = let call = h.call in omega (arith, call) in
+    sum_one_off (rider_count s) j (λ r. cond (is_delivered s c p r) (cost_of_rider s r (p.boarded_at r) (p.delivered_at r)) 0) (λ r. cond (is_delivered s c q r) (cost_of_rider s r (q.boarded_at r) (q.delivered_at r)) 0) 0 in_all (settled_here (b.boarded j) (is_aboard s c j) (b.carried j) (destination_of s j == stop.floor) (x j) (x' j) (cost_of_rider s j (p.boarded_at j) (p.delivered_at j)) (cost_of_rider s j (q.boarded_at j) (q.delivered_at j)) h.fresh h.not_aboard h.not_carried h.absent h.present) (λ r ne. ap (λ (v : Bool). cond (((b.boarded r || v) || is_aboard s c r) && not (stays_on s b stop.floor r || v)) (cost_of_rider s r (cond v p.opened (b.boarded_at r)) (p.delivered_at r)) 0) (h.others r ne))
+
 -- A board of a call replaces what it adds by what it costs alone without its price.
 pub board_adds : (s : Snapshot) (c : ℕ) (price : ℕ → ℤ) (allowed required : ℕ → Bool) (b : Progress) (stop : Stop) (j : ℕ) → allowed j ≡ true → Boards s c b stop j → let p = make_stop s c b stop in bound_after s c price allowed required (make_stop s c b (with_call_on stop j)) ≡ ((bound_after s c price allowed required p -ℤ waiting_term s price required p j) +ℤ (scaled (cost_if_alone s j p.opened) -ℤ price j))
 board_adds s c price allowed required b stop j may h =
@@ -158,7 +168,7 @@ board_adds s c price allowed required b stop j may h =
     let x = boards_at s stop in
     let x' = boards_at s (with_call_on stop j) in
     let in_all : j < rider_count s = let call = h.call in omega (arith, call) in
-    let settled = sum_one_off (rider_count s) j (λ r. cond (is_delivered s c p r) (cost_of_rider s r (p.boarded_at r) (p.delivered_at r)) 0) (λ r. cond (is_delivered s c q r) (cost_of_rider s r (q.boarded_at r) (q.delivered_at r)) 0) 0 in_all (settled_here (b.boarded j) (is_aboard s c j) (b.carried j) (destination_of s j == stop.floor) (x j) (x' j) (cost_of_rider s j (p.boarded_at j) (p.delivered_at j)) (cost_of_rider s j (q.boarded_at j) (q.delivered_at j)) h.fresh h.not_aboard h.not_carried h.absent h.present) (λ r ne. ap (λ (v : Bool). cond (((b.boarded r || v) || is_aboard s c r) && not (stays_on s b stop.floor r || v)) (cost_of_rider s r (cond v p.opened (b.boarded_at r)) (p.delivered_at r)) 0) (h.others r ne)) in
+    let settled = board_settles s c b stop j h in
     let straight = sum_one_off (rider_count s) j (λ r. cond (p.carried r) (cost_if_straight s p r) 0) (λ r. cond (q.carried r) (cost_if_straight s q r) 0) (cost_if_straight s q j) in_all (carried_here (b.carried j) (destination_of s j == stop.floor) (x j) (x' j) (cost_if_straight s p j) (cost_if_straight s q j) h.not_carried h.absent h.present) (λ r ne. ap (λ (v : Bool). cond (stays_on s b stop.floor r || v) (cost_of_rider s r (cond v p.opened (b.boarded_at r)) (p.opened + time_between s.building.travel stop.floor (destination_of s r))) 0) (h.others r ne)) in
     let paid = int_sum_one_off (call_count s) j (λ k. cond (p.boarded k) (price k) (pos 0)) (λ k. cond (q.boarded k) (price k) (pos 0)) (price j) h.call (paid_here (b.boarded j) (x j) (x' j) (price j) h.fresh h.absent h.present) (λ k ne. ap (λ (v : Bool). cond (b.boarded k || v) (price k) (pos 0)) (h.others k ne)) in
     let waiting = int_sum_one_off (call_count s) j (λ k. cond (allowed k && not (q.boarded k)) (waiting_term s price required q k) (pos 0)) (λ k. cond (allowed k && not (p.boarded k)) (waiting_term s price required p k) (pos 0)) (waiting_term s price required p j) h.call (waiting_here (allowed j) (b.boarded j) (x j) (x' j) (waiting_term s price required p j) may h.fresh h.absent h.present) (λ k ne. ap (λ (v : Bool). cond (allowed k && not (b.boarded k || v)) (waiting_term s price required p k) (pos 0)) (sym (h.others k ne))) in

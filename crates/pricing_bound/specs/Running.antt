@@ -83,3 +83,7 @@ IsAfterNow s c p = s.moment + (spec_of s c).opening ≤ p.opened
 -- the ms that the persons aboard who go to floor g would have ridden when the car is there, if it went there straight
 abbrev pub ridden_to : Snapshot → ℕ → Progress → ℕ → ℕ
 ridden_to s c p g = persons_to s.aboard c g * (p.opened + time_between s.building.travel p.floor g) - moments_to s.aboard c g
+
+-- the progress with the car at a stop at floor g, its doors open at the moment m
+abbrev pub standing_at : Progress → (g m : ℕ) → Progress
+standing_at p g m = record { begun = true; floor = g; opened = m; leaves = m; boarded = p.boarded; carried = p.carried; boarded_at = p.boarded_at; delivered_at = p.delivered_at }

@@ -2,8 +2,8 @@
 
 ghost use Rattle.std.specs.Prelude.{◌≡◌, ◌≤ℤ◌, ℤ, [], Some};
 ghost use Rattle.elevator_model.specs.Partial.{Course};
-ghost use Rattle.partial_tours.specs.PartialTour.{course};
-ghost use Rattle.pricing_bound.specs.Aims.{Aim, AimsAt, HasEnded, IsAtLeastSettled, IsBoundSize, IsGrowing, IsLastMove, IsLower, IsNarrower, value_for};
+ghost use Rattle.partial_tours.specs.PartialTour.{course, with_move};
+ghost use Rattle.pricing_bound.specs.Aims.{Aim, AimsAt, HasEnded, IsAtLeastSettled, IsBoundSize, IsGrowing, IsNextMove, IsLower, IsNarrower, value_for};
 
 use elevator_model::Move;
 use partial_tours::Prefix;
@@ -12,7 +12,7 @@ use partial_tours::Prefix;
 ///
 /// It is laid out for a car of a snapshot, one price per call, the calls that a tour may board and those that it has
 /// to board. A walk over the car's partial tours keeps the sums of each of them: it starts with those of the empty
-/// one, and gets those after a move from those before it. Values and bounds are in thousandths of a cost unit.
+/// one, and gets those after a move from those before it, so that a move need not be made to see its bound. Values and bounds are in thousandths of a cost unit.
 pub trait CompletionBound {
     /// What is kept where a partial tour leads.
     type Sums: Copy;
@@ -32,11 +32,12 @@ pub trait CompletionBound {
         requires empty { prefix.now.moves ≡ [] }
         ensures { (x : Course) → course prefix.now ≡ Some x → stands self.now result x };
 
-    /// The sums after the last move of a partial tour, from those before it.
-    fn after(&self, prefix: &Prefix, sums: &Self::Sums, last: Move) -> Self::Sums
+    /// The sums of a partial tour with one move more, from its own. The move has not to be made for it.
+    fn after(&self, prefix: &Prefix, sums: &Self::Sums, next: Move) -> Self::Sums
         requires for_it { AimsAt (aim self.now) prefix.now }
-        requires leads { IsLastMove (aim self.now) (stands self.now sums.now) prefix.now last }
-        ensures { (x : Course) → course prefix.now ≡ Some x → stands self.now result x };
+        requires leads { IsNextMove (aim self.now) (stands self.now sums.now) prefix.now next }
+        ensures { (y : Course) → course (with_move prefix.now next) ≡ Some y
+            → stands self.now result y };
 
     /// The bound, of absolute value at most 10^27.
     fn value(&self, sums: &Self::Sums) -> i128

@@ -5,12 +5,11 @@ ghost use Rattle.call_sets.specs.Counting.{has, sum_where};
 ghost use Rattle.elevator_model.specs.Partial.{Course};
 ghost use Rattle.elevator_model.specs.Snapshot.{call_count};
 ghost use Rattle.elevator_model.specs.declared.Move.{Move as MoveValue};
-ghost use Rattle.partial_tours.specs.Courses.{reached};
-ghost use Rattle.partial_tours.specs.PartialTour.{course};
+ghost use Rattle.partial_tours.specs.PartialTour.{course, with_move};
 ghost use Rattle.price_scale.specs.Scale.{IsPrice, IsPriceSum};
 ghost use Rattle.search_model.specs.Prices.{scaled as scaled_lem};
 ghost use Rattle.search_model.specs.Sums.{int_sum_where};
-ghost use Rattle.pricing_bound.specs.Aims.{AimsAt, IsBoundSize, IsLastMove, completion_bound_for};
+ghost use Rattle.pricing_bound.specs.Aims.{AimsAt, IsBoundSize, IsNextMove, completion_bound_for};
 ghost use Rattle.pricing_bound.specs.Rates.{aim_at, counts_at, rise_at, term_at};
 ghost use Rattle.pricing_bound.specs.Running.{AreEven, AreWaiting, IsEven, IsSiftedOf, StandFor};
 ghost use Rattle.search_model.specs.Prices.{price_at};
@@ -291,20 +290,19 @@ impl<'a> StraightRides<'a> {
 
     /// What a call that boards adds to the bound: nothing where it was counted, since it boards at the moment for
     /// which it was.
-    fn board_adds(&self, prefix: &Prefix, sums: &Sums, call: u32) -> i128
-        requires { call < call_count self.now.rates.now.snapshot }
-        ensures more { (x : Course) → course prefix.now ≡ Some x → result
-            ≡ (if has sums.now.waiting.counted call then pos 0 else term_at
-            (aim_at self.now.rates.now
-            self.now.car self.now.allowed self.now.required)
-            (reached prefix.now.snapshot prefix.now.car x).opened call) }
+    fn board_adds(&self, waiting: &Waiting, call: u32) -> i128
+        requires call { call < call_count self.now.rates.now.snapshot }
+        requires early { waiting.now.moment ≤ MOMENT_LIMIT }
+        ensures more { result ≡ (if has waiting.now.counted call then pos 0 else term_at
+            (aim_at self.now.rates.now self.now.car self.now.allowed self.now.required)
+            waiting.now.moment call) }
         ensures low { neg_ℤ (pos (2 * 10 ^ 24)) ≤ℤ result }
         ensures high { result ≤ℤ pos (2 * 10 ^ 24) }
     {
-        if sums.waiting.counted.contains(call) {
+        if waiting.counted.contains(call) {
             0
         } else {
-            self.rates.term(call, prefix.opened())
+            self.rates.term(call, waiting.moment)
         }
     }
 
@@ -312,39 +310,40 @@ impl<'a> StraightRides<'a> {
     fn after_board(&self, prefix: &Prefix, sums: &Sums, call: u32) -> Sums
         requires for_it { AimsAt (aim_at self.now.rates.now self.now.car self.now.allowed
             self.now.required) prefix.now }
-        requires leads { IsLastMove (aim_at self.now.rates.now self.now.car self.now.allowed
+        requires leads { IsNextMove (aim_at self.now.rates.now self.now.car self.now.allowed
             self.now.required) (StandFor (aim_at self.now.rates.now self.now.car self.now.allowed
             self.now.required) sums.now) prefix.now (MoveValue.Board call) }
-        ensures { (x : Course) → course prefix.now ≡ Some x → StandFor (aim_at self.now.rates.now
-            self.now.car self.now.allowed self.now.required) result x }
+        ensures { (y : Course) → course (with_move prefix.now (MoveValue.Board call)) ≡ Some y
+            → StandFor (aim_at self.now.rates.now
+            self.now.car self.now.allowed self.now.required) result y }
     {
-        // The snapshot is accepted, the car one of its cars, the moves lawful and what is settled small.
+        // The snapshot is accepted, the car one of its cars, and what is settled small.
         let _accepted = self.rates.snapshot();
         let _car = prefix.car();
-        let _lawful = prefix.moves();
         prove!(prefix.settled() < MOST_COST);
         prove!(prefix.opened() < LATEST_MOMENT);
-        let more = self.board_adds(prefix, sums, call);
+        let more = self.board_adds(&sums.waiting, call);
         let waiting = self.waiting_without(&sums.waiting, call);
         sums.with_board(more, self.rates.price(call), waiting)
     }
 
-    /// The sums after the car went to a stop: later, those carried have ridden on, and calls cost more.
+    /// The sums after the car goes to a stop: later, those carried have ridden on, and calls cost more.
     fn after_leave(&self, prefix: &Prefix, sums: &Sums, floor: u32) -> Sums
         requires for_it { AimsAt (aim_at self.now.rates.now self.now.car self.now.allowed
             self.now.required) prefix.now }
-        requires leads { IsLastMove (aim_at self.now.rates.now self.now.car self.now.allowed
+        requires leads { IsNextMove (aim_at self.now.rates.now self.now.car self.now.allowed
             self.now.required) (StandFor (aim_at self.now.rates.now self.now.car self.now.allowed
             self.now.required) sums.now) prefix.now (MoveValue.Leave floor) }
-        ensures { (x : Course) → course prefix.now ≡ Some x → StandFor (aim_at self.now.rates.now
-            self.now.car self.now.allowed self.now.required) result x }
+        ensures { (y : Course) → course (with_move prefix.now (MoveValue.Leave floor)) ≡ Some y
+            → StandFor (aim_at self.now.rates.now
+            self.now.car self.now.allowed self.now.required) result y }
     {
-        // The snapshot is accepted, the car one of its cars and the moves lawful.
+        // The snapshot is accepted, the car one of its cars and what is settled small.
         let _accepted = self.rates.snapshot();
         let _car = prefix.car();
-        let _lawful = prefix.moves();
-        let waiting = self.waiting_later(&sums.waiting, prefix.opened());
-        let carried = cost_of_carried(self.rates, prefix);
+        let opened = prefix.opened_after(floor);
+        let waiting = self.waiting_later(&sums.waiting, opened);
+        let carried = cost_of_carried(self.rates, prefix, floor, opened);
         sums_of(prefix.settled(), carried, sums.paid, waiting)
     }
 }
@@ -367,8 +366,8 @@ impl<'a> CompletionBound for StraightRides<'a> {
         sums_at_start(groups, self.waiting(calls, prefix.opened()))
     }
 
-    fn after(&self, prefix: &Prefix, sums: &Sums, last: Move) -> Sums {
-        match last {
+    fn after(&self, prefix: &Prefix, sums: &Sums, next: Move) -> Sums {
+        match next {
             Move::Board(call) => self.after_board(prefix, sums, call),
             Move::Leave(floor) => self.after_leave(prefix, sums, floor),
             Move::End => *sums,

@@ -6,6 +6,7 @@ use Rattle.partial_tours.specs.Courses.{reached}
 use Rattle.partial_tours.proofs.Departing.{AreBelow, members_sum, members_below, below_first, below_rest, sum_step}
 use Rattle.search_model.specs.Bounds.{cost_if_straight}
 use Rattle.tour_rules.proofs.Stops.{most_calls_few}
+use Rattle.pricing_bound.specs.Running.{standing_at}
 use Rattle.pricing_bound.proofs.CarriedLemmas.{one_taken}
 use Rattle.pricing_bound.proofs.WaitingLemmas.{AllPass, members_few, members_pass, passes_first}
 use Rattle.pricing_bound.proofs.carried.cost_of_calls.Goals as goal
@@ -19,7 +20,7 @@ loop-call-init c =
     record {
       below = subst (λ (set : ℕ). AreBelow n (members 128 set)) (sym left) (members_below 128 c.args.calls n c.requires.within);
       within = subst (λ (set : ℕ). AllPass (has c.args.calls) (members 128 set)) (sym left) (members_pass 128 c.args.calls);
-      cost = λ x e. let f = cost_if_straight t.snapshot (reached t.snapshot t.car x) in let same = ap call_count c.requires.same in let all = members_sum 128 c.args.calls (call_count t.snapshot) f (omega (arith, high, same)) (λ k h. let near = c.requires.within k h in omega (arith, near, same)) in let moved = ap (λ (set : ℕ). sum_by f (members 128 set)) left in omega (arith, all, moved);
+      cost = λ x e. let f = cost_if_straight t.snapshot (standing_at (reached t.snapshot t.car x) c.args.floor c.args.opened) in let same = ap call_count c.requires.same in let all = members_sum 128 c.args.calls (call_count t.snapshot) f (omega (arith, high, same)) (λ k h. let near = c.requires.within k h in omega (arith, near, same)) in let moved = ap (λ (set : ℕ). sum_by f (members 128 set)) left in omega (arith, all, moved);
       few = members_few 128 c.into_iter-call-iterator.result.left;
       small = omega arith;
     }
@@ -45,7 +46,7 @@ loop-call-preserved c =
     record {
       below = below_rest (call_count c.args.rates.now.snapshot) c.in-Some.call _ _ c.loop-call.invariant.below c.in-Some.ensures.steps;
       within = (passes_first (has c.args.calls) _ _ c.in-Some.call c.loop-call.invariant.within c.in-Some.ensures.steps).1;
-      cost = λ x e. let f = cost_if_straight t.snapshot (reached t.snapshot t.car x) in let step = sum_step f c.loop-call.cost _ c.in-Some.call _ _ (c.loop-call.invariant.cost x e) c.in-Some.ensures.steps in let here = c.cost_at_rate-cost.ensures.cost x e in omega (arith, step, here);
+      cost = λ x e. let f = cost_if_straight t.snapshot (standing_at (reached t.snapshot t.car x) c.args.floor c.args.opened) in let step = sum_step f c.loop-call.cost _ c.in-Some.call _ _ (c.loop-call.invariant.cost x e) c.in-Some.ensures.steps in let here = c.cost_at_rate-cost.ensures.cost x e in omega (arith, step, here);
       few = taken.0;
       small = taken.1;
     }

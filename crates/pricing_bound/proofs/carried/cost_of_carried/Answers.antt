@@ -3,6 +3,7 @@ use Rattle.call_sets.specs.Counting.{has}
 use Rattle.std.proofs.lemmas.Bool.{and_parts, ltb-true, lt-ltb}
 use Rattle.elevator_model.specs.Snapshot.{Snapshot, IsAccepted, call_count, car_count}
 use Rattle.partial_tours.specs.Courses.{reached}
+use Rattle.pricing_bound.specs.Running.{standing_at}
 use Rattle.pricing_bound.proofs.CarriedLemmas.{all_rides, carried_boarded}
 use Rattle.pricing_bound.proofs.PartLemmas.{placed_at}
 use Rattle.pricing_bound.proofs.carried.cost_of_carried.Goals as goal
@@ -20,13 +21,13 @@ cost_of_calls-requires-clause-boarded c =
     let t = c.args.prefix.now in
     let a = subst IsAccepted c.requires.same c.snapshot-snapshot.ensures.accepted in
     let b = subst (λ (s : Snapshot). t.car < car_count s) c.requires.same c.requires.car in
-    let at = c.requires.late in
+    let at = c.requires.leads in
     (at.0, at.1, λ j h. let parts = and_parts (has c.carried.result j) (has c.calls.result j) (sym (c.intersection-calls.ensures j) ∙ h) in let lt = subst (λ (s : Snapshot). j < call_count s) c.requires.same (ltb-true j (call_count c.args.rates.now.snapshot) (sym (c.calls.ensures j) ∙ parts.1)) in carried_boarded t.snapshot t.car (reached t.snapshot t.car at.0) j (placed_at t at.0 a b at.1) lt (sym (c.carried.ensures at.0 at.1 j lt) ∙ parts.0))
 
 pub returns-clause-cost : goal.returns-clause-cost
 returns-clause-cost c = λ x e.
     let t = c.args.prefix.now in
-    let p = reached t.snapshot t.car x in
+    let p = standing_at (reached t.snapshot t.car x) c.args.floor c.args.opened in
     let calls = c.cost_of_calls.ensures.cost x e in
     let groups = c.cost_of_groups.ensures.cost x e in
     let all = all_rides t.snapshot t.car p c.intersection-calls.result (λ j lt. c.intersection-calls.ensures j ∙ with_all (has c.carried.result j) (has c.calls.result j) (c.calls.ensures j ∙ lt-ltb j (call_count c.args.rates.now.snapshot) (subst (λ (s : Snapshot). j < call_count s) (sym c.requires.same) lt)) ∙ c.carried.ensures x e j lt) in
