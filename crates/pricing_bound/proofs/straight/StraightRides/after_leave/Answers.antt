@@ -9,7 +9,7 @@ use Rattle.partial_tours.specs.Courses.{reached}
 use Rattle.partial_tours.proofs.Follow.{is_some_has}
 use Rattle.pricing_bound.specs.Rates.{aim_at, counts_at}
 use Rattle.pricing_bound.specs.declared.waiting.Waiting.{Waiting}
-use Rattle.pricing_bound.specs.Running.{AreWaiting, IsAfterNow, StandFor}
+use Rattle.pricing_bound.specs.Running.{AreEven, IsAfterNow, StandFor}
 use Rattle.pricing_bound.proofs.Late.{left_after_now}
 use Rattle.pricing_bound.proofs.RateLemmas.{stored_paid}
 use Rattle.pricing_bound.proofs.SteadyLemmas.{adds_of}
@@ -56,4 +56,4 @@ returns c = λ y e.
     let waiting = adds_of a (reached t.snapshot t.car y).opened c.args.sums.now.waiting.counted c.waiting_later-waiting.result later.are (later.moment ∙ opened) (λ k. later.counted k ∙ ap (λ (m : ℕ). has c.args.sums.now.waiting.counted k && counts_at a m k) opened) in
     let waits = c.sums_of.ensures.waiting in
     let same = stored_paid c.args.sums.now.paid c.requires.leads.stands_before.paid_small in
-    leave_sums a t c.args.sums.now c.sums_of.result c.args.floor y c.settled.result c.cost_of_carried-carried.result c.waiting_later-waiting.result.sum c.requires.for_it c.requires.leads c.snapshot-accepted.ensures.accepted car c.snapshot-accepted.ensures.prices e (omega (arith, bounded)) settled (c.cost_of_carried-carried.ensures.cost y e) waiting (c.sums_of.ensures.bound ∙ ap (λ (z : ℤ). ((scaled c.settled.result +ℤ scaled c.cost_of_carried-carried.result) -ℤ z) +ℤ c.waiting_later-waiting.result.sum) same) (c.sums_of.ensures.paid ∙ same) (λ k. ap (λ (w : Waiting). has w.counted k) waits ∙ c.waiting_later-waiting.ensures.counted k ∙ ap (λ (m : ℕ). has c.args.sums.now.waiting.counted k && counts_at a m k) opened) (subst (AreWaiting a) (sym waits) c.waiting_later-waiting.ensures.are) (ap (λ (w : Waiting). w.moment) waits ∙ c.waiting_later-waiting.ensures.moment ∙ opened)
+    leave_sums a t c.args.sums.now c.sums_of.result c.args.floor y c.settled.result c.cost_of_carried-carried.result c.waiting_later-waiting.result.sum c.requires.for_it c.requires.leads c.snapshot-accepted.ensures.accepted car c.snapshot-accepted.ensures.prices e (omega (arith, bounded)) settled (c.cost_of_carried-carried.ensures.cost y e) waiting (c.sums_of.ensures.bound ∙ ap (λ (z : ℤ). ((scaled c.settled.result +ℤ scaled c.cost_of_carried-carried.result) -ℤ z) +ℤ c.waiting_later-waiting.result.sum) same) (c.sums_of.ensures.paid ∙ same) (λ k. ap (λ (w : Waiting). has w.counted k) waits ∙ c.waiting_later-waiting.ensures.counted k ∙ ap (λ (m : ℕ). has c.args.sums.now.waiting.counted k && counts_at a m k) opened) (subst (AreEven a) (sym waits) c.waiting_later-waiting.ensures.are) (ap (λ (w : Waiting). w.moment) waits ∙ c.waiting_later-waiting.ensures.moment ∙ opened)
