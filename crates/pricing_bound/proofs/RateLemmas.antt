@@ -1,12 +1,13 @@
 -- Rates of calls, one by one and as a list.
 use Rattle.std.proofs.Common.{◌≡◌, ℕ, ◌+◌, ◌-◌, ◌*◌, ◌<◌, ◌≤◌, ◌^◌, Bool, true, false, ltb, List, [], ◌∷◌, ◌++◌, map, set, take, length, get_or, refl, sym, ap, ◌∙◌, subst, inl, inr, arith, length-append, ◌==◌}
-use Rattle.std.specs.Prelude.{ℤ, pos, negsuc, neg_ℤ, ◌-ℤ◌, ◌≤ℤ◌}
+use Rattle.std.specs.Prelude.{ℤ, pos, negsuc, neg_ℤ, ◌-ℤ◌, ◌≤ℤ◌, int_lt}
 use Rattle.std.proofs.lemmas.Int.{ints, to_z-of_z}
 use Rattle.std.proofs.lemmas.List.{get_or-map, get_or_past, get_or_append_left, get_or_push, get_or_default, length-map, get_or-set_same, get_or-set_other, length-set, take_more, take_more_set, map-append}
 use Rattle.std.proofs.lemmas.Bool.{ltb-true, ltb-false, eqb-true, eq-eqb, both_ways}
 use Rattle.std.proofs.Math.Nat.{eq-or-lt_of_le}
 use mir.Syntax.{w128}
 use mir.Val.{SFits, to_z, of_z}
+use Rattle.call_sets.specs.Counting.{has}
 use Rattle.elevator_model.specs.declared.Call.{Call}
 use Rattle.elevator_model.specs.Building.{Building}
 use Rattle.elevator_model.specs.Snapshot.{Snapshot, call_count, call_of, no_call}
@@ -17,8 +18,9 @@ use Rattle.search_model.specs.Bounds.{cost_if_alone}
 use Rattle.search_model.specs.Prices.{scaled, price_at}
 use Rattle.tour_rules.specs.Leaving.{call_cost}
 use Rattle.tour_rules.proofs.Settled.{cost_of_rider-call}
+use Rattle.pricing_bound.specs.declared.rates.End.{End}
 use Rattle.pricing_bound.specs.declared.rates.Rate.{Rate}
-use Rattle.pricing_bound.specs.Rates.{AreRates, IsRate, wait_at}
+use Rattle.pricing_bound.specs.Rates.{AreEnds, AreRates, IsEnd, IsRate, wait_at}
 
 -- ---- one rate
 
@@ -188,6 +190,20 @@ read_same rates j d lt = get_or_default rates j d (get_or rates j d) lt
 
 pub all_rates : (s : Snapshot) (n : ℕ) (rates : List Rate) → AreFirstRates s n rates → n ≡ call_count s → AreRates s rates
 all_rates s n rates h e = let size = h.size in record { size = omega (arith, size, e); each = λ j d lt. h.each j d (omega (arith, lt, e)) }
+
+-- before an end the calls that are not early to it cost less than their prices
+pub less_before : (s : Snapshot) (rates : List Rate) (ends : List End) (place : ℕ) (end : End) (j k : ℕ) → AreRates s rates → AreEnds rates ends → place < length ends → end ≡ get_or ends place end → k < end.until → j < call_count s → has end.early j ≡ false → int_lt (scaled (cost_if_alone s j k) -ℤ price_at (map (λ (rate : Rate). rate.price) rates) j) (pos 0) ≡ true
+less_before s [] ends place end j k h are within is before lt late = let size = h.size in absurd (omega (arith, size, lt))
+less_before s (first ∷ rates) ends place end j k h are within is before lt late =
+    let all : List Rate = first ∷ rates in
+    let size = h.size in
+    let rate = get_or all j first in
+    let inside : j < length all = omega (arith, size, lt) in
+    let its = h.each j first lt in
+    let told : end.until ≤ rate.below = subst (λ (e : End). IsEnd all e) (sym is) (are place end within) j first inside late in
+    let price = price_read s all j rate h lt (read_same all j first inside) in
+    let same = ap (λ (n : ℕ). int_lt (scaled n -ℤ rate.price) (pos 0)) (its.alone k) ∙ ap (λ (z : ℤ). int_lt (scaled (cost_if_alone s j k) -ℤ z) (pos 0)) price in
+    sym same ∙ its.below k (omega (arith, before, told))
 
 -- a number of 128 bits, written and read back
 pub stored : (z : ℤ) → neg_ℤ (pos (10 ^ 30)) ≤ℤ z → z ≤ℤ pos (10 ^ 30) → to_z w128 (of_z w128 z) ≡ z

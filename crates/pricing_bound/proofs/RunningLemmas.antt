@@ -33,7 +33,7 @@ use Rattle.pricing_bound.specs.declared.straight.Sums.{Sums}
 use Rattle.pricing_bound.specs.Aims.{Aim, AimsAt, IsBoundSize, IsNextMove, value_for}
 use Rattle.pricing_bound.specs.Parts.{group_part}
 use Rattle.pricing_bound.specs.Rates.{term_at, counts_at, adds_at}
-use Rattle.pricing_bound.specs.Running.{AreSums, AreWaiting, StandFor, is_counted, cost_of_rides, standing_at}
+use Rattle.pricing_bound.specs.Running.{AreSums, AreEven, StandFor, is_counted, cost_of_rides, standing_at}
 use Rattle.pricing_bound.specs.Costs.{int_sum_one_off}
 use Rattle.pricing_bound.specs.GrowthLemmas.{Boards, boards_now, board_adds, board_settles, no_boards, or_none, term-later, paid_here}
 use Rattle.pricing_bound.specs.LowerLemmas.{allowed_rest}
@@ -117,7 +117,7 @@ board_counted a c b stop j k counted fewer h is without = by_place (k == j) refl
     by_place true e = without ∙ ap (λ (v : Bool). has counted k && not v) e ∙ gone_now (ltb k (call_count a.snapshot)) (a.allowed k) (b.boarded k) (boards_at a.snapshot (with_call_on stop j) k) (counts_at a (make_stop a.snapshot c b stop).opened k) (has counted k) (ap (boards_at a.snapshot (with_call_on stop j)) (eqb-true k j e) ∙ h.present)
     by_place false e = without ∙ ap (λ (v : Bool). has counted k && not v) e ∙ still_there (has counted k) ∙ is ∙ ap (λ (v : Bool). ((ltb k (call_count a.snapshot) && a.allowed k) && not (b.boarded k || v)) && counts_at a (make_stop a.snapshot c b stop).opened k) (sym (h.others k (λ at. both_ways (k == j) e (eq-eqb k j at))))
 
-board_core : (a : Aim) (b : Progress) (stop : Stop) (j : ℕ) (sums new : Sums) (more : ℤ) → a.allowed j ≡ true → Boards a.snapshot a.car b stop j → AreSums a sums (make_stop a.snapshot a.car b stop) → more ≡ cond (has sums.waiting.counted j) (pos 0) (term_at a (make_stop a.snapshot a.car b stop).opened j) → new.bound ≡ sums.bound +ℤ more → new.paid ≡ sums.paid +ℤ a.price j → ((k : ℕ) → has new.waiting.counted k ≡ (has sums.waiting.counted k && not (k == j))) → AreWaiting a new.waiting → new.waiting.moment ≡ sums.waiting.moment → IsBoundSize (bound_after a.snapshot a.car a.price a.allowed a.required (make_stop a.snapshot a.car b (with_call_on stop j))) → ((test : ℕ → Bool) → IsPriceSum (int_sum_where (call_count a.snapshot) test a.price)) → AreSums a new (make_stop a.snapshot a.car b (with_call_on stop j))
+board_core : (a : Aim) (b : Progress) (stop : Stop) (j : ℕ) (sums new : Sums) (more : ℤ) → a.allowed j ≡ true → Boards a.snapshot a.car b stop j → AreSums a sums (make_stop a.snapshot a.car b stop) → more ≡ cond (has sums.waiting.counted j) (pos 0) (term_at a (make_stop a.snapshot a.car b stop).opened j) → new.bound ≡ sums.bound +ℤ more → new.paid ≡ sums.paid +ℤ a.price j → ((k : ℕ) → has new.waiting.counted k ≡ (has sums.waiting.counted k && not (k == j))) → AreEven a new.waiting → new.waiting.moment ≡ sums.waiting.moment → IsBoundSize (bound_after a.snapshot a.car a.price a.allowed a.required (make_stop a.snapshot a.car b (with_call_on stop j))) → ((test : ℕ → Bool) → IsPriceSum (int_sum_where (call_count a.snapshot) test a.price)) → AreSums a new (make_stop a.snapshot a.car b (with_call_on stop j))
 board_core a b stop j sums new more may h old more_at bound paid counted waiting moment small paid_small =
     let s = a.snapshot in
     let c = a.car in
@@ -142,7 +142,7 @@ board_core a b stop j sums new more may h old more_at bound paid counted waiting
     together : (new old more p q w t : ℤ) → new ≡ old +ℤ more → old ≡ p → more ≡ t -ℤ w → q ≡ ((p -ℤ w) +ℤ t) → new ≡ q
     together new old more p q w t e f g h = omega (arith, ints, e, f, g, h)
 
-pub board_sums : (a : Aim) (t : PartialTour) (sums new : Sums) (j : ℕ) (y : Course) (more : ℤ) → AimsAt a t → (last : IsLastMove a (StandFor a sums) t (Board j)) → IsAccepted a.snapshot → a.car < car_count a.snapshot → ((k : ℕ) → IsPrice (a.price k)) → course t ≡ Some y → settled_cost t.snapshot t.car (reached t.snapshot t.car last.before) ≤ 10 ^ 18 → more ≡ cond (has sums.waiting.counted j) (pos 0) (term_at a sums.waiting.moment j) → new.bound ≡ sums.bound +ℤ more → new.paid ≡ sums.paid +ℤ a.price j → ((k : ℕ) → has new.waiting.counted k ≡ (has sums.waiting.counted k && not (k == j))) → AreWaiting a new.waiting → new.waiting.moment ≡ sums.waiting.moment → StandFor a new y
+pub board_sums : (a : Aim) (t : PartialTour) (sums new : Sums) (j : ℕ) (y : Course) (more : ℤ) → AimsAt a t → (last : IsLastMove a (StandFor a sums) t (Board j)) → IsAccepted a.snapshot → a.car < car_count a.snapshot → ((k : ℕ) → IsPrice (a.price k)) → course t ≡ Some y → settled_cost t.snapshot t.car (reached t.snapshot t.car last.before) ≤ 10 ^ 18 → more ≡ cond (has sums.waiting.counted j) (pos 0) (term_at a sums.waiting.moment j) → new.bound ≡ sums.bound +ℤ more → new.paid ≡ sums.paid +ℤ a.price j → ((k : ℕ) → has new.waiting.counted k ≡ (has sums.waiting.counted k && not (k == j))) → AreEven a new.waiting → new.waiting.moment ≡ sums.waiting.moment → StandFor a new y
 board_sums a t sums new j y more aims last accepted car prices leads settled more_at bound paid counted waiting moment =
     let s = a.snapshot in
     let c = a.car in
@@ -217,7 +217,7 @@ settles_over s c p g a kept to =
     let parts = sum_below-add (rider_count s) (λ r. cond (gets_off s p g r) (cost_of_rider s r (p.boarded_at r) q.opened) 0) (λ r. cond (q.carried r) (cost_if_straight s q r) 0) in
     omega (arith, settled, each, parts)
 
-leave_core : (a : Aim) (p : Progress) (g : ℕ) (sums new : Sums) (settled carried : ℕ) (waiting : ℤ) → p.opened ≤ (make_stop a.snapshot a.car p (empty_stop g)).opened → AreSums a sums p → settled + carried ≡ settled_cost a.snapshot a.car (make_stop a.snapshot a.car p (empty_stop g)) + cost_of_rides a.snapshot (make_stop a.snapshot a.car p (empty_stop g)) → waiting ≡ int_sum_where (call_count a.snapshot) (has sums.waiting.counted) (adds_at a (make_stop a.snapshot a.car p (empty_stop g)).opened) → new.bound ≡ (((scaled settled +ℤ scaled carried) -ℤ sums.paid) +ℤ waiting) → new.paid ≡ sums.paid → ((k : ℕ) → has new.waiting.counted k ≡ (has sums.waiting.counted k && counts_at a (make_stop a.snapshot a.car p (empty_stop g)).opened k)) → AreWaiting a new.waiting → new.waiting.moment ≡ (make_stop a.snapshot a.car p (empty_stop g)).opened → IsBoundSize (bound_after a.snapshot a.car a.price a.allowed a.required (make_stop a.snapshot a.car p (empty_stop g))) → AreSums a new (make_stop a.snapshot a.car p (empty_stop g))
+leave_core : (a : Aim) (p : Progress) (g : ℕ) (sums new : Sums) (settled carried : ℕ) (waiting : ℤ) → p.opened ≤ (make_stop a.snapshot a.car p (empty_stop g)).opened → AreSums a sums p → settled + carried ≡ settled_cost a.snapshot a.car (make_stop a.snapshot a.car p (empty_stop g)) + cost_of_rides a.snapshot (make_stop a.snapshot a.car p (empty_stop g)) → waiting ≡ int_sum_where (call_count a.snapshot) (has sums.waiting.counted) (adds_at a (make_stop a.snapshot a.car p (empty_stop g)).opened) → new.bound ≡ (((scaled settled +ℤ scaled carried) -ℤ sums.paid) +ℤ waiting) → new.paid ≡ sums.paid → ((k : ℕ) → has new.waiting.counted k ≡ (has sums.waiting.counted k && counts_at a (make_stop a.snapshot a.car p (empty_stop g)).opened k)) → AreEven a new.waiting → new.waiting.moment ≡ (make_stop a.snapshot a.car p (empty_stop g)).opened → IsBoundSize (bound_after a.snapshot a.car a.price a.allowed a.required (make_stop a.snapshot a.car p (empty_stop g))) → AreSums a new (make_stop a.snapshot a.car p (empty_stop g))
 leave_core a p g sums new settled carried waiting later old both_are waiting_is bound paid counted are opened small =
     let s = a.snapshot in
     let c = a.car in
@@ -240,7 +240,7 @@ leave_core a p g sums new settled carried waiting later old both_are waiting_is 
     together : (new : ℤ) (settled carried settled' carried' : ℕ) (paid waiting paid' waiting' : ℤ) → new ≡ (((scaled settled +ℤ scaled carried) -ℤ paid) +ℤ waiting) → settled + carried ≡ settled' + carried' → paid ≡ paid' → waiting ≡ waiting' → new ≡ (((scaled settled' +ℤ scaled carried') -ℤ paid') +ℤ waiting')
     together new settled carried settled' carried' paid waiting paid' waiting' e f h i = omega (arith, ints, e, f, h, i)
 
-pub leave_sums : (a : Aim) (t : PartialTour) (sums new : Sums) (g : ℕ) (y : Course) (settled carried opened : ℕ) (waiting : ℤ) → AimsAt a t → (last : IsLastMove a (StandFor a sums) t (Leave g)) → IsAccepted a.snapshot → a.car < car_count a.snapshot → ((k : ℕ) → IsPrice (a.price k)) → course t ≡ Some y → settled_cost t.snapshot t.car (reached t.snapshot t.car y) ≤ 10 ^ 18 → opened ≡ (reached t.snapshot t.car y).opened → settled ≡ settled_cost t.snapshot t.car (reached t.snapshot t.car last.before) → carried ≡ cost_of_rides t.snapshot (standing_at (reached t.snapshot t.car last.before) g opened) → waiting ≡ int_sum_where (call_count a.snapshot) (has sums.waiting.counted) (adds_at a opened) → new.bound ≡ (((scaled settled +ℤ scaled carried) -ℤ sums.paid) +ℤ waiting) → new.paid ≡ sums.paid → ((k : ℕ) → has new.waiting.counted k ≡ (has sums.waiting.counted k && counts_at a opened k)) → AreWaiting a new.waiting → new.waiting.moment ≡ opened → StandFor a new y
+pub leave_sums : (a : Aim) (t : PartialTour) (sums new : Sums) (g : ℕ) (y : Course) (settled carried opened : ℕ) (waiting : ℤ) → AimsAt a t → (last : IsLastMove a (StandFor a sums) t (Leave g)) → IsAccepted a.snapshot → a.car < car_count a.snapshot → ((k : ℕ) → IsPrice (a.price k)) → course t ≡ Some y → settled_cost t.snapshot t.car (reached t.snapshot t.car y) ≤ 10 ^ 18 → opened ≡ (reached t.snapshot t.car y).opened → settled ≡ settled_cost t.snapshot t.car (reached t.snapshot t.car last.before) → carried ≡ cost_of_rides t.snapshot (standing_at (reached t.snapshot t.car last.before) g opened) → waiting ≡ int_sum_where (call_count a.snapshot) (has sums.waiting.counted) (adds_at a opened) → new.bound ≡ (((scaled settled +ℤ scaled carried) -ℤ sums.paid) +ℤ waiting) → new.paid ≡ sums.paid → ((k : ℕ) → has new.waiting.counted k ≡ (has sums.waiting.counted k && counts_at a opened k)) → AreEven a new.waiting → new.waiting.moment ≡ opened → StandFor a new y
 leave_sums a t sums new g y settled carried opened waiting aims last accepted car prices leads small opened_is settled_is carried_is waiting_is bound paid counted are moment =
     let s = a.snapshot in
     let c = a.car in
@@ -289,7 +289,7 @@ fresh_counted false false c = refl
 none_ride : (n : ℕ) (carried : ℕ → Bool) (cost : ℕ → ℤ) → ((j : ℕ) → j < n → carried j ≡ false) → int_sum_below n (λ j. cond (carried j) (cost j) (pos 0)) ≡ pos 0
 none_ride n carried cost none = int_sum-same n (λ j. cond (carried j) (cost j) (pos 0)) (λ _. pos 0) (λ j lt. ap (λ (v : Bool). cond v (cost j) (pos 0)) (none j lt)) ∙ int_sum-zero n
 
-start_core : (a : Aim) (sums : Sums) (calls : ℕ) (groups waiting : ℤ) → groups ≡ int_sum_below (length a.snapshot.aboard) (group_part a.snapshot (start_of a.snapshot a.car)) → waiting ≡ int_sum_where (call_count a.snapshot) (has calls) (adds_at a (start_of a.snapshot a.car).opened) → ((k : ℕ) → has calls k ≡ (a.allowed k && ltb k (call_count a.snapshot))) → sums.bound ≡ groups +ℤ waiting → sums.paid ≡ pos 0 → ((k : ℕ) → has sums.waiting.counted k ≡ (has calls k && counts_at a (start_of a.snapshot a.car).opened k)) → AreWaiting a sums.waiting → sums.waiting.moment ≡ (start_of a.snapshot a.car).opened → IsBoundSize (bound_after a.snapshot a.car a.price a.allowed a.required (start_of a.snapshot a.car)) → AreSums a sums (start_of a.snapshot a.car)
+start_core : (a : Aim) (sums : Sums) (calls : ℕ) (groups waiting : ℤ) → groups ≡ int_sum_below (length a.snapshot.aboard) (group_part a.snapshot (start_of a.snapshot a.car)) → waiting ≡ int_sum_where (call_count a.snapshot) (has calls) (adds_at a (start_of a.snapshot a.car).opened) → ((k : ℕ) → has calls k ≡ (a.allowed k && ltb k (call_count a.snapshot))) → sums.bound ≡ groups +ℤ waiting → sums.paid ≡ pos 0 → ((k : ℕ) → has sums.waiting.counted k ≡ (has calls k && counts_at a (start_of a.snapshot a.car).opened k)) → AreEven a sums.waiting → sums.waiting.moment ≡ (start_of a.snapshot a.car).opened → IsBoundSize (bound_after a.snapshot a.car a.price a.allowed a.required (start_of a.snapshot a.car)) → AreSums a sums (start_of a.snapshot a.car)
 start_core a sums calls groups waiting groups_are waiting_is calls_are bound paid counted are opened small =
     let s = a.snapshot in
     let p = start_of s a.car in
@@ -312,7 +312,7 @@ start_core a sums calls groups waiting groups_are waiting_is calls_are bound pai
     together : (new groups waiting : ℤ) (settled rides : ℕ) (call_rides group_rides paid waits : ℤ) → new ≡ groups +ℤ waiting → settled ≡ 0 → scaled rides ≡ call_rides +ℤ group_rides → call_rides ≡ pos 0 → groups ≡ group_rides → paid ≡ pos 0 → waiting ≡ waits → new ≡ (((scaled settled +ℤ scaled rides) -ℤ paid) +ℤ waits)
     together new groups waiting settled rides call_rides group_rides paid waits e f g h i j k = omega (arith, ints, e, f, g, h, i, j, k)
 
-pub start_sums : (a : Aim) (t : PartialTour) (sums : Sums) (x : Course) (calls : ℕ) (groups waiting : ℤ) → AimsAt a t → t.moves ≡ [] → IsAccepted a.snapshot → a.car < car_count a.snapshot → ((k : ℕ) → IsPrice (a.price k)) → course t ≡ Some x → groups ≡ int_sum_below (length t.snapshot.aboard) (group_part t.snapshot (reached t.snapshot t.car x)) → waiting ≡ int_sum_where (call_count a.snapshot) (has calls) (adds_at a (reached t.snapshot t.car x).opened) → ((k : ℕ) → has calls k ≡ (a.allowed k && ltb k (call_count a.snapshot))) → sums.bound ≡ groups +ℤ waiting → sums.paid ≡ pos 0 → ((k : ℕ) → has sums.waiting.counted k ≡ (has calls k && counts_at a (reached t.snapshot t.car x).opened k)) → AreWaiting a sums.waiting → sums.waiting.moment ≡ (reached t.snapshot t.car x).opened → StandFor a sums x
+pub start_sums : (a : Aim) (t : PartialTour) (sums : Sums) (x : Course) (calls : ℕ) (groups waiting : ℤ) → AimsAt a t → t.moves ≡ [] → IsAccepted a.snapshot → a.car < car_count a.snapshot → ((k : ℕ) → IsPrice (a.price k)) → course t ≡ Some x → groups ≡ int_sum_below (length t.snapshot.aboard) (group_part t.snapshot (reached t.snapshot t.car x)) → waiting ≡ int_sum_where (call_count a.snapshot) (has calls) (adds_at a (reached t.snapshot t.car x).opened) → ((k : ℕ) → has calls k ≡ (a.allowed k && ltb k (call_count a.snapshot))) → sums.bound ≡ groups +ℤ waiting → sums.paid ≡ pos 0 → ((k : ℕ) → has sums.waiting.counted k ≡ (has calls k && counts_at a (reached t.snapshot t.car x).opened k)) → AreEven a sums.waiting → sums.waiting.moment ≡ (reached t.snapshot t.car x).opened → StandFor a sums x
 start_sums a t sums x calls groups waiting aims empty accepted car prices leads groups_are waiting_is calls_are bound paid counted are opened =
     let s = a.snapshot in
     let c = a.car in

@@ -19,7 +19,7 @@ use Rattle.pricing_bound.specs.declared.waiting.Waiting.{Waiting}
 use Rattle.pricing_bound.specs.Aims.{Aim}
 use Rattle.pricing_bound.specs.Costs.{sum_one_off, int_sum_one_off}
 use Rattle.pricing_bound.specs.Rates.{term_at, counts_at, adds_at, rise_at, wait_at}
-use Rattle.pricing_bound.specs.Running.{IsEven, AreEven, AreWaiting, IsSiftedOf}
+use Rattle.pricing_bound.specs.Running.{IsEven, AreEven}
 use Rattle.pricing_bound.proofs.Sizes.{IsWithin, int_sum-size, few_within, alone_small}
 use Rattle.pricing_bound.proofs.WaitingLemmas.{AreOnce, among, among_has, members_once, counted_adds, dropped_adds}
 
@@ -177,15 +177,15 @@ others w new one counted j ne = counted j ∙ kept (has w.counted j) (j == one) 
     kept false c e = refl
 
 -- what they add, of the calls of which they are those that count
-pub adds_of : (a : Aim) (m calls : ℕ) (w : Waiting) → AreWaiting a w → w.moment ≡ m → ((j : ℕ) → has w.counted j ≡ (has calls j && counts_at a m j)) → w.sum ≡ int_sum_where (call_count a.snapshot) (has calls) (adds_at a m)
-adds_of a m calls w h moment counted = h.are.sum ∙ ap (λ (k : ℕ). int_sum_where (call_count a.snapshot) (has w.counted) (term_at a k)) moment ∙ sym (adds_counted a m calls w.counted counted)
+pub adds_of : (a : Aim) (m calls : ℕ) (w : Waiting) → AreEven a w → w.moment ≡ m → ((j : ℕ) → has w.counted j ≡ (has calls j && counts_at a m j)) → w.sum ≡ int_sum_where (call_count a.snapshot) (has calls) (adds_at a m)
+adds_of a m calls w h moment counted = h.sum ∙ ap (λ (k : ℕ). int_sum_where (call_count a.snapshot) (has w.counted) (term_at a k)) moment ∙ sym (adds_counted a m calls w.counted counted)
 
 -- the same parts
 pub even_same : (a : Aim) (w new : Waiting) → AreEven a w → new.counted ≡ w.counted → new.sum ≡ w.sum → new.moment ≡ w.moment → new.growth ≡ w.growth → AreEven a new
-even_same a w new h counted sum moment growth = put (AreEven a (record { counted = w.counted; sum = w.sum; moment = w.moment; growth = w.growth; until = new.until })) (record { calls = h.calls; sum = h.sum; low = h.low; high = h.high; slope = h.slope; gentle = h.gentle; even = h.even })
+even_same a w new h counted sum moment growth = put (AreEven a (record { counted = w.counted; sum = w.sum; moment = w.moment; growth = w.growth; place = new.place })) (record { calls = h.calls; sum = h.sum; low = h.low; high = h.high; slope = h.slope; gentle = h.gentle; even = h.even })
   where
-    put : (P : Type 0) → AreEven a (record { counted = w.counted; sum = w.sum; moment = w.moment; growth = w.growth; until = new.until }) → AreEven a new
-    put P all = subst (AreEven a) (ap (λ (x : ℕ). record { counted = x; sum = w.sum; moment = w.moment; growth = w.growth; until = new.until }) (sym counted) ∙ ap (λ (x : ℤ). record { counted = new.counted; sum = x; moment = w.moment; growth = w.growth; until = new.until }) (sym sum) ∙ ap (λ (x : ℕ). record { counted = new.counted; sum = new.sum; moment = x; growth = w.growth; until = new.until }) (sym moment) ∙ ap (λ (x : Growth). record { counted = new.counted; sum = new.sum; moment = new.moment; growth = x; until = new.until }) (sym growth)) all
+    put : (P : Type 0) → AreEven a (record { counted = w.counted; sum = w.sum; moment = w.moment; growth = w.growth; place = new.place }) → AreEven a new
+    put P all = subst (AreEven a) (ap (λ (x : ℕ). record { counted = x; sum = w.sum; moment = w.moment; growth = w.growth; place = new.place }) (sym counted) ∙ ap (λ (x : ℤ). record { counted = new.counted; sum = x; moment = w.moment; growth = w.growth; place = new.place }) (sym sum) ∙ ap (λ (x : ℕ). record { counted = new.counted; sum = new.sum; moment = x; growth = w.growth; place = new.place }) (sym moment) ∙ ap (λ (x : Growth). record { counted = new.counted; sum = new.sum; moment = new.moment; growth = x; place = new.place }) (sym growth)) all
 
 -- at a later moment
 pub even_on : (a : Aim) (m : ℕ) (w new : Waiting) → AreEven a w → w.moment ≤ m → m < w.growth.until → IsAccepted a.snapshot → ((j : ℕ) → IsPrice (a.price j)) → m < 10000000000 → new.counted ≡ w.counted → new.sum ≡ w.sum +ℤ scaled (w.growth.slope * (m - w.moment)) → new.moment ≡ m → new.growth ≡ w.growth → AreEven a new
@@ -198,30 +198,12 @@ even_on a m w new h later before accepted prices early counted sum moment growth
     let low = size.0 in
     let high = size.1 in
     let same = sum_below-same n (λ j. cond (has w.counted j) (rise_at a.snapshot w.moment j) 0) (λ j. cond (has w.counted j) (rise_at a.snapshot m j) 0) (λ j lt. rises (has w.counted j) j refl) in
-    let all : AreEven a (record { counted = w.counted; sum = new.sum; moment = m; growth = w.growth; until = new.until }) = record { calls = h.calls; sum = whole; low = omega (arith, ints, low, whole); high = omega (arith, ints, high, whole); slope = h.slope ∙ same; gentle = h.gentle; even = λ j e. even_later a w.moment w.growth.until j m (h.even j e) later before } in
-    even_same a (record { counted = w.counted; sum = new.sum; moment = m; growth = w.growth; until = new.until }) new all counted refl moment growth
+    let all : AreEven a (record { counted = w.counted; sum = new.sum; moment = m; growth = w.growth; place = new.place }) = record { calls = h.calls; sum = whole; low = omega (arith, ints, low, whole); high = omega (arith, ints, high, whole); slope = h.slope ∙ same; gentle = h.gentle; even = λ j e. even_later a w.moment w.growth.until j m (h.even j e) later before } in
+    even_same a (record { counted = w.counted; sum = new.sum; moment = m; growth = w.growth; place = new.place }) new all counted refl moment growth
   where
     rises : (v : Bool) → (j : ℕ) → has w.counted j ≡ v → cond v (rise_at a.snapshot w.moment j) 0 ≡ cond v (rise_at a.snapshot m j) 0
     rises true j e = sym (rise_later a w.moment w.growth.until j m (h.even j e) later before)
     rises false j e = refl
-
-pub waiting_on : (a : Aim) (m : ℕ) (w new : Waiting) → AreWaiting a w → w.moment ≤ m → m < w.until → IsAccepted a.snapshot → ((j : ℕ) → IsPrice (a.price j)) → m < 10000000000 → new.counted ≡ w.counted → new.sum ≡ w.sum +ℤ scaled (w.growth.slope * (m - w.moment)) → new.moment ≡ m → new.growth ≡ w.growth → new.until ≡ w.until → AreWaiting a new
-waiting_on a m w new h later before accepted prices early counted sum moment growth until =
-    let within = h.within in
-    let told = ap (λ (g : Growth). g.until) growth in
-    record {
-      are = even_on a m w new h.are later (omega (arith, before, within)) accepted prices early counted sum moment growth;
-      within = omega (arith, within, until, told);
-      counts = λ j k e from_now less. h.counts j k (sym (ap (λ (set : ℕ). has set j) counted) ∙ e) (omega (arith, later, from_now, moment)) (omega (arith, less, until));
-    }
-
--- they all count there
-pub counted_on : (a : Aim) (m : ℕ) (w : Waiting) (new : ℕ) → AreWaiting a w → w.moment ≤ m → m < w.until → new ≡ w.counted → (j : ℕ) → has new j ≡ (has w.counted j && counts_at a m j)
-counted_on a m w new h later before same j = ap (λ (set : ℕ). has set j) same ∙ stays (has w.counted j) refl
-  where
-    stays : (v : Bool) → has w.counted j ≡ v → v ≡ (v && counts_at a m j)
-    stays true e = sym (h.counts j m e later before)
-    stays false e = refl
 
 -- without a call
 pub even_less : (a : Aim) (one : ℕ) (w new : Waiting) (term : ℤ) (slope : ℕ) → AreEven a w → has w.counted one ≡ true → IsAccepted a.snapshot → ((j : ℕ) → IsPrice (a.price j)) → w.moment < 10000000000 → term ≡ term_at a w.moment one → slope ≡ rise_at a.snapshot w.moment one → ((j : ℕ) → has new.counted j ≡ (has w.counted j && not (j == one))) → new.sum ≡ w.sum -ℤ term → new.moment ≡ w.moment → new.growth.slope + slope ≡ w.growth.slope → new.growth.until ≡ w.growth.until → AreEven a new
@@ -260,15 +242,6 @@ even_less a one w new term slope h is_in accepted prices early term_is slope_is 
     one_rise true false t e f = omega arith
     one_rise b c t e f = cc
 
-pub waiting_less : (a : Aim) (one : ℕ) (w new : Waiting) (term : ℤ) (slope : ℕ) → AreWaiting a w → has w.counted one ≡ true → IsAccepted a.snapshot → ((j : ℕ) → IsPrice (a.price j)) → w.moment < 10000000000 → term ≡ term_at a w.moment one → slope ≡ rise_at a.snapshot w.moment one → ((j : ℕ) → has new.counted j ≡ (has w.counted j && not (j == one))) → new.sum ≡ w.sum -ℤ term → new.moment ≡ w.moment → new.growth.slope + slope ≡ w.growth.slope → new.growth.until ≡ w.growth.until → new.until ≡ w.until → AreWaiting a new
-waiting_less a one w new term slope h is_in accepted prices early term_is slope_is counted sum moment less told until =
-    let within = h.within in
-    record {
-      are = even_less a one w new term slope h.are is_in accepted prices early term_is slope_is counted sum moment less told;
-      within = omega (arith, within, told, until);
-      counts = λ j k e later before. h.counts j k (still w new one counted j e) (omega (arith, later, moment)) (omega (arith, before, until));
-    }
-
 -- a call of those that wait grows by no more than all of them
 pub slope_within : (a : Aim) (one : ℕ) (w : Waiting) (slope : ℕ) → AreEven a w → has w.counted one ≡ true → slope ≡ rise_at a.snapshot w.moment one → slope ≤ w.growth.slope
 slope_within a one w slope h is_in is =
@@ -277,112 +250,97 @@ slope_within a one w slope h is_in is =
     let all = h.slope in
     omega (arith, step, all, is)
 
--- ---- those that count no more are left out, call by call
+-- ---- those that cost no less than their prices are left out, call by call
 
--- it is told until when the call counts
-pub told_of : (a : Aim) (one : ℕ) (w new : Waiting) → AreEven a w → w.until ≤ w.growth.until → has w.counted one ≡ true → counts_at a w.moment one ≡ true → ((k : ℕ) → w.moment ≤ k → k < new.until → counts_at a k one ≡ true) → new.counted ≡ w.counted → new.sum ≡ w.sum → new.moment ≡ w.moment → new.growth ≡ w.growth → new.until ≤ w.until → IsSiftedOf a w one new
-told_of a one w new h within is_in now_counts counts counted sum moment growth until =
-    let told = ap (λ (g : Growth). g.until) growth in
-    record {
-      are = even_same a w new h counted sum moment growth;
-      moment = moment;
-      inside = λ j e. sym (ap (λ (set : ℕ). has set j) counted) ∙ e;
-      others = λ j ne. ap (λ (set : ℕ). has set j) counted;
-      stays = λ _. ap (λ (set : ℕ). has set one) counted ∙ is_in;
-      counts_now = λ _. now_counts;
-      counts = λ k e later before. counts k later before;
-      until = until;
-      within = omega (arith, within, told, until);
-    }
+abbrev pub costs_less : Aim → (m j : ℕ) → Bool
+costs_less a m j = int_lt (term_at a m j) (pos 0)
 
--- the call does not count
-pub left_out_of : (a : Aim) (one : ℕ) (w new : Waiting) → AreEven a new → w.until ≤ w.growth.until → counts_at a w.moment one ≡ false → ((j : ℕ) → has new.counted j ≡ (has w.counted j && not (j == one))) → new.moment ≡ w.moment → new.growth.until ≡ w.growth.until → new.until ≡ w.until → IsSiftedOf a w one new
-left_out_of a one w new are within out counted moment told until = record {
-  are = are;
-  moment = moment;
-  inside = still w new one counted;
-  others = others w new one counted;
-  stays = λ e. absurd (both_ways _ out e);
-  counts_now = λ e. gone e;
-  counts = λ k e later before. gone e;
-  until = omega (arith, until);
-  within = omega (arith, within, told, until);
-}
+-- the call costs less
+pub one_stays : (a : Aim) (w : Waiting) (one : ℕ) → costs_less a w.moment one ≡ true → (j : ℕ) → has w.counted j ≡ (has w.counted j && (not (j == one) || costs_less a w.moment j))
+one_stays a w one less j = by_place (j == one) refl
   where
-    gone : {X : Type 0} → has new.counted one ≡ true → X
-    gone e = absurd (false≢true (sym (ap not (eq-eqb one one refl)) ∙ (and_parts (has w.counted one) (not (one == one)) (sym (counted one) ∙ e)).1))
+    all : (b : Bool) → b ≡ (b && true)
+    all true = refl
+    all false = refl
 
--- how far this is
-pub record AreSifted (a : Aim) (old : Waiting) (left : List ℕ) (w : Waiting) : Type 0 where
+    by_place : (v : Bool) → (j == one) ≡ v → has w.counted j ≡ (has w.counted j && (not v || costs_less a w.moment j))
+    by_place true e = all (has w.counted j) ∙ ap (λ (b : Bool). has w.counted j && b) (sym (subst (λ (k : ℕ). costs_less a w.moment k ≡ true) (sym (eqb-true j one e)) less))
+    by_place false e = all (has w.counted j)
+
+-- it does not
+pub one_goes : (a : Aim) (w : Waiting) (one : ℕ) (new : ℕ) → costs_less a w.moment one ≡ false → ((j : ℕ) → has new j ≡ (has w.counted j && not (j == one))) → (j : ℕ) → has new j ≡ (has w.counted j && (not (j == one) || costs_less a w.moment j))
+one_goes a w one new more counted j = counted j ∙ by_place (j == one) refl
+  where
+    by_place : (v : Bool) → (j == one) ≡ v → (has w.counted j && not v) ≡ (has w.counted j && (not v || costs_less a w.moment j))
+    by_place true e = ap (λ (b : Bool). has w.counted j && b) (sym (subst (λ (k : ℕ). costs_less a w.moment k ≡ false) (sym (eqb-true j one e)) more))
+    by_place false e = refl
+
+-- how far this is: those that are left are still counted
+pub record AreSifted (a : Aim) (old : Waiting) (due : ℕ) (left : List ℕ) (w : Waiting) : Type 0 where
   pub are : AreEven a w
   pub moment : w.moment ≡ old.moment
-  pub within : w.until ≤ w.growth.until
   pub once : AreOnce left
+  pub within : (j : ℕ) → is_among j left ≡ true → has due j ≡ true
   pub still : (j : ℕ) → is_among j left ≡ true → has w.counted j ≡ true
-  pub inside : (j : ℕ) → has w.counted j ≡ true → has old.counted j ≡ true
-  pub keeps : (j : ℕ) → has old.counted j ≡ true → counts_at a old.moment j ≡ true → has w.counted j ≡ true
-  pub counts_now : (j : ℕ) → has w.counted j ≡ true → is_among j left ≡ false → counts_at a old.moment j ≡ true
-  pub counts : (j k : ℕ) → has w.counted j ≡ true → is_among j left ≡ false → old.moment ≤ k → k < w.until → counts_at a k j ≡ true
+  pub counted : (j : ℕ) → has w.counted j ≡ (has old.counted j && (is_among j left || (not (has due j) || costs_less a old.moment j)))
 
-pub none_sifted : (a : Aim) (old : Waiting) (set : ℕ) → AreEven a old → call_count a.snapshot ≤ 128 → old.until ≡ old.growth.until → ((j : ℕ) → has set j ≡ (has old.counted j && not (a.required j))) → AreSifted a old (members 128 set) old
-none_sifted a old set h few until is = record {
+pub none_sifted : (a : Aim) (old : Waiting) (due : ℕ) → AreEven a old → call_count a.snapshot ≤ 128 → ((j : ℕ) → has due j ≡ true → has old.counted j ≡ true) → AreSifted a old due (members 128 due) old
+none_sifted a old due h few inside = record {
   are = h;
   moment = refl;
-  within = omega (arith, until);
-  once = members_once 128 set;
-  still = λ j e. (and_parts (has old.counted j) (not (a.required j)) (sym (is j) ∙ among_has 128 set j e)).0;
-  inside = λ j e. e;
-  keeps = λ j e c. e;
-  counts_now = λ j e none. required j old.moment (a.required j) refl e none;
-  counts = λ j k e none later before. required j k (a.required j) refl e none;
+  once = members_once 128 due;
+  within = λ j e. among_has 128 due j e;
+  still = λ j e. inside j (among_has 128 due j e);
+  counted = λ j. all (has old.counted j) (is_among j (members 128 due)) (has due j) (costs_less a old.moment j) (λ e d. among 128 due j (let near = h.calls j e in omega (arith, near, few)) d);
 }
   where
-    required : (j k : ℕ) (v : Bool) → a.required j ≡ v → has old.counted j ≡ true → is_among j (members 128 set) ≡ false → counts_at a k j ≡ true
-    required j k true r e none = or_left (a.required j) (int_lt (term_at a k j) (pos 0)) r
-    required j k false r e none = not_left j set (let near = h.calls j e in omega (arith, near, few)) (is j ∙ ap (λ (b : Bool). b && not (a.required j)) e ∙ ap not r) none
+    all : (b left d less : Bool) → (b ≡ true → d ≡ true → left ≡ true) → b ≡ (b && (left || (not d || less)))
+    all false left d less p = refl
+    all true true d less p = refl
+    all true false true less p = absurd (false≢true (p refl refl))
+    all true false false less p = refl
 
-pub one_sifted : (a : Aim) (old : Waiting) (left rest : List ℕ) (one : ℕ) (w new : Waiting) → AreSifted a old left w → left ≡ one ∷ rest → IsSiftedOf a w one new → AreSifted a old rest new
-one_sifted a old left rest one w new h is s =
-    let once = subst AreOnce is h.once in
-    let until = s.until in
-    record {
-      are = s.are;
-      moment = s.moment ∙ h.moment;
-      within = s.within;
-      once = once.1;
-      still = λ j e. s.others j (λ at. both_ways (is_among one rest) once.0 (sym (ap (λ (k : ℕ). is_among k rest) at) ∙ e)) ∙ h.still j (ap (is_among j) is ∙ or_right (one == j) (is_among j rest) e);
-      inside = λ j e. h.inside j (s.inside j e);
-      keeps = λ j e c. kept j (one == j) refl e c;
-      counts_now = λ j e none. now_counts j (one == j) refl e none;
-      counts = λ j k e none later before. later_counts j k (one == j) refl e none later before;
-    }
+pub one_sifted : (a : Aim) (old : Waiting) (due : ℕ) (left rest : List ℕ) (one : ℕ) (w new : Waiting) → AreSifted a old due left w → left ≡ one ∷ rest → AreEven a new → new.moment ≡ w.moment → ((j : ℕ) → has new.counted j ≡ (has w.counted j && (not (j == one) || costs_less a w.moment j))) → AreSifted a old due rest new
+one_sifted a old due left rest one w new h is are moment counted = record {
+  are = are;
+  moment = moment ∙ h.moment;
+  once = once.1;
+  within = λ j e. h.within j (later j e);
+  still = λ j e. counted j ∙ kept (has w.counted j) (j == one) (costs_less a w.moment j) (h.still j (later j e)) (apart j e);
+  counted = λ j. counted j ∙ ap (λ (m : ℕ). has w.counted j && (not (j == one) || costs_less a m j)) h.moment ∙ by_place j (j == one) refl;
+}
   where
-    earlier : (j : ℕ) → (one == j) ≡ false → is_among j rest ≡ false → is_among j left ≡ false
-    earlier j ne none = ap (is_among j) is ∙ ap (λ (b : Bool). b || is_among j rest) ne ∙ none
+    once : AreOnce (one ∷ rest)
+    once = subst AreOnce is h.once
 
-    apart : (j : ℕ) → (one == j) ≡ false → j ≡ one → ⊥
-    apart j ne at = both_ways (one == j) ne (eq-eqb one j (sym at))
+    later : (j : ℕ) → is_among j rest ≡ true → is_among j left ≡ true
+    later j e = ap (is_among j) is ∙ or_right (one == j) (is_among j rest) e
 
-    kept : (j : ℕ) (v : Bool) → (one == j) ≡ v → has old.counted j ≡ true → counts_at a old.moment j ≡ true → has new.counted j ≡ true
-    kept j true e is_in c = subst (λ (k : ℕ). has new.counted k ≡ true) (eqb-true one j e) (s.stays (subst (λ (m : ℕ). counts_at a m one ≡ true) (sym h.moment) (subst (λ (k : ℕ). counts_at a old.moment k ≡ true) (sym (eqb-true one j e)) c)))
-    kept j false e is_in c = s.others j (apart j e) ∙ h.keeps j is_in c
+    apart : (j : ℕ) → is_among j rest ≡ true → (j == one) ≡ false
+    apart j e = false_from_ne_true (j == one) (λ at. both_ways (is_among one rest) once.0 (sym (ap (λ (k : ℕ). is_among k rest) (eqb-true j one at)) ∙ e))
 
-    now_counts : (j : ℕ) (v : Bool) → (one == j) ≡ v → has new.counted j ≡ true → is_among j rest ≡ false → counts_at a old.moment j ≡ true
-    now_counts j true e is_in none = subst (λ (k : ℕ). counts_at a old.moment k ≡ true) (eqb-true one j e) (subst (λ (m : ℕ). counts_at a m one ≡ true) h.moment (s.counts_now (subst (λ (k : ℕ). has new.counted k ≡ true) (sym (eqb-true one j e)) is_in)))
-    now_counts j false e is_in none = h.counts_now j (s.inside j is_in) (earlier j e none)
+    kept : (b at less : Bool) → b ≡ true → at ≡ false → (b && (not at || less)) ≡ true
+    kept true false less e f = refl
+    kept b at less e f = cc
 
-    later_counts : (j k : ℕ) (v : Bool) → (one == j) ≡ v → has new.counted j ≡ true → is_among j rest ≡ false → old.moment ≤ k → k < new.until → counts_at a k j ≡ true
-    later_counts j k true e is_in none later before = subst (λ (i : ℕ). counts_at a k i ≡ true) (eqb-true one j e) (s.counts k (subst (λ (i : ℕ). has new.counted i ≡ true) (sym (eqb-true one j e)) is_in) (let same = h.moment in omega (arith, later, same)) before)
-    later_counts j k false e is_in none later before = h.counts j k (s.inside j is_in) (earlier j e none) later (let until = s.until in omega (arith, before, until))
+    first : is_among one left ≡ true
+    first = ap (is_among one) is ∙ or_left (one == one) (is_among one rest) (eq-eqb one one refl)
 
-pub all_sifted : (a : Aim) (old : Waiting) (left : List ℕ) (w : Waiting) → AreSifted a old left w → left ≡ [] → AreWaiting a w × ((j : ℕ) → has w.counted j ≡ (has old.counted j && counts_at a old.moment j))
-all_sifted a old left w h is = (
-  record { are = h.are; within = h.within; counts = λ j k e later before. h.counts j k e (ap (is_among j) is) (let same = h.moment in omega (arith, later, same)) before },
-  λ j. both (has w.counted j) (has old.counted j) (counts_at a old.moment j) (h.inside j) (h.keeps j) (λ e. h.counts_now j e (ap (is_among j) is)),
-)
-  where
-    both : (x y c : Bool) → (x ≡ true → y ≡ true) → (y ≡ true → c ≡ true → x ≡ true) → (x ≡ true → c ≡ true) → x ≡ (y && c)
-    both true y c p q r = sym (ap (λ (b : Bool). b && c) (p refl) ∙ r refl)
-    both false true true p q r = q refl refl
-    both false true false p q r = refl
-    both false false c p q r = refl
+    here : (b in_left in_rest d less : Bool) → in_left ≡ true → in_rest ≡ false → d ≡ true → ((b && (in_left || (not d || less))) && (not true || less)) ≡ (b && (in_rest || (not d || less)))
+    here true true false true less e f g = refl
+    here false in_left in_rest d less e f g = refl
+    here b in_left in_rest d less e f g = cc
+
+    elsewhere : (b c : Bool) → c ≡ true → b && c ≡ b
+    elsewhere true c e = e
+    elsewhere false c e = refl
+
+    by_place : (j : ℕ) (v : Bool) → (j == one) ≡ v → (has w.counted j && (not v || costs_less a old.moment j)) ≡ (has old.counted j && (is_among j rest || (not (has due j) || costs_less a old.moment j)))
+    by_place j true e =
+        let at = eqb-true j one e in
+        ap (λ (b : Bool). b && (not true || costs_less a old.moment j)) (h.counted j) ∙ here (has old.counted j) (is_among j left) (is_among j rest) (has due j) (costs_less a old.moment j) (ap (λ (k : ℕ). is_among k left) at ∙ first) (ap (λ (k : ℕ). is_among k rest) at ∙ once.0) (ap (has due) at ∙ h.within one first)
+    by_place j false e = elsewhere (has w.counted j) (not false || costs_less a old.moment j) refl ∙ h.counted j ∙ ap (λ (b : Bool). has old.counted j && (b || (not (has due j) || costs_less a old.moment j))) (ap (is_among j) is ∙ ap (λ (b : Bool). b || is_among j rest) (false_from_ne_true (one == j) (λ f. both_ways (j == one) e (eq-eqb j one (sym (eqb-true one j f))))))
+
+-- all are judged
+pub all_sifted : (a : Aim) (old : Waiting) (due : ℕ) (left : List ℕ) (w : Waiting) → AreSifted a old due left w → left ≡ [] → (j : ℕ) → has w.counted j ≡ (has old.counted j && (not (has due j) || costs_less a old.moment j))
+all_sifted a old due left w h is j = h.counted j ∙ ap (λ (b : Bool). has old.counted j && (b || (not (has due j) || costs_less a old.moment j))) (ap (is_among j) is)

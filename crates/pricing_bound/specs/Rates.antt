@@ -1,11 +1,12 @@
 -- What calls cost, laid out, and what they add to a bound.
-use Rattle.std.specs.Prelude.{◌≡◌, ◌≤◌, ◌<◌, ℕ, ◌+◌, ◌-◌, ◌*◌, ℤ, pos, ◌-ℤ◌, int_lt, Bool, true, ◌||◌, List, length, slice_index_or, if◌then◌else◌}
+use Rattle.std.specs.Prelude.{◌≡◌, ◌≤◌, ◌<◌, ℕ, ◌+◌, ◌-◌, ◌*◌, ℤ, pos, ◌-ℤ◌, int_lt, Bool, false, true, ◌||◌, List, length, slice_index_or, if◌then◌else◌}
 use Rattle.call_sets.specs.Counting.{has}
 use Rattle.elevator_model.specs.Costs.{cost_of_rider}
 use Rattle.elevator_model.specs.Snapshot.{Snapshot, call_count}
 use Rattle.price_scale.specs.Scale.{IsPrice}
 use Rattle.search_model.specs.Bounds.{cost_if_alone}
 use Rattle.search_model.specs.Prices.{scaled, price_at}
+use Rattle.pricing_bound.specs.declared.rates.End.{End}
 use Rattle.pricing_bound.specs.declared.rates.Rate.{Rate}
 use Rattle.pricing_bound.specs.Aims.{Aim}
 
@@ -56,6 +57,14 @@ pub record IsRate (s : Snapshot) (j : ℕ) (rate : Rate) : Type 0 where
 pub record AreRates (s : Snapshot) (rates : List Rate) : Type 0 where
   pub size : length rates ≡ call_count s
   pub each : (j : ℕ) (d : Rate) → j < call_count s → IsRate s j (slice_index_or rates j d)
+
+-- before the end each call that is not early to it costs less than its price alone, as its rate tells
+abbrev pub IsEnd : List Rate → End → Type 0
+IsEnd rates end = (j : ℕ) (d : Rate) → j < length rates → has end.early j ≡ false → end.until ≤ (slice_index_or rates j d).below
+
+-- each of these is such an end
+abbrev pub AreEnds : List Rate → List End → Type 0
+AreEnds rates ends = (place : ℕ) (d : End) → place < length ends → IsEnd rates (slice_index_or ends place d)
 
 -- the prices of the calls are prices
 abbrev pub ArePrices : Rated → Type 0

@@ -33,24 +33,6 @@ pub record AreEven (a : Aim) (w : Waiting) : Type 0 where
   pub gentle : w.growth.slope ≤ 2048000
   pub even : (j : ℕ) → has w.counted j ≡ true → IsEven a w.moment w.growth.until j
 
--- They count before a moment.
-pub record AreWaiting (a : Aim) (w : Waiting) : Type 0 where
-  pub are : AreEven a w
-  pub within : w.until ≤ w.growth.until
-  pub counts : (j k : ℕ) → has w.counted j ≡ true → w.moment ≤ k → k < w.until → counts_at a k j ≡ true
-
--- Of these calls one is left out where it does not count at the moment, and the others stay.
-pub record IsSiftedOf (a : Aim) (w : Waiting) (one : ℕ) (new : Waiting) : Type 0 where
-  pub are : AreEven a new
-  pub moment : new.moment ≡ w.moment
-  pub inside : (j : ℕ) → has new.counted j ≡ true → has w.counted j ≡ true
-  pub others : (j : ℕ) → (j ≡ one → ⊥) → has new.counted j ≡ has w.counted j
-  pub stays : counts_at a w.moment one ≡ true → has new.counted one ≡ true
-  pub counts_now : has new.counted one ≡ true → counts_at a w.moment one ≡ true
-  pub counts : (k : ℕ) → has new.counted one ≡ true → w.moment ≤ k → k < new.until → counts_at a k one ≡ true
-  pub until : new.until ≤ w.until
-  pub within : new.until ≤ new.growth.until
-
 -- the sums are those of a progress: the completion bound, the prices of the calls that boarded, and the calls that
 -- are counted, with what they add where the doors are open
 pub record AreSums (a : Aim) (sums : Sums) (p : Progress) : Type 0 where
@@ -59,7 +41,7 @@ pub record AreSums (a : Aim) (sums : Sums) (p : Progress) : Type 0 where
   pub paid : sums.paid ≡ int_sum_where (call_count a.snapshot) p.boarded a.price
   pub paid_small : IsPriceSum sums.paid
   pub counted : (j : ℕ) → has sums.waiting.counted j ≡ is_counted a p j
-  pub waiting : AreWaiting a sums.waiting
+  pub waiting : AreEven a sums.waiting
   pub opened : sums.waiting.moment ≡ p.opened
 
 -- they are those of where moves lead

@@ -1,18 +1,18 @@
 //! What calls cost, laid out once for a snapshot, with one price for each call.
 
-ghost use Rattle.std.specs.Prelude.{◌≡◌, ℕ, ℤ, pos, neg_ℤ, ◌-ℤ◌, ◌+◌, ◌-◌, ◌*◌, ◌^◌, ◌<◌, ◌≤◌, ◌≤ℤ◌, int_lt, true, IfOk, length, map, nat_lt};
+ghost use Rattle.std.specs.Prelude.{◌≡◌, ℕ, ℤ, pos, neg_ℤ, ◌-ℤ◌, ◌+◌, ◌-◌, ◌*◌, ◌^◌, ◌<◌, ◌≤◌, ◌≤ℤ◌, int_lt, false, true, not, IfOk, length, map, nat_lt, slice_index_or, vec_capacity};
 ghost use Rattle.call_sets.specs.Counting.{has};
 ghost use Rattle.elevator_model.specs.Snapshot.{IsAccepted, Snapshot as SnapshotValue, call_count, call_of};
 ghost use Rattle.price_scale.specs.Scale.{IsPrice};
 ghost use Rattle.elevator_model.specs.Costs.{cost_of_rider};
 ghost use Rattle.search_model.specs.Bounds.{cost_if_alone};
 ghost use Rattle.search_model.specs.Prices.{price_at, scaled as scaled_lem};
-ghost use Rattle.pricing_bound.specs.Rates.{AreRates, IsRate, ArePrices, rise_at, wait_at};
+ghost use Rattle.pricing_bound.specs.Rates.{AreEnds, AreRates, IsEnd, IsRate, ArePrices, rise_at, wait_at};
 
 use crate::waiting::Growth;
 use call_sets::CallSet;
 use call_state::{Building, Call, Snapshot};
-use elevator_model::{MOMENT_LIMIT, MOST_CALL_COST};
+use elevator_model::{MOMENT_LIMIT, MOST_CALL_COST, MOST_CALLS};
 use price_scale::{Price, scaled};
 use std::alloc::{AllocError, Global};
 use std::marker::Model;
@@ -193,25 +193,106 @@ fn set_prices(rates: &mut [Rate], prices: &[Price])
     }
 }
 
+/// A moment in ms before which each call but the early ones costs less than its price, if it boards and rides straight
+/// to its destination. The last end is past all moments.
+#[derive(Clone, Copy)]
+pub(crate) struct End {
+    until: u64,
+    early: CallSet,
+}
+
+/// The end of these early calls: until a call that is not early may cost no less than its price.
+fn next_end(rates: &[Rate], early: CallSet) -> End
+    requires few { length rates.now ≤ 128 }
+    ensures end { IsEnd rates.now result }
+    ensures early { result.early ≡ early }
+{
+    let mut until = u64::MAX;
+    for call in 0..rates.len() {
+        if !early.contains(call as u32) {
+            until = until.min(rates[call].below);
+        }
+    }
+    End { until, early }
+}
+
+/// The calls that may cost no less than their prices at this moment.
+fn ended_by(rates: &[Rate], moment: u64) -> CallSet
+    requires few { length rates.now ≤ 128 }
+    ensures within { (j : ℕ) → has result j ≡ true → j < length rates.now }
+    ensures ended { (j : ℕ) (d : Rate) → j < length rates.now
+        → has result j ≡ not (nat_lt moment (slice_index_or rates.now j d).below) }
+{
+    let mut ended = CallSet::empty();
+    for call in 0..rates.len() {
+        if moment >= rates[call].below {
+            ended = ended.with(call as u32);
+        }
+    }
+    ended
+}
+
+/// Puts the ends of calls at these rates in place of those that are there, the first one first: at each of them some
+/// more calls are early. It takes no memory.
+fn lay_out_ends(rates: &[Rate], ends: &mut Vec<End>)
+    requires few { length rates.now ≤ 128 }
+    requires room { 129 ≤ vec_capacity ends.old }
+    ensures ends { AreEnds rates.now ends.new.items }
+    ensures room { vec_capacity ends.new ≡ vec_capacity ends.old }
+{
+    ends.clear();
+    let mut early = CallSet::empty();
+    while ends.len() <= rates.len() {
+        let end = next_end(rates, early);
+        let until = end.until;
+        ends.push_reserved(end);
+        if until == u64::MAX {
+            break;
+        }
+        early = ended_by(rates, until);
+    }
+}
+
+/// The first place from this one on whose end is past the moment, or one past the last.
+fn place_past(ends: &[End], from: usize, moment: u64) -> usize
+    ensures { (d : End) → result < length ends.now
+        → moment < (slice_index_or ends.now result d).until }
+{
+    let mut place = from;
+    while place < ends.len() && moment >= ends[place].until {
+        place += 1;
+    }
+    place
+}
+
+/// The calls that may cost no less than their prices at a moment, with the place of the end that tells them.
+#[derive(Clone, Copy)]
+pub(crate) struct Due {
+    pub(crate) place: usize,
+    pub(crate) calls: CallSet,
+}
+
 /// The rates of the calls of a snapshot, at one price each. All memory is taken when they are made.
 #[derive(Drop)]
 pub struct Rates<'a> {
     snapshot: &'a Snapshot,
     rates: Vec<Rate>,
+    /// The ends of calls at their prices, the first one first.
+    ends: Vec<End>,
     calls: CallSet,
 }
 
 impl<'a> Model for Rates<'a> {
-    ghost use Rattle.std.specs.Prelude.{◌≡◌, ℕ, map, nat_lt};
+    ghost use Rattle.std.specs.Prelude.{◌≡◌, ◌≤◌, ℕ, map, nat_lt, vec_capacity};
     ghost use Rattle.call_sets.specs.Counting.{has};
     ghost use Rattle.elevator_model.specs.Snapshot.{IsAccepted, call_count};
-    ghost use Rattle.pricing_bound.specs.Rates.{AreRates, Rated};
+    ghost use Rattle.pricing_bound.specs.Rates.{AreEnds, AreRates, Rated};
 
     ghost Value = { Rated };
 
     ghost view = { λ r. record { snapshot = r.snapshot.now; prices = map (λ rate. rate.price) r.rates.items } };
 
-    ghost invariant = { λ r. IsAccepted r.snapshot.now × AreRates r.snapshot.now r.rates.items × ((j : ℕ) → has r.calls j ≡ nat_lt j (call_count r.snapshot.now)) };
+    ghost invariant = { λ r. IsAccepted r.snapshot.now × AreRates r.snapshot.now r.rates.items × ((j : ℕ) → has r.calls j ≡ nat_lt j (call_count r.snapshot.now)) × AreEnds r.rates.items r.ends.items × (129 ≤ vec_capacity r.ends) };
 }
 
 impl<'a> Rates<'a> {
@@ -225,6 +306,7 @@ impl<'a> Rates<'a> {
         Ok(Rates {
             snapshot,
             rates: rates_of(alloc, snapshot)?,
+            ends: Vec::with_capacity(alloc, MOST_CALLS + 1)?,
             calls: calls_of(snapshot),
         })
     }
@@ -235,6 +317,7 @@ impl<'a> Rates<'a> {
         ensures { self.new ≡ record { snapshot = self.old.snapshot; prices = prices.now } }
     {
         set_prices(self.rates.as_mut_slice(), prices);
+        lay_out_ends(self.rates.as_slice(), &mut self.ends);
     }
 
     /// The snapshot.
@@ -288,13 +371,19 @@ impl<'a> Rates<'a> {
         scaled(rate.wait_cost(moment) + rate.ride) - rate.price
     }
 
-    /// A moment before which what a call costs alone is below its price.
-    pub(crate) fn below(&self, call: u32) -> u64
-        requires { call < call_count self.now.snapshot }
-        ensures { (k : ℕ) → k < result → int_lt (scaled_lem (cost_if_alone self.now.snapshot call k)
-            -ℤ price_at self.now.prices call) (pos 0) ≡ true }
+    /// The calls that may cost no less than their prices where they board at this moment and ride straight to their
+    /// destinations. Their end is looked for from this place on: 0, or that of an earlier moment.
+    pub(crate) fn due(&self, place: usize, moment: u64) -> Due
+        ensures { (j : ℕ) → j < call_count self.now.snapshot → has result.calls j ≡ false
+            → int_lt (scaled_lem (cost_if_alone self.now.snapshot j moment)
+            -ℤ price_at self.now.prices j) (pos 0) ≡ true }
     {
-        self.rates[call as usize].below
+        let place = place_past(self.ends.as_slice(), place, moment);
+        let calls = match self.ends.get(place) {
+            Some(end) => end.early,
+            None => self.calls,
+        };
+        Due { place, calls }
     }
 
     /// How what a call costs that rides straight to its destination grows from this moment of its board on.

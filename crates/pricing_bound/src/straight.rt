@@ -11,7 +11,7 @@ ghost use Rattle.search_model.specs.Prices.{scaled as scaled_lem};
 ghost use Rattle.search_model.specs.Sums.{int_sum_where};
 ghost use Rattle.pricing_bound.specs.Aims.{AimsAt, IsBoundSize, IsNextMove, completion_bound_for};
 ghost use Rattle.pricing_bound.specs.Rates.{aim_at, counts_at, rise_at, term_at};
-ghost use Rattle.pricing_bound.specs.Running.{AreEven, AreWaiting, IsEven, IsSiftedOf, StandFor};
+ghost use Rattle.pricing_bound.specs.Running.{AreEven, IsEven, StandFor};
 ghost use Rattle.search_model.specs.Prices.{price_at};
 ghost use Rattle.search_model.proofs.BoundLemmas.{bound_is_at_least};
 ghost use Rattle.pricing_bound.specs.GrowthLemmas.{bound_grows};
@@ -122,13 +122,6 @@ impl<'a> StraightRides<'a> {
         }
     }
 
-    /// Whether a call that waits adds what it costs without its price.
-    fn counts(&self, call: u32, term: i128) -> bool
-        ensures { result ≡ (has self.now.required call || int_lt term (pos 0)) }
-    {
-        term < 0 || self.required.contains(call)
-    }
-
     /// What calls cost without their prices that board at this moment.
     fn terms(&self, calls: CallSet, moment: u64) -> i128
         requires within { (j : ℕ) → has calls j ≡ true
@@ -172,50 +165,71 @@ impl<'a> StraightRides<'a> {
         growth
     }
 
-    /// The same calls without one that does not count any more. If it does, it is told until when.
-    fn sifted_of(&self, waiting: &Waiting, call: u32) -> Waiting
+    /// Leaves a call out that costs no less than its price at the moment.
+    fn sift_one(&self, waiting: &mut Waiting, call: u32)
         requires are { AreEven (aim_at self.now.rates.now self.now.car self.now.allowed
-            self.now.required) waiting.now }
-        requires within { waiting.now.until ≤ waiting.now.growth.until }
-        requires call { has waiting.now.counted call ≡ true }
-        requires early { waiting.now.moment < LATEST_MOMENT }
-        ensures { IsSiftedOf (aim_at self.now.rates.now self.now.car self.now.allowed
-            self.now.required) waiting.now call result }
+            self.now.required) waiting.old }
+        requires call { has waiting.old.counted call ≡ true }
+        requires early { waiting.old.moment < LATEST_MOMENT }
+        ensures counted { (j : ℕ) → has waiting.new.counted j ≡ (has waiting.old.counted j
+            && (not (j == call) || int_lt (term_at
+            (aim_at self.now.rates.now self.now.car self.now.allowed
+            self.now.required) waiting.old.moment j) (pos 0))) }
+        ensures are { AreEven (aim_at self.now.rates.now self.now.car self.now.allowed
+            self.now.required) waiting.new }
+        ensures moment { waiting.new.moment ≡ waiting.old.moment }
     {
         // The snapshot is accepted, and no term is great.
         let _accepted = self.rates.snapshot();
-        let below = self.rates.below(call);
-        if waiting.moment < below {
-            return waiting.told_until(below);
-        }
         let term = self.rates.term(call, waiting.moment);
-        if self.counts(call, term) {
-            return waiting.told_until(waiting.moment);
+        if term >= 0 {
+            let slope = self.rates.growth(call, waiting.moment).slope;
+            *waiting = waiting.without(call, term, slope);
         }
-        let slope = self.rates.growth(call, waiting.moment).slope;
-        waiting.without(call, term, slope)
     }
 
-    /// Those of the calls that count at the moment, and until when each of them does.
-    fn sifted(&self, waiting: &Waiting) -> Waiting
+    /// Leaves those of these calls out that cost no less than their prices at the moment.
+    fn sift(&self, waiting: &mut Waiting, due: CallSet)
         requires are { AreEven (aim_at self.now.rates.now self.now.car self.now.allowed
-            self.now.required) waiting.now }
-        requires until { waiting.now.until ≡ waiting.now.growth.until }
-        requires early { waiting.now.moment < LATEST_MOMENT }
-        ensures counted { (j : ℕ) → has result.counted j
-            ≡ (has waiting.now.counted j && counts_at
+            self.now.required) waiting.old }
+        requires due { (j : ℕ) → has due j ≡ true → has waiting.old.counted j ≡ true }
+        requires early { waiting.old.moment < LATEST_MOMENT }
+        ensures counted { (j : ℕ) → has waiting.new.counted j ≡ (has waiting.old.counted j
+            && (not (has due j) || int_lt (term_at
             (aim_at self.now.rates.now self.now.car self.now.allowed
-            self.now.required) waiting.now.moment j) }
-        ensures are { AreWaiting (aim_at self.now.rates.now self.now.car self.now.allowed
-            self.now.required) result }
-        ensures moment { result.moment ≡ waiting.now.moment }
+            self.now.required) waiting.old.moment j) (pos 0))) }
+        ensures are { AreEven (aim_at self.now.rates.now self.now.car self.now.allowed
+            self.now.required) waiting.new }
+        ensures moment { waiting.new.moment ≡ waiting.old.moment }
     {
         // The snapshot is accepted, so it has at most 128 calls.
         let _accepted = self.rates.snapshot();
-        let mut sifted = *waiting;
-        for call in waiting.counted.minus(self.required).iter() {
-            sifted = self.sifted_of(&sifted, call);
+        for call in due.iter() {
+            self.sift_one(waiting, call);
         }
+    }
+
+    /// Those of the calls that count at the moment. None but those that may have ceased to is looked at.
+    fn sifted(&self, waiting: Waiting) -> Waiting
+        requires are { AreEven (aim_at self.now.rates.now self.now.car self.now.allowed
+            self.now.required) waiting }
+        requires early { waiting.moment < LATEST_MOMENT }
+        ensures counted { (j : ℕ) → has result.counted j
+            ≡ (has waiting.counted j && counts_at
+            (aim_at self.now.rates.now self.now.car self.now.allowed
+            self.now.required) waiting.moment j) }
+        ensures are { AreEven (aim_at self.now.rates.now self.now.car self.now.allowed
+            self.now.required) result }
+        ensures moment { result.moment ≡ waiting.moment }
+    {
+        let optional = waiting.counted.minus(self.required);
+        let due = self.rates.due(waiting.place, waiting.moment);
+        let mut sifted = waiting.from_place(due.place);
+        let calls = optional.intersection(due.calls);
+        if calls.is_empty() {
+            return sifted;
+        }
+        self.sift(&mut sifted, calls);
         sifted
     }
 
@@ -227,23 +241,22 @@ impl<'a> StraightRides<'a> {
         ensures counted { (j : ℕ) → has result.counted j ≡ (has calls j && counts_at
             (aim_at self.now.rates.now self.now.car self.now.allowed
             self.now.required) moment j) }
-        ensures are { AreWaiting (aim_at self.now.rates.now self.now.car self.now.allowed
+        ensures are { AreEven (aim_at self.now.rates.now self.now.car self.now.allowed
             self.now.required) result }
         ensures moment { result.moment ≡ moment }
     {
-        let growth = self.growth(calls, moment);
-        self.sifted(&Waiting {
+        self.sifted(Waiting {
             counted: calls,
             sum: self.terms(calls, moment),
             moment,
-            growth,
-            until: growth.until,
+            growth: self.growth(calls, moment),
+            place: 0,
         })
     }
 
-    /// The same of calls that wait, at a later moment. No call is looked at as long as each of them is told to count.
+    /// The same of calls that wait, at a later moment. Their costs are added up anew where one has changed its pace.
     fn waiting_later(&self, waiting: &Waiting, moment: u64) -> Waiting
-        requires are { AreWaiting (aim_at self.now.rates.now self.now.car self.now.allowed
+        requires are { AreEven (aim_at self.now.rates.now self.now.car self.now.allowed
             self.now.required) waiting.now }
         requires later { waiting.now.moment ≤ moment }
         requires early { moment < LATEST_MOMENT }
@@ -251,16 +264,14 @@ impl<'a> StraightRides<'a> {
             ≡ (has waiting.now.counted j && counts_at
             (aim_at self.now.rates.now self.now.car self.now.allowed
             self.now.required) moment j) }
-        ensures are { AreWaiting (aim_at self.now.rates.now self.now.car self.now.allowed
+        ensures are { AreEven (aim_at self.now.rates.now self.now.car self.now.allowed
             self.now.required) result }
         ensures moment { result.moment ≡ moment }
     {
         // The snapshot is accepted, and no term is great.
         let _accepted = self.rates.snapshot();
-        if moment < waiting.until {
-            waiting.later(moment)
-        } else if moment < waiting.growth.until {
-            self.sifted(&waiting.later(moment).told_for_all())
+        if moment < waiting.growth.until {
+            self.sifted(waiting.later(moment))
         } else {
             self.waiting(waiting.counted, moment)
         }
@@ -268,13 +279,13 @@ impl<'a> StraightRides<'a> {
 
     /// Those that wait but this call.
     fn waiting_without(&self, waiting: &Waiting, call: u32) -> Waiting
-        requires are { AreWaiting (aim_at self.now.rates.now self.now.car self.now.allowed
+        requires are { AreEven (aim_at self.now.rates.now self.now.car self.now.allowed
             self.now.required) waiting.now }
         requires call { call < call_count self.now.rates.now.snapshot }
         requires early { waiting.now.moment < LATEST_MOMENT }
         ensures counted { (j : ℕ) → has result.counted j
             ≡ (has waiting.now.counted j && not (j == call)) }
-        ensures are { AreWaiting (aim_at self.now.rates.now self.now.car self.now.allowed
+        ensures are { AreEven (aim_at self.now.rates.now self.now.car self.now.allowed
             self.now.required) result }
         ensures moment { result.moment ≡ waiting.now.moment }
     {

@@ -40,8 +40,8 @@ pub(crate) struct Waiting {
     /// The moment in ms, and how what they cost grows from there on.
     pub(crate) moment: u64,
     pub(crate) growth: Growth,
-    /// A moment before which each of them still counts.
-    pub(crate) until: u64,
+    /// The place of an end of calls from which on the one for a later moment is looked for. No law speaks of it.
+    pub(crate) place: usize,
 }
 
 impl Waiting {
@@ -57,7 +57,6 @@ impl Waiting {
             +ℤ scaled_lem (self.now.growth.slope * (moment - self.now.moment)) }
         ensures moment { result.moment ≡ moment }
         ensures growth { result.growth ≡ self.now.growth }
-        ensures until { result.until ≡ self.now.until }
     {
         let grown = self.growth.slope * (moment - self.moment);
         Waiting {
@@ -65,42 +64,24 @@ impl Waiting {
             sum: self.sum + scaled(grown),
             moment,
             growth: self.growth,
-            until: self.until,
+            place: self.place,
         }
     }
 
-    /// The same, where each is taken to count as long as the growth is told.
-    pub(crate) fn told_for_all(&self) -> Waiting
-        ensures counted { result.counted ≡ self.now.counted }
-        ensures sum { result.sum ≡ self.now.sum }
-        ensures moment { result.moment ≡ self.now.moment }
-        ensures growth { result.growth ≡ self.now.growth }
-        ensures until { result.until ≡ self.now.growth.until }
+    /// The same, where ends of calls are looked for from this place on.
+    pub(crate) fn from_place(self, place: usize) -> Waiting
+        ensures counted { result.counted ≡ self.counted }
+        ensures sum { result.sum ≡ self.sum }
+        ensures moment { result.moment ≡ self.moment }
+        ensures growth { result.growth ≡ self.growth }
+        ensures place { result.place ≡ place }
     {
         Waiting {
             counted: self.counted,
             sum: self.sum,
             moment: self.moment,
             growth: self.growth,
-            until: self.growth.until,
-        }
-    }
-
-    /// The same, where one of them may count no more from a moment on.
-    pub(crate) fn told_until(&self, until: u64) -> Waiting
-        ensures counted { result.counted ≡ self.now.counted }
-        ensures sum { result.sum ≡ self.now.sum }
-        ensures moment { result.moment ≡ self.now.moment }
-        ensures growth { result.growth ≡ self.now.growth }
-        ensures first { result.until ≤ self.now.until }
-        ensures second { result.until ≤ until }
-    {
-        Waiting {
-            counted: self.counted,
-            sum: self.sum,
-            moment: self.moment,
-            growth: self.growth,
-            until: self.until.min(until),
+            place,
         }
     }
 
@@ -117,7 +98,6 @@ impl Waiting {
         ensures moment { result.moment ≡ self.now.moment }
         ensures slope { result.growth.slope + slope ≡ self.now.growth.slope }
         ensures told { result.growth.until ≡ self.now.growth.until }
-        ensures until { result.until ≡ self.now.until }
     {
         Waiting {
             counted: self.counted.without(call),
@@ -127,7 +107,7 @@ impl Waiting {
                 slope: self.growth.slope - slope,
                 until: self.growth.until,
             },
-            until: self.until,
+            place: self.place,
         }
     }
 }

@@ -9,7 +9,7 @@ use Rattle.partial_tours.proofs.Follow.{is_some_has}
 use Rattle.partial_tours.proofs.Tallied.{board_call}
 use Rattle.pricing_bound.specs.Rates.{aim_at}
 use Rattle.pricing_bound.specs.declared.waiting.Waiting.{Waiting}
-use Rattle.pricing_bound.specs.Running.{AreWaiting, StandFor}
+use Rattle.pricing_bound.specs.Running.{AreEven, StandFor}
 use Rattle.pricing_bound.proofs.RateLemmas.{stored_price, stored_term}
 use Rattle.pricing_bound.proofs.RunningLemmas.{step_of, aimed_at, aimed_from, last_of, aims_on, board_sums}
 use Rattle.pricing_bound.proofs.straight.StraightRides.after_board.Goals as goal
@@ -83,4 +83,4 @@ returns c = λ y e.
     let bounded = c.settled.ensures.bounded in
     let waits = c.with_board.ensures.waiting in
     let paid = c.with_board.ensures.paid ∙ ap (λ (z : ℤ). c.args.sums.now.paid +ℤ z) (stored_price c.price.result c.price.ensures.range ∙ c.price.ensures.value) in
-    board_sums a (with_move t (Board c.args.call)) c.args.sums.now c.with_board.result c.args.call y c.board_adds-more.result (aims_on a t (Board c.args.call) c.requires.for_it) (last_of a (StandFor a c.args.sums.now) t (Board c.args.call) x) c.snapshot-accepted.ensures.accepted car c.snapshot-accepted.ensures.prices e (omega (arith, settled, bounded)) c.board_adds-more.ensures.more (c.with_board.ensures.bound ∙ ap (λ (z : ℤ). c.args.sums.now.bound +ℤ z) (stored_term c.board_adds-more.result c.board_adds-more.ensures.low c.board_adds-more.ensures.high)) paid (λ k. ap (λ (w : Waiting). has w.counted k) waits ∙ c.waiting_without-waiting.ensures.counted k) (subst (AreWaiting a) (sym waits) c.waiting_without-waiting.ensures.are) (ap (λ (w : Waiting). w.moment) waits ∙ c.waiting_without-waiting.ensures.moment)
+    board_sums a (with_move t (Board c.args.call)) c.args.sums.now c.with_board.result c.args.call y c.board_adds-more.result (aims_on a t (Board c.args.call) c.requires.for_it) (last_of a (StandFor a c.args.sums.now) t (Board c.args.call) x) c.snapshot-accepted.ensures.accepted car c.snapshot-accepted.ensures.prices e (omega (arith, settled, bounded)) c.board_adds-more.ensures.more (c.with_board.ensures.bound ∙ ap (λ (z : ℤ). c.args.sums.now.bound +ℤ z) (stored_term c.board_adds-more.result c.board_adds-more.ensures.low c.board_adds-more.ensures.high)) paid (λ k. ap (λ (w : Waiting). has w.counted k) waits ∙ c.waiting_without-waiting.ensures.counted k) (subst (AreEven a) (sym waits) c.waiting_without-waiting.ensures.are) (ap (λ (w : Waiting). w.moment) waits ∙ c.waiting_without-waiting.ensures.moment)

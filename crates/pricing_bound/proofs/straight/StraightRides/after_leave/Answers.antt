@@ -10,7 +10,7 @@ use Rattle.partial_tours.specs.PartialTour.{course, with_move}
 use Rattle.partial_tours.proofs.Follow.{is_some_has, leave_leads_to, stands_in}
 use Rattle.pricing_bound.specs.Rates.{aim_at, counts_at}
 use Rattle.pricing_bound.specs.declared.waiting.Waiting.{Waiting}
-use Rattle.pricing_bound.specs.Running.{AreWaiting, IsAfterNow, StandFor}
+use Rattle.pricing_bound.specs.Running.{AreEven, IsAfterNow, StandFor}
 use Rattle.pricing_bound.proofs.Late.{left_after_now}
 use Rattle.pricing_bound.proofs.RateLemmas.{stored_paid}
 use Rattle.pricing_bound.proofs.SteadyLemmas.{adds_of}
@@ -87,4 +87,4 @@ returns c = λ y e.
     let waiting = adds_of a opened c.args.sums.now.waiting.counted c.waiting_later-waiting.result later.are later.moment later.counted in
     let waits = c.sums_of.ensures.waiting in
     let same = stored_paid c.args.sums.now.paid x.stands_before.paid_small in
-    leave_sums a (with_move t (Leave c.args.floor)) c.args.sums.now c.sums_of.result c.args.floor y c.settled.result c.cost_of_carried-carried.result opened c.waiting_later-waiting.result.sum aims last c.snapshot-accepted.ensures.accepted car c.snapshot-accepted.ensures.prices e (omega (arith, small)) (c.opened_after-opened.ensures.value y e) (c.settled.ensures.value x.before x.leads) (c.cost_of_carried-carried.ensures.cost x.before x.leads) waiting (c.sums_of.ensures.bound ∙ ap (λ (z : ℤ). ((scaled c.settled.result +ℤ scaled c.cost_of_carried-carried.result) -ℤ z) +ℤ c.waiting_later-waiting.result.sum) same) (c.sums_of.ensures.paid ∙ same) (λ k. ap (λ (w : Waiting). has w.counted k) waits ∙ c.waiting_later-waiting.ensures.counted k) (subst (AreWaiting a) (sym waits) c.waiting_later-waiting.ensures.are) (ap (λ (w : Waiting). w.moment) waits ∙ c.waiting_later-waiting.ensures.moment)
+    leave_sums a (with_move t (Leave c.args.floor)) c.args.sums.now c.sums_of.result c.args.floor y c.settled.result c.cost_of_carried-carried.result opened c.waiting_later-waiting.result.sum aims last c.snapshot-accepted.ensures.accepted car c.snapshot-accepted.ensures.prices e (omega (arith, small)) (c.opened_after-opened.ensures.value y e) (c.settled.ensures.value x.before x.leads) (c.cost_of_carried-carried.ensures.cost x.before x.leads) waiting (c.sums_of.ensures.bound ∙ ap (λ (z : ℤ). ((scaled c.settled.result +ℤ scaled c.cost_of_carried-carried.result) -ℤ z) +ℤ c.waiting_later-waiting.result.sum) same) (c.sums_of.ensures.paid ∙ same) (λ k. ap (λ (w : Waiting). has w.counted k) waits ∙ c.waiting_later-waiting.ensures.counted k) (subst (AreEven a) (sym waits) c.waiting_later-waiting.ensures.are) (ap (λ (w : Waiting). w.moment) waits ∙ c.waiting_later-waiting.ensures.moment)

@@ -1,5 +1,5 @@
 use Rattle.pricing_bound.specs.Rates.{aim_at}
-use Rattle.pricing_bound.proofs.SteadyLemmas.{even_on, even_same, waiting_on}
+use Rattle.pricing_bound.proofs.SteadyLemmas.{even_on}
 use Rattle.pricing_bound.proofs.straight.StraightRides.waiting_later.Goals as goal
 
 pub sifted-requires-clause-are : goal.sifted-requires-clause-are
@@ -7,15 +7,5 @@ sifted-requires-clause-are c =
     let it = c.args.self.now in
     let a = aim_at it.rates.now it.car it.allowed it.required in
     let known = c.snapshot-accepted.ensures in
-    let later = c.later-then-moment-waiting-2.ensures in
-    let told = c.told_for_all.ensures in
-    let even = even_on a c.args.moment c.args.waiting.now c.later-then-moment-waiting-2.result c.requires.are.are c.requires.later c.if-moment-waiting-2.true known.accepted known.prices c.requires.early later.counted later.sum later.moment later.growth in
-    even_same a c.later-then-moment-waiting-2.result c.told_for_all.result even told.counted told.sum told.moment told.growth
-
-pub returns-then-moment-waiting-clause-are : goal.returns-then-moment-waiting-clause-are
-returns-then-moment-waiting-clause-are c =
-    let it = c.args.self.now in
-    let a = aim_at it.rates.now it.car it.allowed it.required in
-    let known = c.snapshot-accepted.ensures in
     let later = c.later.ensures in
-    waiting_on a c.args.moment c.args.waiting.now c.later.result c.requires.are c.requires.later c.if-moment-waiting.true known.accepted known.prices c.requires.early later.counted later.sum later.moment later.growth later.until
+    even_on a c.args.moment c.args.waiting.now c.later.result c.requires.are c.requires.later c.if-moment-waiting.true known.accepted known.prices c.requires.early later.counted later.sum later.moment later.growth

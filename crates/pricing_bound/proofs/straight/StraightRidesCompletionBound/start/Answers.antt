@@ -5,7 +5,7 @@ use Rattle.call_sets.specs.Counting.{has}
 use Rattle.elevator_model.specs.Snapshot.{car_count}
 use Rattle.pricing_bound.specs.Rates.{aim_at, counts_at}
 use Rattle.pricing_bound.specs.declared.waiting.Waiting.{Waiting}
-use Rattle.pricing_bound.specs.Running.{AreWaiting}
+use Rattle.pricing_bound.specs.Running.{AreEven}
 use Rattle.pricing_bound.proofs.RateLemmas.{stored}
 use Rattle.pricing_bound.proofs.SteadyLemmas.{adds_of}
 use Rattle.partial_tours.specs.Courses.{reached}
@@ -27,4 +27,4 @@ returns c = λ x e.
     let waiting = adds_of a (reached t.snapshot t.car x).opened calls c.waiting.result known.are (known.moment ∙ opened) (λ k. known.counted k ∙ ap (λ (m : ℕ). has calls k && counts_at a m k) opened) in
     let waits = c.sums_at_start.ensures.waiting in
     let bound = c.sums_at_start.ensures.bound ∙ ap (λ (z : ℤ). z +ℤ c.waiting.result.sum) (stored c.groups_part-groups.result (omega (arith, ints, low)) (omega (arith, ints, high))) in
-    start_sums a t c.sums_at_start.result x calls c.groups_part-groups.result c.waiting.result.sum c.requires.for_it c.requires.empty c.snapshot.ensures.accepted car c.snapshot.ensures.prices e (c.groups_part-groups.ensures.sum x e) waiting (λ k. c.intersection-calls.ensures k ∙ ap (λ (b : Bool). has it.allowed k && b) (c.calls.ensures k)) bound c.sums_at_start.ensures.paid (λ k. ap (λ (w : Waiting). has w.counted k) waits ∙ c.waiting.ensures.counted k ∙ ap (λ (m : ℕ). has calls k && counts_at a m k) opened) (subst (AreWaiting a) (sym waits) c.waiting.ensures.are) (ap (λ (w : Waiting). w.moment) waits ∙ c.waiting.ensures.moment ∙ opened)
+    start_sums a t c.sums_at_start.result x calls c.groups_part-groups.result c.waiting.result.sum c.requires.for_it c.requires.empty c.snapshot.ensures.accepted car c.snapshot.ensures.prices e (c.groups_part-groups.ensures.sum x e) waiting (λ k. c.intersection-calls.ensures k ∙ ap (λ (b : Bool). has it.allowed k && b) (c.calls.ensures k)) bound c.sums_at_start.ensures.paid (λ k. ap (λ (w : Waiting). has w.counted k) waits ∙ c.waiting.ensures.counted k ∙ ap (λ (m : ℕ). has calls k && counts_at a m k) opened) (subst (AreEven a) (sym waits) c.waiting.ensures.are) (ap (λ (w : Waiting). w.moment) waits ∙ c.waiting.ensures.moment ∙ opened)
