@@ -9,19 +9,6 @@ use Rattle.partial_tours.specs.Orders.{next_after}
 use Rattle.partial_tours.proofs.Search.{with_move-same}
 use Rattle.partial_tours.proofs.Follow.{course_more}
 
--- the next move, told of the partial tour at which a loop began
-pub next_is : (p q : PartialTour) (x : Course) (m : Move) (next : Option Move) (set : ℕ) → q ≡ p → course p ≡ Some x → ((y : Course) → course q ≡ Some y → next ≡ next_after m (lawful_moves q.snapshot q.car y (has set))) → next ≡ next_after m (lawful_moves p.snapshot p.car x (has set))
-next_is p q x m next set back leads value =
-    value x (ap course back ∙ leads) ∙ ap (λ (r : PartialTour). next_after m (lawful_moves r.snapshot r.car x (has set))) back
-
-pub back_again : (o : Option Move) (p q r : PartialTour) (m : Move) → r ≡ with_move p m → MatchOption o ((r.moves ≡ []) × (q ≡ r)) (λ n. r ≡ with_move q n) → q ≡ p
-back_again None p q r m e h = absurd (ends p.moves m (sym (ap (λ (t : PartialTour). t.moves) e) ∙ h.0))
-  where
-    ends : (ms : List Move) (m : Move) → ms ++ m ∷ [] ≡ [] → ⊥
-    ends [] m h = cc
-    ends (v ∷ ms) m h = cc
-back_again (Some n) p q r m e h = with_move-same p q m n (sym e ∙ h)
-
 pub none_there : {X : Type 0} (o : Option X) → ((x : X) → o ≡ Some x → ⊥) → o ≡ None
 none_there None h = refl
 none_there (Some x) h = absurd (h x refl)

@@ -44,14 +44,15 @@ pub(crate) fn visit<B: CompletionBound>(
         return Visits::of_tour(value, worth, left - 1);
     }
     let mut left = left - 1;
-    let mut next = prefix.first_move(demand.allowed);
+    let followers = prefix.followers(demand.allowed);
+    let mut next = followers.first();
     while let Some(choice) = next {
         let visits = visit_after(bound, demand, worth, left, prefix, sums, choice);
         let Visits::Going(rest) = visits else {
             return visits;
         };
         left = rest;
-        next = prefix.move_after(demand.allowed, choice);
+        next = followers.after(choice);
     }
     Visits::Going(left)
 }
@@ -77,10 +78,10 @@ fn visit_after<B: CompletionBound>(
     if is_useless(prefix, demand, next) {
         return Visits::Going(left);
     }
-    let visits = match step_below(bound, demand, prefix, sums, next, worth) {
-        Some(sums) => visit(bound, demand, worth, left, prefix, &sums),
-        None => Visits::Going(left),
+    let Some(sums) = step_below(bound, demand, prefix, sums, next, worth) else {
+        return Visits::Going(left);
     };
+    let visits = visit(bound, demand, worth, left, prefix, &sums);
     if let Visits::Going(_) = visits {
         prefix.pop();
     }

@@ -1,5 +1,7 @@
 -- What holds along the moves of a walk.
-use Rattle.std.proofs.Common.{◌≡◌, ℕ, Bool, true, false, arith, List, [], ◌∷◌, ◌++◌, subst, sym, ap, refl}
+use Rattle.std.proofs.Common.{◌≡◌, ℕ, Bool, true, false, arith, List, [], ◌∷◌, ◌++◌, ◌∙◌, subst, sym, ap, Option, Some, None}
+use Rattle.std.specs.Option.{MatchOption}
+use Rattle.partial_tours.proofs.Search.{with_move-same}
 use Rattle.std.specs.Prelude.{ℤ, ◌≤ℤ◌, int_lt}
 use Rattle.std.proofs.lemmas.Int.{ints}
 use Rattle.call_sets.specs.Counting.{has}
@@ -8,8 +10,8 @@ use Rattle.elevator_model.specs.Partial.{Course, boards_allowed}
 use Rattle.search_model.specs.Orders.{AreAllowed}
 use Rattle.partial_tours.specs.PartialTour.{PartialTour, with_move}
 use Rattle.tour_extension.specs.declared.demands.Demand.{Demand}
-use Rattle.pricing_bound.specs.Aims.{Aim, AimsAt, IsLastMove}
-use Rattle.kept_tours.specs.Walking.{IsWalking, IsOpen}
+use Rattle.pricing_bound.specs.Aims.{Aim, AimsAt, IsNextMove}
+use Rattle.kept_tours.specs.Walking.{IsWalking, IsOpen, MayFollow}
 
 pub allowed_more : (allowed : ℕ → Bool) (ms : List Move) (m : Move) → AreAllowed allowed ms → boards_allowed allowed m ≡ true → AreAllowed allowed (ms ++ m ∷ [])
 allowed_more allowed [] m h k = (k, tt)
@@ -21,15 +23,23 @@ walking_on a demand t m w may = record { accepted = w.accepted; car = w.car; aim
 pub walking_at : (a : Aim) (demand : Demand) (t : PartialTour) → IsWalking a demand t → AimsAt a t
 walking_at a demand t w = record { snapshot = ap (λ (b : Aim). b.snapshot) w.aim; car = ap (λ (b : Aim). b.car) w.aim }
 
-pub last_move : (a : Aim) (stands : Course → Type 0) (demand : Demand) (t : PartialTour) (m : Move) → IsWalking a demand t → IsOpen stands demand t → boards_allowed (has demand.allowed) m ≡ true → IsLastMove a stands (with_move t m) m
-last_move a stands demand t m w o may = record {
-  moves = t.moves;
+pub next_move : (a : Aim) (stands : Course → Type 0) (demand : Demand) (t : PartialTour) (m : Move) → IsWalking a demand t → IsOpen stands demand t → MayFollow demand t m → IsNextMove a stands t m
+next_move a stands demand t m w o next = record {
   before = o.at;
-  moves_are = refl;
   leads = o.leads;
   stands_before = o.stands_there;
-  may = subst (λ (allowed : ℕ → Bool). AreAllowed allowed (t.moves ++ m ∷ [])) (sym (ap (λ (b : Aim). b.allowed) w.aim)) (allowed_more (has demand.allowed) t.moves m w.may may);
+  lawful = next.lawful;
+  may = subst (λ (allowed : ℕ → Bool). AreAllowed allowed (t.moves ++ m ∷ [])) (sym (ap (λ (b : Aim). b.allowed) w.aim)) (allowed_more (has demand.allowed) t.moves m w.may next.may);
 }
+
+-- a move is made and taken back
+pub back_again : (o : Option Move) (p q r : PartialTour) (m : Move) → r ≡ with_move p m → MatchOption o ((r.moves ≡ []) × (q ≡ r)) (λ n. r ≡ with_move q n) → q ≡ p
+back_again None p q r m e h = absurd (ends p.moves m (sym (ap (λ (t : PartialTour). t.moves) e) ∙ h.0))
+  where
+    ends : (ms : List Move) (m : Move) → ms ++ m ∷ [] ≡ [] → ⊥
+    ends [] m h = cc
+    ends (v ∷ ms) m h = cc
+back_again (Some n) p q r m e h = with_move-same p q m n (sym e ∙ h)
 
 pub not_below : (b worth : ℤ) → worth ≤ℤ b → int_lt b worth ≡ false
 not_below b worth le = grind (arith, ints)

@@ -9,8 +9,8 @@ use partial_tours::Prefix;
 use pricing_bound::CompletionBound;
 use tour_extension::{Demand, can_be_extended};
 
-/// Makes one move more where it leads to a partial tour that is kept for the worth: its sums, and None for any other.
-/// Either way the move is made, and `pop` takes it back. The bound is tested first, since that is faster.
+/// Makes one move more where it leads to a partial tour that is kept for the worth, and gives the sums there. For any
+/// other it gives None and makes no move. The bound is tested first, since that needs no move.
 pub fn step_below<B: CompletionBound>(
     bound: &B,
     demand: &Demand,
@@ -22,19 +22,20 @@ pub fn step_below<B: CompletionBound>(
     requires walking { IsWalking (B.aim bound.now) demand.now prefix.old }
     requires stands { IsOpen (B.stands bound.now sums.now) demand.now prefix.old }
     requires next { MayFollow demand.now prefix.old next }
-    ensures prefix { prefix.new ≡ with_move prefix.old next }
-    ensures walking { IsWalking (B.aim bound.now) demand.now prefix.new }
-    ensures stands { IfSome result (λ sums. IsOpen (B.stands bound.now sums) demand.now prefix.new) }
-    ensures none { result ≡ None → IsNotKept demand.now (B.bound bound.now) worth prefix.new }
+    ensures made { IfSome result (λ sums. (prefix.new ≡ with_move prefix.old next)
+        × IsWalking (B.aim bound.now) demand.now prefix.new
+        × IsOpen (B.stands bound.now sums) demand.now prefix.new) }
+    ensures none { result ≡ None → (prefix.new ≡ prefix.old)
+        × IsNotKept demand.now (B.bound bound.now) worth (with_move prefix.old next) }
 {
-    prefix.push(next);
     let sums = bound.after(prefix, sums, next);
     if bound.value(&sums) >= worth {
         return None;
     }
+    prefix.push(next);
     if can_be_extended(prefix, demand) {
-        Some(sums)
-    } else {
-        None
+        return Some(sums);
     }
+    prefix.pop();
+    None
 }

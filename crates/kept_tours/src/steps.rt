@@ -26,9 +26,10 @@ pub fn step<B: CompletionBound>(
     ensures stands { IfSome result (λ sums. IsOpen (B.stands bound.now sums) demand.now prefix.new) }
     ensures shut { result ≡ None → IsShut demand.now prefix.new }
 {
+    let sums = bound.after(prefix, sums, next);
     prefix.push(next);
     if can_be_extended(prefix, demand) {
-        Some(bound.after(prefix, sums, next))
+        Some(sums)
     } else {
         None
     }

@@ -46,10 +46,11 @@ pub(crate) fn visit<B: CompletionBound>(
         progress.note(prefix, bound.tour_value(prefix, sums));
         return;
     }
-    let mut next = prefix.first_move(demand.allowed);
+    let followers = prefix.followers(demand.allowed);
+    let mut next = followers.first();
     while let Some(choice) = next {
         visit_after(bound, demand, limit, prefix, sums, choice, progress);
-        next = prefix.move_after(demand.allowed, choice);
+        next = followers.after(choice);
     }
 }
 
@@ -77,8 +78,9 @@ fn visit_after<B: CompletionBound>(
     if is_useless(prefix, demand, next) {
         return;
     }
-    if let Some(sums) = step_below(bound, demand, prefix, sums, next, progress.best) {
-        visit(bound, demand, limit, prefix, &sums, progress);
-    }
+    let Some(sums) = step_below(bound, demand, prefix, sums, next, progress.best) else {
+        return;
+    };
+    visit(bound, demand, limit, prefix, &sums, progress);
     prefix.pop();
 }

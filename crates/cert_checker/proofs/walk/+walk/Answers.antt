@@ -4,20 +4,21 @@ use Rattle.std.proofs.lemmas.Bool.{and_left}
 use Rattle.std.proofs.lemmas.Int.{ints}
 use mir.Val.{to_z, of_z}
 use mir.Syntax.{w128}
+use Rattle.call_sets.specs.Counting.{has}
 use Rattle.elevator_model.specs.declared.Move.{Move}
 use Rattle.partial_tours.specs.PartialTour.{PartialTour, course, with_move}
 use Rattle.partial_tours.proofs.Follow.{is_some_has}
 use Rattle.partial_tours.proofs.Search.{left_in, left_falls, from_next}
 use Rattle.kept_tours.specs.Walking.{IsWalking, IsNotKept, IsOpen, MayFollow, goes_on}
+use Rattle.kept_tours.proofs.WalkingLemmas.{back_again}
 use Rattle.kept_tours.proofs.Followers.{followers, follower, IsAt, at_next}
 use Rattle.pricing_bound.specs.Aims.{Aim, value_for}
 use Rattle.cert_checker.specs.declared.visits.Visits.{Visits}
 use Rattle.cert_checker.specs.declared.visits.Visits.TheVariants.{Going, Passed, Under}
 use Rattle.cert_checker.specs.Visiting.{Visited}
-use Rattle.cert_checker.proofs.StepLemmas.{only_move, next_is, back_again, none_there}
+use Rattle.cert_checker.proofs.StepLemmas.{only_move, none_there}
 use Rattle.cert_checker.proofs.WalkLemmas.{Walks, keeps, passed_by, visited_back, not_kept, is_kept_here, too_many, tour_visited, walks_first, walks_on, walk_stops, all_walked}
 use Rattle.cert_checker.proofs.walk.+walk.Goals as goal
-use Rattle.cert_checker.proofs.walk.+walk.Goals.{visit_after-in-Some, visit_after-in-None}
 
 no_less : (w l : ℤ) → int_le w l ≡ true → w ≤ℤ l
 no_less w l h = grind (arith, ints)
@@ -76,7 +77,7 @@ visit-returns-then-point-clause-visited g t c =
 pub visit-loop-next-init : goal.visit-loop-next-init
 visit-loop-next-init g t c =
     let o = c.requires.stands in
-    record { same = refl; walks = walks_first c.args.prefix.now c.args.demand.now (g.B.CompletionBound.aim c.args.bound.now).price (g.B.CompletionBound.bound c.args.bound.now) (to_z w128 (of_z w128 c.args.worth)) o.at c.first_move-next.result (c.args.left - 1) o.leads (c.first_move-next.ensures.value o.at o.leads) }
+    record { same = refl; walks = walks_first c.args.prefix.now c.args.demand.now (g.B.CompletionBound.aim c.args.bound.now).price (g.B.CompletionBound.bound c.args.bound.now) (to_z w128 (of_z w128 c.args.worth)) o.at c.first-next.result (c.args.left - 1) o.leads (c.first-next.ensures c.args.prefix.now.snapshot c.args.prefix.now.car o.at (has c.args.demand.now.allowed) (c.followers-followers.ensures.value o.at o.leads)) }
 
 pub visit-visit_after-visits-requires : goal.visit-visit_after-visits-requires
 visit-visit_after-visits-requires g t c κs within =
@@ -119,9 +120,9 @@ visit-loop-next-smaller g t c =
     let same = c.loop-next.invariant.same in
     let choice = c.in-Some.choice in
     let back = c.visit_after-visits.ensures.back c.in-Going.rest c.in-Going.is ∙ same in
-    let are = next_is p c.visit_after-visits.new.prefix o.at choice c.move_after-next.result c.args.demand.now.allowed back o.leads c.move_after-next.ensures.value in
+    let are = c.after-next.ensures p.snapshot p.car o.at (has c.args.demand.now.allowed) (c.followers-followers.ensures.value o.at o.leads) in
     let at = subst (λ (next : Option Move). IsAt p c.args.demand.now.allowed next c.loop-next.invariant.walks.place) c.in-Some.is c.loop-next.invariant.walks.at in
-    let falls = (at_next p c.args.demand.now.allowed o.at choice c.move_after-next.result c.loop-next.invariant.walks.place o.leads at are).1 in
+    let falls = (at_next p c.args.demand.now.allowed o.at choice c.after-next.result c.loop-next.invariant.walks.place o.leads at are).1 in
     let here = ap (λ (v : Option Move). from_next v (followers p c.args.demand.now.allowed)) c.in-Some.is in
     omega (arith, falls, here)
 
@@ -138,8 +139,8 @@ visit-loop-next-preserved g t c =
     let seen = subst (λ (v : Visits). Visited (with_move c.loop-next.prefix choice) c.args.demand.now a.price bound stored c.loop-next.left c.visit_after-visits.new.prefix v) c.in-Going.is c.visit_after-visits.ensures.visited in
     let more = subst (λ (q : PartialTour). Visited (with_move q choice) c.args.demand.now a.price bound stored c.loop-next.left c.visit_after-visits.new.prefix (Going c.in-Going.rest)) same seen in
     let back = c.visit_after-visits.ensures.back c.in-Going.rest c.in-Going.is ∙ same in
-    let are = next_is p c.visit_after-visits.new.prefix o.at choice c.move_after-next.result c.args.demand.now.allowed back o.leads c.move_after-next.ensures.value in
-    record { same = back; walks = (walks_on p c.args.demand.now a.price bound stored (c.args.left - 1) o.at choice c.move_after-next.result c.loop-next.left c.in-Going.rest c.visit_after-visits.new.prefix o.leads walks more are).0 }
+    let are = c.after-next.ensures p.snapshot p.car o.at (has c.args.demand.now.allowed) (c.followers-followers.ensures.value o.at o.leads) in
+    record { same = back; walks = (walks_on p c.args.demand.now a.price bound stored (c.args.left - 1) o.at choice c.after-next.result c.loop-next.left c.in-Going.rest c.visit_after-visits.new.prefix o.leads walks more are).0 }
 
 pub visit-returns-clause-visited : goal.visit-returns-clause-visited
 visit-returns-clause-visited g t c =
@@ -167,60 +168,37 @@ visit_after-returns-then-is_useless-clause-visited g t c =
     let moved = only_move p o.at led.0 c.args.next o.leads led.1 in
     passed_by to c.args.demand.now a.price bound c.args.worth c.args.left p led.0 led.1 (and_left (goes_on to c.args.demand.now led.0) (int_lt (bound led.0) c.args.worth) (c.is_useless.ensures c.if-is_useless.true o.at led.0 o.leads moved)) refl refl
 
-pub visit_after-visit-visits-requires : goal.visit_after-visit-visits-requires
-visit_after-visit-visits-requires g t c κs within =
-    let falls = left_falls c.args.prefix.now c.args.next c.requires.next.lawful in
-    let here = ap left_in c.step_below.ensures.prefix in
-    (omega (arith, falls, here), (search rules, (search rules, (c.step_below.ensures.walking, c.in-Some.ensures.stands))))
-
-pub visit_after-returns-in-Going-clause-back : goal.visit_after-returns-in-Going-clause-back
-visit_after-returns-in-Going-clause-back g t c left e =
-    elim c.match-step_below.branch [
-      | visit_after-in-Some w ↦ back_again c.pop.result c.args.prefix.now c.pop.new.self c.match-step_below.prefix c.args.next (w.prefix-is ∙ w.visit-visits.ensures.back left (sym w.visits-is ∙ e) ∙ c.step_below.ensures.prefix) c.pop.ensures
-      | visit_after-in-None w ↦ back_again c.pop.result c.args.prefix.now c.pop.new.self c.match-step_below.prefix c.args.next (w.prefix-is ∙ c.step_below.ensures.prefix) c.pop.ensures
-    ]
-
-pub visit_after-returns-in-Going-clause-visited : goal.visit_after-returns-in-Going-clause-visited
-visit_after-returns-in-Going-clause-visited g t c =
-    let a = g.B.CompletionBound.aim c.args.bound.now in
-    let bound = g.B.CompletionBound.bound c.args.bound.now in
-    let p = c.args.prefix.now in
-    let to = with_move p c.args.next in
-    let stored = to_z w128 (of_z w128 c.args.worth) in
-    let worth : stored ≡ c.args.worth = search rules in
-    let back = visit_after-returns-in-Going-clause-back g t c c.in-Going.field-0 c.in-Going.is in
-    let snapshot = ap (λ (q : PartialTour). q.snapshot) back in
-    let car = ap (λ (q : PartialTour). q.car) back in
-    elim c.match-step_below.branch [
-      | visit_after-in-Some w ↦ (
-          let seen = subst (λ (z : ℤ). Visited c.step_below.new.prefix c.args.demand.now a.price bound z c.args.left w.visit-visits.new.prefix w.visit-visits.result) worth w.visit-visits.ensures.visited in
-          let here = subst (λ (q : PartialTour). Visited q c.args.demand.now a.price bound c.args.worth c.args.left w.visit-visits.new.prefix w.visit-visits.result) c.step_below.ensures.prefix seen in
-          visited_back to c.args.demand.now a.price bound c.args.worth c.args.left w.visit-visits.new.prefix c.pop.new.self c.match-step_below.visits c.in-Going.field-0 c.in-Going.is (subst (λ (v : Visits). Visited to c.args.demand.now a.price bound c.args.worth c.args.left w.visit-visits.new.prefix v) (sym w.visits-is) here) snapshot car
-          )
-      | visit_after-in-None w ↦ (
-          let led = is_some_has (course to) c.requires.next.lawful in
-          let out = subst (λ (q : PartialTour). IsNotKept c.args.demand.now bound stored q) c.step_below.ensures.prefix (c.step_below.ensures.none w.in-None.is) in
-          let here = subst (λ (z : ℤ). keeps to c.args.demand.now bound z led.0 ≡ false) worth (out led.0 led.1) in
-          subst (λ (v : Visits). Visited to c.args.demand.now a.price bound c.args.worth c.args.left c.pop.new.self v) (sym w.visits-is) (passed_by to c.args.demand.now a.price bound c.args.worth c.args.left c.pop.new.self led.0 led.1 here snapshot car)
-          )
-    ]
-
-pub visit_after-returns-in_default : goal.visit_after-returns-in_default
-visit_after-returns-in_default g t c =
+pub visit_after-returns-in_default-clause-visited : goal.visit_after-returns-in_default-clause-visited
+visit_after-returns-in_default-clause-visited g t c =
     let a = g.B.CompletionBound.aim c.args.bound.now in
     let bound = g.B.CompletionBound.bound c.args.bound.now in
     let to = with_move c.args.prefix.now c.args.next in
     let stored = to_z w128 (of_z w128 c.args.worth) in
     let worth : stored ≡ c.args.worth = search rules in
-    elim c.match-step_below.branch [
-      | visit_after-in-Some w ↦ (
-          let seen = subst (λ (z : ℤ). Visited c.step_below.new.prefix c.args.demand.now a.price bound z c.args.left w.visit-visits.new.prefix w.visit-visits.result) worth w.visit-visits.ensures.visited in
-          let here = subst (λ (q : PartialTour). Visited q c.args.demand.now a.price bound c.args.worth c.args.left w.visit-visits.new.prefix w.visit-visits.result) c.step_below.ensures.prefix seen in
-          let there = subst (λ (q : PartialTour). Visited to c.args.demand.now a.price bound c.args.worth c.args.left q w.visit-visits.result) (sym w.prefix-is) here in
-          record {
-            visited = subst (λ (v : Visits). Visited to c.args.demand.now a.price bound c.args.worth c.args.left c.match-step_below.prefix v) (sym w.visits-is) there;
-            back = λ left e. absurd (c.in_default.not-Going left e);
-          }
-          )
-      | visit_after-in-None w ↦ absurd (c.in_default.not-Going c.args.left w.visits-is)
-    ]
+    let led = is_some_has (course to) c.requires.next.lawful in
+    let none = c.step_below.ensures.none (none_there c.step_below.result c.in_default.not-Some) in
+    let here = subst (λ (z : ℤ). keeps to c.args.demand.now bound z led.0 ≡ false) worth (none.1 led.0 led.1) in
+    passed_by to c.args.demand.now a.price bound c.args.worth c.args.left c.step_below.new.prefix led.0 led.1 here (ap (λ (q : PartialTour). q.snapshot) none.0) (ap (λ (q : PartialTour). q.car) none.0)
+
+pub visit_after-visit-visits-requires : goal.visit_after-visit-visits-requires
+visit_after-visit-visits-requires g t c κs within =
+    let falls = left_falls c.args.prefix.now c.args.next c.requires.next.lawful in
+    let made = c.in-Some.ensures.made in
+    let here = ap left_in made.0 in
+    (omega (arith, falls, here), (search rules, (search rules, (made.1, made.2))))
+
+pub visit_after-returns-in-Going-clause-back : goal.visit_after-returns-in-Going-clause-back
+visit_after-returns-in-Going-clause-back g t c left e =
+    back_again c.pop.result c.args.prefix.now c.pop.new.self c.visit-visits.new.prefix c.args.next (c.visit-visits.ensures.back left e ∙ c.in-Some.ensures.made.0) c.pop.ensures
+
+pub visit_after-returns-in-Going-clause-visited : goal.visit_after-returns-in-Going-clause-visited
+visit_after-returns-in-Going-clause-visited g t c =
+    let a = g.B.CompletionBound.aim c.args.bound.now in
+    let bound = g.B.CompletionBound.bound c.args.bound.now in
+    let to = with_move c.args.prefix.now c.args.next in
+    let stored = to_z w128 (of_z w128 c.args.worth) in
+    let worth : stored ≡ c.args.worth = search rules in
+    let back = visit_after-returns-in-Going-clause-back g t c c.in-Going.field-0 c.in-Going.is in
+    let seen = subst (λ (z : ℤ). Visited c.step_below.new.prefix c.args.demand.now a.price bound z c.args.left c.visit-visits.new.prefix c.visit-visits.result) worth c.visit-visits.ensures.visited in
+    let here = subst (λ (q : PartialTour). Visited q c.args.demand.now a.price bound c.args.worth c.args.left c.visit-visits.new.prefix c.visit-visits.result) c.in-Some.ensures.made.0 seen in
+    visited_back to c.args.demand.now a.price bound c.args.worth c.args.left c.visit-visits.new.prefix c.pop.new.self c.visit-visits.result c.in-Going.field-0 c.in-Going.is here (ap (λ (q : PartialTour). q.snapshot) back) (ap (λ (q : PartialTour). q.car) back)

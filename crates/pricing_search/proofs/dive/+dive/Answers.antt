@@ -10,7 +10,8 @@ use Rattle.pricing_search.specs.declared.progress.Progress.{Progress}
 use Rattle.pricing_bound.specs.Aims.{IsBoundSize}
 use Rattle.pricing_search.specs.Walks.{Begins}
 use Rattle.pricing_search.specs.Dives.{LeadsOnwards}
-use Rattle.pricing_search.proofs.StepLemmas.{back_again, none_there}
+use Rattle.kept_tours.proofs.WalkingLemmas.{back_again}
+use Rattle.pricing_search.proofs.StepLemmas.{none_there}
 use Rattle.pricing_search.proofs.DiveLemmas.{begins_with, not_nowhere, open_not_shut}
 use Rattle.pricing_search.proofs.dive.+dive.Goals as goal
 use Rattle.pricing_search.proofs.dive.+dive.Goals.{in-Some-step, in_default-step}

@@ -1,7 +1,8 @@
 use Rattle.std.proofs.Common.{subst}
 use Rattle.partial_tours.specs.PartialTour.{PartialTour}
 use Rattle.kept_tours.specs.Walking.{IsShut}
-use Rattle.pricing_search.proofs.StepLemmas.{back_again, not_none}
+use Rattle.kept_tours.proofs.WalkingLemmas.{back_again}
+use Rattle.pricing_search.proofs.StepLemmas.{not_none}
 use Rattle.pricing_search.proofs.dive.promise_after.Goals as goal
 use Rattle.pricing_search.proofs.dive.promise_after.Goals.{in-Some, in-None}
 

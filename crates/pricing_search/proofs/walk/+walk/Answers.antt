@@ -2,18 +2,19 @@ use Rattle.std.proofs.Common.{◌≡◌, ◌∙◌, false, refl, sym, ap, subst,
 use Rattle.std.specs.Prelude.{ℤ}
 use mir.Val.{to_z, of_z}
 use mir.Syntax.{w128}
+use Rattle.call_sets.specs.Counting.{has}
 use Rattle.elevator_model.specs.declared.Move.{Move}
 use Rattle.partial_tours.specs.PartialTour.{PartialTour, course, with_move}
 use Rattle.partial_tours.proofs.Follow.{is_some_has}
 use Rattle.partial_tours.proofs.Search.{left_in, left_falls, from_next}
 use Rattle.kept_tours.specs.Walking.{IsWalking, IsNotKept, IsOpen, MayFollow, aim_at}
 use Rattle.kept_tours.proofs.Followers.{followers, follower}
+use Rattle.kept_tours.proofs.WalkingLemmas.{back_again}
 use Rattle.pricing_search.specs.declared.progress.Progress.{Progress}
 use Rattle.pricing_search.specs.Walks.{HasFound, Visited}
-use Rattle.pricing_search.proofs.StepLemmas.{only_move, next_is, back_again, none_there}
+use Rattle.pricing_search.proofs.StepLemmas.{only_move, none_there}
 use Rattle.pricing_search.proofs.Visiting.{Visits, IsCounted, counted_found, reached_best, left_out, ended_visited, all_visited, visits_first, visits_on, shut_out, kept_out, keeps, lower_at, grows_at}
 use Rattle.pricing_search.proofs.walk.+walk.Goals as goal
-use Rattle.pricing_search.proofs.walk.+walk.Goals.{visit_after-in-Some, visit_after-in_default}
 
 pub visit-returns-then-is_reached-clause-visited : goal.visit-returns-then-is_reached-clause-visited
 visit-returns-then-is_reached-clause-visited g t c =
@@ -45,7 +46,7 @@ visit-loop-next-init g t c =
     let counted : IsCounted c.args.progress.now c.count.new.self = record { visits = c.count.ensures.visits; best = c.count.ensures.best; untried = c.count.ensures.untried; found = c.count.ensures.found } in
     let lt = c.if-progress-limit.false in
     let up = c.count.ensures.visits in
-    record { same = refl; visits = visits_first c.args.prefix.now c.args.demand.now (g.B.CompletionBound.aim c.args.bound.now).price (g.B.CompletionBound.bound c.args.bound.now) c.args.limit o.at c.first_move-next.result c.count.new.self o.leads (c.first_move-next.ensures.value o.at o.leads) (omega (arith, lt, up)) (counted_found (aim_at c.args.prefix.now c.args.demand.now (g.B.CompletionBound.aim c.args.bound.now).price) c.args.progress.now c.count.new.self counted c.requires.found) }
+    record { same = refl; visits = visits_first c.args.prefix.now c.args.demand.now (g.B.CompletionBound.aim c.args.bound.now).price (g.B.CompletionBound.bound c.args.bound.now) c.args.limit o.at c.first-next.result c.count.new.self o.leads (c.first-next.ensures c.args.prefix.now.snapshot c.args.prefix.now.car o.at (has c.args.demand.now.allowed) (c.followers-followers.ensures.value o.at o.leads)) (omega (arith, lt, up)) (counted_found (aim_at c.args.prefix.now c.args.demand.now (g.B.CompletionBound.aim c.args.bound.now).price) c.args.progress.now c.count.new.self counted c.requires.found) }
 
 pub visit-visit_after-requires : goal.visit-visit_after-requires
 visit-visit_after-requires g t c κs within =
@@ -69,8 +70,8 @@ visit-loop-next-smaller g t c =
     let a = g.B.CompletionBound.aim c.args.bound.now in
     let visits = subst (λ (next : Option Move). Visits p c.args.demand.now a.price (g.B.CompletionBound.bound c.args.bound.now) c.args.limit next c.count.new.self c.loop-next.progress) c.in-Some.is c.loop-next.invariant.visits in
     let more = subst (λ (q : PartialTour). Visited (with_move q choice) c.args.demand.now a.price (g.B.CompletionBound.bound c.args.bound.now) c.args.limit c.loop-next.progress c.visit_after.new.progress) same c.visit_after.ensures.visited in
-    let are = next_is p c.visit_after.new.prefix o.at choice c.move_after-next.result c.args.demand.now.allowed (c.visit_after.ensures.prefix ∙ same) o.leads c.move_after-next.ensures.value in
-    let falls = (visits_on p c.args.demand.now a.price (g.B.CompletionBound.bound c.args.bound.now) c.args.limit o.at choice c.move_after-next.result c.count.new.self c.loop-next.progress c.visit_after.new.progress o.leads visits more are (grows_at a c.args.demand.now p (g.B.CompletionBound.bound c.args.bound.now) c.requires.walking (g.met.B.CompletionBound.grows c.args.bound.now))).1 in
+    let are = c.after-next.ensures p.snapshot p.car o.at (has c.args.demand.now.allowed) (c.followers-followers.ensures.value o.at o.leads) in
+    let falls = (visits_on p c.args.demand.now a.price (g.B.CompletionBound.bound c.args.bound.now) c.args.limit o.at choice c.after-next.result c.count.new.self c.loop-next.progress c.visit_after.new.progress o.leads visits more are (grows_at a c.args.demand.now p (g.B.CompletionBound.bound c.args.bound.now) c.requires.walking (g.met.B.CompletionBound.grows c.args.bound.now))).1 in
     let here = ap (λ (v : Option Move). from_next v (followers p c.args.demand.now.allowed)) c.in-Some.is in
     omega (arith, falls, here)
 
@@ -83,8 +84,8 @@ visit-loop-next-preserved g t c =
     let a = g.B.CompletionBound.aim c.args.bound.now in
     let visits = subst (λ (next : Option Move). Visits p c.args.demand.now a.price (g.B.CompletionBound.bound c.args.bound.now) c.args.limit next c.count.new.self c.loop-next.progress) c.in-Some.is c.loop-next.invariant.visits in
     let more = subst (λ (q : PartialTour). Visited (with_move q choice) c.args.demand.now a.price (g.B.CompletionBound.bound c.args.bound.now) c.args.limit c.loop-next.progress c.visit_after.new.progress) same c.visit_after.ensures.visited in
-    let are = next_is p c.visit_after.new.prefix o.at choice c.move_after-next.result c.args.demand.now.allowed (c.visit_after.ensures.prefix ∙ same) o.leads c.move_after-next.ensures.value in
-    record { same = c.visit_after.ensures.prefix ∙ same; visits = (visits_on p c.args.demand.now a.price (g.B.CompletionBound.bound c.args.bound.now) c.args.limit o.at choice c.move_after-next.result c.count.new.self c.loop-next.progress c.visit_after.new.progress o.leads visits more are (grows_at a c.args.demand.now p (g.B.CompletionBound.bound c.args.bound.now) c.requires.walking (g.met.B.CompletionBound.grows c.args.bound.now))).0 }
+    let are = c.after-next.ensures p.snapshot p.car o.at (has c.args.demand.now.allowed) (c.followers-followers.ensures.value o.at o.leads) in
+    record { same = c.visit_after.ensures.prefix ∙ same; visits = (visits_on p c.args.demand.now a.price (g.B.CompletionBound.bound c.args.bound.now) c.args.limit o.at choice c.after-next.result c.count.new.self c.loop-next.progress c.visit_after.new.progress o.leads visits more are (grows_at a c.args.demand.now p (g.B.CompletionBound.bound c.args.bound.now) c.requires.walking (g.met.B.CompletionBound.grows c.args.bound.now))).0 }
 
 pub visit-returns-clause-visited : goal.visit-returns-clause-visited
 visit-returns-clause-visited g t c =
@@ -106,33 +107,35 @@ visit_after-returns-then-is_useless-clause-visited g t c =
     let moved = only_move p o.at led.0 c.args.next o.leads led.1 in
     shut_out to c.args.demand.now a.price (g.B.CompletionBound.bound c.args.bound.now) c.args.limit c.args.progress.now led.0 c.requires.walking.accepted c.requires.walking.demands led.1 (c.is_useless.ensures c.if-is_useless.true o.at led.0 o.leads moved) c.requires.limit c.requires.found
 
+pub visit_after-returns-in_default-clause-prefix : goal.visit_after-returns-in_default-clause-prefix
+visit_after-returns-in_default-clause-prefix g t c = (c.step_below.ensures.none (none_there c.step_below.result c.in_default.not-Some)).0
+
+pub visit_after-returns-in_default-clause-visited : goal.visit_after-returns-in_default-clause-visited
+visit_after-returns-in_default-clause-visited g t c =
+    let a = g.B.CompletionBound.aim c.args.bound.now in
+    let bound = g.B.CompletionBound.bound c.args.bound.now in
+    let to = with_move c.args.prefix.now c.args.next in
+    let best = to_z w128 (of_z w128 c.args.progress.now.best) in
+    let same : best ≡ c.args.progress.now.best = search rules in
+    let led = is_some_has (course to) c.requires.next.lawful in
+    let out = (c.step_below.ensures.none (none_there c.step_below.result c.in_default.not-Some)).1 in
+    let here = subst (λ (z : ℤ). keeps to c.args.demand.now bound z led.0 ≡ false) same (out led.0 led.1) in
+    kept_out to c.args.demand.now a.price bound c.args.limit c.args.progress.now led.0 c.requires.walking.accepted c.requires.walking.car (lower_at a c.args.demand.now c.args.prefix.now bound c.requires.walking (g.met.B.CompletionBound.lower c.args.bound.now)) c.requires.walking.demands led.1 here c.requires.limit c.requires.found
+
 pub visit_after-visit-requires : goal.visit_after-visit-requires
 visit_after-visit-requires g t c κs within =
     let a = g.B.CompletionBound.aim c.args.bound.now in
     let falls = left_falls c.args.prefix.now c.args.next c.requires.next.lawful in
-    let here = ap left_in c.step_below.ensures.prefix in
-    (omega (arith, falls, here), (search rules, (search rules, (c.step_below.ensures.walking, (c.in-Some.ensures.stands, (c.requires.limit, subst (λ (q : PartialTour). HasFound (aim_at q c.args.demand.now a.price) c.args.progress.now) (sym c.step_below.ensures.prefix) c.requires.found))))))
+    let made = c.in-Some.ensures.made in
+    let here = ap left_in made.0 in
+    (omega (arith, falls, here), (search rules, (search rules, (made.1, (made.2, (c.requires.limit, subst (λ (q : PartialTour). HasFound (aim_at q c.args.demand.now a.price) c.args.progress.now) (sym made.0) c.requires.found))))))
 
 pub visit_after-returns-clause-prefix : goal.visit_after-returns-clause-prefix
 visit_after-returns-clause-prefix g t c =
-    elim c.match-step_below.branch [
-      | visit_after-in-Some w ↦ back_again c.pop.result c.args.prefix.now c.pop.new.self c.match-step_below.prefix c.args.next (w.prefix-is ∙ w.visit.ensures.prefix ∙ c.step_below.ensures.prefix) c.pop.ensures
-      | visit_after-in_default w ↦ back_again c.pop.result c.args.prefix.now c.pop.new.self c.match-step_below.prefix c.args.next (w.prefix-is ∙ c.step_below.ensures.prefix) c.pop.ensures
-    ]
+    back_again c.pop.result c.args.prefix.now c.pop.new.self c.visit.new.prefix c.args.next (c.visit.ensures.prefix ∙ c.in-Some.ensures.made.0) c.pop.ensures
 
 pub visit_after-returns-clause-visited : goal.visit_after-returns-clause-visited
 visit_after-returns-clause-visited g t c =
     let a = g.B.CompletionBound.aim c.args.bound.now in
     let bound = g.B.CompletionBound.bound c.args.bound.now in
-    let to = with_move c.args.prefix.now c.args.next in
-    elim c.match-step_below.branch [
-      | visit_after-in-Some w ↦ subst (λ (p : Progress). Visited to c.args.demand.now a.price bound c.args.limit c.args.progress.now p) (sym w.progress-is) (subst (λ (q : PartialTour). Visited q c.args.demand.now a.price bound c.args.limit c.args.progress.now w.visit.new.progress) c.step_below.ensures.prefix w.visit.ensures.visited)
-      | visit_after-in_default w ↦ (
-          let best = to_z w128 (of_z w128 c.args.progress.now.best) in
-          let same : best ≡ c.args.progress.now.best = search rules in
-          let led = is_some_has (course to) c.requires.next.lawful in
-          let out = subst (λ (q : PartialTour). IsNotKept c.args.demand.now bound best q) c.step_below.ensures.prefix (c.step_below.ensures.none (none_there c.step_below.result w.in_default.not-Some)) in
-          let here = subst (λ (z : ℤ). keeps to c.args.demand.now bound z led.0 ≡ false) same (out led.0 led.1) in
-          subst (λ (p : Progress). Visited to c.args.demand.now a.price bound c.args.limit c.args.progress.now p) (sym w.progress-is) (kept_out to c.args.demand.now a.price bound c.args.limit c.args.progress.now led.0 c.requires.walking.accepted c.requires.walking.car (lower_at a c.args.demand.now c.args.prefix.now bound c.requires.walking (g.met.B.CompletionBound.lower c.args.bound.now)) c.requires.walking.demands led.1 here c.requires.limit c.requires.found)
-          )
-    ]
+    subst (λ (q : PartialTour). Visited q c.args.demand.now a.price bound c.args.limit c.args.progress.now c.visit.new.progress) c.in-Some.ensures.made.0 c.visit.ensures.visited
