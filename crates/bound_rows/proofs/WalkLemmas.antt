@@ -9,7 +9,7 @@ use Rattle.partial_tours.specs.Orders.{comes_before, first_of, next_after}
 use Rattle.partial_tours.specs.PartialTour.{PartialTour, course, with_move}
 use Rattle.partial_tours.proofs.Follow.{is_some_has}
 use Rattle.pricing_bound.specs.declared.straight.Sums.{Sums}
-use Rattle.pricing_bound.specs.Aims.{Aim, IsLastMove}
+use Rattle.pricing_bound.specs.Aims.{Aim, IsNextMove}
 use Rattle.pricing_bound.specs.LowerLemmas.{allowed_both}
 use Rattle.pricing_bound.specs.Running.{StandFor}
 use Rattle.bound_rows.specs.Walks.{IsKept}
@@ -41,11 +41,11 @@ first_allowed s c x allowed m h = (and_parts (boards_allowed allowed m) (is_some
 pub next_allowed : (s : Snapshot) (c : ℕ) (x : Course) (allowed : ℕ → Bool) (last m : Move) → next_after last (lawful_moves s c x allowed) ≡ Some m → boards_allowed allowed m ≡ true
 next_allowed s c x allowed last m h = (and_parts (boards_allowed allowed m) (is_some (move_on s c x m)) (second_passes (comes_before last) (λ n. boards_allowed allowed n && is_some (move_on s c x n)) (all_moves s) m h)).0
 
-pub walk_step : (a : Aim) (t t' : PartialTour) (sums : Sums) (step : Move) → IsKept a t sums → t' ≡ with_move t step → boards_allowed a.allowed step ≡ true → IsLastMove a (StandFor a sums) t' step
-walk_step a t t' sums step h is may = subst (λ (z : PartialTour). IsLastMove a (StandFor a sums) z step) (sym is) (record { moves = t.moves; before = h.at; moves_are = refl; leads = h.leads; stands_before = h.stands; may = allowed_both a.allowed t.moves (step ∷ []) h.may (may, tt) })
+pub walk_step : (a : Aim) (t : PartialTour) (sums : Sums) (step : Move) → IsKept a t sums → boards_allowed a.allowed step ≡ true → IsLawful t.snapshot t.car (t.moves ++ step ∷ []) → IsNextMove a (StandFor a sums) t step
+walk_step a t sums step h may lawful = record { before = h.at; leads = h.leads; stands_before = h.stands; lawful = lawful; may = allowed_both a.allowed t.moves (step ∷ []) h.may (may, tt) }
 
-pub walk_kept : (a : Aim) (t t' : PartialTour) (sums new : Sums) (step : Move) → IsKept a t sums → t' ≡ with_move t step → boards_allowed a.allowed step ≡ true → IsLawful t.snapshot t.car (t.moves ++ step ∷ []) → ((y : Course) → course t' ≡ Some y → StandFor a new y) → IsKept a t' new
+pub walk_kept : (a : Aim) (t t' : PartialTour) (sums new : Sums) (step : Move) → IsKept a t sums → t' ≡ with_move t step → boards_allowed a.allowed step ≡ true → IsLawful t.snapshot t.car (t.moves ++ step ∷ []) → ((y : Course) → course (with_move t step) ≡ Some y → StandFor a new y) → IsKept a t' new
 walk_kept a t t' sums new step h is may lawful stands =
     let led = is_some_has (course_of t.snapshot t.car (t.moves ++ step ∷ [])) lawful in
-    let stand = stands led.0 (ap course is ∙ led.1) in
+    let stand = stands led.0 led.1 in
     subst (λ (z : PartialTour). IsKept a z new) (sym is) (record { for_it = record { snapshot = h.for_it.snapshot; car = h.for_it.car }; at = led.0; leads = led.1; stands = stand; may = allowed_both a.allowed t.moves (step ∷ []) h.may (may, tt) })

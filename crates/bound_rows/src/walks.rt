@@ -135,8 +135,8 @@ fn visit_after(
     requires lawful { IsLawful prefix.old.snapshot prefix.old.car (prefix.old.moves ++ step ∷ []) }
     ensures { prefix.new ≡ prefix.old }
 {
-    prefix.push(step);
     let after = rides.after(prefix, sums, step);
+    prefix.push(step);
     visit(prefix, rides, asked, &after, depth, seen);
     prefix.pop();
 }

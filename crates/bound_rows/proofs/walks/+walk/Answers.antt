@@ -41,7 +41,7 @@ visit-loop-preserved t c =
 pub visit_after-after-after-requires-clause-leads : goal.visit_after-after-after-requires-clause-leads
 visit_after-after-after-requires-clause-leads t c =
     let it = c.args.rides.now in
-    walk_step (aim_at it.rates.now it.car it.allowed it.required) c.args.prefix.now _ c.args.sums.now c.args.step c.requires.kept c.push.ensures (subst (λ (w : ℕ). boards_allowed (has w) c.args.step ≡ true) (sym c.requires.allowed) c.requires.may)
+    walk_step (aim_at it.rates.now it.car it.allowed it.required) c.args.prefix.now c.args.sums.now c.args.step c.requires.kept (subst (λ (w : ℕ). boards_allowed (has w) c.args.step ≡ true) (sym c.requires.allowed) c.requires.may) c.requires.lawful
 
 pub visit_after-visit-requires : goal.visit_after-visit-requires
 visit_after-visit-requires t c =
