@@ -76,8 +76,45 @@ fn work_through<D, A: Drop, J: Jobs<Desk = D, Answer = A>, G: Gate>(
     Ok(())
 }
 
-// The worker of each desk draws from the line, in a thread of its own where one can be made. The desks are halved
-// at each step, and one half goes to a new thread.
+// The worker of a desk draws from the line, in a thread of its own where one can be made, and this thread waits.
+fn work_aside<
+    R: Threads + Sync,
+    D: Send,
+    A: Send + Drop,
+    J: Jobs<Desk = D, Answer = A> + Sync,
+    G: Gate + Sync,
+>(
+    rt: &R,
+    line: &JobLine,
+    jobs: &J,
+    gate: &G,
+    worker: &mut Worker<A>,
+    desk: &mut D,
+) -> Result<(), AllocError>
+    requires jobs { line.now.count ≡ J.number jobs.now }
+    requires worker { Starts line.now 1 worker.old }
+    requires desk { J.serves jobs.now desk.old }
+    ensures done { OnOk result (Finished (J.is_right jobs.now) line.now.count worker.new) }
+    ensures seat { SameSeat worker.old worker.new }
+    ensures desk { J.serves jobs.now desk.new }
+{
+    let mut work = || -> Result<(), AllocError>
+        requires threads { IsSync J.row × IsSync G.row × IsSend D.row × IsSend A.row }
+        requires jobs { line.now.count ≡ J.number jobs.now }
+        requires worker { Starts line.now 1 worker.now }
+        requires desk { J.serves jobs.now desk.now }
+        ensures done { OnOk result
+            (Finished (J.is_right jobs.entry.now) line.entry.now.count worker.exit.now) }
+        ensures seat { SameSeat worker.entry.now worker.exit.now }
+        ensures desk { J.serves jobs.entry.now desk.exit.now }
+    { work_through(line, jobs, gate, worker, desk) };
+    join_mut(rt, &mut work, &mut || {}).0
+}
+
+// The worker of each desk draws from the line, in a thread of its own where one can be made.
+//
+// This thread starts them all and waits. If it drew jobs too, some schedulers (Linux's among them) would put a thread
+// that it starts behind it, on the same processor, for milliseconds while others are idle.
 #[cycle(desks)]
 fn work_at<
     R: Threads + Sync,
@@ -102,15 +139,24 @@ fn work_at<
     ensures desks { All (J.serves jobs.now) desks.new }
 {
     if desks.len() == 1 {
-        return work_through(line, jobs, gate, worker, &mut desks[0]);
+        return work_aside(rt, line, jobs, gate, worker, &mut desks[0]);
     }
-    let part = desks.len() / 2;
-    let (near, far) = desks.split_at_mut(part);
+    let (first, rest) = desks.split_at_mut(1);
     let mut other = Worker {
-        seat: line.split(&mut worker.seat, far.len() as u32),
+        seat: line.split(&mut worker.seat, 1),
         done: Vec::new(alloc),
     };
-    let (mine, theirs) = both_halves(rt, alloc, line, jobs, gate, worker, near, &mut other, far);
+    let (mine, theirs) = first_and_rest(
+        rt,
+        alloc,
+        line,
+        jobs,
+        gate,
+        worker,
+        rest,
+        &mut other,
+        &mut first[0],
+    );
     let Worker { seat, mut done } = other;
     line.join(&mut worker.seat, seat);
     mine?;
@@ -121,7 +167,7 @@ fn work_at<
 
 // A separate function from `work_at`, so that what the closures require is what this function is given.
 #[cycle(desks)]
-fn both_halves<
+fn first_and_rest<
     R: Threads + Sync,
     D: Send,
     A: Send + Drop,
@@ -134,43 +180,72 @@ fn both_halves<
     jobs: &J,
     gate: &G,
     worker: &mut Worker<A>,
-    near: &mut [D],
+    rest: &mut [D],
     other: &mut Worker<A>,
-    far: &mut [D],
+    first: &mut D,
 ) -> (Result<(), AllocError>, Result<(), AllocError>)
     requires jobs { line.now.count ≡ J.number jobs.now }
-    requires worker { Starts line.now (length near.old) worker.old }
-    requires near { Serving (J.serves jobs.now) near.old }
-    requires other { Starts line.now (length far.old) other.old }
-    requires far { Serving (J.serves jobs.now) far.old }
+    requires worker { Starts line.now (length rest.old) worker.old }
+    requires rest { Serving (J.serves jobs.now) rest.old }
+    requires other { Starts line.now 1 other.old }
+    requires first { J.serves jobs.now first.old }
     ensures mine { OnOk result.0 (Finished (J.is_right jobs.now) line.now.count worker.new) }
     ensures theirs { OnOk result.1 (Finished (J.is_right jobs.now) line.now.count other.new) }
     ensures seats { SameSeat worker.old worker.new × SameSeat other.old other.new }
-    ensures desks { All (J.serves jobs.now) near.new × All (J.serves jobs.now) far.new }
+    ensures desks { All (J.serves jobs.now) rest.new × J.serves jobs.now first.new }
 {
     let mut mine = || -> Result<(), AllocError>
         requires threads { IsSync R.row × IsSync J.row × IsSync G.row × IsSend D.row
             × IsSend A.row }
         requires jobs { line.now.count ≡ J.number jobs.now }
-        requires worker { Starts line.now (length near.now) worker.now }
-        requires desks { Serving (J.serves jobs.now) near.now }
+        requires worker { Starts line.now (length rest.now) worker.now }
+        requires desks { Serving (J.serves jobs.now) rest.now }
         ensures done { OnOk result
             (Finished (J.is_right jobs.entry.now) line.entry.now.count worker.exit.now) }
         ensures seat { SameSeat worker.entry.now worker.exit.now }
-        ensures desks { All (J.serves jobs.entry.now) near.exit.now }
-    { work_at(rt, alloc, line, jobs, gate, worker, near) };
+        ensures desks { All (J.serves jobs.entry.now) rest.exit.now }
+    { work_at(rt, alloc, line, jobs, gate, worker, rest) };
     let mut theirs = || -> Result<(), AllocError>
-        requires threads { IsSync R.row × IsSync J.row × IsSync G.row × IsSend D.row
-            × IsSend A.row }
+        requires threads { IsSync J.row × IsSync G.row × IsSend D.row × IsSend A.row }
         requires jobs { line.now.count ≡ J.number jobs.now }
-        requires worker { Starts line.now (length far.now) other.now }
-        requires desks { Serving (J.serves jobs.now) far.now }
+        requires worker { Starts line.now 1 other.now }
+        requires desk { J.serves jobs.now first.now }
         ensures done { OnOk result
             (Finished (J.is_right jobs.entry.now) line.entry.now.count other.exit.now) }
         ensures seat { SameSeat other.entry.now other.exit.now }
-        ensures desks { All (J.serves jobs.entry.now) far.exit.now }
-    { work_at(rt, alloc, line, jobs, gate, other, far) };
-    join_mut(rt, &mut mine, &mut theirs)
+        ensures desk { J.serves jobs.entry.now first.exit.now }
+    { work_through(line, jobs, gate, other, first) };
+    let (theirs, mine) = join_mut(rt, &mut theirs, &mut mine);
+    (mine, theirs)
+}
+
+// The worker of each desk draws from the line: a lone one in this thread, several in threads of their own.
+fn work_with<
+    R: Threads + Sync,
+    D: Send,
+    A: Send + Drop,
+    J: Jobs<Desk = D, Answer = A> + Sync,
+    G: Gate + Sync,
+>(
+    rt: &R,
+    alloc: Global,
+    line: &JobLine,
+    jobs: &J,
+    gate: &G,
+    worker: &mut Worker<A>,
+    desks: &mut [D],
+) -> Result<(), AllocError>
+    requires jobs { line.now.count ≡ J.number jobs.now }
+    requires worker { Starts line.now (length desks.old) worker.old }
+    requires desks { Serving (J.serves jobs.now) desks.old }
+    ensures done { OnOk result (Finished (J.is_right jobs.now) line.now.count worker.new) }
+    ensures seat { SameSeat worker.old worker.new }
+    ensures desks { All (J.serves jobs.now) desks.new }
+{
+    if desks.len() == 1 {
+        return work_through(line, jobs, gate, worker, &mut desks[0]);
+    }
+    work_at(rt, alloc, line, jobs, gate, worker, desks)
 }
 
 // As many empty places as there are jobs.
@@ -222,7 +297,8 @@ fn in_order<A: Drop>(alloc: Global, count: u32, done: Vec<Done<A>>) -> Result<Ve
 
 /// Does all jobs, with one worker for each desk, and gives their answers: in place `k` stands a right answer of job `k`.
 ///
-/// The workers draw their jobs from one line, in threads of their own where they can be made. `gate` is told of each job
+/// The workers draw their jobs from one line: a lone one in this thread, several in threads of their own where they can be
+/// made. `gate` is told of each job
 /// before it begins. It needs 1 to 16 desks, each of which serves the jobs, and serves them afterwards too, also where
 /// memory ran out.
 pub fn fan<J: Jobs, G: Gate + Sync>(
@@ -243,7 +319,7 @@ pub fn fan<J: Jobs, G: Gate + Sync>(
         seat,
         done: Vec::new(alloc),
     };
-    let worked = work_at(rt, alloc, &line, jobs, gate, &mut all, desks);
+    let worked = work_with(rt, alloc, &line, jobs, gate, &mut all, desks);
     let Worker { seat, done } = all;
     line.close(seat);
     worked?;
