@@ -50,7 +50,11 @@ pub record IsPlanPick (pool : TourPool) (choices : List CarChoice) (x : Selectio
   pub made : (plan : List (List Stop)) → IsPicked pool choices (picks x) plan → IsMadeOf pool plan
   pub cost : (plan : List (List Stop)) → IsPicked pool choices (picks x) plan → x.cost ≡ plan_cost_of pool.snapshot plan
 
+-- no plan that is made of tours of the pool costs less than the picks
+abbrev pub IsLeastPick : TourPool → Selection → Type 0
+IsLeastPick pool x = (plan : List (List Stop)) → IsMadeOf pool plan → x.cost ≤ plan_cost_of pool.snapshot plan
+
 -- no plan that is made of tours of the pool costs less than the picks, and without picks there is none
 abbrev pub IsCheapestPick : TourPool → Option Selection → Type 0
 IsCheapestPick pool None = (plan : List (List Stop)) → IsMadeOf pool plan → ⊥
-IsCheapestPick pool (Some x) = (plan : List (List Stop)) → IsMadeOf pool plan → x.cost ≤ plan_cost_of pool.snapshot plan
+IsCheapestPick pool (Some x) = IsLeastPick pool x

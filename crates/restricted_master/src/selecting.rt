@@ -1,6 +1,6 @@
 //! The cheapest plan that is made of tours of a pool.
 
-ghost use Rattle.std.specs.Prelude.{◌≡◌, ℕ, ◌≤◌, ◌<◌, ◌^◌, true, false, nat_lt, IfOk, IfSome, length, slice_index_or, All, ◌*◌, pos, neg_ℤ, ◌≤ℤ◌};
+ghost use Rattle.std.specs.Prelude.{◌≡◌, ℕ, ◌≤◌, ◌<◌, ◌^◌, true, false, nat_lt, ◌||◌, is_some, IfOk, IfSome, length, slice_index_or, All, ◌*◌, pos, neg_ℤ, ◌≤ℤ◌};
 ghost use Rattle.call_sets.specs.Counting.{has};
 ghost use Rattle.elevator_model.specs.Snapshot.{call_count, car_count};
 ghost use Rattle.restricted_master.specs.Priced.{least_sum};
@@ -32,12 +32,21 @@ struct Found {
     spent: bool,
 }
 
+impl Found {
+    /// Whether there is nothing more to look for: picks were found, or no try is left.
+    fn is_decided(&self) -> bool
+        ensures { result ≡ (self.now.spent || is_some self.now.picked) }
+    {
+        self.spent || self.picked.is_some()
+    }
+}
+
 impl<'a> Pool<'a> {
     ghost use Rattle.restricted_master.specs.Pools.{IsCheapest, IsMadeOf, cost_of_choice, selection_count, tours_of_car};
     ghost use Rattle.restricted_master.specs.declared.choosing.CarChoice.{CarChoice};
     ghost use Rattle.restricted_master.specs.Choosing.{IsRising, picks};
     ghost use Rattle.restricted_master.specs.Priced.{IsPriced};
-    ghost use Rattle.restricted_master.specs.Choices.{AreCandidates, AreChoices, IsPicked, CanPick, IsPlanPick, IsCheapestPick};
+    ghost use Rattle.restricted_master.specs.Choices.{AreCandidates, AreChoices, IsPicked, CanPick, IsPlanPick, IsCheapestPick, IsLeastPick};
 
     /// The cheapest feasible plan that is made of tours of the pool, found depth first over the cars. A partial
     /// selection is one tour for each of the first cars, of none up to all; at most `limit` of them are tried, which is
@@ -69,7 +78,7 @@ impl<'a> Pool<'a> {
         let raised = self.raised(alloc, prices, target)?;
         let prices = raised.as_slice();
         let choices = self.choices(alloc, prices)?;
-        let found = self.best_picks(&choices, prices, limit);
+        let found = self.best_picks(&choices, prices, target, limit);
         let Some(picked) = found.picked else {
             return Ok(Choice {
                 plan: None,
@@ -84,8 +93,9 @@ impl<'a> Pool<'a> {
         })
     }
 
-    /// The picks of a cheapest plan.
-    fn best_picks(&self, choices: &[CarChoice], prices: &[Price], limit: u64) -> Found
+    /// The picks of a cheapest plan. Those that cost no more than the target are looked for first: a cheapest plan is
+    /// mostly among them, and few others are tried on the way.
+    fn best_picks(&self, choices: &[CarChoice], prices: &[Price], target: u64, limit: u64) -> Found
         requires choices { AreChoices self.now choices.now }
         requires prices { length prices.now ≡ call_count self.now.snapshot }
         requires priced { All (IsPriced prices.now) choices.now }
@@ -93,6 +103,28 @@ impl<'a> Pool<'a> {
         ensures few { length choices.now ≤ 16 }
         ensures picked { IfSome result.picked (IsPlanPick self.now choices.now) }
         ensures cheapest { result.spent ≡ false → IsCheapestPick self.now result.picked }
+        ensures spent { result.spent ≡ true → limit ≤ selection_count self.now.tours }
+        ensures ample { 34 ^ car_count self.now.snapshot ≤ limit → result.spent ≡ false }
+    {
+        let found = self.picks_below(choices, prices, target.saturating_add(1), limit);
+        if found.is_decided() {
+            return found;
+        }
+        self.picks_below(choices, prices, u64::MAX, limit)
+    }
+
+    /// The picks of a cheapest plan among those that cost less than this.
+    fn picks_below(&self, choices: &[CarChoice], prices: &[Price], beat: u64, limit: u64) -> Found
+        requires choices { AreChoices self.now choices.now }
+        requires prices { length prices.now ≡ call_count self.now.snapshot }
+        requires priced { All (IsPriced prices.now) choices.now }
+        requires rising { All (λ x. IsRising x.candidates.items) choices.now }
+        requires beat { 0 < beat }
+        ensures few { length choices.now ≤ 16 }
+        ensures picked { IfSome result.picked (IsPlanPick self.now choices.now) }
+        ensures least { result.spent ≡ false → IfSome result.picked (IsLeastPick self.now) }
+        ensures whole { beat ≡ 18446744073709551615 → result.spent ≡ false
+            → IsCheapestPick self.now result.picked }
         ensures spent { result.spent ≡ true → limit ≤ selection_count self.now.tours }
         ensures ample { 34 ^ car_count self.now.snapshot ≤ limit → result.spent ≡ false }
     {
@@ -106,7 +138,7 @@ impl<'a> Pool<'a> {
             &demand,
             CallSet::empty(),
             bound,
-            u64::MAX,
+            beat,
             &mut left,
         );
         Found {

@@ -5,6 +5,7 @@ use mir.Val.{to_z, of_z}
 use Rattle.std.proofs.lemmas.Int.{ints}
 use Rattle.std.proofs.lemmas.Bool.{lt-ltb}
 use Rattle.price_scale.specs.Scale.{IsPriceSum}
+use Rattle.restricted_master.specs.Choosing.{NoneBeats, to_beat}
 use Rattle.restricted_master.specs.Priced.{prices_in, least_sum}
 use Rattle.restricted_master.proofs.PriceLemmas.{sum_is}
 use Rattle.restricted_master.proofs.PricedLemmas.{root-bound, root-range, choices-small, choices-rising}
@@ -14,8 +15,8 @@ use Rattle.elevator_model.specs.Snapshot.{Snapshot, call_count}
 use Rattle.elevator_model.specs.Tours.{none_taken}
 use Rattle.tour_rules.proofs.Stops.{none_is_empty}
 use Rattle.tour_cost.proofs.Served.{cars-le}
-use Rattle.restricted_master.proofs.PlanLemmas.{picked-plan, cheapest-pick, positive, spent-many, ample-left}
-use Rattle.restricted_master.proofs.pools.Pool.best_picks.Goals as goal
+use Rattle.restricted_master.proofs.PlanLemmas.{picked-plan, cheapest-pick, least-pick, positive, spent-many, ample-left}
+use Rattle.restricted_master.proofs.pools.Pool.picks_below.Goals as goal
 
 -- the set of all calls has the snapshot's
 all_calls : (c : goal.After-cheapest-picked) → (k : ℕ) → has c.new-demand.result.all k ≡ ltb k (call_count c.args.self.now.snapshot)
@@ -32,11 +33,15 @@ few_cars c =
 
 pub returns-clause-picked : goal.returns-clause-picked
 returns-clause-picked c =
-    picked-plan c.args.self.now c.args.choices.now c.new-demand.result.all c.requires.choices (all_calls c) c.empty.result (none_yet c) 18446744073709551615 c.cheapest-picked.result c.cheapest-picked.ensures.selection
+    picked-plan c.args.self.now c.args.choices.now c.new-demand.result.all c.requires.choices (all_calls c) c.empty.result (none_yet c) c.args.beat c.cheapest-picked.result c.cheapest-picked.ensures.selection
 
-pub returns-clause-cheapest : goal.returns-clause-cheapest
-returns-clause-cheapest c = λ h.
-    cheapest-pick c.args.self.now c.args.choices.now c.new-demand.result.all c.requires.choices (all_calls c) c.empty.result (none_yet c) (few_cars c) c.cheapest-picked.result (c.cheapest-picked.ensures.cheapest (positive c.cheapest-picked.new.left h))
+pub returns-clause-least : goal.returns-clause-least
+returns-clause-least c = λ h.
+    least-pick c.args.self.now c.args.choices.now c.new-demand.result.all c.requires.choices (all_calls c) c.empty.result (none_yet c) c.args.beat c.cheapest-picked.result (c.cheapest-picked.ensures.cheapest (positive c.cheapest-picked.new.left h))
+
+pub returns-clause-whole : goal.returns-clause-whole
+returns-clause-whole c = λ e h.
+    cheapest-pick c.args.self.now c.args.choices.now c.new-demand.result.all c.requires.choices (all_calls c) c.empty.result (none_yet c) (few_cars c) c.cheapest-picked.result (subst (λ (beat : ℕ). NoneBeats (has c.new-demand.result.all) (has c.empty.result) 0 c.args.choices.now (to_beat beat c.cheapest-picked.result)) e (c.cheapest-picked.ensures.cheapest (positive c.cheapest-picked.new.left h)))
 
 pub returns-clause-spent : goal.returns-clause-spent
 returns-clause-spent c = λ h. spent-many c.args.self.now c.args.choices.now c.args.limit c.cheapest-picked.new.left c.snapshot.ensures.pool c.requires.choices c.cheapest-picked.ensures.tries h
