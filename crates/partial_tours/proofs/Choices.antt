@@ -55,7 +55,7 @@ filter_one t u m ms rest true e = ap (λ (b : Bool). filter t (cond b (m ∷ fil
 filter_one t u m ms rest false e = ap (λ (b : Bool). filter t (cond b (m ∷ filter u ms) (filter u ms))) e ∙ rest ∙ ap (λ (b : Bool). cond (b && t m) (m ∷ filter (λ x. u x && t x) ms) (filter (λ x. u x && t x) ms)) (sym e)
 
 -- two tests one after another
-filter_both : (t u : Move → Bool) (ms : List Move) → filter t (filter u ms) ≡ filter (λ m. u m && t m) ms
+pub filter_both : (t u : Move → Bool) (ms : List Move) → filter t (filter u ms) ≡ filter (λ m. u m && t m) ms
 filter_both t u [] = refl
 filter_both t u (m ∷ ms) = filter_one t u m ms (filter_both t u ms) (u m) refl
 

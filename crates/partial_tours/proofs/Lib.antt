@@ -17,3 +17,4 @@ pub mod Filling
 pub mod Departing
 pub mod Early
 pub mod Chosen
+pub mod Passing

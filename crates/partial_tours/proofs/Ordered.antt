@@ -67,7 +67,7 @@ rising_all s =
         all_before_end m n (λ k. elim (in_cases m (map Board (range_with_len 0 (call_count s))) (map Leave (range_with_len 0 (floor_count s.building))) h) [ inl b ↦ board_end m (in_range-low Board index_of (λ j. refl) m 0 (call_count s) b).1 k | inr b ↦ leave_end m (in_range-low Leave index_of (λ j. refl) m 0 (floor_count s.building) b).1 k ]) e
     to_end m n h (inr k) = absurd k
 
-in_kept : (t : Move → Bool) (m : Move) (xs : List Move) → In m (filter t xs) → In m xs
+pub in_kept : (t : Move → Bool) (m : Move) (xs : List Move) → In m (filter t xs) → In m xs
 in_kept t m [] h = h
 in_kept t m (x ∷ xs) h = by_test (t x) (filter t xs) xs h (in_kept t m xs)
   where
@@ -96,12 +96,12 @@ below_back i j h = elim (cases_Bool (ltb j i)) [ inl e ↦ (let a = ltb-true i j
 below_self : (j : ℕ) → ltb j j ≡ false
 below_self j = elim (cases_Bool (ltb j j)) [ inl e ↦ (let a = ltb-true j j e in absurd (omega arith)) | inr e ↦ e ]
 
-not_before_itself : (m : Move) → comes_before m m ≡ false
+pub not_before_itself : (m : Move) → comes_before m m ≡ false
 not_before_itself (Board j) = below_self j
 not_before_itself (Leave g) = below_self g
 not_before_itself End = refl
 
-not_back : (m n : Move) → comes_before m n ≡ true → comes_before n m ≡ false
+pub not_back : (m n : Move) → comes_before m n ≡ true → comes_before n m ≡ false
 not_back (Board i) (Board j) h = below_back i j h
 not_back (Board i) (Leave g) h = refl
 not_back (Board i) End h = refl
@@ -110,7 +110,7 @@ not_back (Leave f) (Leave g) h = below_back f g h
 not_back (Leave f) End h = refl
 not_back End n h = absurd cc
 
-in_at : (xs : List Move) (k : ℕ) (d : Move) → k < length xs → In (get_or xs k d) xs
+pub in_at : (xs : List Move) (k : ℕ) (d : Move) → k < length xs → In (get_or xs k d) xs
 in_at [] k d b = absurd (omega arith)
 in_at (x ∷ xs) zero d b = inl refl
 in_at (x ∷ xs) (suc k) d b = inr (in_at xs k d (omega arith))
@@ -127,7 +127,7 @@ distinct_places (x ∷ xs) (suc j) (suc k) d h lt b same = distinct_places xs j 
 
 -- ---- the next move of an ordered list
 
-filter_behind : (x : Move) (xs : List Move) → ((m : Move) → In m xs → comes_before x m ≡ true) → filter (comes_before x) xs ≡ xs
+pub filter_behind : (x : Move) (xs : List Move) → ((m : Move) → In m xs → comes_before x m ≡ true) → filter (comes_before x) xs ≡ xs
 filter_behind x [] h = refl
 filter_behind x (y ∷ ys) h =
     ap (λ (b : Bool). cond b (y ∷ filter (comes_before x) ys) (filter (comes_before x) ys)) (h y (inl refl)) ∙ ap (λ (l : List Move). y ∷ l) (filter_behind x ys (λ m k. h m (inr k)))
@@ -141,7 +141,7 @@ pub record StandsBehind (xs : List Move) (k : ℕ) (d : Move) : Type 0 where
   pub next : next_after (get_or xs k d) xs ≡ slice_get xs (suc k)
   pub left : length (filter (comes_before (get_or xs k d)) xs) + suc k ≡ length xs
 
-skipped : (m x : Move) (xs : List Move) → comes_before m x ≡ false → filter (comes_before m) (x ∷ xs) ≡ filter (comes_before m) xs
+pub skipped : (m x : Move) (xs : List Move) → comes_before m x ≡ false → filter (comes_before m) (x ∷ xs) ≡ filter (comes_before m) xs
 skipped m x xs e = ap (λ (b : Bool). cond b (x ∷ filter (comes_before m) xs) (filter (comes_before m) xs)) e
 
 pub behind : (xs : List Move) (k : ℕ) (d : Move) → AreRising xs → k < length xs → StandsBehind xs k d

@@ -1,13 +1,14 @@
 //! The moves that may follow a partial tour, as sets.
 
 ghost use Rattle.std.specs.Prelude.{◌≡◌, ℕ, ◌<◌, ◌≤◌, ◌+◌, ◌++◌, ◌&&◌, ◌||◌, not, Bool, true, false, nat_lt, nat_le, map, vec_len, vec_capacity, is_some};
+ghost use Rattle.std.specs.List.{filter};
 ghost use Rattle.call_sets.specs.Counting.{has, any_below, members};
 ghost use Rattle.elevator_model.specs.Tours.{rider_count};
-ghost use Rattle.elevator_model.specs.declared.Move.{Move};
+ghost use Rattle.elevator_model.specs.declared.Move.{Move as MoveValue};
 ghost use Rattle.elevator_model.specs.Snapshot.{Snapshot, call_count, call_of, state_of, is_coming as is_coming_lem, is_idle as is_idle_lem};
-ghost use Rattle.elevator_model.specs.Partial.{Course, move_on, lawful_moves, may_stand};
+ghost use Rattle.elevator_model.specs.Partial.{Course, all_moves, move_on, lawful_moves, may_stand};
 ghost use Rattle.partial_tours.specs.Courses.{TracksCourse, is_after, may_be_next, reached, empty_stop, IsOnWay};
-ghost use Rattle.partial_tours.specs.Followers.{AreFollowers};
+ghost use Rattle.partial_tours.specs.Followers.{AreFollowers, ArePassing};
 ghost use Rattle.partial_tours.specs.Orders.{first_of, next_after, first_choice as first_choice_lem};
 
 use crate::points::Point;
@@ -57,7 +58,7 @@ fn may_be_left(point: &Point) -> bool
 pub(crate) fn boards_next(layout: &Layout, point: &Point, allowed: CallSet) -> CallSet
     ensures { (x : Course) → TracksCourse layout.now.snapshot layout.now.car point.now x
         → (j : ℕ) → has result j
-        ≡ may_be_next layout.now.snapshot layout.now.car x (has allowed) (Move.Board j) }
+        ≡ may_be_next layout.now.snapshot layout.now.car x (has allowed) (MoveValue.Board j) }
 {
     if !has_stopped(point) {
         return CallSet::empty();
@@ -131,7 +132,7 @@ fn later_floors_next(layout: &Layout, point: &Point) -> FloorSet
 pub(crate) fn leaves_next(layout: &Layout, point: &Point) -> FloorSet
     ensures { (x : Course) → TracksCourse layout.now.snapshot layout.now.car point.now x
         → (g : ℕ) → has result g
-        ≡ is_some (move_on layout.now.snapshot layout.now.car x (Move.Leave g)) }
+        ≡ is_some (move_on layout.now.snapshot layout.now.car x (MoveValue.Leave g)) }
 {
     if !may_be_left(point) {
         return FloorSet::empty();
@@ -172,7 +173,7 @@ fn carries_nobody(point: &Point) -> bool
 /// Whether the tour may end now.
 pub(crate) fn ends_next(layout: &Layout, point: &Point) -> bool
     ensures { (x : Course) → TracksCourse layout.now.snapshot layout.now.car point.now x
-        → result ≡ is_some (move_on layout.now.snapshot layout.now.car x Move.End) }
+        → result ≡ is_some (move_on layout.now.snapshot layout.now.car x MoveValue.End) }
 {
     if !may_be_left(point) {
         return false;
@@ -195,7 +196,7 @@ fn first_choice(call: Option<u32>, floor: Option<u32>, ends: bool) -> Option<Mov
     }
 }
 
-/// The moves that may follow a partial tour, with boards of allowed calls only, as sets.
+/// Moves that may follow a partial tour, as sets.
 #[derive(Clone, Copy, Debug)]
 pub struct Followers {
     boards: CallSet,
@@ -204,20 +205,39 @@ pub struct Followers {
 }
 
 impl Followers {
+    /// The floors to which the car may go.
+    pub fn leaves(&self) -> FloorSet
+        ensures { result ≡ self.now.leaves }
+    {
+        self.leaves
+    }
+
+    /// The same without the leaves to these floors.
+    pub fn without_leaves(&self, floors: FloorSet) -> Self
+        ensures boards { result.boards ≡ self.now.boards }
+        ensures leaves { (g : ℕ) → has result.leaves g
+            ≡ (has self.now.leaves g && not (has floors g)) }
+        ensures ends { result.ends ≡ self.now.ends }
+    {
+        Self {
+            boards: self.boards,
+            leaves: self.leaves.minus(floors),
+            ends: self.ends,
+        }
+    }
+
     /// The first of them.
     pub fn first(&self) -> Option<Move>
-        ensures { (s : Snapshot) (c : ℕ) (x : Course) (allowed : ℕ → Bool)
-            → AreFollowers s c x allowed self.now → result
-            ≡ first_of (lawful_moves s c x allowed) }
+        ensures { (s : Snapshot) (test : MoveValue → Bool) → ArePassing s test self.now
+            → result ≡ first_of (filter test (all_moves s)) }
     {
         first_choice(self.boards.least(), self.leaves.least(), self.ends)
     }
 
     /// The first of them that comes after a move.
     pub fn after(&self, last: Move) -> Option<Move>
-        ensures { (s : Snapshot) (c : ℕ) (x : Course) (allowed : ℕ → Bool)
-            → AreFollowers s c x allowed self.now → result
-            ≡ next_after last (lawful_moves s c x allowed) }
+        ensures { (s : Snapshot) (test : MoveValue → Bool) → ArePassing s test self.now
+            → result ≡ next_after last (filter test (all_moves s)) }
     {
         match last {
             Move::Board(call) => self.after_board(call),
@@ -228,9 +248,8 @@ impl Followers {
 
     /// The first of them that comes after the board of a call.
     fn after_board(&self, last: u32) -> Option<Move>
-        ensures { (s : Snapshot) (c : ℕ) (x : Course) (allowed : ℕ → Bool)
-            → AreFollowers s c x allowed self.now → result
-            ≡ next_after (Move.Board last) (lawful_moves s c x allowed) }
+        ensures { (s : Snapshot) (test : MoveValue → Bool) → ArePassing s test self.now
+            → result ≡ next_after (MoveValue.Board last) (filter test (all_moves s)) }
     {
         let call = self.boards.above(last).least();
         first_choice(call, self.leaves.least(), self.ends)
@@ -238,9 +257,8 @@ impl Followers {
 
     /// The first of them that comes after the leave to a floor.
     fn after_leave(&self, last: u32) -> Option<Move>
-        ensures { (s : Snapshot) (c : ℕ) (x : Course) (allowed : ℕ → Bool)
-            → AreFollowers s c x allowed self.now → result
-            ≡ next_after (Move.Leave last) (lawful_moves s c x allowed) }
+        ensures { (s : Snapshot) (test : MoveValue → Bool) → ArePassing s test self.now
+            → result ≡ next_after (MoveValue.Leave last) (filter test (all_moves s)) }
     {
         let floor = self.leaves.above(last).least();
         first_choice(None, floor, self.ends)
@@ -262,7 +280,7 @@ pub(crate) fn followers_at(layout: &Layout, point: &Point, allowed: CallSet) -> 
 /// Appends the boards of these calls.
 fn push_boards(calls: CallSet, out: &mut Vec<Move>)
     requires { vec_len out.old + 128 ≤ vec_capacity out.old }
-    ensures items { out.new.items ≡ out.old.items ++ map Move.Board (members 128 calls) }
+    ensures items { out.new.items ≡ out.old.items ++ map MoveValue.Board (members 128 calls) }
     ensures capacity { vec_capacity out.new ≡ vec_capacity out.old }
 {
     for call in calls.iter() {
@@ -273,7 +291,7 @@ fn push_boards(calls: CallSet, out: &mut Vec<Move>)
 /// Appends the leaves to these floors.
 fn push_leaves(floors: FloorSet, out: &mut Vec<Move>)
     requires { vec_len out.old + 64 ≤ vec_capacity out.old }
-    ensures items { out.new.items ≡ out.old.items ++ map Move.Leave (members 64 floors) }
+    ensures items { out.new.items ≡ out.old.items ++ map MoveValue.Leave (members 64 floors) }
     ensures capacity { vec_capacity out.new ≡ vec_capacity out.old }
 {
     for floor in floors.iter() {

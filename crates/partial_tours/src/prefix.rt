@@ -14,7 +14,8 @@ use call_sets::CallSet;
 use call_state::Snapshot;
 use car_layout::Layout;
 use elevator_model::{
-    Boards, LATEST_MOMENT, MOST_CALLS, MOST_COST, MOST_MOVES, MOST_NEXT_MOVES, Move, Stop, Tour,
+    Boards, LATEST_MOMENT, MOMENT_LIMIT, MOST_CALLS, MOST_COST, MOST_MOVES, MOST_NEXT_MOVES, Move,
+    Stop, Tour,
 };
 use std::alloc::{AllocError, Global};
 use std::marker::Model;
@@ -247,6 +248,16 @@ impl<'a> Prefix<'a> {
         ensures early { result < LATEST_MOMENT }
     {
         self.last_step().tally.opened
+    }
+
+    /// The moment in ms at which the car departs from the last stop; where no stop has begun, that from which the
+    /// first arrival counts.
+    pub fn departs_at(&self) -> u64
+        ensures value { (x : Course) → course self.now ≡ Some x
+            → result ≡ (reached self.now.snapshot self.now.car x).leaves }
+        ensures early { result ≤ MOMENT_LIMIT }
+    {
+        self.last_step().tally.leaves
     }
 
     /// The moment in ms at which the doors would be open at a next stop at this floor. The leave to it has to be

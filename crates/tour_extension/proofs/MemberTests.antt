@@ -1,9 +1,9 @@
 -- Tests of the members of a set, one after another.
-use Rattle.std.proofs.Common.{◌≡◌, ℕ, zero, suc, ◌+◌, ◌<◌, ◌≤◌, Bool, true, false, cond, ◌&&◌, ◌||◌, List, [], ◌∷◌, filter, sym, ap, ◌∙◌, inl, inr, arith}
+use Rattle.std.proofs.Common.{◌==◌, ◌≡◌, ℕ, zero, suc, ◌+◌, ◌<◌, ◌≤◌, Bool, true, false, cond, ◌&&◌, ◌||◌, List, [], ◌∷◌, filter, refl, sym, ap, ◌∙◌, inl, inr, arith}
 use Rattle.std.specs.List.{list_any, range_with_len}
-use Rattle.std.proofs.lemmas.Bool.{and_parts, and_from, or_cases, or_left, or_right, cases_Bool, false≢true}
+use Rattle.std.proofs.lemmas.Bool.{eq-eqb, and_parts, and_from, or_cases, or_left, or_right, cases_Bool, false≢true}
 use Rattle.std.proofs.Math.Nat.{eq-or-lt_of_le}
-use Rattle.call_sets.specs.Counting.{has, members, any_below}
+use Rattle.call_sets.specs.Counting.{has, members, any_below, is_among}
 use Rattle.call_sets.proofs.BelowTests.{any_below-at, any_below-true}
 use Rattle.partial_tours.proofs.Next.{same_bool}
 
@@ -28,6 +28,11 @@ in_some p t a (suc m) k low high on ok =
     skip : (b : Bool) → list_any t rest ≡ true → list_any t (cond b (a ∷ rest) rest) ≡ true
     skip true h = or_right (t a) (list_any t rest) h
     skip false h = h
+
+-- each member is in the list
+pub among : (bound set k : ℕ) → k < bound → has set k ≡ true → is_among k (members bound set) ≡ true
+unfolding members
+among bound set k lt on = in_some (has set) (λ j. j == k) 0 bound k (omega arith) (omega (arith, lt)) on (eq-eqb k k refl)
 
 pub members_any : (bound set n : ℕ) (t : ℕ → Bool) → n ≤ bound → ((k : ℕ) → has set k ≡ true → k < n) → any_below n (λ k. has set k && t k) ≡ list_any t (members bound set)
 unfolding members

@@ -8,7 +8,7 @@ use Rattle.elevator_model.specs.Snapshot.{Snapshot, call_count, call_of, spec_of
 use Rattle.elevator_model.specs.Tours.{Progress, make_stop, overtakes, is_call_for, is_later_in_queue, rider_count, destination_of, persons_of, persons_where, gets_off}
 use Rattle.elevator_model.specs.Partial.{Course}
 use Rattle.call_sets.proofs.BelowTests.{any_below-at, any_below-true, any_below-none, any_below-same}
-use Rattle.call_sets.proofs.Sums.{sum_where-same}
+use Rattle.call_sets.proofs.Sums.{sum_where-none, sum_where-same}
 use Rattle.tour_rules.proofs.RiderSums.{destination_of-call, persons_of-call}
 use Rattle.car_layout.specs.Layouts.{starts_at, fits_in, is_earlier}
 use Rattle.partial_tours.specs.Courses.{is_after, any_goes_to}
@@ -16,7 +16,7 @@ use Rattle.partial_tours.proofs.Next.{same_bool, leaves_unless}
 use Rattle.search_model.specs.Extending.{IsDemand, waits, goes_above, goes_below, any_above, any_under, has_to_board, passes_some, goes_along, gives_use, none_left, none_skipped, all_fit, has_use, is_one_way, can_go_on_at, can_be_extended}
 use Rattle.partial_tours.specs.declared.points.Point.{Point}
 use Rattle.tour_extension.specs.declared.sides.Sides.{Sides}
-use Rattle.tour_extension.specs.Points.{IsAtStop, StandsFor, AreSides, passes_none, goes_with, keeps_queue_and_way}
+use Rattle.tour_extension.specs.Points.{IsAtStop, StandsFor, AreSides, missing_can_board, passes_none, goes_with, keeps_queue_and_way}
 
 -- ---- whether a set has a member
 
@@ -130,6 +130,37 @@ all_fit_told s c required point q stop due persons at is_due sum =
     let same = sum_where-same (call_count s) (has due) (has_to_board s required (make_stop s c q stop) stop) (λ j. (call_of s j).persons) (persons_of s) (λ j lt. is_due j) (λ j lt e. sym (persons_of-call s j lt)) in
     leb_shift persons point.room (persons_where s (make_stop s c q stop).carried) (spec_of s c).capacity at.room ∙ ap (λ (n : ℕ). leb (persons_where s (make_stop s c q stop).carried + n) (spec_of s c).capacity) (sum ∙ same)
 
+-- ---- where no call is missing
+
+-- no call waits that has to board
+none_waits : (s : Snapshot) (c : ℕ) (required : ℕ → Bool) (point : Point) (q : Progress) (stop : Stop) (missing j : ℕ) → IsAtStop s c point q stop → AreMissing point required missing → ((k : ℕ) → has missing k ≡ false) → j < call_count s → waits required (make_stop s c q stop) j ≡ false
+none_waits s c required point q stop missing j at is_missing none lt =
+    sym (missing_waits s c required point q stop missing j at is_missing lt) ∙ none j
+
+pub none_missing : (s : Snapshot) (c : ℕ) (required : ℕ → Bool) (point : Point) (q : Progress) (stop : Stop) (missing : ℕ) → IsAtStop s c point q stop → AreMissing point required missing → ((k : ℕ) → has missing k ≡ false) → missing_can_board s c required q stop ≡ true
+none_missing s c required point q stop missing at is_missing none = and_from (none_left s required q p && none_skipped s required p stop) (all_fit s c required p stop) (and_from (none_left s required q p) (none_skipped s required p stop) left skipped) fit
+  where
+    p : Progress
+    p = make_stop s c q stop
+
+    waits_not : (j : ℕ) → j < call_count s → waits required p j ≡ false
+    waits_not j lt = none_waits s c required point q stop missing j at is_missing none lt
+
+    due_not : (j : ℕ) → j < call_count s → has_to_board s required p stop j ≡ false
+    due_not j lt = and_left (waits required p j) _ (waits_not j lt)
+
+    left : none_left s required q p ≡ true
+    left = ap not (any_below-none (call_count s) (λ j. waits required p j && overtakes s q j) (λ j lt. and_left (waits required p j) (overtakes s q j) (waits_not j lt)))
+
+    skipped : none_skipped s required p stop ≡ true
+    skipped = ap not (any_below-none (call_count s) (λ j. has_to_board s required p stop j && not (list_all (λ i. ltb i j) stop.boards)) (λ j lt. and_left (has_to_board s required p stop j) _ (due_not j lt)))
+
+    fit : all_fit s c required p stop ≡ true
+    fit =
+        let nobody = sum_where-none (call_count s) (has_to_board s required p stop) (persons_of s) due_not in
+        let room = at.room in
+        le-leb (persons_where s p.carried + sum_where (call_count s) (has_to_board s required p stop) (persons_of s)) (spec_of s c).capacity (omega (arith, nobody, room))
+
 -- ---- those who give use to the stop
 
 earlier_shape : (l q m : Bool) → l ≡ true → ((l && q) && m) ≡ (m && q)
@@ -203,6 +234,11 @@ has_use_told s c allowed required point q stop sides missing calls any demand at
 pub and_true : (a b : Bool) → a ≡ true → (a && b) ≡ b
 and_true true b e = refl
 and_true false b e = absurd (false≢true e)
+
+-- those on the missing calls stand together
+pub four_together : (one left skipped fit used : Bool) → ((one && (left && skipped && fit)) && used) ≡ (one && left && skipped && fit && used)
+four_together true left skipped fit used = refl
+four_together false left skipped fit used = refl
 
 pub ended_told : (s : Snapshot) (c : ℕ) (allowed required : ℕ → Bool) (point : Point) (x : Course) (missing : ℕ) (any : Bool) → IsDemand s c allowed required → StandsFor s c point x → AreMissing point required missing → TellsAny missing any → point.ended ≡ true → not any ≡ can_be_extended s c allowed required x
 ended_told s c allowed required point x missing any demand at is_missing tells over =

@@ -6,7 +6,7 @@ use Rattle.call_sets.specs.Counting.{has, any_below}
 use Rattle.elevator_model.specs.Snapshot.{Snapshot, call_count, call_of, spec_of}
 use Rattle.elevator_model.specs.Tours.{Progress, make_stop, overtakes, is_call_for, is_later_in_queue, persons_where}
 use Rattle.elevator_model.specs.Partial.{Course, may_stand, may_be_left}
-use Rattle.search_model.specs.Extending.{any_above, any_under, is_passed_at}
+use Rattle.search_model.specs.Extending.{any_above, any_under, is_passed_at, none_left, none_skipped, all_fit}
 use Rattle.partial_tours.specs.Courses.{is_after, any_goes_to}
 use Rattle.partial_tours.specs.declared.points.Point.{Point}
 use Rattle.tour_extension.specs.declared.sides.Sides.{Sides}
@@ -34,6 +34,12 @@ pub record StandsFor (s : Snapshot) (c : ℕ) (point : Point) (x : Course) : Typ
 pub record AreSides (s : Snapshot) (p : Progress) (sides : Sides) : Type 0 where
   pub above : sides.above ≡ any_above s p
   pub below : sides.below ≡ any_under s p
+
+-- the missing calls can board: none was left behind, and those that have to board at the stop can do so there
+abbrev pub missing_can_board : Snapshot → ℕ → (required : ℕ → Bool) → Progress → Stop → Bool
+missing_can_board s c required q stop =
+    let p = make_stop s c q stop in
+    none_left s required q p && none_skipped s required p stop && all_fit s c required p stop
 
 -- no member of the set is an earlier call of the queue of call j
 abbrev pub passes_none : Snapshot → (missing : ℕ) → ℕ → Bool

@@ -11,7 +11,7 @@ ghost use Rattle.car_layout.specs.Layouts.{starts_at, fits_in};
 ghost use Rattle.partial_tours.specs.Courses.{is_after};
 ghost use Rattle.search_model.specs.Extending.{IsDemand, IsExtendable, has_to_board, none_left as none_left_lem, none_skipped as none_skipped_lem, all_fit as all_fit_lem, has_use as has_use_lem, can_go_on as can_go_on_lem, can_be_extended as can_be_extended_lem};
 ghost use Rattle.search_model.specs.Orders.{AreAllowed};
-ghost use Rattle.tour_extension.specs.Points.{IsAtStop, StandsFor, passes_none as passes_none_lem, keeps_queue_and_way as keeps_queue_and_way_lem};
+ghost use Rattle.tour_extension.specs.Points.{IsAtStop, StandsFor, passes_none as passes_none_lem, keeps_queue_and_way as keeps_queue_and_way_lem, missing_can_board as missing_can_board_lem};
 
 use crate::demands::Demand;
 use crate::sides::Sides;
@@ -20,7 +20,7 @@ use car_layout::Layout;
 use partial_tours::{Point, Prefix, after_last, calls_with_room};
 
 /// Whether there is a call in the set.
-fn any_call(calls: CallSet) -> bool
+pub(crate) fn any_call(calls: CallSet) -> bool
     ensures { (n : ℕ) → ((j : ℕ) → has calls j ≡ true → j < n) → result ≡ any_below n (has calls) }
 {
     match calls.least() {
@@ -178,6 +178,21 @@ fn has_use(layout: &Layout, point: &Point, demand: &Demand) -> bool
     )
 }
 
+/// Whether the missing calls can board: none was left behind, and those that have to board at the stop can do
+/// so there.
+fn missing_can_board(layout: &Layout, point: &Point, demand: &Demand) -> bool
+    requires { IsDemand layout.now.snapshot layout.now.car (has demand.now.allowed)
+        (has demand.now.required) }
+    ensures { (q : Progress) (stop : Stop)
+        → IsAtStop layout.now.snapshot layout.now.car point.now q stop → result
+        ≡ missing_can_board_lem layout.now.snapshot layout.now.car (has demand.now.required) q stop }
+{
+    if missing_calls(point, demand).is_empty() {
+        return true;
+    }
+    none_left(point, demand) && none_skipped(point, demand) && all_fit(layout, point, demand)
+}
+
 /// Whether some tour of the node can go on from the stop.
 fn can_go_on(layout: &Layout, point: &Point, demand: &Demand) -> bool
     requires { IsDemand layout.now.snapshot layout.now.car (has demand.now.allowed)
@@ -187,9 +202,7 @@ fn can_go_on(layout: &Layout, point: &Point, demand: &Demand) -> bool
         ≡ can_go_on_lem layout.now.snapshot layout.now.car (has demand.now.allowed) (has demand.now.required) q stop }
 {
     Sides::of(point).is_one_way()
-        && none_left(point, demand)
-        && none_skipped(point, demand)
-        && all_fit(layout, point, demand)
+        && missing_can_board(layout, point, demand)
         && has_use(layout, point, demand)
 }
 

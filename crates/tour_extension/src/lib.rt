@@ -11,7 +11,7 @@ ghost use Rattle.tour_extension.specs.Demands.{NodeLaw};
 
 pub use demands::Demand;
 pub use extending::can_be_extended;
-pub use leaves::is_useless;
+pub use leaves::useful;
 
 /// A law: the test says exactly which partial tours can be extended.
 pub fn extending_law()
