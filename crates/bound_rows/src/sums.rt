@@ -37,6 +37,29 @@ fn prices_of(prices: [i128; 4]) -> Option<[Price; 4]> {
     ])
 }
 
+/// The walk over all partial tours of the car at these rates.
+fn walked_at(
+    alloc: Global,
+    rates: &Rates,
+    prices: &[Price; 4],
+    allowed: CallSet,
+    required: CallSet,
+) -> Option<Seen> {
+    let snapshot = rates.snapshot();
+    if snapshot.building().cars().len() != 1 || snapshot.calls().len() != 4 {
+        return None;
+    }
+    let rides = StraightRides::new(rates, 0, allowed, required);
+    let asked = Asked {
+        snapshot,
+        prices,
+        allowed,
+        required,
+    };
+    let mut prefix = Prefix::new(alloc, snapshot, 0).ok()?;
+    Some(walk_all(&mut prefix, &rides, &asked))
+}
+
 /// The walk over all partial tours of the car, where the rates had other prices before.
 fn walked(
     alloc: Global,
@@ -46,20 +69,12 @@ fn walked(
     required: CallSet,
 ) -> Option<Seen> {
     let mut rates = Rates::new(alloc, snapshot).ok()?;
-    if snapshot.building().cars().len() != 1 || snapshot.calls().len() != 4 {
+    if snapshot.calls().len() != 4 {
         return None;
     }
     rates.lay_out(&[prices[3], prices[0], prices[1], prices[2]]);
     rates.lay_out(prices);
-    let rides = StraightRides::new(&rates, 0, allowed, required);
-    let asked = Asked {
-        snapshot,
-        prices,
-        allowed,
-        required,
-    };
-    let mut prefix = Prefix::new(alloc, snapshot, 0).ok()?;
-    Some(walk_all(&mut prefix, &rides, &asked))
+    walked_at(alloc, &rates, prices, allowed, required)
 }
 
 fn walk(alloc: Global, prices: [i128; 4], allowed: u128, required: u128) -> Option<Seen> {

@@ -1,11 +1,14 @@
 //! Walks over all partial tours of a car on which the running sums are compared with `bound`.
 
-ghost use Rattle.std.specs.Prelude.{◌≡◌, ◌++◌, ◌∷◌, [], true, length};
+ghost use Rattle.std.specs.Prelude.{◌≡◌, ◌++◌, ◌∷◌, [], Some, true, length};
 ghost use Rattle.call_sets.specs.Counting.{has};
-ghost use Rattle.elevator_model.specs.Partial.{IsLawful, boards_allowed};
+ghost use Rattle.elevator_model.specs.Partial.{Course, IsLawful, boards_allowed};
 ghost use Rattle.elevator_model.specs.Snapshot.{call_count};
-ghost use Rattle.pricing_bound.specs.Aims.{AimsAt};
+ghost use Rattle.elevator_model.specs.declared.Move.{Move as MoveValue};
+ghost use Rattle.partial_tours.specs.PartialTour.{course, with_move};
+ghost use Rattle.pricing_bound.specs.Aims.{AimsAt, IsNextMove};
 ghost use Rattle.pricing_bound.specs.Rates.{aim_at};
+ghost use Rattle.pricing_bound.specs.Running.{StandFor};
 ghost use Rattle.bound_rows.specs.Walks.{IsKept};
 
 use call_sets::CallSet;
@@ -58,6 +61,51 @@ fn agrees(prefix: &Prefix, rides: &StraightRides, asked: &Asked, sums: &Sums) ->
         asked.required,
     );
     rides.value(sums) == whole
+}
+
+/// The sums at a next stop, from the departure. It is noted as a partial tour where something disagrees if the sums
+/// found without a departure have another bound, or the departure tells of a greater one.
+fn arrived(prefix: &Prefix, rides: &StraightRides, sums: &Sums, floor: u32, seen: &mut Seen) -> Sums
+    requires kept { IsKept (aim_at rides.now.rates.now rides.now.car rides.now.allowed
+        rides.now.required) prefix.now sums.now }
+    requires leads { IsNextMove (aim_at rides.now.rates.now rides.now.car rides.now.allowed
+        rides.now.required) (StandFor (aim_at rides.now.rates.now rides.now.car rides.now.allowed
+        rides.now.required) sums.now) prefix.now (MoveValue.Leave floor) }
+    ensures { (y : Course) → course (with_move prefix.now (MoveValue.Leave floor)) ≡ Some y
+        → StandFor (aim_at rides.now.rates.now rides.now.car rides.now.allowed
+        rides.now.required) result y }
+{
+    let departure = rides.depart(prefix, sums);
+    let arrived = rides.arrive(prefix, &departure, floor);
+    let value = rides.value(&arrived);
+    let after = rides.after(prefix, sums, Move::Leave(floor));
+    if rides.value(&after) != value || rides.least_value(&departure) > value {
+        seen.note(false);
+    }
+    arrived
+}
+
+/// The sums after one more move.
+fn after_move(
+    prefix: &Prefix,
+    rides: &StraightRides,
+    sums: &Sums,
+    step: Move,
+    seen: &mut Seen,
+) -> Sums
+    requires kept { IsKept (aim_at rides.now.rates.now rides.now.car rides.now.allowed
+        rides.now.required) prefix.now sums.now }
+    requires leads { IsNextMove (aim_at rides.now.rates.now rides.now.car rides.now.allowed
+        rides.now.required) (StandFor (aim_at rides.now.rates.now rides.now.car rides.now.allowed
+        rides.now.required) sums.now) prefix.now step }
+    ensures { (y : Course) → course (with_move prefix.now step) ≡ Some y
+        → StandFor (aim_at rides.now.rates.now rides.now.car rides.now.allowed
+        rides.now.required) result y }
+{
+    if let Move::Leave(floor) = step {
+        return arrived(prefix, rides, sums, floor, seen);
+    }
+    rides.after(prefix, sums, step)
 }
 
 /// The walk over all partial tours of a car, from the empty one.
@@ -135,7 +183,7 @@ fn visit_after(
     requires lawful { IsLawful prefix.old.snapshot prefix.old.car (prefix.old.moves ++ step ∷ []) }
     ensures { prefix.new ≡ prefix.old }
 {
-    let after = rides.after(prefix, sums, step);
+    let after = after_move(prefix, rides, sums, step, seen);
     prefix.push(step);
     visit(prefix, rides, asked, &after, depth, seen);
     prefix.pop();

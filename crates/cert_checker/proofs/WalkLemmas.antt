@@ -5,7 +5,7 @@ use Rattle.std.specs.List.{flat_map}
 use Rattle.std.proofs.Math.Seq.{take-length}
 use Rattle.std.proofs.lemmas.List.{take_more, take-append-drop}
 use Rattle.std.proofs.lemmas.Int.{ints}
-use Rattle.std.proofs.lemmas.Bool.{and_from, and_right, cond-true, cond-false}
+use Rattle.std.proofs.lemmas.Bool.{and_from, and_left, and_right, cond-true, cond-false}
 use Rattle.call_sets.specs.Counting.{has}
 use Rattle.elevator_model.specs.declared.Move.{Move}
 use Rattle.elevator_model.specs.declared.Move.TheVariants.{Board}
@@ -18,14 +18,12 @@ use Rattle.search_model.specs.Verdicts.{tour_under_at}
 use Rattle.tour_rules.specs.Measure.{moves_left}
 use Rattle.tour_rules.proofs.Measure.{moves_left-falls}
 use Rattle.partial_tours.specs.PartialTour.{PartialTour, course, with_move, stops_made}
-use Rattle.partial_tours.specs.Orders.{first_of, next_after}
-use Rattle.partial_tours.proofs.Search.{from_next}
 use Rattle.partial_tours.proofs.Prefixes.{stops_made-ended}
 use Rattle.tour_extension.specs.declared.demands.Demand.{Demand}
 use Rattle.pricing_bound.specs.Aims.{Aim, value_for}
 use Rattle.kept_tours.specs.Kept.{is_kept_by}
-use Rattle.kept_tours.specs.Walking.{aim_at, goes_on as leads_on, IsOpen}
-use Rattle.kept_tours.proofs.Followers.{followers, followers_are, IsAt, at_first, at_move, at_end, at_next, follower, one_course}
+use Rattle.kept_tours.specs.Walking.{aim_at, goes_on as leads_on, IsOpen, IsShut}
+use Rattle.kept_tours.proofs.Followers.{followers, followers_are, IsAt, GoesTo, at_move, at_end, at_place_of, follower, one_course, over_shut}
 use Rattle.kept_tours.proofs.ListLemmas.{lists_after, flat_map-append, first_lists, own_lists, ended_lists}
 use Rattle.cert_checker.specs.declared.visits.Visits.{Visits}
 use Rattle.cert_checker.specs.declared.visits.Visits.TheVariants.{Going, Passed, Under}
@@ -179,18 +177,16 @@ tour_visited t demand price bound worth left at value visits leads over kept is 
 
 -- ---- one that goes on
 
--- The walk went through the first followers, and so many may still be visited.
+-- what was seen in the followers before a place: nothing, and so many may still be visited
+abbrev pub SeesBefore : PartialTour → Demand → (price : ℕ → ℤ) → (bound : Course → ℤ) → (worth : ℤ) → (first left place : ℕ) → Type 0
+SeesBefore t demand price bound worth first left place =
+    (x : Course) → course t ≡ Some x → (n : ℕ) → moves_left t.snapshot t.car x ≤ n → see (under_for (aim_at t demand price) worth) first (first_lists t demand.allowed (keeps t demand bound worth) n x place) ≡ goes_on left
+
+-- The walk went through the followers before the next move, and so many may still be visited.
 pub record Walks (t : PartialTour) (demand : Demand) (price : ℕ → ℤ) (bound : Course → ℤ) (worth : ℤ) (first : ℕ) (next : Option Move) (left : ℕ) : Type 0 where
   pub place : ℕ
   pub at : IsAt t demand.allowed next place
-  pub seen : (x : Course) → course t ≡ Some x → (n : ℕ) → moves_left t.snapshot t.car x ≤ n → see (under_for (aim_at t demand price) worth) first (first_lists t demand.allowed (keeps t demand bound worth) n x place) ≡ goes_on left
-
-pub walks_first : (t : PartialTour) (demand : Demand) (price : ℕ → ℤ) (bound : Course → ℤ) (worth : ℤ) (at : Course) (next : Option Move) (left : ℕ) → course t ≡ Some at → next ≡ first_of (lawful_moves t.snapshot t.car at (has demand.allowed)) → Walks t demand price bound worth left next left
-walks_first t demand price bound worth at next left leads are = record {
-  place = 0;
-  at = at_first t demand.allowed at next leads are;
-  seen = λ x there n le. refl;
-}
+  pub seen : SeesBefore t demand price bound worth first left place
 
 -- the lists of one follower more
 pub next_lists_are : (t : PartialTour) (demand : Demand) (keep : Course → Bool) (n : ℕ) (x y : Course) (m : Move) (place : ℕ) → course t ≡ Some x → IsAt t demand.allowed (Some m) place → move_on t.snapshot t.car x m ≡ Some y → first_lists t demand.allowed keep n x (place + 1) ≡ first_lists t demand.allowed keep n x place ++ own_lists (with_move t m) demand.allowed keep n y
@@ -200,27 +196,40 @@ next_lists_are t demand keep n x y m place leads at moved =
     more ∙ ap (λ (v : Move). first_lists t demand.allowed keep n x place ++ lists_from t.snapshot t.car (has demand.allowed) keep n (t.moves ++ v ∷ []) y) (sym here.1)
 
 -- what was seen with one follower more
-pub seen_more : (t : PartialTour) (demand : Demand) (price : ℕ → ℤ) (bound : Course → ℤ) (worth : ℤ) (first : ℕ) (m : Move) (left : ℕ) (new : PartialTour) (visits : Visits) → (w : Walks t demand price bound worth first (Some m) left) → Visited (with_move t m) demand price bound worth left new visits → (x : Course) → course t ≡ Some x → (n : ℕ) → moves_left t.snapshot t.car x ≤ n → see (under_for (aim_at t demand price) worth) first (first_lists t demand.allowed (keeps t demand bound worth) n x (w.place + 1)) ≡ seen_of visits new.moves
-seen_more t demand price bound worth first m left new visits w v x there n le =
-    let f = follower t demand.allowed x m w.place there w.at in
+seen_more : (t : PartialTour) (demand : Demand) (price : ℕ → ℤ) (bound : Course → ℤ) (worth : ℤ) (first : ℕ) (m : Move) (left place : ℕ) (new : PartialTour) (visits : Visits) → IsAt t demand.allowed (Some m) place → SeesBefore t demand price bound worth first left place → Visited (with_move t m) demand price bound worth left new visits → (x : Course) → course t ≡ Some x → (n : ℕ) → moves_left t.snapshot t.car x ≤ n → see (under_for (aim_at t demand price) worth) first (first_lists t demand.allowed (keeps t demand bound worth) n x (place + 1)) ≡ seen_of visits new.moves
+seen_more t demand price bound worth first m left place new visits at before v x there n le =
+    let f = follower t demand.allowed x m place there at in
     let falls = moves_left-falls t.snapshot t.car x m f.next f.moved in
     let under = under_for (aim_at t demand price) worth in
-    let before = first_lists t demand.allowed (keeps t demand bound worth) n x w.place in
+    let earlier = first_lists t demand.allowed (keeps t demand bound worth) n x place in
     let more = own_lists (with_move t m) demand.allowed (keeps t demand bound worth) n f.next in
     let here : see under left more ≡ seen_of visits new.moves = v.seen f.next f.leads n (omega (arith, falls, le)) in
-    ap (see under first) (next_lists_are t demand (keeps t demand bound worth) n x f.next m w.place there w.at f.moved) ∙ see-append under first before more ∙ ap (λ (z : Seen). and_then z (λ l. see under l more)) (w.seen x there n le) ∙ here
+    ap (see under first) (next_lists_are t demand (keeps t demand bound worth) n x f.next m place there at f.moved) ∙ see-append under first earlier more ∙ ap (λ (z : Seen). and_then z (λ l. see under l more)) (before x there n le) ∙ here
+
+-- The followers up to the next move are shut, so there is nothing to see.
+walks_to : (t : PartialTour) (demand : Demand) (price : ℕ → ℤ) (bound : Course → ℤ) (worth : ℤ) (first : ℕ) (at : Course) (next : Option Move) (left from : ℕ) → course t ≡ Some at → GoesTo t demand next from → SeesBefore t demand price bound worth first left from → Walks t demand price bound worth first next left
+walks_to t demand price bound worth first at next left from leads goes before = record {
+  place = goes.place;
+  at = goes.at;
+  seen = over_shut t demand next from (SeesBefore t demand price bound worth first left) goes one_shut before;
+}
+  where
+    one_shut : (k : ℕ) → k < length (followers t demand.allowed) → IsShut demand (with_move t (get_or (followers t demand.allowed) k (Board 0))) → SeesBefore t demand price bound worth first left k → SeesBefore t demand price bound worth first left (k + 1)
+    one_shut k lt shut seen =
+        let m = get_or (followers t demand.allowed) k (Board 0) in
+        let stands = at_place_of t demand.allowed k lt in
+        let f = follower t demand.allowed at m k leads stands in
+        let out = and_left (leads_on (with_move t m) demand f.next) (int_lt (bound f.next) worth) (shut f.next f.leads) in
+        seen_more t demand price bound worth first m left k (with_move t m) (Going left) stands seen (passed_by (with_move t m) demand price bound worth left (with_move t m) f.next f.leads out refl refl)
+
+pub walks_first : (t : PartialTour) (demand : Demand) (price : ℕ → ℤ) (bound : Course → ℤ) (worth : ℤ) (at : Course) (next : Option Move) (left : ℕ) → course t ≡ Some at → GoesTo t demand next 0 → Walks t demand price bound worth left next left
+walks_first t demand price bound worth at next left leads goes =
+    walks_to t demand price bound worth left at next left 0 leads goes (λ x there n le. refl)
 
 -- the walk goes on with the next follower
-pub walks_on : (t : PartialTour) (demand : Demand) (price : ℕ → ℤ) (bound : Course → ℤ) (worth : ℤ) (first : ℕ) (at : Course) (m : Move) (next : Option Move) (left rest : ℕ) (new : PartialTour) → course t ≡ Some at → Walks t demand price bound worth first (Some m) left → Visited (with_move t m) demand price bound worth left new (Going rest) → next ≡ next_after m (lawful_moves t.snapshot t.car at (has demand.allowed)) → Walks t demand price bound worth first next rest × (from_next next (followers t demand.allowed) < from_next (Some m) (followers t demand.allowed))
-walks_on t demand price bound worth first at m next left rest new leads w v are =
-    let on = at_next t demand.allowed at m next w.place leads w.at are in (
-      record {
-        place = w.place + 1;
-        at = on.0;
-        seen = seen_more t demand price bound worth first m left new (Going rest) w v;
-      },
-      on.1,
-    )
+pub walks_on : (t : PartialTour) (demand : Demand) (price : ℕ → ℤ) (bound : Course → ℤ) (worth : ℤ) (first : ℕ) (at : Course) (m : Move) (next : Option Move) (left rest : ℕ) (new : PartialTour) → course t ≡ Some at → (w : Walks t demand price bound worth first (Some m) left) → Visited (with_move t m) demand price bound worth left new (Going rest) → GoesTo t demand next (w.place + 1) → Walks t demand price bound worth first next rest
+walks_on t demand price bound worth first at m next left rest new leads w v goes =
+    walks_to t demand price bound worth first at next rest (w.place + 1) leads goes (seen_more t demand price bound worth first m left w.place new (Going rest) w.at w.seen v)
 
 seen_stop : (o : Option (List Stop)) (rest : ℕ) (z : Seen) (visits : Visits) (moves : List Move) → o ≡ None → z ≡ seen_of visits moves → seen_at o z ≡ seen_of visits moves
 seen_stop o rest z visits moves none e = ap (λ (p : Option (List Stop)). seen_at p z) none ∙ e
@@ -269,7 +278,7 @@ walk_stops t demand price bound worth first at m left new visits leads runs kept
       let front = take (w.place + 1) all in
       let back = drop (w.place + 1) all in
       let parts : lawful_moves t.snapshot t.car x (has demand.allowed) ≡ front ++ back = sym (followers_are t demand.allowed x there) ∙ sym (take-append-drop (w.place + 1) all) in
-      ap (λ (l : List Move). see under first (flat_map f l)) parts ∙ ap (see under first) (flat_map-append f front back) ∙ see-append under first (flat_map f front) (flat_map f back) ∙ stops_all (see under first (flat_map f front)) (λ l. see under l (flat_map f back)) visits new.moves stops (seen_more t demand price bound worth first m left new visits w v x there n le)
+      ap (λ (l : List Move). see under first (flat_map f l)) parts ∙ ap (see under first) (flat_map-append f front back) ∙ see-append under first (flat_map f front) (flat_map f back) ∙ stops_all (see under first (flat_map f front)) (λ l. see under l (flat_map f back)) visits new.moves stops (seen_more t demand price bound worth first m left w.place new visits w.at w.seen v x there n le)
       ));
   value = v.value;
   snapshot = v.snapshot;

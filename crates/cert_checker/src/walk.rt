@@ -10,7 +10,7 @@ use elevator_model::Move;
 use kept_tours::step_below;
 use partial_tours::Prefix;
 use pricing_bound::CompletionBound;
-use tour_extension::{Demand, is_useless};
+use tour_extension::{Demand, useful};
 
 /// Visits a partial tour that some tour of the node begins with, where it is kept for the worth, and the kept ones that
 /// begin with it, depth first in the order of moves.
@@ -44,10 +44,11 @@ pub(crate) fn visit<B: CompletionBound>(
         return Visits::of_tour(value, worth, left - 1);
     }
     let mut left = left - 1;
-    let followers = prefix.followers(demand.allowed);
+    let departure = bound.depart(prefix, sums);
+    let followers = useful(prefix, demand, prefix.followers(demand.allowed));
     let mut next = followers.first();
     while let Some(choice) = next {
-        let visits = visit_after(bound, demand, worth, left, prefix, sums, choice);
+        let visits = visit_after(bound, demand, worth, left, prefix, sums, &departure, choice);
         let Visits::Going(rest) = visits else {
             return visits;
         };
@@ -66,19 +67,18 @@ fn visit_after<B: CompletionBound>(
     left: u64,
     prefix: &mut Prefix,
     sums: &B::Sums,
+    departure: &B::Departure,
     next: Move,
 ) -> Visits
     requires walking { IsWalking (B.aim bound.now) demand.now prefix.old }
     requires stands { IsOpen (B.stands bound.now sums.now) demand.now prefix.old }
+    requires departs { IsOpen (B.departs bound.now departure.now) demand.now prefix.old }
     requires next { MayFollow demand.now prefix.old next }
     ensures visited { Visited (with_move prefix.old next) demand.now (B.aim bound.now).price
         (B.bound bound.now) worth left prefix.new result }
     ensures back { GoesBack prefix.old prefix.new result }
 {
-    if is_useless(prefix, demand, next) {
-        return Visits::Going(left);
-    }
-    let Some(sums) = step_below(bound, demand, prefix, sums, next, worth) else {
+    let Some(sums) = step_below(bound, demand, prefix, sums, departure, next, worth) else {
         return Visits::Going(left);
     };
     let visits = visit(bound, demand, worth, left, prefix, &sums);

@@ -1,19 +1,27 @@
 -- The moves that may follow a partial tour, one after the other.
-use Rattle.std.proofs.Common.{◌≡◌, ℕ, zero, suc, ◌+◌, ◌<◌, ◌≤◌, inl, inr, Bool, true, false, cond, ◌&&◌, List, [], ◌∷◌, ◌++◌, length, get_or, refl, sym, ap, ◌∙◌, subst, arith, Option, Some, None}
+use Rattle.std.proofs.Common.{◌≡◌, ℕ, zero, suc, ◌+◌, ◌-◌, ◌<◌, ◌≤◌, inl, inr, Bool, true, false, cond, ◌&&◌, List, [], ◌∷◌, ◌++◌, length, get_or, refl, sym, ap, ◌∙◌, subst, arith, Option, Some, None}
+use Rattle.std.specs.Prelude.{not}
 use Rattle.std.specs.List.{slice_get, filter}
 use Rattle.std.specs.Option.{is_some}
-use Rattle.std.proofs.lemmas.Bool.{and_parts, and_from, both_ways}
+use Rattle.std.proofs.lemmas.Bool.{and_parts, and_from, both_ways, true≢false}
+use Rattle.std.proofs.lemmas.Option.{slice_get-get_or}
 use Rattle.elevator_model.specs.declared.Move.{Move}
 use Rattle.elevator_model.specs.declared.Move.TheVariants.{Board}
 use Rattle.call_sets.specs.Counting.{has}
 use Rattle.elevator_model.specs.Snapshot.{Snapshot}
 use Rattle.elevator_model.specs.Partial.{Course, move_on, move_on_from, all_moves, boards_allowed, lawful_moves, IsLawful}
 use Rattle.partial_tours.specs.PartialTour.{PartialTour, course, with_move}
+use Rattle.partial_tours.specs.Courses.{may_be_next}
 use Rattle.partial_tours.specs.Orders.{comes_before, first_of, next_after}
 use Rattle.partial_tours.proofs.Lawful.{In, in_lawful}
 use Rattle.partial_tours.proofs.Ordered.{AreRising, rising_lawful, behind}
+use Rattle.partial_tours.proofs.Choices.{filter_both}
+use Rattle.partial_tours.proofs.Passing.{IsFirstPassing, first_passing_of, next_passing_of}
 use Rattle.partial_tours.proofs.Search.{from_next}
 use Rattle.partial_tours.proofs.Follow.{course_more}
+use Rattle.tour_extension.specs.declared.demands.Demand.{Demand}
+use Rattle.tour_extension.specs.Leaves.{is_useless, is_useful}
+use Rattle.kept_tours.specs.Walking.{goes_on, IsShut}
 
 next_from : Snapshot → ℕ → (set : ℕ) → Option Course → List Move
 next_from s c set None = []
@@ -155,3 +163,93 @@ in_lawful_moves s c x y allowed m may moved =
 pub in_followers : (p : PartialTour) (set : ℕ) (x y : Course) (m : Move) → course p ≡ Some x → boards_allowed (has set) m ≡ true → move_on p.snapshot p.car x m ≡ Some y → In m (followers p set)
 in_followers p set x y m leads may moved =
     subst (λ (l : List Move). In m l) (sym (followers_are p set x leads)) (in_lawful_moves p.snapshot p.car x y (has set) m may moved)
+
+-- ---- without the useless leaves
+
+-- Any place has the move that stands there.
+pub at_place_of : (p : PartialTour) (set place : ℕ) → place < length (followers p set) → IsAt p set (Some (get_or (followers p set) place (Board 0))) place
+at_place_of p set place lt = record { within = omega (arith, lt); is = sym (slice_get-get_or (followers p set) place (Board 0) lt) }
+
+-- how many moves are left, told by the place
+pub left_at : (p : PartialTour) (set : ℕ) (next : Option Move) (place : ℕ) → IsAt p set next place → from_next next (followers p set) + place ≡ length (followers p set)
+left_at p set None place at = let last = at_end p set place at in omega (arith, last)
+left_at p set (Some m) place at =
+    let here = at_move p set m place at in
+    let left = (behind (followers p set) place (Board 0) (rising_followers p set) here.0).left in
+    let same = ap (λ (n : Move). length (filter (comes_before n) (followers p set))) here.1 in
+    omega (arith, left, same)
+
+-- No tour of the node goes on with a useless leave.
+abbrev pub ShutsUseless : PartialTour → Demand → Type 0
+ShutsUseless p demand =
+    (x y : Course) (m : Move) → course p ≡ Some x → move_on p.snapshot p.car x m ≡ Some y → is_useless p.snapshot p.car x (has demand.allowed) m ≡ true → goes_on p demand y ≡ false
+
+-- The next move is the first from this place on with which a tour of the node may go on.
+pub record GoesTo (p : PartialTour) (demand : Demand) (next : Option Move) (from : ℕ) : Type 0 where
+  pub place : ℕ
+  pub later : from ≤ place
+  pub at : IsAt p demand.allowed next place
+  pub shut : (k : ℕ) → from ≤ k → k < place → IsShut demand (with_move p (get_or (followers p demand.allowed) k (Board 0)))
+
+-- the moves that are no useless leaves
+keeps_move : PartialTour → Demand → Course → Move → Bool
+keeps_move p demand x m = not (is_useless p.snapshot p.car x (has demand.allowed) m)
+
+useful_of : (p : PartialTour) (demand : Demand) (x : Course) → course p ≡ Some x → filter (is_useful p.snapshot p.car x (has demand.allowed)) (all_moves p.snapshot) ≡ filter (keeps_move p demand x) (followers p demand.allowed)
+unfolding keeps_move
+useful_of p demand x leads =
+    sym (filter_both (keeps_move p demand x) (may_be_next p.snapshot p.car x (has demand.allowed)) (all_moves p.snapshot)) ∙ ap (filter (keeps_move p demand x)) (sym (followers_are p demand.allowed x leads))
+
+goes_to : (p : PartialTour) (demand : Demand) (x : Course) (next : Option Move) (from : ℕ) → course p ≡ Some x → ShutsUseless p demand → IsFirstPassing (keeps_move p demand x) (followers p demand.allowed) from (Board 0) next → GoesTo p demand next from
+unfolding keeps_move
+goes_to p demand x next from leads shuts first = record {
+  place = first.place;
+  later = first.later;
+  at = record { within = first.within; is = first.is };
+  shut = λ k low high z there. (
+      let within = first.within in
+      let m = get_or (followers p demand.allowed) k (Board 0) in
+      let f = follower p demand.allowed x m k leads (at_place_of p demand.allowed k (omega (arith, high, within))) in
+      let useless = kept_not (is_useless p.snapshot p.car x (has demand.allowed) m) (first.fail k low high) in
+      subst (λ (y : Course). goes_on p demand y ≡ false) (one_course (with_move p m) f.next z f.leads there) (shuts x f.next m leads f.moved useless)
+      );
+}
+  where
+    kept_not : (b : Bool) → not b ≡ false → b ≡ true
+    kept_not true e = refl
+    kept_not false e = absurd (true≢false e)
+
+pub goes_to_first : (p : PartialTour) (demand : Demand) (x : Course) (next : Option Move) → course p ≡ Some x → ShutsUseless p demand → next ≡ first_of (filter (is_useful p.snapshot p.car x (has demand.allowed)) (all_moves p.snapshot)) → GoesTo p demand next 0
+goes_to_first p demand x next leads shuts are =
+    goes_to p demand x next 0 leads shuts (subst (IsFirstPassing (keeps_move p demand x) (followers p demand.allowed) 0 (Board 0)) (sym (are ∙ ap first_of (useful_of p demand x leads))) (first_passing_of (keeps_move p demand x) (followers p demand.allowed) (Board 0)))
+
+pub goes_to_next : (p : PartialTour) (demand : Demand) (x : Course) (m : Move) (next : Option Move) (place : ℕ) → course p ≡ Some x → ShutsUseless p demand → IsAt p demand.allowed (Some m) place → next ≡ next_after m (filter (is_useful p.snapshot p.car x (has demand.allowed)) (all_moves p.snapshot)) → GoesTo p demand next (place + 1) × (from_next next (followers p demand.allowed) < from_next (Some m) (followers p demand.allowed))
+goes_to_next p demand x m next place leads shuts at are =
+    let set = demand.allowed in
+    let here = at_move p set m place at in
+    let is = are ∙ ap (next_after m) (useful_of p demand x leads) ∙ ap (λ (n : Move). next_after n (filter (keeps_move p demand x) (followers p set))) here.1 in
+    let first = next_passing_of (keeps_move p demand x) (followers p set) place (Board 0) (rising_followers p set) here.0 in
+    let behind_it = subst (λ (from : ℕ). IsFirstPassing (keeps_move p demand x) (followers p set) from (Board 0) next) (one_further place) (subst (IsFirstPassing (keeps_move p demand x) (followers p set) (suc place) (Board 0)) (sym is) first) in
+    let goes = goes_to p demand x next (place + 1) leads shuts behind_it in
+    let left = left_at p set (Some m) place at in
+    let left_there = left_at p set next goes.place goes.at in
+    let later = goes.later in
+    (goes, omega (arith, left, left_there, later))
+  where
+    one_further : (k : ℕ) → suc k ≡ k + 1
+    one_further k = omega arith
+
+step_by_step : (P : ℕ → Type 0) (from place rest : ℕ) → place ≡ from + rest → ((k : ℕ) → from ≤ k → k < place → P k → P (k + 1)) → P from → P place
+step_by_step P from place zero e step h = subst P (no_more from place e) h
+  where
+    no_more : (from place : ℕ) → place ≡ from + 0 → from ≡ place
+    no_more from place e = omega (arith, e)
+step_by_step P from place (suc rest) e step h =
+    step_by_step P (from + 1) place rest (omega (arith, e)) (λ k low high. step k (omega (arith, low)) high) (step from (omega arith) (omega (arith, e)) h)
+
+-- What a follower with which no tour of the node goes on keeps, holds at the place of the next move too.
+pub over_shut : (p : PartialTour) (demand : Demand) (next : Option Move) (from : ℕ) (P : ℕ → Type 0) (goes : GoesTo p demand next from) → ((k : ℕ) → k < length (followers p demand.allowed) → IsShut demand (with_move p (get_or (followers p demand.allowed) k (Board 0))) → P k → P (k + 1)) → P from → P goes.place
+over_shut p demand next from P goes step h =
+    let later = goes.later in
+    let within = goes.at.within in
+    step_by_step P from goes.place (goes.place - from) (omega (arith, later)) (λ k low high. step k (omega (arith, high, within)) (goes.shut k low high)) h

@@ -6,11 +6,12 @@ use Rattle.std.specs.Prelude.{ℤ, ◌≤ℤ◌, int_lt}
 use Rattle.std.proofs.lemmas.Int.{ints}
 use Rattle.call_sets.specs.Counting.{has}
 use Rattle.elevator_model.specs.declared.Move.{Move}
-use Rattle.elevator_model.specs.Partial.{Course, boards_allowed}
+use Rattle.elevator_model.specs.Partial.{Course, boards_allowed, move_on, move_on_from}
 use Rattle.search_model.specs.Orders.{AreAllowed}
-use Rattle.partial_tours.specs.PartialTour.{PartialTour, with_move}
+use Rattle.partial_tours.specs.PartialTour.{PartialTour, course, with_move}
+use Rattle.partial_tours.proofs.Follow.{course_more}
 use Rattle.tour_extension.specs.declared.demands.Demand.{Demand}
-use Rattle.pricing_bound.specs.Aims.{Aim, AimsAt, IsNextMove}
+use Rattle.pricing_bound.specs.Aims.{Aim, AimsAt, HasReached, IsNextMove}
 use Rattle.kept_tours.specs.Walking.{IsWalking, IsOpen, MayFollow}
 
 pub allowed_more : (allowed : ℕ → Bool) (ms : List Move) (m : Move) → AreAllowed allowed ms → boards_allowed allowed m ≡ true → AreAllowed allowed (ms ++ m ∷ [])
@@ -43,3 +44,20 @@ back_again (Some n) p q r m e h = with_move-same p q m n (sym e ∙ h)
 
 pub not_below : (b worth : ℤ) → worth ≤ℤ b → int_lt b worth ≡ false
 not_below b worth le = grind (arith, ints)
+
+-- where a partial tour with one move more leads
+pub moved_on : (t : PartialTour) (m : Move) (x y : Course) → course t ≡ Some x → course (with_move t m) ≡ Some y → move_on t.snapshot t.car x m ≡ Some y
+moved_on t m x y here there = sym (course_more t.snapshot t.car t.moves m ∙ ap (λ (o : Option Course). move_on_from t.snapshot t.car o m) here) ∙ there
+
+-- a partial tour that some tour begins with, and what stands there, reach it
+pub reached_there : (a : Aim) (stands : Course → Type 0) (demand : Demand) (t : PartialTour) → IsWalking a demand t → IsOpen stands demand t → HasReached a stands t
+reached_there a stands demand t w o = record {
+  there = o.at;
+  leads = o.leads;
+  stands_there = o.stands_there;
+  may = subst (λ (allowed : ℕ → Bool). AreAllowed allowed t.moves) (sym (ap (λ (b : Aim). b.allowed) w.aim)) w.may;
+}
+
+-- what departs from there is open there too
+pub departs_there : (stands departs : Course → Type 0) (demand : Demand) (t : PartialTour) → IsOpen stands demand t → ((x : Course) → course t ≡ Some x → departs x) → IsOpen departs demand t
+departs_there stands departs demand t o h = record { at = o.at; leads = o.leads; stands_there = h o.at o.leads; extends = o.extends }

@@ -1,7 +1,9 @@
 //! One step of a walk over the kept partial tours of a car.
 
-ghost use Rattle.std.specs.Prelude.{◌≡◌, IfSome, None};
-ghost use Rattle.partial_tours.specs.PartialTour.{with_move};
+ghost use Rattle.std.specs.Prelude.{◌≡◌, ◌≤ℤ◌, IfSome, None, Some, true};
+ghost use Rattle.elevator_model.specs.Partial.{Course, move_on};
+ghost use Rattle.partial_tours.specs.PartialTour.{course, with_move};
+ghost use Rattle.pricing_bound.specs.Aims.{AimsAt, IsNextMove};
 ghost use Rattle.kept_tours.specs.Walking.{IsWalking, IsNotKept, IsOpen, MayFollow};
 
 use elevator_model::Move;
@@ -9,18 +11,59 @@ use partial_tours::Prefix;
 use pricing_bound::CompletionBound;
 use tour_extension::{Demand, can_be_extended};
 
+/// Whether the move is a leave, and no leave leads to a bound below the worth.
+fn departs_in_vain<B: CompletionBound>(
+    bound: &B,
+    departure: &B::Departure,
+    next: Move,
+    worth: i128,
+) -> bool
+    ensures { result ≡ true → (x y : Course) → B.departs bound.now departure.now x
+        → move_on (B.aim bound.now).snapshot (B.aim bound.now).car x next ≡ Some y
+        → worth ≤ℤ B.bound bound.now y }
+{
+    match next {
+        Move::Leave(_) => bound.least_value(departure) >= worth,
+        Move::Board(_) | Move::End => false,
+    }
+}
+
+/// The sums after a move: after a leave from the departure, which has left out what no leave needs.
+fn sums_after<B: CompletionBound>(
+    bound: &B,
+    prefix: &Prefix,
+    sums: &B::Sums,
+    departure: &B::Departure,
+    next: Move,
+) -> B::Sums
+    requires for_it { AimsAt (B.aim bound.now) prefix.now }
+    requires leads { IsNextMove (B.aim bound.now) (B.stands bound.now sums.now) prefix.now next }
+    requires departs { IsNextMove (B.aim bound.now) (B.departs bound.now departure.now) prefix.now
+        next }
+    ensures { (y : Course) → course (with_move prefix.now next) ≡ Some y
+        → B.stands bound.now result y }
+{
+    match next {
+        Move::Leave(floor) => bound.arrive(prefix, departure, floor),
+        Move::Board(_) | Move::End => bound.after(prefix, sums, next),
+    }
+}
+
 /// Makes one move more where it leads to a partial tour that is kept for the worth, and gives the sums there. For any
-/// other it gives None and makes no move. The bound is tested first, since that needs no move.
+/// other it gives None and makes no move. The bound is tested first, since that needs no move; a leave is tested by the
+/// departure before.
 pub fn step_below<B: CompletionBound>(
     bound: &B,
     demand: &Demand,
     prefix: &mut Prefix,
     sums: &B::Sums,
+    departure: &B::Departure,
     next: Move,
     worth: i128,
 ) -> Option<B::Sums>
     requires walking { IsWalking (B.aim bound.now) demand.now prefix.old }
     requires stands { IsOpen (B.stands bound.now sums.now) demand.now prefix.old }
+    requires departs { IsOpen (B.departs bound.now departure.now) demand.now prefix.old }
     requires next { MayFollow demand.now prefix.old next }
     ensures made { IfSome result (λ sums. (prefix.new ≡ with_move prefix.old next)
         × IsWalking (B.aim bound.now) demand.now prefix.new
@@ -28,7 +71,10 @@ pub fn step_below<B: CompletionBound>(
     ensures none { result ≡ None → (prefix.new ≡ prefix.old)
         × IsNotKept demand.now (B.bound bound.now) worth (with_move prefix.old next) }
 {
-    let sums = bound.after(prefix, sums, next);
+    if departs_in_vain(bound, departure, next, worth) {
+        return None;
+    }
+    let sums = sums_after(bound, prefix, sums, departure, next);
     if bound.value(&sums) >= worth {
         return None;
     }

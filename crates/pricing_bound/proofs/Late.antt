@@ -1,5 +1,5 @@
 -- After a stop the doors are open no sooner than those of any car that stands at the snapshot's moment.
-use Rattle.std.proofs.Common.{◌≡◌, ℕ, ◌<◌, true, false, List, [], ◌∷◌, refl, sym, subst, arith, Option, Some}
+use Rattle.std.proofs.Common.{◌≡◌, ℕ, ◌<◌, ◌≤◌, true, false, List, [], ◌∷◌, refl, sym, subst, arith, Option, Some}
 use Rattle.std.proofs.lemmas.Bool.{false≢true}
 use Rattle.elevator_model.specs.declared.Stop.{Stop}
 use Rattle.elevator_model.specs.declared.Move.{Move}
@@ -13,7 +13,7 @@ use Rattle.partial_tours.proofs.Follow.{leave_leads_to, board_leads_to, ending_l
 use Rattle.partial_tours.proofs.Tallied.{arrives_late}
 use Rattle.tour_rules.proofs.Sound.{leads_on}
 use Rattle.pricing_bound.specs.Running.{IsAfterNow}
-use Rattle.pricing_bound.specs.Standing.{IsPlaced, IsStanding, placed_reached, standing_move, standing_start}
+use Rattle.pricing_bound.specs.Standing.{IsPlaced, IsStanding, course_standing, placed_reached, standing_move, standing_start}
 
 -- a car that made a stop, and one that made none
 pub record IsLate (s : Snapshot) (c : ℕ) (p : Progress) : Type 0 where
@@ -54,6 +54,13 @@ late_moves s c x (m ∷ ms) y a b h late leads =
 
 course_late : (s : Snapshot) (c : ℕ) (moves : List Move) (x : Course) → IsAccepted s → c < car_count s → course_of s c moves ≡ Some x → IsLate s c (reached s c x)
 course_late s c moves x a b leads = late_moves s c (course_start s c) moves x a b (standing_start s c a b) (record { opens = λ e. absurd (false≢true e); leaves = λ e. refl }) leads
+
+-- a car that made a stop departs later still
+pub departs_after_now : (s : Snapshot) (c : ℕ) (moves : List Move) (x : Course) → IsAccepted s → c < car_count s → course_of s c moves ≡ Some x → (reached s c x).begun ≡ true → s.moment ≤ (reached s c x).leaves
+departs_after_now s c moves x a b leads begun =
+    let opens = (course_late s c moves x a b leads).opens begun in
+    let timely = (placed_reached s c x (course_standing s c moves x a b leads)).timely in
+    omega (arith, opens, timely)
 
 -- where the car has just gone
 pub left_after_now : (s : Snapshot) (c : ℕ) (moves : List Move) (x : Course) (g : ℕ) (y : Course) → IsAccepted s → c < car_count s → course_of s c moves ≡ Some y → move_on s c x (Leave g) ≡ Some y → IsAfterNow s c (reached s c y)

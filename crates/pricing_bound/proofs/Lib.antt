@@ -6,3 +6,4 @@ pub mod WaitingLemmas
 pub mod RunningLemmas
 pub mod CarriedLemmas
 pub mod SteadyLemmas
+pub mod NearLemmas

@@ -1,6 +1,6 @@
 -- How running sums go from move to move.
-use Rattle.std.proofs.Common.{◌≡◌, ◌==◌, ℕ, ◌+◌, ◌^◌, eqb, ◌<◌, ◌≤◌, Bool, true, false, cond, not, ◌&&◌, ◌||◌, ltb, List, [], ◌∷◌, ◌++◌, length, refl, sym, ap, ◌∙◌, subst, arith, Option, Some, None}
-use Rattle.std.specs.Prelude.{ℤ, pos, ◌+ℤ◌, ◌-ℤ◌, ◌≤ℤ◌, int_lt}
+use Rattle.std.proofs.Common.{◌≡◌, ◌==◌, ℕ, ◌+◌, ◌*◌, ◌^◌, eqb, ◌<◌, ◌≤◌, Bool, true, false, cond, not, ◌&&◌, ◌||◌, ltb, List, [], ◌∷◌, ◌++◌, length, refl, sym, ap, ◌∙◌, subst, arith, Option, Some, None}
+use Rattle.std.specs.Prelude.{ℤ, pos, neg_ℤ, ◌+ℤ◌, ◌-ℤ◌, ◌≤ℤ◌, int_lt}
 use Rattle.std.proofs.lemmas.Int.{ints}
 use Rattle.std.proofs.lemmas.Bool.{and_right, or_right, false≢true, eqb-true, eq-eqb, both_ways, lt-ltb}
 use Rattle.elevator_model.specs.declared.Stop.{Stop}
@@ -10,11 +10,11 @@ use Rattle.call_sets.specs.Counting.{has}
 use Rattle.call_sets.proofs.Sums.{sum_below-same, sum_below-add}
 use Rattle.elevator_model.specs.Building.{floor_count}
 use Rattle.elevator_model.specs.Travel.{time_between}
-use Rattle.elevator_model.specs.Snapshot.{Snapshot, IsAccepted, car_count, call_count}
+use Rattle.elevator_model.specs.Snapshot.{Snapshot, IsAccepted, car_count, call_count, is_coming, spec_of, state_of}
 use Rattle.elevator_model.specs.Tours.{Progress, boards_at, destination_of, gets_off, make_stop, rider_count, start_of, after_stops}
 use Rattle.elevator_model.specs.Costs.{cost_of_rider, settled_cost, cost_of}
 use Rattle.elevator_model.specs.Plans.{is_boarded_in}
-use Rattle.elevator_model.specs.Partial.{Course, course_start, course_of, moves_on, move_on, progress_after}
+use Rattle.elevator_model.specs.Partial.{Course, course_start, course_of, may_stand, moves_on, move_on, progress_after}
 use Rattle.price_scale.specs.Scale.{IsPrice, IsPriceSum}
 use Rattle.search_model.specs.Sums.{int_sum_below, int_sum_where}
 use Rattle.search_model.specs.Orders.{AreAllowed}
@@ -24,18 +24,19 @@ use Rattle.search_model.proofs.SumLemmas.{int_sum-same, int_sum-zero}
 use Rattle.partial_tours.specs.Courses.{reached, empty_stop, with_call_on}
 use Rattle.partial_tours.specs.PartialTour.{PartialTour, course, with_move}
 use Rattle.partial_tours.proofs.Boarded.{boarded_in}
+use Rattle.partial_tours.proofs.Next.{stands_empty}
 use Rattle.partial_tours.proofs.Follow.{leave_leads_to, board_leads_to, ending_leads_to, last_move, stands_in}
 use Rattle.tour_rules.proofs.RiderSums.{is_aboard-call}
 use Rattle.tour_rules.specs.Leaving.{IsKept}
 use Rattle.tour_rules.proofs.Settled.{settled_start, settled_more_once}
 use Rattle.tour_rules.proofs.Sound.{IsSound-moves, IsSound-start, leads_on}
 use Rattle.pricing_bound.specs.declared.straight.Sums.{Sums}
-use Rattle.pricing_bound.specs.Aims.{Aim, AimsAt, IsBoundSize, IsNextMove, value_for}
+use Rattle.pricing_bound.specs.Aims.{Aim, AimsAt, IsBoundSize, IsNextMove, completion_bound_for, value_for}
 use Rattle.pricing_bound.specs.Parts.{group_part}
 use Rattle.pricing_bound.specs.Rates.{term_at, counts_at, adds_at}
-use Rattle.pricing_bound.specs.Running.{AreSums, AreEven, StandFor, is_counted, cost_of_rides, standing_at}
+use Rattle.pricing_bound.specs.Running.{AreDeparting, AreSums, AreEven, StandFor, is_counted, is_counted_at, cost_of_rides, standing_at}
 use Rattle.pricing_bound.specs.Costs.{int_sum_one_off}
-use Rattle.pricing_bound.specs.GrowthLemmas.{Boards, boards_now, board_adds, board_settles, no_boards, or_none, term-later, paid_here}
+use Rattle.pricing_bound.specs.GrowthLemmas.{Boards, boards_now, board_adds, board_settles, bound_departing, departs_below, grows_on, no_boards, or_none, term-later, paid_here, waits_until}
 use Rattle.pricing_bound.specs.LowerLemmas.{allowed_rest}
 use Rattle.pricing_bound.proofs.PartLemmas.{rides_apart}
 use Rattle.pricing_bound.proofs.Sizes.{bound_size, prices_size}
@@ -217,56 +218,148 @@ settles_over s c p g a kept to =
     let parts = sum_below-add (rider_count s) (λ r. cond (gets_off s p g r) (cost_of_rider s r (p.boarded_at r) q.opened) 0) (λ r. cond (q.carried r) (cost_if_straight s q r) 0) in
     omega (arith, settled, each, parts)
 
-leave_core : (a : Aim) (p : Progress) (g : ℕ) (sums new : Sums) (settled carried : ℕ) (waiting : ℤ) → p.opened ≤ (make_stop a.snapshot a.car p (empty_stop g)).opened → AreSums a sums p → settled + carried ≡ settled_cost a.snapshot a.car (make_stop a.snapshot a.car p (empty_stop g)) + cost_of_rides a.snapshot (make_stop a.snapshot a.car p (empty_stop g)) → waiting ≡ int_sum_where (call_count a.snapshot) (has sums.waiting.counted) (adds_at a (make_stop a.snapshot a.car p (empty_stop g)).opened) → new.bound ≡ (((scaled settled +ℤ scaled carried) -ℤ sums.paid) +ℤ waiting) → new.paid ≡ sums.paid → ((k : ℕ) → has new.waiting.counted k ≡ (has sums.waiting.counted k && counts_at a (make_stop a.snapshot a.car p (empty_stop g)).opened k)) → AreEven a new.waiting → new.waiting.moment ≡ (make_stop a.snapshot a.car p (empty_stop g)).opened → IsBoundSize (bound_after a.snapshot a.car a.price a.allowed a.required (make_stop a.snapshot a.car p (empty_stop g))) → AreSums a new (make_stop a.snapshot a.car p (empty_stop g))
-leave_core a p g sums new settled carried waiting later old both_are waiting_is bound paid counted are opened small =
+sums_together : (new : ℤ) (settled carried settled' carried' : ℕ) (paid waiting paid' waiting' : ℤ) → new ≡ (((scaled settled +ℤ scaled carried) -ℤ paid) +ℤ waiting) → settled + carried ≡ settled' + carried' → paid ≡ paid' → waiting ≡ waiting' → new ≡ (((scaled settled' +ℤ scaled carried') -ℤ paid') +ℤ waiting')
+sums_together new settled carried settled' carried' paid waiting paid' waiting' e f h i = omega (arith, ints, e, f, h, i)
+
+leave_core : (a : Aim) (x : Course) (g : ℕ) (sums new : Sums) (settled carried : ℕ) (waiting : ℤ) → let p = reached a.snapshot a.car x in sums.waiting.moment ≤ (make_stop a.snapshot a.car p (empty_stop g)).opened → AreDeparting a sums x → settled + carried ≡ settled_cost a.snapshot a.car (make_stop a.snapshot a.car p (empty_stop g)) + cost_of_rides a.snapshot (make_stop a.snapshot a.car p (empty_stop g)) → waiting ≡ int_sum_where (call_count a.snapshot) (has sums.waiting.counted) (adds_at a (make_stop a.snapshot a.car p (empty_stop g)).opened) → new.bound ≡ (((scaled settled +ℤ scaled carried) -ℤ sums.paid) +ℤ waiting) → new.paid ≡ sums.paid → ((k : ℕ) → has new.waiting.counted k ≡ (has sums.waiting.counted k && counts_at a (make_stop a.snapshot a.car p (empty_stop g)).opened k)) → AreEven a new.waiting → new.waiting.moment ≡ (make_stop a.snapshot a.car p (empty_stop g)).opened → IsBoundSize (bound_after a.snapshot a.car a.price a.allowed a.required (make_stop a.snapshot a.car p (empty_stop g))) → AreSums a new (make_stop a.snapshot a.car p (empty_stop g))
+leave_core a x g sums new settled carried waiting later old both_are waiting_is bound paid counted are opened small =
     let s = a.snapshot in
     let c = a.car in
+    let p = reached s c x in
     let q = make_stop s c p (empty_stop g) in
-    let terms = λ (k : ℕ). term-later s a.price k p.opened q.opened later in
+    let m = sums.waiting.moment in
+    let terms = λ (k : ℕ). term-later s a.price k m q.opened later in
     let same_paid = int_sum-same (call_count s) (λ j. cond (q.boarded j) (a.price j) (pos 0)) (λ j. cond (p.boarded j) (a.price j) (pos 0)) (λ j b. ap (λ (x : Bool). cond x (a.price j) (pos 0)) (or_none (p.boarded j) (boards_at s (empty_stop g) j) (no_boards s g j))) in
-    let same_waiting = int_sum-same (call_count s) (λ j. cond (has sums.waiting.counted j) (adds_at a q.opened j) (pos 0)) (λ j. cond (a.allowed j && not (q.boarded j)) (waiting_term s a.price a.required q j) (pos 0)) (λ j b. ap (λ (v : Bool). cond v (adds_at a q.opened j) (pos 0)) (old.counted j) ∙ adds_later (ltb j (call_count s)) (a.allowed j) (p.boarded j) (boards_at s (empty_stop g) j) (a.required j) (term_at a p.opened j) (term_at a q.opened j) (lt-ltb j (call_count s) b) (no_boards s g j) (terms j)) in
+    let same_waiting = int_sum-same (call_count s) (λ j. cond (has sums.waiting.counted j) (adds_at a q.opened j) (pos 0)) (λ j. cond (a.allowed j && not (q.boarded j)) (waiting_term s a.price a.required q j) (pos 0)) (λ j b. ap (λ (v : Bool). cond v (adds_at a q.opened j) (pos 0)) (old.counted j) ∙ adds_later (ltb j (call_count s)) (a.allowed j) (p.boarded j) (boards_at s (empty_stop g) j) (a.required j) (term_at a m j) (term_at a q.opened j) (lt-ltb j (call_count s) b) (no_boards s g j) (terms j)) in
     let paid_is : new.paid ≡ int_sum_where (call_count s) q.boarded a.price = paid ∙ old.paid ∙ sym same_paid in
-    let new_is = together new.bound settled carried (settled_cost s c q) (cost_of_rides s q) sums.paid waiting (int_sum_where (call_count s) q.boarded a.price) (int_sum_where (call_count s) (λ j. a.allowed j && not (q.boarded j)) (waiting_term s a.price a.required q)) bound both_are (old.paid ∙ sym same_paid) (waiting_is ∙ same_waiting) in
+    let new_is = sums_together new.bound settled carried (settled_cost s c q) (cost_of_rides s q) sums.paid waiting (int_sum_where (call_count s) q.boarded a.price) (int_sum_where (call_count s) (λ j. a.allowed j && not (q.boarded j)) (waiting_term s a.price a.required q)) bound both_are (old.paid ∙ sym same_paid) (waiting_is ∙ same_waiting) in
     record {
       bound = new_is;
       small = subst IsBoundSize (sym new_is) small;
       paid = paid_is;
       paid_small = subst IsPriceSum (sym paid) old.paid_small;
-      counted = λ k. counted k ∙ ap (λ (v : Bool). v && counts_at a q.opened k) (old.counted k) ∙ counted_later (ltb k (call_count s)) (a.allowed k) (p.boarded k) (boards_at s (empty_stop g) k) (a.required k) (term_at a p.opened k) (term_at a q.opened k) (no_boards s g k) (terms k);
+      counted = λ k. counted k ∙ ap (λ (v : Bool). v && counts_at a q.opened k) (old.counted k) ∙ counted_later (ltb k (call_count s)) (a.allowed k) (p.boarded k) (boards_at s (empty_stop g) k) (a.required k) (term_at a m k) (term_at a q.opened k) (no_boards s g k) (terms k);
       waiting = are;
       opened = opened;
     }
-  where
-    together : (new : ℤ) (settled carried settled' carried' : ℕ) (paid waiting paid' waiting' : ℤ) → new ≡ (((scaled settled +ℤ scaled carried) -ℤ paid) +ℤ waiting) → settled + carried ≡ settled' + carried' → paid ≡ paid' → waiting ≡ waiting' → new ≡ (((scaled settled' +ℤ scaled carried') -ℤ paid') +ℤ waiting')
-    together new settled carried settled' carried' paid waiting paid' waiting' e f h i = omega (arith, ints, e, f, h, i)
 
-pub leave_sums : (a : Aim) (t : PartialTour) (sums new : Sums) (g : ℕ) (y : Course) (settled carried opened : ℕ) (waiting : ℤ) → AimsAt a t → (last : IsLastMove a (StandFor a sums) t (Leave g)) → IsAccepted a.snapshot → a.car < car_count a.snapshot → ((k : ℕ) → IsPrice (a.price k)) → course t ≡ Some y → settled_cost t.snapshot t.car (reached t.snapshot t.car y) ≤ 10 ^ 18 → opened ≡ (reached t.snapshot t.car y).opened → settled ≡ settled_cost t.snapshot t.car (reached t.snapshot t.car last.before) → carried ≡ cost_of_rides t.snapshot (standing_at (reached t.snapshot t.car last.before) g opened) → waiting ≡ int_sum_where (call_count a.snapshot) (has sums.waiting.counted) (adds_at a opened) → new.bound ≡ (((scaled settled +ℤ scaled carried) -ℤ sums.paid) +ℤ waiting) → new.paid ≡ sums.paid → ((k : ℕ) → has new.waiting.counted k ≡ (has sums.waiting.counted k && counts_at a opened k)) → AreEven a new.waiting → new.waiting.moment ≡ opened → StandFor a new y
+pub leave_sums : (a : Aim) (t : PartialTour) (sums new : Sums) (g : ℕ) (y : Course) (settled carried opened : ℕ) (waiting : ℤ) → AimsAt a t → (last : IsLastMove a (AreDeparting a sums) t (Leave g)) → IsAccepted a.snapshot → a.car < car_count a.snapshot → ((k : ℕ) → IsPrice (a.price k)) → course t ≡ Some y → settled_cost t.snapshot t.car (reached t.snapshot t.car y) ≤ 10 ^ 18 → opened ≡ (reached t.snapshot t.car y).opened → settled ≡ settled_cost t.snapshot t.car (reached t.snapshot t.car last.before) → carried ≡ cost_of_rides t.snapshot (standing_at (reached t.snapshot t.car last.before) g opened) → waiting ≡ int_sum_where (call_count a.snapshot) (has sums.waiting.counted) (adds_at a opened) → new.bound ≡ (((scaled settled +ℤ scaled carried) -ℤ sums.paid) +ℤ waiting) → new.paid ≡ sums.paid → ((k : ℕ) → has new.waiting.counted k ≡ (has sums.waiting.counted k && counts_at a opened k)) → AreEven a new.waiting → new.waiting.moment ≡ opened → StandFor a new y
 leave_sums a t sums new g y settled carried opened waiting aims last accepted car prices leads small opened_is settled_is carried_is waiting_is bound paid counted are moment =
     let s = a.snapshot in
     let c = a.car in
     let x = last.before in
     let p = reached s c x in
     let q = make_stop s c p (empty_stop g) in
-    let step = step_of a (StandFor a sums) t (Leave g) y aims last leads in
+    let step = step_of a (AreDeparting a sums) t (Leave g) y aims last leads in
     let placed = placed_reached s c x (course_standing s c last.moves x accepted car step.front) in
     let at = leave_leads_to s c x g y step.leads in
-    let arrives = arrives_after s c p g accepted placed at.1 in
+    let later = subst (λ (z : Course). sums.waiting.moment ≤ (reached s c z).opened) at.2 (last.stands_before.early g y step.leads) in
     let opened_there : opened ≡ q.opened = subst (λ (z : Course). opened ≡ (reached s c z).opened) at.2 (aimed_at a t (λ s c. opened ≡ (reached s c y).opened) aims opened_is) in
     let settled_here = aimed_at a t (λ s c. settled ≡ settled_cost s c (reached s c x)) aims settled_is in
     let carried_here = aimed_at a t (λ s c. carried ≡ cost_of_rides s (standing_at (reached s c x) g opened)) aims carried_is ∙ ap (λ (m : ℕ). cost_of_rides s (standing_at p g m)) opened_there in
     let over = settles_over s c p g accepted placed.kept (stands_in s c p g at.1) in
     let size = bound_size s c a.price a.allowed a.required t.moves y accepted car prices step.whole (aimed_at a t (λ s c. settled_cost s c (reached s c y) ≤ 10 ^ 18) aims small) in
-    subst (λ (z : Course). AreSums a new (reached s c z)) (sym at.2) (leave_core a p g sums new settled carried waiting (omega (arith, arrives)) last.stands_before (omega (arith, settled_here, carried_here, over)) (waiting_is ∙ ap (λ (m : ℕ). int_sum_where (call_count s) (has sums.waiting.counted) (adds_at a m)) opened_there) bound paid (λ k. counted k ∙ ap (λ (m : ℕ). has sums.waiting.counted k && counts_at a m k) opened_there) are (moment ∙ opened_there) (subst (λ (z : Course). IsBoundSize (bound_after s c a.price a.allowed a.required (reached s c z))) at.2 size))
+    subst (λ (z : Course). AreSums a new (reached s c z)) (sym at.2) (leave_core a x g sums new settled carried waiting later last.stands_before (omega (arith, settled_here, carried_here, over)) (waiting_is ∙ ap (λ (m : ℕ). int_sum_where (call_count s) (has sums.waiting.counted) (adds_at a m)) opened_there) bound paid (λ k. counted k ∙ ap (λ (m : ℕ). has sums.waiting.counted k && counts_at a m k) opened_there) are (moment ∙ opened_there) (subst (λ (z : Course). IsBoundSize (bound_after s c a.price a.allowed a.required (reached s c z))) at.2 size))
 
--- the doors open no sooner than they did before
-pub leaves_later : (a : Aim) (t : PartialTour) (sums : Sums) (g : ℕ) (y : Course) → AimsAt a t → IsLastMove a (StandFor a sums) t (Leave g) → IsAccepted a.snapshot → a.car < car_count a.snapshot → course t ≡ Some y → sums.waiting.moment ≤ (reached t.snapshot t.car y).opened
-leaves_later a t sums g y aims last accepted car leads =
-    let step = step_of a (StandFor a sums) t (Leave g) y aims last leads in
-    let placed = placed_reached a.snapshot a.car last.before (course_standing a.snapshot a.car last.moves last.before accepted car step.front) in
-    let at = leave_leads_to a.snapshot a.car last.before g y step.leads in
-    let arrives = arrives_after a.snapshot a.car (reached a.snapshot a.car last.before) g accepted placed at.1 in
-    let opened = last.stands_before.opened in
-    aimed_from a t (λ s c. sums.waiting.moment ≤ (reached s c y).opened) aims (subst (λ (z : Course). sums.waiting.moment ≤ (reached a.snapshot a.car z).opened) (sym at.2) (omega (arith, arrives, opened)))
+-- the doors open no sooner than at the moment for which calls were counted
+pub leaves_later : (a : Aim) (t : PartialTour) (sums : Sums) (g : ℕ) (y : Course) → AimsAt a t → IsLastMove a (AreDeparting a sums) t (Leave g) → course t ≡ Some y → sums.waiting.moment ≤ (reached t.snapshot t.car y).opened
+leaves_later a t sums g y aims last leads =
+    let step = step_of a (AreDeparting a sums) t (Leave g) y aims last leads in
+    aimed_from a t (λ s c. sums.waiting.moment ≤ (reached s c y).opened) aims (last.stands_before.early g y step.leads)
+
+-- ---- a departure
+
+-- What stands departs.
+stands_departs : (a : Aim) (moves : List Move) (x : Course) (sums : Sums) → IsAccepted a.snapshot → a.car < car_count a.snapshot → course_of a.snapshot a.car moves ≡ Some x → StandFor a sums x → AreDeparting a sums x
+stands_departs a moves x sums accepted car leads h =
+    let s = a.snapshot in
+    let c = a.car in
+    let standing = course_standing s c moves x accepted car leads in
+    record {
+      least = λ g y next. subst (λ (z : ℤ). z ≤ℤ completion_bound_for a y) (sym h.bound) (grows_on s c a.price a.allowed a.required x y (Leave g) accepted standing refl next);
+      small = h.small;
+      paid = h.paid;
+      paid_small = h.paid_small;
+      counted = λ j. h.counted j ∙ ap (λ (m : ℕ). is_counted_at a (reached s c x) m j) (sym h.opened);
+      waiting = h.waiting;
+      early = λ g y next.
+          let at = leave_leads_to s c x g y next in
+          let arrives = arrives_after s c (reached s c x) g accepted (placed_reached s c x standing) at.1 in
+          let opened = h.opened in
+          subst (λ (z : Course). sums.waiting.moment ≤ (reached s c z).opened) (sym at.2) (omega (arith, arrives, opened));
+    }
+
+pub stands_departs_there : (a : Aim) (t : PartialTour) (sums : Sums) (x : Course) → AimsAt a t → IsAccepted a.snapshot → a.car < car_count a.snapshot → course t ≡ Some x → StandFor a sums x → AreDeparting a sums x
+stands_departs_there a t sums x aims accepted car leads h = stands_departs a t.moves x sums accepted car (aimed_course a t t.moves aims ∙ leads) h
+
+-- the doors at a next stop after the first one
+begun_opens : (s : Snapshot) (c : ℕ) (p : Progress) (g : ℕ) → p.begun ≡ true → (make_stop s c p (empty_stop g)).opened ≡ p.leaves + time_between s.building.travel p.floor g + (spec_of s c).opening
+begun_opens s c p g begun = ap (λ (b : Bool). cond (b || not (is_coming (state_of s c))) (p.leaves + time_between s.building.travel p.floor g) p.leaves + (spec_of s c).opening) begun
+
+-- which is at another floor
+goes_elsewhere : (s : Snapshot) (c : ℕ) (p : Progress) (g : ℕ) → p.begun ≡ true → may_stand s c p (empty_stop g) ≡ true → g ≡ p.floor → ⊥
+goes_elsewhere s c p g begun stands same = both_ways (p.begun && (g == p.floor)) (stands_empty s c p g stands).elsewhere (ap (λ (b : Bool). b && (g == p.floor)) begun ∙ eq-eqb g p.floor same)
+
+-- what calls add that wait until the moment w, of those that were counted before
+waits_still : (a : Aim) (p : Progress) (calls m w : ℕ) → m ≤ w → ((j : ℕ) → has calls j ≡ is_counted_at a p m j) → int_sum_where (call_count a.snapshot) (has calls) (adds_at a w) ≡ int_sum_where (call_count a.snapshot) (λ j. a.allowed j && not (p.boarded j)) (waits_until a.snapshot a.price a.required w)
+waits_still a p calls m w later counted =
+    let s = a.snapshot in
+    int_sum-same (call_count s) (λ j. cond (has calls j) (adds_at a w j) (pos 0)) (λ j. cond (a.allowed j && not (p.boarded j)) (waits_until s a.price a.required w j) (pos 0)) (λ j b. ap (λ (v : Bool). cond v (adds_at a w j) (pos 0)) (counted j) ∙ adds_later (ltb j (call_count s)) (a.allowed j) (p.boarded j) false (a.required j) (term_at a m j) (term_at a w j) (lt-ltb j (call_count s) b) refl (term-later s a.price j m w later) ∙ ap (λ (v : Bool). cond (a.allowed j && not v) (waits_until s a.price a.required w j) (pos 0)) (or_none (p.boarded j) false refl))
+
+counted_still : (a : Aim) (p : Progress) (m w j : ℕ) → m ≤ w → (is_counted_at a p m j && counts_at a w j) ≡ is_counted_at a p w j
+counted_still a p m w j later =
+    let s = a.snapshot in
+    counted_later (ltb j (call_count s)) (a.allowed j) (p.boarded j) false (a.required j) (term_at a m j) (term_at a w j) refl (term-later s a.price j m w later) ∙ ap (λ (v : Bool). ((ltb j (call_count s) && a.allowed j) && not v) && counts_at a w j) (or_none (p.boarded j) false refl)
+
+-- the car departs no sooner than at the moment for which calls were counted
+pub departs_later : (a : Aim) (t : PartialTour) (sums : Sums) (x : Course) → AimsAt a t → IsAccepted a.snapshot → a.car < car_count a.snapshot → course t ≡ Some x → StandFor a sums x → sums.waiting.moment ≤ (reached t.snapshot t.car x).leaves
+departs_later a t sums x aims accepted car leads h =
+    let opened = h.opened in
+    let timely = (placed_reached a.snapshot a.car x (course_standing a.snapshot a.car t.moves x accepted car (aimed_course a t t.moves aims ∙ leads))).timely in
+    aimed_from a t (λ s c. sums.waiting.moment ≤ (reached s c x).leaves) aims (omega (arith, opened, timely))
+
+pub departing_size : (new paid waiting : ℤ) (settled carried : ℕ) → new ≡ (((scaled settled +ℤ scaled carried) -ℤ paid) +ℤ waiting) → settled ≤ 10 ^ 18 → carried ≤ 10 ^ 18 → IsPriceSum paid → neg_ℤ (pos (256 * 10 ^ 24)) ≤ℤ waiting → waiting ≤ℤ pos (256 * 10 ^ 24) → IsBoundSize new
+departing_size new paid waiting settled carried is small light paid_small low high =
+    let paid_low = paid_small.0 in
+    let paid_high = paid_small.1 in
+    (omega (arith, ints, is, small, light, paid_low, paid_high, low, high), omega (arith, ints, is, small, light, paid_low, paid_high, low, high))
+
+-- The sums of a car that departs with its doors open at the moment `opened`, if the way took no time, and counts calls at
+-- the moment w, at which it could be at no other floor before.
+pub departing_sums : (a : Aim) (t : PartialTour) (x : Course) (sums new : Sums) (settled carried opened w : ℕ) (waiting : ℤ) → AimsAt a t → IsAccepted a.snapshot → a.car < car_count a.snapshot → course t ≡ Some x → StandFor a sums x → (reached t.snapshot t.car x).begun ≡ true → opened ≡ (reached t.snapshot t.car x).leaves + (spec_of a.snapshot a.car).opening → ((g : ℕ) → g < floor_count a.snapshot.building → (g ≡ (reached a.snapshot a.car x).floor → ⊥) → w ≤ opened + time_between a.snapshot.building.travel (reached a.snapshot a.car x).floor g) → opened ≤ w → settled ≡ settled_cost t.snapshot t.car (reached t.snapshot t.car x) → carried ≡ cost_of_rides t.snapshot (standing_at (reached t.snapshot t.car x) (reached t.snapshot t.car x).floor opened) → waiting ≡ int_sum_where (call_count a.snapshot) (has sums.waiting.counted) (adds_at a w) → new.bound ≡ (((scaled settled +ℤ scaled carried) -ℤ sums.paid) +ℤ waiting) → IsBoundSize new.bound → new.paid ≡ sums.paid → ((k : ℕ) → has new.waiting.counted k ≡ (has sums.waiting.counted k && counts_at a w k)) → AreEven a new.waiting → new.waiting.moment ≡ w → AreDeparting a new x
+departing_sums a t x sums new settled carried opened w waiting aims accepted car leads h begun_there opened_there near late settled_is carried_is waiting_is bound small paid counted are moment =
+    let s = a.snapshot in
+    let c = a.car in
+    let p = reached s c x in
+    let placed = placed_reached s c x (course_standing s c t.moves x accepted car (aimed_course a t t.moves aims ∙ leads)) in
+    let begun = aimed_at a t (λ s c. (reached s c x).begun ≡ true) aims begun_there in
+    let opens = aimed_at a t (λ s' c'. opened ≡ (reached s' c' x).leaves + (spec_of s c).opening) aims opened_there in
+    let settled_here = aimed_at a t (λ s c. settled ≡ settled_cost s c (reached s c x)) aims settled_is in
+    let carried_here = aimed_at a t (λ s c. carried ≡ cost_of_rides s (standing_at (reached s c x) (reached s c x).floor opened)) aims carried_is in
+    let was = h.opened in
+    let timely = placed.timely in
+    let later : sums.waiting.moment ≤ w = omega (arith, was, timely, opens, late) in
+    let old = λ (j : ℕ). h.counted j ∙ ap (λ (m : ℕ). is_counted_at a p m j) (sym h.opened) in
+    let still = waits_still a p sums.waiting.counted sums.waiting.moment w later old in
+    let bound_is : new.bound ≡ bound_departing s c a.price a.allowed a.required p opened w = sums_together new.bound settled carried (settled_cost s c p) (cost_of_rides s (standing_at p p.floor opened)) sums.paid waiting (int_sum_where (call_count s) p.boarded a.price) (int_sum_where (call_count s) (λ j. a.allowed j && not (p.boarded j)) (waits_until s a.price a.required w)) bound (omega (arith, settled_here, carried_here)) h.paid (waiting_is ∙ still) in
+    record {
+      least = λ g y next.
+          let at = leave_leads_to s c x g y next in
+          let doors = begun_opens s c p g begun in
+          let apart = near g (stands_in s c p g at.1) (goes_elsewhere s c p g begun at.1) in
+          let below = departs_below s c a.price a.allowed a.required p opened w g accepted placed at.1 (omega (arith, doors, opens)) (omega (arith, doors, opens, apart)) in
+          subst (λ (z : Course). new.bound ≤ℤ completion_bound_for a z) (sym at.2) (subst (λ (v : ℤ). v ≤ℤ bound_after s c a.price a.allowed a.required (make_stop s c p (empty_stop g))) (sym bound_is) below);
+      small = small;
+      paid = paid ∙ h.paid;
+      paid_small = subst IsPriceSum (sym paid) h.paid_small;
+      counted = λ j. counted j ∙ ap (λ (v : Bool). v && counts_at a w j) (old j) ∙ counted_still a p sums.waiting.moment w j later ∙ ap (λ (m : ℕ). is_counted_at a p m j) (sym moment);
+      waiting = are;
+      early = λ g y next.
+          let at = leave_leads_to s c x g y next in
+          let doors = begun_opens s c p g begun in
+          let apart = near g (stands_in s c p g at.1) (goes_elsewhere s c p g begun at.1) in
+          subst (λ (z : Course). new.waiting.moment ≤ (reached s c z).opened) (sym at.2) (omega (arith, doors, opens, apart, moment));
+    }
 
 -- ---- the end
 

@@ -33,6 +33,13 @@ pub record IsNextMove (a : Aim) (stands : Course → Type 0) (t : PartialTour) (
   pub lawful : IsLawful t.snapshot t.car (t.moves ++ next ∷ [])
   pub may : AreAllowed a.allowed (t.moves ++ next ∷ [])
 
+-- the partial tour boards allowed calls only, and something stands where it leads
+pub record HasReached (a : Aim) (stands : Course → Type 0) (t : PartialTour) : Type 0 where
+  pub there : Course
+  pub leads : course t ≡ Some there
+  pub stands_there : stands there
+  pub may : AreAllowed a.allowed t.moves
+
 -- the partial tour has ended, and something stands where it leads
 pub record HasEnded (stands : Course → Type 0) (t : PartialTour) : Type 0 where
   pub end : Course

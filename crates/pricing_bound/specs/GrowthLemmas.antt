@@ -52,8 +52,12 @@ off_or_on false d x now off on none here there = omega arith
 off_or_on true true x now off on none here there = let le = here refl in omega (arith, le)
 off_or_on true false x now off on none here there = let le = there refl in omega (arith, le)
 
-carried_on : (s : Snapshot) (c : ℕ) (p : Progress) (g r : ℕ) → IsAccepted s → IsPlaced s c p → g < floor_count s.building → p.opened + time_between s.building.travel p.floor g ≤ (make_stop s c p (empty_stop g)).opened → r < rider_count s → cond (p.carried r) (cost_if_straight s p r) 0 ≤ cond (gets_off s p g r) (cost_of_rider s r (p.boarded_at r) (make_stop s c p (empty_stop g)).opened) 0 + cond ((make_stop s c p (empty_stop g)).carried r) (cost_if_straight s (make_stop s c p (empty_stop g)) r) 0
-carried_on s c p g r a h to later b =
+-- what a rider carried costs if the car went straight to the destination from its floor at the moment m
+abbrev pub cost_straight_from : Snapshot → Progress → (m r : ℕ) → ℕ
+cost_straight_from s p m r = cost_of_rider s r (p.boarded_at r) (m + time_between s.building.travel p.floor (destination_of s r))
+
+carried_on : (s : Snapshot) (c : ℕ) (p : Progress) (m g r : ℕ) → IsAccepted s → IsPlaced s c p → g < floor_count s.building → m + time_between s.building.travel p.floor g ≤ (make_stop s c p (empty_stop g)).opened → r < rider_count s → cond (p.carried r) (cost_straight_from s p m r) 0 ≤ cond (gets_off s p g r) (cost_of_rider s r (p.boarded_at r) (make_stop s c p (empty_stop g)).opened) 0 + cond ((make_stop s c p (empty_stop g)).carried r) (cost_if_straight s (make_stop s c p (empty_stop g)) r) 0
+carried_on s c p m g r a h to later b =
     let q = make_stop s c p (empty_stop g) in
     let none = no_boards s g r in
     let floors = a.building.travel_floors in
@@ -61,7 +65,7 @@ carried_on s c p g r a h to later b =
     let ends = destination_in s r a b in
     let around = a.building.travel.triangle p.floor g (destination_of s r) (omega (arith, floors, from)) (omega (arith, floors, to)) (omega (arith, floors, ends)) in
     let boarded : q.boarded_at r ≡ p.boarded_at r = ap (λ (x : Bool). cond x q.opened (p.boarded_at r)) none in
-    off_or_on (p.carried r) (eqb (destination_of s r) g) (boards_at s (empty_stop g) r) (cost_if_straight s p r) (cost_of_rider s r (p.boarded_at r) q.opened) (cost_if_straight s q r) none (λ e. let way = ap (time_between s.building.travel p.floor) (eqb-true (destination_of s r) g e) in rider-later s r (p.boarded_at r) (p.opened + time_between s.building.travel p.floor (destination_of s r)) (p.boarded_at r) q.opened (omega arith) (omega (arith, way, later))) (λ e. rider-later s r (p.boarded_at r) (p.opened + time_between s.building.travel p.floor (destination_of s r)) (q.boarded_at r) (q.opened + time_between s.building.travel g (destination_of s r)) (omega (arith, boarded)) (omega (arith, boarded, around, later)))
+    off_or_on (p.carried r) (eqb (destination_of s r) g) (boards_at s (empty_stop g) r) (cost_straight_from s p m r) (cost_of_rider s r (p.boarded_at r) q.opened) (cost_if_straight s q r) none (λ e. let way = ap (time_between s.building.travel p.floor) (eqb-true (destination_of s r) g e) in rider-later s r (p.boarded_at r) (m + time_between s.building.travel p.floor (destination_of s r)) (p.boarded_at r) q.opened (omega arith) (omega (arith, way, later))) (λ e. rider-later s r (p.boarded_at r) (m + time_between s.building.travel p.floor (destination_of s r)) (q.boarded_at r) (q.opened + time_between s.building.travel g (destination_of s r)) (omega (arith, boarded)) (omega (arith, boarded, around, later)))
 
 -- a call that waits on costs no less
 waits_on : (a b x r : Bool) (t u : ℤ) → x ≡ false → t ≤ℤ u → cond (a && not b) (cond r t (cond (int_lt t (pos 0)) t (pos 0))) (pos 0) ≤ℤ cond (a && not (b || x)) (cond r u (cond (int_lt u (pos 0)) u (pos 0))) (pos 0)
@@ -84,17 +88,33 @@ or_none false x e = e
 gone_together : (settled straight settled' straight' off : ℕ) (paid paid' waiting waiting' : ℤ) → settled' ≡ settled + off → straight ≤ off + straight' → paid' ≡ paid → waiting ≤ℤ waiting' → (((scaled settled +ℤ scaled straight) -ℤ paid) +ℤ waiting) ≤ℤ (((scaled settled' +ℤ scaled straight') -ℤ paid') +ℤ waiting')
 gone_together settled straight settled' straight' off paid paid' waiting waiting' e le same more = omega (arith, ints, e, le, same, more)
 
-grows_leave : (s : Snapshot) (c : ℕ) (price : ℕ → ℤ) (allowed required : ℕ → Bool) (p : Progress) (g : ℕ) → IsAccepted s → IsPlaced s c p → may_stand s c p (empty_stop g) ≡ true → bound_after s c price allowed required p ≤ℤ bound_after s c price allowed required (make_stop s c p (empty_stop g))
-grows_leave s c price allowed required p g a h stands =
+-- what a call adds that waits until the moment m
+abbrev pub waits_until : Snapshot → (price : ℕ → ℤ) → (required : ℕ → Bool) → (m j : ℕ) → ℤ
+waits_until s price required m j =
+    cond (required j) (scaled (cost_if_alone s j m) -ℤ price j) (cond (int_lt (scaled (cost_if_alone s j m) -ℤ price j) (pos 0)) (scaled (cost_if_alone s j m) -ℤ price j) (pos 0))
+
+-- What is settled, what those carried cost straight from the floor at the moment m, and what calls add that wait until
+-- the moment w, without the prices of the calls that boarded.
+abbrev pub bound_departing : Snapshot → ℕ → (price : ℕ → ℤ) → (allowed required : ℕ → Bool) → Progress → (m w : ℕ) → ℤ
+bound_departing s c price allowed required p m w =
+    ((scaled (settled_cost s c p) +ℤ scaled (sum_where (rider_count s) p.carried (cost_straight_from s p m))) -ℤ int_sum_where (call_count s) p.boarded price) +ℤ int_sum_where (call_count s) (λ j. allowed j && not (p.boarded j)) (waits_until s price required w)
+
+-- It is at most the bound at a next stop, where the car could be there from the moment m on, and its doors are open no
+-- sooner than at the moment w.
+pub departs_below : (s : Snapshot) (c : ℕ) (price : ℕ → ℤ) (allowed required : ℕ → Bool) (p : Progress) (m w g : ℕ) → IsAccepted s → IsPlaced s c p → may_stand s c p (empty_stop g) ≡ true → m + time_between s.building.travel p.floor g ≤ (make_stop s c p (empty_stop g)).opened → w ≤ (make_stop s c p (empty_stop g)).opened → bound_departing s c price allowed required p m w ≤ℤ bound_after s c price allowed required (make_stop s c p (empty_stop g))
+departs_below s c price allowed required p m w g a h stands later waited =
     let q = make_stop s c p (empty_stop g) in
-    let arrives = arrives_after s c p g a h stands in
-    let later : p.opened + time_between s.building.travel p.floor g ≤ q.opened = omega (arith, arrives) in
     let settled = settled_more_once s c p (empty_stop g) h.kept (λ j boards. absurd (both_ways _ (no_boards s g j) boards)) in
-    let straight = sum_below-le (rider_count s) (λ r. cond (p.carried r) (cost_if_straight s p r) 0) (λ r. cond (gets_off s p g r) (cost_of_rider s r (p.boarded_at r) q.opened) 0 + cond (q.carried r) (cost_if_straight s q r) 0) (λ r b. carried_on s c p g r a h (stands_in s c p g stands) later b) in
+    let straight = sum_below-le (rider_count s) (λ r. cond (p.carried r) (cost_straight_from s p m r) 0) (λ r. cond (gets_off s p g r) (cost_of_rider s r (p.boarded_at r) q.opened) 0 + cond (q.carried r) (cost_if_straight s q r) 0) (λ r b. carried_on s c p m g r a h (stands_in s c p g stands) later b) in
     let parts = sum_below-add (rider_count s) (λ r. cond (gets_off s p g r) (cost_of_rider s r (p.boarded_at r) q.opened) 0) (λ r. cond (q.carried r) (cost_if_straight s q r) 0) in
     let paid = int_sum-same (call_count s) (λ j. cond (q.boarded j) (price j) (pos 0)) (λ j. cond (p.boarded j) (price j) (pos 0)) (λ j b. ap (λ (x : Bool). cond x (price j) (pos 0)) (or_none (p.boarded j) (boards_at s (empty_stop g) j) (no_boards s g j))) in
-    let waiting = int_sum-le (call_count s) (λ j. cond (allowed j && not (p.boarded j)) (waiting_term s price required p j) (pos 0)) (λ j. cond (allowed j && not (q.boarded j)) (waiting_term s price required q j) (pos 0)) (λ j b. waits_on (allowed j) (p.boarded j) (boards_at s (empty_stop g) j) (required j) (scaled (cost_if_alone s j p.opened) -ℤ price j) (scaled (cost_if_alone s j q.opened) -ℤ price j) (no_boards s g j) (term-later s price j p.opened q.opened (omega (arith, later)))) in
-    gone_together (settled_cost s c p) (sum_where (rider_count s) p.carried (cost_if_straight s p)) (settled_cost s c q) (sum_where (rider_count s) q.carried (cost_if_straight s q)) (leaving_cost s p g q.opened) (int_sum_where (call_count s) p.boarded price) (int_sum_where (call_count s) q.boarded price) _ _ settled (omega (arith, straight, parts)) paid waiting
+    let waiting = int_sum-le (call_count s) (λ j. cond (allowed j && not (p.boarded j)) (waits_until s price required w j) (pos 0)) (λ j. cond (allowed j && not (q.boarded j)) (waiting_term s price required q j) (pos 0)) (λ j b. waits_on (allowed j) (p.boarded j) (boards_at s (empty_stop g) j) (required j) (scaled (cost_if_alone s j w) -ℤ price j) (scaled (cost_if_alone s j q.opened) -ℤ price j) (no_boards s g j) (term-later s price j w q.opened waited)) in
+    gone_together (settled_cost s c p) (sum_where (rider_count s) p.carried (cost_straight_from s p m)) (settled_cost s c q) (sum_where (rider_count s) q.carried (cost_if_straight s q)) (leaving_cost s p g q.opened) (int_sum_where (call_count s) p.boarded price) (int_sum_where (call_count s) q.boarded price) _ _ settled (omega (arith, straight, parts)) paid waiting
+
+grows_leave : (s : Snapshot) (c : ℕ) (price : ℕ → ℤ) (allowed required : ℕ → Bool) (p : Progress) (g : ℕ) → IsAccepted s → IsPlaced s c p → may_stand s c p (empty_stop g) ≡ true → bound_after s c price allowed required p ≤ℤ bound_after s c price allowed required (make_stop s c p (empty_stop g))
+grows_leave s c price allowed required p g a h stands =
+    let arrives = arrives_after s c p g a h stands in
+    departs_below s c price allowed required p p.opened p.opened g a h stands (omega (arith, arrives)) (omega (arith, arrives))
 
 -- ---- a call boards
 

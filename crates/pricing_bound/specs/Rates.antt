@@ -1,8 +1,9 @@
 -- What calls cost, laid out, and what they add to a bound.
-use Rattle.std.specs.Prelude.{◌≡◌, ◌≤◌, ◌<◌, ℕ, ◌+◌, ◌-◌, ◌*◌, ℤ, pos, ◌-ℤ◌, int_lt, Bool, false, true, ◌||◌, List, length, slice_index_or, if◌then◌else◌}
+use Rattle.std.specs.Prelude.{◌≡◌, ◌≤◌, ◌<◌, ℕ, ◌+◌, ◌-◌, ◌*◌, ℤ, pos, ◌-ℤ◌, int_lt, Bool, false, true, ◌||◌, List, length, slice_index, slice_index_or, if◌then◌else◌}
 use Rattle.call_sets.specs.Counting.{has}
 use Rattle.elevator_model.specs.Costs.{cost_of_rider}
 use Rattle.elevator_model.specs.Snapshot.{Snapshot, call_count}
+use Rattle.elevator_model.specs.Travel.{Square, time_between}
 use Rattle.price_scale.specs.Scale.{IsPrice}
 use Rattle.search_model.specs.Bounds.{cost_if_alone}
 use Rattle.search_model.specs.Prices.{scaled, price_at}
@@ -65,6 +66,21 @@ IsEnd rates end = (j : ℕ) (d : Rate) → j < length rates → has end.early j 
 -- each of these is such an end
 abbrev pub AreEnds : List Rate → List End → Type 0
 AreEnds rates ends = (place : ℕ) (d : End) → place < length ends → IsEnd rates (slice_index_or ends place d)
+
+-- the time is that of a way from floor f to another floor
+abbrev pub IsTimeFrom : Square → (f time : ℕ) → Type 0
+IsTimeFrom travel f time = (g : ℕ) × (g < travel.floors) × (g ≡ f → ⊥) × (time ≡ time_between travel f g)
+
+-- and there is no shorter one
+pub record IsNearest (travel : Square) (f time : ℕ) : Type 0 where
+  pub there : IsTimeFrom travel f time
+  pub least : (g : ℕ) → g < travel.floors → (g ≡ f → ⊥) → time ≤ time_between travel f g
+
+-- the times are such ones of the floors, in their order
+pub record AreNearest (travel : Square) (times : List ℕ) : Type 0 where
+  pub size : length times ≡ travel.floors
+  pub each : (f : ℕ) → f < travel.floors → IsNearest travel f (slice_index times f)
+  pub small : (f : ℕ) → f < travel.floors → slice_index times f ≤ 20000000
 
 -- the prices of the calls are prices
 abbrev pub ArePrices : Rated → Type 0

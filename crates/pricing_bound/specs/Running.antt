@@ -1,10 +1,11 @@
 -- The running sums of a bound.
-use Rattle.std.specs.Prelude.{◌≡◌, ◌+◌, ◌*◌, ◌-◌, ◌^◌, ◌<◌, ◌≤◌, ◌&&◌, not, nat_lt, ℕ, Bool, true, length, pos, neg_ℤ, ◌≤ℤ◌}
+use Rattle.std.specs.Prelude.{◌≡◌, ◌+◌, ◌*◌, ◌-◌, ◌^◌, ◌<◌, ◌≤◌, ◌&&◌, not, nat_lt, ℕ, Bool, true, length, Some, pos, neg_ℤ, ◌≤ℤ◌}
 use Rattle.call_sets.specs.Counting.{has, sum_where}
 use Rattle.elevator_model.specs.Snapshot.{Snapshot, call_count, spec_of}
 use Rattle.elevator_model.specs.Travel.{time_between}
 use Rattle.elevator_model.specs.Tours.{Progress, rider_count}
-use Rattle.elevator_model.specs.Partial.{Course}
+use Rattle.elevator_model.specs.declared.Move.TheVariants.{Leave}
+use Rattle.elevator_model.specs.Partial.{Course, move_on}
 use Rattle.price_scale.specs.Scale.{IsPriceSum}
 use Rattle.search_model.specs.Bounds.{cost_if_alone, cost_if_straight, bound_after}
 use Rattle.search_model.specs.Sums.{int_sum_where}
@@ -12,12 +13,16 @@ use Rattle.car_layout.specs.Layouts.{persons_to, moments_to}
 use Rattle.partial_tours.specs.Courses.{reached}
 use Rattle.pricing_bound.specs.declared.straight.Sums.{Sums}
 use Rattle.pricing_bound.specs.declared.waiting.Waiting.{Waiting}
-use Rattle.pricing_bound.specs.Aims.{Aim, IsBoundSize}
+use Rattle.pricing_bound.specs.Aims.{Aim, IsBoundSize, completion_bound_for}
 use Rattle.pricing_bound.specs.Rates.{counts_at, rise_at, term_at}
 
--- call j is allowed, has not boarded, and is required or lowers the bound
+-- call j is allowed, has not boarded, and is required or lowers the bound where it boards at the moment m
+abbrev pub is_counted_at : Aim → Progress → (m j : ℕ) → Bool
+is_counted_at a p m j = nat_lt j (call_count a.snapshot) && a.allowed j && not (p.boarded j) && counts_at a m j
+
+-- the same where the doors are open
 abbrev pub is_counted : Aim → Progress → ℕ → Bool
-is_counted a p j = nat_lt j (call_count a.snapshot) && a.allowed j && not (p.boarded j) && counts_at a p.opened j
+is_counted a p j = is_counted_at a p p.opened j
 
 -- from the moment m to another one what call j costs alone grows evenly
 abbrev pub IsEven : Aim → (m until j : ℕ) → Type 0
@@ -47,6 +52,18 @@ pub record AreSums (a : Aim) (sums : Sums) (p : Progress) : Type 0 where
 -- they are those of where moves lead
 abbrev pub StandFor : Aim → Sums → Course → Type 0
 StandFor a sums x = AreSums a sums (reached a.snapshot a.car x)
+
+-- The sums are those of a car that departs from where moves lead: the prices of the calls that boarded, and the calls
+-- that are counted at a moment before which the doors of no next stop are open; the bound is at most that of each next
+-- stop.
+pub record AreDeparting (a : Aim) (sums : Sums) (x : Course) : Type 0 where
+  pub least : (g : ℕ) (y : Course) → move_on a.snapshot a.car x (Leave g) ≡ Some y → sums.bound ≤ℤ completion_bound_for a y
+  pub small : IsBoundSize sums.bound
+  pub paid : sums.paid ≡ int_sum_where (call_count a.snapshot) (reached a.snapshot a.car x).boarded a.price
+  pub paid_small : IsPriceSum sums.paid
+  pub counted : (j : ℕ) → has sums.waiting.counted j ≡ is_counted_at a (reached a.snapshot a.car x) sums.waiting.moment j
+  pub waiting : AreEven a sums.waiting
+  pub early : (g : ℕ) (y : Course) → move_on a.snapshot a.car x (Leave g) ≡ Some y → sums.waiting.moment ≤ (reached a.snapshot a.car y).opened
 
 -- what those carried cost if the car went straight to each destination: all, the calls of a set, the groups
 abbrev pub cost_of_rides : Snapshot → Progress → ℕ

@@ -2,16 +2,17 @@
 
 ghost use Rattle.std.specs.Prelude.{◌≡◌, ℕ, ℤ, pos, neg_ℤ, ◌-ℤ◌, ◌+◌, ◌-◌, ◌*◌, ◌^◌, ◌<◌, ◌≤◌, ◌≤ℤ◌, int_lt, false, true, not, IfOk, length, map, nat_lt, slice_index_or, vec_capacity};
 ghost use Rattle.call_sets.specs.Counting.{has};
+ghost use Rattle.elevator_model.specs.Building.{floor_count};
 ghost use Rattle.elevator_model.specs.Snapshot.{IsAccepted, Snapshot as SnapshotValue, call_count, call_of};
 ghost use Rattle.price_scale.specs.Scale.{IsPrice};
 ghost use Rattle.elevator_model.specs.Costs.{cost_of_rider};
 ghost use Rattle.search_model.specs.Bounds.{cost_if_alone};
 ghost use Rattle.search_model.specs.Prices.{price_at, scaled as scaled_lem};
-ghost use Rattle.pricing_bound.specs.Rates.{AreEnds, AreRates, IsEnd, IsRate, ArePrices, rise_at, wait_at};
+ghost use Rattle.pricing_bound.specs.Rates.{AreEnds, AreNearest, AreRates, IsEnd, IsNearest, IsRate, ArePrices, rise_at, wait_at};
 
 use crate::waiting::Growth;
 use call_sets::CallSet;
-use call_state::{Building, Call, Snapshot};
+use call_state::{Building, Call, Snapshot, Travel};
 use elevator_model::{MOMENT_LIMIT, MOST_CALL_COST, MOST_CALLS};
 use price_scale::{Price, scaled};
 use std::alloc::{AllocError, Global};
@@ -272,6 +273,34 @@ pub(crate) struct Due {
     pub(crate) calls: CallSet,
 }
 
+/// The least time in ms from a floor to another one.
+fn nearest_of(travel: &Travel, from: u32) -> u64
+    requires { from < travel.now.floors }
+    ensures nearest { IsNearest travel.now from result }
+    ensures small { result ≤ 20000000 }
+{
+    // There are two floors at least.
+    let floors = travel.floors();
+    let mut nearest = travel.time(from, u32::from(from == 0));
+    for to in 0..floors {
+        if to != from {
+            nearest = nearest.min(travel.time(from, to));
+        }
+    }
+    nearest
+}
+
+/// The least time in ms from each floor to another one, in the order of the floors.
+fn nearest_of_all(alloc: Global, travel: &Travel) -> Result<Vec<u64>, AllocError>
+    ensures { IfOk result (λ nearest. AreNearest travel.now nearest.items) }
+{
+    let mut nearest = Vec::new(alloc);
+    for floor in 0..travel.floors() {
+        nearest.push(nearest_of(travel, floor))?;
+    }
+    Ok(nearest)
+}
+
 /// The rates of the calls of a snapshot, at one price each. All memory is taken when they are made.
 #[derive(Drop)]
 pub struct Rates<'a> {
@@ -280,19 +309,21 @@ pub struct Rates<'a> {
     /// The ends of calls at their prices, the first one first.
     ends: Vec<End>,
     calls: CallSet,
+    /// The least time in ms from each floor to another one.
+    nearest: Vec<u64>,
 }
 
 impl<'a> Model for Rates<'a> {
     ghost use Rattle.std.specs.Prelude.{◌≡◌, ◌≤◌, ℕ, map, nat_lt, vec_capacity};
     ghost use Rattle.call_sets.specs.Counting.{has};
     ghost use Rattle.elevator_model.specs.Snapshot.{IsAccepted, call_count};
-    ghost use Rattle.pricing_bound.specs.Rates.{AreEnds, AreRates, Rated};
+    ghost use Rattle.pricing_bound.specs.Rates.{AreEnds, AreNearest, AreRates, Rated};
 
     ghost Value = { Rated };
 
     ghost view = { λ r. record { snapshot = r.snapshot.now; prices = map (λ rate. rate.price) r.rates.items } };
 
-    ghost invariant = { λ r. IsAccepted r.snapshot.now × AreRates r.snapshot.now r.rates.items × ((j : ℕ) → has r.calls j ≡ nat_lt j (call_count r.snapshot.now)) × AreEnds r.rates.items r.ends.items × (129 ≤ vec_capacity r.ends) };
+    ghost invariant = { λ r. IsAccepted r.snapshot.now × AreRates r.snapshot.now r.rates.items × ((j : ℕ) → has r.calls j ≡ nat_lt j (call_count r.snapshot.now)) × AreEnds r.rates.items r.ends.items × (129 ≤ vec_capacity r.ends) × AreNearest r.snapshot.now.building.travel r.nearest.items };
 }
 
 impl<'a> Rates<'a> {
@@ -308,6 +339,7 @@ impl<'a> Rates<'a> {
             rates: rates_of(alloc, snapshot)?,
             ends: Vec::with_capacity(alloc, MOST_CALLS + 1)?,
             calls: calls_of(snapshot),
+            nearest: nearest_of_all(alloc, snapshot.building().travel())?,
         })
     }
 
@@ -334,6 +366,15 @@ impl<'a> Rates<'a> {
         ensures { (j : ℕ) → has result j ≡ nat_lt j (call_count self.now.snapshot) }
     {
         self.calls
+    }
+
+    /// The least time in ms from a floor to another one.
+    pub(crate) fn nearest(&self, floor: u32) -> u64
+        requires { floor < floor_count self.now.snapshot.building }
+        ensures nearest { IsNearest self.now.snapshot.building.travel floor result }
+        ensures small { result ≤ 20000000 }
+    {
+        self.nearest[floor as usize]
     }
 
     /// The price of a call, in thousandths of a cost unit.

@@ -1,9 +1,10 @@
 //! Completion bounds that are kept along the moves of a partial tour.
 
-ghost use Rattle.std.specs.Prelude.{◌≡◌, ◌≤ℤ◌, ℤ, [], Some};
-ghost use Rattle.elevator_model.specs.Partial.{Course};
+ghost use Rattle.std.specs.Prelude.{◌≡◌, ◌≤ℤ◌, ℕ, ℤ, [], Some};
+ghost use Rattle.elevator_model.specs.Partial.{Course, move_on};
+ghost use Rattle.elevator_model.specs.declared.Move.{Move as MoveValue};
 ghost use Rattle.partial_tours.specs.PartialTour.{course, with_move};
-ghost use Rattle.pricing_bound.specs.Aims.{Aim, AimsAt, HasEnded, IsAtLeastSettled, IsBoundSize, IsGrowing, IsNextMove, IsLower, IsNarrower, value_for};
+ghost use Rattle.pricing_bound.specs.Aims.{Aim, AimsAt, HasEnded, HasReached, IsAtLeastSettled, IsBoundSize, IsGrowing, IsNextMove, IsLower, IsNarrower, value_for};
 
 use elevator_model::Move;
 use partial_tours::Prefix;
@@ -17,6 +18,9 @@ pub trait CompletionBound {
     /// What is kept where a partial tour leads.
     type Sums: Copy;
 
+    /// What is kept of a car that departs.
+    type Departure: Copy;
+
     /// The car, prices and calls that it is laid out for.
     ghost aim: { Self → Aim };
 
@@ -25,6 +29,9 @@ pub trait CompletionBound {
 
     /// The sums are those of where a partial tour leads.
     ghost stands: { Self → Self.Sums → Course → Type 0 };
+
+    /// It is the departure from where a partial tour leads.
+    ghost departs: { Self → Self.Departure → Course → Type 0 };
 
     /// The sums of the empty partial tour.
     fn start(&self, prefix: &Prefix) -> Self::Sums
@@ -37,6 +44,27 @@ pub trait CompletionBound {
         requires for_it { AimsAt (aim self.now) prefix.now }
         requires leads { IsNextMove (aim self.now) (stands self.now sums.now) prefix.now next }
         ensures { (y : Course) → course (with_move prefix.now next) ≡ Some y
+            → stands self.now result y };
+
+    /// The departure from where a partial tour leads, whatever its next stop is.
+    fn depart(&self, prefix: &Prefix, sums: &Self::Sums) -> Self::Departure
+        requires for_it { AimsAt (aim self.now) prefix.now }
+        requires reached { HasReached (aim self.now) (stands self.now sums.now) prefix.now }
+        ensures { (x : Course) → course prefix.now ≡ Some x → departs self.now result x };
+
+    /// A value that the bound at no next stop is below, of absolute value at most 10^27.
+    fn least_value(&self, departure: &Self::Departure) -> i128
+        ensures least { (x y : Course) (floor : ℕ) → departs self.now departure.now x
+            → move_on (aim self.now).snapshot (aim self.now).car x (MoveValue.Leave floor) ≡ Some y
+            → result ≤ℤ bound self.now y }
+        ensures size { (x : Course) → departs self.now departure.now x → IsBoundSize result };
+
+    /// The sums after the car goes to a stop, from its departure. The move has not to be made for it.
+    fn arrive(&self, prefix: &Prefix, departure: &Self::Departure, floor: u32) -> Self::Sums
+        requires for_it { AimsAt (aim self.now) prefix.now }
+        requires leads { IsNextMove (aim self.now) (departs self.now departure.now) prefix.now
+            (MoveValue.Leave floor) }
+        ensures { (y : Course) → course (with_move prefix.now (MoveValue.Leave floor)) ≡ Some y
             → stands self.now result y };
 
     /// The bound, of absolute value at most 10^27.

@@ -9,9 +9,9 @@ ghost use Rattle.partial_tours.specs.PartialTour.{course, with_move};
 ghost use Rattle.price_scale.specs.Scale.{IsPrice, IsPriceSum};
 ghost use Rattle.search_model.specs.Prices.{scaled as scaled_lem};
 ghost use Rattle.search_model.specs.Sums.{int_sum_where};
-ghost use Rattle.pricing_bound.specs.Aims.{AimsAt, IsBoundSize, IsNextMove, completion_bound_for};
+ghost use Rattle.pricing_bound.specs.Aims.{AimsAt, HasReached, IsBoundSize, IsNextMove, completion_bound_for};
 ghost use Rattle.pricing_bound.specs.Rates.{aim_at, counts_at, rise_at, term_at};
-ghost use Rattle.pricing_bound.specs.Running.{AreEven, IsEven, StandFor};
+ghost use Rattle.pricing_bound.specs.Running.{AreDeparting, AreEven, IsEven, StandFor};
 ghost use Rattle.search_model.specs.Prices.{price_at};
 ghost use Rattle.search_model.proofs.BoundLemmas.{bound_is_at_least};
 ghost use Rattle.pricing_bound.specs.GrowthLemmas.{bound_grows};
@@ -27,6 +27,7 @@ use call_sets::CallSet;
 use elevator_model::{LATEST_MOMENT, MOMENT_LIMIT, MOST_COST, Move};
 use partial_tours::Prefix;
 use price_scale::scaled;
+use tour_rules::riding::opening_of;
 
 /// What is kept of a partial tour, in thousandths of a cost unit.
 #[derive(Clone, Copy)]
@@ -338,7 +339,37 @@ impl<'a> StraightRides<'a> {
         sums.with_board(more, self.rates.price(call), waiting)
     }
 
-    /// The sums after the car goes to a stop: later, those carried have ridden on, and calls cost more.
+    /// The sums of the car as it departs. At no next stop are its doors open before it could be at the nearest
+    /// floor, so calls that have ceased to count by then are left out once for all of them. A car that made no stop
+    /// departs as it stands, since it may stop first where it is.
+    fn departing(&self, prefix: &Prefix, sums: &Sums) -> Sums
+        requires for_it { AimsAt (aim_at self.now.rates.now self.now.car self.now.allowed
+            self.now.required) prefix.now }
+        requires reached { HasReached (aim_at self.now.rates.now self.now.car self.now.allowed
+            self.now.required) (StandFor (aim_at self.now.rates.now self.now.car self.now.allowed
+            self.now.required) sums.now) prefix.now }
+        ensures { (x : Course) → course prefix.now ≡ Some x → AreDeparting (aim_at
+            self.now.rates.now self.now.car self.now.allowed self.now.required) result x }
+    {
+        let snapshot = self.rates.snapshot();
+        let car = prefix.car();
+        let point = prefix.point();
+        if !point.place.begun || !point.useful {
+            return *sums;
+        }
+        let floor = prefix.floor();
+        let opened = prefix.departs_at() + opening_of(snapshot, car);
+        let earliest = opened + self.rates.nearest(floor);
+        if earliest >= LATEST_MOMENT {
+            // No leave is lawful any more.
+            return *sums;
+        }
+        let waiting = self.waiting_later(&sums.waiting, earliest);
+        let carried = cost_of_carried(self.rates, prefix, floor, opened);
+        sums_of(prefix.settled(), carried, sums.paid, waiting)
+    }
+
+    /// The sums after the car goes to a stop: what stands departs.
     fn after_leave(&self, prefix: &Prefix, sums: &Sums, floor: u32) -> Sums
         requires for_it { AimsAt (aim_at self.now.rates.now self.now.car self.now.allowed
             self.now.required) prefix.now }
@@ -349,24 +380,46 @@ impl<'a> StraightRides<'a> {
             → StandFor (aim_at self.now.rates.now
             self.now.car self.now.allowed self.now.required) result y }
     {
+        // The snapshot is accepted and the car one of its cars.
+        let _accepted = self.rates.snapshot();
+        let _car = prefix.car();
+        self.after_departure(prefix, sums, floor)
+    }
+
+    /// The sums after a car that departs goes to a stop: later, those carried have ridden on, and calls cost more.
+    fn after_departure(&self, prefix: &Prefix, departing: &Sums, floor: u32) -> Sums
+        requires for_it { AimsAt (aim_at self.now.rates.now self.now.car self.now.allowed
+            self.now.required) prefix.now }
+        requires leads { IsNextMove (aim_at self.now.rates.now self.now.car self.now.allowed
+            self.now.required) (AreDeparting (aim_at self.now.rates.now self.now.car
+            self.now.allowed self.now.required) departing.now) prefix.now (MoveValue.Leave floor) }
+        ensures { (y : Course) → course (with_move prefix.now (MoveValue.Leave floor)) ≡ Some y
+            → StandFor (aim_at self.now.rates.now
+            self.now.car self.now.allowed self.now.required) result y }
+    {
         // The snapshot is accepted, the car one of its cars and what is settled small.
         let _accepted = self.rates.snapshot();
         let _car = prefix.car();
         let opened = prefix.opened_after(floor);
-        let waiting = self.waiting_later(&sums.waiting, opened);
+        let waiting = self.waiting_later(&departing.waiting, opened);
         let carried = cost_of_carried(self.rates, prefix, floor, opened);
-        sums_of(prefix.settled(), carried, sums.paid, waiting)
+        sums_of(prefix.settled(), carried, departing.paid, waiting)
     }
 }
 
 impl<'a> CompletionBound for StraightRides<'a> {
     type Sums = Sums;
 
+    /// The sums of the car as it departs.
+    type Departure = Sums;
+
     ghost aim = { λ it. aim_at it.rates.now it.car it.allowed it.required };
 
     ghost bound = { λ it x. completion_bound_for (aim_at it.rates.now it.car it.allowed it.required) x };
 
     ghost stands = { λ it sums x. StandFor (aim_at it.rates.now it.car it.allowed it.required) sums x };
+
+    ghost departs = { λ it departing x. AreDeparting (aim_at it.rates.now it.car it.allowed it.required) departing x };
 
     fn start(&self, prefix: &Prefix) -> Sums {
         // The car is one of the snapshot's, and the moves are lawful.
@@ -383,6 +436,18 @@ impl<'a> CompletionBound for StraightRides<'a> {
             Move::Leave(floor) => self.after_leave(prefix, sums, floor),
             Move::End => *sums,
         }
+    }
+
+    fn depart(&self, prefix: &Prefix, sums: &Sums) -> Sums {
+        self.departing(prefix, sums)
+    }
+
+    fn least_value(&self, departure: &Sums) -> i128 {
+        departure.bound
+    }
+
+    fn arrive(&self, prefix: &Prefix, departure: &Sums, floor: u32) -> Sums {
+        self.after_departure(prefix, departure, floor)
     }
 
     fn value(&self, sums: &Sums) -> i128 {

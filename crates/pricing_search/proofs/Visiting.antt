@@ -10,23 +10,21 @@ use Rattle.elevator_model.specs.declared.Move.{Move}
 use Rattle.elevator_model.specs.declared.Move.TheVariants.{Board, End}
 use Rattle.elevator_model.specs.declared.Stop.{Stop}
 use Rattle.elevator_model.specs.Snapshot.{IsAccepted, car_count}
-use Rattle.elevator_model.specs.Partial.{Course, lawful_moves, move_on, boards_allowed, moves_of_stop}
+use Rattle.elevator_model.specs.Partial.{Course, move_on, boards_allowed, moves_of_stop}
 use Rattle.search_model.specs.Nodes.{IsTourWithin}
 use Rattle.search_model.specs.Orders.{BeginsWith, any_course, AreAllowed}
 use Rattle.search_model.specs.Extending.{IsDemand}
 use Rattle.tour_rules.specs.Measure.{moves_left}
 use Rattle.tour_rules.proofs.Measure.{moves_left-falls}
 use Rattle.partial_tours.specs.PartialTour.{PartialTour, course, with_move}
-use Rattle.partial_tours.specs.Orders.{first_of, next_after}
-use Rattle.partial_tours.proofs.Search.{from_next}
 use Rattle.partial_tours.proofs.Lawful.{In, at_place}
 use Rattle.partial_tours.proofs.Told.{moves_told}
 use Rattle.tour_extension.specs.declared.demands.Demand.{Demand}
 use Rattle.tour_extension.proofs.Extended.{extendable_to, allowed_append, allowed_stops}
 use Rattle.pricing_bound.specs.Aims.{Aim, value_for, IsLower, IsGrowing}
 use Rattle.kept_tours.specs.Kept.{is_kept_by}
-use Rattle.kept_tours.specs.Walking.{aim_at, goes_on, IsWalking, IsOpen}
-use Rattle.kept_tours.proofs.Followers.{followers, IsAt, at_first, at_move, at_end, at_next, follower, one_course, in_followers}
+use Rattle.kept_tours.specs.Walking.{aim_at, goes_on, IsWalking, IsOpen, IsShut}
+use Rattle.kept_tours.proofs.Followers.{followers, IsAt, GoesTo, at_move, at_end, at_place_of, follower, one_course, in_followers, over_shut}
 use Rattle.kept_tours.proofs.EndLemmas.{ended_within, ended_value, HasNext, has_next}
 use Rattle.kept_tours.proofs.ListLemmas.{fails_none, first_lists, own_lists, next_lists, all_lists, ended_lists, own_one, own_all}
 use Rattle.pricing_search.specs.declared.progress.Progress.{Progress}
@@ -36,16 +34,20 @@ use Rattle.pricing_search.specs.Walks.{IsFoundTour, HasFound, GoesOn, MayAnswer,
 abbrev pub keeps : PartialTour → Demand → (bound : Course → ℤ) → (worth : ℤ) → Course → Bool
 keeps t demand bound worth = is_kept_by t.snapshot t.car bound (has demand.allowed) (has demand.required) worth
 
--- What a walk through the first followers of a partial tour has done.
-pub record Visits (t : PartialTour) (demand : Demand) (price : ℕ → ℤ) (bound : Course → ℤ) (most : ℕ) (next : Option Move) (old new : Progress) : Type 0 where
-  pub place : ℕ
-  pub at : IsAt t demand.allowed next place
+-- What a walk through the followers before a place has done.
+pub record VisitsBefore (t : PartialTour) (demand : Demand) (price : ℕ → ℤ) (bound : Course → ℤ) (most : ℕ) (old new : Progress) (place : ℕ) : Type 0 where
   pub on : GoesOn most old new
   pub found : HasFound (aim_at t demand price) new
   pub kept : (x : Course) → course t ≡ Some x → CountsKept (λ worth n. first_lists t demand.allowed (keeps t demand bound worth) n x place) old new
   pub below : (k : ℕ) → k < place → BelowAll t demand price (t.moves ++ get_or (followers t demand.allowed) k (Board 0) ∷ []) new
   pub few : (x : Course) → course t ≡ Some x → (n : ℕ) → moves_left t.snapshot t.car x ≤ n → new.visits ≤ old.visits + length (first_lists t demand.allowed any_course n x place)
   pub least : (x : Course) → course t ≡ Some x → KeepsLow (bound x) old new
+
+-- What it has done before the next move.
+pub record Visits (t : PartialTour) (demand : Demand) (price : ℕ → ℤ) (bound : Course → ℤ) (most : ℕ) (next : Option Move) (old new : Progress) : Type 0 where
+  pub place : ℕ
+  pub at : IsAt t demand.allowed next place
+  pub done : VisitsBefore t demand price bound most old new place
 
 pub goes_nowhere : (most : ℕ) (p : Progress) → p.visits ≤ most → GoesOn most p p
 goes_nowhere most p le = record { limit = le; rises = omega arith; best = omega (arith, ints); untried = omega (arith, ints); unspent = λ lt. refl }
@@ -96,18 +98,6 @@ shut_out t demand price bound most p at ok demands leads shut le found = record 
 
 -- ---- move after move
 
-pub visits_first : (t : PartialTour) (demand : Demand) (price : ℕ → ℤ) (bound : Course → ℤ) (most : ℕ) (at : Course) (next : Option Move) (p : Progress) → course t ≡ Some at → next ≡ first_of (lawful_moves t.snapshot t.car at (has demand.allowed)) → p.visits ≤ most → HasFound (aim_at t demand price) p → Visits t demand price bound most next p p
-visits_first t demand price bound most at next p leads are le found = record {
-  place = 0;
-  at = at_first t demand.allowed at next leads are;
-  on = goes_nowhere most p le;
-  found = found;
-  kept = λ x there worth n may. omega arith;
-  below = λ k b. absurd (omega arith);
-  few = λ x there n lt. omega arith;
-  least = λ x there z le may. may;
-}
-
 goes_through : (most : ℕ) (old mid new : Progress) → GoesOn most old mid → GoesOn most mid new → GoesOn most old new
 goes_through most old mid new first more_on =
     let r = first.rises in let r2 = more_on.rises in
@@ -125,43 +115,67 @@ goes_through most old mid new first more_on =
 abbrev pub Grows : PartialTour → Demand → (bound : Course → ℤ) → Type 0
 Grows t demand bound = (x y : Course) (m : Move) → course t ≡ Some x → boards_allowed (has demand.allowed) m ≡ true → move_on t.snapshot t.car x m ≡ Some y → bound x ≤ℤ bound y
 
-pub visits_on : (t : PartialTour) (demand : Demand) (price : ℕ → ℤ) (bound : Course → ℤ) (most : ℕ) (at : Course) (m : Move) (next : Option Move) (old mid new : Progress) → course t ≡ Some at → Visits t demand price bound most (Some m) old mid → Visited (with_move t m) demand price bound most mid new → next ≡ next_after m (lawful_moves t.snapshot t.car at (has demand.allowed)) → Grows t demand bound → Visits t demand price bound most next old new × (from_next next (followers t demand.allowed) < from_next (Some m) (followers t demand.allowed))
-visits_on t demand price bound most at m next old mid new leads first more_on are grows =
+-- one follower more
+one_visited : (t : PartialTour) (demand : Demand) (price : ℕ → ℤ) (bound : Course → ℤ) (most : ℕ) (at : Course) (m : Move) (place : ℕ) (old mid new : Progress) → course t ≡ Some at → IsAt t demand.allowed (Some m) place → VisitsBefore t demand price bound most old mid place → Visited (with_move t m) demand price bound most mid new → Grows t demand bound → VisitsBefore t demand price bound most old new (place + 1)
+one_visited t demand price bound most at m place old mid new leads stands first more_on grows =
     let set = demand.allowed in
-    let on = at_next t set at m next first.place leads first.at are in
-    let here = at_move t set m first.place first.at in
-    let f = follower t set at m first.place leads first.at in (
-      record {
-        place = first.place + 1;
-        at = on.0;
-        on = goes_through most old mid new first.on more_on.on;
-        found = more_on.found;
-        kept = λ x there worth n may. (
-            let fx = follower t set x m first.place there first.at in
-            let a = first.kept x there worth n (might_answer most mid new worth more_on.on may) in
-            let b = more_on.kept fx.next fx.leads worth n may in
-            let one_more = next_lists t set (keeps t demand bound worth) n x fx.next m first.place there first.at fx.moved in
-            omega (arith, a, b, one_more)
-            );
-        below = λ k b worth tour may within begins. (
-            let le : k ≤ first.place = omega (arith, b) in
-            elim (eq-or-lt_of_le le) [ inl e ↦ more_on.below worth tour may within (subst (λ (v : Move). BeginsWith t.snapshot tour (t.moves ++ v ∷ [])) (ap (λ (i : ℕ). get_or (followers t set) i (Board 0)) e ∙ sym here.1) begins) | inr lt ↦ first.below k lt worth tour (might_answer most mid new worth more_on.on may) within begins ]
-            );
-        few = λ x there n lt. (
-            let fx = follower t set x m first.place there first.at in
-            let falls = moves_left-falls t.snapshot t.car x m fx.next fx.moved in
-            let a = first.few x there n lt in
-            let b = more_on.few fx.next fx.leads n (omega (arith, falls, lt)) in
-            let one_more = next_lists t set any_course n x fx.next m first.place there first.at fx.moved in
-            omega (arith, a, b, one_more)
-            );
-        least = λ x there z le may. (
-            let fx = follower t set x m first.place there first.at in
-            more_on.least fx.next fx.leads z (through z (bound x) (bound fx.next) le (grows x fx.next m there fx.may fx.moved)) (first.least x there z le may)
-            );
-      },
-      on.1,
-    )
+    let here = at_move t set m place stands in record {
+      on = goes_through most old mid new first.on more_on.on;
+      found = more_on.found;
+      kept = λ x there worth n may. (
+          let fx = follower t set x m place there stands in
+          let a = first.kept x there worth n (might_answer most mid new worth more_on.on may) in
+          let b = more_on.kept fx.next fx.leads worth n may in
+          let one_more = next_lists t set (keeps t demand bound worth) n x fx.next m place there stands fx.moved in
+          omega (arith, a, b, one_more)
+          );
+      below = λ k b worth tour may within begins. (
+          let le : k ≤ place = omega (arith, b) in
+          elim (eq-or-lt_of_le le) [ inl e ↦ more_on.below worth tour may within (subst (λ (v : Move). BeginsWith t.snapshot tour (t.moves ++ v ∷ [])) (ap (λ (i : ℕ). get_or (followers t set) i (Board 0)) e ∙ sym here.1) begins) | inr lt ↦ first.below k lt worth tour (might_answer most mid new worth more_on.on may) within begins ]
+          );
+      few = λ x there n lt. (
+          let fx = follower t set x m place there stands in
+          let falls = moves_left-falls t.snapshot t.car x m fx.next fx.moved in
+          let a = first.few x there n lt in
+          let b = more_on.few fx.next fx.leads n (omega (arith, falls, lt)) in
+          let one_more = next_lists t set any_course n x fx.next m place there stands fx.moved in
+          omega (arith, a, b, one_more)
+          );
+      least = λ x there z le may. (
+          let fx = follower t set x m place there stands in
+          more_on.least fx.next fx.leads z (through z (bound x) (bound fx.next) le (grows x fx.next m there fx.may fx.moved)) (first.least x there z le may)
+          );
+    }
+
+-- The followers up to the next move are shut, so there is nothing to visit.
+visits_to : (a : Aim) (t : PartialTour) (demand : Demand) (bound : Course → ℤ) (most : ℕ) (at : Course) (next : Option Move) (from : ℕ) (old new : Progress) → IsWalking a demand t → course t ≡ Some at → Grows t demand bound → GoesTo t demand next from → VisitsBefore t demand a.price bound most old new from → Visits t demand a.price bound most next old new
+visits_to a t demand bound most at next from old new w leads grows goes before = record {
+  place = goes.place;
+  at = goes.at;
+  done = over_shut t demand next from (VisitsBefore t demand a.price bound most old new) goes one_shut before;
+}
+  where
+    one_shut : (k : ℕ) → k < length (followers t demand.allowed) → IsShut demand (with_move t (get_or (followers t demand.allowed) k (Board 0))) → VisitsBefore t demand a.price bound most old new k → VisitsBefore t demand a.price bound most old new (k + 1)
+    one_shut k lt shut done =
+        let m = get_or (followers t demand.allowed) k (Board 0) in
+        let stands = at_place_of t demand.allowed k lt in
+        let f = follower t demand.allowed at m k leads stands in
+        one_visited t demand a.price bound most at m k old new new leads stands done (shut_out (with_move t m) demand a.price bound most new f.next w.accepted w.demands f.leads (shut f.next f.leads) done.on.limit done.found) grows
+
+pub visits_first : (a : Aim) (t : PartialTour) (demand : Demand) (bound : Course → ℤ) (most : ℕ) (at : Course) (next : Option Move) (p : Progress) → IsWalking a demand t → course t ≡ Some at → Grows t demand bound → GoesTo t demand next 0 → p.visits ≤ most → HasFound (aim_at t demand a.price) p → Visits t demand a.price bound most next p p
+visits_first a t demand bound most at next p w leads grows goes le found =
+    visits_to a t demand bound most at next 0 p p w leads grows goes (record {
+      on = goes_nowhere most p le;
+      found = found;
+      kept = λ x there worth n may. omega arith;
+      below = λ k b. absurd (omega arith);
+      few = λ x there n lt. omega arith;
+      least = λ x there z le may. may;
+    })
+
+pub visits_on : (a : Aim) (t : PartialTour) (demand : Demand) (bound : Course → ℤ) (most : ℕ) (at : Course) (m : Move) (next : Option Move) (old mid new : Progress) → IsWalking a demand t → course t ≡ Some at → Grows t demand bound → (first : Visits t demand a.price bound most (Some m) old mid) → Visited (with_move t m) demand a.price bound most mid new → GoesTo t demand next (first.place + 1) → Visits t demand a.price bound most next old new
+visits_on a t demand bound most at m next old mid new w leads grows first more_on goes =
+    visits_to a t demand bound most at next (first.place + 1) old new w leads grows goes (one_visited t demand a.price bound most at m first.place old mid new leads first.at first.done more_on grows)
 
 -- ---- what was done in all
 
@@ -278,14 +292,14 @@ pub all_visited : (a : Aim) (demand : Demand) (t : PartialTour) (bound : Course 
 all_visited a demand t bound stands most old now new w o runs counted all =
     let s = t.snapshot in
     let set = demand.allowed in
-    let on = all.on in
+    let on = all.done.on in
     let rises = on.rises in let b = on.best in let u = on.untried in
     let visits = counted.visits in let best = counted.best in let untried = counted.untried in
     record {
       on = record { limit = on.limit; rises = omega (arith, rises, visits); best = omega (arith, ints, b, best); untried = omega (arith, ints, u, untried); unspent = λ lt. on.unspent lt ∙ untried };
-      found = all.found;
+      found = all.done.found;
       kept = λ x there worth n may. (
-          let whole = all_lists t set (keeps t demand bound worth) x all.place (new.visits - now.visits) there all.at (λ m. let k = all.kept x there worth m may in omega (arith, k)) n in
+          let whole = all_lists t set (keeps t demand bound worth) x all.place (new.visits - now.visits) there all.at (λ m. let k = all.done.kept x there worth m may in omega (arith, k)) n in
           omega (arith, whole, visits, rises)
           );
       below = λ worth tour may inside begins. (
@@ -295,7 +309,7 @@ all_visited a demand t bound stands most old now new w o runs counted all =
       few = λ x there n lt. few_of x there n lt;
       least = λ x there z under may. (
           let b = may.best in let u = may.untried in
-          all.least x there z under (record { best = omega (arith, ints, b, best); untried = omega (arith, ints, u, untried) })
+          all.done.least x there z under (record { best = omega (arith, ints, b, best); untried = omega (arith, ints, u, untried) })
           );
     }
   where
@@ -307,13 +321,13 @@ all_visited a demand t bound stands most old now new w o runs counted all =
 
     through_all : (worth : ℤ) (tour : List Stop) → MayAnswer new worth → IsTourWithin t.snapshot t.car (has demand.allowed) (has demand.required) tour → (m : Move) → In m (followers t demand.allowed) → BeginsWith t.snapshot tour (t.moves ++ m ∷ []) → worth ≤ℤ value_for (aim_at t demand a.price) tour
     through_all worth tour may inside m one begins =
-        at_place (λ (v : Move). BeginsWith t.snapshot tour (t.moves ++ v ∷ []) → worth ≤ℤ value_for (aim_at t demand a.price) tour) m (followers t demand.allowed) (Board 0) one (λ k b begins. let end = at_end t demand.allowed all.place all.at in all.below k (omega (arith, b, end)) worth tour may inside begins) begins
+        at_place (λ (v : Move). BeginsWith t.snapshot tour (t.moves ++ v ∷ []) → worth ≤ℤ value_for (aim_at t demand a.price) tour) m (followers t demand.allowed) (Board 0) one (λ k b begins. let end = at_end t demand.allowed all.place all.at in all.done.below k (omega (arith, b, end)) worth tour may inside begins) begins
 
     few_of : (x : Course) → course t ≡ Some x → (n : ℕ) → moves_left t.snapshot t.car x < n → new.visits ≤ old.visits + length (own_lists t demand.allowed any_course n x)
     few_of x there zero lt = absurd (omega (arith, lt))
     few_of x there (suc n) lt =
         let whole = own_all t demand.allowed x all.place n there all.at in
-        let f = all.few x there n (omega (arith, lt)) in
+        let f = all.done.few x there n (omega (arith, lt)) in
         let visits = counted.visits in
         omega (arith, whole, f, visits)
 

@@ -10,7 +10,7 @@ use elevator_model::Move;
 use kept_tours::step_below;
 use partial_tours::Prefix;
 use pricing_bound::CompletionBound;
-use tour_extension::{Demand, is_useless};
+use tour_extension::{Demand, useful};
 
 /// Visits a partial tour that some tour of the node begins with, and those that begin with it.
 ///
@@ -46,10 +46,13 @@ pub(crate) fn visit<B: CompletionBound>(
         progress.note(prefix, bound.tour_value(prefix, sums));
         return;
     }
-    let followers = prefix.followers(demand.allowed);
+    let departure = bound.depart(prefix, sums);
+    let followers = useful(prefix, demand, prefix.followers(demand.allowed));
     let mut next = followers.first();
     while let Some(choice) = next {
-        visit_after(bound, demand, limit, prefix, sums, choice, progress);
+        visit_after(
+            bound, demand, limit, prefix, sums, &departure, choice, progress,
+        );
         next = followers.after(choice);
     }
 }
@@ -63,11 +66,13 @@ fn visit_after<B: CompletionBound>(
     limit: u64,
     prefix: &mut Prefix,
     sums: &B::Sums,
+    departure: &B::Departure,
     next: Move,
     progress: &mut Progress,
 )
     requires walking { IsWalking (B.aim bound.now) demand.now prefix.old }
     requires stands { IsOpen (B.stands bound.now sums.now) demand.now prefix.old }
+    requires departs { IsOpen (B.departs bound.now departure.now) demand.now prefix.old }
     requires next { MayFollow demand.now prefix.old next }
     requires limit { progress.old.visits ≤ limit }
     requires found { HasFound (aim_at prefix.old demand.now (B.aim bound.now).price) progress.old }
@@ -75,10 +80,8 @@ fn visit_after<B: CompletionBound>(
     ensures visited { Visited (with_move prefix.old next) demand.now (B.aim bound.now).price
         (B.bound bound.now) limit progress.old progress.new }
 {
-    if is_useless(prefix, demand, next) {
-        return;
-    }
-    let Some(sums) = step_below(bound, demand, prefix, sums, next, progress.best) else {
+    let worth = progress.best;
+    let Some(sums) = step_below(bound, demand, prefix, sums, departure, next, worth) else {
         return;
     };
     visit(bound, demand, limit, prefix, &sums, progress);

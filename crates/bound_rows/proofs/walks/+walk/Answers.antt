@@ -38,8 +38,8 @@ visit-loop-preserved t c =
       next = λ m e. (next_allowed q.snapshot q.car at.at (has c.args.asked.now.allowed) c.in-Some.step m (sym (c.move_after-next.ensures.value at.at (ap course back ∙ at.leads)) ∙ e), subst (λ (p : PartialTour). IsLawful p.snapshot p.car (p.moves ++ m ∷ [])) back (subst (λ (o : Option Move). IfSome o (λ n. IsLawful q.snapshot q.car (q.moves ++ n ∷ []))) e c.move_after-next.ensures.lawful));
     }
 
-pub visit_after-after-after-requires-clause-leads : goal.visit_after-after-after-requires-clause-leads
-visit_after-after-after-requires-clause-leads t c =
+pub visit_after-after_move-after-requires-clause-leads : goal.visit_after-after_move-after-requires-clause-leads
+visit_after-after_move-after-requires-clause-leads t c =
     let it = c.args.rides.now in
     walk_step (aim_at it.rates.now it.car it.allowed it.required) c.args.prefix.now c.args.sums.now c.args.step c.requires.kept (subst (λ (w : ℕ). boards_allowed (has w) c.args.step ≡ true) (sym c.requires.allowed) c.requires.may) c.requires.lawful
 
@@ -47,4 +47,4 @@ pub visit_after-visit-requires : goal.visit_after-visit-requires
 visit_after-visit-requires t c =
     let it = c.args.rides.now in
     let asked = c.args.asked.now in
-    (omega arith, (walk_kept (aim_at it.rates.now it.car it.allowed it.required) c.args.prefix.now _ c.args.sums.now c.after-after.result c.args.step c.requires.kept c.push.ensures (subst (λ (w : ℕ). boards_allowed (has w) c.args.step ≡ true) (sym c.requires.allowed) c.requires.may) c.requires.lawful c.after-after.ensures, (subst (λ (q : PartialTour). asked.snapshot.now ≡ q.snapshot) (sym c.push.ensures) c.requires.snapshot, (subst (λ (q : PartialTour). length asked.prices.now ≡ call_count q.snapshot) (sym c.push.ensures) c.requires.prices, c.requires.allowed))))
+    (omega arith, (walk_kept (aim_at it.rates.now it.car it.allowed it.required) c.args.prefix.now _ c.args.sums.now c.after_move-after.result c.args.step c.requires.kept c.push.ensures (subst (λ (w : ℕ). boards_allowed (has w) c.args.step ≡ true) (sym c.requires.allowed) c.requires.may) c.requires.lawful c.after_move-after.ensures, (subst (λ (q : PartialTour). asked.snapshot.now ≡ q.snapshot) (sym c.push.ensures) c.requires.snapshot, (subst (λ (q : PartialTour). length asked.prices.now ≡ call_count q.snapshot) (sym c.push.ensures) c.requires.prices, c.requires.allowed))))

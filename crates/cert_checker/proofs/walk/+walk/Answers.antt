@@ -1,6 +1,5 @@
 use Rattle.std.proofs.Common.{◌≡◌, ◌∙◌, ◌-◌, ℕ, suc, true, false, cond, refl, sym, ap, subst, arith, rules, Option, Some, None}
 use Rattle.std.specs.Prelude.{ℤ, int_lt, int_le, ◌≤ℤ◌, ◌<ℤ◌}
-use Rattle.std.proofs.lemmas.Bool.{and_left}
 use Rattle.std.proofs.lemmas.Int.{ints}
 use mir.Val.{to_z, of_z}
 use mir.Syntax.{w128}
@@ -9,14 +8,15 @@ use Rattle.elevator_model.specs.declared.Move.{Move}
 use Rattle.partial_tours.specs.PartialTour.{PartialTour, course, with_move}
 use Rattle.partial_tours.proofs.Follow.{is_some_has}
 use Rattle.partial_tours.proofs.Search.{left_in, left_falls, from_next}
-use Rattle.kept_tours.specs.Walking.{IsWalking, IsNotKept, IsOpen, MayFollow, goes_on}
-use Rattle.kept_tours.proofs.WalkingLemmas.{back_again}
-use Rattle.kept_tours.proofs.Followers.{followers, follower, IsAt, at_next}
+use Rattle.tour_extension.specs.Leaves.{is_useful}
+use Rattle.kept_tours.specs.Walking.{IsWalking, IsOpen, MayFollow}
+use Rattle.kept_tours.proofs.WalkingLemmas.{back_again, departs_there, reached_there}
+use Rattle.kept_tours.proofs.Followers.{followers, follower, IsAt, goes_to_first, goes_to_next}
 use Rattle.pricing_bound.specs.Aims.{Aim, value_for}
 use Rattle.cert_checker.specs.declared.visits.Visits.{Visits}
 use Rattle.cert_checker.specs.declared.visits.Visits.TheVariants.{Going, Passed, Under}
 use Rattle.cert_checker.specs.Visiting.{Visited}
-use Rattle.cert_checker.proofs.StepLemmas.{only_move, none_there}
+use Rattle.cert_checker.proofs.StepLemmas.{none_there}
 use Rattle.cert_checker.proofs.WalkLemmas.{Walks, keeps, passed_by, visited_back, not_kept, is_kept_here, too_many, tour_visited, walks_first, walks_on, walk_stops, all_walked}
 use Rattle.cert_checker.proofs.walk.+walk.Goals as goal
 
@@ -74,10 +74,20 @@ visit-returns-then-point-clause-visited g t c =
     let found : c.of_tour.result ≡ cond (int_lt value c.args.worth) (Under value) (Going (c.args.left - 1)) = c.of_tour.ensures ∙ ap (λ (w : ℤ). cond (int_lt value w) (Under value) (Going (c.args.left - 1))) worth in
     subst (λ (n : ℕ). Visited p c.args.demand.now a.price bound c.args.worth n p c.of_tour.result) (one_less c.args.left c.if-left-eq0.false) (tour_visited p c.args.demand.now a.price bound c.args.worth (c.args.left - 1) o.at value c.of_tour.result o.leads (sym (c.point.ensures o.at o.leads).ended ∙ c.if-point.true) kept is found)
 
+pub visit-useful-followers-requires : goal.visit-useful-followers-requires
+visit-useful-followers-requires g t c = c.requires.walking.demands
+
 pub visit-loop-next-init : goal.visit-loop-next-init
 visit-loop-next-init g t c =
+    let p = c.args.prefix.now in
     let o = c.requires.stands in
-    record { same = refl; walks = walks_first c.args.prefix.now c.args.demand.now (g.B.CompletionBound.aim c.args.bound.now).price (g.B.CompletionBound.bound c.args.bound.now) (to_z w128 (of_z w128 c.args.worth)) o.at c.first-next.result (c.args.left - 1) o.leads (c.first-next.ensures c.args.prefix.now.snapshot c.args.prefix.now.car o.at (has c.args.demand.now.allowed) (c.followers-followers.ensures.value o.at o.leads)) }
+    let are = c.first-next.ensures p.snapshot (is_useful p.snapshot p.car o.at (has c.args.demand.now.allowed)) (c.useful-followers.ensures.value o.at o.leads (c.followers.ensures.value o.at o.leads)) in
+    let goes = goes_to_first p c.args.demand.now o.at c.first-next.result o.leads c.useful-followers.ensures.shut are in
+    record { same = refl; walks = walks_first p c.args.demand.now (g.B.CompletionBound.aim c.args.bound.now).price (g.B.CompletionBound.bound c.args.bound.now) (to_z w128 (of_z w128 c.args.worth)) o.at c.first-next.result (c.args.left - 1) o.leads goes }
+
+pub visit-depart-departure-requires-clause-reached : goal.visit-depart-departure-requires-clause-reached
+visit-depart-departure-requires-clause-reached g t c =
+    reached_there (g.B.CompletionBound.aim c.args.bound.now) (g.B.CompletionBound.stands c.args.bound.now c.args.sums.now) c.args.demand.now c.args.prefix.now c.requires.walking c.requires.stands
 
 pub visit-visit_after-visits-requires : goal.visit-visit_after-visits-requires
 visit-visit_after-visits-requires g t c κs within =
@@ -89,8 +99,9 @@ visit-visit_after-visits-requires g t c κs within =
     let walks = subst (λ (next : Option Move). Walks p c.args.demand.now a.price (g.B.CompletionBound.bound c.args.bound.now) (to_z w128 (of_z w128 c.args.worth)) (c.args.left - 1) next c.loop-next.left) c.in-Some.is c.loop-next.invariant.walks in
     let f = follower p c.args.demand.now.allowed o.at choice walks.place o.leads walks.at in
     let next : MayFollow c.args.demand.now p choice = record { lawful = f.lawful; may = f.may } in
+    let departs = departs_there (g.B.CompletionBound.stands c.args.bound.now c.args.sums.now) (g.B.CompletionBound.departs c.args.bound.now c.depart-departure.result) c.args.demand.now p o c.depart-departure.ensures in
     let here = ap left_in same in
-    (omega (arith, here), (search rules, (search rules, (subst (λ (q : PartialTour). IsWalking a c.args.demand.now q) (sym same) c.requires.walking, (subst (λ (q : PartialTour). IsOpen (g.B.CompletionBound.stands c.args.bound.now c.args.sums.now) c.args.demand.now q) (sym same) o, subst (λ (q : PartialTour). MayFollow c.args.demand.now q choice) (sym same) next)))))
+    (omega (arith, here), (search rules, (search rules, (search rules, (subst (λ (q : PartialTour). IsWalking a c.args.demand.now q) (sym same) c.requires.walking, (subst (λ (q : PartialTour). IsOpen (g.B.CompletionBound.stands c.args.bound.now c.args.sums.now) c.args.demand.now q) (sym same) o, (subst (λ (q : PartialTour). IsOpen (g.B.CompletionBound.departs c.args.bound.now c.depart-departure.result) c.args.demand.now q) (sym same) departs, subst (λ (q : PartialTour). MayFollow c.args.demand.now q choice) (sym same) next)))))))
 
 pub visit-returns-in_default-visits : goal.visit-returns-in_default-visits
 visit-returns-in_default-visits g t c =
@@ -117,12 +128,10 @@ pub visit-loop-next-smaller : goal.visit-loop-next-smaller
 visit-loop-next-smaller g t c =
     let p = c.args.prefix.now in
     let o = c.requires.stands in
-    let same = c.loop-next.invariant.same in
     let choice = c.in-Some.choice in
-    let back = c.visit_after-visits.ensures.back c.in-Going.rest c.in-Going.is ∙ same in
-    let are = c.after-next.ensures p.snapshot p.car o.at (has c.args.demand.now.allowed) (c.followers-followers.ensures.value o.at o.leads) in
+    let are = c.after-next.ensures p.snapshot (is_useful p.snapshot p.car o.at (has c.args.demand.now.allowed)) (c.useful-followers.ensures.value o.at o.leads (c.followers.ensures.value o.at o.leads)) in
     let at = subst (λ (next : Option Move). IsAt p c.args.demand.now.allowed next c.loop-next.invariant.walks.place) c.in-Some.is c.loop-next.invariant.walks.at in
-    let falls = (at_next p c.args.demand.now.allowed o.at choice c.after-next.result c.loop-next.invariant.walks.place o.leads at are).1 in
+    let falls = (goes_to_next p c.args.demand.now o.at choice c.after-next.result c.loop-next.invariant.walks.place o.leads c.useful-followers.ensures.shut at are).1 in
     let here = ap (λ (v : Option Move). from_next v (followers p c.args.demand.now.allowed)) c.in-Some.is in
     omega (arith, falls, here)
 
@@ -139,8 +148,9 @@ visit-loop-next-preserved g t c =
     let seen = subst (λ (v : Visits). Visited (with_move c.loop-next.prefix choice) c.args.demand.now a.price bound stored c.loop-next.left c.visit_after-visits.new.prefix v) c.in-Going.is c.visit_after-visits.ensures.visited in
     let more = subst (λ (q : PartialTour). Visited (with_move q choice) c.args.demand.now a.price bound stored c.loop-next.left c.visit_after-visits.new.prefix (Going c.in-Going.rest)) same seen in
     let back = c.visit_after-visits.ensures.back c.in-Going.rest c.in-Going.is ∙ same in
-    let are = c.after-next.ensures p.snapshot p.car o.at (has c.args.demand.now.allowed) (c.followers-followers.ensures.value o.at o.leads) in
-    record { same = back; walks = (walks_on p c.args.demand.now a.price bound stored (c.args.left - 1) o.at choice c.after-next.result c.loop-next.left c.in-Going.rest c.visit_after-visits.new.prefix o.leads walks more are).0 }
+    let are = c.after-next.ensures p.snapshot (is_useful p.snapshot p.car o.at (has c.args.demand.now.allowed)) (c.useful-followers.ensures.value o.at o.leads (c.followers.ensures.value o.at o.leads)) in
+    let goes = (goes_to_next p c.args.demand.now o.at choice c.after-next.result walks.place o.leads c.useful-followers.ensures.shut walks.at are).0 in
+    record { same = back; walks = walks_on p c.args.demand.now a.price bound stored (c.args.left - 1) o.at choice c.after-next.result c.loop-next.left c.in-Going.rest c.visit_after-visits.new.prefix o.leads walks more goes }
 
 pub visit-returns-clause-visited : goal.visit-returns-clause-visited
 visit-returns-clause-visited g t c =
@@ -156,17 +166,6 @@ visit-returns-clause-visited g t c =
     let none = none_there c.loop-next.next c.in_default.not-Some in
     let walks = subst (λ (w : ℤ). Walks p c.args.demand.now a.price bound w (c.args.left - 1) None c.loop-next.left) worth (subst (λ (next : Option Move). Walks p c.args.demand.now a.price bound stored (c.args.left - 1) next c.loop-next.left) none c.loop-next.invariant.walks) in
     subst (λ (n : ℕ). Visited p c.args.demand.now a.price bound c.args.worth n c.loop-next.prefix (Going c.loop-next.left)) (one_less c.args.left c.if-left-eq0.false) (all_walked p c.args.demand.now a.price bound c.args.worth (c.args.left - 1) c.loop-next.left o.at c.loop-next.prefix c.loop-next.invariant.same o.leads (sym (c.point.ensures o.at o.leads).ended ∙ c.if-point.false) kept walks)
-
-pub visit_after-returns-then-is_useless-clause-visited : goal.visit_after-returns-then-is_useless-clause-visited
-visit_after-returns-then-is_useless-clause-visited g t c =
-    let a = g.B.CompletionBound.aim c.args.bound.now in
-    let p = c.args.prefix.now in
-    let o = c.requires.stands in
-    let to = with_move p c.args.next in
-    let bound = g.B.CompletionBound.bound c.args.bound.now in
-    let led = is_some_has (course to) c.requires.next.lawful in
-    let moved = only_move p o.at led.0 c.args.next o.leads led.1 in
-    passed_by to c.args.demand.now a.price bound c.args.worth c.args.left p led.0 led.1 (and_left (goes_on to c.args.demand.now led.0) (int_lt (bound led.0) c.args.worth) (c.is_useless.ensures c.if-is_useless.true o.at led.0 o.leads moved)) refl refl
 
 pub visit_after-returns-in_default-clause-visited : goal.visit_after-returns-in_default-clause-visited
 visit_after-returns-in_default-clause-visited g t c =
@@ -185,7 +184,7 @@ visit_after-visit-visits-requires g t c κs within =
     let falls = left_falls c.args.prefix.now c.args.next c.requires.next.lawful in
     let made = c.in-Some.ensures.made in
     let here = ap left_in made.0 in
-    (omega (arith, falls, here), (search rules, (search rules, (made.1, made.2))))
+    (omega (arith, falls, here), (search rules, (search rules, (search rules, (made.1, made.2)))))
 
 pub visit_after-returns-in-Going-clause-back : goal.visit_after-returns-in-Going-clause-back
 visit_after-returns-in-Going-clause-back g t c left e =

@@ -40,7 +40,7 @@ dive-requires g t c κs within =
     let falls = left_falls c.args.prefix.now next onwards.may.lawful in
     let to = c.step.ensures.prefix ∙ ap (λ (q : PartialTour). with_move q next) c.most_promising.ensures.prefix in
     let here = ap left_in to in
-    (omega (arith, falls, here), (search rules, (search rules, (c.step.ensures.walking, c.in-Some-step.ensures.stands))))
+    (omega (arith, falls, here), (search rules, (search rules, (search rules, (c.step.ensures.walking, c.in-Some-step.ensures.stands)))))
 
 pub returns-clause-prefix : goal.returns-clause-prefix
 returns-clause-prefix g t c =

@@ -7,13 +7,13 @@ use Rattle.elevator_model.specs.declared.Move.{Move}
 use Rattle.partial_tours.specs.PartialTour.{PartialTour, course, with_move}
 use Rattle.partial_tours.proofs.Follow.{is_some_has}
 use Rattle.partial_tours.proofs.Search.{left_in, left_falls, from_next}
-use Rattle.kept_tours.specs.Walking.{IsWalking, IsNotKept, IsOpen, MayFollow, aim_at}
-use Rattle.kept_tours.proofs.Followers.{followers, follower}
-use Rattle.kept_tours.proofs.WalkingLemmas.{back_again}
-use Rattle.pricing_search.specs.declared.progress.Progress.{Progress}
+use Rattle.tour_extension.specs.Leaves.{is_useful}
+use Rattle.kept_tours.specs.Walking.{IsWalking, IsOpen, MayFollow, aim_at}
+use Rattle.kept_tours.proofs.Followers.{IsAt, followers, follower, goes_to_first, goes_to_next}
+use Rattle.kept_tours.proofs.WalkingLemmas.{back_again, departs_there, reached_there}
 use Rattle.pricing_search.specs.Walks.{HasFound, Visited}
-use Rattle.pricing_search.proofs.StepLemmas.{only_move, none_there}
-use Rattle.pricing_search.proofs.Visiting.{Visits, IsCounted, counted_found, reached_best, left_out, ended_visited, all_visited, visits_first, visits_on, shut_out, kept_out, keeps, lower_at, grows_at}
+use Rattle.pricing_search.proofs.StepLemmas.{none_there}
+use Rattle.pricing_search.proofs.Visiting.{Visits, IsCounted, counted_found, reached_best, left_out, ended_visited, all_visited, visits_first, visits_on, kept_out, keeps, lower_at, grows_at}
 use Rattle.pricing_search.proofs.walk.+walk.Goals as goal
 
 pub visit-returns-then-is_reached-clause-visited : goal.visit-returns-then-is_reached-clause-visited
@@ -40,13 +40,26 @@ visit-returns-then-point-clause-visited g t c =
     let same : value ≡ c.tour_value.result = search rules in
     ended_visited (g.B.CompletionBound.aim c.args.bound.now) c.args.demand.now c.args.prefix.now (g.B.CompletionBound.bound c.args.bound.now) (g.B.CompletionBound.stands c.args.bound.now c.args.sums.now) c.args.limit c.args.progress.now c.count.new.self c.note.new.self value c.requires.walking o (sym (c.point.ensures o.at o.leads).ended ∙ c.if-point.true) c.if-progress-limit.false c.requires.found (g.met.B.CompletionBound.lower c.args.bound.now) (record { visits = c.count.ensures.visits; best = c.count.ensures.best; untried = c.count.ensures.untried; found = c.count.ensures.found }) (λ x there. same ∙ c.tour_value.ensures.value x there) c.note.ensures.visits c.note.ensures.untried c.note.ensures.best c.note.ensures.found
 
+pub visit-useful-followers-requires : goal.visit-useful-followers-requires
+visit-useful-followers-requires g t c = c.requires.walking.demands
+
 pub visit-loop-next-init : goal.visit-loop-next-init
 visit-loop-next-init g t c =
+    let p = c.args.prefix.now in
     let o = c.requires.stands in
+    let a = g.B.CompletionBound.aim c.args.bound.now in
+    let bound = g.B.CompletionBound.bound c.args.bound.now in
     let counted : IsCounted c.args.progress.now c.count.new.self = record { visits = c.count.ensures.visits; best = c.count.ensures.best; untried = c.count.ensures.untried; found = c.count.ensures.found } in
     let lt = c.if-progress-limit.false in
     let up = c.count.ensures.visits in
-    record { same = refl; visits = visits_first c.args.prefix.now c.args.demand.now (g.B.CompletionBound.aim c.args.bound.now).price (g.B.CompletionBound.bound c.args.bound.now) c.args.limit o.at c.first-next.result c.count.new.self o.leads (c.first-next.ensures c.args.prefix.now.snapshot c.args.prefix.now.car o.at (has c.args.demand.now.allowed) (c.followers-followers.ensures.value o.at o.leads)) (omega (arith, lt, up)) (counted_found (aim_at c.args.prefix.now c.args.demand.now (g.B.CompletionBound.aim c.args.bound.now).price) c.args.progress.now c.count.new.self counted c.requires.found) }
+    let are = c.first-next.ensures p.snapshot (is_useful p.snapshot p.car o.at (has c.args.demand.now.allowed)) (c.useful-followers.ensures.value o.at o.leads (c.followers.ensures.value o.at o.leads)) in
+    let goes = goes_to_first p c.args.demand.now o.at c.first-next.result o.leads c.useful-followers.ensures.shut are in
+    let grows = grows_at a c.args.demand.now p bound c.requires.walking (g.met.B.CompletionBound.grows c.args.bound.now) in
+    record { same = refl; visits = visits_first a p c.args.demand.now bound c.args.limit o.at c.first-next.result c.count.new.self c.requires.walking o.leads grows goes (omega (arith, lt, up)) (counted_found (aim_at p c.args.demand.now a.price) c.args.progress.now c.count.new.self counted c.requires.found) }
+
+pub visit-depart-departure-requires-clause-reached : goal.visit-depart-departure-requires-clause-reached
+visit-depart-departure-requires-clause-reached g t c =
+    reached_there (g.B.CompletionBound.aim c.args.bound.now) (g.B.CompletionBound.stands c.args.bound.now c.args.sums.now) c.args.demand.now c.args.prefix.now c.requires.walking c.requires.stands
 
 pub visit-visit_after-requires : goal.visit-visit_after-requires
 visit-visit_after-requires g t c κs within =
@@ -58,20 +71,18 @@ visit-visit_after-requires g t c κs within =
     let visits = subst (λ (next : Option Move). Visits p c.args.demand.now a.price (g.B.CompletionBound.bound c.args.bound.now) c.args.limit next c.count.new.self c.loop-next.progress) c.in-Some.is c.loop-next.invariant.visits in
     let f = follower p c.args.demand.now.allowed o.at choice visits.place o.leads visits.at in
     let next : MayFollow c.args.demand.now p choice = record { lawful = f.lawful; may = f.may } in
+    let departs = departs_there (g.B.CompletionBound.stands c.args.bound.now c.args.sums.now) (g.B.CompletionBound.departs c.args.bound.now c.depart-departure.result) c.args.demand.now p o c.depart-departure.ensures in
     let here = ap left_in same in
-    (omega (arith, here), (search rules, (search rules, (subst (λ (q : PartialTour). IsWalking a c.args.demand.now q) (sym same) c.requires.walking, (subst (λ (q : PartialTour). IsOpen (g.B.CompletionBound.stands c.args.bound.now c.args.sums.now) c.args.demand.now q) (sym same) o, (subst (λ (q : PartialTour). MayFollow c.args.demand.now q choice) (sym same) next, (visits.on.limit, subst (λ (q : PartialTour). HasFound (aim_at q c.args.demand.now a.price) c.loop-next.progress) (sym same) visits.found)))))))
+    (omega (arith, here), (search rules, (search rules, (search rules, (subst (λ (q : PartialTour). IsWalking a c.args.demand.now q) (sym same) c.requires.walking, (subst (λ (q : PartialTour). IsOpen (g.B.CompletionBound.stands c.args.bound.now c.args.sums.now) c.args.demand.now q) (sym same) o, (subst (λ (q : PartialTour). IsOpen (g.B.CompletionBound.departs c.args.bound.now c.depart-departure.result) c.args.demand.now q) (sym same) departs, (subst (λ (q : PartialTour). MayFollow c.args.demand.now q choice) (sym same) next, (visits.done.on.limit, subst (λ (q : PartialTour). HasFound (aim_at q c.args.demand.now a.price) c.loop-next.progress) (sym same) visits.done.found)))))))))
 
 pub visit-loop-next-smaller : goal.visit-loop-next-smaller
 visit-loop-next-smaller g t c =
     let p = c.args.prefix.now in
     let o = c.requires.stands in
-    let same = c.loop-next.invariant.same in
     let choice = c.in-Some.choice in
-    let a = g.B.CompletionBound.aim c.args.bound.now in
-    let visits = subst (λ (next : Option Move). Visits p c.args.demand.now a.price (g.B.CompletionBound.bound c.args.bound.now) c.args.limit next c.count.new.self c.loop-next.progress) c.in-Some.is c.loop-next.invariant.visits in
-    let more = subst (λ (q : PartialTour). Visited (with_move q choice) c.args.demand.now a.price (g.B.CompletionBound.bound c.args.bound.now) c.args.limit c.loop-next.progress c.visit_after.new.progress) same c.visit_after.ensures.visited in
-    let are = c.after-next.ensures p.snapshot p.car o.at (has c.args.demand.now.allowed) (c.followers-followers.ensures.value o.at o.leads) in
-    let falls = (visits_on p c.args.demand.now a.price (g.B.CompletionBound.bound c.args.bound.now) c.args.limit o.at choice c.after-next.result c.count.new.self c.loop-next.progress c.visit_after.new.progress o.leads visits more are (grows_at a c.args.demand.now p (g.B.CompletionBound.bound c.args.bound.now) c.requires.walking (g.met.B.CompletionBound.grows c.args.bound.now))).1 in
+    let at = subst (λ (next : Option Move). IsAt p c.args.demand.now.allowed next c.loop-next.invariant.visits.place) c.in-Some.is c.loop-next.invariant.visits.at in
+    let are = c.after-next.ensures p.snapshot (is_useful p.snapshot p.car o.at (has c.args.demand.now.allowed)) (c.useful-followers.ensures.value o.at o.leads (c.followers.ensures.value o.at o.leads)) in
+    let falls = (goes_to_next p c.args.demand.now o.at choice c.after-next.result c.loop-next.invariant.visits.place o.leads c.useful-followers.ensures.shut at are).1 in
     let here = ap (λ (v : Option Move). from_next v (followers p c.args.demand.now.allowed)) c.in-Some.is in
     omega (arith, falls, here)
 
@@ -82,10 +93,13 @@ visit-loop-next-preserved g t c =
     let same = c.loop-next.invariant.same in
     let choice = c.in-Some.choice in
     let a = g.B.CompletionBound.aim c.args.bound.now in
-    let visits = subst (λ (next : Option Move). Visits p c.args.demand.now a.price (g.B.CompletionBound.bound c.args.bound.now) c.args.limit next c.count.new.self c.loop-next.progress) c.in-Some.is c.loop-next.invariant.visits in
-    let more = subst (λ (q : PartialTour). Visited (with_move q choice) c.args.demand.now a.price (g.B.CompletionBound.bound c.args.bound.now) c.args.limit c.loop-next.progress c.visit_after.new.progress) same c.visit_after.ensures.visited in
-    let are = c.after-next.ensures p.snapshot p.car o.at (has c.args.demand.now.allowed) (c.followers-followers.ensures.value o.at o.leads) in
-    record { same = c.visit_after.ensures.prefix ∙ same; visits = (visits_on p c.args.demand.now a.price (g.B.CompletionBound.bound c.args.bound.now) c.args.limit o.at choice c.after-next.result c.count.new.self c.loop-next.progress c.visit_after.new.progress o.leads visits more are (grows_at a c.args.demand.now p (g.B.CompletionBound.bound c.args.bound.now) c.requires.walking (g.met.B.CompletionBound.grows c.args.bound.now))).0 }
+    let bound = g.B.CompletionBound.bound c.args.bound.now in
+    let visits = subst (λ (next : Option Move). Visits p c.args.demand.now a.price bound c.args.limit next c.count.new.self c.loop-next.progress) c.in-Some.is c.loop-next.invariant.visits in
+    let more = subst (λ (q : PartialTour). Visited (with_move q choice) c.args.demand.now a.price bound c.args.limit c.loop-next.progress c.visit_after.new.progress) same c.visit_after.ensures.visited in
+    let are = c.after-next.ensures p.snapshot (is_useful p.snapshot p.car o.at (has c.args.demand.now.allowed)) (c.useful-followers.ensures.value o.at o.leads (c.followers.ensures.value o.at o.leads)) in
+    let goes = (goes_to_next p c.args.demand.now o.at choice c.after-next.result visits.place o.leads c.useful-followers.ensures.shut visits.at are).0 in
+    let grows = grows_at a c.args.demand.now p bound c.requires.walking (g.met.B.CompletionBound.grows c.args.bound.now) in
+    record { same = c.visit_after.ensures.prefix ∙ same; visits = visits_on a p c.args.demand.now bound c.args.limit o.at choice c.after-next.result c.count.new.self c.loop-next.progress c.visit_after.new.progress c.requires.walking o.leads grows visits more goes }
 
 pub visit-returns-clause-visited : goal.visit-returns-clause-visited
 visit-returns-clause-visited g t c =
@@ -96,16 +110,6 @@ visit-returns-clause-visited g t c =
     let counted : IsCounted c.args.progress.now c.count.new.self = record { visits = c.count.ensures.visits; best = c.count.ensures.best; untried = c.count.ensures.untried; found = c.count.ensures.found } in
     let visits = subst (λ (next : Option Move). Visits p c.args.demand.now a.price (g.B.CompletionBound.bound c.args.bound.now) c.args.limit next c.count.new.self c.loop-next.progress) none c.loop-next.invariant.visits in
     all_visited a c.args.demand.now p (g.B.CompletionBound.bound c.args.bound.now) (g.B.CompletionBound.stands c.args.bound.now c.args.sums.now) c.args.limit c.args.progress.now c.count.new.self c.loop-next.progress c.requires.walking o (sym (c.point.ensures o.at o.leads).ended ∙ c.if-point.false) counted visits
-
-pub visit_after-returns-then-is_useless-clause-visited : goal.visit_after-returns-then-is_useless-clause-visited
-visit_after-returns-then-is_useless-clause-visited g t c =
-    let a = g.B.CompletionBound.aim c.args.bound.now in
-    let p = c.args.prefix.now in
-    let o = c.requires.stands in
-    let to = with_move p c.args.next in
-    let led = is_some_has (course to) c.requires.next.lawful in
-    let moved = only_move p o.at led.0 c.args.next o.leads led.1 in
-    shut_out to c.args.demand.now a.price (g.B.CompletionBound.bound c.args.bound.now) c.args.limit c.args.progress.now led.0 c.requires.walking.accepted c.requires.walking.demands led.1 (c.is_useless.ensures c.if-is_useless.true o.at led.0 o.leads moved) c.requires.limit c.requires.found
 
 pub visit_after-returns-in_default-clause-prefix : goal.visit_after-returns-in_default-clause-prefix
 visit_after-returns-in_default-clause-prefix g t c = (c.step_below.ensures.none (none_there c.step_below.result c.in_default.not-Some)).0
@@ -128,7 +132,7 @@ visit_after-visit-requires g t c κs within =
     let falls = left_falls c.args.prefix.now c.args.next c.requires.next.lawful in
     let made = c.in-Some.ensures.made in
     let here = ap left_in made.0 in
-    (omega (arith, falls, here), (search rules, (search rules, (made.1, (made.2, (c.requires.limit, subst (λ (q : PartialTour). HasFound (aim_at q c.args.demand.now a.price) c.args.progress.now) (sym made.0) c.requires.found))))))
+    (omega (arith, falls, here), (search rules, (search rules, (search rules, (made.1, (made.2, (c.requires.limit, subst (λ (q : PartialTour). HasFound (aim_at q c.args.demand.now a.price) c.args.progress.now) (sym made.0) c.requires.found)))))))
 
 pub visit_after-returns-clause-prefix : goal.visit_after-returns-clause-prefix
 visit_after-returns-clause-prefix g t c =
