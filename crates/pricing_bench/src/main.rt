@@ -1,6 +1,7 @@
 //! `pricing_bench CASE FACTOR LIMIT ROUNDS` prices each car of a generated snapshot at its root, so many times over, at
 //! one price for all calls: FACTOR times the mean cost of a call in a first plan. It prints how many partial tours were
-//! visited, the sum of the worths, and how many pricings reached the limit.
+//! visited, the sum of the worths, and how many pricings reached the limit; and to standard error the microseconds that the
+//! pricings took.
 #![tactic(auto)]
 
 mod cases;
@@ -55,6 +56,7 @@ fn main(rt: HostRuntime) -> io::Result<ExitCode> {
         return Ok(ExitCode::from(1));
     };
     let seen = price_all(
+        &rt,
         rt.alloc(),
         &snapshot,
         asked.factor,
@@ -70,5 +72,6 @@ fn main(rt: HostRuntime) -> io::Result<ExitCode> {
         seen.spent,
         seen.worths
     )?;
+    eprintln!(rt; "microseconds {}", seen.microseconds)?;
     Ok(ExitCode::SUCCESS)
 }
