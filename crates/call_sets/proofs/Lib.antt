@@ -5,3 +5,4 @@ pub mod ListTests
 pub mod Sums
 pub mod Counts
 pub mod Listed
+pub mod Halves

@@ -1,6 +1,6 @@
 //! Sets of calls.
 
-ghost use Rattle.std.specs.Prelude.{true, false, ◌≡◌, ℕ, ◌<◌, ◌==◌, ◌&&◌, ◌||◌, ◌↔◌, not, nat_lt, IsTrue, MatchOption};
+ghost use Rattle.std.specs.Prelude.{true, false, ◌≡◌, ℕ, ◌+◌, ◌<◌, ◌==◌, ◌&&◌, ◌||◌, ◌↔◌, not, nat_lt, IsTrue, MatchOption};
 ghost use Rattle.std.specs.Iterator.{YieldsFirst, item_count};
 ghost use Rattle.call_sets.specs.Counting.{has, is_among, members};
 
@@ -24,6 +24,29 @@ impl Model for CallSet {
     ghost invariant = { λ s. s.bits < 2 ^ 128 };
 
     ghost inverse = { λ n. record { bits = n } };
+}
+
+// A set is read and changed by the half in which a call is: shifts of 128 bits take several instructions, and most sets
+// have no call from 64 on.
+impl CallSet {
+    /// The members below 64 as the places of the ones, and those from 64 on, less 64.
+    fn halves(self) -> (u64, u64)
+        ensures low { (k : ℕ) → k < 64 → has result.0 k ≡ has self k }
+        ensures high { (k : ℕ) → has result.1 k ≡ has self (k + 64) }
+    {
+        let low = self.bits & u128::from(u64::MAX);
+        (low as u64, (self.bits >> 64) as u64)
+    }
+
+    /// The set with these halves.
+    fn of_halves(low: u64, high: u64) -> Self
+        ensures low { (k : ℕ) → k < 64 → has result k ≡ has low k }
+        ensures high { (k : ℕ) → has result (k + 64) ≡ has high k }
+    {
+        Self {
+            bits: u128::from(high) << 64 | u128::from(low),
+        }
+    }
 }
 
 impl CallSet {
@@ -74,7 +97,12 @@ impl CallSet {
     pub fn contains(self, call: u32) -> bool
         ensures { result ≡ has self call }
     {
-        call < 128 && self.bits >> call & 1 == 1
+        let (low, high) = self.halves();
+        if call < 64 {
+            low >> call & 1 == 1
+        } else {
+            call < 128 && high >> (call - 64) & 1 == 1
+        }
     }
 
     /// The set with one call more.
@@ -82,8 +110,11 @@ impl CallSet {
         requires { call < 128 }
         ensures { (k : ℕ) → has result k ≡ (has self k || (k == call)) }
     {
-        Self {
-            bits: self.bits | 1 << call,
+        let (low, high) = self.halves();
+        if call < 64 {
+            Self::of_halves(low | 1 << call, high)
+        } else {
+            Self::of_halves(low, high | 1 << (call - 64))
         }
     }
 
@@ -91,11 +122,13 @@ impl CallSet {
     pub fn without(self, call: u32) -> Self
         ensures { (k : ℕ) → has result k ≡ (has self k && not (k == call)) }
     {
-        if call >= 128 {
-            return self;
-        }
-        Self {
-            bits: self.bits & !(1 << call),
+        let (low, high) = self.halves();
+        if call < 64 {
+            Self::of_halves(low & !(1 << call), high)
+        } else if call < 128 {
+            Self::of_halves(low, high & !(1 << (call - 64)))
+        } else {
+            self
         }
     }
 
@@ -130,12 +163,13 @@ impl CallSet {
     pub fn above(self, index: u32) -> Self
         ensures { (k : ℕ) → has result k ≡ (has self k && nat_lt index k) }
     {
-        let bits = self.bits;
-        if index >= 127 {
-            return Self::empty();
-        }
-        Self {
-            bits: bits & u128::MAX << (index + 1),
+        let (low, high) = self.halves();
+        if index < 63 {
+            Self::of_halves(low & u64::MAX << (index + 1), high)
+        } else if index < 127 {
+            Self::of_halves(0, high & u64::MAX << (index - 63))
+        } else {
+            Self::empty()
         }
     }
 
@@ -146,10 +180,14 @@ impl CallSet {
         ensures least { MatchOption result (self ≡ 0) (λ call. (k : ℕ) → k < call
             → has self k ≡ false) }
     {
-        if self.bits == 0 {
-            return None;
+        let (low, high) = self.halves();
+        if low != 0 {
+            Some(low.trailing_zeros())
+        } else if high != 0 {
+            Some(64 + high.trailing_zeros())
+        } else {
+            None
         }
-        Some(self.bits.trailing_zeros())
     }
 
     /// The members, rising.
