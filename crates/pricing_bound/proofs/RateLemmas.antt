@@ -44,8 +44,8 @@ straight s j rate time cost is ride m =
     rides : (m t : ℕ) → m + t - m ≡ t
     rides m t = omega arith
 
-pub rate_is : (s : Snapshot) (j : ℕ) (b : Building) (call : Call) (rate : Rate) (time : ℕ) → b ≡ s.building → call ≡ call_of s j → j < call_count s → time ≡ time_between b.travel call.origin call.destination → rate.released ≡ call.released → rate.late ≡ call.released + b.patience → rate.wait ≡ call.persons * b.wait_weight → rate.over ≡ call.persons * b.patience_weight → rate.travel ≡ call.persons * b.travel_weight → rate.ride ≡ rate.travel * time → rate.wait ≤ 8000 → rate.over ≤ 8000 → rate.travel ≤ 8000 → rate.ride ≤ 160000000000 → call.released ≤ 1000000000 → rate.price ≡ pos 0 → rate.below ≡ 0 → IsRate s j rate
-rate_is s j b call rate time same_building same_call lt time_is released late wait over travel ride wait_small over_small travel_small ride_small early price below =
+pub rate_is : (s : Snapshot) (j : ℕ) (b : Building) (call : Call) (rate : Rate) (time : ℕ) → b ≡ s.building → call ≡ call_of s j → j < call_count s → time ≡ time_between b.travel call.origin call.destination → rate.released ≡ call.released → rate.late ≡ call.released + b.patience → rate.wait ≡ call.persons * b.wait_weight → rate.over ≡ call.persons * b.patience_weight → rate.travel ≡ call.persons * b.travel_weight → rate.ride ≡ rate.travel * time → rate.wait ≤ 8000 → rate.over ≤ 8000 → rate.travel ≤ 8000 → rate.to ≡ call.destination → rate.ride ≤ 160000000000 → call.released ≤ 1000000000 → rate.price ≡ pos 0 → rate.below ≡ 0 → IsRate s j rate
+rate_is s j b call rate time same_building same_call lt time_is released late wait over travel ride wait_small over_small travel_small to ride_small early price below =
     let cost = all_costs in
     record {
       cost = cost;
@@ -53,6 +53,7 @@ rate_is s j b call rate time same_building same_call lt time_is released late wa
       wait = wait_small;
       over = over_small;
       travel = travel_small;
+      to = to ∙ ap (λ (x : Call). x.destination) same_call;
       ride = ride_small;
       ordered = omega (arith, released, late);
       early = omega (arith, released, early);

@@ -2,7 +2,7 @@
 use Rattle.std.specs.Prelude.{◌≡◌, ◌≤◌, ◌<◌, ℕ, ◌+◌, ◌-◌, ◌*◌, ℤ, pos, ◌-ℤ◌, int_lt, Bool, false, true, ◌||◌, List, length, slice_index, slice_index_or, if◌then◌else◌}
 use Rattle.call_sets.specs.Counting.{has}
 use Rattle.elevator_model.specs.Costs.{cost_of_rider}
-use Rattle.elevator_model.specs.Snapshot.{Snapshot, call_count}
+use Rattle.elevator_model.specs.Snapshot.{Snapshot, call_count, call_of}
 use Rattle.elevator_model.specs.Travel.{Square, time_between}
 use Rattle.price_scale.specs.Scale.{IsPrice}
 use Rattle.search_model.specs.Bounds.{cost_if_alone}
@@ -48,6 +48,7 @@ pub record IsRate (s : Snapshot) (j : ℕ) (rate : Rate) : Type 0 where
   pub wait : rate.wait ≤ 8000
   pub over : rate.over ≤ 8000
   pub travel : rate.travel ≤ 8000
+  pub to : rate.to ≡ (call_of s j).destination
   pub ride : rate.ride ≤ 160000000000
   pub ordered : rate.released ≤ rate.late
   pub early : rate.released ≤ 1000000000

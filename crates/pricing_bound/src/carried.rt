@@ -6,29 +6,17 @@ ghost use Rattle.call_sets.specs.Counting.{has, sum_where};
 ghost use Rattle.elevator_model.specs.Building.{floor_count};
 ghost use Rattle.elevator_model.specs.Partial.{Course};
 ghost use Rattle.elevator_model.specs.Snapshot.{IsAccepted, call_count, car_count, spec_of};
-ghost use Rattle.elevator_model.specs.Travel.{time_between};
 ghost use Rattle.partial_tours.specs.Courses.{reached};
 ghost use Rattle.partial_tours.specs.PartialTour.{course};
 ghost use Rattle.search_model.specs.Bounds.{cost_if_straight};
 ghost use Rattle.pricing_bound.specs.Running.{cost_of_call_rides, cost_of_group_rides, cost_of_rides, ridden_to as ridden_to_lem, standing_at};
 
 use crate::rates::Rates;
+use crate::rides::arrival_from;
 use call_sets::{CallSet, FloorSet};
 use call_state::Snapshot;
-use elevator_model::{LATEST_MOMENT, MOMENT_LIMIT, MOST_CALL_COST};
+use elevator_model::{LATEST_MOMENT, MOST_CALL_COST};
 use partial_tours::Prefix;
-
-/// The moment in ms at which a car would be at a floor that goes there straight from a floor where its doors are open
-/// at the moment `opened`.
-fn arrival_from(snapshot: &Snapshot, from: u32, opened: u64, to: u32) -> u64
-    requires from { from < floor_count snapshot.now.building }
-    requires to { to < floor_count snapshot.now.building }
-    requires early { opened < LATEST_MOMENT }
-    ensures value { result ≡ opened + time_between snapshot.now.building.travel from to }
-    ensures early { result ≤ MOMENT_LIMIT }
-{
-    opened + snapshot.building().travel().time(from, to)
-}
 
 /// What a call that boarded would cost, by its rate.
 fn cost_at_rate(rates: &Rates, prefix: &Prefix, floor: u32, opened: u64, call: u32) -> u64
@@ -43,10 +31,7 @@ fn cost_at_rate(rates: &Rates, prefix: &Prefix, floor: u32, opened: u64, call: u
         (standing_at (reached prefix.now.snapshot prefix.now.car x) floor opened) call }
     ensures bounded { result ≤ MOST_CALL_COST }
 {
-    let snapshot = rates.snapshot();
-    let destination = snapshot.calls()[call as usize].destination;
-    let delivered = arrival_from(snapshot, floor, opened, destination);
-    rates.cost(call, prefix.boarded_at(call), delivered)
+    rates.cost_from(call, prefix.boarded_at(call), floor, opened)
 }
 
 /// What calls that boarded would cost.

@@ -6,14 +6,17 @@ ghost use Rattle.elevator_model.specs.Building.{floor_count};
 ghost use Rattle.elevator_model.specs.Snapshot.{IsAccepted, Snapshot as SnapshotValue, call_count, call_of};
 ghost use Rattle.price_scale.specs.Scale.{IsPrice};
 ghost use Rattle.elevator_model.specs.Costs.{cost_of_rider};
+ghost use Rattle.elevator_model.specs.Tours.{destination_of};
+ghost use Rattle.elevator_model.specs.Travel.{time_between};
 ghost use Rattle.search_model.specs.Bounds.{cost_if_alone};
 ghost use Rattle.search_model.specs.Prices.{price_at, scaled as scaled_lem};
 ghost use Rattle.pricing_bound.specs.Rates.{AreEnds, AreNearest, AreRates, IsEnd, IsNearest, IsRate, ArePrices, rise_at, wait_at};
 
+use crate::rides::arrival_from;
 use crate::waiting::Growth;
 use call_sets::CallSet;
 use call_state::{Building, Call, Snapshot, Travel};
-use elevator_model::{MOMENT_LIMIT, MOST_CALL_COST, MOST_CALLS};
+use elevator_model::{LATEST_MOMENT, MOMENT_LIMIT, MOST_CALL_COST, MOST_CALLS};
 use price_scale::{Price, scaled};
 use std::alloc::{AllocError, Global};
 use std::marker::Model;
@@ -29,6 +32,8 @@ pub(crate) struct Rate {
     wait: u64,
     over: u64,
     travel: u64,
+    /// The floor where its persons get off.
+    to: u32,
     /// What the straight ride to its destination costs, in cost units.
     ride: u64,
     /// The price of the call in thousandths of a cost unit, of absolute value at most 10^24.
@@ -95,6 +100,7 @@ impl Rate {
             wait: self.wait,
             over: self.over,
             travel: self.travel,
+            to: self.to,
             ride: self.ride,
             price,
             below: self.below_price(price),
@@ -149,6 +155,7 @@ fn rate_of(building: &Building, call: &Call) -> Rate
         wait: persons * building.wait_weight(),
         over: persons * building.patience_weight(),
         travel,
+        to: call.destination,
         ride: travel * time,
         price: 0,
         below: 0,
@@ -386,15 +393,20 @@ impl<'a> Rates<'a> {
         self.rates[call as usize].price
     }
 
-    /// What a call costs that boards and gets off at these moments, in cost units.
-    pub(crate) fn cost(&self, call: u32, boarded: u64, delivered: u64) -> u64
+    /// What a call costs that boarded at a moment and rides straight to its destination from a floor where the doors
+    /// are open at the moment `opened`, in cost units.
+    pub(crate) fn cost_from(&self, call: u32, boarded: u64, floor: u32, opened: u64) -> u64
         requires call { call < call_count self.now.snapshot }
         requires boarded { boarded ≤ MOMENT_LIMIT }
-        requires delivered { delivered ≤ MOMENT_LIMIT }
-        ensures value { result ≡ cost_of_rider self.now.snapshot call boarded delivered }
+        requires floor { floor < floor_count self.now.snapshot.building }
+        requires early { opened < LATEST_MOMENT }
+        ensures value { result ≡ cost_of_rider self.now.snapshot call boarded
+            (opened + time_between self.now.snapshot.building.travel floor
+            (destination_of self.now.snapshot call)) }
         ensures bounded { result ≤ MOST_CALL_COST }
     {
         let rate = &self.rates[call as usize];
+        let delivered = arrival_from(self.snapshot, floor, opened, rate.to);
         rate.wait_cost(boarded) + rate.travel * delivered.saturating_sub(boarded)
     }
 

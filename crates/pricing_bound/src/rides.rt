@@ -10,9 +10,21 @@ ghost use Rattle.partial_tours.specs.PartialTour.{course};
 ghost use Rattle.search_model.specs.Bounds.{cost_if_alone, cost_if_straight};
 
 use call_state::Snapshot;
-use elevator_model::{MOMENT_LIMIT, MOST_CALL_COST};
+use elevator_model::{LATEST_MOMENT, MOMENT_LIMIT, MOST_CALL_COST};
 use partial_tours::Prefix;
 use tour_rules::riding::{cost_of_call, cost_of_group};
+
+/// The moment in ms at which a car would be at a floor that goes there straight from a floor where its doors are open
+/// at the moment `opened`.
+pub(crate) fn arrival_from(snapshot: &Snapshot, from: u32, opened: u64, to: u32) -> u64
+    requires from { from < floor_count snapshot.now.building }
+    requires to { to < floor_count snapshot.now.building }
+    requires early { opened < LATEST_MOMENT }
+    ensures value { result ≡ opened + time_between snapshot.now.building.travel from to }
+    ensures early { result ≤ MOMENT_LIMIT }
+{
+    opened + snapshot.building().travel().time(from, to)
+}
 
 /// The moment in ms at which the car would be at a floor if it went there straight from its last stop.
 pub(crate) fn straight_arrival(snapshot: &Snapshot, prefix: &Prefix, to: u32) -> u64
@@ -23,7 +35,7 @@ pub(crate) fn straight_arrival(snapshot: &Snapshot, prefix: &Prefix, to: u32) ->
         (reached prefix.now.snapshot prefix.now.car x).floor to }
     ensures early { result ≤ MOMENT_LIMIT }
 {
-    prefix.opened() + snapshot.building().travel().time(prefix.floor(), to)
+    arrival_from(snapshot, prefix.floor(), prefix.opened(), to)
 }
 
 /// The cost in cost units of a call that boarded, if the car went straight to its destination.
