@@ -22,6 +22,7 @@ use Rattle.partial_tours.proofs.Follow.{course_more}
 use Rattle.tour_extension.specs.declared.demands.Demand.{Demand}
 use Rattle.tour_extension.specs.Leaves.{is_useless, is_useful}
 use Rattle.kept_tours.specs.Walking.{goes_on, IsShut}
+use Rattle.kept_tours.proofs.WalkingLemmas.{moved_on}
 
 next_from : Snapshot → ℕ → (set : ℕ) → Option Course → List Move
 next_from s c set None = []
@@ -164,7 +165,7 @@ pub in_followers : (p : PartialTour) (set : ℕ) (x y : Course) (m : Move) → c
 in_followers p set x y m leads may moved =
     subst (λ (l : List Move). In m l) (sym (followers_are p set x leads)) (in_lawful_moves p.snapshot p.car x y (has set) m may moved)
 
--- ---- without the useless leaves
+-- ---- places
 
 -- Any place has the move that stands there.
 pub at_place_of : (p : PartialTour) (set place : ℕ) → place < length (followers p set) → IsAt p set (Some (get_or (followers p set) place (Board 0))) place
@@ -179,58 +180,42 @@ left_at p set (Some m) place at =
     let same = ap (λ (n : Move). length (filter (comes_before n) (followers p set))) here.1 in
     omega (arith, left, same)
 
--- No tour of the node goes on with a useless leave.
-abbrev pub ShutsUseless : PartialTour → Demand → Type 0
-ShutsUseless p demand =
-    (x y : Course) (m : Move) → course p ≡ Some x → move_on p.snapshot p.car x m ≡ Some y → is_useless p.snapshot p.car x (has demand.allowed) m ≡ true → goes_on p demand y ≡ false
+-- ---- those that are left out
 
--- The next move is the first from this place on with which a tour of the node may go on.
-pub record GoesTo (p : PartialTour) (demand : Demand) (next : Option Move) (from : ℕ) : Type 0 where
+-- The next move is the first from this place on that is not left out. Of those that are, this is known.
+pub record GoesPast (Out : Move → Type 0) (p : PartialTour) (set : ℕ) (next : Option Move) (from : ℕ) : Type 0 where
   pub place : ℕ
   pub later : from ≤ place
-  pub at : IsAt p demand.allowed next place
-  pub shut : (k : ℕ) → from ≤ k → k < place → IsShut demand (with_move p (get_or (followers p demand.allowed) k (Board 0)))
+  pub at : IsAt p set next place
+  pub out : (k : ℕ) → from ≤ k → k < place → Out (get_or (followers p set) k (Board 0))
 
--- the moves that are no useless leaves
-keeps_move : PartialTour → Demand → Course → Move → Bool
-keeps_move p demand x m = not (is_useless p.snapshot p.car x (has demand.allowed) m)
+-- the moves that may come next and stay
+abbrev pub staying : PartialTour → (set : ℕ) → Course → (stays : Move → Bool) → List Move
+staying p set x stays = filter (λ m. may_be_next p.snapshot p.car x (has set) m && stays m) (all_moves p.snapshot)
 
-useful_of : (p : PartialTour) (demand : Demand) (x : Course) → course p ≡ Some x → filter (is_useful p.snapshot p.car x (has demand.allowed)) (all_moves p.snapshot) ≡ filter (keeps_move p demand x) (followers p demand.allowed)
-unfolding keeps_move
-useful_of p demand x leads =
-    sym (filter_both (keeps_move p demand x) (may_be_next p.snapshot p.car x (has demand.allowed)) (all_moves p.snapshot)) ∙ ap (filter (keeps_move p demand x)) (sym (followers_are p demand.allowed x leads))
+staying_of : (p : PartialTour) (set : ℕ) (x : Course) (stays : Move → Bool) → course p ≡ Some x → staying p set x stays ≡ filter stays (followers p set)
+staying_of p set x stays leads =
+    sym (filter_both stays (may_be_next p.snapshot p.car x (has set)) (all_moves p.snapshot)) ∙ ap (filter stays) (sym (followers_are p set x leads))
 
-goes_to : (p : PartialTour) (demand : Demand) (x : Course) (next : Option Move) (from : ℕ) → course p ≡ Some x → ShutsUseless p demand → IsFirstPassing (keeps_move p demand x) (followers p demand.allowed) from (Board 0) next → GoesTo p demand next from
-unfolding keeps_move
-goes_to p demand x next from leads shuts first = record {
+goes_past : (Out : Move → Type 0) (p : PartialTour) (set : ℕ) (stays : Move → Bool) (next : Option Move) (from : ℕ) → ((m : Move) → stays m ≡ false → Out m) → IsFirstPassing stays (followers p set) from (Board 0) next → GoesPast Out p set next from
+goes_past Out p set stays next from out first = record {
   place = first.place;
   later = first.later;
   at = record { within = first.within; is = first.is };
-  shut = λ k low high z there. (
-      let within = first.within in
-      let m = get_or (followers p demand.allowed) k (Board 0) in
-      let f = follower p demand.allowed x m k leads (at_place_of p demand.allowed k (omega (arith, high, within))) in
-      let useless = kept_not (is_useless p.snapshot p.car x (has demand.allowed) m) (first.fail k low high) in
-      subst (λ (y : Course). goes_on p demand y ≡ false) (one_course (with_move p m) f.next z f.leads there) (shuts x f.next m leads f.moved useless)
-      );
+  out = λ k low high. out (get_or (followers p set) k (Board 0)) (first.fail k low high);
 }
-  where
-    kept_not : (b : Bool) → not b ≡ false → b ≡ true
-    kept_not true e = refl
-    kept_not false e = absurd (true≢false e)
 
-pub goes_to_first : (p : PartialTour) (demand : Demand) (x : Course) (next : Option Move) → course p ≡ Some x → ShutsUseless p demand → next ≡ first_of (filter (is_useful p.snapshot p.car x (has demand.allowed)) (all_moves p.snapshot)) → GoesTo p demand next 0
-goes_to_first p demand x next leads shuts are =
-    goes_to p demand x next 0 leads shuts (subst (IsFirstPassing (keeps_move p demand x) (followers p demand.allowed) 0 (Board 0)) (sym (are ∙ ap first_of (useful_of p demand x leads))) (first_passing_of (keeps_move p demand x) (followers p demand.allowed) (Board 0)))
+pub past_to_first : (Out : Move → Type 0) (p : PartialTour) (set : ℕ) (x : Course) (stays : Move → Bool) (next : Option Move) → course p ≡ Some x → ((m : Move) → stays m ≡ false → Out m) → next ≡ first_of (staying p set x stays) → GoesPast Out p set next 0
+past_to_first Out p set x stays next leads out are =
+    goes_past Out p set stays next 0 out (subst (IsFirstPassing stays (followers p set) 0 (Board 0)) (sym (are ∙ ap first_of (staying_of p set x stays leads))) (first_passing_of stays (followers p set) (Board 0)))
 
-pub goes_to_next : (p : PartialTour) (demand : Demand) (x : Course) (m : Move) (next : Option Move) (place : ℕ) → course p ≡ Some x → ShutsUseless p demand → IsAt p demand.allowed (Some m) place → next ≡ next_after m (filter (is_useful p.snapshot p.car x (has demand.allowed)) (all_moves p.snapshot)) → GoesTo p demand next (place + 1) × (from_next next (followers p demand.allowed) < from_next (Some m) (followers p demand.allowed))
-goes_to_next p demand x m next place leads shuts at are =
-    let set = demand.allowed in
+pub past_to_next : (Out : Move → Type 0) (p : PartialTour) (set : ℕ) (x : Course) (stays : Move → Bool) (m : Move) (next : Option Move) (place : ℕ) → course p ≡ Some x → ((v : Move) → stays v ≡ false → Out v) → IsAt p set (Some m) place → next ≡ next_after m (staying p set x stays) → GoesPast Out p set next (place + 1) × (from_next next (followers p set) < from_next (Some m) (followers p set))
+past_to_next Out p set x stays m next place leads out at are =
     let here = at_move p set m place at in
-    let is = are ∙ ap (next_after m) (useful_of p demand x leads) ∙ ap (λ (n : Move). next_after n (filter (keeps_move p demand x) (followers p set))) here.1 in
-    let first = next_passing_of (keeps_move p demand x) (followers p set) place (Board 0) (rising_followers p set) here.0 in
-    let behind_it = subst (λ (from : ℕ). IsFirstPassing (keeps_move p demand x) (followers p set) from (Board 0) next) (one_further place) (subst (IsFirstPassing (keeps_move p demand x) (followers p set) (suc place) (Board 0)) (sym is) first) in
-    let goes = goes_to p demand x next (place + 1) leads shuts behind_it in
+    let is = are ∙ ap (next_after m) (staying_of p set x stays leads) ∙ ap (λ (n : Move). next_after n (filter stays (followers p set))) here.1 in
+    let first = next_passing_of stays (followers p set) place (Board 0) (rising_followers p set) here.0 in
+    let behind_it = subst (λ (from : ℕ). IsFirstPassing stays (followers p set) from (Board 0) next) (one_further place) (subst (IsFirstPassing stays (followers p set) (suc place) (Board 0)) (sym is) first) in
+    let goes = goes_past Out p set stays next (place + 1) out behind_it in
     let left = left_at p set (Some m) place at in
     let left_there = left_at p set next goes.place goes.at in
     let later = goes.later in
@@ -247,9 +232,43 @@ step_by_step P from place zero e step h = subst P (no_more from place e) h
 step_by_step P from place (suc rest) e step h =
     step_by_step P (from + 1) place rest (omega (arith, e)) (λ k low high. step k (omega (arith, low)) high) (step from (omega arith) (omega (arith, e)) h)
 
--- What a follower with which no tour of the node goes on keeps, holds at the place of the next move too.
-pub over_shut : (p : PartialTour) (demand : Demand) (next : Option Move) (from : ℕ) (P : ℕ → Type 0) (goes : GoesTo p demand next from) → ((k : ℕ) → k < length (followers p demand.allowed) → IsShut demand (with_move p (get_or (followers p demand.allowed) k (Board 0))) → P k → P (k + 1)) → P from → P goes.place
-over_shut p demand next from P goes step h =
+-- What each follower that is left out keeps, holds at the place of the next move too.
+pub past_out : (Out : Move → Type 0) (p : PartialTour) (set : ℕ) (next : Option Move) (from : ℕ) (P : ℕ → Type 0) (goes : GoesPast Out p set next from) → ((k : ℕ) → k < length (followers p set) → Out (get_or (followers p set) k (Board 0)) → P k → P (k + 1)) → P from → P goes.place
+past_out Out p set next from P goes step h =
     let later = goes.later in
     let within = goes.at.within in
-    step_by_step P from goes.place (goes.place - from) (omega (arith, later)) (λ k low high. step k (omega (arith, high, within)) (goes.shut k low high)) h
+    step_by_step P from goes.place (goes.place - from) (omega (arith, later)) (λ k low high. step k (omega (arith, high, within)) (goes.out k low high)) h
+
+-- ---- without the useless leaves
+
+-- No tour of the node goes on with a useless leave.
+abbrev pub ShutsUseless : PartialTour → Demand → Type 0
+ShutsUseless p demand =
+    (x y : Course) (m : Move) → course p ≡ Some x → move_on p.snapshot p.car x m ≡ Some y → is_useless p.snapshot p.car x (has demand.allowed) m ≡ true → goes_on p demand y ≡ false
+
+-- The next move is the first from this place on with which a tour of the node may go on.
+abbrev pub GoesTo : PartialTour → Demand → (next : Option Move) → (from : ℕ) → Type 0
+GoesTo p demand next from = GoesPast (λ m. IsShut demand (with_move p m)) p demand.allowed next from
+
+-- the moves that are no useless leaves
+abbrev pub keeps_move : PartialTour → Demand → Course → Move → Bool
+keeps_move p demand x m = not (is_useless p.snapshot p.car x (has demand.allowed) m)
+
+pub useless_shut : (p : PartialTour) (demand : Demand) (x : Course) → course p ≡ Some x → ShutsUseless p demand → (m : Move) → keeps_move p demand x m ≡ false → IsShut demand (with_move p m)
+useless_shut p demand x leads shuts m out = λ y there. shuts x y m leads (moved_on p m x y leads there) (is_kept_not (is_useless p.snapshot p.car x (has demand.allowed) m) out)
+  where
+    is_kept_not : (b : Bool) → not b ≡ false → b ≡ true
+    is_kept_not true e = refl
+    is_kept_not false e = absurd (true≢false e)
+
+pub goes_to_first : (p : PartialTour) (demand : Demand) (x : Course) (next : Option Move) → course p ≡ Some x → ShutsUseless p demand → next ≡ first_of (filter (is_useful p.snapshot p.car x (has demand.allowed)) (all_moves p.snapshot)) → GoesTo p demand next 0
+goes_to_first p demand x next leads shuts are =
+    past_to_first (λ m. IsShut demand (with_move p m)) p demand.allowed x (keeps_move p demand x) next leads (useless_shut p demand x leads shuts) are
+
+pub goes_to_next : (p : PartialTour) (demand : Demand) (x : Course) (m : Move) (next : Option Move) (place : ℕ) → course p ≡ Some x → ShutsUseless p demand → IsAt p demand.allowed (Some m) place → next ≡ next_after m (filter (is_useful p.snapshot p.car x (has demand.allowed)) (all_moves p.snapshot)) → GoesTo p demand next (place + 1) × (from_next next (followers p demand.allowed) < from_next (Some m) (followers p demand.allowed))
+goes_to_next p demand x m next place leads shuts at are =
+    past_to_next (λ v. IsShut demand (with_move p v)) p demand.allowed x (keeps_move p demand x) m next place leads (useless_shut p demand x leads shuts) at are
+
+-- What a follower with which no tour of the node goes on keeps, holds at the place of the next move too.
+pub over_shut : (p : PartialTour) (demand : Demand) (next : Option Move) (from : ℕ) (P : ℕ → Type 0) (goes : GoesTo p demand next from) → ((k : ℕ) → k < length (followers p demand.allowed) → IsShut demand (with_move p (get_or (followers p demand.allowed) k (Board 0))) → P k → P (k + 1)) → P from → P goes.place
+over_shut p demand next from P goes step h = past_out (λ m. IsShut demand (with_move p m)) p demand.allowed next from P goes step h

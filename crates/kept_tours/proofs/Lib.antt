@@ -1,4 +1,5 @@
 pub mod Followers
+pub mod Below
 pub mod ListLemmas
 pub mod WalkingLemmas
 pub mod EndLemmas

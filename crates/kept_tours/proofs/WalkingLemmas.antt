@@ -61,3 +61,10 @@ reached_there a stands demand t w o = record {
 -- what departs from there is open there too
 pub departs_there : (stands departs : Course → Type 0) (demand : Demand) (t : PartialTour) → IsOpen stands demand t → ((x : Course) → course t ≡ Some x → departs x) → IsOpen departs demand t
 departs_there stands departs demand t o h = record { at = o.at; leads = o.leads; stands_there = h o.at o.leads; extends = o.extends }
+
+-- what stands where the partial tour leads
+pub standing : (stands : Course → Type 0) (demand : Demand) (t : PartialTour) (x : Course) → IsOpen stands demand t → course t ≡ Some x → stands x
+standing stands demand t x o leads = subst stands (same_course (sym o.leads ∙ leads)) o.stands_there
+  where
+    same_course : {y z : Course} → Some y ≡ Some z → y ≡ z
+    same_course e = cc

@@ -1,13 +1,17 @@
 -- What holds at each partial tour of a walk.
-use Rattle.std.specs.Prelude.{◌≡◌, ℕ, ◌<◌, ◌++◌, ◌∷◌, [], ℤ, Bool, true, false, Some}
+use Rattle.std.specs.Prelude.{◌≡◌, ℕ, ◌<◌, ◌++◌, ◌∷◌, [], ℤ, Bool, true, false, ◌&&◌, Some}
 use Rattle.call_sets.specs.Counting.{has}
 use Rattle.elevator_model.specs.declared.Move.{Move}
 use Rattle.elevator_model.specs.Snapshot.{IsAccepted, car_count}
 use Rattle.elevator_model.specs.Partial.{Course, IsLawful, boards_allowed}
 use Rattle.search_model.specs.Extending.{IsDemand, can_be_extended}
 use Rattle.search_model.specs.Orders.{AreAllowed}
-use Rattle.partial_tours.specs.PartialTour.{PartialTour, course}
+use Rattle.partial_tours.specs.PartialTour.{PartialTour, course, with_move}
+use Rattle.partial_tours.specs.declared.following.Followers.{Followers}
+use Rattle.partial_tours.specs.Courses.{may_be_next}
+use Rattle.partial_tours.specs.Followers.{ArePassing}
 use Rattle.tour_extension.specs.declared.demands.Demand.{Demand}
+use Rattle.tour_extension.specs.Leaves.{is_useless}
 use Rattle.pricing_bound.specs.Aims.{Aim}
 use Rattle.kept_tours.specs.Kept.{is_kept_by}
 
@@ -47,3 +51,11 @@ IsNotKept demand bound worth t =
 pub record MayFollow (demand : Demand) (t : PartialTour) (m : Move) : Type 0 where
   pub lawful : IsLawful t.snapshot t.car (t.moves ++ m ∷ [])
   pub may : boards_allowed (has demand.allowed) m ≡ true
+
+-- They are the moves that may follow, without some after which the partial tour is not kept for the worth: the useless
+-- leaves are among these.
+pub record AreFollowersBelow (demand : Demand) (bound : Course → ℤ) (worth : ℤ) (t : PartialTour) (x : Course) (next : Followers) : Type 0 where
+  pub stays : Move → Bool
+  pub passing : ArePassing t.snapshot (λ m. may_be_next t.snapshot t.car x (has demand.allowed) m && stays m) next
+  pub out : (m : Move) → stays m ≡ false → IsNotKept demand bound worth (with_move t m)
+  pub useful : (m : Move) → is_useless t.snapshot t.car x (has demand.allowed) m ≡ true → stays m ≡ false

@@ -1,15 +1,47 @@
 //! One step of a walk over the kept partial tours of a car.
 
-ghost use Rattle.std.specs.Prelude.{◌≡◌, ◌≤ℤ◌, IfSome, None, Some, true};
+ghost use Rattle.std.specs.Prelude.{◌≡◌, ◌≤ℤ◌, ℕ, IfSome, None, Some, true};
 ghost use Rattle.elevator_model.specs.Partial.{Course, move_on};
+ghost use Rattle.elevator_model.specs.declared.Move.{Move as MoveValue};
 ghost use Rattle.partial_tours.specs.PartialTour.{course, with_move};
 ghost use Rattle.pricing_bound.specs.Aims.{AimsAt, IsNextMove};
-ghost use Rattle.kept_tours.specs.Walking.{IsWalking, IsNotKept, IsOpen, MayFollow};
+ghost use Rattle.kept_tours.specs.Walking.{AreFollowersBelow, IsWalking, IsNotKept, IsOpen, MayFollow};
 
 use elevator_model::Move;
-use partial_tours::Prefix;
+use partial_tours::{Followers, Prefix};
 use pricing_bound::CompletionBound;
-use tour_extension::{Demand, can_be_extended};
+use tour_extension::{Demand, can_be_extended, useful};
+
+/// Whether no leave leads to a bound below the worth.
+fn leaves_in_vain<B: CompletionBound>(bound: &B, departure: &B::Departure, worth: i128) -> bool
+    ensures { result ≡ true → (x y : Course) (floor : ℕ) → B.departs bound.now departure.now x
+        → move_on (B.aim bound.now).snapshot (B.aim bound.now).car x (MoveValue.Leave floor) ≡ Some y
+        → worth ≤ℤ B.bound bound.now y }
+{
+    bound.least_value(departure) >= worth
+}
+
+/// The moves that may follow, but for leaves after which the partial tour is not kept for the worth: the useless ones,
+/// and all where none leads to a bound below the worth.
+pub fn followers_below<B: CompletionBound>(
+    bound: &B,
+    demand: &Demand,
+    prefix: &Prefix,
+    departure: &B::Departure,
+    worth: i128,
+) -> Followers
+    requires walking { IsWalking (B.aim bound.now) demand.now prefix.now }
+    requires departs { IsOpen (B.departs bound.now departure.now) demand.now prefix.now }
+    ensures { (x : Course) → course prefix.now ≡ Some x
+        → AreFollowersBelow demand.now (B.bound bound.now) worth prefix.now x result }
+{
+    let followers = prefix.followers(demand.allowed);
+    if leaves_in_vain(bound, departure, worth) {
+        followers.without_leaves(followers.leaves())
+    } else {
+        useful(prefix, demand, followers)
+    }
+}
 
 /// Whether the move is a leave, and no leave leads to a bound below the worth.
 fn departs_in_vain<B: CompletionBound>(
@@ -23,7 +55,7 @@ fn departs_in_vain<B: CompletionBound>(
         → worth ≤ℤ B.bound bound.now y }
 {
     match next {
-        Move::Leave(_) => bound.least_value(departure) >= worth,
+        Move::Leave(_) => leaves_in_vain(bound, departure, worth),
         Move::Board(_) | Move::End => false,
     }
 }

@@ -7,7 +7,7 @@ mod steps;
 ghost use Rattle.search_model.specs.Kept.{KeptLaw};
 ghost use Rattle.kept_tours.specs.Kept.{KeptByLaw};
 
-pub use kept_steps::step_below;
+pub use kept_steps::{followers_below, step_below};
 pub use steps::step;
 
 /// A law: for any bound that grows along the moves, the kept list has exactly the kept partial tours, in the

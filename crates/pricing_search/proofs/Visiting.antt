@@ -23,8 +23,9 @@ use Rattle.tour_extension.specs.declared.demands.Demand.{Demand}
 use Rattle.tour_extension.proofs.Extended.{extendable_to, allowed_append, allowed_stops}
 use Rattle.pricing_bound.specs.Aims.{Aim, value_for, IsLower, IsGrowing}
 use Rattle.kept_tours.specs.Kept.{is_kept_by}
-use Rattle.kept_tours.specs.Walking.{aim_at, goes_on, IsWalking, IsOpen, IsShut}
-use Rattle.kept_tours.proofs.Followers.{followers, IsAt, GoesTo, at_move, at_end, at_place_of, follower, one_course, in_followers, over_shut}
+use Rattle.kept_tours.specs.Walking.{aim_at, goes_on, IsWalking, IsOpen, IsNotKept}
+use Rattle.kept_tours.proofs.Followers.{followers, IsAt, at_move, at_end, at_place_of, follower, one_course, in_followers, past_out}
+use Rattle.kept_tours.proofs.Below.{GoesToKept}
 use Rattle.kept_tours.proofs.EndLemmas.{ended_within, ended_value, HasNext, has_next}
 use Rattle.kept_tours.proofs.ListLemmas.{fails_none, first_lists, own_lists, next_lists, all_lists, ended_lists, own_one, own_all}
 use Rattle.pricing_search.specs.declared.progress.Progress.{Progress}
@@ -96,6 +97,23 @@ shut_out t demand price bound most p at ok demands leads shut le found = record 
   least = λ x there z le may. may;
 }
 
+not_less : (a b : ℤ) → not (int_lt a b) ≡ true → b ≤ℤ a
+not_less a b h = grind (arith, ints)
+
+not_yet : (b x : Bool) → b ≡ true → (b && x) ≡ false → not x ≡ true
+not_yet true x e h = ap not h
+not_yet false x e h = absurd (both_ways false refl e)
+
+-- It is not one of those that are kept for a worth that the best value is at most.
+pub kept_out : (t : PartialTour) (demand : Demand) (price : ℕ → ℤ) (bound : Course → ℤ) (most : ℕ) (p : Progress) (at : Course) (worth : ℤ) → IsAccepted t.snapshot → t.car < car_count t.snapshot → IsLower (aim_at t demand price) bound → IsDemand t.snapshot t.car (has demand.allowed) (has demand.required) → course t ≡ Some at → p.best ≤ℤ worth → keeps t demand bound worth at ≡ false → p.visits ≤ most → HasFound (aim_at t demand price) p → Visited t demand price bound most p p
+kept_out t demand price bound most p at worth ok car_in lower demands leads low out le found = by_test (goes_on t demand at) refl
+  where
+    by_test : (v : Bool) → goes_on t demand at ≡ v → Visited t demand price bound most p p
+    by_test true e =
+        let above = not_less (bound at) worth (not_yet (goes_on t demand at) (int_lt (bound at) worth) e out) in
+        passed_by t demand price bound most p p at ok car_in lower leads (goes_nowhere most p le) refl found (λ z may. let b = may.best in omega (arith, ints, b, low, above)) (λ z under may. may)
+    by_test false e = shut_out t demand price bound most p at ok demands leads e le found
+
 -- ---- move after move
 
 goes_through : (most : ℕ) (old mid new : Progress) → GoesOn most old mid → GoesOn most mid new → GoesOn most old new
@@ -147,24 +165,28 @@ one_visited t demand price bound most at m place old mid new leads stands first 
           );
     }
 
--- The followers up to the next move are shut, so there is nothing to visit.
-visits_to : (a : Aim) (t : PartialTour) (demand : Demand) (bound : Course → ℤ) (most : ℕ) (at : Course) (next : Option Move) (from : ℕ) (old new : Progress) → IsWalking a demand t → course t ≡ Some at → Grows t demand bound → GoesTo t demand next from → VisitsBefore t demand a.price bound most old new from → Visits t demand a.price bound most next old new
-visits_to a t demand bound most at next from old new w leads grows goes before = record {
+-- what the trait's law says of the car and the demand
+pub lower_at : (a : Aim) (demand : Demand) (t : PartialTour) (bound : Course → ℤ) → IsWalking a demand t → IsLower a bound → IsLower (aim_at t demand a.price) bound
+lower_at a demand t bound w lower = subst (λ (b : Aim). IsLower b bound) w.aim lower
+
+-- The followers up to the next move are not kept for the best value of before, so there is nothing to visit.
+visits_to : (a : Aim) (t : PartialTour) (demand : Demand) (bound : Course → ℤ) (most : ℕ) (at : Course) (next : Option Move) (from : ℕ) (old new : Progress) → IsWalking a demand t → IsLower a bound → course t ≡ Some at → Grows t demand bound → GoesToKept t demand bound old.best next from → VisitsBefore t demand a.price bound most old new from → Visits t demand a.price bound most next old new
+visits_to a t demand bound most at next from old new w lower leads grows goes before = record {
   place = goes.place;
   at = goes.at;
-  done = over_shut t demand next from (VisitsBefore t demand a.price bound most old new) goes one_shut before;
+  done = past_out (λ m. IsNotKept demand bound old.best (with_move t m)) t demand.allowed next from (VisitsBefore t demand a.price bound most old new) goes one_out before;
 }
   where
-    one_shut : (k : ℕ) → k < length (followers t demand.allowed) → IsShut demand (with_move t (get_or (followers t demand.allowed) k (Board 0))) → VisitsBefore t demand a.price bound most old new k → VisitsBefore t demand a.price bound most old new (k + 1)
-    one_shut k lt shut done =
+    one_out : (k : ℕ) → k < length (followers t demand.allowed) → IsNotKept demand bound old.best (with_move t (get_or (followers t demand.allowed) k (Board 0))) → VisitsBefore t demand a.price bound most old new k → VisitsBefore t demand a.price bound most old new (k + 1)
+    one_out k lt out done =
         let m = get_or (followers t demand.allowed) k (Board 0) in
         let stands = at_place_of t demand.allowed k lt in
         let f = follower t demand.allowed at m k leads stands in
-        one_visited t demand a.price bound most at m k old new new leads stands done (shut_out (with_move t m) demand a.price bound most new f.next w.accepted w.demands f.leads (shut f.next f.leads) done.on.limit done.found) grows
+        one_visited t demand a.price bound most at m k old new new leads stands done (kept_out (with_move t m) demand a.price bound most new f.next old.best w.accepted w.car (lower_at a demand t bound w lower) w.demands f.leads done.on.best (out f.next f.leads) done.on.limit done.found) grows
 
-pub visits_first : (a : Aim) (t : PartialTour) (demand : Demand) (bound : Course → ℤ) (most : ℕ) (at : Course) (next : Option Move) (p : Progress) → IsWalking a demand t → course t ≡ Some at → Grows t demand bound → GoesTo t demand next 0 → p.visits ≤ most → HasFound (aim_at t demand a.price) p → Visits t demand a.price bound most next p p
-visits_first a t demand bound most at next p w leads grows goes le found =
-    visits_to a t demand bound most at next 0 p p w leads grows goes (record {
+pub visits_first : (a : Aim) (t : PartialTour) (demand : Demand) (bound : Course → ℤ) (most : ℕ) (at : Course) (next : Option Move) (p : Progress) → IsWalking a demand t → IsLower a bound → course t ≡ Some at → Grows t demand bound → GoesToKept t demand bound p.best next 0 → p.visits ≤ most → HasFound (aim_at t demand a.price) p → Visits t demand a.price bound most next p p
+visits_first a t demand bound most at next p w lower leads grows goes le found =
+    visits_to a t demand bound most at next 0 p p w lower leads grows goes (record {
       on = goes_nowhere most p le;
       found = found;
       kept = λ x there worth n may. omega arith;
@@ -173,9 +195,9 @@ visits_first a t demand bound most at next p w leads grows goes le found =
       least = λ x there z le may. may;
     })
 
-pub visits_on : (a : Aim) (t : PartialTour) (demand : Demand) (bound : Course → ℤ) (most : ℕ) (at : Course) (m : Move) (next : Option Move) (old mid new : Progress) → IsWalking a demand t → course t ≡ Some at → Grows t demand bound → (first : Visits t demand a.price bound most (Some m) old mid) → Visited (with_move t m) demand a.price bound most mid new → GoesTo t demand next (first.place + 1) → Visits t demand a.price bound most next old new
-visits_on a t demand bound most at m next old mid new w leads grows first more_on goes =
-    visits_to a t demand bound most at next (first.place + 1) old new w leads grows goes (one_visited t demand a.price bound most at m first.place old mid new leads first.at first.done more_on grows)
+pub visits_on : (a : Aim) (t : PartialTour) (demand : Demand) (bound : Course → ℤ) (most : ℕ) (at : Course) (m : Move) (next : Option Move) (old mid new : Progress) → IsWalking a demand t → IsLower a bound → course t ≡ Some at → Grows t demand bound → (first : Visits t demand a.price bound most (Some m) old mid) → Visited (with_move t m) demand a.price bound most mid new → GoesToKept t demand bound old.best next (first.place + 1) → Visits t demand a.price bound most next old new
+visits_on a t demand bound most at m next old mid new w lower leads grows first more_on goes =
+    visits_to a t demand bound most at next (first.place + 1) old new w lower leads grows goes (one_visited t demand a.price bound most at m first.place old mid new leads first.at first.done more_on grows)
 
 -- ---- what was done in all
 
@@ -183,33 +205,12 @@ allowed_last : (allowed : ℕ → Bool) (ms : List Move) (m : Move) (later : Lis
 allowed_last allowed [] m later h = h.0
 allowed_last allowed (v ∷ ms) m later h = allowed_last allowed ms m later h.1
 
-not_less : (a b : ℤ) → not (int_lt a b) ≡ true → b ≤ℤ a
-not_less a b h = grind (arith, ints)
-
--- what the trait's law says of the car and the demand
-pub lower_at : (a : Aim) (demand : Demand) (t : PartialTour) (bound : Course → ℤ) → IsWalking a demand t → IsLower a bound → IsLower (aim_at t demand a.price) bound
-lower_at a demand t bound w lower = subst (λ (b : Aim). IsLower b bound) w.aim lower
-
 -- The bound is not below the best value.
 pub reached_best : (a : Aim) (demand : Demand) (t : PartialTour) (bound : Course → ℤ) (stands : Course → Type 0) (most : ℕ) (p : Progress) (least : ℤ) → IsWalking a demand t → (o : IsOpen stands demand t) → IsLower a bound → p.visits ≤ most → HasFound (aim_at t demand a.price) p → ((x : Course) → stands x → least ≡ bound x) → not (int_lt least p.best) ≡ true → Visited t demand a.price bound most p p
 reached_best a demand t bound stands most p least w o lower le found are high =
     let above = not_less least p.best high in
     let is = are o.at o.stands_there in
     passed_by t demand a.price bound most p p o.at w.accepted w.car (lower_at a demand t bound w lower) o.leads (goes_nowhere most p le) refl found (λ worth may. let b = may.best in omega (arith, ints, b, above, is)) (λ z under may. may)
-
-not_yet : (b x : Bool) → b ≡ true → (b && x) ≡ false → not x ≡ true
-not_yet true x e h = ap not h
-not_yet false x e h = absurd (both_ways false refl e)
-
--- It is not one of those that are kept for the best value.
-pub kept_out : (t : PartialTour) (demand : Demand) (price : ℕ → ℤ) (bound : Course → ℤ) (most : ℕ) (p : Progress) (at : Course) → IsAccepted t.snapshot → t.car < car_count t.snapshot → IsLower (aim_at t demand price) bound → IsDemand t.snapshot t.car (has demand.allowed) (has demand.required) → course t ≡ Some at → keeps t demand bound p.best at ≡ false → p.visits ≤ most → HasFound (aim_at t demand price) p → Visited t demand price bound most p p
-kept_out t demand price bound most p at ok car_in lower demands leads out le found = by_test (goes_on t demand at) refl
-  where
-    by_test : (v : Bool) → goes_on t demand at ≡ v → Visited t demand price bound most p p
-    by_test true e =
-        let above = not_less (bound at) p.best (not_yet (goes_on t demand at) (int_lt (bound at) p.best) e out) in
-        passed_by t demand price bound most p p at ok car_in lower leads (goes_nowhere most p le) refl found (λ worth may. let b = may.best in omega (arith, ints, b, above)) (λ z under may. may)
-    by_test false e = shut_out t demand price bound most p at ok demands leads e le found
 
 lesser-le : (a b : ℤ) → cond (int_lt a b) a b ≤ℤ a
 lesser-le a b = grind (arith, ints)

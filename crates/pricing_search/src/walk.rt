@@ -7,10 +7,10 @@ ghost use Rattle.pricing_search.specs.Walks.{HasFound, Visited};
 
 use crate::progress::Progress;
 use elevator_model::Move;
-use kept_tours::step_below;
+use kept_tours::{followers_below, step_below};
 use partial_tours::Prefix;
 use pricing_bound::CompletionBound;
-use tour_extension::{Demand, useful};
+use tour_extension::Demand;
 
 /// Visits a partial tour that some tour of the node begins with, and those that begin with it.
 ///
@@ -47,7 +47,7 @@ pub(crate) fn visit<B: CompletionBound>(
         return;
     }
     let departure = bound.depart(prefix, sums);
-    let followers = useful(prefix, demand, prefix.followers(demand.allowed));
+    let followers = followers_below(bound, demand, prefix, &departure, progress.best);
     let mut next = followers.first();
     while let Some(choice) = next {
         visit_after(

@@ -1,15 +1,15 @@
 use Rattle.std.proofs.Common.{◌≡◌, ◌∙◌, false, refl, sym, ap, subst, arith, rules, Option}
 use Rattle.std.specs.Prelude.{ℤ}
+use Rattle.std.proofs.lemmas.Int.{ints}
 use mir.Val.{to_z, of_z}
 use mir.Syntax.{w128}
-use Rattle.call_sets.specs.Counting.{has}
 use Rattle.elevator_model.specs.declared.Move.{Move}
 use Rattle.partial_tours.specs.PartialTour.{PartialTour, course, with_move}
 use Rattle.partial_tours.proofs.Follow.{is_some_has}
 use Rattle.partial_tours.proofs.Search.{left_in, left_falls, from_next}
-use Rattle.tour_extension.specs.Leaves.{is_useful}
-use Rattle.kept_tours.specs.Walking.{IsWalking, IsOpen, MayFollow, aim_at}
-use Rattle.kept_tours.proofs.Followers.{IsAt, followers, follower, goes_to_first, goes_to_next}
+use Rattle.kept_tours.specs.Walking.{AreFollowersBelow, IsWalking, IsOpen, MayFollow, aim_at}
+use Rattle.kept_tours.proofs.Followers.{IsAt, followers, follower}
+use Rattle.kept_tours.proofs.Below.{first_kept, next_kept}
 use Rattle.kept_tours.proofs.WalkingLemmas.{back_again, departs_there, reached_there}
 use Rattle.pricing_search.specs.Walks.{HasFound, Visited}
 use Rattle.pricing_search.proofs.StepLemmas.{none_there}
@@ -40,8 +40,9 @@ visit-returns-then-point-clause-visited g t c =
     let same : value ≡ c.tour_value.result = search rules in
     ended_visited (g.B.CompletionBound.aim c.args.bound.now) c.args.demand.now c.args.prefix.now (g.B.CompletionBound.bound c.args.bound.now) (g.B.CompletionBound.stands c.args.bound.now c.args.sums.now) c.args.limit c.args.progress.now c.count.new.self c.note.new.self value c.requires.walking o (sym (c.point.ensures o.at o.leads).ended ∙ c.if-point.true) c.if-progress-limit.false c.requires.found (g.met.B.CompletionBound.lower c.args.bound.now) (record { visits = c.count.ensures.visits; best = c.count.ensures.best; untried = c.count.ensures.untried; found = c.count.ensures.found }) (λ x there. same ∙ c.tour_value.ensures.value x there) c.note.ensures.visits c.note.ensures.untried c.note.ensures.best c.note.ensures.found
 
-pub visit-useful-followers-requires : goal.visit-useful-followers-requires
-visit-useful-followers-requires g t c = c.requires.walking.demands
+pub visit-followers_below-followers-requires-clause-departs : goal.visit-followers_below-followers-requires-clause-departs
+visit-followers_below-followers-requires-clause-departs g t c =
+    departs_there (g.B.CompletionBound.stands c.args.bound.now c.args.sums.now) (g.B.CompletionBound.departs c.args.bound.now c.depart-departure.result) c.args.demand.now c.args.prefix.now c.requires.stands c.depart-departure.ensures
 
 pub visit-loop-next-init : goal.visit-loop-next-init
 visit-loop-next-init g t c =
@@ -52,10 +53,13 @@ visit-loop-next-init g t c =
     let counted : IsCounted c.args.progress.now c.count.new.self = record { visits = c.count.ensures.visits; best = c.count.ensures.best; untried = c.count.ensures.untried; found = c.count.ensures.found } in
     let lt = c.if-progress-limit.false in
     let up = c.count.ensures.visits in
-    let are = c.first-next.ensures p.snapshot (is_useful p.snapshot p.car o.at (has c.args.demand.now.allowed)) (c.useful-followers.ensures.value o.at o.leads (c.followers.ensures.value o.at o.leads)) in
-    let goes = goes_to_first p c.args.demand.now o.at c.first-next.result o.leads c.useful-followers.ensures.shut are in
+    let best = to_z w128 (of_z w128 c.count.new.self.best) in
+    let whole : best ≡ c.count.new.self.best = search rules in
+    let below = subst (λ (worth : ℤ). AreFollowersBelow c.args.demand.now bound worth p o.at c.followers_below-followers.result) whole (c.followers_below-followers.ensures o.at o.leads) in
+    let goes = first_kept p c.args.demand.now bound c.count.new.self.best o.at c.followers_below-followers.result c.first-next.result o.leads below c.first-next.ensures in
+    let lower = g.met.B.CompletionBound.lower c.args.bound.now in
     let grows = grows_at a c.args.demand.now p bound c.requires.walking (g.met.B.CompletionBound.grows c.args.bound.now) in
-    record { same = refl; visits = visits_first a p c.args.demand.now bound c.args.limit o.at c.first-next.result c.count.new.self c.requires.walking o.leads grows goes (omega (arith, lt, up)) (counted_found (aim_at p c.args.demand.now a.price) c.args.progress.now c.count.new.self counted c.requires.found) }
+    record { same = refl; visits = visits_first a p c.args.demand.now bound c.args.limit o.at c.first-next.result c.count.new.self c.requires.walking lower o.leads grows goes (omega (arith, lt, up)) (counted_found (aim_at p c.args.demand.now a.price) c.args.progress.now c.count.new.self counted c.requires.found) }
 
 pub visit-depart-departure-requires-clause-reached : goal.visit-depart-departure-requires-clause-reached
 visit-depart-departure-requires-clause-reached g t c =
@@ -81,8 +85,9 @@ visit-loop-next-smaller g t c =
     let o = c.requires.stands in
     let choice = c.in-Some.choice in
     let at = subst (λ (next : Option Move). IsAt p c.args.demand.now.allowed next c.loop-next.invariant.visits.place) c.in-Some.is c.loop-next.invariant.visits.at in
-    let are = c.after-next.ensures p.snapshot (is_useful p.snapshot p.car o.at (has c.args.demand.now.allowed)) (c.useful-followers.ensures.value o.at o.leads (c.followers.ensures.value o.at o.leads)) in
-    let falls = (goes_to_next p c.args.demand.now o.at choice c.after-next.result c.loop-next.invariant.visits.place o.leads c.useful-followers.ensures.shut at are).1 in
+    let bound = g.B.CompletionBound.bound c.args.bound.now in
+    let below = c.followers_below-followers.ensures o.at o.leads in
+    let falls = (next_kept p c.args.demand.now bound (to_z w128 (of_z w128 c.count.new.self.best)) o.at c.followers_below-followers.result choice c.after-next.result c.loop-next.invariant.visits.place o.leads below at c.after-next.ensures).1 in
     let here = ap (λ (v : Option Move). from_next v (followers p c.args.demand.now.allowed)) c.in-Some.is in
     omega (arith, falls, here)
 
@@ -96,10 +101,13 @@ visit-loop-next-preserved g t c =
     let bound = g.B.CompletionBound.bound c.args.bound.now in
     let visits = subst (λ (next : Option Move). Visits p c.args.demand.now a.price bound c.args.limit next c.count.new.self c.loop-next.progress) c.in-Some.is c.loop-next.invariant.visits in
     let more = subst (λ (q : PartialTour). Visited (with_move q choice) c.args.demand.now a.price bound c.args.limit c.loop-next.progress c.visit_after.new.progress) same c.visit_after.ensures.visited in
-    let are = c.after-next.ensures p.snapshot (is_useful p.snapshot p.car o.at (has c.args.demand.now.allowed)) (c.useful-followers.ensures.value o.at o.leads (c.followers.ensures.value o.at o.leads)) in
-    let goes = (goes_to_next p c.args.demand.now o.at choice c.after-next.result visits.place o.leads c.useful-followers.ensures.shut visits.at are).0 in
+    let best = to_z w128 (of_z w128 c.count.new.self.best) in
+    let whole : best ≡ c.count.new.self.best = search rules in
+    let below = subst (λ (worth : ℤ). AreFollowersBelow c.args.demand.now bound worth p o.at c.followers_below-followers.result) whole (c.followers_below-followers.ensures o.at o.leads) in
+    let goes = (next_kept p c.args.demand.now bound c.count.new.self.best o.at c.followers_below-followers.result choice c.after-next.result visits.place o.leads below visits.at c.after-next.ensures).0 in
+    let lower = g.met.B.CompletionBound.lower c.args.bound.now in
     let grows = grows_at a c.args.demand.now p bound c.requires.walking (g.met.B.CompletionBound.grows c.args.bound.now) in
-    record { same = c.visit_after.ensures.prefix ∙ same; visits = visits_on a p c.args.demand.now bound c.args.limit o.at choice c.after-next.result c.count.new.self c.loop-next.progress c.visit_after.new.progress c.requires.walking o.leads grows visits more goes }
+    record { same = c.visit_after.ensures.prefix ∙ same; visits = visits_on a p c.args.demand.now bound c.args.limit o.at choice c.after-next.result c.count.new.self c.loop-next.progress c.visit_after.new.progress c.requires.walking lower o.leads grows visits more goes }
 
 pub visit-returns-clause-visited : goal.visit-returns-clause-visited
 visit-returns-clause-visited g t c =
@@ -124,7 +132,7 @@ visit_after-returns-in_default-clause-visited g t c =
     let led = is_some_has (course to) c.requires.next.lawful in
     let out = (c.step_below.ensures.none (none_there c.step_below.result c.in_default.not-Some)).1 in
     let here = subst (λ (z : ℤ). keeps to c.args.demand.now bound z led.0 ≡ false) same (out led.0 led.1) in
-    kept_out to c.args.demand.now a.price bound c.args.limit c.args.progress.now led.0 c.requires.walking.accepted c.requires.walking.car (lower_at a c.args.demand.now c.args.prefix.now bound c.requires.walking (g.met.B.CompletionBound.lower c.args.bound.now)) c.requires.walking.demands led.1 here c.requires.limit c.requires.found
+    kept_out to c.args.demand.now a.price bound c.args.limit c.args.progress.now led.0 c.args.progress.now.best c.requires.walking.accepted c.requires.walking.car (lower_at a c.args.demand.now c.args.prefix.now bound c.requires.walking (g.met.B.CompletionBound.lower c.args.bound.now)) c.requires.walking.demands led.1 (omega (arith, ints)) here c.requires.limit c.requires.found
 
 pub visit_after-visit-requires : goal.visit_after-visit-requires
 visit_after-visit-requires g t c κs within =

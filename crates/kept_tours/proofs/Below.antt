@@ -1,0 +1,101 @@
+-- The moves that may follow, without some after which nothing is kept for a worth.
+use Rattle.std.proofs.Common.{◌≡◌, ℕ, ◌+◌, ◌<◌, Bool, true, false, ◌&&◌, refl, sym, ap, ◌∙◌, subst, Option, Some}
+use Rattle.std.specs.Prelude.{ℤ, ◌≤ℤ◌, int_lt, not}
+use Rattle.std.specs.List.{filter}
+use Rattle.std.proofs.lemmas.Bool.{and_left, and_right, and_parts, true≢false}
+use Rattle.call_sets.specs.Counting.{has}
+use Rattle.elevator_model.specs.declared.Move.{Move}
+use Rattle.elevator_model.specs.declared.Move.TheVariants.{Board, Leave, End}
+use Rattle.elevator_model.specs.Snapshot.{Snapshot}
+use Rattle.elevator_model.specs.Partial.{Course, all_moves, move_on}
+use Rattle.partial_tours.specs.PartialTour.{PartialTour, course, with_move}
+use Rattle.partial_tours.specs.Courses.{may_be_next}
+use Rattle.partial_tours.specs.declared.following.Followers.{Followers}
+use Rattle.partial_tours.specs.Followers.{ArePassing, AreFollowers}
+use Rattle.partial_tours.specs.Orders.{first_of, next_after}
+use Rattle.partial_tours.proofs.Search.{from_next}
+use Rattle.tour_extension.specs.declared.demands.Demand.{Demand}
+use Rattle.tour_extension.specs.Leaves.{is_useless, AreUseful}
+use Rattle.pricing_bound.specs.Aims.{Aim, AimsAt}
+use Rattle.kept_tours.specs.Walking.{AreFollowersBelow, IsNotKept, goes_on}
+use Rattle.kept_tours.proofs.Followers.{GoesPast, IsAt, ShutsUseless, followers, keeps_move, past_to_first, past_to_next, useless_shut}
+use Rattle.kept_tours.proofs.WalkingLemmas.{moved_on, not_below}
+
+-- ---- which they are
+
+pub useful_below : (t : PartialTour) (demand : Demand) (bound : Course → ℤ) (worth : ℤ) (x : Course) (next : Followers) → course t ≡ Some x → ShutsUseless t demand → AreUseful t.snapshot t.car x (has demand.allowed) next → AreFollowersBelow demand bound worth t x next
+useful_below t demand bound worth x next leads shuts are = record {
+  stays = keeps_move t demand x;
+  passing = are;
+  out = λ m e y there. and_left (goes_on t demand y) (int_lt (bound y) worth) (useless_shut t demand x leads shuts m e y there);
+  useful = λ m e. ap not e;
+}
+
+abbrev is_no_leave : Move → Bool
+is_no_leave (Board j) = true
+is_no_leave (Leave g) = false
+is_no_leave End = true
+
+and_yes : (b : Bool) → b ≡ (b && true)
+and_yes true = refl
+and_yes false = refl
+
+and_no : (b c : Bool) → (b && not b) ≡ (c && false)
+and_no true true = refl
+and_no true false = refl
+and_no false true = refl
+and_no false false = refl
+
+-- No leave leads to a bound below the worth.
+abbrev pub LeavesInVain : Aim → (departs : Course → Type 0) → (bound : Course → ℤ) → (worth : ℤ) → Type 0
+LeavesInVain a departs bound worth = (x y : Course) (floor : ℕ) → departs x → move_on a.snapshot a.car x (Leave floor) ≡ Some y → worth ≤ℤ bound y
+
+-- the followers without all their leaves
+pub record AreWithoutLeaves (all next : Followers) : Type 0 where
+  pub boards : next.boards ≡ all.boards
+  pub leaves : (g : ℕ) → has next.leaves g ≡ (has all.leaves g && not (has all.leaves g))
+  pub ends : next.ends ≡ all.ends
+
+pub no_leaves_below : (a : Aim) (departs : Course → Type 0) (t : PartialTour) (demand : Demand) (bound : Course → ℤ) (worth : ℤ) (x : Course) (all next : Followers) → AimsAt a t → course t ≡ Some x → departs x → LeavesInVain a departs bound worth → AreFollowers t.snapshot t.car x (has demand.allowed) all → AreWithoutLeaves all next → AreFollowersBelow demand bound worth t x next
+no_leaves_below a departs t demand bound worth x all next aims leads there vain are without = record {
+  stays = is_no_leave;
+  passing = record {
+    boards = λ j. ap (λ (set : ℕ). has set j) without.boards ∙ are.boards j ∙ and_yes (may (Board j));
+    leaves = λ g. without.leaves g ∙ and_no (has all.leaves g) (may (Leave g));
+    ends = without.ends ∙ are.ends ∙ and_yes (may End);
+    calls = λ j h. are.calls j (and_parts (may (Board j)) true h).0;
+    floors = λ g h. are.floors g (and_parts (may (Leave g)) false h).0;
+  };
+  out = out;
+  useful = useful;
+}
+  where
+    may : Move → Bool
+    may m = may_be_next t.snapshot t.car x (has demand.allowed) m
+
+    out : (m : Move) → is_no_leave m ≡ false → IsNotKept demand bound worth (with_move t m)
+    out (Board j) = λ e. absurd (true≢false e)
+    out (Leave g) = λ e y leads_there.
+        let moved = moved_on t (Leave g) x y leads leads_there in
+        let aimed = subst (λ (s : Snapshot). move_on s a.car x (Leave g) ≡ Some y) (sym aims.snapshot) (subst (λ (c : ℕ). move_on t.snapshot c x (Leave g) ≡ Some y) (sym aims.car) moved) in
+        and_right (goes_on t demand y) (int_lt (bound y) worth) (not_below (bound y) worth (vain x y g there aimed))
+    out End = λ e. absurd (true≢false e)
+
+    useful : (m : Move) → is_useless t.snapshot t.car x (has demand.allowed) m ≡ true → is_no_leave m ≡ false
+    useful (Board j) = λ e. absurd (true≢false (sym e))
+    useful (Leave g) = λ e. refl
+    useful End = λ e. absurd (true≢false (sym e))
+
+-- ---- one after the other
+
+-- The next move is the first from this place on with which a partial tour that is kept for the worth may begin.
+abbrev pub GoesToKept : PartialTour → Demand → (bound : Course → ℤ) → (worth : ℤ) → (next : Option Move) → (from : ℕ) → Type 0
+GoesToKept p demand bound worth next from = GoesPast (λ m. IsNotKept demand bound worth (with_move p m)) p demand.allowed next from
+
+pub first_kept : (p : PartialTour) (demand : Demand) (bound : Course → ℤ) (worth : ℤ) (x : Course) (set : Followers) (next : Option Move) → course p ≡ Some x → AreFollowersBelow demand bound worth p x set → ((s : Snapshot) (test : Move → Bool) → ArePassing s test set → next ≡ first_of (filter test (all_moves s))) → GoesToKept p demand bound worth next 0
+first_kept p demand bound worth x set next leads below first =
+    past_to_first (λ m. IsNotKept demand bound worth (with_move p m)) p demand.allowed x below.stays next leads below.out (first p.snapshot (λ m. may_be_next p.snapshot p.car x (has demand.allowed) m && below.stays m) below.passing)
+
+pub next_kept : (p : PartialTour) (demand : Demand) (bound : Course → ℤ) (worth : ℤ) (x : Course) (set : Followers) (m : Move) (next : Option Move) (place : ℕ) → course p ≡ Some x → AreFollowersBelow demand bound worth p x set → IsAt p demand.allowed (Some m) place → ((s : Snapshot) (test : Move → Bool) → ArePassing s test set → next ≡ next_after m (filter test (all_moves s))) → GoesToKept p demand bound worth next (place + 1) × (from_next next (followers p demand.allowed) < from_next (Some m) (followers p demand.allowed))
+next_kept p demand bound worth x set m next place leads below at after =
+    past_to_next (λ v. IsNotKept demand bound worth (with_move p v)) p demand.allowed x below.stays m next place leads below.out at (after p.snapshot (λ v. may_be_next p.snapshot p.car x (has demand.allowed) v && below.stays v) below.passing)
