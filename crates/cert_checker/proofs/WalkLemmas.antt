@@ -5,7 +5,7 @@ use Rattle.std.specs.List.{flat_map}
 use Rattle.std.proofs.Math.Seq.{take-length}
 use Rattle.std.proofs.lemmas.List.{take_more, take-append-drop}
 use Rattle.std.proofs.lemmas.Int.{ints}
-use Rattle.std.proofs.lemmas.Bool.{and_from, and_left, and_right, cond-true, cond-false}
+use Rattle.std.proofs.lemmas.Bool.{and_from, and_right, cond-true, cond-false}
 use Rattle.call_sets.specs.Counting.{has}
 use Rattle.elevator_model.specs.declared.Move.{Move}
 use Rattle.elevator_model.specs.declared.Move.TheVariants.{Board}
@@ -22,8 +22,9 @@ use Rattle.partial_tours.proofs.Prefixes.{stops_made-ended}
 use Rattle.tour_extension.specs.declared.demands.Demand.{Demand}
 use Rattle.pricing_bound.specs.Aims.{Aim, value_for}
 use Rattle.kept_tours.specs.Kept.{is_kept_by}
-use Rattle.kept_tours.specs.Walking.{aim_at, goes_on as leads_on, IsOpen, IsShut}
-use Rattle.kept_tours.proofs.Followers.{followers, followers_are, IsAt, GoesTo, at_move, at_end, at_place_of, follower, one_course, over_shut}
+use Rattle.kept_tours.specs.Walking.{aim_at, goes_on as leads_on, IsOpen, IsNotKept}
+use Rattle.kept_tours.proofs.Followers.{followers, followers_are, IsAt, at_move, at_end, at_place_of, follower, one_course, past_out}
+use Rattle.kept_tours.proofs.Below.{GoesToKept}
 use Rattle.kept_tours.proofs.ListLemmas.{lists_after, flat_map-append, first_lists, own_lists, ended_lists}
 use Rattle.cert_checker.specs.declared.visits.Visits.{Visits}
 use Rattle.cert_checker.specs.declared.visits.Visits.TheVariants.{Going, Passed, Under}
@@ -206,28 +207,27 @@ seen_more t demand price bound worth first m left place new visits at before v x
     let here : see under left more ≡ seen_of visits new.moves = v.seen f.next f.leads n (omega (arith, falls, le)) in
     ap (see under first) (next_lists_are t demand (keeps t demand bound worth) n x f.next m place there at f.moved) ∙ see-append under first earlier more ∙ ap (λ (z : Seen). and_then z (λ l. see under l more)) (before x there n le) ∙ here
 
--- The followers up to the next move are shut, so there is nothing to see.
-walks_to : (t : PartialTour) (demand : Demand) (price : ℕ → ℤ) (bound : Course → ℤ) (worth : ℤ) (first : ℕ) (at : Course) (next : Option Move) (left from : ℕ) → course t ≡ Some at → GoesTo t demand next from → SeesBefore t demand price bound worth first left from → Walks t demand price bound worth first next left
+-- The followers up to the next move are not kept for the worth, so there is nothing to see.
+walks_to : (t : PartialTour) (demand : Demand) (price : ℕ → ℤ) (bound : Course → ℤ) (worth : ℤ) (first : ℕ) (at : Course) (next : Option Move) (left from : ℕ) → course t ≡ Some at → GoesToKept t demand bound worth next from → SeesBefore t demand price bound worth first left from → Walks t demand price bound worth first next left
 walks_to t demand price bound worth first at next left from leads goes before = record {
   place = goes.place;
   at = goes.at;
-  seen = over_shut t demand next from (SeesBefore t demand price bound worth first left) goes one_shut before;
+  seen = past_out (λ m. IsNotKept demand bound worth (with_move t m)) t demand.allowed next from (SeesBefore t demand price bound worth first left) goes one_out before;
 }
   where
-    one_shut : (k : ℕ) → k < length (followers t demand.allowed) → IsShut demand (with_move t (get_or (followers t demand.allowed) k (Board 0))) → SeesBefore t demand price bound worth first left k → SeesBefore t demand price bound worth first left (k + 1)
-    one_shut k lt shut seen =
+    one_out : (k : ℕ) → k < length (followers t demand.allowed) → IsNotKept demand bound worth (with_move t (get_or (followers t demand.allowed) k (Board 0))) → SeesBefore t demand price bound worth first left k → SeesBefore t demand price bound worth first left (k + 1)
+    one_out k lt out seen =
         let m = get_or (followers t demand.allowed) k (Board 0) in
         let stands = at_place_of t demand.allowed k lt in
         let f = follower t demand.allowed at m k leads stands in
-        let out = and_left (leads_on (with_move t m) demand f.next) (int_lt (bound f.next) worth) (shut f.next f.leads) in
-        seen_more t demand price bound worth first m left k (with_move t m) (Going left) stands seen (passed_by (with_move t m) demand price bound worth left (with_move t m) f.next f.leads out refl refl)
+        seen_more t demand price bound worth first m left k (with_move t m) (Going left) stands seen (passed_by (with_move t m) demand price bound worth left (with_move t m) f.next f.leads (out f.next f.leads) refl refl)
 
-pub walks_first : (t : PartialTour) (demand : Demand) (price : ℕ → ℤ) (bound : Course → ℤ) (worth : ℤ) (at : Course) (next : Option Move) (left : ℕ) → course t ≡ Some at → GoesTo t demand next 0 → Walks t demand price bound worth left next left
+pub walks_first : (t : PartialTour) (demand : Demand) (price : ℕ → ℤ) (bound : Course → ℤ) (worth : ℤ) (at : Course) (next : Option Move) (left : ℕ) → course t ≡ Some at → GoesToKept t demand bound worth next 0 → Walks t demand price bound worth left next left
 walks_first t demand price bound worth at next left leads goes =
     walks_to t demand price bound worth left at next left 0 leads goes (λ x there n le. refl)
 
 -- the walk goes on with the next follower
-pub walks_on : (t : PartialTour) (demand : Demand) (price : ℕ → ℤ) (bound : Course → ℤ) (worth : ℤ) (first : ℕ) (at : Course) (m : Move) (next : Option Move) (left rest : ℕ) (new : PartialTour) → course t ≡ Some at → (w : Walks t demand price bound worth first (Some m) left) → Visited (with_move t m) demand price bound worth left new (Going rest) → GoesTo t demand next (w.place + 1) → Walks t demand price bound worth first next rest
+pub walks_on : (t : PartialTour) (demand : Demand) (price : ℕ → ℤ) (bound : Course → ℤ) (worth : ℤ) (first : ℕ) (at : Course) (m : Move) (next : Option Move) (left rest : ℕ) (new : PartialTour) → course t ≡ Some at → (w : Walks t demand price bound worth first (Some m) left) → Visited (with_move t m) demand price bound worth left new (Going rest) → GoesToKept t demand bound worth next (w.place + 1) → Walks t demand price bound worth first next rest
 walks_on t demand price bound worth first at m next left rest new leads w v goes =
     walks_to t demand price bound worth first at next rest (w.place + 1) leads goes (seen_more t demand price bound worth first m left w.place new (Going rest) w.at w.seen v)
 

@@ -7,10 +7,10 @@ ghost use Rattle.cert_checker.specs.Visiting.{GoesBack, Visited};
 
 use crate::visits::Visits;
 use elevator_model::Move;
-use kept_tours::step_below;
+use kept_tours::{followers_below, step_below};
 use partial_tours::Prefix;
 use pricing_bound::CompletionBound;
-use tour_extension::{Demand, useful};
+use tour_extension::Demand;
 
 /// Visits a partial tour that some tour of the node begins with, where it is kept for the worth, and the kept ones that
 /// begin with it, depth first in the order of moves.
@@ -45,7 +45,7 @@ pub(crate) fn visit<B: CompletionBound>(
     }
     let mut left = left - 1;
     let departure = bound.depart(prefix, sums);
-    let followers = useful(prefix, demand, prefix.followers(demand.allowed));
+    let followers = followers_below(bound, demand, prefix, &departure, worth);
     let mut next = followers.first();
     while let Some(choice) = next {
         let visits = visit_after(bound, demand, worth, left, prefix, sums, &departure, choice);

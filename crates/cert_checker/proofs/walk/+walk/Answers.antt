@@ -3,15 +3,14 @@ use Rattle.std.specs.Prelude.{ℤ, int_lt, int_le, ◌≤ℤ◌, ◌<ℤ◌}
 use Rattle.std.proofs.lemmas.Int.{ints}
 use mir.Val.{to_z, of_z}
 use mir.Syntax.{w128}
-use Rattle.call_sets.specs.Counting.{has}
 use Rattle.elevator_model.specs.declared.Move.{Move}
 use Rattle.partial_tours.specs.PartialTour.{PartialTour, course, with_move}
 use Rattle.partial_tours.proofs.Follow.{is_some_has}
 use Rattle.partial_tours.proofs.Search.{left_in, left_falls, from_next}
-use Rattle.tour_extension.specs.Leaves.{is_useful}
 use Rattle.kept_tours.specs.Walking.{IsWalking, IsOpen, MayFollow}
 use Rattle.kept_tours.proofs.WalkingLemmas.{back_again, departs_there, reached_there}
-use Rattle.kept_tours.proofs.Followers.{followers, follower, IsAt, goes_to_first, goes_to_next}
+use Rattle.kept_tours.proofs.Followers.{followers, follower, IsAt}
+use Rattle.kept_tours.proofs.Below.{first_kept, next_kept}
 use Rattle.pricing_bound.specs.Aims.{Aim, value_for}
 use Rattle.cert_checker.specs.declared.visits.Visits.{Visits}
 use Rattle.cert_checker.specs.declared.visits.Visits.TheVariants.{Going, Passed, Under}
@@ -74,16 +73,19 @@ visit-returns-then-point-clause-visited g t c =
     let found : c.of_tour.result ≡ cond (int_lt value c.args.worth) (Under value) (Going (c.args.left - 1)) = c.of_tour.ensures ∙ ap (λ (w : ℤ). cond (int_lt value w) (Under value) (Going (c.args.left - 1))) worth in
     subst (λ (n : ℕ). Visited p c.args.demand.now a.price bound c.args.worth n p c.of_tour.result) (one_less c.args.left c.if-left-eq0.false) (tour_visited p c.args.demand.now a.price bound c.args.worth (c.args.left - 1) o.at value c.of_tour.result o.leads (sym (c.point.ensures o.at o.leads).ended ∙ c.if-point.true) kept is found)
 
-pub visit-useful-followers-requires : goal.visit-useful-followers-requires
-visit-useful-followers-requires g t c = c.requires.walking.demands
+pub visit-followers_below-followers-requires-clause-departs : goal.visit-followers_below-followers-requires-clause-departs
+visit-followers_below-followers-requires-clause-departs g t c =
+    departs_there (g.B.CompletionBound.stands c.args.bound.now c.args.sums.now) (g.B.CompletionBound.departs c.args.bound.now c.depart-departure.result) c.args.demand.now c.args.prefix.now c.requires.stands c.depart-departure.ensures
 
 pub visit-loop-next-init : goal.visit-loop-next-init
 visit-loop-next-init g t c =
     let p = c.args.prefix.now in
     let o = c.requires.stands in
-    let are = c.first-next.ensures p.snapshot (is_useful p.snapshot p.car o.at (has c.args.demand.now.allowed)) (c.useful-followers.ensures.value o.at o.leads (c.followers.ensures.value o.at o.leads)) in
-    let goes = goes_to_first p c.args.demand.now o.at c.first-next.result o.leads c.useful-followers.ensures.shut are in
-    record { same = refl; walks = walks_first p c.args.demand.now (g.B.CompletionBound.aim c.args.bound.now).price (g.B.CompletionBound.bound c.args.bound.now) (to_z w128 (of_z w128 c.args.worth)) o.at c.first-next.result (c.args.left - 1) o.leads goes }
+    let bound = g.B.CompletionBound.bound c.args.bound.now in
+    let stored = to_z w128 (of_z w128 c.args.worth) in
+    let are = c.followers_below-followers.ensures o.at o.leads in
+    let goes = first_kept p c.args.demand.now bound stored o.at c.followers_below-followers.result c.first-next.result o.leads are c.first-next.ensures in
+    record { same = refl; walks = walks_first p c.args.demand.now (g.B.CompletionBound.aim c.args.bound.now).price bound stored o.at c.first-next.result (c.args.left - 1) o.leads goes }
 
 pub visit-depart-departure-requires-clause-reached : goal.visit-depart-departure-requires-clause-reached
 visit-depart-departure-requires-clause-reached g t c =
@@ -129,9 +131,11 @@ visit-loop-next-smaller g t c =
     let p = c.args.prefix.now in
     let o = c.requires.stands in
     let choice = c.in-Some.choice in
-    let are = c.after-next.ensures p.snapshot (is_useful p.snapshot p.car o.at (has c.args.demand.now.allowed)) (c.useful-followers.ensures.value o.at o.leads (c.followers.ensures.value o.at o.leads)) in
+    let bound = g.B.CompletionBound.bound c.args.bound.now in
+    let stored = to_z w128 (of_z w128 c.args.worth) in
+    let are = c.followers_below-followers.ensures o.at o.leads in
     let at = subst (λ (next : Option Move). IsAt p c.args.demand.now.allowed next c.loop-next.invariant.walks.place) c.in-Some.is c.loop-next.invariant.walks.at in
-    let falls = (goes_to_next p c.args.demand.now o.at choice c.after-next.result c.loop-next.invariant.walks.place o.leads c.useful-followers.ensures.shut at are).1 in
+    let falls = (next_kept p c.args.demand.now bound stored o.at c.followers_below-followers.result choice c.after-next.result c.loop-next.invariant.walks.place o.leads are at c.after-next.ensures).1 in
     let here = ap (λ (v : Option Move). from_next v (followers p c.args.demand.now.allowed)) c.in-Some.is in
     omega (arith, falls, here)
 
@@ -148,8 +152,8 @@ visit-loop-next-preserved g t c =
     let seen = subst (λ (v : Visits). Visited (with_move c.loop-next.prefix choice) c.args.demand.now a.price bound stored c.loop-next.left c.visit_after-visits.new.prefix v) c.in-Going.is c.visit_after-visits.ensures.visited in
     let more = subst (λ (q : PartialTour). Visited (with_move q choice) c.args.demand.now a.price bound stored c.loop-next.left c.visit_after-visits.new.prefix (Going c.in-Going.rest)) same seen in
     let back = c.visit_after-visits.ensures.back c.in-Going.rest c.in-Going.is ∙ same in
-    let are = c.after-next.ensures p.snapshot (is_useful p.snapshot p.car o.at (has c.args.demand.now.allowed)) (c.useful-followers.ensures.value o.at o.leads (c.followers.ensures.value o.at o.leads)) in
-    let goes = (goes_to_next p c.args.demand.now o.at choice c.after-next.result walks.place o.leads c.useful-followers.ensures.shut walks.at are).0 in
+    let are = c.followers_below-followers.ensures o.at o.leads in
+    let goes = (next_kept p c.args.demand.now bound stored o.at c.followers_below-followers.result choice c.after-next.result walks.place o.leads are walks.at c.after-next.ensures).0 in
     record { same = back; walks = walks_on p c.args.demand.now a.price bound stored (c.args.left - 1) o.at choice c.after-next.result c.loop-next.left c.in-Going.rest c.visit_after-visits.new.prefix o.leads walks more goes }
 
 pub visit-returns-clause-visited : goal.visit-returns-clause-visited
