@@ -20,7 +20,7 @@ use Rattle.partial_tours.proofs.Passing.{IsFirstPassing, first_passing_of, next_
 use Rattle.partial_tours.proofs.Search.{from_next}
 use Rattle.partial_tours.proofs.Follow.{course_more}
 use Rattle.tour_extension.specs.declared.demands.Demand.{Demand}
-use Rattle.tour_extension.specs.Leaves.{is_useless, is_useful}
+use Rattle.tour_extension.specs.Leaves.{is_useless}
 use Rattle.kept_tours.specs.Walking.{goes_on, IsShut}
 use Rattle.kept_tours.proofs.WalkingLemmas.{moved_on}
 
@@ -246,10 +246,6 @@ abbrev pub ShutsUseless : PartialTour → Demand → Type 0
 ShutsUseless p demand =
     (x y : Course) (m : Move) → course p ≡ Some x → move_on p.snapshot p.car x m ≡ Some y → is_useless p.snapshot p.car x (has demand.allowed) m ≡ true → goes_on p demand y ≡ false
 
--- The next move is the first from this place on with which a tour of the node may go on.
-abbrev pub GoesTo : PartialTour → Demand → (next : Option Move) → (from : ℕ) → Type 0
-GoesTo p demand next from = GoesPast (λ m. IsShut demand (with_move p m)) p demand.allowed next from
-
 -- the moves that are no useless leaves
 abbrev pub keeps_move : PartialTour → Demand → Course → Move → Bool
 keeps_move p demand x m = not (is_useless p.snapshot p.car x (has demand.allowed) m)
@@ -260,15 +256,3 @@ useless_shut p demand x leads shuts m out = λ y there. shuts x y m leads (moved
     is_kept_not : (b : Bool) → not b ≡ false → b ≡ true
     is_kept_not true e = refl
     is_kept_not false e = absurd (true≢false e)
-
-pub goes_to_first : (p : PartialTour) (demand : Demand) (x : Course) (next : Option Move) → course p ≡ Some x → ShutsUseless p demand → next ≡ first_of (filter (is_useful p.snapshot p.car x (has demand.allowed)) (all_moves p.snapshot)) → GoesTo p demand next 0
-goes_to_first p demand x next leads shuts are =
-    past_to_first (λ m. IsShut demand (with_move p m)) p demand.allowed x (keeps_move p demand x) next leads (useless_shut p demand x leads shuts) are
-
-pub goes_to_next : (p : PartialTour) (demand : Demand) (x : Course) (m : Move) (next : Option Move) (place : ℕ) → course p ≡ Some x → ShutsUseless p demand → IsAt p demand.allowed (Some m) place → next ≡ next_after m (filter (is_useful p.snapshot p.car x (has demand.allowed)) (all_moves p.snapshot)) → GoesTo p demand next (place + 1) × (from_next next (followers p demand.allowed) < from_next (Some m) (followers p demand.allowed))
-goes_to_next p demand x m next place leads shuts at are =
-    past_to_next (λ v. IsShut demand (with_move p v)) p demand.allowed x (keeps_move p demand x) m next place leads (useless_shut p demand x leads shuts) at are
-
--- What a follower with which no tour of the node goes on keeps, holds at the place of the next move too.
-pub over_shut : (p : PartialTour) (demand : Demand) (next : Option Move) (from : ℕ) (P : ℕ → Type 0) (goes : GoesTo p demand next from) → ((k : ℕ) → k < length (followers p demand.allowed) → IsShut demand (with_move p (get_or (followers p demand.allowed) k (Board 0))) → P k → P (k + 1)) → P from → P goes.place
-over_shut p demand next from P goes step h = past_out (λ m. IsShut demand (with_move p m)) p demand.allowed next from P goes step h
