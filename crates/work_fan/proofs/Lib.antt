@@ -1,4 +1,4 @@
-pub mod Done
+pub mod DoneLists
 pub mod Places
 pub mod Shares
 pub mod Steps

@@ -14,7 +14,7 @@ use native.Mathlib.Decide.{ℕ_discrete}
 use Rattle.work_fan.specs.declared.workers.Done.{Done}
 use Rattle.work_fan.specs.Line.{times}
 use Rattle.work_fan.specs.Work.{jobs_of}
-use Rattle.work_fan.proofs.Done.{jobs_of-append}
+use Rattle.work_fan.proofs.DoneLists.{jobs_of-append}
 
 -- 1 where the place has an answer, and else 0
 abbrev pub filled : {A : Type 0} → ℕ → List (Option A) → ℕ

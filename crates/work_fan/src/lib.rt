@@ -9,4 +9,4 @@ mod tests;
 mod workers;
 
 pub use line::{JobLine, JobSeat};
-pub use workers::{Jobs, fan};
+pub use workers::{Done, Jobs, fan, in_order};

@@ -39,11 +39,11 @@ pub trait Jobs: Sync {
         ensures desk { serves self.now desk.new };
 }
 
-// A job that was done, with its answer.
+/// A job that was done, with its answer.
 #[derive(Drop)]
-struct Done<A> {
-    job: u32,
-    answer: A,
+pub struct Done<A> {
+    pub job: u32,
+    pub answer: A,
 }
 
 // What a worker, or some workers together, drew and have done.
@@ -281,8 +281,14 @@ fn taken_out<A: Drop>(alloc: Global, places: Vec<Option<A>>) -> Result<Vec<A>, A
     places.into_iter().filter_map(|place| place).collect(alloc)
 }
 
-// The answers in the order of their jobs, each of which was done.
-fn in_order<A: Drop>(alloc: Global, count: u32, done: Vec<Done<A>>) -> Result<Vec<A>, AllocError>
+/// The answers in the order of their jobs, each of which was done: in place `k` stands an answer of job `k`.
+///
+/// Where a job was done more than once, one of its answers stands there. It fails only where there is no memory left.
+pub fn in_order<A: Drop>(
+    alloc: Global,
+    count: u32,
+    done: Vec<Done<A>>,
+) -> Result<Vec<A>, AllocError>
     requires range { All (λ d. d.job < count) done.items }
     requires each { (k : ℕ) → k < count → 0 < times k (jobs_of done.items) }
     ensures count { IfOk result (λ answers. length answers.items ≡ count) }

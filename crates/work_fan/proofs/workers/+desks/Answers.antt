@@ -1,4 +1,4 @@
-use Rattle.work_fan.proofs.Done.{on_ok, works_both}
+use Rattle.work_fan.proofs.DoneLists.{on_ok, works_both}
 use Rattle.work_fan.proofs.workers.+desks.Goals as goal
 
 pub work_at-returns-clause-done : goal.work_at-returns-clause-done

@@ -3,7 +3,7 @@ use Rattle.std.specs.List.{Contains}
 use Rattle.std.proofs.lemmas.List.Elements.{All-contains}
 use Rattle.std.proofs.lemmas.Result.{IfOk-weaker}
 use Rattle.work_fan.specs.declared.workers.Done.{Done}
-use Rattle.work_fan.proofs.Done.{on_ok}
+use Rattle.work_fan.proofs.DoneLists.{on_ok}
 use Rattle.work_fan.proofs.workers.fan.Goals as goal
 
 pub in_order-requires-clause-each : goal.in_order-requires-clause-each

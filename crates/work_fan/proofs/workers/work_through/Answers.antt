@@ -1,7 +1,7 @@
 use Rattle.std.proofs.Common.{◌<◌, [], ◌∷◌, ◌++◌, ap, ◌∙◌, arith}
 use Rattle.std.proofs.lemmas.List.Elements.{All-same, All-push}
 use Rattle.work_fan.specs.declared.workers.Done.{Done}
-use Rattle.work_fan.proofs.Done.{next_after, next_after-le, next_after_push, jobs_of_push, works_end}
+use Rattle.work_fan.proofs.DoneLists.{next_after, next_after-le, next_after_push, jobs_of_push, works_end}
 use Rattle.work_fan.proofs.workers.work_through.Goals as goal
 
 pub loop-job-smaller : goal.loop-job-smaller

@@ -2,7 +2,7 @@ use Rattle.std.proofs.Common.{◌≡◌, ◌-◌, ◌<◌}
 use Rattle.std.specs.List.{All}
 use Rattle.work_fan.specs.declared.workers.Done.{Done}
 use Rattle.work_fan.specs.Work.{jobs_of}
-use Rattle.work_fan.proofs.Done.{next_after}
+use Rattle.work_fan.proofs.DoneLists.{next_after}
 use Rattle.work_fan.proofs.workers.work_through.Given as goal
 
 abbrev pub invariant-loop-job : goal.invariant-loop-job
