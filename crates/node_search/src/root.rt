@@ -76,6 +76,18 @@ impl<'a> Root<'a> {
         self.tree.branches()[0].sheet.bound() < i128::from(self.best.cost)
     }
 
+    /// How many partial tours each car's pricing tried in the last turn; none before the first. It fails only
+    /// where there is no memory left.
+    fn last_sizes(&self, alloc: Global) -> Result<Vec<u64>, AllocError> {
+        let mut sizes = Vec::new(alloc);
+        if let Some(turn) = self.turns.last() {
+            for car in turn.cars.as_slice() {
+                sizes.push(car.priced.visits)?;
+            }
+        }
+        Ok(sizes)
+    }
+
     /// The pricings of all cars at the present prices. It fails only where there is no memory left.
     fn price<P: Pricer, G: Gate + Sync>(
         &self,
@@ -99,7 +111,8 @@ impl<'a> Root<'a> {
             node: &self.tree.branches()[0].node,
             prices: &self.prices,
         }];
-        price_nodes(rt, alloc, pricer, cars, &tasks, moves, desks, gate)
+        let sizes = self.last_sizes(alloc)?;
+        price_nodes(rt, alloc, pricer, cars, &tasks, &sizes, moves, desks, gate)
     }
 
     /// Takes in the pricings of all cars at the present prices. It fails only where there is no memory left.

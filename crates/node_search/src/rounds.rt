@@ -67,6 +67,21 @@ impl<'a> Search<'a> {
         Ok(tasks)
     }
 
+    /// How many partial tours each car's pricing in each of these leaves may try, as those that gave the leaf's
+    /// worths tell. It fails only where there is no memory left.
+    fn sizes_of(&self, alloc: Global, chosen: &[Chosen]) -> Result<Vec<u64>, AllocError>
+        requires { All (λ (c : Chosen). c.place < length self.now.tree) chosen.now }
+    {
+        let mut sizes = Vec::new(alloc);
+        for index in 0..chosen.len() {
+            let branch = &self.tree.branches()[chosen[index].place];
+            for worth in branch.sheet.worths() {
+                sizes.push(worth.claim)?;
+            }
+        }
+        Ok(sizes)
+    }
+
     /// Prices every car in each of these leaves, with one worker for each desk. It fails only where there is no memory
     /// left.
     fn price<P: Pricer, G: Gate + Sync>(
@@ -90,7 +105,8 @@ impl<'a> Search<'a> {
     {
         let cars = self.best.pool.snapshot().building().cars().len() as u32;
         let tasks = self.tasks_of(alloc, chosen)?;
-        price_nodes(rt, alloc, pricer, cars, &tasks, moves, desks, gate)
+        let sizes = self.sizes_of(alloc, chosen)?;
+        price_nodes(rt, alloc, pricer, cars, &tasks, &sizes, moves, desks, gate)
     }
 
     /// Takes in the pricings of every car in each of these leaves, the last leaf first: a split moves only what stands

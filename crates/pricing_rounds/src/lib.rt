@@ -4,6 +4,7 @@
 #![tactic(auto)]
 
 mod desks;
+mod drawing;
 mod rounds;
 mod tasks;
 

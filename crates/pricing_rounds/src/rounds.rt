@@ -5,6 +5,7 @@ ghost use Rattle.elevator_model.specs.Snapshot.{IsAccepted, car_count};
 ghost use Rattle.work_fan.specs.Work.{Serving};
 ghost use Rattle.pricing_rounds.specs.Rounds.{AreAnswersOf, IsRound, IsTaskOf};
 
+use crate::drawing::{drawing_order, in_places};
 use crate::tasks::Task;
 use assign_branch::Pricer;
 use byte_streams::Gate;
@@ -14,7 +15,8 @@ use std::marker::Sync;
 use std::thread::Threads;
 use work_fan::{Jobs, fan};
 
-/// The pricings of every car at each of the nodes: job `k` is that of car `k % cars` at the node of task `k / cars`.
+/// The pricings of every car at each of the nodes: pricing `p` is that of car `p % cars` at the node of
+/// task `p / cars`, and job `k` is pricing `order[k]`.
 #[derive(Drop)]
 struct Round<'a, P: Pricer> {
     pricer: &'a P,
@@ -22,13 +24,14 @@ struct Round<'a, P: Pricer> {
     cars: u32,
     /// How many partial tours each pricing may try.
     moves: u64,
+    order: &'a [u32],
     alloc: Global,
-    ghost is_round: { IsRound (P.snapshot pricer.now) tasks.now cars moves },
+    ghost is_round: { IsRound (P.snapshot pricer.now) tasks.now cars moves order.now },
 }
 
 impl<'a, P: Pricer> Jobs for Round<'a, P> {
-    ghost use Rattle.std.specs.Prelude.{◌*◌, ◌/◌, ◌%◌, length};
-    ghost use Rattle.pricing_rounds.specs.Rounds.{IsAnswerOf};
+    ghost use Rattle.std.specs.Prelude.{◌*◌, length, slice_index};
+    ghost use Rattle.pricing_rounds.specs.Rounds.{IsAnswerAt};
 
     type Desk = P::Desk;
 
@@ -38,16 +41,17 @@ impl<'a, P: Pricer> Jobs for Round<'a, P> {
 
     ghost serves = { λ it desk. P.owns it.pricer.now desk };
 
-    ghost is_right = { λ it k answer. IsAnswerOf (P.fits it.pricer.now) (P.snapshot it.pricer.now)
-        it.moves it.tasks.now (k / it.cars) (k % it.cars) answer };
+    ghost is_right = { λ it k answer. IsAnswerAt (P.fits it.pricer.now) (P.snapshot it.pricer.now)
+        it.moves it.tasks.now it.cars (slice_index it.order.now k) answer };
 
     fn count(&self) -> u32 {
         self.tasks.len() as u32 * self.cars
     }
 
     fn work(&self, k: u32, desk: &mut P::Desk) -> Result<TurnOf, AllocError> {
-        let task = self.tasks[(k / self.cars) as usize];
-        let car = k % self.cars;
+        let pricing = self.order[k as usize];
+        let task = self.tasks[(pricing / self.cars) as usize];
+        let car = pricing % self.cars;
         let priced = self
             .pricer
             .price(car, task.node, task.prices, self.moves, desk);
@@ -59,6 +63,9 @@ impl<'a, P: Pricer> Jobs for Round<'a, P> {
 /// Prices every car at each of the nodes, with one worker for each desk: at `i * cars + c` stands the pricing of car `c`
 /// at the node of task `i`, of at most `moves` partial tours, and the tour that it gave.
 ///
+/// `sizes` tells how many partial tours each pricing may try, as far as one can tell, in the order of the
+/// answers. It only says which pricings are drawn first, and may be of any length.
+///
 /// It needs at most four tasks and 1 to 16 desks of the pricer, which are its own afterwards too, also where memory ran
 /// out. `gate` is told of each pricing before it begins. It fails only where there is no memory left.
 pub fn price_nodes<P: Pricer, G: Gate + Sync>(
@@ -67,6 +74,7 @@ pub fn price_nodes<P: Pricer, G: Gate + Sync>(
     pricer: &P,
     cars: u32,
     tasks: &[Task],
+    sizes: &[u64],
     moves: u64,
     desks: &mut [P::Desk],
     gate: &G,
@@ -82,12 +90,16 @@ pub fn price_nodes<P: Pricer, G: Gate + Sync>(
         (P.snapshot pricer.now) moves tasks.now cars answers.items) }
     ensures desks { All (P.owns pricer.now) desks.new }
 {
+    let count = tasks.len() as u32 * cars;
+    let order = drawing_order(alloc, sizes, count)?;
     let round = Round {
         pricer,
         tasks,
         cars,
         moves,
+        order: &order,
         alloc,
     };
-    fan(rt, alloc, &round, desks, gate)
+    let drawn = fan(rt, alloc, &round, desks, gate)?;
+    in_places(alloc, count, &order, drawn)
 }

@@ -283,7 +283,8 @@ fn taken_out<A: Drop>(alloc: Global, places: Vec<Option<A>>) -> Result<Vec<A>, A
 
 /// The answers in the order of their jobs, each of which was done: in place `k` stands an answer of job `k`.
 ///
-/// Where a job was done more than once, one of its answers stands there. It fails only where there is no memory left.
+/// Where a job was done more than once, one of its answers stands there. It fails only where there is no
+/// memory left.
 pub fn in_order<A: Drop>(
     alloc: Global,
     count: u32,
