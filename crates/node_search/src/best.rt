@@ -89,8 +89,8 @@ impl<'a> Best<'a> {
         Ok(())
     }
 
-    /// Takes the cheapest plan that the pool's tours make, found in at most `limit` tries, where it is cheaper. It fails
-    /// only where there is no memory left.
+    /// Takes the cheapest plan that the pool's tours make, where it is cheaper and found in at most `limit` tries. It
+    /// fails only where there is no memory left.
     pub(crate) fn select(
         &mut self,
         alloc: Global,
@@ -106,7 +106,8 @@ impl<'a> Best<'a> {
         ensures least { OnOk result (34 ^ car_count self.old.pool.snapshot ≤ limit → (plan : List (List Stop))
             → IsMadeOf self.old.pool plan → self.new.cost ≤ plan_cost_of self.old.pool.snapshot plan) }
     {
-        let Choice { plan, cost, .. } = self.pool.select(alloc, prices, self.cost, limit)?;
+        let below = self.cost;
+        let Choice { plan, cost, .. } = self.pool.select_below(alloc, prices, below, limit)?;
         if let Some(plan) = plan {
             self.offer(plan, cost);
         }

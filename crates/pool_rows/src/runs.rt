@@ -52,7 +52,21 @@ fn note_choice(pool: &Pool<'_>, known: Known, limit: u64, choice: &Choice, tally
     }
 }
 
-/// Selects with this limit, and compares the choice.
+/// Compares a choice of a plan that was to cost less than this.
+fn note_below(pool: &Pool<'_>, known: Known, below: u64, choice: &Choice, tally: &mut Tally) {
+    let is_right = match &choice.plan {
+        Some(plan) => {
+            let cost = price(pool.snapshot(), plan);
+            cost == Some(choice.cost) && choice.cost < below && is_pooled(pool, plan)
+        }
+        None => choice.cost == 0,
+    };
+    let found = choice.plan.as_ref().map(|_| choice.cost);
+    let due = known.least.filter(|least| *least < below);
+    tally.below.note(is_right && (choice.spent || found == due));
+}
+
+/// Selects with this limit, any plan and one below the target, and compares the choices.
 fn compare_limit(
     alloc: Global,
     pool: &Pool<'_>,
@@ -69,6 +83,8 @@ fn compare_limit(
     }
     let choice = pool.select(alloc, prices, target, limit)?;
     note_choice(pool, known, limit, &choice, tally);
+    let choice = pool.select_below(alloc, prices, target, limit)?;
+    note_below(pool, known, target, &choice, tally);
     Ok(())
 }
 

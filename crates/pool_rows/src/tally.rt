@@ -34,6 +34,9 @@ pub(crate) struct Tally {
     pub(crate) none: Checks,
     /// Where the choice is not spent, it is a plan of the least cost, or there is no plan.
     pub(crate) least: Checks,
+    /// A plan that is to cost less than a target does so, and there is one of the least cost exactly where that is less,
+    /// unless the choice is spent.
+    pub(crate) below: Checks,
     /// Where it is spent, the pool has as many partial selections as the limit.
     pub(crate) spent: Checks,
     /// A limit that is great enough is not reached.
@@ -50,12 +53,13 @@ pub(crate) struct Tally {
 
 impl Tally {
     /// Each kind of checks, with the word that is printed for it.
-    fn kinds(&self) -> [(&'static str, Checks); 9] {
+    fn kinds(&self) -> [(&'static str, Checks); 10] {
         [
             ("columns", self.columns),
             ("plans", self.plans),
             ("none", self.none),
             ("least", self.least),
+            ("below", self.below),
             ("spent", self.spent),
             ("ample", self.ample),
             ("first", self.first),

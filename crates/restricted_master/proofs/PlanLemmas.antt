@@ -18,7 +18,7 @@ use Rattle.restricted_master.specs.declared.choosing.Candidate.{Candidate}
 use Rattle.restricted_master.specs.declared.choosing.CarChoice.{CarChoice}
 use Rattle.restricted_master.specs.declared.choosing.Selection.{Selection}
 use Rattle.restricted_master.specs.Choosing.{candidate_at, and_also, Completes, picked_cost, pick_count, picks, to_beat, IsSelection, NoneBeats}
-use Rattle.restricted_master.specs.Choices.{tour_at, IsCandidate, AreCandidates, AreChoices, CanPick, IsPicked, IsPlanPick, IsCheapestPick, IsLeastPick}
+use Rattle.restricted_master.specs.Choices.{tour_at, IsCandidate, AreCandidates, AreChoices, CanPick, IsPicked, IsPlanPick, IsCheapestPick, IsLeastBelow}
 use Rattle.restricted_master.specs.Priced.{candidate_of}
 use Rattle.restricted_master.specs.Pools.{TourPool, tours_of_car, IsPool, AreColumns, IsMadeOf, selection_count}
 use Rattle.restricted_master.specs.Columns.{IsColumn, columns_of, tours_of}
@@ -315,9 +315,13 @@ module _ (pool : TourPool) (choices : List CarChoice) (all : ℕ) (are : AreChoi
         cost = λ plan picked. found.cost ∙ sym (plan-made pool choices (has all) (picks x) plan are every done picked).cost;
       }
 
-  pub least-pick : (taken : ℕ) → has taken ≡ none_taken → (beat : ℕ) (o : Option Selection) → NoneBeats (has all) (has taken) 0 choices (to_beat beat o) → IfSome o (IsLeastPick pool)
-  least-pick taken none beat None beats = tt
-  least-pick taken none beat (Some x) beats = least-made x.cost (subst (λ (held : ℕ → Bool). NoneBeats (has all) held 0 choices x.cost) none beats)
+  pub least-below : (taken : ℕ) → has taken ≡ none_taken → (beat : ℕ) (o : Option Selection) → NoneBeats (has all) (has taken) 0 choices (to_beat beat o) → IsLeastBelow pool beat o
+  least-below taken none beat None beats = least-made beat (subst (λ (held : ℕ → Bool). NoneBeats (has all) held 0 choices beat) none beats)
+  least-below taken none beat (Some x) beats = least-made x.cost (subst (λ (held : ℕ → Bool). NoneBeats (has all) held 0 choices x.cost) none beats)
+
+  pub picked-below : (taken : ℕ) (beat : ℕ) (o : Option Selection) → IfSome o (IsSelection (has all) (has taken) 0 choices beat) → IfSome o (λ x. x.cost < beat)
+  picked-below taken beat None h = tt
+  picked-below taken beat (Some x) found = found.less
 
   pub cheapest-pick : (taken : ℕ) → has taken ≡ none_taken → length choices ≤ 16 → (o : Option Selection) → NoneBeats (has all) (has taken) 0 choices (to_beat 18446744073709551615 o) → IsCheapestPick pool o
   cheapest-pick taken none few None beats = none-made few (subst (λ (held : ℕ → Bool). NoneBeats (has all) held 0 choices 18446744073709551615) none beats)

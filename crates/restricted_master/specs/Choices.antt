@@ -58,3 +58,15 @@ IsLeastPick pool x = (plan : List (List Stop)) → IsMadeOf pool plan → x.cost
 abbrev pub IsCheapestPick : TourPool → Option Selection → Type 0
 IsCheapestPick pool None = (plan : List (List Stop)) → IsMadeOf pool plan → ⊥
 IsCheapestPick pool (Some x) = IsLeastPick pool x
+
+-- no plan that is made of tours of the pool costs less than the picks, and without picks none costs less than this
+abbrev pub IsLeastBelow : TourPool → (beat : ℕ) → Option Selection → Type 0
+IsLeastBelow pool beat None = (plan : List (List Stop)) → IsMadeOf pool plan → beat ≤ plan_cost_of pool.snapshot plan
+IsLeastBelow pool beat (Some x) = IsLeastPick pool x
+
+-- the plan costs what the picks cost, and there is none without picks
+abbrev pub HasPicked : Snapshot → Option Selection → Option (List (List Stop)) → Type 0
+HasPicked s None None = Unit {0}
+HasPicked s None (Some plan) = ⊥
+HasPicked s (Some x) None = ⊥
+HasPicked s (Some x) (Some plan) = x.cost ≡ plan_cost_of s plan

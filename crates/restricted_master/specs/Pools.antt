@@ -62,6 +62,11 @@ abbrev pub IsCheapest : TourPool → Option (List (List Stop)) → Type 0
 IsCheapest pool None = (plan : List (List Stop)) → IsMadeOf pool plan → ⊥
 IsCheapest pool (Some plan) = IsCheapestPlan pool plan
 
+-- a cheapest plan that is made of tours of the pool, and None where each costs this or more
+abbrev pub IsCheapestBelow : TourPool → (below : ℕ) → Option (List (List Stop)) → Type 0
+IsCheapestBelow pool below None = (plan : List (List Stop)) → IsMadeOf pool plan → below ≤ plan_cost_of pool.snapshot plan
+IsCheapestBelow pool below (Some plan) = IsCheapestPlan pool plan
+
 abbrev pub cost_of_choice : Snapshot → Option (List (List Stop)) → ℕ
 cost_of_choice s None = 0
 cost_of_choice s (Some plan) = plan_cost_of s plan

@@ -25,6 +25,19 @@ pub struct Choice {
     pub spent: bool,
 }
 
+impl Choice {
+    /// No plan.
+    fn none(spent: bool) -> Self
+        ensures { result ≡ record { plan = None; cost = 0; spent = spent } }
+    {
+        Choice {
+            plan: None,
+            cost: 0,
+            spent,
+        }
+    }
+}
+
 /// The cheapest picks that were found, if any, and whether all tries were made.
 #[derive(Clone, Copy)]
 struct Found {
@@ -42,11 +55,11 @@ impl Found {
 }
 
 impl<'a> Pool<'a> {
-    ghost use Rattle.restricted_master.specs.Pools.{IsCheapest, IsMadeOf, cost_of_choice, selection_count, tours_of_car};
+    ghost use Rattle.restricted_master.specs.Pools.{IsCheapest, IsCheapestBelow, IsMadeOf, cost_of_choice, selection_count, tours_of_car};
     ghost use Rattle.restricted_master.specs.declared.choosing.CarChoice.{CarChoice};
     ghost use Rattle.restricted_master.specs.Choosing.{IsRising, picks};
     ghost use Rattle.restricted_master.specs.Priced.{IsPriced};
-    ghost use Rattle.restricted_master.specs.Choices.{AreCandidates, AreChoices, IsPicked, CanPick, IsPlanPick, IsCheapestPick, IsLeastPick};
+    ghost use Rattle.restricted_master.specs.Choices.{AreCandidates, AreChoices, IsPicked, CanPick, IsPlanPick, IsCheapestPick, IsLeastBelow, HasPicked};
 
     /// The cheapest feasible plan that is made of tours of the pool, found depth first over the cars. A partial
     /// selection is one tour for each of the first cars, of none up to all; at most `limit` of them are tried, which is
@@ -79,15 +92,65 @@ impl<'a> Pool<'a> {
         let prices = raised.as_slice();
         let choices = self.choices(alloc, prices)?;
         let found = self.best_picks(&choices, prices, target, limit);
+        self.choice_of(alloc, &choices, found)
+    }
+
+    /// The cheapest feasible plan that is made of tours of the pool and costs less than `below`, in cost units, and None
+    /// exactly where no plan of the pool does, unless the choice is spent. It is found as `select` finds one, which goes
+    /// on to dearer plans where there is none; the bounds of this one leave most partial selections untried. The only
+    /// error is want of memory.
+    pub fn select_below(
+        &self,
+        alloc: Global,
+        prices: &[Price],
+        below: u64,
+        limit: u64,
+    ) -> Result<Choice, AllocError>
+        requires prices { length prices.now ≡ call_count self.now.snapshot }
+        requires limit { 1 ≤ limit }
+        ensures plan { IfOk result (λ choice. IfSome choice.plan (IsMadeOf self.now)) }
+        ensures cost { IfOk result
+            (λ choice. choice.cost ≡ cost_of_choice self.now.snapshot choice.plan) }
+        ensures below { IfOk result (λ choice. IfSome choice.plan (λ _. choice.cost < below)) }
+        ensures cheapest { IfOk result
+            (λ choice. choice.spent ≡ false → IsCheapestBelow self.now below choice.plan) }
+        ensures spent { IfOk result
+            (λ choice. choice.spent ≡ true → limit ≤ selection_count self.now.tours) }
+        ensures ample { IfOk result
+            (λ choice. 34 ^ car_count self.now.snapshot ≤ limit → choice.spent ≡ false) }
+    {
+        prove!(self.snapshot().calls().len() <= 128);
+        if below == 0 {
+            return Ok(Choice::none(false));
+        }
+        let raised = self.raised(alloc, prices, below)?;
+        let prices = raised.as_slice();
+        let choices = self.choices(alloc, prices)?;
+        let found = self.picks_below(&choices, prices, below, limit);
+        self.choice_of(alloc, &choices, found)
+    }
+
+    /// The plan of the picks that were found, if any.
+    fn choice_of(
+        &self,
+        alloc: Global,
+        choices: &[CarChoice],
+        found: Found,
+    ) -> Result<Choice, AllocError>
+        requires few { length choices.now ≤ 16 }
+        requires picked { IfSome found.picked (IsPlanPick self.now choices.now) }
+        ensures plan { IfOk result (λ choice. IfSome choice.plan (IsMadeOf self.now)) }
+        ensures cost { IfOk result
+            (λ choice. choice.cost ≡ cost_of_choice self.now.snapshot choice.plan) }
+        ensures picked { IfOk result
+            (λ choice. HasPicked self.now.snapshot found.picked choice.plan) }
+        ensures spent { IfOk result (λ choice. choice.spent ≡ found.spent) }
+    {
         let Some(picked) = found.picked else {
-            return Ok(Choice {
-                plan: None,
-                cost: 0,
-                spent: found.spent,
-            });
+            return Ok(Choice::none(found.spent));
         };
         Ok(Choice {
-            plan: Some(self.plan_of(alloc, &choices, &picked)?),
+            plan: Some(self.plan_of(alloc, choices, &picked)?),
             cost: picked.cost,
             spent: found.spent,
         })
@@ -122,7 +185,8 @@ impl<'a> Pool<'a> {
         requires beat { 0 < beat }
         ensures few { length choices.now ≤ 16 }
         ensures picked { IfSome result.picked (IsPlanPick self.now choices.now) }
-        ensures least { result.spent ≡ false → IfSome result.picked (IsLeastPick self.now) }
+        ensures below { IfSome result.picked (λ x. x.cost < beat) }
+        ensures least { result.spent ≡ false → IsLeastBelow self.now beat result.picked }
         ensures whole { beat ≡ 18446744073709551615 → result.spent ≡ false
             → IsCheapestPick self.now result.picked }
         ensures spent { result.spent ≡ true → limit ≤ selection_count self.now.tours }

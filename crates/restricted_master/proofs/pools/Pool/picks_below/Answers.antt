@@ -15,7 +15,7 @@ use Rattle.elevator_model.specs.Snapshot.{Snapshot, call_count}
 use Rattle.elevator_model.specs.Tours.{none_taken}
 use Rattle.tour_rules.proofs.Stops.{none_is_empty}
 use Rattle.tour_cost.proofs.Served.{cars-le}
-use Rattle.restricted_master.proofs.PlanLemmas.{picked-plan, cheapest-pick, least-pick, positive, spent-many, ample-left}
+use Rattle.restricted_master.proofs.PlanLemmas.{picked-plan, cheapest-pick, least-below, picked-below, positive, spent-many, ample-left}
 use Rattle.restricted_master.proofs.pools.Pool.picks_below.Goals as goal
 
 -- the set of all calls has the snapshot's
@@ -37,7 +37,11 @@ returns-clause-picked c =
 
 pub returns-clause-least : goal.returns-clause-least
 returns-clause-least c = λ h.
-    least-pick c.args.self.now c.args.choices.now c.new-demand.result.all c.requires.choices (all_calls c) c.empty.result (none_yet c) c.args.beat c.cheapest-picked.result (c.cheapest-picked.ensures.cheapest (positive c.cheapest-picked.new.left h))
+    least-below c.args.self.now c.args.choices.now c.new-demand.result.all c.requires.choices (all_calls c) c.empty.result (none_yet c) c.args.beat c.cheapest-picked.result (c.cheapest-picked.ensures.cheapest (positive c.cheapest-picked.new.left h))
+
+pub returns-clause-below : goal.returns-clause-below
+returns-clause-below c =
+    picked-below c.args.self.now c.args.choices.now c.new-demand.result.all c.requires.choices (all_calls c) c.empty.result c.args.beat c.cheapest-picked.result c.cheapest-picked.ensures.selection
 
 pub returns-clause-whole : goal.returns-clause-whole
 returns-clause-whole c = λ e h.
