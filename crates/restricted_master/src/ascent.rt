@@ -22,7 +22,7 @@ struct Turn {
     /// The prices and the least reduced costs together, in thousandths of a cost unit.
     bound: i128,
     /// For each call 1 less the number of the cheapest tours that take it, and 0 where there is no call.
-    lacks: [i128; MOST_CALLS],
+    lacks: [i64; MOST_CALLS],
 }
 
 impl Turn {
@@ -58,7 +58,7 @@ struct Course {
     bound: i128,
     target: i128,
     /// For each call, in thousandths: the average of what it lacked, of which the newest turn makes a third.
-    direction: [i128; MOST_CALLS],
+    direction: [i64; MOST_CALLS],
     /// How much of the way to the target a turn goes, in thousandths.
     rate: i128,
 }
@@ -98,8 +98,8 @@ impl Course {
     }
 
     /// The square of the direction's length.
-    fn square(&self) -> i128 {
-        let mut sum: i128 = 0;
+    fn square(&self) -> i64 {
+        let mut sum: i64 = 0;
         for part in &self.direction {
             sum = sum.saturating_add(part.saturating_mul(*part));
         }
@@ -114,9 +114,12 @@ impl Course {
             .target
             .saturating_sub(self.bound)
             .saturating_mul(self.rate);
-        let square = self.square();
+        let square = i128::from(self.square());
         for ((price, from), part) in next.iter_mut().zip(best).zip(&self.direction) {
-            let change = way.saturating_mul(*part).checked_div(square).unwrap_or(0);
+            let change = way
+                .saturating_mul(i128::from(*part))
+                .checked_div(square)
+                .unwrap_or(0);
             *price = cut_price(from.value().saturating_add(change));
         }
     }

@@ -1,7 +1,6 @@
 //! Prices after a turn.
 
-ghost use Rattle.std.specs.Prelude.{◌≡◌, ℕ, ◌<◌, ◌≤◌, ◌^◌, ℤ, pos, ◌+ℤ◌, ◌-ℤ◌, ◌*ℤ◌, ◌≤ℤ◌, length, slice_index, if◌then◌else◌};
-ghost use Rattle.call_sets.specs.Counting.{has};
+ghost use Rattle.std.specs.Prelude.{◌≡◌, ℕ, ◌<◌, ◌≤◌, ◌^◌, ℤ, pos, ◌+ℤ◌, ◌-ℤ◌, ◌*ℤ◌, ◌≤ℤ◌, length, slice_index};
 ghost use Rattle.price_scale.specs.Scale.{IsPrice, IsPriceSum};
 ghost use Rattle.search_model.specs.Prices.{price_at};
 ghost use Rattle.search_model.specs.Solving.{cut};
@@ -57,20 +56,19 @@ pub(crate) fn prices_of(prices: &[Price], calls: CallSet) -> i128
     ensures range { IsPriceSum result }
 {
     let mut sum = 0;
-    for call in 0..prices.len() {
-        sum += if_in(calls, call as u32, prices[call]);
+    for call in calls.iter() {
+        sum += price_of(prices, call);
     }
     sum
 }
 
-/// The price, where the call is in the set, and else 0.
-fn if_in(calls: CallSet, call: u32, price: Price) -> i128
-    ensures value { result ≡ (if has calls call then price else pos 0) }
+/// The price of a call, and 0 where it has none.
+fn price_of(prices: &[Price], call: u32) -> i128
+    ensures value { result ≡ price_at prices.now call }
     ensures range { IsPrice result }
 {
-    if calls.contains(call) {
-        price.value()
-    } else {
-        0
+    match prices.get(call as usize) {
+        Some(price) => price.value(),
+        None => 0,
     }
 }
