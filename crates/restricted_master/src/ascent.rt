@@ -3,7 +3,7 @@
 //! At any prices, these and the least reduced costs of the cars together are at most what a plan of these tours costs.
 //! A subgradient ascent raises that bound. No contract says how far, since none of what `select` answers rests on it.
 
-ghost use Rattle.std.specs.Prelude.{◌≡◌, ℕ, ◌≤◌, IfOk, length};
+ghost use Rattle.std.specs.Prelude.{◌≡◌, ◌≤◌, IfOk, length};
 
 use crate::columns::cheapest_column;
 use crate::pools::Pool;

@@ -1,4 +1,4 @@
-use Rattle.std.proofs.Common.{◌≡◌, ◌∙◌, ℕ, pos, length, ap, arith}
+use Rattle.std.proofs.Common.{◌∙◌, ℕ, length, ap, arith}
 use Rattle.std.proofs.lemmas.Int.{ints}
 use Rattle.call_sets.specs.Counting.{members}
 use Rattle.search_model.specs.Sums.{int_sum_by}
