@@ -1,0 +1,96 @@
+//! Buildings: canonical texts that are written back.
+
+use crate::makers::source_of;
+use building_text::{read_building, write_building};
+use lift_text::{LineReader, put_word, put_words};
+use std::alloc::Global;
+use std::test::Fail;
+
+/// Whether a text is read and written as the same bytes, after what was written before.
+fn is_canonical(alloc: Global, text: &[u8]) -> Option<bool> {
+    let mut source = source_of(alloc, text, 7)?;
+    let mut lines = LineReader::new(alloc, &mut source).ok()?;
+    let building = read_building(alloc, &mut lines).ok()?;
+    let mut out = Vec::from_slice(alloc, b"# ").ok()?;
+    write_building(alloc, &building, &mut out).ok()?;
+    Some(out.as_slice().strip_prefix(b"# ") == Some(text))
+}
+
+const FIRST: &[u8] = b"building 1
+speed 2000
+accel 1000
+weights 3 7
+floors 0 4000 9000
+car 7 8 1 2 3 4 all
+car 4294967295 64 0 60000 0 5 0 2
+end
+";
+
+const THIRD: &[u8] = b"building 3
+speed 100
+accel 5000
+weights 0 1000
+patience 500 3
+floors 5 6
+times 0 5000
+times 4999 0
+car 0 1 9 8 7 6 all
+end
+";
+
+const GREATEST: &[u8] = b"building 3
+speed 20000
+accel 5000
+weights 1000 1000
+patience 1000000000 1000
+floors";
+
+/// Appends a line of the greatest times from a floor.
+fn put_times(from: u64, out: &mut Vec<u8>) -> Option<()> {
+    out.extend_from_slice(b"\ntimes").ok()?;
+    for to in 0..64u64 {
+        put_word(out, if from == to { 0 } else { 20_000_000 }).ok()?;
+    }
+    Some(())
+}
+
+/// Appends a car that serves all floors but the lowest.
+fn put_car(car: u64, out: &mut Vec<u8>) -> Option<()> {
+    out.push(b'\n').ok()?;
+    let numbers = [4_294_967_295 - car, 64, 60_000, 60_000, 60_000, 60_000];
+    put_words(out, b"car", &numbers).ok()?;
+    for floor in 1..64u64 {
+        put_word(out, floor).ok()?;
+    }
+    Some(())
+}
+
+/// The text of the largest building: 64 floors, 64 lines of times, 16 cars.
+fn largest(alloc: Global) -> Option<Vec<u8>> {
+    let mut out = Vec::from_slice(alloc, GREATEST).ok()?;
+    for floor in 0..64u64 {
+        put_word(&mut out, floor * 15_873).ok()?;
+    }
+    for from in 0..64u64 {
+        put_times(from, &mut out)?;
+    }
+    for car in 0..16u64 {
+        put_car(car, &mut out)?;
+    }
+    out.extend_from_slice(b"\nend\n").ok()?;
+    Some(out)
+}
+
+fn largest_is_canonical(alloc: Global) -> Option<bool> {
+    let text = largest(alloc)?;
+    is_canonical(alloc, text.as_slice())
+}
+
+#[test]
+fn canonical_texts_are_written_back(rt: HostRuntime) -> Result<(), Fail> {
+    let alloc = rt.alloc();
+    assert!(rt; is_canonical(alloc, FIRST) == Some(true));
+    assert!(rt; is_canonical(alloc, THIRD) == Some(true));
+    assert!(rt; largest_is_canonical(alloc) == Some(true));
+    Ok(())
+}

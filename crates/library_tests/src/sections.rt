@@ -1,0 +1,139 @@
+//! A small section, read in pieces, and the lists of numbers of a line.
+
+use crate::makers::source_of;
+use byte_streams::{Source, SureSource};
+use lift_text::{LineReader, TextFault};
+use std::alloc::Global;
+use std::marker::Model;
+use std::test::Fail;
+use text_sections::{
+    LineFault, Section, TextCode, Turn, exactly, is_word, number, numbers, read_section,
+};
+
+/// Lines `set N once` or `set N twice` with N from 1 to 9, at least one, and `end`.
+#[derive(Drop)]
+struct Sample {
+    state: u64,
+}
+
+impl Model for Sample {
+    ghost use Rattle.std.specs.Prelude.{ℕ};
+
+    ghost Value = { ℕ };
+
+    ghost view = { λ sample. sample.state };
+}
+
+impl Section for Sample {
+    ghost use Rattle.library_tests.specs.Sample.{after};
+
+    ghost after = { after };
+
+    fn take_line<S: Source>(&mut self, lines: &LineReader<S>) -> Result<Turn, LineFault> {
+        if is_word(lines, 0, b"end") {
+            return Ok(take_end(self.state, lines)?);
+        }
+        if !is_word(lines, 0, b"set") {
+            return Err(LineFault::from(TextCode::NoLineWord));
+        }
+        self.state = set_to(lines)?;
+        Ok(Turn::More)
+    }
+}
+
+ghost use Rattle.std.specs.Prelude.{◌≡◌, ◌<◌, IfOk, length, Ok};
+ghost use Rattle.lift_text.specs.LineReader.{words};
+ghost use Rattle.library_tests.specs.Sample.{end_of, set_of, times};
+
+fn take_end<S: Source>(state: u64, lines: &LineReader<S>) -> Result<Turn, TextCode>
+    ensures { result ≡ end_of state (words lines.now) }
+{
+    if state == 0 {
+        return Err(TextCode::OutOfOrder);
+    }
+    exactly(lines, 1)?;
+    Ok(Turn::Whole)
+}
+
+fn set_to<S: Source>(lines: &LineReader<S>) -> Result<u64, TextCode>
+    ensures { result ≡ set_of (words lines.now) }
+{
+    exactly(lines, 3)?;
+    let number = number(lines, 1, 1, 9)?;
+    Ok(number * times(lines)?)
+}
+
+fn times<S: Source>(lines: &LineReader<S>) -> Result<u64, TextCode>
+    requires { 2 < length (words lines.now) }
+    ensures value { result ≡ times (words lines.now) }
+    ensures bound { IfOk result (λ k. k < 3) }
+{
+    if is_word(lines, 2, b"once") {
+        Ok(1)
+    } else if is_word(lines, 2, b"twice") {
+        Ok(2)
+    } else {
+        Err(TextCode::NoLineWord)
+    }
+}
+
+/// What is read of the section, and the words of the line behind it.
+fn read<S: Source>(alloc: Global, source: &mut S) -> Result<(Result<u64, TextFault>, u32), Fail> {
+    let mut lines = LineReader::new(alloc, source)?;
+    let mut sample = Sample { state: 0 };
+    let answer = read_section(&mut lines, &mut sample);
+    let behind = match lines.next_line() {
+        Ok(true) => lines.words(),
+        _ => 0,
+    };
+    match answer {
+        Ok(()) => Ok((Ok(sample.state), behind)),
+        Err(fault) => Ok((Err(fault), behind)),
+    }
+}
+
+#[test]
+fn sections_are_read_in_any_pieces(rt: HostRuntime) -> Result<(), Fail> {
+    let alloc = rt.alloc();
+    let bad = |line, code| Err(TextFault::Bad { line, code });
+    let table: [(&[u8], Result<u64, TextFault>, u32); 11] = [
+        (
+            b"# a\nset 7 once\n\nset 07 twice\nend # x\nrows a b\n",
+            Ok(14),
+            3,
+        ),
+        (b"set 7 once\n\nput 7", bad(3, 3), 0),
+        (b"set 7 often\nend", bad(1, 3), 1),
+        (b"\nend x", bad(2, 8), 0),
+        (b"set x\nend", bad(1, 4), 1),
+        (b"set 1 once\nend x\nend", bad(2, 5), 1),
+        (b"set x often", bad(1, 6), 0),
+        (b"set 10 often", bad(1, 7), 0),
+        (b"set 0 once", bad(1, 7), 0),
+        (b"set 1 once\n#\n", bad(3, 9), 0),
+        (b"set 1 once\n\x01\n", bad(2, 1), 0),
+    ];
+    for (bytes, want, behind) in table {
+        for each in [1usize, 100] {
+            assert!(rt; each >= 1);
+            let mut source = source_of(alloc, bytes, each).ok_or("memory")?;
+            let (answer, words) = read(alloc, &mut source)?;
+            assert_eq!(rt; answer, want);
+            assert_eq!(rt; words, behind);
+        }
+    }
+    Ok(())
+}
+
+#[test]
+fn several_numbers_are_appended(rt: HostRuntime) -> Result<(), Fail> {
+    let alloc = rt.alloc();
+    let mut source = SureSource::new(Vec::from_slice(alloc, b"x 7 005 3")?);
+    let mut lines = LineReader::new(alloc, &mut source)?;
+    assert_eq!(rt; lines.next_line(), Ok(true));
+    let mut out = Vec::from_slice(alloc, &[2])?;
+    assert_eq!(rt; numbers(&lines, 1, 3, 7, &mut out), Ok(()));
+    assert_eq!(rt; out.as_slice(), [2, 7, 5, 3].as_slice());
+    assert_eq!(rt; numbers(&lines, 1, 3, 6, &mut out), Err(LineFault::Bad(7)));
+    Ok(())
+}
