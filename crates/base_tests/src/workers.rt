@@ -44,8 +44,8 @@ impl Jobs for Tens {
     }
 }
 
-// Each job raises its flag. Then the one that looks out, or each where none is named, looks for the flags of all
-// others, for a while.
+// Each job raises its flag. Then the one that looks out, or each where none is named, looks for the flags of
+// all others, for a while.
 #[derive(Drop)]
 struct Lookout<const N: usize> {
     begun: [AtomicBool; N],
@@ -75,8 +75,8 @@ impl<const N: usize> Gate for Lookout<N> {
     }
 }
 
-// Three jobs that are their own gate. The gate raises a job's flag, and the job answers whether it found the flag
-// raised.
+// Three jobs that are their own gate. The gate raises a job's flag, and the job answers whether it found the
+// flag raised.
 #[derive(Drop)]
 struct Told {
     flags: [AtomicBool; 3],
