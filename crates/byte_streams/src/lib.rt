@@ -12,6 +12,3 @@ pub use gates::{Gate, OpenGate};
 pub use memory::{MemorySink, MemorySource, SureSink, SureSource};
 pub use sinks::{Sink, SinkFault, put_all};
 pub use sources::{Source, SourceFault, read_full};
-
-#[cfg(test)]
-mod tests;

@@ -85,6 +85,3 @@ fn times_of(alloc: Global, heights: &[u64], speed: u64, accel: u64) -> Result<Ve
     }
     Ok(times)
 }
-
-#[cfg(test)]
-mod tests;

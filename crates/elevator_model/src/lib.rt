@@ -600,6 +600,3 @@ impl Plan {
         Ok(Plan { tours })
     }
 }
-
-#[cfg(test)]
-mod tests;

@@ -57,7 +57,8 @@ fn put_times(from: u64, out: &mut Vec<u8>) -> Option<()> {
 /// Appends a car that serves all floors but the lowest.
 fn put_car(car: u64, out: &mut Vec<u8>) -> Option<()> {
     out.push(b'\n').ok()?;
-    let numbers = [4_294_967_295 - car, 64, 60_000, 60_000, 60_000, 60_000];
+    let id = 4_294_967_295_u64.saturating_sub(car);
+    let numbers = [id, 64, 60_000, 60_000, 60_000, 60_000];
     put_words(out, b"car", &numbers).ok()?;
     for floor in 1..64u64 {
         put_word(out, floor).ok()?;

@@ -16,6 +16,3 @@ pub use faults::{RawLine, TextFault};
 pub use numbers::{NumberFault, number_in};
 pub use reader::LineReader;
 pub use writers::{put_line, put_number, put_word, put_words};
-
-#[cfg(test)]
-mod tests;

@@ -6,6 +6,3 @@ mod openings;
 
 pub use headers::read_header;
 pub use openings::read_day_opening;
-
-#[cfg(test)]
-mod tests;

@@ -9,6 +9,3 @@ mod rows;
 
 pub use records::is_header;
 pub use rows::{GoodRow, read_row};
-
-#[cfg(test)]
-mod tests;

@@ -192,6 +192,3 @@ pub struct Report {
     /// From coming to delivery.
     pub total: Column,
 }
-
-#[cfg(test)]
-mod tests;

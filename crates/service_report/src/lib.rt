@@ -10,6 +10,3 @@ mod writing;
 pub use search_model::{Column, Report, Served};
 pub use spans::report_of;
 pub use writing::write_report;
-
-#[cfg(test)]
-mod tests;

@@ -4,8 +4,6 @@
 #![tactic(auto)]
 
 mod line;
-#[cfg(test)]
-mod tests;
 mod workers;
 
 pub use line::{JobLine, JobSeat};

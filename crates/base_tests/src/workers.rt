@@ -1,17 +1,18 @@
-use crate::{JobLine, Jobs, fan};
+//! A line of jobs, and the workers that draw from it.
+
 use byte_streams::{Gate, OpenGate};
 use std::alloc::AllocError;
 use std::sync::atomic::{AtomicBool, Ordering};
 use std::test::Fail;
+use work_fan::{JobLine, Jobs, fan};
 
 #[test]
 fn draws_each_job_and_then_none(rt: HostRuntime) -> Result<(), Fail> {
     let (line, mut seat) = JobLine::begin(rt.alloc(), 2, 1)?;
-    let first = line.draw(&mut seat).ok_or("no first job")?;
-    let second = line.draw(&mut seat).ok_or("no second job")?;
+    assert!(rt; line.draw(&mut seat) == Some(0));
+    assert!(rt; line.draw(&mut seat) == Some(1));
     assert!(rt; line.draw(&mut seat).is_none());
-    assert_eq!(rt; line.close(seat), 3);
-    assert_eq!(rt; [first, second], [0, 1]);
+    assert!(rt; line.close(seat) == 3);
     Ok(())
 }
 
@@ -43,8 +44,8 @@ impl Jobs for Tens {
     }
 }
 
-// Each job raises its flag. Then the one that looks out, or each where none is named, looks for the flags of all
-// others, for a while.
+// Each job raises its flag. Then the one that looks out, or each where none is named, looks for the flags of
+// all others, for a while.
 #[derive(Drop)]
 struct Lookout<const N: usize> {
     begun: [AtomicBool; N],
@@ -74,8 +75,8 @@ impl<const N: usize> Gate for Lookout<N> {
     }
 }
 
-// Three jobs that are their own gate. The gate raises a job's flag, and the job answers whether it found the flag
-// raised.
+// Three jobs that are their own gate. The gate raises a job's flag, and the job answers whether it found the
+// flag raised.
 #[derive(Drop)]
 struct Told {
     flags: [AtomicBool; 3],
@@ -125,7 +126,7 @@ fn answers_in_the_order_of_the_jobs(rt: HostRuntime) -> Result<(), Fail> {
             &mut desks[..workers],
             &OpenGate,
         )?;
-        assert_eq!(rt; answers.as_slice(), [10, 11, 12, 13, 14].as_slice());
+        assert!(rt; answers.as_slice() == [10, 11, 12, 13, 14].as_slice());
     }
     Ok(())
 }
@@ -136,7 +137,7 @@ fn the_gate_is_told_of_a_job_before_it_begins(rt: HostRuntime) -> Result<(), Fai
         flags: [flag(), flag(), flag()],
     };
     let found = fan(&rt, rt.alloc(), &told, &mut [0, 0], &told)?;
-    assert_eq!(rt; found.as_slice(), [true, true, true].as_slice());
+    assert!(rt; found.as_slice() == [true, true, true].as_slice());
     Ok(())
 }
 

@@ -1,8 +1,11 @@
+//! The figures of a day, and their text.
+
 ghost use Rattle.std.specs.Prelude.{◌≤◌, ◌<◌, ◌^◌, IfOk, length};
 ghost use Rattle.search_model.specs.Reports.{report_of};
 ghost use Rattle.service_report.specs.WorkedTexts.{AreReportTexts};
 
-use super::*;
+use search_model::{Column, Report, Served};
+use service_report::{report_of, write_report};
 use std::alloc::{AllocError, Global};
 use std::test::Fail;
 
@@ -10,8 +13,16 @@ fn texts_of_the_definition()
     ensures { AreReportTexts }
 {}
 
-/// Calls that came, boarded and were delivered at these moments.
-fn calls(alloc: Global, moments: &[(u16, u16, u16)]) -> Result<Vec<Served>, AllocError>
+#[test]
+fn the_definition_gives_the_worked_texts() {
+    texts_of_the_definition();
+}
+
+/// When a call came, boarded and was delivered, in ms.
+type Moments = (u16, u16, u16);
+
+/// Calls with these moments.
+fn calls(alloc: Global, moments: &[Moments]) -> Result<Vec<Served>, AllocError>
     requires { length moments.now ≤ 100 }
     ensures { IfOk result (λ served. (report_of served.items).total.sum < 2 ^ 64) }
 {
@@ -27,7 +38,29 @@ fn calls(alloc: Global, moments: &[(u16, u16, u16)]) -> Result<Vec<Served>, Allo
     Ok(served)
 }
 
-const TEN: [(u16, u16, u16); 10] = [
+/// The text of the report of these calls, behind a `#`.
+fn text_of(alloc: Global, moments: &[Moments]) -> Result<Vec<u8>, AllocError>
+    requires { length moments.now ≤ 100 }
+{
+    let served = calls(alloc, moments)?;
+    let report = report_of(alloc, served.as_slice())?;
+    let mut text = Vec::from_slice(alloc, b"#")?;
+    write_report(alloc, &report, &mut text)?;
+    Ok(text)
+}
+
+/// Whether the report of these calls has this text.
+fn has_text(alloc: Global, moments: &[Moments], due: &str) -> bool {
+    if moments.len() > 100 {
+        return false;
+    }
+    match text_of(alloc, moments) {
+        Ok(text) => text.as_slice() == due.as_bytes(),
+        Err(_) => false,
+    }
+}
+
+const TEN: [Moments; 10] = [
     (0, 31, 43),
     (13, 17, 88),
     (20, 35, 68),
@@ -40,7 +73,7 @@ const TEN: [(u16, u16, u16); 10] = [
     (92, 94, 113),
 ];
 
-const ELEVEN: [(u16, u16, u16); 11] = [
+const ELEVEN: [Moments; 11] = [
     (0, 31, 43),
     (13, 17, 88),
     (100, 150, 151),
@@ -55,9 +88,8 @@ const ELEVEN: [(u16, u16, u16); 11] = [
 ];
 
 #[test]
-fn texts_of_days(rt: HostRuntime) -> Result<(), Fail> {
-    let alloc = rt.alloc();
-    let table: [(&[(u16, u16, u16)], &str); 7] = [
+fn texts_of_days(rt: HostRuntime) {
+    let table: [(&[Moments], &str); 7] = [
         (
             &[(0, 1000, 7500), (6500, 10000, 19000), (9500, 12500, 25500)],
             "#measure,wait,ride,total\ncount,3,3,3\nsum,7500,28500,36000\ngreatest,3500,13000,16000\n\
@@ -94,15 +126,9 @@ fn texts_of_days(rt: HostRuntime) -> Result<(), Fail> {
              p50,3,20,24\np90,6,45,51\np99,6,45,51\nmean,7/2,105/4,119/4\n",
         ),
     ];
-    for (moments, want) in table {
-        assert!(rt; moments.len() <= 100);
-        let served = calls(alloc, moments)?;
-        let report = report_of(alloc, served.as_slice())?;
-        let mut text = Vec::from_slice(alloc, b"#")?;
-        write_report(alloc, &report, &mut text)?;
-        assert_eq!(rt; text.as_slice(), want.as_bytes());
+    for (moments, due) in table {
+        assert!(rt; has_text(rt.alloc(), moments, due), "{due}");
     }
-    Ok(())
 }
 
 #[test]
@@ -153,6 +179,6 @@ fn great_numbers_stay_exact(rt: HostRuntime) -> Result<(), Fail> {
         mean_over: 18446744073709551605,
         mean_under: 2,
     };
-    assert_eq!(rt; report, Report { wait, ride, total });
+    assert!(rt; report == Report { wait, ride, total });
     Ok(())
 }

@@ -1,3 +1,6 @@
+//! The worked cases of the definitions. The proof computes them.
+
+ghost use Rattle.elevator_model.specs.Worked.{AreCosts, AreBroken, ArePatient, ArePlans, AreFaults, AreBuildingFaults, AreStateFaults, AreGroupFaults, AreCallFaults, AreUneven, AreUnevenPlans, AreLowest, AreMoves};
 ghost use Rattle.search_model.specs.WorkedOrders.{AreOrders, AreExtendable};
 ghost use Rattle.search_model.specs.WorkedNodes.{AreSplits, AreTrees};
 ghost use Rattle.search_model.specs.WorkedBounds.{AreValues, AreBounds, AreKept};
@@ -6,8 +9,64 @@ ghost use Rattle.search_model.specs.WorkedSolving.{AreFloors, AreTurns, AreRootW
 ghost use Rattle.search_model.specs.WorkedDays.{AreAdvanced, AreMoving, IsDay, IsMovingDay, AreRows, AreOpenings};
 ghost use Rattle.search_model.specs.WorkedCases.{AreReports, AreDraws};
 
-use super::*;
-use std::test::Fail;
+// The costs that the definitions give to the worked cases.
+fn worked_costs()
+    ensures { AreCosts }
+{}
+
+// Each rule of a tour, broken once.
+fn broken_rules()
+    ensures { AreBroken }
+{}
+
+// First faults and their places.
+fn worked_faults()
+    ensures { AreFaults }
+{}
+
+// What a wait past the patience costs.
+fn waits_past_patience()
+    ensures { ArePatient }
+{}
+
+// Plans of several cars, and their first bad places.
+fn worked_plans()
+    ensures { ArePlans }
+{}
+
+fn building_faults()
+    ensures { AreBuildingFaults }
+{}
+
+fn state_faults()
+    ensures { AreStateFaults }
+{}
+
+fn group_faults()
+    ensures { AreGroupFaults }
+{}
+
+fn call_faults()
+    ensures { AreCallFaults }
+{}
+
+// Costs, rules and open floors where no two numbers are the same.
+fn uneven_numbers()
+    ensures { AreUneven }
+{}
+
+fn plans_of_three_cars()
+    ensures { AreUnevenPlans }
+{}
+
+fn lowest_rules()
+    ensures { AreLowest }
+{}
+
+// What moves settle, and the moments of their stops.
+fn settled_by_moves()
+    ensures { AreMoves }
+{}
 
 fn orders()
     ensures { AreOrders }
@@ -102,7 +161,24 @@ fn draws()
 {}
 
 #[test]
-fn definitions_give_the_worked_cases() {
+fn definitions_of_elevators_give_the_worked_cases() {
+    worked_costs();
+    broken_rules();
+    worked_faults();
+    waits_past_patience();
+    worked_plans();
+    building_faults();
+    state_faults();
+    group_faults();
+    call_faults();
+    uneven_numbers();
+    plans_of_three_cars();
+    lowest_rules();
+    settled_by_moves();
+}
+
+#[test]
+fn definitions_of_searches_and_days_give_the_worked_cases() {
     orders();
     extendable();
     splits();
@@ -126,22 +202,4 @@ fn definitions_give_the_worked_cases() {
     openings();
     reports();
     draws();
-}
-
-#[test]
-fn lists_keep_their_items(rt: HostRuntime) -> Result<(), Fail> {
-    let mut prices = Items::new(rt.alloc());
-    prices.push(PriceOf {
-        call: 3,
-        price: Price::new(-5).ok_or("a price")?,
-    })?;
-    let worths = Items::from_vec([].to_vec(rt.alloc())?);
-    let leaf = Leaf { prices, worths };
-    assert_eq!(rt; leaf.prices.as_slice().len(), 1);
-    assert_eq!(rt; leaf.worths.as_slice().len(), 0);
-    let calls = leaf.prices.into_vec();
-    assert_eq!(rt; calls.len(), 1);
-    assert_eq!(rt; calls[0].call, 3);
-    assert_eq!(rt; calls[0].price.value(), -5);
-    Ok(())
 }

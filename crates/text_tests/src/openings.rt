@@ -1,9 +1,9 @@
-ghost use Rattle.std.specs.Prelude.{◌≤◌};
+//! What stands before the rows of a day.
 
-use crate::read_day_opening;
 use byte_streams::MemorySource;
 use call_state::Snapshot;
 use lift_text::{LineReader, RawLine, TextFault};
+use opening_text::read_day_opening;
 use std::alloc::{AllocError, Global};
 use std::test::Fail;
 
@@ -11,14 +11,15 @@ use std::test::Fail;
 const FRONT: &[u8] = b"building 1\nspeed 2000\naccel 1000\nweights 2 1\nfloors 0 4000 9000\n\
     car 7 5 1000 1100 500 400 all\nend\n# the car stands\nsnapshot 1\nnow 650\ncar 7 idle 2 700\nend\n";
 
-/// The text with these bytes behind the front, a byte in each piece; the reads with the listed numbers fail.
-fn text(alloc: Global, behind: &[u8], failing: &[u64]) -> Result<MemorySource, AllocError> {
+/// The front with these bytes behind it.
+fn text(alloc: Global, behind: &[u8]) -> Result<Vec<u8>, AllocError> {
     let mut bytes = Vec::from_slice(alloc, FRONT)?;
     bytes.extend_from_slice(behind)?;
-    Ok(MemorySource::new(bytes, 1, Vec::from_slice(alloc, failing)?))
+    Ok(bytes)
 }
 
-/// The line and the code of a bad line. An opening has 0 and 0, a text that is too long or was not read 0 and 1.
+/// The line and the code of a bad line. An opening has 0 and 0, a text that is too long or was not read has 0
+/// and 1.
 fn fault_of<T: Drop>(answer: Result<T, TextFault>) -> (u64, u8) {
     match answer {
         Ok(_) => (0, 0),
@@ -27,18 +28,20 @@ fn fault_of<T: Drop>(answer: Result<T, TextFault>) -> (u64, u8) {
     }
 }
 
-/// What is wrong with the text that has these bytes behind the front.
-fn fault(alloc: Global, behind: &[u8], failing: &[u64]) -> Result<(u64, u8), Fail> {
-    let mut source = text(alloc, behind, failing)?;
-    let mut lines = LineReader::new(alloc, &mut source)?;
-    Ok(fault_of(read_day_opening(alloc, &mut lines)))
+/// What is wrong with the text of the source. None where memory is wanting.
+fn fault_in(alloc: Global, mut source: MemorySource) -> Option<(u64, u8)> {
+    match LineReader::new(alloc, &mut source) {
+        Ok(mut lines) => Some(fault_of(read_day_opening(alloc, &mut lines))),
+        Err(_) => None,
+    }
 }
 
-/// What is wrong with a whole text.
-fn fault_of_text(alloc: Global, whole: &[u8]) -> Result<(u64, u8), Fail> {
-    let mut source = MemorySource::new(Vec::from_slice(alloc, whole)?, 3, Vec::new(alloc));
-    let mut lines = LineReader::new(alloc, &mut source)?;
-    Ok(fault_of(read_day_opening(alloc, &mut lines)))
+/// What is wrong with the text that has these bytes behind the front, a byte in each piece, where the reads with
+/// the listed numbers fail.
+fn fault(alloc: Global, behind: &[u8], failing: &[u64]) -> Option<(u64, u8)> {
+    let failing = Vec::from_slice(alloc, failing).ok()?;
+    let bytes = text(alloc, behind).ok()?;
+    fault_in(alloc, MemorySource::new(bytes, 1, failing))
 }
 
 /// What stands behind the front, whose next line is line 13, and the line and the code of its fault.
@@ -62,11 +65,10 @@ const HEADERS: [(&[u8], u64, u8); 16] = [
 ];
 
 #[test]
-fn headers_behind_the_snapshot(rt: HostRuntime) -> Result<(), Fail> {
-    for (behind, line, code) in &HEADERS {
-        assert!(rt; fault(rt.alloc(), behind, &[])? == (*line, *code));
+fn headers_behind_the_snapshot(rt: HostRuntime) {
+    for (behind, line, code) in HEADERS {
+        assert!(rt; fault(rt.alloc(), behind, &[]) == Some((line, code)));
     }
-    Ok(())
 }
 
 /// A header of so many bytes.
@@ -82,9 +84,9 @@ fn wide_header(alloc: Global, size: usize) -> Result<Vec<u8>, AllocError> {
 #[test]
 fn header_over_long(rt: HostRuntime) -> Result<(), Fail> {
     let longest = wide_header(rt.alloc(), 4096)?;
-    assert!(rt; fault(rt.alloc(), &longest, &[])? == (0, 0));
+    assert!(rt; fault(rt.alloc(), &longest, &[]) == Some((0, 0)));
     let longer = wide_header(rt.alloc(), 4097)?;
-    assert!(rt; fault(rt.alloc(), &longer, &[])? == (13, 27));
+    assert!(rt; fault(rt.alloc(), &longer, &[]) == Some((13, 27)));
     Ok(())
 }
 
@@ -93,20 +95,22 @@ const OTHERS: [(&[u8], u64, u8); 5] = [
     (b"", 1, 9),
     (b"building 1\nspeed 99\n", 2, 7),
     (
-        b"building 1\nspeed 2000\naccel 1000\nweights 2 1\nfloors 0 4000 9000\ncar 7 5 1000 1100 500 400 all\nend\n\
+        b"building 1\nspeed 2000\naccel 1000\nweights 2 1\nfloors 0 4000 9000\n\
+        car 7 5 1000 1100 500 400 all\nend\n\
         snapshot 1\nnow 650\n\ncar 7 idle 2 700\naboard 7 31 0 1 600\nend\ntime,origin,destination,persons\n",
         12,
         26,
     ),
     (
-        b"building 1\nspeed 2000\naccel 1000\nweights 2 1\nfloors 0 4000 9000\ncar 7 5 1000 1100 500 400 all\nend\n\
+        b"building 1\nspeed 2000\naccel 1000\nweights 2 1\nfloors 0 4000 9000\n\
+        car 7 5 1000 1100 500 400 all\nend\n\
         snapshot 1\nnow 650\ncar 7 idle 2 700\ncall 31 0 1 2 600 any\nend\ntime,origin,destination,persons\n",
         11,
         26,
     ),
     (
-        b"building 1\nspeed 2000\naccel 1000\nweights 2 1\nfloors 0 4000 9000\ncar 7 5 1000 1100 500 400 all\nend\n\
-        time,origin,destination,persons\n",
+        b"building 1\nspeed 2000\naccel 1000\nweights 2 1\nfloors 0 4000 9000\n\
+        car 7 5 1000 1100 500 400 all\nend\ntime,origin,destination,persons\n",
         8,
         3,
     ),
@@ -114,8 +118,10 @@ const OTHERS: [(&[u8], u64, u8); 5] = [
 
 #[test]
 fn faults_before_the_header(rt: HostRuntime) -> Result<(), Fail> {
-    for (whole, line, code) in &OTHERS {
-        assert!(rt; fault_of_text(rt.alloc(), whole)? == (*line, *code));
+    for (whole, line, code) in OTHERS {
+        let bytes = Vec::from_slice(rt.alloc(), whole)?;
+        let source = MemorySource::new(bytes, 3, Vec::new(rt.alloc()));
+        assert!(rt; fault_in(rt.alloc(), source) == Some((line, code)));
     }
     Ok(())
 }
@@ -132,30 +138,34 @@ fn goes_on(lines: &mut LineReader<MemorySource>, first: &[u8], second: &[u8]) ->
     has_first && has_second
 }
 
-#[test]
-fn rows_come_next(rt: HostRuntime) -> Result<(), Fail> {
-    let alloc = rt.alloc();
-    let mut source = text(
-        alloc,
-        b"\ntime,origin,destination,persons\r\n 7,2 ,0,3# x\r\n\n",
-        &[],
-    )?;
-    let mut lines = LineReader::new(alloc, &mut source)?;
-    match read_day_opening(alloc, &mut lines) {
-        Ok(snapshot) => assert!(rt; is_as_said(&snapshot)),
-        Err(_) => assert!(rt; false),
-    }
-    assert!(rt; goes_on(&mut lines, b" 7,2 ,0,3# x", b""));
-    Ok(())
+/// Whether these bytes behind the front are an opening, and the lines behind it these two.
+fn has_lines(alloc: Global, behind: &[u8], first: &[u8], second: &[u8]) -> Option<bool> {
+    let mut source = MemorySource::new(text(alloc, behind).ok()?, 1, Vec::new(alloc));
+    let mut lines = LineReader::new(alloc, &mut source).ok()?;
+    let is_opening = match read_day_opening(alloc, &mut lines) {
+        Ok(snapshot) => is_as_said(&snapshot),
+        Err(_) => false,
+    };
+    Some(is_opening && goes_on(&mut lines, first, second))
 }
 
 #[test]
-fn failed_reads(rt: HostRuntime) -> Result<(), Fail> {
-    let header: &[u8] = b"time,origin,destination,persons\n7,2,0,3\n";
+fn rows_come_next(rt: HostRuntime) {
+    let behind = b"\ntime,origin,destination,persons\r\n 7,2 ,0,3# x\r\n\n";
+    assert!(rt; has_lines(rt.alloc(), behind, b" 7,2 ,0,3# x", b"") == Some(true));
+}
+
+/// What is wrong with the text of an opening and a row where the read with this number fails.
+fn fault_at_read(alloc: Global, failing: u64) -> Option<(u64, u8)> {
+    let header = b"time,origin,destination,persons\n7,2,0,3\n";
+    fault(alloc, header, &[failing])
+}
+
+#[test]
+fn failed_reads(rt: HostRuntime) {
     // The header has 31 bytes before its LF, which read 187 gives.
-    assert!(rt; fault(rt.alloc(), header, &[5])? == (0, 1));
-    assert!(rt; fault(rt.alloc(), header, &[156])? == (0, 1));
-    assert!(rt; fault(rt.alloc(), header, &[187])? == (0, 1));
-    assert!(rt; fault(rt.alloc(), header, &[188])? == (0, 0));
-    Ok(())
+    assert!(rt; fault_at_read(rt.alloc(), 5) == Some((0, 1)));
+    assert!(rt; fault_at_read(rt.alloc(), 156) == Some((0, 1)));
+    assert!(rt; fault_at_read(rt.alloc(), 187) == Some((0, 1)));
+    assert!(rt; fault_at_read(rt.alloc(), 188) == Some((0, 0)));
 }

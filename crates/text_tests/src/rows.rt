@@ -1,6 +1,11 @@
-use crate::{is_header, read_row};
-use call_state::{Building, BuildingParts, CarSpec, FloorSet, StateFault, Travel};
-use std::alloc::{AllocError, Global};
+//! Rows of a day, and their header.
+
+use building_text::read_building;
+use byte_streams::MemorySource;
+use call_state::Building;
+use lift_text::LineReader;
+use row_text::{is_header, read_row};
+use std::alloc::Global;
 use std::test::Fail;
 
 /// Lines, and whether they are the header.
@@ -42,44 +47,28 @@ fn headers(rt: HostRuntime) -> Result<(), Fail> {
 }
 
 /// A building of four floors.
-fn house(alloc: Global) -> Result<Building, StateFault> {
-    let times = [
-        0, 4000, 6000, 8000, 4000, 0, 4000, 6000, 6000, 4000, 0, 4000, 8000, 6000, 4000, 0,
-    ];
-    let car = CarSpec {
-        id: 7,
-        capacity: 5,
-        opening: 1000,
-        closing: 1100,
-        boarding: 500,
-        alighting: 400,
-        serves: FloorSet::lowest(4),
-    };
-    let parts = BuildingParts {
-        version: 1,
-        heights: Vec::from_slice(alloc, &[0, 4000, 8000, 12000])?,
-        speed: 2000,
-        accel: 1000,
-        wait_weight: 1,
-        travel_weight: 1,
-        patience: 0,
-        patience_weight: 0,
-        cars: Vec::from_slice(alloc, &[car])?,
-        travel: Travel::build(4, Vec::from_slice(alloc, &times)?)?,
-    };
-    Building::build(alloc, parts)
+const HOUSE: &[u8] = b"building 1\nspeed 2000\naccel 1000\nweights 1 1\nfloors 0 4000 8000 12000\n\
+    car 7 5 1000 1100 500 400 all\nend\n";
+
+/// The building. None where memory is wanting.
+fn house(alloc: Global) -> Option<Building> {
+    let bytes = Vec::from_slice(alloc, HOUSE).ok()?;
+    let mut source = MemorySource::new(bytes, 100, Vec::new(alloc));
+    let mut lines = LineReader::new(alloc, &mut source).ok()?;
+    read_building(alloc, &mut lines).ok()
 }
 
-/// The time, the origin, the destination and the persons that the line says, if it is a row of the building.
-fn numbers(
-    alloc: Global,
-    building: &Building,
-    line: &[u8],
-) -> Result<Option<(u64, u32, u32, u32)>, AllocError> {
-    match read_row(alloc, building, line)? {
-        Some(row) => Ok(Some((row.time, row.origin, row.destination, row.persons))),
-        None => Ok(None),
+/// Whether the line is a row of the building with these numbers.
+fn is_row(alloc: Global, building: &Building, line: &[u8], numbers: (u64, u32, u32, u32)) -> bool {
+    match read_row(alloc, building, line) {
+        Ok(Some(row)) => (row.time, row.origin, row.destination, row.persons) == numbers,
+        _ => false,
     }
+}
+
+/// Whether the line is no row of the building.
+fn is_no_row(alloc: Global, building: &Building, line: &[u8]) -> bool {
+    matches!(read_row(alloc, building, line), Ok(None))
 }
 
 /// Lines that are rows, with the numbers that they say.
@@ -141,32 +130,41 @@ const NO_ROWS: [&[u8]; 38] = [
     b"",
 ];
 
+/// The first line of the tables that is not read so.
+fn first_wrong(alloc: Global, building: &Building) -> Option<&'static [u8]> {
+    for (line, time, origin, destination, persons) in ROWS {
+        if !is_row(alloc, building, line, (time, origin, destination, persons)) {
+            return Some(line);
+        }
+    }
+    for line in NO_ROWS {
+        if !is_no_row(alloc, building, line) {
+            return Some(line);
+        }
+    }
+    None
+}
+
 #[test]
 fn rows(rt: HostRuntime) -> Result<(), Fail> {
-    let building = house(rt.alloc())?;
-    for (line, time, origin, destination, persons) in &ROWS {
-        let expected = Some((*time, *origin, *destination, *persons));
-        assert!(rt; numbers(rt.alloc(), &building, line)? == expected);
-    }
-    for line in &NO_ROWS {
-        assert!(rt; numbers(rt.alloc(), &building, line)?.is_none());
-    }
+    let building = house(rt.alloc()).ok_or("no building")?;
+    assert!(rt; first_wrong(rt.alloc(), &building).is_none());
     Ok(())
 }
 
 /// Whether the line's row, which has the number 21, brings this call.
-fn brings(alloc: Global, building: &Building, line: &[u8]) -> Result<bool, AllocError> {
-    let Some(row) = read_row(alloc, building, line)? else {
-        return Ok(false);
+fn brings(alloc: Global, building: &Building, line: &[u8]) -> bool {
+    let Ok(Some(row)) = read_row(alloc, building, line) else {
+        return false;
     };
     let call = row.call(21);
     let floors = call.origin == 3 && call.destination == 1;
-    Ok(call.id == 21 && floors && call.persons == 4 && call.released == 650 && call.pin.is_none())
+    call.id == 21 && floors && call.persons == 4 && call.released == 650 && call.pin.is_none()
 }
 
 #[test]
 fn call_of_a_row(rt: HostRuntime) -> Result<(), Fail> {
-    let building = house(rt.alloc())?;
-    assert!(rt; brings(rt.alloc(), &building, b"650,3,1,4")?);
+    let building = house(rt.alloc()).ok_or("no building")?;
+    assert!(rt; brings(rt.alloc(), &building, b"650,3,1,4"));
     Ok(())
 }

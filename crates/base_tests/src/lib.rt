@@ -1,0 +1,17 @@
+//! Tests of the values that all else stands on, and of the definitions beside them: streams of bytes, prices,
+//! travel times, the worked cases of the definitions, and work that is drawn from a line. They stand apart
+//! from the crates that they test, since a crate with tests is proved twice.
+#![tactic(auto)]
+
+#[cfg(test)]
+mod definitions;
+#[cfg(test)]
+mod items;
+#[cfg(test)]
+mod prices;
+#[cfg(test)]
+mod streams;
+#[cfg(test)]
+mod travel;
+#[cfg(test)]
+mod workers;
