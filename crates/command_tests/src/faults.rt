@@ -42,7 +42,7 @@ pub(crate) fn fits_each_failing_read(
     words: &str,
     input: &[u8],
 ) -> Option<Option<Ran>> {
-    for taken in 0..input.len() {
+    for taken in 0..=input.len() {
         let due = due_after(alloc, step, whole_lines(input.get(..taken)?))?;
         let streams = Streams {
             failing_read: (taken as u64).checked_add(1)?,

@@ -87,8 +87,8 @@ impl Table<'_> {
         Some(all)
     }
 
-    /// Runs over an input that comes in reads of so many bytes, which is to be refused so.
-    fn run_input(
+    /// Runs over an input that comes in reads of so many bytes, and says whether it is refused so.
+    fn is_refused(
         self,
         rt: &(impl Threads + Sync),
         alloc: Global,
@@ -96,15 +96,16 @@ impl Table<'_> {
         reads: usize,
         due: Refusal,
         report: &mut Report,
-    ) -> Option<()> {
+    ) -> Option<bool> {
         let one = run_over(rt, alloc, self.words, 0, input, Streams::of_reads(reads))?;
         let Refusal { line, code } = due;
         let text = format!(in alloc; "refused line {line} code {code}\n").ok()?;
-        if one.status != 5 || one.text.as_slice() != text.as_bytes() {
-            let place = format!(in alloc; "{} line {line} code {code}", self.words).ok()?;
-            report.differs(self.name, place.as_str(), &one);
+        if one.status == 5 && one.text.as_slice() == text.as_bytes() {
+            return Some(true);
         }
-        Some(())
+        let place = format!(in alloc; "{} line {line} code {code}", self.words).ok()?;
+        report.differs(self.name, place.as_str(), &one);
+        Some(false)
     }
 
     /// Runs over an input as it stands, in pieces of one byte, and where the line that is refused is the last one and has no
@@ -118,10 +119,13 @@ impl Table<'_> {
         report: &mut Report,
     ) -> Option<()> {
         report.count();
-        self.run_input(rt, alloc, input, 4096, due, report)?;
-        self.run_input(rt, alloc, input, 1, due, report)?;
         let cut = input.get(..end_of_line(input, due.line))?;
-        self.run_input(rt, alloc, cut, 4096, due, report)
+        for (text, reads) in [(input, 4096), (input, 1), (cut, 4096)] {
+            if !self.is_refused(rt, alloc, text, reads, due, report)? {
+                break;
+            }
+        }
+        Some(())
     }
 
     /// Runs a row `LINE CODE TEXT`, or `LINE CODE` where nothing is put into the text.
