@@ -3,14 +3,14 @@
 # number is given). Then on generated cases with the costs of first_plan_costs.txt, lines of floors, cars, calls, number and
 # the least cost known: for each group the mean and the greatest excess in hundredths of a per cent, and the ms for its plans.
 cd "$(dirname "$0")" || exit 1
-(cd ../crates/first_plan_bench && rt run -- "${1:-20}") || exit 1
-program=../crates/first_plan_bench/out/first_plan_bench
+(cd ../crates/lift_bench && rt run -- first_plan "${1:-20}") || exit 1
+program=../crates/lift_bench/out/lift_bench
 known=first_plan_costs.txt
 for group in $(awk '{ print $1 "," $2 "," $3 }' $known | uniq); do
     sizes=$(echo "$group" | tr , ' ')
     count=$(grep -c "^$sizes " $known)
     start=$(date +%s%N)
-    costs=$($program $sizes "$count") || exit 1
+    costs=$($program first_plan $sizes "$count") || exit 1
     end=$(date +%s%N)
     echo "$costs" | awk -v group="$sizes" -v ms=$(((end - start) / 1000000)) '
         NR == FNR { known[$1, $2, $3, $4] = $5; next }

@@ -6,8 +6,8 @@
 # rounds takes: about ten, since what is read costs as many steps as it has bytes. Then both of a small case with a long
 # answer: 2,048 stops where eight calls board.
 rounds="${1:-1000}"
-cd "$(dirname "$0")/../crates/read_bench" || exit 1
-rt run -- 3 2 < stdin > out/first_run.txt 2>&1 || { cat out/first_run.txt; exit 1; }
+cd "$(dirname "$0")/../crates/lift_bench" || exit 1
+rt run -- all < stdin > out/first_run.txt 2>&1 || { cat out/first_run.txt; exit 1; }
 awk 'BEGIN {
     print "building 3"; print "speed 6100"; print "accel 1300"; print "weights 3 2"; print "patience 30000 5"
     line = "floors"; for (f = 0; f < 64; f++) line = line " " 3300 * f + f % 7; print line
@@ -46,7 +46,7 @@ awk 'BEGIN {
 
 # The program's line, and the processor time that it took, in seconds: `sh` tells that of its children by `times`.
 measured() {
-    sh -c './out/read_bench "$1" "$2" < "$3" && times' sh "$1" "$2" "$3"
+    sh -c './out/lift_bench read "$1" "$2" < "$3" && times' sh "$1" "$2" "$3"
 }
 
 # What `measured` printed for one case and for ten, with the speed and the times.

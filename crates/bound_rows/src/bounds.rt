@@ -2,9 +2,9 @@
 
 ghost use Rattle.std.specs.Prelude.{◌≡◌};
 
-use crate::makers::{call, group, patient_floors, shown};
 use call_sets::CallSet;
-use call_state::{CarState, Snapshot};
+use call_state::Snapshot;
+use case_kit::snapshot_in;
 use partial_tours::Prefix;
 use price_scale::Price;
 use pricing_bound::bound;
@@ -12,21 +12,27 @@ use std::alloc::Global;
 use std::test::Fail;
 
 /// The car stands at the lowest floor with two persons for the highest one. Calls wait at the middle, the highest and
-/// the lowest floor.
-fn snapshot(alloc: Global) -> Option<Snapshot> {
-    let aboard = group(3, 2, 2, 700);
-    let calls = [
-        call(7, 1, 2, 1, 1100),
-        call(8, 2, 0, 3, 300),
-        call(9, 0, 1, 2, 1900),
-    ];
-    let standing = CarState::Idle {
-        floor: 0,
-        free: 2500,
-    };
-    let building = patient_floors(alloc, 5).ok()?;
-    shown(alloc, building, 2000, &[standing], &[aboard], &calls)
-}
+/// the lowest floor. A ms of waiting costs 3 and past 6,000 ms 5 more, and one of riding 2.
+const THREE_CALLS: &str = "building 3
+speed 2000
+accel 1000
+weights 3 2
+patience 6000 5
+floors 0 4000 9000
+times 0 4000 7000
+times 4000 0 4500
+times 7000 4500 0
+car 4 5 1000 900 500 400 all
+end
+snapshot 2
+now 2000
+car 4 idle 0 2500
+aboard 4 3 2 2 700
+call 7 1 2 1 1100 any
+call 8 2 0 3 300 any
+call 9 0 1 2 1900 any
+end
+";
 
 /// The car goes to the middle floor, where the first call boards.
 fn board_first(prefix: &mut Prefix) -> Option<()>
@@ -87,7 +93,7 @@ fn bounds_of(alloc: Global, snapshot: &Snapshot, asked: Asked) -> Option<[i128; 
 }
 
 fn bounds(alloc: Global, prices: [i128; 3], allowed: u128, required: u128) -> Option<[i128; 2]> {
-    match snapshot(alloc) {
+    match snapshot_in(alloc, THREE_CALLS.as_bytes()) {
         Some(snapshot) => bounds_of(
             alloc,
             &snapshot,

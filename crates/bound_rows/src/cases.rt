@@ -5,7 +5,6 @@ ghost use Rattle.std.specs.Prelude.{◌≤◌};
 use call_state::{Call, CarState, Snapshot};
 use case_maker::make;
 use std::alloc::Global;
-use std::test::Fail;
 
 /// Whether the snapshot has this state of its first car and this last call.
 fn has_ends(snapshot: &Snapshot, first: CarState, last: Option<Call>) -> bool {
@@ -14,13 +13,12 @@ fn has_ends(snapshot: &Snapshot, first: CarState, last: Option<Call>) -> bool {
         && snapshot.calls().last().copied() == last
 }
 
-/// How many floors, cars and calls the snapshot has.
-fn sizes(snapshot: &Snapshot) -> (usize, usize, usize) {
-    (
-        snapshot.building().heights().len(),
-        snapshot.building().cars().len(),
-        snapshot.calls().len(),
-    )
+/// Whether the snapshot has so many floors, cars and calls.
+fn has_sizes(snapshot: &Snapshot, sizes: [u32; 3]) -> bool {
+    let building = snapshot.building();
+    building.heights().len() == sizes[0] as usize
+        && building.cars().len() == sizes[1] as usize
+        && snapshot.calls().len() == sizes[2] as usize
 }
 
 fn idle_at(floor: u32) -> CarState {
@@ -63,58 +61,37 @@ fn first_draws_of_zero(rt: HostRuntime) {
     }
 }
 
-#[test]
-fn one_car_and_one_call(rt: HostRuntime) -> Result<(), Fail> {
-    let snapshot = make(rt.alloc(), 0, 4, 1, 1)?;
-    let call = Call {
-        id: 1,
-        origin: 1,
-        destination: 3,
-        persons: 2,
-        released: 574_000,
+fn call(id: u32, origin: u32, destination: u32, persons: u32, released: u64) -> Option<Call> {
+    Some(Call {
+        id,
+        origin,
+        destination,
+        persons,
+        released,
         pin: None,
-    };
-    assert_eq!(rt; sizes(&snapshot), (4, 1, 1));
-    assert!(rt; has_ends(&snapshot, idle_at(2), Some(call)));
-    Ok(())
+    })
+}
+
+/// Whether the case of a number has these sizes (floors, cars and calls), its first car at this floor and this last call.
+fn is_made(alloc: Global, number: u64, sizes: [u32; 3], floor: u32, last: Option<Call>) -> bool {
+    let [floors, cars, calls] = sizes;
+    if floors < 2 || floors > 64 || cars < 1 || cars > 8 || calls > 64 {
+        return false;
+    }
+    match make(alloc, number, floors, cars, calls) {
+        Ok(snapshot) => has_sizes(&snapshot, sizes) && has_ends(&snapshot, idle_at(floor), last),
+        Err(_) => false,
+    }
 }
 
 #[test]
-fn two_cars_and_three_calls(rt: HostRuntime) -> Result<(), Fail> {
-    let snapshot = make(rt.alloc(), 7, 4, 2, 3)?;
-    let call = Call {
-        id: 3,
-        origin: 3,
-        destination: 0,
-        persons: 2,
-        released: 567_000,
-        pin: None,
-    };
-    assert_eq!(rt; sizes(&snapshot), (4, 2, 3));
-    assert!(rt; has_ends(&snapshot, idle_at(0), Some(call)));
-    Ok(())
-}
-
-#[test]
-fn no_call(rt: HostRuntime) -> Result<(), Fail> {
-    let snapshot = make(rt.alloc(), 3, 2, 1, 0)?;
-    assert_eq!(rt; sizes(&snapshot), (2, 1, 0));
-    assert!(rt; has_ends(&snapshot, idle_at(0), None));
-    Ok(())
-}
-
-#[test]
-fn largest_case(rt: HostRuntime) -> Result<(), Fail> {
-    let snapshot = make(rt.alloc(), u64::MAX, 64, 8, 64)?;
-    let call = Call {
-        id: 64,
-        origin: 18,
-        destination: 44,
-        persons: 1,
-        released: 572_000,
-        pin: None,
-    };
-    assert_eq!(rt; sizes(&snapshot), (64, 8, 64));
-    assert!(rt; has_ends(&snapshot, idle_at(17), Some(call)));
-    Ok(())
+fn cases_of_all_sizes(rt: HostRuntime) {
+    for (number, sizes, floor, last) in [
+        (3, [2, 1, 0], 0, None),
+        (0, [4, 1, 1], 2, call(1, 1, 3, 2, 574_000)),
+        (7, [4, 2, 3], 0, call(3, 3, 0, 2, 567_000)),
+        (u64::MAX, [64, 8, 64], 17, call(64, 18, 44, 1, 572_000)),
+    ] {
+        assert!(rt; is_made(rt.alloc(), number, sizes, floor, last), "{number}");
+    }
 }

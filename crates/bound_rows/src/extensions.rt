@@ -3,9 +3,9 @@
 ghost use Rattle.std.specs.Prelude.{◌++◌, ◌∷◌, [], IfSome};
 ghost use Rattle.elevator_model.specs.Partial.{IsLawful};
 
-use crate::makers::{call, shown, three_floors};
 use call_sets::CallSet;
-use call_state::{CarState, Snapshot};
+use call_state::Snapshot;
+use case_kit::snapshot_in;
 use elevator_model::Move;
 use partial_tours::Prefix;
 use std::alloc::Global;
@@ -14,12 +14,20 @@ use tour_extension::{Demand, can_be_extended};
 
 /// At the middle floor two persons came first, and then one. All go to the upper floor. The car stands at the lower
 /// one.
-fn snapshot(alloc: Global) -> Option<Snapshot> {
-    let calls = [call(8, 1, 2, 2, 50), call(9, 1, 2, 1, 60)];
-    let standing = CarState::Idle { floor: 0, free: 80 };
-    let building = three_floors(alloc).ok()?;
-    shown(alloc, building, 70, &[standing], &[], &calls)
-}
+const QUEUE: &str = "building 1
+speed 2000
+accel 1000
+weights 3 2
+floors 0 4000 8000
+car 4 3 1000 900 500 400 all
+end
+snapshot 1
+now 70
+car 4 idle 0 80
+call 8 1 2 2 50 any
+call 9 1 2 1 60 any
+end
+";
 
 /// The first lawful move that is not before this one.
 fn lawful(prefix: &Prefix, wanted: Move) -> Option<Move>
@@ -65,7 +73,7 @@ fn extends(alloc: Global, snapshot: &Snapshot, required: u128, moves: &[Move]) -
 #[test]
 fn two_calls_of_a_queue(rt: HostRuntime) -> Result<(), Fail> {
     use Move::{Board, End, Leave};
-    let snapshot = snapshot(rt.alloc()).ok_or("a snapshot")?;
+    let snapshot = snapshot_in(rt.alloc(), QUEUE.as_bytes()).ok_or("a snapshot")?;
     // The first call, or neither, has to board.
     let rows: [(u128, &[Move], bool); 10] = [
         (0b01, &[], true),

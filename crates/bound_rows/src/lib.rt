@@ -10,8 +10,6 @@ mod cases;
 #[cfg(test)]
 mod extensions;
 #[cfg(test)]
-mod makers;
-#[cfg(test)]
 mod nodes;
 #[cfg(test)]
 mod sums;

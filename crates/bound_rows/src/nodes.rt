@@ -2,36 +2,46 @@
 
 ghost use Rattle.std.specs.Prelude.{◌≡◌, length};
 
-use crate::makers::{call, car, four_floors, shown};
 use assign_branch::{BadSplit, CarSet, Node, root, split};
-use call_state::{Call, CarSpec, CarState};
+use case_kit::{put_lines, snapshot_in};
+use lift_text::put_words;
 use std::alloc::{AllocError, Global};
 use std::test::Fail;
 
-/// The root of the snapshot with these cars, which stand at floor 0, and calls.
-fn root_of(alloc: Global, cars: &[CarSpec], calls: &[Call]) -> Option<Node> {
-    let standing = CarState::Idle { floor: 0, free: 0 };
-    let states = vec![in alloc; standing; cars.len()].ok()?;
-    let building = four_floors(alloc, cars).ok()?;
-    let snapshot = shown(alloc, building, 0, &states, &[], calls)?;
-    root(alloc, &snapshot).ok()
-}
-
 /// The first car lacks the top floor, the third one floor 1. The third call is for more persons than the third car
 /// takes, and the last one is pinned to that car.
+const UNEVEN: &str = "building 1
+speed 2000
+accel 1000
+weights 3 2
+floors 0 4000 8000 12000
+car 3 3 1000 900 500 400 0 1 2
+car 1 8 1000 900 500 400 all
+car 7 2 1000 900 500 400 0 2 3
+end
+snapshot 1
+now 0
+car 3 idle 0 0
+car 1 idle 0 0
+car 7 idle 0 0
+call 11 0 2 2 0 any
+call 5 1 2 1 0 any
+call 8 3 0 3 0 any
+call 2 2 3 1 0 any
+call 9 3 2 2 0 7
+end
+";
+
+/// The root of a text's snapshot.
+fn root_in(alloc: Global, text: &[u8]) -> Option<Node> {
+    match snapshot_in(alloc, text) {
+        Some(snapshot) => root(alloc, &snapshot).ok(),
+        None => None,
+    }
+}
+
 fn uneven_root(alloc: Global) -> Option<Node> {
-    let cars = [car(3, 3, 0b0111), car(1, 8, 0b1111), car(7, 2, 0b1101)];
-    let calls = [
-        call(11, 0, 2, 2, 0),
-        call(5, 1, 2, 1, 0),
-        call(8, 3, 0, 3, 0),
-        call(2, 2, 3, 1, 0),
-        Call {
-            pin: Some(2),
-            ..call(9, 3, 2, 2, 0)
-        },
-    ];
-    root_of(alloc, &cars, &calls)
+    root_in(alloc, UNEVEN.as_bytes())
 }
 
 /// Whether the first five calls have these sets, and there are no more.
@@ -121,29 +131,41 @@ fn a_part_that_does_not_divide_is_refused(rt: HostRuntime) -> Result<(), Fail> {
     Ok(())
 }
 
-/// So many cars that serve all floors.
-fn cars_for_all(alloc: Global, count: u32) -> Result<Vec<CarSpec>, AllocError> {
-    let mut cars = Vec::new(alloc);
-    for place in 0..count {
-        cars.push(car(1 + place, 8, 0b1111))?;
+/// Appends a snapshot of 16 cars and 128 calls, from all floors to the next one.
+fn put_crowd(text: &mut Vec<u8>) -> Result<(), AllocError> {
+    put_lines(
+        text,
+        "building 2 / speed 2000 / accel 1000 / weights 3 2 / patience 0 0",
+    )?;
+    put_lines(text, "floors 0 4000 8000 12000")?;
+    for car in 1..17 {
+        put_words(text, b"car", &[car])?;
+        put_lines(text, " 8 1000 900 500 400 all")?;
     }
-    Ok(cars)
+    put_lines(text, "end / snapshot 1 / now 0")?;
+    for car in 1..17 {
+        put_words(text, b"car", &[car])?;
+        put_lines(text, " idle 0 0")?;
+    }
+    for call in 0..128u64 {
+        put_words(text, b"call", &[1 + call, call % 4, (call + 1) % 4])?;
+        put_lines(text, " 1 0 any")?;
+    }
+    put_lines(text, "end")
 }
 
-/// So many calls, from all floors to the next one.
-fn crowd(alloc: Global, count: u32) -> Result<Vec<Call>, AllocError> {
-    let mut calls = Vec::new(alloc);
-    for place in 0..count {
-        calls.push(call(1 + place, place % 4, (place + 1) % 4, 1, 0))?;
+/// The root of that snapshot.
+fn crowded_root(alloc: Global) -> Option<Node> {
+    let mut text = Vec::new(alloc);
+    match put_crowd(&mut text) {
+        Ok(()) => root_in(alloc, &text),
+        Err(_) => None,
     }
-    Ok(calls)
 }
 
 #[test]
 fn a_root_of_the_greatest_size(rt: HostRuntime) -> Result<(), Fail> {
-    let cars = cars_for_all(rt.alloc(), 16)?;
-    let calls = crowd(rt.alloc(), 128)?;
-    let node = root_of(rt.alloc(), cars.as_slice(), calls.as_slice()).ok_or("a root")?;
+    let node = crowded_root(rt.alloc()).ok_or("a root")?;
     assert_eq!(rt; demands(&node, 0), [u128::MAX, 0]);
     assert_eq!(rt; demands(&node, 15), [u128::MAX, 0]);
     let mut first = node.copy(rt.alloc())?;

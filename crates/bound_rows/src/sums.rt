@@ -1,31 +1,39 @@
 //! The sums that are kept along moves: at each partial tour of a car they agree with its bound.
 
-use crate::makers::{call, group, patient_floors, shown};
 use crate::walks::{Asked, Seen, walk_all};
 use call_sets::CallSet;
-use call_state::{CarState, Snapshot};
+use call_state::Snapshot;
+use case_kit::snapshot_in;
 use partial_tours::Prefix;
 use price_scale::Price;
 use pricing_bound::{Rates, StraightRides};
 use std::alloc::Global;
 use std::test::Fail;
 
-/// The car comes to the lowest floor with two persons for the highest one and one for the middle. Four calls wait.
-fn snapshot(alloc: Global) -> Option<Snapshot> {
-    let aboard = [group(3, 2, 2, 700), group(5, 1, 1, 900)];
-    let calls = [
-        call(7, 1, 2, 1, 1100),
-        call(8, 2, 0, 3, 300),
-        call(9, 0, 1, 2, 1900),
-        call(11, 1, 0, 1, 1500),
-    ];
-    let coming = CarState::Coming {
-        floor: 0,
-        arrives: 2600,
-    };
-    let building = patient_floors(alloc, 6).ok()?;
-    shown(alloc, building, 2000, &[coming], &aboard, &calls)
-}
+/// The car comes to the lowest floor with two persons for the highest one and one for the middle. Four calls wait. A ms
+/// of waiting costs 3 and past 6,000 ms 5 more, and one of riding 2.
+const FOUR_CALLS: &str = "building 3
+speed 2000
+accel 1000
+weights 3 2
+patience 6000 5
+floors 0 4000 9000
+times 0 4000 7000
+times 4000 0 4500
+times 7000 4500 0
+car 4 6 1000 900 500 400 all
+end
+snapshot 2
+now 2000
+car 4 coming 0 2600
+aboard 4 3 2 2 700
+aboard 4 5 1 1 900
+call 7 1 2 1 1100 any
+call 8 2 0 3 300 any
+call 9 0 1 2 1900 any
+call 11 1 0 1 1500 any
+end
+";
 
 fn prices_of(prices: [i128; 4]) -> Option<[Price; 4]> {
     let [first, second, third, fourth] = prices;
@@ -80,7 +88,7 @@ fn walked(
 fn walk(alloc: Global, prices: [i128; 4], allowed: u128, required: u128) -> Option<Seen> {
     let prices = prices_of(prices)?;
     let (allowed, required) = (CallSet::from_bits(allowed), CallSet::from_bits(required));
-    match snapshot(alloc) {
+    match snapshot_in(alloc, FOUR_CALLS.as_bytes()) {
         Some(snapshot) => walked(alloc, &snapshot, &prices, allowed, required),
         None => None,
     }

@@ -1,18 +1,12 @@
 //! Plans that break a rule.
 
-use crate::makers::four_calls;
-use crate::written::plan_in;
+use crate::cases::FOUR_CALLS;
 use call_state::{Snapshot, StateFault};
+use case_kit::{plan_in, snapshot_in};
 use elevator_model::{BadPlan, Fault, Plan, Rule};
 use std::alloc::Global;
 use std::test::Fail;
-use tour_cost::{judge_plan, plan_cost};
-
-/// What a feasible plan in this text costs.
-pub(crate) fn price_in(alloc: Global, snapshot: &Snapshot, text: &str) -> Option<u64> {
-    let plan = plan_in(alloc, text)?;
-    price(snapshot, &plan)
-}
+use tour_cost::judge_plan;
 
 /// The first bad place of a plan, and `None` where it breaks no rule or lacks a tour.
 fn bad_place(snapshot: &Snapshot, plan: &Plan) -> Option<BadPlan> {
@@ -29,20 +23,9 @@ fn broken_in(alloc: Global, snapshot: &Snapshot, text: &str) -> Option<(u32, u32
     Some((bad.car, bad.stop, bad.rule.number()))
 }
 
-/// What a feasible plan costs, and `None` for another one.
-pub(crate) fn price(snapshot: &Snapshot, plan: &Plan) -> Option<u64> {
-    if plan.tours().len() != snapshot.building().cars().len() {
-        return None;
-    }
-    match judge_plan(snapshot, plan) {
-        Ok(()) => Some(plan_cost(snapshot, plan)),
-        Err(_) => None,
-    }
-}
-
 #[test]
 fn each_rule_of_a_plan_is_broken_once(rt: HostRuntime) -> Result<(), Fail> {
-    let snapshot = four_calls(rt.alloc())?;
+    let snapshot = snapshot_in(rt.alloc(), FOUR_CALLS.as_bytes()).ok_or("a snapshot")?;
     for (text, car, stop, number) in [
         ("2:2 0 / 0:3 1 / 3 1:01 3", 2, 1, 1),
         ("2:2 0 / 0:3 1 1 / 1:01 3", 1, 3, 2),

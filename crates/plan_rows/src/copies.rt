@@ -1,9 +1,9 @@
 //! Copies, which have memory enough here.
 
-use crate::makers::four_calls;
-use crate::written::{plan_in, tour_in};
+use crate::cases::FOUR_CALLS;
 use call_sets::CarSet;
 use call_state::{Building, Snapshot, Travel};
+use case_kit::{plan_in, snapshot_in, tour_in};
 use elevator_model::{Plan, Stop, Tour};
 use std::alloc::{AllocError, Global};
 use std::test::Fail;
@@ -109,7 +109,7 @@ fn is_copied(alloc: Global, snapshot: &Snapshot) -> bool {
 
 #[test]
 fn snapshots_are_copied(rt: HostRuntime) -> Result<(), Fail> {
-    let snapshot = four_calls(rt.alloc())?;
+    let snapshot = snapshot_in(rt.alloc(), FOUR_CALLS.as_bytes()).ok_or("a snapshot")?;
     assert!(rt; is_copied(rt.alloc(), &snapshot));
     assert!(rt; is_building_copied(rt.alloc(), snapshot.building()));
     assert!(rt; is_travel_copied(rt.alloc(), snapshot.building().travel()));

@@ -1,8 +1,8 @@
 //! What cheapest plans cost.
 
-use crate::broken::price;
-use crate::makers::{call, car, coming, four_floors, group, idle, pinned, shown, snapshot};
-use call_state::{Aboard, BuildingParts, Call, CarState, Snapshot, StateFault};
+use crate::cases::{FOUR_FLOORS, ONE_CALL, snapshot_of};
+use call_state::Snapshot;
+use case_kit::plan_price;
 use first_plan::first;
 use plain_solver::cheapest_plan;
 use std::alloc::Global;
@@ -10,7 +10,7 @@ use std::alloc::Global;
 /// Whether the start plan is feasible and costs at least so much.
 fn starts_at(alloc: Global, snapshot: &Snapshot, least: u64) -> bool {
     match first(alloc, snapshot) {
-        Ok(plan) => price(snapshot, &plan) >= Some(least),
+        Ok(plan) => plan_price(snapshot, &plan) >= Some(least),
         Err(_) => false,
     }
 }
@@ -23,110 +23,110 @@ fn least_of(alloc: Global, snapshot: &Snapshot) -> Option<u64> {
     }
 }
 
-/// The same of a snapshot of the four floors.
-fn least_cost(
-    alloc: Global,
-    now: u64,
-    capacities: &[u32],
-    states: &[CarState],
-    aboard: &[Aboard],
-    calls: &[Call],
-) -> Option<u64> {
-    match snapshot(alloc, now, capacities, states, aboard, calls) {
-        Ok(snapshot) => least_of(alloc, &snapshot),
-        Err(_) => None,
+/// The same of a snapshot of these lines.
+fn least_cost(alloc: Global, head: &str, capacities: &[u64], lines: &str) -> Option<u64> {
+    match snapshot_of(alloc, head, capacities, lines) {
+        Some(snapshot) => least_of(alloc, &snapshot),
+        None => None,
     }
 }
 
 #[test]
-fn one_idle_car(rt: HostRuntime) {
-    let second = call(2, 0, 1, 1, 0);
-    for (capacity, floor, first, second, due) in [
-        (8, 1, call(1, 1, 2, 1, 0), call(2, 1, 0, 1, 0), 28000),
-        (1, 0, call(1, 0, 3, 1, 0), second, 40000),
-        (2, 0, call(1, 0, 1, 1, 0), second, 16000),
-        (2, 0, call(1, 0, 1, 2, 0), second, 37500),
-    ] {
-        let calls = [first, second];
-        let least = least_cost(rt.alloc(), 0, &[capacity], &[idle(floor)], &[], &calls);
-        assert_eq!(rt; least, Some(due));
-    }
-}
-
-#[test]
-fn one_car_with_work(rt: HostRuntime) {
-    let rising = [call(1, 1, 2, 1, 0)];
-    let aboard = [group(9, 3, 1, 0)];
-    let loaded = least_cost(rt.alloc(), 0, &[8], &[idle(0)], &aboard, &rising);
-    assert!(rt; loaded == Some(29500));
-    let comes = least_cost(rt.alloc(), 0, &[8], &[coming(1, 3000)], &[], &rising);
-    assert!(rt; comes == Some(10500));
-}
-
-#[test]
-fn two_cars(rt: HostRuntime) {
-    let one = call(1, 0, 1, 1, 0);
-    for (second, call, due) in [(idle(0), one, 7500), (idle(3), pinned(one, 1), 15500)] {
-        let states = [idle(0), second];
-        let least = least_cost(rt.alloc(), 0, &[8, 8], &states, &[], &[call]);
-        assert!(rt; least == Some(due));
-    }
-}
-
-#[test]
-fn two_calls_up_and_two_down(rt: HostRuntime) {
-    let calls = [
-        call(1, 0, 2, 1, 0),
-        call(2, 0, 2, 1, 0),
-        call(3, 2, 0, 1, 0),
-        call(4, 2, 0, 1, 0),
+fn cheapest_plans_of_four_floors(rt: HostRuntime) {
+    let rows: [(&[u64], &str, u64); 13] = [
+        // one idle car
+        (
+            &[8],
+            "now 0 / car 1 idle 1 0 / call 1 1 2 1 0 any / call 2 1 0 1 0 any",
+            28000,
+        ),
+        (
+            &[1],
+            "now 0 / car 1 idle 0 0 / call 1 0 3 1 0 any / call 2 0 1 1 0 any",
+            40000,
+        ),
+        (
+            &[2],
+            "now 0 / car 1 idle 0 0 / call 1 0 1 1 0 any / call 2 0 1 1 0 any",
+            16000,
+        ),
+        (
+            &[2],
+            "now 0 / car 1 idle 0 0 / call 1 0 1 2 0 any / call 2 0 1 1 0 any",
+            37500,
+        ),
+        // one car with work
+        (
+            &[8],
+            "now 0 / car 1 idle 0 0 / aboard 1 9 3 1 0 / call 1 1 2 1 0 any",
+            29500,
+        ),
+        (
+            &[8],
+            "now 0 / car 1 coming 1 3000 / call 1 1 2 1 0 any",
+            10500,
+        ),
+        // two cars
+        (
+            &[8, 8],
+            "now 0 / car 1 idle 0 0 / car 2 idle 0 0 / call 1 0 1 1 0 any",
+            7500,
+        ),
+        (
+            &[8, 8],
+            "now 0 / car 1 idle 0 0 / car 2 idle 3 0 / call 1 0 1 1 0 2",
+            15500,
+        ),
+        // two calls up and two down
+        (
+            &[1, 2],
+            "now 0 / car 1 idle 0 0 / car 2 idle 1 0 / call 1 0 2 1 0 any / call 2 0 2 1 0 any
+            call 3 2 0 1 0 any / call 4 2 0 1 0 any",
+            61000,
+        ),
+        // nobody costs nothing
+        (&[8, 8], "now 0 / car 1 idle 0 0 / car 2 coming 3 2000", 0),
+        // a moving car stops where it still can
+        (
+            &[8],
+            "now 1000 / car 1 moving 0 up 0 / call 1 1 2 1 1000 any",
+            10500,
+        ),
+        (
+            &[8],
+            "now 2000 / car 1 moving 0 up 0 / call 1 1 2 1 2000 any",
+            9500,
+        ),
+        (
+            &[8],
+            "now 2001 / car 1 moving 0 up 0 / call 1 1 2 1 2001 any",
+            17499,
+        ),
     ];
-    let least = least_cost(rt.alloc(), 0, &[1, 2], &[idle(0), idle(1)], &[], &calls);
-    assert!(rt; least == Some(61000));
-}
-
-#[test]
-fn nobody_costs_nothing(rt: HostRuntime) {
-    let states = [idle(0), coming(3, 2000)];
-    let least = least_cost(rt.alloc(), 0, &[8, 8], &states, &[], &[]);
-    assert!(rt; least == Some(0));
-}
-
-#[test]
-fn a_moving_car_stops_where_it_still_can(rt: HostRuntime) {
-    let state = CarState::Moving {
-        from: 0,
-        up: true,
-        left: 0,
-    };
-    for (now, due) in [(1000, 10500), (2000, 9500), (2001, 17499)] {
-        let calls = [call(1, 1, 2, 1, now)];
-        let least = least_cost(rt.alloc(), now, &[8], &[state], &[], &calls);
-        assert!(rt; least == Some(due));
-    }
-}
-
-/// One call in a building with this patience, whose weight is 3.
-fn impatient(alloc: Global, patience: u64) -> Result<Snapshot, StateFault> {
-    let building = BuildingParts {
-        patience,
-        patience_weight: 3,
-        ..four_floors(alloc, 2, &[car(1, 8, 15)])?
-    };
-    let calls = [call(1, 0, 1, 1, 0)];
-    shown(alloc, building, 0, &[idle(0)], &[], &calls)
-}
-
-fn impatient_cost(alloc: Global, patience: u64) -> Option<u64> {
-    match impatient(alloc, patience) {
-        Ok(snapshot) => least_of(alloc, &snapshot),
-        Err(_) => None,
+    for (capacities, lines, due) in rows {
+        let least = least_cost(rt.alloc(), FOUR_FLOORS, capacities, lines);
+        assert!(rt; least == Some(due), "{lines}");
     }
 }
 
 #[test]
 fn waits_past_the_patience_cost_more(rt: HostRuntime) {
-    for (patience, due) in [(500, 9000), (1000, 7500)] {
-        assert!(rt; impatient_cost(rt.alloc(), patience) == Some(due));
+    let rows = [
+        (
+            "building 2 / speed 2000 / accel 1000 / weights 1 1 / patience 500 3
+            floors 0 4000 8000 12000",
+            9000,
+        ),
+        (
+            "building 2 / speed 2000 / accel 1000 / weights 1 1 / patience 1000 3
+            floors 0 4000 8000 12000",
+            7500,
+        ),
+    ];
+    for (head, due) in rows {
+        assert!(rt;
+            least_cost(rt.alloc(), head, &[8], ONE_CALL) == Some(due),
+            "{head}"
+        );
     }
 }

@@ -3,17 +3,14 @@
 
 ghost use Rattle.std.specs.Prelude.{◌≡◌, ◌<◌, ℕ, length, IsTrue};
 ghost use Rattle.elevator_model.specs.Snapshot.{call_count, call_of, group_of};
-ghost use Rattle.elevator_model.specs.Plans.{IsFeasiblePlan};
 ghost use Rattle.day_state.specs.Openings.{IsNewCall};
 
-use crate::makers::{call, coming, group, idle, riding_in, snapshot, uneven_pair};
-use crate::written::plan_in;
+use crate::cases::{FOUR_FLOORS, UNEVEN_PAIR, snapshot_of};
 use call_state::{Aboard, Call, CarState, Snapshot};
+use case_kit::{is_feasible, plan_in, snapshot_in};
 use day_state::{Event, NotTaken, World};
-use elevator_model::Plan;
 use std::alloc::Global;
 use std::test::Fail;
-use tour_cost::judge_plan;
 
 fn boards(call: u32, car: u32, moment: u64) -> Event {
     Event::Board { call, car, moment }
@@ -21,6 +18,33 @@ fn boards(call: u32, car: u32, moment: u64) -> Event {
 
 fn gets_off(call: u32, car: u32, moment: u64) -> Event {
     Event::Deliver { call, car, moment }
+}
+
+fn coming(floor: u32, arrives: u64) -> CarState {
+    CarState::Coming { floor, arrives }
+}
+
+/// A call that is not pinned.
+fn call(id: u32, origin: u32, destination: u32, persons: u32, released: u64) -> Call {
+    Call {
+        id,
+        origin,
+        destination,
+        persons,
+        released,
+        pin: None,
+    }
+}
+
+/// A group aboard a car.
+fn group(id: u32, car: u32, destination: u32, persons: u32, boarded: u64) -> Aboard {
+    Aboard {
+        id,
+        car,
+        destination,
+        persons,
+        boarded,
+    }
 }
 
 fn standing(floor: u32, free: u64) -> CarState {
@@ -33,16 +57,6 @@ fn rising(from: u32, left: u64) -> CarState {
         up: true,
         left,
     }
-}
-
-/// Whether the plan is feasible.
-fn is_feasible(snapshot: &Snapshot, plan: &Plan) -> bool
-    ensures { IsTrue result → IsFeasiblePlan snapshot.now plan.now }
-{
-    if plan.tours().len() != snapshot.building().cars().len() {
-        return false;
-    }
-    judge_plan(snapshot, plan).is_ok()
 }
 
 /// Gives the world a plan in this text, where it is feasible.
@@ -132,9 +146,9 @@ fn step(alloc: Global, world: &mut World, call: Call, text: &str, events: &mut V
         && plan(alloc, world, text)
 }
 
-/// The world of a day that begins with one car of this capacity in this state.
-fn opened(alloc: Global, now: u64, capacity: u32, state: CarState) -> Option<World> {
-    let snapshot = snapshot(alloc, now, &[capacity], &[state], &[], &[]).ok()?;
+/// The world of a day that begins with one car of this capacity, as these lines say.
+fn opened(alloc: Global, capacity: u64, lines: &str) -> Option<World> {
+    let snapshot = snapshot_of(alloc, FOUR_FLOORS, &[capacity], lines)?;
     if !snapshot.calls().is_empty() || !snapshot.aboard().is_empty() {
         return None;
     }
@@ -160,13 +174,13 @@ fn is_day_right(alloc: Global, world: &mut World) -> bool {
     ];
     done && events.as_slice() == due.as_slice()
         && has_states(world.snapshot(), &[standing(1, 11500)])
-        && world.snapshot().aboard() == [group(2, 2, 1, 10000)].as_slice()
+        && world.snapshot().aboard() == [group(2, 0, 2, 1, 10000)].as_slice()
         && runs_out(alloc, world, &last)
 }
 
 #[test]
 fn a_day_of_three_calls(rt: HostRuntime) -> Result<(), Fail> {
-    let mut world = opened(rt.alloc(), 0, 8, idle(0)).ok_or("no world")?;
+    let mut world = opened(rt.alloc(), 8, "now 0 / car 1 idle 0 0").ok_or("no world")?;
     assert!(rt; is_day_right(rt.alloc(), &mut world));
     Ok(())
 }
@@ -197,38 +211,38 @@ fn is_moving_day_right(alloc: Global, world: &mut World) -> bool {
 
 #[test]
 fn a_day_of_a_moving_car(rt: HostRuntime) -> Result<(), Fail> {
-    let mut world = opened(rt.alloc(), 0, 8, idle(0)).ok_or("no world")?;
+    let mut world = opened(rt.alloc(), 8, "now 0 / car 1 idle 0 0").ok_or("no world")?;
     assert!(rt; is_moving_day_right(rt.alloc(), &mut world));
     Ok(())
 }
 
 /// Whether the day of this car begins with this plan.
-fn opens_with(alloc: Global, now: u64, state: CarState, text: &str) -> bool {
-    match (opened(alloc, now, 8, state), plan_in(alloc, text)) {
-        (Some(world), Some(plan)) => *world.plan() == plan,
-        _ => false,
+fn opens_with(alloc: Global, lines: &str, text: &str) -> bool {
+    match opened(alloc, 8, lines) {
+        Some(world) => has_plan(alloc, &world, text),
+        None => false,
     }
 }
 
 #[test]
 fn days_open_with_stops_of_cars_on_their_way(rt: HostRuntime) {
-    let falling = CarState::Moving {
-        from: 3,
-        up: false,
-        left: 0,
-    };
-    assert!(rt; opens_with(rt.alloc(), 0, idle(0), ""));
-    assert!(rt; opens_with(rt.alloc(), 0, coming(2, 7), "2"));
-    assert!(rt; opens_with(rt.alloc(), 2000, rising(0, 0), "1"));
-    assert!(rt; opens_with(rt.alloc(), 2001, rising(0, 0), "2"));
-    assert!(rt; opens_with(rt.alloc(), 2000, falling, "2"));
+    for (lines, plan) in [
+        ("now 0 / car 1 idle 0 0", ""),
+        ("now 0 / car 1 coming 2 7", "2"),
+        ("now 2000 / car 1 moving 0 up 0", "1"),
+        ("now 2001 / car 1 moving 0 up 0", "2"),
+        ("now 2000 / car 1 moving 3 down 0", "2"),
+    ] {
+        assert!(rt; opens_with(rt.alloc(), lines, plan), "{lines}");
+    }
 }
 
 /// The two uneven cars with a plan: the large one delivers its group and takes two calls, the small one stops
 /// where it comes to and takes one.
 fn uneven_world(alloc: Global) -> Option<World> {
+    let snapshot = snapshot_in(alloc, UNEVEN_PAIR.as_bytes())?;
     let plan = plan_in(alloc, "0 1:01 3 / 0 2:2 0")?;
-    Some(World::of_parts(uneven_pair(alloc).ok()?, plan))
+    Some(World::of_parts(snapshot, plan))
 }
 
 /// Whether these calls wait, by their ids.
@@ -294,7 +308,7 @@ fn two_uneven_cars_under_way(rt: HostRuntime) -> Result<(), Fail> {
     assert!(rt; is_then(rt.alloc(), &mut world, 12875, &states, &due));
     assert!(rt; has_plan(rt.alloc(), &world, "1:01 3 / 0"));
     assert!(rt; has_calls(world.snapshot(), &[5, 2]));
-    let aboard = [riding_in(group(9, 0, 1, 12475), 1)];
+    let aboard = [group(9, 1, 0, 1, 12475)];
     assert!(rt; world.snapshot().aboard() == aboard.as_slice());
     assert!(rt; is_copied(rt.alloc(), &world));
     let states = [coming(1, 21250), coming(0, 21250)];
@@ -315,7 +329,7 @@ fn those_who_board_together_come_by_their_ids(rt: HostRuntime) -> Result<(), Fai
     let states = [rising(1, 23950), standing(0, 24000)];
     assert!(rt; is_then(rt.alloc(), &mut world, 24000, &states, &due));
     assert!(rt; has_plan(rt.alloc(), &world, "3 /"));
-    let aboard = [group(2, 3, 1, 22350), group(5, 3, 2, 22350)];
+    let aboard = [group(2, 0, 3, 1, 22350), group(5, 0, 3, 2, 22350)];
     assert!(rt; world.snapshot().aboard() == aboard.as_slice());
     let last = [gets_off(2, 7, 31592), gets_off(5, 7, 31592)];
     assert!(rt; runs_out(rt.alloc(), &world, &last));
@@ -345,7 +359,7 @@ fn is_full(alloc: Global, world: &mut World) -> bool {
 
 #[test]
 fn a_world_takes_no_call_that_is_too_many(rt: HostRuntime) -> Result<(), Fail> {
-    let mut world = opened(rt.alloc(), 0, 8, coming(3, 90000000)).ok_or("no world")?;
+    let mut world = opened(rt.alloc(), 8, "now 0 / car 1 coming 3 90000000").ok_or("no world")?;
     let large = Call {
         persons: 9,
         ..call(7, 0, 1, 1, 0)
@@ -357,7 +371,7 @@ fn a_world_takes_no_call_that_is_too_many(rt: HostRuntime) -> Result<(), Fail> {
 
 #[test]
 fn a_world_takes_no_call_that_no_car_can_take(rt: HostRuntime) -> Result<(), Fail> {
-    let mut world = opened(rt.alloc(), 0, 2, idle(0)).ok_or("no world")?;
+    let mut world = opened(rt.alloc(), 2, "now 0 / car 1 idle 0 0").ok_or("no world")?;
     let three = call(7, 0, 1, 3, 0);
     assert!(rt; accept(rt.alloc(), &mut world, three) == Some(Err(NotTaken::NoCar)));
     assert!(rt; accept(rt.alloc(), &mut world, call(7, 0, 1, 2, 0)) == Some(Ok(())));

@@ -9,18 +9,16 @@
 #[cfg(test)]
 mod broken;
 #[cfg(test)]
+mod cases;
+#[cfg(test)]
 mod copies;
 #[cfg(test)]
 mod costs;
 #[cfg(test)]
 mod days;
 #[cfg(test)]
-mod makers;
-#[cfg(test)]
 mod refusals;
 #[cfg(test)]
 mod served;
 #[cfg(test)]
 mod sizes;
-#[cfg(test)]
-mod written;

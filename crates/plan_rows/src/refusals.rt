@@ -1,9 +1,14 @@
 //! What is refused, and at which item. Which fault comes first is said by the definitions, whose worked cases
 //! have each kind; here the answers come from the builds.
 
-use crate::makers::{call, car, coming, four_floors, group, shown};
-use call_state::{Building, Call, CarSpec, CarState, Fault, StateFault, Travel};
-use std::alloc::Global;
+use crate::cases::snapshot_of;
+use call_sets::FloorSet;
+use call_state::{
+    Building, BuildingParts, Call, CarSpec, CarState, Fault, Snapshot, SnapshotParts, StateFault,
+    Travel,
+};
+use std::alloc::{AllocError, Global};
+use std::test::Fail;
 
 fn bad(fault: Fault, item: u32) -> Option<StateFault> {
     Some(StateFault::Bad { fault, item })
@@ -20,15 +25,43 @@ fn fault_of_times(alloc: Global, direct: u64) -> Option<StateFault> {
 
 #[test]
 fn a_shorter_way_over_a_third_floor_is_refused(rt: HostRuntime) {
-    let longer = fault_of_times(rt.alloc(), 3);
-    assert!(rt; longer == bad(Fault::NoTravelSquare, 0));
-    let as_short = fault_of_times(rt.alloc(), 2);
-    assert!(rt; as_short.is_none());
+    assert!(rt; fault_of_times(rt.alloc(), 3) == bad(Fault::NoTravelSquare, 0));
+    assert!(rt; fault_of_times(rt.alloc(), 2).is_none());
 }
 
-/// What four floors with these cars are refused for.
+/// A car for so many persons. Bit `f` of `serves` is floor `f`.
+fn car(id: u32, capacity: u32, serves: u64) -> CarSpec {
+    CarSpec {
+        id,
+        capacity,
+        opening: 1000,
+        closing: 1000,
+        boarding: 500,
+        alighting: 500,
+        serves: FloorSet::from_bits(serves),
+    }
+}
+
+/// Three floors 4000 mm apart with these cars.
+fn three_floors(alloc: Global, cars: &[CarSpec]) -> Result<BuildingParts, StateFault> {
+    let times = [0, 4000, 6000, 4000, 0, 4000, 6000, 4000, 0].to_vec(alloc)?;
+    Ok(BuildingParts {
+        version: 1,
+        heights: [0, 4000, 8000].to_vec(alloc)?,
+        speed: 2000,
+        accel: 1000,
+        wait_weight: 1,
+        travel_weight: 1,
+        patience: 0,
+        patience_weight: 0,
+        cars: cars.to_vec(alloc)?,
+        travel: Travel::build(3, times)?,
+    })
+}
+
+/// What three floors with these cars are refused for.
 fn fault_of_cars(alloc: Global, cars: &[CarSpec]) -> Option<StateFault> {
-    match four_floors(alloc, 1, cars) {
+    match three_floors(alloc, cars) {
         Ok(parts) => Building::build(alloc, parts).err(),
         Err(fault) => Some(fault),
     }
@@ -36,25 +69,71 @@ fn fault_of_cars(alloc: Global, cars: &[CarSpec]) -> Option<StateFault> {
 
 #[test]
 fn cars_are_refused(rt: HostRuntime) {
-    let too_large = fault_of_cars(rt.alloc(), &[car(1, 8, 15), car(2, 65, 15)]);
+    let too_large = fault_of_cars(rt.alloc(), &[car(1, 8, 7), car(2, 65, 7)]);
     assert!(rt; too_large == bad(Fault::OutOfRange, 2));
-    let fifth_floor = fault_of_cars(rt.alloc(), &[car(2, 8, 17), car(1, 8, 15)]);
-    assert!(rt; fifth_floor == bad(Fault::NoSuchFloor, 1));
+    let fourth_floor = fault_of_cars(rt.alloc(), &[car(2, 8, 9), car(1, 8, 7)]);
+    assert!(rt; fourth_floor == bad(Fault::NoSuchFloor, 1));
 }
 
-/// What a snapshot with one car and a person aboard for floor 2 is refused for.
-fn fault_of(alloc: Global, state: CarState, call: Call) -> Option<StateFault> {
-    let aboard = [group(9, 2, 1, 0)];
-    match four_floors(alloc, 1, &[car(1, 8, 7)]) {
-        Ok(building) => shown(alloc, building, 5000, &[state], &aboard, &[call]).err(),
-        Err(fault) => Some(fault),
+/// The parts of the snapshot, with other states of its cars and other calls.
+fn changed(
+    alloc: Global,
+    snapshot: &Snapshot,
+    states: &[CarState],
+    calls: &[Call],
+) -> Result<SnapshotParts, AllocError> {
+    Ok(SnapshotParts {
+        version: 2,
+        building: snapshot.building().copy(alloc)?,
+        now: snapshot.now(),
+        cars: states.to_vec(alloc)?,
+        aboard: snapshot.aboard().to_vec(alloc)?,
+        calls: calls.to_vec(alloc)?,
+    })
+}
+
+/// What the snapshot with other states of its cars and other calls is refused for. None where it is accepted, or has
+/// another number of cars.
+pub(crate) fn fault_with(
+    alloc: Global,
+    snapshot: &Snapshot,
+    states: &[CarState],
+    calls: &[Call],
+) -> Option<StateFault> {
+    match changed(alloc, snapshot, states, calls) {
+        Ok(parts) if parts.are_whole() => Snapshot::build(alloc, parts).err(),
+        Ok(_) => None,
+        Err(AllocError) => Some(StateFault::NoMemory),
+    }
+}
+
+fn call_to(destination: u32) -> Call {
+    Call {
+        id: 1,
+        origin: 0,
+        destination,
+        persons: 1,
+        released: 0,
+        pin: None,
+    }
+}
+
+fn coming(floor: u32) -> CarState {
+    CarState::Coming {
+        floor,
+        arrives: 5000,
     }
 }
 
 #[test]
-fn items_of_snapshots_are_refused(rt: HostRuntime) {
-    let lacks_floor = fault_of(rt.alloc(), coming(3, 5000), call(1, 0, 2, 1, 0));
+fn items_of_snapshots_are_refused(rt: HostRuntime) -> Result<(), Fail> {
+    let head = "building 1 / speed 2000 / accel 1000 / weights 1 1 / floors 0 4000 8000 12000
+        car 9 8 1000 1000 500 500 0 1 2";
+    let lines = "now 5000 / car 9 idle 0 5000 / aboard 9 9 2 1 0";
+    let snapshot = snapshot_of(rt.alloc(), head, &[], lines).ok_or("a snapshot")?;
+    let lacks_floor = fault_with(rt.alloc(), &snapshot, &[coming(3)], &[call_to(2)]);
     assert!(rt; lacks_floor == bad(Fault::NotServed, 1));
-    let stays = fault_of(rt.alloc(), coming(1, 5000), call(1, 0, 0, 1, 0));
+    let stays = fault_with(rt.alloc(), &snapshot, &[coming(1)], &[call_to(0)]);
     assert!(rt; stays == bad(Fault::OriginIsDestination, 3));
+    Ok(())
 }

@@ -1,11 +1,10 @@
 //! Plans, tours and moves that are found.
 
-use crate::broken::price_in;
-use crate::makers::{four_calls, one_call, two_calls};
-use crate::written::{plan_in, tour_in};
+use crate::cases::{FOUR_CALLS, FOUR_FLOORS, ONE_CALL, TWO_CALLS, snapshot_of};
 use call_sets::CallSet;
 use call_state::Snapshot;
 use car_motion::travel_of;
+use case_kit::{plan_in, plan_price, snapshot_in, tour_in};
 use elevator_model::{Move, Plan, Times, Tour};
 use first_plan::{first, insert};
 use partial_tours::{Moves, Prefix, next_moves};
@@ -71,7 +70,7 @@ fn may_begin_anywhere(alloc: Global, snapshot: &Snapshot) -> bool {
 
 #[test]
 fn one_call_is_served(rt: HostRuntime) -> Result<(), Fail> {
-    let snapshot = one_call(rt.alloc())?;
+    let snapshot = snapshot_of(rt.alloc(), FOUR_FLOORS, &[8], ONE_CALL).ok_or("a snapshot")?;
     assert!(rt; is_fetched(rt.alloc(), &snapshot));
     assert!(rt; may_stay(rt.alloc(), &snapshot));
     assert!(rt; may_begin_anywhere(rt.alloc(), &snapshot));
@@ -112,7 +111,7 @@ fn takes_the_second(alloc: Global, snapshot: &Snapshot) -> bool {
 
 #[test]
 fn two_calls_are_fetched_together(rt: HostRuntime) -> Result<(), Fail> {
-    let snapshot = two_calls(rt.alloc())?;
+    let snapshot = snapshot_of(rt.alloc(), FOUR_FLOORS, &[8, 8], TWO_CALLS).ok_or("a snapshot")?;
     assert!(rt; starts_with_both(rt.alloc(), &snapshot));
     assert!(rt; takes_the_second(rt.alloc(), &snapshot));
     Ok(())
@@ -185,15 +184,22 @@ fn is_second_timed(alloc: Global, snapshot: &Snapshot) -> bool {
     }
 }
 
+/// Whether the plan in this text is feasible and costs so much.
+fn costs(alloc: Global, snapshot: &Snapshot, text: &str, due: u64) -> bool {
+    match plan_in(alloc, text) {
+        Some(plan) => plan_price(snapshot, &plan) == Some(due),
+        None => false,
+    }
+}
+
 #[test]
 fn four_calls_are_served(rt: HostRuntime) -> Result<(), Fail> {
-    let snapshot = four_calls(rt.alloc())?;
+    let snapshot = snapshot_in(rt.alloc(), FOUR_CALLS.as_bytes()).ok_or("a snapshot")?;
     assert!(rt; is_plain(rt.alloc(), &snapshot));
     assert!(rt; is_in_order(rt.alloc(), &snapshot));
     assert!(rt; opens_twice(rt.alloc(), &snapshot));
     assert!(rt; is_second_timed(rt.alloc(), &snapshot));
-    let cost = price_in(rt.alloc(), &snapshot, "2:2 0 / 0:3 1:01 3 / 1 3");
-    assert!(rt; cost == Some(252_292));
+    assert!(rt; costs(rt.alloc(), &snapshot, "2:2 0 / 0:3 1:01 3 / 1 3", 252_292));
     Ok(())
 }
 

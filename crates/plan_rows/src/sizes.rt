@@ -1,75 +1,119 @@
 //! Snapshots of the greatest sizes, and one item more.
 
-use crate::broken::price;
-use crate::makers::{call, cars_for, four_floors, idle, shown};
-use call_state::{BuildingParts, Call, CarState, Fault, Snapshot, StateFault};
+use crate::cases::{FOUR_FLOORS, put_building};
+use crate::refusals::fault_with;
+use call_state::{Call, CarState, Fault, Snapshot, StateFault};
+use case_kit::{plan_price, put_call, put_lines, put_state, snapshot_in};
 use first_plan::first;
 use std::alloc::{AllocError, Global};
 
-/// So many calls with the ids from 1 on, from all floors to all floors.
-fn crowd(alloc: Global, count: u32) -> Result<Vec<Call>, AllocError> {
-    let mut calls = Vec::new(alloc);
-    for k in 0..count {
-        let origin = k % 4;
-        let destination = (origin + 1 + k / 4 % 3) % 4;
-        calls.push(call(1 + k, origin, destination, 1 + k % 2, 0))?;
+/// The head of the four floors in a later version.
+const LATER_FLOORS: &str =
+    "building 2 / speed 2000 / accel 1000 / weights 1 1 / patience 0 0 / floors 0 4000 8000 12000";
+
+/// The head of the four floors with stated travel times.
+const TIMED_FLOORS: &str = "building 3 / speed 2000 / accel 1000 / weights 1 1 / patience 0 0
+    floors 0 4000 8000 12000 / times 0 4000 6000 8000 / times 4000 0 4000 6000
+    times 6000 4000 0 4000 / times 8000 6000 4000 0";
+
+/// A call with this id, from all floors to all floors.
+fn call(id: u32) -> Call {
+    let origin = id % 4;
+    Call {
+        id,
+        origin,
+        destination: (origin + 1 + id / 4 % 3) % 4,
+        persons: 1 + id % 2,
+        released: 0,
+        pin: None,
     }
-    Ok(calls)
 }
 
-/// So many cars that stand, spread over the floors.
-fn standing(alloc: Global, count: u32) -> Result<Vec<CarState>, AllocError> {
-    let mut states = Vec::new(alloc);
-    for k in 0..count {
-        states.push(idle(k % 4))?;
+/// A car that stands, like others spread over the floors.
+fn standing(id: u32) -> CarState {
+    CarState::Idle {
+        floor: id % 4,
+        free: 0,
     }
-    Ok(states)
 }
 
-/// Four floors with so many cars for 8 persons.
-fn building(alloc: Global, version: u8, cars: u32) -> Result<BuildingParts, StateFault> {
-    let capacities = vec![in alloc; 8; cars as usize]?;
-    let specs = cars_for(alloc, capacities.as_slice())?;
-    four_floors(alloc, version, specs.as_slice())
+/// Appends a snapshot with a car for each capacity and so many calls.
+fn put_crowd(
+    text: &mut Vec<u8>,
+    head: &str,
+    capacities: &[u64],
+    calls: u32,
+) -> Result<(), AllocError> {
+    put_building(text, head, capacities)?;
+    put_lines(text, "now 0")?;
+    let mut car: u32 = 1;
+    for _capacity in capacities {
+        put_state(text, car, standing(car))?;
+        car = car.wrapping_add(1);
+    }
+    for id in 0..calls {
+        put_call(text, &call(id))?;
+    }
+    put_lines(text, "end")
 }
 
-/// So many cars and so many calls.
-fn crowded(alloc: Global, version: u8, cars: u32, calls: u32) -> Result<Snapshot, StateFault> {
-    let states = standing(alloc, cars)?;
-    let open = crowd(alloc, calls)?;
-    let building = building(alloc, version, cars)?;
-    shown(alloc, building, 0, &states, &[], &open)
+/// The snapshot with a car for each capacity and so many calls.
+fn crowded(alloc: Global, head: &str, capacities: &[u64], calls: u32) -> Option<Snapshot> {
+    let mut text = Vec::new(alloc);
+    match put_crowd(&mut text, head, capacities, calls) {
+        Ok(()) => snapshot_in(alloc, &text),
+        Err(_) => None,
+    }
 }
 
 /// What the start plan costs.
 fn start_price(alloc: Global, snapshot: &Snapshot) -> Option<u64> {
     match first(alloc, snapshot) {
-        Ok(plan) => price(snapshot, &plan),
+        Ok(plan) => plan_price(snapshot, &plan),
         Err(_) => None,
     }
 }
 
-/// What the start plan of so many cars and calls costs.
-fn start_cost(alloc: Global, version: u8, cars: u32, calls: u32) -> Option<u64> {
-    match crowded(alloc, version, cars, calls) {
-        Ok(snapshot) => start_price(alloc, &snapshot),
-        Err(_) => None,
+/// What the start plan of so many calls costs.
+fn start_cost(alloc: Global, head: &str, capacities: &[u64], calls: u32) -> Option<u64> {
+    match crowded(alloc, head, capacities, calls) {
+        Some(snapshot) => start_price(alloc, &snapshot),
+        None => None,
     }
 }
 
 #[test]
 fn the_largest_snapshots_have_a_plan(rt: HostRuntime) {
-    for (version, cars, calls) in [(1, 8, 64), (2, 16, 128)] {
-        let cost = start_cost(rt.alloc(), version, cars, calls);
-        assert!(rt; cost > Some(0));
-    }
+    assert!(rt; start_cost(rt.alloc(), FOUR_FLOORS, &[8; 8], 64) > Some(0));
+    assert!(rt; start_cost(rt.alloc(), LATER_FLOORS, &[8; 16], 128) > Some(0));
+}
+
+/// The snapshot's calls and one more.
+fn longer(alloc: Global, snapshot: &Snapshot) -> Option<Vec<Call>> {
+    let mut calls = snapshot.calls().to_vec(alloc).ok()?;
+    calls.push(call(1000)).ok()?;
+    Some(calls)
+}
+
+/// What a snapshot is refused for that has all cars and one call too many.
+fn fault_of_crowd(
+    alloc: Global,
+    head: &str,
+    capacities: &[u64],
+    states: &[CarState],
+    calls: u32,
+) -> Option<StateFault> {
+    let snapshot = crowded(alloc, head, capacities, calls)?;
+    let calls = longer(alloc, &snapshot)?;
+    fault_with(alloc, &snapshot, states, &calls)
 }
 
 #[test]
 fn a_call_too_many_is_refused(rt: HostRuntime) {
     let fault = Fault::TooManyCalls;
-    for (version, cars, calls, item) in [(1, 8, 65, 73), (3, 16, 129, 145)] {
-        let refused = crowded(rt.alloc(), version, cars, calls).err();
-        assert!(rt; refused == Some(StateFault::Bad { fault, item }));
-    }
+    let states = [standing(0); 16];
+    let refused = fault_of_crowd(rt.alloc(), FOUR_FLOORS, &[8; 8], &states[..8], 64);
+    assert!(rt; refused == Some(StateFault::Bad { fault, item: 73 }));
+    let refused = fault_of_crowd(rt.alloc(), TIMED_FLOORS, &[8; 16], &states, 128);
+    assert!(rt; refused == Some(StateFault::Bad { fault, item: 145 }));
 }

@@ -1,6 +1,6 @@
 //! Pools of drawn tours, and prices that are drawn.
 
-use crate::draws::Draws;
+use case_kit::Draws;
 use elevator_model::Tour;
 use plain_solver::feasible_tours;
 use price_scale::Price;

@@ -1,24 +1,10 @@
 //! All plans that are made of tours of a pool.
 
-use crate::tally::Checks;
-use call_sets::CallSet;
 use call_state::Snapshot;
+use case_kit::{Checks, boards_of, lawful_cost, plan_price};
 use elevator_model::{Plan, Tour};
 use restricted_master::{Column, MOST_TOURS, Pool};
 use std::alloc::{AllocError, Global};
-use tour_cost::{cost, judge_plan, plan_cost};
-use tour_rules::judge;
-
-/// What a feasible plan costs, and None for another one.
-pub(crate) fn price(snapshot: &Snapshot, plan: &Plan) -> Option<u64> {
-    if plan.tours().len() != snapshot.building().cars().len() {
-        return None;
-    }
-    match judge_plan(snapshot, plan) {
-        Ok(()) => Some(plan_cost(snapshot, plan)),
-        Err(_) => None,
-    }
-}
 
 /// The car's columns. None where there is no such car.
 fn columns_of<'a>(pool: &'a Pool<'_>, car: u32) -> Option<&'a [Column]> {
@@ -36,25 +22,10 @@ pub(crate) fn count_of(pool: &Pool<'_>, car: u32) -> u64 {
     }
 }
 
-/// What a feasible tour of the car costs. None for another tour, and where there is no such car.
-fn price_of_tour(snapshot: &Snapshot, car: u32, tour: &Tour) -> Option<u64> {
-    if snapshot.building().cars().len() <= car as usize {
-        return None;
-    }
-    match judge(snapshot, car, tour) {
-        Ok(()) => Some(cost(snapshot, car, tour)),
-        Err(_) => None,
-    }
-}
-
 /// Whether the column is a feasible tour of the car, with its cost and the calls that board in it.
 fn is_column(snapshot: &Snapshot, car: u32, column: &Column) -> bool {
-    let mut calls = CallSet::empty();
-    for stop in column.tour.stops() {
-        calls = calls.union(CallSet::of_list(stop.boards.as_slice()));
-    }
-    calls.bits() == column.calls.bits()
-        && price_of_tour(snapshot, car, &column.tour) == Some(column.cost)
+    boards_of(&column.tour).bits() == column.calls.bits()
+        && lawful_cost(snapshot, car, &column.tour) == Some(column.cost)
 }
 
 /// Notes of each column of the pool whether it is what it says.
@@ -108,7 +79,7 @@ fn plan_of(alloc: Global, pool: &Pool<'_>, way: u64) -> Result<Plan, AllocError>
 pub(crate) fn least_cost(alloc: Global, pool: &Pool<'_>) -> Result<Option<u64>, AllocError> {
     let mut least: Option<u64> = None;
     for way in 0..ways(pool) {
-        if let Some(cost) = price(pool.snapshot(), &plan_of(alloc, pool, way)?) {
+        if let Some(cost) = plan_price(pool.snapshot(), &plan_of(alloc, pool, way)?) {
             least = Some(least.unwrap_or(cost).min(cost));
         }
     }

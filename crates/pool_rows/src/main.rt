@@ -3,7 +3,6 @@
 //! ends with status 1 if one failed.
 #![tactic(auto)]
 
-mod draws;
 mod fills;
 mod listing;
 mod runs;
@@ -25,6 +24,6 @@ fn main(rt: HostRuntime) -> io::Result<ExitCode> {
         compare_case(rt.alloc(), case, &mut tally)?;
     }
     compare_worked(rt.alloc(), &mut tally)?;
-    tally.print(&rt)?;
-    Ok(ExitCode::from(u8::from(!tally.is_right())))
+    let is_right = tally.print(&rt)?;
+    Ok(ExitCode::from(u8::from(!is_right)))
 }

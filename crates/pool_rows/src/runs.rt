@@ -3,11 +3,11 @@
 ghost use Rattle.std.specs.Prelude.{◌≡◌, ◌≤◌, length};
 ghost use Rattle.elevator_model.specs.Snapshot.{call_count};
 
-use crate::draws::Draws;
 use crate::fills::{fill, prices_of};
-use crate::listing::{is_pooled, least_cost, note_columns, price, selections, ways};
+use crate::listing::{is_pooled, least_cost, note_columns, selections, ways};
 use crate::tally::Tally;
 use call_state::Snapshot;
+use case_kit::{Draws, plan_price};
 use case_maker::make;
 use price_scale::Price;
 use restricted_master::{Choice, Pool};
@@ -31,7 +31,7 @@ struct Known {
 fn note_choice(pool: &Pool<'_>, known: Known, limit: u64, choice: &Choice, tally: &mut Tally) {
     match &choice.plan {
         Some(plan) => {
-            let cost = price(pool.snapshot(), plan);
+            let cost = plan_price(pool.snapshot(), plan);
             tally
                 .plans
                 .note(cost == Some(choice.cost) && is_pooled(pool, plan));
@@ -56,7 +56,7 @@ fn note_choice(pool: &Pool<'_>, known: Known, limit: u64, choice: &Choice, tally
 fn note_below(pool: &Pool<'_>, known: Known, below: u64, choice: &Choice, tally: &mut Tally) {
     let is_right = match &choice.plan {
         Some(plan) => {
-            let cost = price(pool.snapshot(), plan);
+            let cost = plan_price(pool.snapshot(), plan);
             cost == Some(choice.cost) && choice.cost < below && is_pooled(pool, plan)
         }
         None => choice.cost == 0,

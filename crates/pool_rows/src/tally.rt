@@ -1,25 +1,7 @@
 //! How many checks were made, and how many failed.
 
+use case_kit::{Checks, are_right, print_kinds};
 use std::io;
-
-/// The checks of one kind.
-#[derive(Clone, Copy, Default)]
-pub(crate) struct Checks {
-    made: u64,
-    wrong: u64,
-}
-
-impl Checks {
-    /// Counts a check, which failed unless it is right.
-    pub(crate) fn note(&mut self, is_right: bool) {
-        self.made = self.made.wrapping_add(1);
-        self.wrong = self.wrong.wrapping_add(u64::from(!is_right));
-    }
-
-    fn print(&self, rt: &HostRuntime, kind: &str) -> io::Result<()> {
-        println!(rt; "{} {} wrong {}", kind, self.made, self.wrong)
-    }
-}
 
 /// What all comparisons came to.
 #[derive(Clone, Copy, Default)]
@@ -52,9 +34,9 @@ pub(crate) struct Tally {
 }
 
 impl Tally {
-    /// Each kind of checks, with the word that is printed for it.
-    fn kinds(&self) -> [(&'static str, Checks); 10] {
-        [
+    /// Prints the tally, a line for each kind of checks. Says whether no check failed, and there were some of each kind.
+    pub(crate) fn print(&self, rt: &HostRuntime) -> io::Result<bool> {
+        let kinds = [
             ("columns", self.columns),
             ("plans", self.plans),
             ("none", self.none),
@@ -65,25 +47,10 @@ impl Tally {
             ("first", self.first),
             ("large", self.large),
             ("worked", self.worked),
-        ]
-    }
-
-    /// Whether no check failed, and there were some of each kind.
-    pub(crate) fn is_right(&self) -> bool {
-        for (_, checks) in self.kinds() {
-            if checks.made == 0 || checks.wrong != 0 {
-                return false;
-            }
-        }
-        true
-    }
-
-    /// Prints the tally, a line for each kind of checks.
-    pub(crate) fn print(&self, rt: &HostRuntime) -> io::Result<()> {
+        ];
         println!(rt; "pools {}", self.pools)?;
-        for (kind, checks) in self.kinds() {
-            checks.print(rt, kind)?;
-        }
-        println!(rt; "large pools within 20 tries {}", self.quick)
+        print_kinds(rt, &kinds)?;
+        println!(rt; "large pools within 20 tries {}", self.quick)?;
+        Ok(are_right(&kinds))
     }
 }

@@ -8,94 +8,18 @@
 use crate::fills::{offer, tours_of};
 use crate::listing::count_of;
 use crate::tally::Tally;
-use call_sets::FloorSet;
-use call_state::{
-    Building, BuildingParts, Call, CarSpec, CarState, Snapshot, SnapshotParts, StateFault, Travel,
-};
-use elevator_model::{Boards, Stop, Tour};
+use call_state::Snapshot;
+use case_kit::{WORKED_CASE, snapshot_in, tour_in};
+use elevator_model::Tour;
 use price_scale::Price;
 use restricted_master::{Choice, MOST_TOURS, Pool};
 use std::alloc::{AllocError, Global};
 
-fn car(id: u32, capacity: u32) -> CarSpec {
-    let serves = FloorSet::from_bits(0b111);
-    CarSpec {
-        id,
-        capacity,
-        serves,
-        opening: 1000,
-        closing: 1000,
-        boarding: 500,
-        alighting: 500,
-    }
-}
-
-fn call(id: u32, origin: u32, destination: u32) -> Call {
-    Call {
-        id,
-        origin,
-        destination,
-        released: 0,
-        persons: 1,
-        pin: None,
-    }
-}
-
-/// Floors 4000 mm apart, 2000 mm/s and 1000 mm/s²; a ms of waiting or of riding costs 1.
-fn building(alloc: Global) -> Result<Building, StateFault> {
-    let cars = [car(1, 1), car(2, 2)].to_vec(alloc)?;
-    let times = [0, 4000, 6000, 4000, 0, 4000, 6000, 4000, 0];
-    let travel = Travel::build(3, times.to_vec(alloc)?)?;
-    let parts = BuildingParts {
-        version: 1,
-        cars,
-        travel,
-        heights: [0, 4000, 8000].to_vec(alloc)?,
-        speed: 2000,
-        accel: 1000,
-        wait_weight: 1,
-        travel_weight: 1,
-        patience: 0,
-        patience_weight: 0,
-    };
-    Building::build(alloc, parts)
-}
-
-fn snapshot(alloc: Global) -> Result<Option<Snapshot>, StateFault> {
-    let idle = |floor| CarState::Idle { floor, free: 0 };
-    let parts = SnapshotParts {
-        version: 1,
-        building: building(alloc)?,
-        now: 0,
-        cars: [idle(0), idle(1)].to_vec(alloc)?,
-        aboard: Vec::new(alloc),
-        calls: [call(1, 0, 2), call(2, 0, 2), call(3, 2, 0), call(4, 2, 0)].to_vec(alloc)?,
-    };
-    if parts.are_whole() {
-        Ok(Some(Snapshot::build(alloc, parts)?))
-    } else {
-        Ok(None)
-    }
-}
-
-/// A tour of these stops: of each the floor and the calls that board.
-fn tour(alloc: Global, stops: &[(u32, &[u32])]) -> Result<Tour, AllocError> {
-    let mut tour = Tour::new(alloc);
-    for (floor, boards) in stops {
-        let boards = Boards::from_vec(boards.to_vec(alloc)?);
-        tour.push(Stop {
-            floor: *floor,
-            boards,
-        })?;
-    }
-    Ok(tour)
-}
-
-/// Puts a tour of these stops in. Says whether it could.
-fn offer_stops(alloc: Global, pool: &mut Pool<'_>, car: u32, stops: &[(u32, &[u32])]) -> bool {
-    match tour(alloc, stops) {
-        Ok(tour) => offer(pool, car, tour),
-        Err(AllocError) => false,
+/// Puts the tour in this text in. Says whether it could.
+fn offer_text(alloc: Global, pool: &mut Pool<'_>, car: u32, text: &str) -> bool {
+    match tour_in(alloc, text) {
+        Some(tour) => offer(pool, car, tour),
+        None => false,
     }
 }
 
@@ -127,37 +51,34 @@ fn is_first_spent(alloc: Global, pool: &Pool<'_>) -> bool {
 
 /// Puts tours in until there are plans, and compares what is selected.
 fn compare_costs(alloc: Global, pool: &mut Pool<'_>, tally: &mut Tally) {
-    let is_put = offer_stops(alloc, pool, 0, &[(0, &[0]), (2, &[2]), (0, &[])]);
-    tally.worked.note(is_put);
-    let is_put = offer_stops(alloc, pool, 1, &[(2, &[2, 3]), (0, &[1]), (2, &[])]);
-    tally.worked.note(is_put);
-    tally.worked.note(is_selected(alloc, pool, None));
-    let is_put = offer_stops(alloc, pool, 1, &[(0, &[1]), (2, &[3]), (0, &[])]);
-    tally.worked.note(is_put);
-    tally.worked.note(is_selected(alloc, pool, Some(64_000)));
-    let is_put = offer_stops(alloc, pool, 0, &[(0, &[0]), (2, &[])]);
-    tally.worked.note(is_put);
-    tally.worked.note(is_selected(alloc, pool, Some(61_000)));
-    tally.worked.note(is_first_spent(alloc, pool));
+    let checks = &mut tally.worked;
+    checks.note(offer_text(alloc, pool, 0, "0:0 2:2 0"));
+    checks.note(offer_text(alloc, pool, 1, "2:23 0:1 2"));
+    checks.note(is_selected(alloc, pool, None));
+    checks.note(offer_text(alloc, pool, 1, "0:1 2:3 0"));
+    checks.note(is_selected(alloc, pool, Some(64_000)));
+    checks.note(offer_text(alloc, pool, 0, "0:0 2"));
+    checks.note(is_selected(alloc, pool, Some(61_000)));
+    checks.note(is_first_spent(alloc, pool));
 }
 
-/// Whether the place has a tour of the first car that takes this call up.
-fn takes_up(alloc: Global, pool: &Pool<'_>, place: usize, call: u32) -> bool {
-    match tour(alloc, &[(0, &[call]), (2, &[])]) {
-        Ok(due) => pool.tour(0, place) == Some(&due),
-        Err(AllocError) => false,
+/// Whether the place has this tour of the first car.
+fn has_text(alloc: Global, pool: &Pool<'_>, place: usize, text: &str) -> bool {
+    match tour_in(alloc, text) {
+        Some(due) => pool.tour(0, place) == Some(&due),
+        None => false,
     }
 }
 
 /// Puts a tour in twice, with another one between, and compares their order.
 fn compare_order(alloc: Global, pool: &mut Pool<'_>, tally: &mut Tally) {
-    for call in [0, 1, 0] {
-        let is_put = offer_stops(alloc, pool, 0, &[(0, &[call]), (2, &[])]);
-        tally.worked.note(is_put);
+    let checks = &mut tally.worked;
+    for text in ["0:0 2", "0:1 2", "0:0 2"] {
+        checks.note(offer_text(alloc, pool, 0, text));
     }
-    tally.worked.note(count_of(pool, 0) == 2);
-    tally.worked.note(takes_up(alloc, pool, 0, 1));
-    tally.worked.note(takes_up(alloc, pool, 1, 0));
+    checks.note(count_of(pool, 0) == 2);
+    checks.note(has_text(alloc, pool, 0, "0:1 2"));
+    checks.note(has_text(alloc, pool, 1, "0:0 2"));
 }
 
 /// Puts all these tours of the second car in, and counts them.
@@ -204,10 +125,9 @@ fn compare_snapshot(
 
 /// Compares the answers in the case that was worked out by hand.
 pub(crate) fn compare_worked(alloc: Global, tally: &mut Tally) -> Result<(), AllocError> {
-    match snapshot(alloc) {
-        Ok(Some(snapshot)) => compare_snapshot(alloc, &snapshot, tally),
-        Err(StateFault::NoMemory) => Err(AllocError),
-        Ok(None) | Err(StateFault::Bad { fault: _, item: _ }) => {
+    match snapshot_in(alloc, WORKED_CASE.as_bytes()) {
+        Some(snapshot) => compare_snapshot(alloc, &snapshot, tally),
+        None => {
             tally.worked.note(false);
             Ok(())
         }

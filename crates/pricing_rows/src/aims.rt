@@ -1,12 +1,13 @@
 //! What is asked of a pricing, and what the listed tours answer.
 
-ghost use Rattle.std.specs.Prelude.{◌≡◌, ◌<◌, length};
-ghost use Rattle.elevator_model.specs.Snapshot.{car_count, call_count};
+ghost use Rattle.std.specs.Prelude.{◌≡◌, length};
+ghost use Rattle.elevator_model.specs.Snapshot.{call_count};
 
-use crate::tours::{Listed, boards_of, lawful_cost};
+use crate::tours::Listed;
 use assign_branch::Node;
 use call_sets::CallSet;
 use call_state::Snapshot;
+use case_kit::{boards_of, lawful_cost};
 use elevator_model::Tour;
 use partial_tours::Prefix;
 use price_scale::Price;
@@ -48,9 +49,7 @@ impl Aim<'_> {
     }
 
     /// The value of a tour. None where it breaks a rule or is not in the node.
-    pub(crate) fn value_within(&self, tour: &Tour) -> Option<i128>
-        requires { self.now.car < car_count self.now.snapshot.now }
-    {
+    pub(crate) fn value_within(&self, tour: &Tour) -> Option<i128> {
         let boards = boards_of(tour);
         match lawful_cost(self.snapshot, self.car, tour) {
             Some(cost) if self.admits(boards) => Some(self.value(cost, boards)),

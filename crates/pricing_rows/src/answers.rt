@@ -15,9 +15,7 @@ use std::alloc::{AllocError, Global};
 const FAR: u64 = 1_000_000_000;
 
 /// The value of the tour that a pricer gave. None where it gave none, or none that is in the node.
-fn value_of(aim: &Aim, given: &Option<Tour>) -> Option<i128>
-    requires { aim.now.car < car_count aim.now.snapshot.now }
-{
+fn value_of(aim: &Aim, given: &Option<Tour>) -> Option<i128> {
     match given {
         Some(tour) => aim.value_within(tour),
         None => None,
@@ -25,9 +23,7 @@ fn value_of(aim: &Aim, given: &Option<Tour>) -> Option<i128>
 }
 
 /// Compares a pricing with no limit that matters.
-fn note_whole(aim: &Aim, due: i128, priced: Priced, given: &Option<Tour>, tally: &mut Tally)
-    requires { aim.now.car < car_count aim.now.snapshot.now }
-{
+fn note_whole(aim: &Aim, due: i128, priced: Priced, given: &Option<Tour>, tally: &mut Tally) {
     tally.least.note(priced.worth == due && !priced.spent);
     tally.tours.note(value_of(aim, given) == Some(due));
 }
@@ -53,9 +49,7 @@ fn note_limited(kept: Kept, limit: u64, priced: Priced, tally: &mut Tally) {
 }
 
 /// Compares the tour of a pricing with a limit.
-fn note_given(aim: &Aim, due: i128, priced: Priced, given: &Option<Tour>, tally: &mut Tally)
-    requires { aim.now.car < car_count aim.now.snapshot.now }
-{
+fn note_given(aim: &Aim, due: i128, priced: Priced, given: &Option<Tour>, tally: &mut Tally) {
     let value = value_of(aim, given);
     if priced.spent {
         tally.given.note(given.is_none() || value.is_some());

@@ -1,16 +1,23 @@
-//! Buildings that are drawn by chance.
+//! Texts of buildings that are drawn by chance.
 
-use crate::draws::Draws;
-use call_sets::FloorSet;
-use call_state::{Building, BuildingParts, CarSpec, StateFault, Travel};
 use car_motion::least_time;
-use std::alloc::{AllocError, Global};
+use case_kit::Draws;
+use lift_text::{put_line, put_words};
+use std::alloc::AllocError;
 
 /// mm/s.
 const SPEED: u64 = 2300;
 
 /// mm/s².
 const ACCEL: u64 = 1100;
+
+/// The most floors.
+const MOST_FLOORS: usize = 5;
+
+/// The id of the car at this place.
+pub(crate) fn car_id(place: u32) -> u32 {
+    place.wrapping_add(3)
+}
 
 /// The sizes of a building.
 #[derive(Clone, Copy)]
@@ -30,106 +37,95 @@ impl Sizes {
     }
 }
 
-/// The heights of so many floors in mm.
-fn heights_of(alloc: Global, draws: &mut Draws, floors: u32) -> Result<Vec<u64>, AllocError> {
-    let mut heights = Vec::new(alloc);
+/// The heights of as many floors as there may be, in mm.
+fn heights_of(draws: &mut Draws, floors: u32) -> [u64; MOST_FLOORS] {
+    let mut heights = [0; MOST_FLOORS];
     let mut height: u64 = 0;
-    for _ in 0..floors {
-        heights.push(height)?;
-        height = height.wrapping_add(3100 + draws.time(1700));
+    for (place, each) in heights.iter_mut().enumerate() {
+        *each = height;
+        if place < floors as usize {
+            height = height.wrapping_add(3100 + draws.time(1700));
+        }
     }
-    Ok(heights)
+    heights
 }
 
-/// The travel times in ms between floors of these heights, row after row. Each is the least time and up to `delay` ms
-/// more.
-fn times_of(
-    alloc: Global,
-    draws: &mut Draws,
-    heights: &[u64],
-    delay: u32,
-) -> Result<Vec<u64>, AllocError> {
-    let mut times = Vec::new(alloc);
+/// Appends the lines of the stated times, in ms. Each is the least time and up to 700 ms more.
+fn put_times(text: &mut Vec<u8>, draws: &mut Draws, heights: &[u64]) -> Result<(), AllocError> {
     for from in heights {
+        text.extend_from_slice(b"times")?;
         for to in heights {
             let distance = from.abs_diff(*to).min(1_000_000);
             let least = least_time(SPEED, ACCEL, distance);
-            let is_apart = distance > 0 && delay > 0;
-            times.push(if is_apart {
-                least + draws.time(delay)
-            } else {
-                least
-            })?;
+            let delay = if distance > 0 { draws.time(700) } else { 0 };
+            put_words(text, b"", &[least + delay])?;
+        }
+        put_line(text, b"", &[])?;
+    }
+    Ok(())
+}
+
+/// Appends the floors that a car serves: mostly all.
+fn put_served(text: &mut Vec<u8>, draws: &mut Draws, floors: u32) -> Result<(), AllocError> {
+    if !draws.once_in(5) {
+        return text.extend_from_slice(b" all\n");
+    }
+    let lacking = draws.below(5);
+    for floor in 0..floors {
+        if floor != lacking {
+            put_words(text, b"", &[u64::from(floor)])?;
         }
     }
-    Ok(times)
+    put_line(text, b"", &[])
 }
 
-/// The floors that a car serves: mostly all.
-fn served(draws: &mut Draws, floors: u32) -> FloorSet {
-    let all = FloorSet::lowest(floors.min(64));
-    if draws.once_in(5) {
-        all.minus(FloorSet::from_bits(1 << draws.below(5)))
-    } else {
-        all
-    }
-}
-
-fn cars_of(alloc: Global, draws: &mut Draws, sizes: Sizes) -> Result<Vec<CarSpec>, AllocError> {
-    let mut cars = Vec::new(alloc);
+fn put_cars(text: &mut Vec<u8>, draws: &mut Draws, sizes: Sizes) -> Result<(), AllocError> {
     for place in 0..sizes.cars {
-        cars.push(CarSpec {
-            id: place.wrapping_add(3),
-            capacity: 2 + draws.below(5),
-            opening: 800 + draws.time(700),
-            closing: 900 + draws.time(800),
-            boarding: 300 + draws.time(400),
-            alighting: 350 + draws.time(300),
-            serves: served(draws, sizes.floors),
-        })?;
+        let capacity = 2 + draws.time(5);
+        let [opening, closing] = [800 + draws.time(700), 900 + draws.time(800)];
+        let [boarding, alighting] = [300 + draws.time(400), 350 + draws.time(300)];
+        put_words(text, b"car", &[u64::from(car_id(place)), capacity])?;
+        put_words(text, b"", &[opening, closing, boarding, alighting])?;
+        put_served(text, draws, sizes.floors)?;
     }
-    Ok(cars)
+    Ok(())
 }
 
-/// A building of these parts, with weights that are drawn. `Err` is its fault, or want of memory.
-fn build(
-    alloc: Global,
+/// Appends the lines of a building of this version up to its floors, with weights that are drawn.
+fn put_head(
+    text: &mut Vec<u8>,
     draws: &mut Draws,
-    version: u8,
-    heights: Vec<u64>,
-    travel: Travel,
-    cars: Vec<CarSpec>,
-) -> Result<Building, StateFault> {
-    let is_patient = version == 1;
-    let (patience, patience_weight) = (9000 + draws.time(9000), 1 + draws.time(6));
-    Building::build(
-        alloc,
-        BuildingParts {
-            version,
-            heights,
-            speed: SPEED,
-            accel: ACCEL,
-            wait_weight: 1 + draws.time(5),
-            travel_weight: 1 + draws.time(4),
-            patience: if is_patient { 0 } else { patience },
-            patience_weight: if is_patient { 0 } else { patience_weight },
-            cars,
-            travel,
-        },
-    )
+    version: u64,
+    heights: &[u64],
+) -> Result<(), AllocError> {
+    let patience = [9000 + draws.time(9000), 1 + draws.time(6)];
+    let weights = [1 + draws.time(5), 1 + draws.time(4)];
+    put_line(text, b"building", &[version])?;
+    put_line(text, b"speed", &[SPEED])?;
+    put_line(text, b"accel", &[ACCEL])?;
+    put_line(text, b"weights", &weights)?;
+    if version > 1 {
+        put_line(text, b"patience", &patience)?;
+    }
+    put_line(text, b"floors", heights)
 }
 
-/// The next building of these sizes, of version 1, 2 or 3. `Err` is its fault, or want of memory.
-pub(crate) fn building_of(
-    alloc: Global,
+/// Appends the next building of these sizes, of version 1, 2 or 3. What is drawn of its cars and times is drawn before its
+/// weights.
+pub(crate) fn put_building(
+    text: &mut Vec<u8>,
+    rest: &mut Vec<u8>,
     draws: &mut Draws,
     sizes: Sizes,
-) -> Result<Building, StateFault> {
-    let version = 1 + draws.below(3) as u8;
-    let delay = if version == 3 { 700 } else { 0 };
-    let heights = heights_of(alloc, draws, sizes.floors)?;
-    let times = times_of(alloc, draws, &heights, delay)?;
-    let travel = Travel::build(sizes.floors, times)?;
-    let cars = cars_of(alloc, draws, sizes)?;
-    build(alloc, draws, version, heights, travel, cars)
+) -> Result<(), AllocError> {
+    let version = 1 + draws.time(3);
+    let heights = heights_of(draws, sizes.floors);
+    let heights = heights.get(..sizes.floors as usize).unwrap_or(&heights);
+    if version == 3 {
+        put_times(rest, draws, heights)?;
+    }
+    put_cars(rest, draws, sizes)?;
+    put_head(text, draws, version, heights)?;
+    text.extend_from_slice(rest)?;
+    text.extend_from_slice(b"end\n")
 }

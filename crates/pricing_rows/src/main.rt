@@ -5,7 +5,6 @@
 mod aims;
 mod answers;
 mod buildings;
-mod draws;
 mod kept;
 mod prices;
 mod runs;
@@ -29,6 +28,6 @@ fn main(rt: HostRuntime) -> io::Result<ExitCode> {
         compare_case(rt.alloc(), case, &mut tally)?;
     }
     compare_worked(rt.alloc(), &mut tally)?;
-    tally.print(&rt)?;
-    Ok(ExitCode::from(u8::from(!tally.is_right())))
+    let is_right = tally.print(&rt)?;
+    Ok(ExitCode::from(u8::from(!is_right)))
 }

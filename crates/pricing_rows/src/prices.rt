@@ -1,6 +1,6 @@
 //! Lists of prices.
 
-use crate::draws::Draws;
+use case_kit::Draws;
 use price_scale::Price;
 use std::alloc::{AllocError, Global};
 

@@ -6,13 +6,13 @@ ghost use Rattle.search_model.specs.Nodes.{IsNodeOf};
 
 use crate::aims::Aim;
 use crate::answers::compare;
-use crate::draws::Draws;
 use crate::prices::Pricing;
 use crate::snapshots::drawn;
 use crate::tally::Tally;
 use crate::tours::{Listed, mean_cost, tours_of};
 use assign_branch::{CarSet, Node, Pricer, root, split};
 use call_state::Snapshot;
+use case_kit::Draws;
 use pricing_search::Searcher;
 use std::alloc::{AllocError, Global};
 
@@ -166,7 +166,7 @@ fn compare_snapshot(
 /// Draws a snapshot and compares what is asked of it. One that is refused is counted.
 pub(crate) fn compare_case(alloc: Global, case: u64, tally: &mut Tally) -> Result<(), AllocError> {
     let mut draws = Draws::of_case(case);
-    match drawn(alloc, &mut draws)? {
+    match drawn(alloc, &mut draws) {
         Some(snapshot) => {
             tally.snapshots = tally.snapshots.wrapping_add(1);
             compare_snapshot(alloc, &snapshot, &mut draws, tally)

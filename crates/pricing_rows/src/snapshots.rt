@@ -1,8 +1,9 @@
 //! Snapshots that are drawn by chance.
 
-use crate::buildings::{Sizes, building_of};
-use crate::draws::Draws;
-use call_state::{Aboard, Call, CarState, Snapshot, SnapshotParts, StateFault};
+use crate::buildings::{Sizes, car_id, put_building};
+use call_state::{Aboard, Call, CarState, Snapshot};
+use case_kit::{Draws, put_call, put_group, put_state, snapshot_in};
+use lift_text::put_line;
 use std::alloc::{AllocError, Global};
 
 /// The moment of every snapshot, in ms.
@@ -35,35 +36,34 @@ fn state(draws: &mut Draws, floors: u32) -> CarState {
     }
 }
 
-fn states_of(alloc: Global, draws: &mut Draws, sizes: Sizes) -> Result<Vec<CarState>, AllocError> {
-    let mut states = Vec::new(alloc);
-    for _ in 0..sizes.cars {
-        states.push(state(draws, sizes.floors))?;
+fn put_states(text: &mut Vec<u8>, draws: &mut Draws, sizes: Sizes) -> Result<(), AllocError> {
+    for place in 0..sizes.cars {
+        put_state(text, car_id(place), state(draws, sizes.floors))?;
     }
-    Ok(states)
+    Ok(())
 }
 
-/// The groups aboard: one in every third car.
-fn groups_of(alloc: Global, draws: &mut Draws, sizes: Sizes) -> Result<Vec<Aboard>, AllocError> {
-    let mut groups = Vec::new(alloc);
-    for car in 0..sizes.cars {
+/// Appends the groups aboard: one in every third car.
+fn put_groups(text: &mut Vec<u8>, draws: &mut Draws, sizes: Sizes) -> Result<(), AllocError> {
+    for place in 0..sizes.cars {
         if draws.once_in(3) {
-            groups.push(Aboard {
-                id: 40u32.wrapping_add(car),
-                car,
+            let group = Aboard {
+                id: place.wrapping_add(40),
+                car: car_id(place),
                 destination: draws.below(sizes.floors.max(1)),
                 persons: 1 + draws.below(3),
                 boarded: NOW - draws.time(12_000),
-            })?;
+            };
+            put_group(text, &group)?;
         }
     }
-    Ok(groups)
+    Ok(())
 }
 
-/// One call in six is pinned to a car.
+/// The id of a car in one call of six, which is pinned to it.
 fn pin(draws: &mut Draws, cars: u32) -> Option<u32> {
     if draws.once_in(6) {
-        Some(draws.below(cars.max(1)))
+        Some(car_id(draws.below(cars.max(1))))
     } else {
         None
     }
@@ -94,46 +94,35 @@ fn joined(draws: &mut Draws, call: Call, before: Option<Call>) -> Call {
     }
 }
 
-/// One to four calls. Their ids do not rise.
-fn calls_of(alloc: Global, draws: &mut Draws, sizes: Sizes) -> Result<Vec<Call>, AllocError> {
-    let mut calls = Vec::new(alloc);
+/// Appends one to four calls. Their ids do not rise.
+fn put_calls(text: &mut Vec<u8>, draws: &mut Draws, sizes: Sizes) -> Result<(), AllocError> {
     let mut before = None;
     for place in 0..1 + draws.below(4) {
         let drawn = call(draws, sizes, 90 - 7 * place);
         let next = joined(draws, drawn, before);
-        calls.push(next)?;
+        put_call(text, &next)?;
         before = Some(next);
     }
-    Ok(calls)
+    Ok(())
 }
 
-/// The snapshot of these parts. None where they do not fit together.
-fn built(alloc: Global, parts: SnapshotParts) -> Result<Option<Snapshot>, StateFault> {
-    if !parts.are_whole() {
-        return Ok(None);
-    }
-    Ok(Some(Snapshot::build(alloc, parts)?))
-}
-
-/// The next snapshot, if it is accepted. `Err` is its fault, or want of memory.
-fn snapshot_of(alloc: Global, draws: &mut Draws) -> Result<Option<Snapshot>, StateFault> {
+/// Appends the next snapshot with its building.
+fn put_case(text: &mut Vec<u8>, rest: &mut Vec<u8>, draws: &mut Draws) -> Result<(), AllocError> {
     let sizes = Sizes::drawn(draws);
-    let parts = SnapshotParts {
-        version: 2,
-        building: building_of(alloc, draws, sizes)?,
-        now: NOW,
-        cars: states_of(alloc, draws, sizes)?,
-        aboard: groups_of(alloc, draws, sizes)?,
-        calls: calls_of(alloc, draws, sizes)?,
-    };
-    built(alloc, parts)
+    put_building(text, rest, draws, sizes)?;
+    put_line(text, b"snapshot", &[2])?;
+    put_line(text, b"now", &[NOW])?;
+    put_states(text, draws, sizes)?;
+    put_groups(text, draws, sizes)?;
+    put_calls(text, draws, sizes)?;
+    text.extend_from_slice(b"end\n")
 }
 
-/// The next snapshot. None where what was drawn breaks a rule.
-pub(crate) fn drawn(alloc: Global, draws: &mut Draws) -> Result<Option<Snapshot>, AllocError> {
-    match snapshot_of(alloc, draws) {
-        Ok(snapshot) => Ok(snapshot),
-        Err(StateFault::NoMemory) => Err(AllocError),
-        Err(StateFault::Bad { fault: _, item: _ }) => Ok(None),
+/// The next snapshot. None where what was drawn breaks a rule, or memory is wanting.
+pub(crate) fn drawn(alloc: Global, draws: &mut Draws) -> Option<Snapshot> {
+    let (mut text, mut rest) = (Vec::new(alloc), Vec::new(alloc));
+    match put_case(&mut text, &mut rest, draws) {
+        Ok(()) => snapshot_in(alloc, &text),
+        Err(_) => None,
     }
 }

@@ -1,27 +1,7 @@
 //! How many checks were made, and how many failed.
 
+use case_kit::{Checks, are_right, print_kinds};
 use std::io;
-
-/// The checks of one kind.
-#[derive(Clone, Copy, Default)]
-pub(crate) struct Checks {
-    made: u64,
-    wrong: u64,
-}
-
-impl Checks {
-    /// Counts a check, which failed unless it is right.
-    pub(crate) fn note(&mut self, is_right: bool) {
-        self.made = self.made.wrapping_add(1);
-        if !is_right {
-            self.wrong = self.wrong.wrapping_add(1);
-        }
-    }
-
-    fn print(&self, rt: &HostRuntime, kind: &str) -> io::Result<()> {
-        println!(rt; "{} {} wrong {}", kind, self.made, self.wrong)
-    }
-}
 
 /// What all comparisons came to.
 #[derive(Clone, Copy, Default)]
@@ -57,9 +37,9 @@ pub(crate) struct Tally {
 }
 
 impl Tally {
-    /// Each kind of checks, with the word that is printed for it.
-    fn kinds(&self) -> [(&'static str, Checks); 10] {
-        [
+    /// Prints the tally, a line for each kind of checks. Says whether no check failed, and there were some of each kind.
+    pub(crate) fn print(&self, rt: &HostRuntime) -> io::Result<bool> {
+        let kinds = [
             ("listed", self.listed),
             ("least", self.least),
             ("tours", self.tours),
@@ -70,25 +50,10 @@ impl Tally {
             ("given", self.given),
             ("first", self.first),
             ("worked", self.worked),
-        ]
-    }
-
-    /// Whether no check failed, and there were some of each kind.
-    pub(crate) fn is_right(&self) -> bool {
-        for (_, checks) in self.kinds() {
-            if checks.made == 0 || checks.wrong != 0 {
-                return false;
-            }
-        }
-        true
-    }
-
-    /// Prints the tally, a line for each kind of checks.
-    pub(crate) fn print(&self, rt: &HostRuntime) -> io::Result<()> {
+        ];
         println!(rt; "snapshots {} refused {}", self.snapshots, self.refused)?;
-        for (kind, checks) in self.kinds() {
-            checks.print(rt, kind)?;
-        }
-        println!(rt; "visited {} kept {}", self.all_visits, self.all_kept)
+        print_kinds(rt, &kinds)?;
+        println!(rt; "visited {} kept {}", self.all_visits, self.all_kept)?;
+        Ok(are_right(&kinds))
     }
 }

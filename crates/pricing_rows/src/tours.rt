@@ -3,14 +3,12 @@
 ghost use Rattle.std.specs.Prelude.{◌<◌};
 ghost use Rattle.elevator_model.specs.Snapshot.{car_count};
 
-use crate::tally::Checks;
 use call_sets::CallSet;
 use call_state::Snapshot;
+use case_kit::{Checks, boards_of, lawful_cost};
 use elevator_model::{Move, Stop, Tour};
 use plain_solver::feasible_tours;
 use std::alloc::{AllocError, Global};
-use tour_cost::cost;
-use tour_rules::judge;
 
 /// A feasible tour of a car.
 #[derive(Drop)]
@@ -21,15 +19,6 @@ pub(crate) struct Listed {
     pub(crate) boards: CallSet,
     /// In cost units.
     pub(crate) cost: u64,
-}
-
-/// The calls that board in a tour.
-pub(crate) fn boards_of(tour: &Tour) -> CallSet {
-    let mut boards = CallSet::empty();
-    for stop in tour.stops() {
-        boards = boards.union(CallSet::of_list(stop.boards.as_slice()));
-    }
-    boards
 }
 
 fn add_moves(moves: &mut Vec<Move>, stop: &Stop) -> Result<(), AllocError> {
@@ -47,16 +36,6 @@ fn moves_of(alloc: Global, tour: &Tour) -> Result<Vec<Move>, AllocError> {
     }
     moves.push(Move::End)?;
     Ok(moves)
-}
-
-/// What a tour costs. None where it breaks a rule.
-pub(crate) fn lawful_cost(snapshot: &Snapshot, car: u32, tour: &Tour) -> Option<u64>
-    requires { car < car_count snapshot.now }
-{
-    match judge(snapshot, car, tour) {
-        Ok(()) => Some(cost(snapshot, car, tour)),
-        Err(_) => None,
-    }
 }
 
 /// All feasible tours of a car.

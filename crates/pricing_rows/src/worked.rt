@@ -6,79 +6,13 @@ ghost use Rattle.elevator_model.specs.Snapshot.{car_count, call_count};
 ghost use Rattle.search_model.specs.Nodes.{IsNodeOf};
 
 use crate::tally::Tally;
-use crate::tours::boards_of;
 use assign_branch::{Node, Pricer, root};
-use call_sets::FloorSet;
-use call_state::{
-    Building, BuildingParts, Call, CarSpec, CarState, Snapshot, SnapshotParts, StateFault, Travel,
-};
+use call_state::Snapshot;
+use case_kit::{WORKED_CASE, boards_of, snapshot_in};
 use elevator_model::Tour;
 use price_scale::Price;
 use pricing_search::Searcher;
 use std::alloc::{AllocError, Global};
-
-fn car(id: u32, capacity: u32) -> CarSpec {
-    CarSpec {
-        id,
-        capacity,
-        opening: 1000,
-        closing: 1000,
-        boarding: 500,
-        alighting: 500,
-        serves: FloorSet::from_bits(0b111),
-    }
-}
-
-fn call(id: u32, origin: u32, destination: u32) -> Call {
-    Call {
-        id,
-        origin,
-        destination,
-        persons: 1,
-        released: 0,
-        pin: None,
-    }
-}
-
-fn standing(floor: u32) -> CarState {
-    CarState::Idle { floor, free: 0 }
-}
-
-/// Floors 4000 mm apart, 2000 mm/s and 1000 mm/s²; a ms of waiting or of riding costs 1.
-fn building(alloc: Global) -> Result<Building, StateFault> {
-    let times = [0, 4000, 6000, 4000, 0, 4000, 6000, 4000, 0];
-    Building::build(
-        alloc,
-        BuildingParts {
-            version: 1,
-            heights: [0, 4000, 8000].to_vec(alloc)?,
-            speed: 2000,
-            accel: 1000,
-            wait_weight: 1,
-            travel_weight: 1,
-            patience: 0,
-            patience_weight: 0,
-            cars: [car(1, 1), car(2, 2)].to_vec(alloc)?,
-            travel: Travel::build(3, times.to_vec(alloc)?)?,
-        },
-    )
-}
-
-fn snapshot(alloc: Global) -> Result<Option<Snapshot>, StateFault> {
-    let calls = [call(1, 0, 2), call(2, 0, 2), call(3, 2, 0), call(4, 2, 0)];
-    let parts = SnapshotParts {
-        version: 1,
-        building: building(alloc)?,
-        now: 0,
-        cars: [standing(0), standing(1)].to_vec(alloc)?,
-        aboard: Vec::new(alloc),
-        calls: calls.to_vec(alloc)?,
-    };
-    if !parts.are_whole() {
-        return Ok(None);
-    }
-    Ok(Some(Snapshot::build(alloc, parts)?))
-}
 
 /// The answer that is due where all calls have this price, in thousandths of a cost unit.
 #[derive(Clone, Copy)]
@@ -211,10 +145,9 @@ fn compare_snapshot(
 
 /// Compares the answers in the case that was worked out by hand.
 pub(crate) fn compare_worked(alloc: Global, tally: &mut Tally) -> Result<(), AllocError> {
-    match snapshot(alloc) {
-        Ok(Some(snapshot)) => compare_snapshot(alloc, &snapshot, tally),
-        Err(StateFault::NoMemory) => Err(AllocError),
-        Ok(None) | Err(StateFault::Bad { fault: _, item: _ }) => {
+    match snapshot_in(alloc, WORKED_CASE.as_bytes()) {
+        Some(snapshot) => compare_snapshot(alloc, &snapshot, tally),
+        None => {
             tally.worked.note(false);
             Ok(())
         }

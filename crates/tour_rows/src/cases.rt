@@ -2,9 +2,9 @@
 
 ghost use Rattle.std.specs.Prelude.{◌≤◌};
 
-use crate::reading::snapshot_in;
 use crate::walks::{Seen, listed, walk};
 use call_state::Snapshot;
+use case_kit::snapshot_in;
 use lift_text::put_line;
 use std::alloc::{AllocError, Global};
 use std::test::Fail;

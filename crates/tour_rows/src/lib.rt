@@ -8,6 +8,4 @@
 #[cfg(test)]
 mod cases;
 #[cfg(test)]
-mod reading;
-#[cfg(test)]
 mod walks;

@@ -1,19 +1,17 @@
 //! Walks over all partial tours of a car, depth first.
 
-ghost use Rattle.std.specs.Prelude.{◌≡◌, ◌<◌, Some};
-ghost use Rattle.elevator_model.specs.Snapshot.{car_count};
+ghost use Rattle.std.specs.Prelude.{◌≡◌, Some};
 ghost use Rattle.elevator_model.specs.Partial.{Course};
 ghost use Rattle.partial_tours.specs.PartialTour.{course};
 ghost use Rattle.partial_tours.specs.Listed.{ends_tour};
 
 use call_sets::CallSet;
 use call_state::Snapshot;
+use case_kit::lawful_cost;
 use elevator_model::{Move, Tour};
 use partial_tours::{Moves, Prefix, next_moves};
 use plain_solver::feasible_tours;
 use std::alloc::Global;
-use tour_cost::cost;
-use tour_rules::judge;
 
 /// A walk that comes to so many partial tours stops, and has seen nothing.
 const TOO_MANY: u32 = 20_000;
@@ -47,16 +45,6 @@ fn lists_next_moves(prefix: &Prefix, moves: &mut Moves) -> bool {
     next.is_none()
 }
 
-/// What a tour costs. None where it breaks a rule.
-fn lawful_cost(snapshot: &Snapshot, car: u32, tour: &Tour) -> Option<u64>
-    requires { car < car_count snapshot.now }
-{
-    match judge(snapshot, car, tour) {
-        Ok(()) => Some(cost(snapshot, car, tour)),
-        Err(_) => None,
-    }
-}
-
 /// Whether the move ends a tour.
 fn is_end(next: Move) -> bool
     ensures { result ≡ ends_tour next }
@@ -76,9 +64,7 @@ fn has_ended(prefix: &Prefix) -> bool
 
 /// What the tour of an ended partial tour costs. None where it has not ended, where its tour breaks a rule, or
 /// where it has settled something else.
-fn settled_cost(alloc: Global, snapshot: &Snapshot, car: u32, prefix: &Prefix) -> Option<u64>
-    requires { car < car_count snapshot.now }
-{
+fn settled_cost(alloc: Global, snapshot: &Snapshot, car: u32, prefix: &Prefix) -> Option<u64> {
     if !has_ended(prefix) {
         return None;
     }
@@ -89,9 +75,7 @@ fn settled_cost(alloc: Global, snapshot: &Snapshot, car: u32, prefix: &Prefix) -
 }
 
 /// Walks all partial tours that begin with none. None where one of them is not as it has to be.
-fn walk_from(alloc: Global, snapshot: &Snapshot, car: u32, prefix: &mut Prefix) -> Option<Seen>
-    requires { car < car_count snapshot.now }
-{
+fn walk_from(alloc: Global, snapshot: &Snapshot, car: u32, prefix: &mut Prefix) -> Option<Seen> {
     let mut moves = Moves::new(alloc).ok()?;
     let mut seen = Seen {
         tours: 1,
@@ -135,9 +119,7 @@ pub(crate) fn walk(alloc: Global, snapshot: &Snapshot, car: u32) -> Option<Seen>
 }
 
 /// How many tours these are, and what they cost together, modulo 2^64. None where one of them breaks a rule.
-fn sum_of(snapshot: &Snapshot, car: u32, tours: &[Tour]) -> Option<(usize, u64)>
-    requires { car < car_count snapshot.now }
-{
+fn sum_of(snapshot: &Snapshot, car: u32, tours: &[Tour]) -> Option<(usize, u64)> {
     let mut sum: u64 = 0;
     for tour in tours {
         sum = sum.wrapping_add(lawful_cost(snapshot, car, tour)?);

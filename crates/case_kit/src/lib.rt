@@ -1,0 +1,20 @@
+//! What tests and measurements of several crates make: draws, the texts of snapshots and the snapshots in them, tours
+//! and plans in short texts, what these cost, and counts of checks.
+//!
+//! What answers an `Option` or a `bool` says `None` or no where memory is wanting, so that a test fails then. With few
+//! early returns, and few values to drop at them, what calls it is proved fast.
+#![tactic(auto)]
+
+mod checks;
+mod costs;
+mod draws;
+mod lines;
+mod reading;
+mod written;
+
+pub use checks::{Checks, are_right, print_kinds};
+pub use costs::{boards_of, is_feasible, lawful_cost, plan_price};
+pub use draws::Draws;
+pub use lines::{put_call, put_group, put_lines, put_state};
+pub use reading::{WORKED_CASE, snapshot_in};
+pub use written::{plan_in, tour_in};

@@ -1,0 +1,15 @@
+use Rattle.std.proofs.Common.{◌≡◌, ◌≤◌, ◌+◌, ◌*◌, ◌-◌, ◌++◌, ◌∷◌, [], length}
+use Rattle.std.specs.Option.{IfSome}
+use Rattle.elevator_model.specs.Partial.{IsLawful}
+use Rattle.lift_bench.proofs.walks.walk_on.Given as goal
+
+abbrev pub invariant-loop-seen : goal.invariant-loop-seen
+invariant-loop-seen l = record {
+  ended : l.seen.ended ≤ l.seen.tours;
+  grows : l.initial.seen.tours ≤ l.seen.tours;
+  snapshot : l.prefix.snapshot ≡ l.initial.prefix.snapshot;
+  lawful : IfSome l.next (λ m. IsLawful l.prefix.snapshot l.prefix.car (l.prefix.moves ++ m ∷ []));
+}
+
+abbrev pub decreases-loop-seen : goal.decreases-loop-seen
+decreases-loop-seen l = 451 * (l.tours - l.seen.tours) + length l.prefix.moves

@@ -1,0 +1,115 @@
+//! What first plans cost, and how much more than the cheapest ones.
+
+use crate::kinds::{KINDS, Kind, accepted_snapshot};
+use call_state::Snapshot;
+use case_kit::Draws;
+use case_maker::make;
+use first_plan::first;
+use plain_solver::cheapest_plan;
+use std::alloc::{AllocError, Global};
+use std::io;
+use tour_cost::plan_cost;
+
+/// What the draws of the first kind begin with; each later kind begins one higher.
+const SEED: u64 = 20_261_127;
+
+/// The generated cases of these sizes with the numbers from 1 to `count`.
+#[derive(Clone, Copy)]
+pub(crate) struct Cases {
+    pub(crate) floors: u32,
+    pub(crate) cars: u32,
+    pub(crate) calls: u32,
+    pub(crate) count: u32,
+}
+
+/// What the first plan of a snapshot costs, in cost units.
+fn first_cost(alloc: Global, snapshot: &Snapshot) -> Result<u64, AllocError> {
+    let plan = first(alloc, snapshot)?;
+    Ok(plan_cost(snapshot, &plan))
+}
+
+/// Prints a line for each case: floors, cars, calls, number, and what its first plan costs. False where there are no
+/// cases of these sizes.
+pub(crate) fn print_costs(rt: &HostRuntime, cases: Cases) -> io::Result<bool> {
+    let Cases {
+        floors,
+        cars,
+        calls,
+        count,
+    } = cases;
+    if floors < 2 || floors > 64 || cars < 1 || cars > 8 || calls > 64 {
+        return Ok(false);
+    }
+    for number in 1..=count {
+        let snapshot = make(rt.alloc(), u64::from(number), floors, cars, calls)?;
+        let cost = first_cost(rt.alloc(), &snapshot)?;
+        println!(rt; "{floors} {cars} {calls} {number} {cost}")?;
+    }
+    Ok(true)
+}
+
+/// The comparisons of one kind's snapshots.
+#[derive(Clone, Copy, Default)]
+struct Score {
+    /// How many snapshots were compared.
+    made: u64,
+    /// How many were skipped, since none of the draws was accepted.
+    skipped: u64,
+    /// For how many the first plan is as cheap as the cheapest.
+    equal: u64,
+    /// The greatest excess, in thousandths of the cheapest plan's cost, and 0 where that is 0.
+    worst: u64,
+    /// The sum of the excesses, in thousandths.
+    total: u64,
+}
+
+impl Score {
+    /// Counts a snapshot whose plans have these costs.
+    fn add(&mut self, first: u64, cheapest: u64) {
+        let excess = first.saturating_sub(cheapest).saturating_mul(1000);
+        let excess = excess.checked_div(cheapest).unwrap_or(0);
+        self.made = self.made.saturating_add(1);
+        self.equal = self.equal.saturating_add(u64::from(first == cheapest));
+        self.worst = self.worst.max(excess);
+        self.total = self.total.saturating_add(excess);
+    }
+}
+
+/// Counts a snapshot in the score.
+fn compare(alloc: Global, snapshot: &Snapshot, score: &mut Score) -> Result<(), AllocError> {
+    let cheapest = cheapest_plan(alloc, snapshot)?;
+    score.add(first_cost(alloc, snapshot)?, cheapest.cost);
+    Ok(())
+}
+
+/// Compares the plans of so many snapshots of this kind; each is compared or skipped.
+fn score_of(alloc: Global, kind: &Kind, seed: u64, count: u32) -> Result<Score, AllocError> {
+    let mut draws = Draws::from_state(seed);
+    let mut score = Score::default();
+    for _ in 0..count {
+        match accepted_snapshot(alloc, kind, &mut draws) {
+            Some(snapshot) => compare(alloc, &snapshot, &mut score)?,
+            None => score.skipped = score.skipped.saturating_add(1),
+        }
+    }
+    Ok(score)
+}
+
+/// Compares the plans of so many snapshots of each kind, and prints a line for each.
+pub(crate) fn print_kinds(rt: &HostRuntime, count: u32) -> io::Result<bool> {
+    for (place, kind) in KINDS.iter().enumerate() {
+        let score = score_of(rt.alloc(), kind, SEED.wrapping_add(place as u64), count)?;
+        println!(rt;
+            "{} made {} equal {} excess_permille_worst {} excess_permille_mean {}",
+            kind.name,
+            score.made,
+            score.equal,
+            score.worst,
+            score.total / score.made.max(1)
+        )?;
+        if score.skipped != 0 {
+            eprintln!(rt; "{} skipped {}", kind.name, score.skipped)?;
+        }
+    }
+    Ok(true)
+}

@@ -1,0 +1,253 @@
+//! Small snapshots of eight kinds, drawn by chance: four floors 4000 mm apart, 2000 mm/s and 1000 mm/s², weights 1 and
+//! 1, cars that need 1000 ms for their doors each way and 500 ms a person, and three calls.
+
+use call_state::{Aboard, Call, CarState, Snapshot};
+use case_kit::{Draws, put_call, put_group, put_state, snapshot_in};
+use std::alloc::{AllocError, Global};
+
+/// What the snapshots of a kind have in common.
+#[derive(Clone, Copy)]
+pub(crate) struct Kind {
+    /// The first word of the kind's line.
+    pub(crate) name: &'static str,
+    /// The text up to the lines of the cars.
+    head: &'static str,
+    /// The state of the second car, if there is one.
+    second: Second,
+    /// Whether one or two groups are aboard the first car.
+    has_groups: bool,
+    /// Whether the first call is pinned to one of the two cars.
+    has_pin: bool,
+    /// The most persons of a call.
+    most_persons: u32,
+}
+
+#[derive(Clone, Copy, PartialEq, Eq)]
+enum Second {
+    Missing,
+    Idle,
+    Coming,
+    Moving,
+}
+
+const ONE_CAR: &str = "building 1
+speed 2000
+accel 1000
+weights 1 1
+floors 0 4000 8000 12000
+car 1 8 1000 1000 500 500 all
+end
+snapshot 1
+now 10000
+";
+
+const TWO_CARS: &str = "building 1
+speed 2000
+accel 1000
+weights 1 1
+floors 0 4000 8000 12000
+car 1 8 1000 1000 500 500 all
+car 2 8 1000 1000 500 500 all
+end
+snapshot 1
+now 10000
+";
+
+const TIGHT_CARS: &str = "building 1
+speed 2000
+accel 1000
+weights 1 1
+floors 0 4000 8000 12000
+car 1 2 1000 1000 500 500 all
+car 2 2 1000 1000 500 500 all
+end
+snapshot 1
+now 10000
+";
+
+const MOVING_CAR: &str = "building 2
+speed 2000
+accel 1000
+weights 1 1
+patience 0 0
+floors 0 4000 8000 12000
+car 1 8 1000 1000 500 500 all
+car 2 8 1000 1000 500 500 all
+end
+snapshot 2
+now 10000
+";
+
+const PATIENCE: &str = "building 2
+speed 2000
+accel 1000
+weights 1 1
+patience 5000 3
+floors 0 4000 8000 12000
+car 1 8 1000 1000 500 500 all
+car 2 8 1000 1000 500 500 all
+end
+snapshot 1
+now 10000
+";
+
+const IDLE_PAIR: Kind = Kind {
+    name: "two_cars",
+    head: TWO_CARS,
+    second: Second::Idle,
+    has_groups: false,
+    has_pin: false,
+    most_persons: 3,
+};
+
+/// All kinds, in the order of the lines that are printed.
+pub(crate) const KINDS: [Kind; 8] = [
+    Kind {
+        name: "one_car",
+        head: ONE_CAR,
+        second: Second::Missing,
+        ..IDLE_PAIR
+    },
+    IDLE_PAIR,
+    Kind {
+        name: "coming",
+        second: Second::Coming,
+        ..IDLE_PAIR
+    },
+    Kind {
+        name: "aboard",
+        has_groups: true,
+        ..IDLE_PAIR
+    },
+    Kind {
+        name: "moving",
+        head: MOVING_CAR,
+        second: Second::Moving,
+        ..IDLE_PAIR
+    },
+    Kind {
+        name: "pinned",
+        has_pin: true,
+        ..IDLE_PAIR
+    },
+    Kind {
+        name: "patience",
+        head: PATIENCE,
+        ..IDLE_PAIR
+    },
+    Kind {
+        name: "tight",
+        head: TIGHT_CARS,
+        most_persons: 2,
+        ..IDLE_PAIR
+    },
+];
+
+const FLOORS: u32 = 4;
+
+/// The moment of every snapshot, in ms.
+const NOW: u64 = 10_000;
+
+/// How often a snapshot is drawn until one is accepted.
+const MOST_DRAWS: u32 = 20;
+
+/// A floor other than this one.
+fn other_floor(draws: &mut Draws, floor: u32) -> u32 {
+    (floor % FLOORS + 1 + draws.below(FLOORS - 1)) % FLOORS
+}
+
+fn idle_at(draws: &mut Draws, floor: u32) -> CarState {
+    CarState::Idle {
+        floor,
+        free: NOW + draws.time(3_000),
+    }
+}
+
+fn put_second(text: &mut Vec<u8>, second: Second, draws: &mut Draws) -> Result<(), AllocError> {
+    if second == Second::Missing {
+        return Ok(());
+    }
+    let floor = draws.below(FLOORS);
+    let state = match second {
+        Second::Coming => CarState::Coming {
+            floor,
+            arrives: NOW + draws.time(5_000),
+        },
+        Second::Moving => CarState::Moving {
+            from: floor,
+            up: draws.below(2) == 1,
+            left: NOW - draws.time(5_000),
+        },
+        Second::Missing | Second::Idle => idle_at(draws, floor),
+    };
+    put_state(text, 2, state)
+}
+
+/// One or two groups aboard the first car, which stands at this floor. They may want to go to two sides of it: then the
+/// snapshot is refused.
+fn put_groups(text: &mut Vec<u8>, draws: &mut Draws, floor: u32) -> Result<(), AllocError> {
+    for group in 0..1 + draws.below(2) {
+        let group = Aboard {
+            id: 11 + group,
+            car: 1,
+            destination: other_floor(draws, floor),
+            persons: 1 + draws.below(3),
+            boarded: NOW - draws.time(10_001),
+        };
+        put_group(text, &group)?;
+    }
+    Ok(())
+}
+
+fn put_calls(text: &mut Vec<u8>, kind: &Kind, draws: &mut Draws) -> Result<(), AllocError> {
+    for id in 1..=3 {
+        let pin = if kind.has_pin && id == 1 {
+            Some(1 + draws.below(2))
+        } else {
+            None
+        };
+        let origin = draws.below(FLOORS);
+        let call = Call {
+            id,
+            origin,
+            destination: other_floor(draws, origin),
+            persons: 1 + draws.below(kind.most_persons.max(1)),
+            released: NOW - draws.time(10_001),
+            pin,
+        };
+        put_call(text, &call)?;
+    }
+    Ok(())
+}
+
+fn put_case(text: &mut Vec<u8>, kind: &Kind, draws: &mut Draws) -> Result<(), AllocError> {
+    text.extend_from_slice(kind.head.as_bytes())?;
+    let floor = draws.below(FLOORS);
+    put_state(text, 1, idle_at(draws, floor))?;
+    put_second(text, kind.second, draws)?;
+    if kind.has_groups {
+        put_groups(text, draws, floor)?;
+    }
+    put_calls(text, kind, draws)?;
+    text.extend_from_slice(b"end\n")
+}
+
+/// A snapshot of this kind. None where what was drawn is refused, or memory is wanting.
+fn drawn_snapshot(alloc: Global, kind: &Kind, draws: &mut Draws) -> Option<Snapshot> {
+    let mut text = Vec::new(alloc);
+    match put_case(&mut text, kind, draws) {
+        Ok(()) => snapshot_in(alloc, &text),
+        Err(_) => None,
+    }
+}
+
+/// The first accepted snapshot of this kind that is drawn, and None where 20 in a row are none.
+pub(crate) fn accepted_snapshot(alloc: Global, kind: &Kind, draws: &mut Draws) -> Option<Snapshot> {
+    for _ in 0..MOST_DRAWS {
+        let drawn = drawn_snapshot(alloc, kind, draws);
+        if drawn.is_some() {
+            return drawn;
+        }
+    }
+    None
+}

@@ -1,0 +1,88 @@
+//! `lift_bench` takes a measurement, which the first word names:
+//!
+//!     first_plan N                        first plans of N drawn small snapshots of each kind beside the cheapest ones
+//!     first_plan FLOORS CARS CALLS N      what the first plans of N generated cases cost
+//!     pricing FACTOR LIMIT ROUNDS         prices the cars of the snapshot that it reads
+//!     walk TOURS                          walks so many partial tours of that snapshot's first car
+//!     read ROUNDS CASES                   reads and writes the building, snapshot and answer that it reads
+//!     all                                 takes each of these once, with small numbers
+//!
+//! Times go to standard error alone.
+#![tactic(auto)]
+
+mod asked;
+mod first_plans;
+mod input;
+mod kinds;
+mod pricings;
+mod rounds;
+mod walks;
+
+use asked::{Asked, asked_in};
+use case_maker::make;
+use first_plans::{print_costs, print_kinds};
+use input::{input, snapshot_of};
+use pricings::{Pricing, print_pricing};
+use rounds::print_rounds;
+use std::process::ExitCode;
+use std::{env, io};
+use walks::print_walk;
+
+/// The words of the command line, and none where they are not text.
+fn words_given(rt: &HostRuntime) -> io::Result<Vec<String>> {
+    match env::args(rt) {
+        Ok(args) => Ok(args.collect::<Vec<String>>(rt.alloc())?),
+        Err(error) if error.kind() == io::ErrorKind::OutOfMemory => Err(error),
+        Err(_) => Ok(Vec::new(rt.alloc())),
+    }
+}
+
+/// Each measurement once: of drawn snapshots, of generated ones, and of the text that is the input.
+fn print_all(rt: &HostRuntime, text: &[u8]) -> io::Result<bool> {
+    print_kinds(rt, 31)?;
+    let pricing = Pricing {
+        factor: 2,
+        limit: 2000,
+        rounds: 1,
+    };
+    print_pricing(rt, &make(rt.alloc(), 1, 10, 2, 8)?, pricing)?;
+    print_walk(rt, &make(rt.alloc(), 1, 8, 1, 8)?, 2000)?;
+    print_rounds(rt, text, 3, 2)
+}
+
+/// Takes the measurement. False where the input is not what it is taken of.
+fn measure(rt: &HostRuntime, asked: Asked) -> io::Result<bool> {
+    match asked {
+        Asked::Kinds { count } => print_kinds(rt, count),
+        Asked::Costs { cases } => print_costs(rt, cases),
+        Asked::Pricing { pricing } => match snapshot_of(rt) {
+            Some(snapshot) => print_pricing(rt, &snapshot, pricing),
+            None => Ok(false),
+        },
+        Asked::Walk { tours } => match snapshot_of(rt) {
+            Some(snapshot) => print_walk(rt, &snapshot, tours),
+            None => Ok(false),
+        },
+        Asked::Read { rounds, cases } => match input(rt) {
+            Some(text) => print_rounds(rt, &text, rounds, cases),
+            None => Ok(false),
+        },
+        Asked::All => match input(rt) {
+            Some(text) => print_all(rt, &text),
+            None => Ok(false),
+        },
+    }
+}
+
+fn main(rt: HostRuntime) -> io::Result<ExitCode> {
+    let words = words_given(&rt)?;
+    let Some(asked) = asked_in(&words) else {
+        eprintln!(rt; "usage: lift_bench first_plan/pricing/walk/read/all [numbers]")?;
+        return Ok(ExitCode::from(2));
+    };
+    if measure(&rt, asked)? {
+        return Ok(ExitCode::SUCCESS);
+    }
+    eprintln!(rt; "the input is not what is measured")?;
+    Ok(ExitCode::from(1))
+}
