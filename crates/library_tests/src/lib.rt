@@ -20,6 +20,10 @@ mod sections;
 #[cfg(test)]
 mod snapshots;
 #[cfg(test)]
+mod tables;
+#[cfg(test)]
 mod whole_trees;
+#[cfg(test)]
+mod words;
 #[cfg(test)]
 mod workers;

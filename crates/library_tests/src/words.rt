@@ -1,0 +1,45 @@
+//! The words of the command line: a request with its numbers, and the texts of the faults.
+
+use lift_words::{Request, SolveOptions, WordsFault, read_words};
+use std::alloc::Global;
+use std::test::Fail;
+
+/// What the words are read as, and none where memory is wanting.
+fn read(alloc: Global, words: &[&str]) -> Option<Result<Request, WordsFault>> {
+    let mut all = Vec::new(alloc);
+    for word in words {
+        all.push(String::from_str(alloc, word).ok()?).ok()?;
+    }
+    Some(read_words(alloc, all.as_slice()))
+}
+
+#[test]
+fn a_request_has_its_numbers(rt: HostRuntime) -> Result<(), Fail> {
+    let options = SolveOptions {
+        rounds: 11,
+        moves: 7,
+        workers: 3,
+        brief: true,
+    };
+    let words = [
+        "lift",
+        "solve",
+        "--brief",
+        "--moves=7",
+        "--workers",
+        "3",
+        "--rounds=011",
+    ];
+    assert!(rt; read(rt.alloc(), &words) == Some(Ok(Request::Solve(options))));
+    Ok(())
+}
+
+#[test]
+fn faults_have_a_text(rt: HostRuntime) -> Result<(), Fail> {
+    let alloc = rt.alloc();
+    let not_taken = format!(in alloc; "{}", WordsFault::NotTaken)?;
+    assert!(rt; not_taken.as_str() == "the words are not taken");
+    let no_memory = format!(in alloc; "{}", WordsFault::NoMemory)?;
+    assert!(rt; no_memory.as_str() == "out of memory");
+    Ok(())
+}
