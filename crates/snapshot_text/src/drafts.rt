@@ -292,9 +292,7 @@ impl Draft {
         }
         self.aboard.reserve(1)?;
         self.group_ids.push(group.id)?;
-        let Ok(()) = self.aboard.push(group) else {
-            unreachable!()
-        };
+        self.aboard.push_reserved(group);
         Ok(Turn::More)
     }
 
@@ -316,9 +314,7 @@ impl Draft {
         }
         self.calls.reserve(1)?;
         self.call_ids.push(call.id)?;
-        let Ok(()) = self.calls.push(call) else {
-            unreachable!()
-        };
+        self.calls.push_reserved(call);
         Ok(Turn::More)
     }
 
