@@ -1,7 +1,9 @@
 -- The lines of a log, part by part.
-use Rattle.std.proofs.Common.{◌≡◌, ℕ, zero, suc, List, [], ◌∷◌, ◌++◌, length, refl, sym, ap, ◌∙◌, append_assoc, append-nil}
+use Rattle.std.proofs.Common.{◌≡◌, ◌<◌, ◌+◌, ℕ, zero, suc, List, [], ◌∷◌, ◌++◌, length, take, get_or, refl, sym, ap, ◌∙◌, append_assoc, append-nil}
 use Rattle.std.specs.Prelude.{codes, decimal, cond, is_ok, Result, Ok, Err, OnOk}
 use Rattle.std.specs.List.{flat_map}
+use Rattle.std.proofs.lemmas.List.{take_more}
+use Rattle.std.proofs.lemmas.List.Concat.{flat_map-append}
 use Rattle.std.proofs.lemmas.List.Folds.{flat_map-map}
 use Rattle.elevator_model.specs.Snapshot.{Snapshot}
 use Rattle.search_model.specs.declared.Event.{Event}
@@ -34,6 +36,15 @@ wrote_deliver event call car moment old new is wrote =
 pub events_are : (events : List Event) → flat_map (λ x. line_text (event_words x)) events ≡ events_text events
 unfolding events_text
 events_are events = sym (flat_map-map line_text event_words events)
+
+-- one more event is written
+pub event_more : (events : List Event) (i : ℕ) (d : Event) (first before after : List ℕ) → i < length events → before ≡ first ++ flat_map (λ x. line_text (event_words x)) (take i events) → after ≡ before ++ line_text (event_words (get_or events i d)) → after ≡ first ++ flat_map (λ x. line_text (event_words x)) (take (i + 1) events)
+event_more events i d first before after within so_far wrote =
+    let text : Event → List ℕ = λ x. line_text (event_words x) in
+    let event = get_or events i d in
+    let earlier = flat_map text (take i events) in
+    let both : earlier ++ text event ≡ flat_map text (take i events ++ event ∷ []) = ap (λ (xs : List ℕ). earlier ++ xs) (sym (append-nil (text event))) ∙ sym (flat_map-append text (take i events) (event ∷ [])) in
+    wrote ∙ ap (λ (xs : List ℕ). xs ++ text event) so_far ∙ append_assoc first earlier (text event) ∙ ap (λ (xs : List ℕ). first ++ xs) (both ∙ ap (flat_map text) (sym (take_more events i d within)))
 
 -- ---- rows
 

@@ -1,5 +1,5 @@
 -- What a row does: refused for a fault, or accepted.
-use Rattle.std.specs.Prelude.{nat_lt, if◌then◌else◌, ◌^◌, Result, Ok, Err, IfOk, OnOk}
+use Rattle.std.specs.Prelude.{nat_lt, if◌then◌else◌, ◌^◌, Result, Ok, Err, IfOk, IfErr, OnOk}
 use Rattle.std.specs.Borrow.{Bor}
 use Rattle.std.specs.Fn.{FnReturnsAt, Shared}
 use Rattle.std.specs.declared.alloc.AllocError.{AllocError}
@@ -30,7 +30,7 @@ use Rattle.day_simulator.specs.declared.days.RowAnswer.TheVariants.{Taken}
 use Rattle.row_text.specs.Records.{row_within}
 use Rattle.day_simulator.specs.Standing.{IsStanding, row_number}
 use Rattle.day_simulator.specs.Texts.{row_text, accepted_text}
-use Rattle.day_simulator.specs.Rows.{right_by, stated_of, IsWorldBrought, next_step, answer_of, DoesRow, IsRowDone, IsRefused}
+use Rattle.day_simulator.specs.Rows.{right_by, stated_of, IsWorldBrought, IsBrought, next_step, answer_of, DoesRow, IsRowDone, IsRefused}
 use Rattle.day_simulator.proofs.NoneLost.{later-calls-known, later-aboard-known, accepted-stands, calls-noted, noted_by}
 
 -- ---- steps
@@ -196,6 +196,11 @@ brought-world day row w after call before events h late moved called none took e
       snapshot = took ∙ ap (λ (v : World). taken v.snapshot call) moved ∙ ap (taken (advanced day.world row.time).snapshot) called;
       happened = happened ∙ ap (λ (xs : List Event). xs ++ events_by day.world row.time) empty;
     }
+
+-- the row is refused for the fault, or else the world is brought
+pub brought-unless : (day : Day) (row : Row) (events : List Event) (fault : Option RowFault) (w : World) (answer : Result World RowFault) → IfOk answer (λ x. (x ≡ w) × (fault ≡ None)) → IfErr answer (λ why. fault ≡ Some why) → fault_of_row day.world (row_number day) (Some row) ≡ fault → (fault ≡ None → IsWorldBrought day row events w) → IsBrought day row events answer
+brought-unless day row events fault w (Ok x) told _ is brought = subst (IsWorldBrought day row events) (sym told.0) (brought told.1)
+brought-unless day row events fault w (Err why) _ told is _ = is ∙ told
 
 -- ---- what is answered
 

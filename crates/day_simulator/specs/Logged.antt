@@ -2,7 +2,8 @@
 use Rattle.std.specs.Prelude.{ℕ, ◌<◌, List, length, map, slice_index_or, None}
 use Rattle.search_model.specs.declared.Event.{Event}
 use Rattle.search_model.specs.declared.Event.TheVariants.{Board, Deliver}
-use Rattle.search_model.specs.Days.{DayCall}
+use Rattle.search_model.specs.Advancing.{World}
+use Rattle.search_model.specs.Days.{Day, DayCall}
 use Rattle.day_simulator.specs.declared.logged.LoggedCall.{LoggedCall}
 
 abbrev pub day_call : LoggedCall → DayCall
@@ -10,6 +11,10 @@ day_call x = record { id = x.id; released = x.released; boarded = x.boarded; del
 
 abbrev pub day_calls : List LoggedCall → List DayCall
 day_calls calls = map day_call calls
+
+-- the day of these parts
+abbrev pub day_of : World → (refused unsolved : ℕ) → List LoggedCall → Day
+day_of world refused unsolved calls = record { world = world; refused = refused; unsolved = unsolved; calls = day_calls calls }
 
 -- the id of the call of an event
 abbrev pub id_of_event : Event → ℕ

@@ -1,27 +1,28 @@
 //! A day of calls.
 
-ghost use Rattle.std.specs.Prelude.{◌≡◌, ◌<◌, ◌≤◌, ◌+◌, ◌++◌, ◌∷◌, ◌^◌, [], None, Some, IsTrue, All, length, nat_lt, if◌then◌else◌, IfOk, OnOk, OnErr};
+ghost use Rattle.std.specs.Prelude.{◌≡◌, ◌<◌, ◌≤◌, ◌+◌, ◌++◌, ◌∷◌, ◌^◌, [], None, Some, IsTrue, All, length, nat_lt, if◌then◌else◌, IfOk, IfErr, OnOk, OnErr};
 ghost use Rattle.elevator_model.specs.Plans.{IsFeasiblePlan};
 ghost use Rattle.search_model.specs.Advancing.{advanced, events_by};
 ghost use Rattle.search_model.specs.Days.{opening_day, day_after_accepted, is_row, call_of_row, with_call, fault_of_row, fault_of_new_call, calls_after, loses_none, delivered_count as delivered_count_lem, served_of};
-ghost use Rattle.day_state.specs.Openings.{IsOpeningSnapshot};
+ghost use Rattle.day_state.specs.Openings.{IsOpeningSnapshot, IsNewCall, taken};
 ghost use Rattle.row_text.specs.Records.{row_of_line, row_as_said};
-ghost use Rattle.day_simulator.specs.Logged.{IdsRise, day_call, day_calls};
+ghost use Rattle.day_simulator.specs.Logged.{IdsRise, day_call, day_calls, day_of};
 ghost use Rattle.day_simulator.specs.Texts.{end_text};
-ghost use Rattle.day_simulator.specs.Standing.{IsEarly, row_number};
+ghost use Rattle.day_simulator.specs.Standing.{IsEarly, IsStanding, row_number};
 ghost use Rattle.std.specs.Fn.{FnReturnsAt};
 ghost use Rattle.day_simulator.specs.Planning.{PlannerLaw};
 ghost use Rattle.day_simulator.specs.Rows.{IsBrought, IsRowDone, IsRefused, right_by};
 
-use crate::lines::{accepted_lines, code_of, put_end, put_refused};
+use crate::lines::{add_accepted, code_of, put_end, put_refused};
 use crate::logged::{LoggedCall, add_call, delivered_count, note_all, served_by};
 use crate::planners::Planned;
-use call_state::Snapshot;
+use call_state::{Call, Snapshot};
 use day_state::{NotTaken, World};
 use row_text::{GoodRow, read_row};
 use search_model::{Event, RowFault, Served};
 use std::alloc::{AllocError, Global};
 use std::marker::Model;
+use std::mem;
 
 /// What became of a row.
 #[derive(Clone, Copy, PartialEq, Eq, Debug)]
@@ -50,25 +51,85 @@ fn unsolved_by(cost: u64, bound: u64) -> u32
     if bound < cost { 1 } else { 0 }
 }
 
-/// Brings this world in place of the present one, and notes what happened until then and the call that came. It fails
-/// only where there is no memory left: then all is as before.
+/// Brings this world in place of the present one, which it leaves there, and notes what happened until then and the
+/// call that came. It fails only where there is no memory left: then the present world and the calls are as before.
 fn go_on_in(
-    next: World,
+    next: &mut World,
     events: &[Event],
     call: LoggedCall,
     present: &mut World,
     calls: &mut Vec<LoggedCall>,
 ) -> Result<(), AllocError>
     requires { IdsRise (day_calls calls.old.items) }
-    ensures world { OnOk result (present.new ≡ next) }
+    ensures world { OnOk result (present.new ≡ next.old) }
     ensures calls { OnOk result (day_calls calls.new.items
         ≡ calls_after (day_calls calls.old.items) events.now ++ day_call call ∷ []) }
     ensures world_as_before { OnErr result (present.new ≡ present.old) }
     ensures calls_as_before { OnErr result (calls.new.items ≡ calls.old.items) }
 {
     add_call(calls, events, call)?;
-    *present = next;
+    mem::swap(present, next);
     Ok(())
+}
+
+/// Runs the last plan to its end, notes at the calls what happens, appends what is left of the log, and gives the served
+/// calls. It fails only where there is no memory left: then the log is as before.
+fn finish_in(
+    alloc: Global,
+    world: &World,
+    calls: &mut Vec<LoggedCall>,
+    refused: u32,
+    unsolved: u32,
+    out: &mut Vec<u8>,
+) -> Result<Vec<Served>, AllocError>
+    requires { IsStanding (day_of world.now refused unsolved calls.old.items) }
+    ensures served { IfOk result (λ served. served.items
+        ≡ served_of (day_of world.now refused unsolved calls.old.items)) }
+    ensures early { IfOk result (λ served. All IsEarly served.items) }
+    ensures log { OnOk result (out.new.items
+        ≡ out.old.items ++ end_text (day_of world.now refused unsolved calls.old.items)) }
+    ensures log_as_before { OnErr result (out.new.items ≡ out.old.items) }
+{
+    let mut events = Vec::new(alloc);
+    world.run_out(alloc, &mut events)?;
+    note_all(calls, events.as_slice());
+    let served = served_by(alloc, calls.as_slice())?;
+    let mut text = Vec::new(alloc);
+    put_end(
+        &mut text,
+        events.as_slice(),
+        calls.len() as u64,
+        u64::from(refused),
+        delivered_count(calls.as_slice()) as u64,
+        unsolved,
+    )?;
+    out.extend_from_slice(text.as_slice())?;
+    Ok(served)
+}
+
+/// Offers the world a new call, which it takes if there is no fault.
+fn offer(alloc: Global, world: &mut World, call: Call) -> Result<Option<RowFault>, AllocError>
+    requires { IsNewCall world.old.snapshot call }
+    ensures fault { IfOk result (λ fault. fault ≡ fault_of_new_call world.old.snapshot call) }
+    ensures taken { IfOk result (λ fault. fault ≡ None → world.new.snapshot ≡ taken world.old.snapshot call) }
+{
+    match world.accept(alloc, call) {
+        Ok(()) => Ok(None),
+        Err(NotTaken::Full) => Ok(Some(RowFault::Full)),
+        Err(NotTaken::NoCar) => Ok(Some(RowFault::NoCar)),
+        Err(NotTaken::NoMemory) => Err(AllocError),
+    }
+}
+
+/// The world, unless there is a fault.
+fn unless(fault: Option<RowFault>, world: World) -> Result<World, RowFault>
+    ensures world { IfOk result (λ brought. (brought ≡ world) × (fault ≡ None)) }
+    ensures fault { IfErr result (λ why. fault ≡ Some why) }
+{
+    match fault {
+        None => Ok(world),
+        Some(fault) => Err(fault),
+    }
 }
 
 impl Model for Day {
@@ -136,21 +197,22 @@ impl Day {
     }
 
     /// Goes on in this world, in which the call of the next row has come and a plan holds of this cost, with this bound.
+    /// The world before is left in its place.
     fn take(
         &mut self,
-        world: World,
+        world: &mut World,
         row: &GoodRow,
         events: &[Event],
         cost: u64,
         bound: u64,
     ) -> Result<(), AllocError>
         requires number { row_number self.old < 2 ^ 32 }
-        requires world { world ≡ with_call (advanced self.old.world row.now.time)
-            (call_of_row (row_number self.old) (row_as_said row.now)) world.plan }
-        requires feasible { IsFeasiblePlan world.snapshot world.plan }
+        requires world { world.old ≡ with_call (advanced self.old.world row.now.time)
+            (call_of_row (row_number self.old) (row_as_said row.now)) world.old.plan }
+        requires feasible { IsFeasiblePlan world.old.snapshot world.old.plan }
         requires events { events.now ≡ events_by self.old.world row.now.time }
         ensures taken { OnOk result (self.new ≡ day_after_accepted self.old (row_number self.old)
-            (row_as_said row.now) (record { plan = world.plan; cost = cost; bound = bound })) }
+            (row_as_said row.now) (record { plan = world.old.plan; cost = cost; bound = bound })) }
         ensures as_before { OnErr result (self.new ≡ self.old) }
     {
         // A reader of the snapshot tells that it keeps the rules, which is part of what holds of a day.
@@ -166,7 +228,7 @@ impl Day {
         &mut self,
         alloc: Global,
         plan: &F,
-        mut world: World,
+        world: &mut World,
         row: &GoodRow,
         events: &[Event],
         out: &mut Vec<u8>,
@@ -175,7 +237,7 @@ impl Day {
         requires sound { PlannerLaw (right_by (FnReturnsAt F.Fn plan.now)) }
         requires number { row_number self.old < 2 ^ 32 }
         requires taken { fault_of_row self.old.world (row_number self.old) (Some (row_as_said row.now)) ≡ None }
-        requires world { world.snapshot ≡ (with_call (advanced self.old.world row.now.time)
+        requires world { world.old.snapshot ≡ (with_call (advanced self.old.world row.now.time)
             (call_of_row (row_number self.old) (row_as_said row.now)) []).snapshot }
         requires events { events.now ≡ events_by self.old.world row.now.time }
         ensures row { IfOk result (λ answer. IsRowDone (right_by (FnReturnsAt F.Fn plan.now)) self.old
@@ -184,9 +246,15 @@ impl Day {
         ensures log_as_before { OnErr result (out.new.items ≡ out.old.items) }
     {
         let planned = plan(world.snapshot())?;
-        let text = accepted_lines(alloc, self.number(), events, world.snapshot(), &planned)?;
         let before = out.len();
-        out.extend_from_slice(text.as_slice())?;
+        add_accepted(
+            alloc,
+            self.number(),
+            events,
+            world.snapshot(),
+            &planned,
+            out,
+        )?;
         let (cost, bound) = (planned.cost, planned.bound);
         world.set_plan(planned.plan);
         match self.take(world, row, events, cost, bound) {
@@ -196,6 +264,19 @@ impl Day {
                 Err(error)
             }
         }
+    }
+
+    /// A copy of the world at this time. What happens until then stands behind the events.
+    fn moved(&self, alloc: Global, time: u64, events: &mut Vec<Event>) -> Result<World, AllocError>
+        requires later { self.now.world.snapshot.moment ≤ time }
+        requires early { time ≤ 1000000000 }
+        ensures world { IfOk result (λ world. world ≡ advanced self.now.world time) }
+        ensures events { OnOk result
+            (events.new.items ≡ events.old.items ++ events_by self.now.world time) }
+    {
+        let mut world = self.world.copy(alloc)?;
+        world.advance(alloc, time, events)?;
+        Ok(world)
     }
 
     /// The world at the time of the next row with its call, and what happens until then; or why the row is refused.
@@ -214,14 +295,9 @@ impl Day {
         if row.time < self.world.snapshot().now() {
             return Ok(Err(RowFault::BeforeNow));
         }
-        let mut world = self.world.copy(alloc)?;
-        world.advance(alloc, row.time, events)?;
-        match world.accept(alloc, row.call(self.number())) {
-            Ok(()) => Ok(Ok(world)),
-            Err(NotTaken::Full) => Ok(Err(RowFault::Full)),
-            Err(NotTaken::NoCar) => Ok(Err(RowFault::NoCar)),
-            Err(NotTaken::NoMemory) => Err(AllocError),
-        }
+        let mut world = self.moved(alloc, row.time, events)?;
+        let fault = offer(alloc, &mut world, row.call(self.number()))?;
+        Ok(unless(fault, world))
     }
 
     /// Takes or refuses a row whose numbers lie in their ranges.
@@ -243,7 +319,7 @@ impl Day {
     {
         let mut events = Vec::new(alloc);
         match self.brought(alloc, row, &mut events)? {
-            Ok(world) => self.accept(alloc, plan, world, row, events.as_slice(), out),
+            Ok(mut world) => self.accept(alloc, plan, &mut world, row, events.as_slice(), out),
             Err(fault) => self.refuse(fault, out),
         }
     }
@@ -331,21 +407,14 @@ impl Day {
         ensures log_as_before { OnErr result (out.new.items ≡ out.old.items) }
         ensures delivered { OnOk result (delivered_count_lem self ≡ length self.calls) }
     {
-        let mut events = Vec::new(alloc);
-        self.world.run_out(alloc, &mut events)?;
         let mut calls = self.calls;
-        note_all(&mut calls, events.as_slice());
-        let served = served_by(alloc, calls.as_slice())?;
-        let mut text = Vec::new(alloc);
-        put_end(
-            &mut text,
-            events.as_slice(),
-            calls.len() as u64,
-            u64::from(self.refused),
-            delivered_count(calls.as_slice()) as u64,
+        finish_in(
+            alloc,
+            &self.world,
+            &mut calls,
+            self.refused,
             self.unsolved,
-        )?;
-        out.extend_from_slice(text.as_slice())?;
-        Ok(served)
+            out,
+        )
     }
 }

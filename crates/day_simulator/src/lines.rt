@@ -1,6 +1,6 @@
 //! The lines of a day's log.
 
-ghost use Rattle.std.specs.Prelude.{◌≡◌, ◌++◌, ◌∷◌, [], codes, decimal, IfOk, OnOk};
+ghost use Rattle.std.specs.Prelude.{◌≡◌, ◌++◌, ◌∷◌, [], codes, decimal, IfOk, OnErr, OnOk};
 ghost use Rattle.elevator_model.specs.Plans.{IsFeasiblePlan};
 ghost use Rattle.search_model.specs.Days.{code_of_row};
 ghost use Rattle.text_sections.specs.Canonical.{line_text};
@@ -69,7 +69,7 @@ fn put_plan(out: &mut Vec<u8>, snapshot: &Snapshot, planned: &Planned) -> Result
 }
 
 /// The lines of a row that was accepted: what happened until its time, and the plan for the snapshot with its call.
-pub(crate) fn accepted_lines(
+fn accepted_lines(
     alloc: Global,
     number: u32,
     events: &[Event],
@@ -85,6 +85,24 @@ pub(crate) fn accepted_lines(
     put_events(&mut text, events)?;
     put_plan(&mut text, snapshot, planned)?;
     Ok(text)
+}
+
+/// Appends the lines of a row that was accepted. It fails only where there is no memory left: then the log is as before.
+pub(crate) fn add_accepted(
+    alloc: Global,
+    number: u32,
+    events: &[Event],
+    snapshot: &Snapshot,
+    planned: &Planned,
+    out: &mut Vec<u8>,
+) -> Result<(), AllocError>
+    requires { IsFeasiblePlan snapshot.now planned.now.plan }
+    ensures lines { OnOk result (out.new.items ≡ out.old.items
+        ++ accepted_text snapshot.now number events.now (stated_of planned.now) planned.now.proof.items) }
+    ensures as_before { OnErr result (out.new.items ≡ out.old.items) }
+{
+    let text = accepted_lines(alloc, number, events, snapshot, planned)?;
+    out.extend_from_slice(text.as_slice())
 }
 
 /// Writes the line of a row that was refused. After an `Err` a beginning of it may stand there.

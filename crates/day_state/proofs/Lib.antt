@@ -15,3 +15,4 @@ pub mod Steps
 pub mod RideSteps
 pub mod CarsReached
 pub mod PassedRiders
+pub mod StatesThen

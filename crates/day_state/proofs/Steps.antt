@@ -1,8 +1,8 @@
 -- One step more of the lists and numbers that loops make.
-use Rattle.std.proofs.Common.{◌≡◌, ℕ, ◌+◌, ◌<◌, Bool, true, false, cond, List, [], ◌∷◌, ◌++◌, map, take, length, get_or, ap, ◌∙◌, arith, add-one, append-nil, Some}
+use Rattle.std.proofs.Common.{◌≡◌, ℕ, ◌+◌, ◌<◌, Bool, true, false, cond, List, [], ◌∷◌, ◌++◌, map, take, length, get_or, ap, sym, ◌∙◌, arith, add-one, append-nil, append_assoc, Some}
 use Rattle.std.specs.List.{filter, range_with_len, flat_map}
 use Rattle.std.proofs.lemmas.Bool.{cond-true, cond-false}
-use Rattle.std.proofs.lemmas.List.{map-append}
+use Rattle.std.proofs.lemmas.List.{map-append, take_more}
 use Rattle.std.proofs.lemmas.List.Concat.{flat_map-append}
 use Rattle.std.proofs.lemmas.List.Elements.{filter-append, filter_more}
 use Rattle.search_model.specs.Sums.{least_where, lesser_of}
@@ -42,15 +42,37 @@ chosen-without g t n h = let e : 0 + n ≡ n = omega arith in ap (map g) (filter
 
 -- ---- what passes a test in the first elements of a list
 
+pub passed-with : {X : Type 0} (t : X → Bool) (xs : List X) (i : ℕ) (d : X) → i < length xs → t (get_or xs i d) ≡ true → filter t (take (i + 1) xs) ≡ filter t (take i xs) ++ get_or xs i d ∷ []
+passed-with t xs i d lt h =
+    let x = get_or xs i d in
+    filter_more t xs i d lt ∙ ap (λ ys. filter t (take i xs) ++ ys) (cond-true (t x) (x ∷ []) [] h)
+
+pub passed-without : {X : Type 0} (t : X → Bool) (xs : List X) (i : ℕ) (d : X) → i < length xs → t (get_or xs i d) ≡ false → filter t (take (i + 1) xs) ≡ filter t (take i xs)
+passed-without t xs i d lt h =
+    let x = get_or xs i d in
+    filter_more t xs i d lt ∙ ap (λ ys. filter t (take i xs) ++ ys) (cond-false (t x) (x ∷ []) [] h) ∙ append-nil (filter t (take i xs))
+
 pub kept-with : {X Y : Type 0} (g : X → Y) (t : X → Bool) (xs : List X) (i : ℕ) (d : X) → i < length xs → t (get_or xs i d) ≡ true → map g (filter t (take (i + 1) xs)) ≡ map g (filter t (take i xs)) ++ g (get_or xs i d) ∷ []
 kept-with g t xs i d lt h =
-    let x = get_or xs i d in
-    ap (map g) (filter_more t xs i d lt ∙ ap (λ ys. filter t (take i xs) ++ ys) (cond-true (t x) (x ∷ []) [] h)) ∙ map-append g (filter t (take i xs)) (x ∷ [])
+    ap (map g) (passed-with t xs i d lt h) ∙ map-append g (filter t (take i xs)) (get_or xs i d ∷ [])
 
 pub kept-without : {X Y : Type 0} (g : X → Y) (t : X → Bool) (xs : List X) (i : ℕ) (d : X) → i < length xs → t (get_or xs i d) ≡ false → map g (filter t (take (i + 1) xs)) ≡ map g (filter t (take i xs))
-kept-without g t xs i d lt h =
+kept-without g t xs i d lt h = ap (map g) (passed-without t xs i d lt h)
+
+-- ---- what is told of the first elements of a list, behind what stands there
+
+-- one more is told
+pub told-more : {X Y : Type 0} (g : X → Y) (xs : List X) (i : ℕ) (d : X) (first before after : List Y) (y : Y) → i < length xs → before ≡ first ++ map g (take i xs) → after ≡ before ++ y ∷ [] → y ≡ g (get_or xs i d) → after ≡ first ++ map g (take (i + 1) xs)
+told-more g xs i d first before after y lt so_far pushed same =
     let x = get_or xs i d in
-    ap (map g) (filter_more t xs i d lt ∙ ap (λ ys. filter t (take i xs) ++ ys) (cond-false (t x) (x ∷ []) [] h) ∙ append-nil (filter t (take i xs)))
+    let earlier = map g (take i xs) in
+    pushed ∙ ap (λ ys. ys ++ y ∷ []) so_far ∙ append_assoc first earlier (y ∷ []) ∙ ap (λ z. first ++ (earlier ++ z ∷ [])) same ∙ ap (λ ys. first ++ ys) (sym (map-append g (take i xs) (x ∷ []))) ∙ ap (λ ys. first ++ map g ys) (sym (take_more xs i d lt))
+
+-- one more is told, which passes the test
+pub told-with : {X Y : Type 0} (g : X → Y) (t : X → Bool) (xs : List X) (i : ℕ) (d : X) (first before after : List Y) (y : Y) → i < length xs → t (get_or xs i d) ≡ true → before ≡ first ++ map g (filter t (take i xs)) → after ≡ before ++ y ∷ [] → y ≡ g (get_or xs i d) → after ≡ first ++ map g (filter t (take (i + 1) xs))
+told-with g t xs i d first before after y lt h so_far pushed same =
+    let earlier = map g (filter t (take i xs)) in
+    pushed ∙ ap (λ ys. ys ++ y ∷ []) so_far ∙ append_assoc first earlier (y ∷ []) ∙ ap (λ z. first ++ (earlier ++ z ∷ [])) same ∙ ap (λ ys. first ++ ys) (sym (kept-with g t xs i d lt h))
 
 -- ---- lists one after another
 

@@ -202,11 +202,11 @@ fn parts_at(
     let snapshot = world.snapshot();
     Ok(SnapshotParts {
         version: snapshot.version(),
-        building: snapshot.building().copy(alloc)?,
         now: t,
         cars: states_at(alloc, world, t, reached)?,
         aboard: aboard_at(alloc, snapshot, reached)?,
         calls: calls_waiting(alloc, snapshot.calls(), boarded_calls(reached))?,
+        building: snapshot.building().copy(alloc)?,
     })
 }
 

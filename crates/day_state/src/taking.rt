@@ -80,11 +80,11 @@ fn parts_with(alloc: Global, snapshot: &Snapshot, call: Call) -> Result<Snapshot
     calls.push(call)?;
     Ok(SnapshotParts {
         version: snapshot.version(),
-        building: snapshot.building().copy(alloc)?,
         now: snapshot.now(),
         cars: states_of(alloc, snapshot)?,
         aboard: snapshot.aboard().to_vec(alloc)?,
         calls,
+        building: snapshot.building().copy(alloc)?,
     })
 }
 

@@ -76,8 +76,8 @@ impl World {
     pub fn copy(&self, alloc: Global) -> Result<World, AllocError>
         ensures { IfOk result (λ world. world ≡ self.now) }
     {
-        let snapshot = self.snapshot.copy(alloc)?;
-        Ok(World::of_parts(snapshot, self.plan.copy(alloc)?))
+        let plan = self.plan.copy(alloc)?;
+        Ok(World::of_parts(self.snapshot.copy(alloc)?, plan))
     }
 
     /// How far each car is at the moment `t`. What happens until then stands behind the events.
@@ -124,11 +124,47 @@ impl World {
         ensures events_as_before { OnErr result (events.new.items ≡ events.old.items) }
     {
         let mut happened = Vec::new(alloc);
-        let reached = self.reached(alloc, t, &mut happened)?;
-        let later = world_at(alloc, self, t, reached.as_slice())?;
-        events.extend_from_slice(happened.as_slice())?;
-        *self = later;
+        let later = self.later(alloc, t, &mut happened)?;
+        self.give_way_to(later, happened.as_slice(), events)
+    }
+
+    /// The world at the moment `t`. What happens until then stands behind the events.
+    fn later(&self, alloc: Global, t: u64, events: &mut Vec<Event>) -> Result<World, AllocError>
+        requires feasible { IsFeasiblePlan self.now.snapshot self.now.plan }
+        requires later { self.now.snapshot.moment ≤ t }
+        requires early { t ≤ 1000000000 }
+        ensures world { IfOk result (λ later. later ≡ advanced self.now t) }
+        ensures feasible { IfOk result (λ later. IsFeasiblePlan later.snapshot later.plan) }
+        ensures events { OnOk result
+            (events.new.items ≡ events.old.items ++ events_by self.now t) }
+    {
+        let reached = self.reached(alloc, t, events)?;
+        world_at(alloc, self, t, reached.as_slice())
+    }
+
+    /// Becomes the later world, and adds what happened until then. It fails only where there is no memory left: then
+    /// world and events are as before.
+    fn give_way_to(
+        &mut self,
+        later: World,
+        happened: &[Event],
+        events: &mut Vec<Event>,
+    ) -> Result<(), AllocError>
+        ensures world { OnOk result (self.new ≡ later) }
+        ensures events { OnOk result (events.new.items ≡ events.old.items ++ happened.now) }
+        ensures world_as_before { OnErr result (self.new ≡ self.old) }
+        ensures events_as_before { OnErr result (events.new.items ≡ events.old.items) }
+    {
+        events.extend_from_slice(happened)?;
+        self.become_later(later);
         Ok(())
+    }
+
+    /// Becomes the later world.
+    fn become_later(&mut self, later: World)
+        ensures { self.new ≡ later }
+    {
+        *self = later;
     }
 
     /// Adds what happens until the end of the plan to the events, in the order of `advance`.

@@ -1,5 +1,5 @@
 //! A snapshot section, as far as it was read.
-ghost use Rattle.std.specs.Prelude.{◌≡◌, ◌<◌, false, length, map, Ok, IfOk, IfSome, OnOk};
+ghost use Rattle.std.specs.Prelude.{◌≡◌, ◌<◌, ◌++◌, ◌∷◌, [], ℕ, false, length, map, slice_index, Ok, IfOk, IfSome, OnErr, OnOk};
 ghost use Rattle.elevator_model.specs.declared.CarSpec.{CarSpec};
 ghost use Rattle.elevator_model.specs.Building.{IsBuilding};
 ghost use Rattle.elevator_model.specs.Snapshot.{no_state};
@@ -30,6 +30,26 @@ fn nothing_stated(alloc: Global, cars: &[CarSpec]) -> Result<Vec<bool>, AllocErr
     ensures { IfOk result (λ stated. stated.items ≡ map (λ (x : CarSpec). false) cars.now) }
 {
     cars.iter().map(|_| false).collect(alloc)
+}
+
+/// Puts an item behind the others, and its id behind theirs. It fails only where there is no memory left: then both are
+/// as before.
+fn add_indexed<T: Copy>(
+    items: &mut Vec<T>,
+    ids: &mut IdIndex,
+    item: T,
+    id: u32,
+) -> Result<(), AllocError>
+    requires { (k : ℕ) → k < length ids.old → slice_index ids.old k ≡ id → ⊥ }
+    ensures added { OnOk result (items.new.items ≡ items.old.items ++ item ∷ []) }
+    ensures indexed { OnOk result (ids.new ≡ ids.old ++ id ∷ []) }
+    ensures as_before { OnErr result (items.new.items ≡ items.old.items) }
+    ensures ids_as_before { OnErr result (ids.new ≡ ids.old) }
+{
+    items.reserve(1)?;
+    ids.push(id)?;
+    items.push_reserved(item);
+    Ok(())
 }
 
 /// What was read of a snapshot section.
@@ -290,11 +310,7 @@ impl Draft {
         if let Some(fault) = fault {
             return Err(LineFault::Bad(fault.code()));
         }
-        self.aboard.reserve(1)?;
-        self.group_ids.push(group.id)?;
-        let Ok(()) = self.aboard.push(group) else {
-            unreachable!()
-        };
+        add_indexed(&mut self.aboard, &mut self.group_ids, group, group.id)?;
         Ok(Turn::More)
     }
 
@@ -314,11 +330,7 @@ impl Draft {
         if let Some(fault) = fault {
             return Err(LineFault::Bad(fault.code()));
         }
-        self.calls.reserve(1)?;
-        self.call_ids.push(call.id)?;
-        let Ok(()) = self.calls.push(call) else {
-            unreachable!()
-        };
+        add_indexed(&mut self.calls, &mut self.call_ids, call, call.id)?;
         Ok(Turn::More)
     }
 

@@ -1,15 +1,16 @@
 use Rattle.std.specs.Fn.{FnReturnsAt}
-use Rattle.std.proofs.Common.{◌++◌, List, sym, subst, ap, ◌∙◌, ℕ}
+use Rattle.std.proofs.Common.{refl, sym, subst, ap, ◌∙◌}
 use Rattle.elevator_model.specs.Snapshot.{Snapshot}
 use Rattle.elevator_model.specs.Plans.{IsFeasiblePlan}
 use Rattle.search_model.specs.Advancing.{World}
 use Rattle.row_text.specs.Records.{row_as_said}
 use Rattle.day_simulator.specs.Rows.{stated_of, right_by}
+use Rattle.day_simulator.specs.Texts.{accepted_text}
 use Rattle.day_simulator.proofs.RowLemmas.{answered, taken-row}
 use Rattle.day_simulator.proofs.days.Day.accept.Goals as goal
 
-pub accepted_lines-requires : goal.accepted_lines-requires
-accepted_lines-requires g c =
+pub add_accepted-requires : goal.add_accepted-requires
+add_accepted-requires g c =
     let planned = c.in_ok-planned.planned in
     let told = answered g.F.Fn c.args.plan.now c.snapshot.result c.plan.result planned c.in_ok-planned.was c.plan.ensures in
     let right_plan = c.requires.sound c.snapshot.result.now (stated_of planned) planned.proof.items told in
@@ -33,7 +34,8 @@ pub returns-in-Ok-clause-row : goal.returns-in-Ok-clause-row
 returns-in-Ok-clause-row g c =
     let planned = c.in_ok-planned.planned in
     let there = c.snapshot.ensures.value ∙ sym c.snapshot-2.ensures.value in
-    taken-row (right_by (FnReturnsAt g.F.Fn c.args.plan.now)) c.args.self.now (row_as_said c.args.row.now) c.take.new.self c.args.out.now.items c.extend_from_slice.new.self.items c.in_ok-text.text.items c.snapshot-2.result.now c.number.result c.args.events.now
-    c.set_plan.new.self.plan (stated_of planned) planned.proof.items c.requires.taken c.in-Ok.ensures.taken (ap (λ (w : World). w.plan) c.set_plan.ensures) (c.snapshot-2.ensures.value ∙ c.requires.world) c.number.ensures c.requires.events c.in_ok-text.ensures
-    (c.in_ok-extend_from_slice.ensures.items ∙ ap (λ (xs : List ℕ). c.args.out.now.items ++ xs) c.as_slice.ensures.value)
+    let s = c.snapshot-2.result.now in
+    let events = c.args.events.now in
+    taken-row (right_by (FnReturnsAt g.F.Fn c.args.plan.now)) c.args.self.now (row_as_said c.args.row.now) c.take.new.self c.args.out.now.items c.add_accepted.new.out.items (accepted_text s c.number.result events (stated_of planned) planned.proof.items) s c.number.result events
+    c.set_plan.new.self.plan (stated_of planned) planned.proof.items c.requires.taken c.in-Ok.ensures.taken (ap (λ (w : World). w.plan) c.set_plan.ensures) (c.snapshot-2.ensures.value ∙ c.requires.world) c.number.ensures c.requires.events refl c.in_ok-add_accepted.ensures.lines
     (subst (λ (s : Snapshot). right_by (FnReturnsAt g.F.Fn c.args.plan.now) s (stated_of planned) planned.proof.items) there (answered g.F.Fn c.args.plan.now c.snapshot.result c.plan.result planned c.in_ok-planned.was c.plan.ensures))
