@@ -97,13 +97,17 @@ impl SnapshotParts {
     fn copy(&self, alloc: Global) -> Result<SnapshotParts, AllocError>
         ensures { IfOk result (λ parts. snapshot_of parts ≡ snapshot_of self.entry.now) }
     {
+        let cars = self.cars.as_slice().to_vec(alloc)?;
+        let aboard = self.aboard.as_slice().to_vec(alloc)?;
+        let calls = self.calls.as_slice().to_vec(alloc)?;
+        let building = self.building.copy(alloc)?;
         Ok(SnapshotParts {
             version: self.version,
-            building: self.building.copy(alloc)?,
+            building,
             now: self.now,
-            cars: self.cars.as_slice().to_vec(alloc)?,
-            aboard: self.aboard.as_slice().to_vec(alloc)?,
-            calls: self.calls.as_slice().to_vec(alloc)?,
+            cars,
+            aboard,
+            calls,
         })
     }
 

@@ -1,11 +1,11 @@
 -- The places of the leaves that a round prices.
-use Rattle.std.proofs.Common.{◌≡◌, ℕ, ◌+◌, ◌<◌, List, [], ◌∷◌, ◌++◌, length, get_or, sym, ap, ◌∙◌, subst, inl, inr, arith, length-append}
-use Rattle.std.proofs.lemmas.Bool.{cases_lt}
+use Rattle.std.proofs.Common.{◌≡◌, ℕ, ◌+◌, ◌<◌, ◌==◌, true, false, List, [], ◌∷◌, ◌++◌, length, get_or, sym, ap, ◌∙◌, subst, inl, inr, arith, length-append}
+use Rattle.std.proofs.lemmas.Bool.{cases_lt, eqb-false, eqb-true}
 use Rattle.std.proofs.lemmas.List.{get_or_append_left, get_or-append-add}
 use Rattle.elevator_model.specs.Snapshot.{Snapshot}
 use Rattle.search_tree.specs.declared.branches.Branch.{Branch}
 use Rattle.search_tree.specs.Branches.{at_place}
-use Rattle.node_search.specs.Searches.{IsWanted, AreSome}
+use Rattle.node_search.specs.Searches.{IsWanted, IsLeft, AreSome, AreChosen}
 
 at_end : (places : List ℕ) (place i : ℕ) → length places ≡ i → get_or (places ++ place ∷ []) i 0 ≡ place
 at_end places place i e =
@@ -45,3 +45,23 @@ none_some s cost tree =
       wanted = λ i lt. absurd (omega (arith, lt));
       rise = λ i j less lt. absurd (omega (arith, lt));
     }
+
+-- some marked ones, or else the first that may be priced, or none where there is none
+pub chosen_some : (s : Snapshot) (cost : ℕ) (tree : List Branch) (places : List ℕ) (n : ℕ) → AreSome s cost tree places → n ≡ length places → (n == 0) ≡ false → AreChosen s cost tree places
+chosen_some s cost tree places n some count full =
+    record {
+      some = some;
+      none = λ empty. absurd (eqb-false n 0 full (count ∙ ap length empty));
+    }
+
+pub chosen_first : (s : Snapshot) (cost : ℕ) (tree : List Branch) (places : List ℕ) (n place : ℕ) → AreSome s cost tree places → n ≡ length places → (n == 0) ≡ true → place < length tree → IsWanted s cost (at_place tree place) → AreChosen s cost tree (places ++ place ∷ [])
+chosen_first s cost tree places n place some count empty lt wanted =
+    let none : n ≡ 0 = eqb-true n 0 empty in
+    let more = length-append places (place ∷ []) in
+    record {
+      some = some_more s cost tree places place some (λ i within. absurd (omega (arith, within, none, count))) (omega (arith, none, count)) lt wanted;
+      none = λ e. absurd (let zero = ap length e in omega (arith, zero, more));
+    }
+
+pub chosen_none : (s : Snapshot) (cost : ℕ) (tree : List Branch) (places : List ℕ) → AreSome s cost tree places → ((k : ℕ) → k < length tree → IsLeft s cost (at_place tree k)) → AreChosen s cost tree places
+chosen_none s cost tree places some left = record { some = some; none = λ _. left }

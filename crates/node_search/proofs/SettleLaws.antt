@@ -44,6 +44,11 @@ pub choice_many : (calls : ℕ) (node : Node) (o : Option SplitAt) → MatchOpti
 choice_many calls node None m p e single = both_ways false refl e
 choice_many calls node (Some at) m p e single = single_no_part calls at.call at.part node m.0 p single
 
+-- where none is found, each call has one car left
+pub choice_none : (calls : ℕ) (node : Node) (o : Option SplitAt) → MatchOption o (AreSingle calls node) (λ at. (at.call < calls) × AreSingle at.call node) → is_some o ≡ false → AreSingle calls node
+choice_none calls node None lone e = lone
+choice_none calls node (Some at) lone e = absurd (both_ways true e refl)
+
 -- the sizes of a pricing of a leaf, and its node
 module _ (fits : Fits) (s : Snapshot) (moves : ℕ) (x : Search) (k : ℕ) (prices : List ℤ) (cars : List TurnOf) (way : IsUnderWay fits s moves x) (pricing : IsPricingOf fits s moves x k prices cars) where
   in_leaf : IsLeafIn fits s moves (at_place x.tree k).node (at_place x.tree k)
