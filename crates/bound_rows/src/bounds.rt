@@ -80,16 +80,25 @@ fn asked_bound(snapshot: &Snapshot, prefix: &Prefix, asked: Asked) -> Option<i12
 }
 
 /// The bounds where the first call has boarded, and where it has got off.
+fn bounds_along(snapshot: &Snapshot, prefix: &mut Prefix, asked: Asked) -> Option<[i128; 2]>
+    requires { snapshot.now ≡ prefix.old.snapshot }
+{
+    board_first(prefix)?;
+    let carried = asked_bound(snapshot, prefix, asked)?;
+    go_on(prefix)?;
+    let delivered = asked_bound(snapshot, prefix, asked)?;
+    Some([carried, delivered])
+}
+
+/// The same of the only car.
 fn bounds_of(alloc: Global, snapshot: &Snapshot, asked: Asked) -> Option<[i128; 2]> {
     if snapshot.building().cars().len() != 1 {
         return None;
     }
-    let mut prefix = Prefix::new(alloc, snapshot, 0).ok()?;
-    board_first(&mut prefix)?;
-    let carried = asked_bound(snapshot, &prefix, asked)?;
-    go_on(&mut prefix)?;
-    let delivered = asked_bound(snapshot, &prefix, asked)?;
-    Some([carried, delivered])
+    match Prefix::new(alloc, snapshot, 0) {
+        Ok(mut prefix) => bounds_along(snapshot, &mut prefix, asked),
+        Err(_) => None,
+    }
 }
 
 fn bounds(alloc: Global, prices: [i128; 3], allowed: u128, required: u128) -> Option<[i128; 2]> {

@@ -6,7 +6,6 @@ use assign_branch::{BadSplit, CarSet, Node, root, split};
 use case_kit::{put_lines, snapshot_in};
 use lift_text::put_words;
 use std::alloc::{AllocError, Global};
-use std::test::Fail;
 
 /// The first car lacks the top floor, the third one floor 1. The third call is for more persons than the third car
 /// takes, and the last one is pinned to that car.
@@ -40,10 +39,6 @@ fn root_in(alloc: Global, text: &[u8]) -> Option<Node> {
     }
 }
 
-fn uneven_root(alloc: Global) -> Option<Node> {
-    root_in(alloc, UNEVEN.as_bytes())
-}
-
 /// Whether the first five calls have these sets, and there are no more.
 fn has_sets(node: &Node, sets: [u16; 5]) -> bool {
     for call in 0..5u32 {
@@ -74,61 +69,120 @@ fn is_refused(node: &Node, call: u32, part: u16, first: &mut Node, second: &mut 
     split(node, call, part, first, second) == Err(BadSplit { part })
 }
 
-#[test]
-fn the_root_gives_each_call_its_possible_cars(rt: HostRuntime) -> Result<(), Fail> {
-    let node = uneven_root(rt.alloc()).ok_or("a root")?;
-    assert!(rt; has_sets(&node, [0b111, 0b011, 0b010, 0b110, 0b100]));
-    assert_eq!(rt; demands(&node, 0), [0b00011, 0]);
-    assert_eq!(rt; demands(&node, 1), [0b01111, 0b00100]);
-    assert_eq!(rt; demands(&node, 2), [0b11001, 0b10000]);
-    assert_eq!(rt; demands(&node, 3), [0, 0]);
-    assert_eq!(rt; demands(&node, 16), [0, 0]);
-    Ok(())
+/// Whether each call of the uneven root has its possible cars.
+fn has_possible_cars(node: &Node) -> bool {
+    has_sets(node, [0b111, 0b011, 0b010, 0b110, 0b100])
+        && demands(node, 0) == [0b00011, 0]
+        && demands(node, 1) == [0b01111, 0b00100]
+        && demands(node, 2) == [0b11001, 0b10000]
+        && demands(node, 3) == [0, 0]
+        && demands(node, 16) == [0, 0]
 }
 
-#[test]
-fn a_split_divides_one_set(rt: HostRuntime) -> Result<(), Fail> {
-    let node = uneven_root(rt.alloc()).ok_or("a root")?;
-    let mut first = node.copy(rt.alloc())?;
-    let mut second = node.copy(rt.alloc())?;
-    assert_eq!(rt;
-        split(&node, 0, set(0b101), &mut first, &mut second),
-        Ok(())
-    );
-    assert!(rt; has_sets(&first, [0b101, 0b011, 0b010, 0b110, 0b100]));
-    assert!(rt; has_sets(&second, [0b010, 0b011, 0b010, 0b110, 0b100]));
-    assert_eq!(rt; demands(&first, 0), [0b00011, 0]);
-    assert_eq!(rt; demands(&first, 1), [0b01110, 0b00100]);
-    assert_eq!(rt; demands(&second, 1), [0b01111, 0b00101]);
-    assert_eq!(rt; demands(&second, 2), [0b11000, 0b10000]);
-    Ok(())
+/// Whether a split of the uneven root divides one set.
+fn divides(node: &Node, first: &mut Node, second: &mut Node) -> bool
+    requires first { length first.old ≡ length node.now }
+    requires second { length second.old ≡ length node.now }
+{
+    split(node, 0, set(0b101), first, second) == Ok(())
+        && has_sets(first, [0b101, 0b011, 0b010, 0b110, 0b100])
+        && has_sets(second, [0b010, 0b011, 0b010, 0b110, 0b100])
+        && demands(first, 0) == [0b00011, 0]
+        && demands(first, 1) == [0b01110, 0b00100]
+        && demands(second, 1) == [0b01111, 0b00101]
+        && demands(second, 2) == [0b11000, 0b10000]
 }
 
-#[test]
-fn a_part_that_does_not_divide_is_refused(rt: HostRuntime) -> Result<(), Fail> {
-    let node = uneven_root(rt.alloc()).ok_or("a root")?;
-    let mut first = node.copy(rt.alloc())?;
-    let mut second = node.copy(rt.alloc())?;
-    assert_eq!(rt;
-        split(&node, 3, set(0b010), &mut first, &mut second),
-        Ok(())
-    );
-    // The second call has the first two cars.
-    assert!(rt; is_refused(&node, 1, 0, &mut first, &mut second));
-    assert!(rt; is_refused(&node, 1, 0b011, &mut first, &mut second));
-    assert!(rt; is_refused(&node, 1, 0b101, &mut first, &mut second));
-    assert!(rt; is_refused(&node, 1, 0b100, &mut first, &mut second));
-    assert!(rt; is_refused(&node, 2, 0b010, &mut first, &mut second));
-    assert!(rt; is_refused(&node, 5, 0b001, &mut first, &mut second));
-    assert!(rt; has_sets(&first, [0b111, 0b011, 0b010, 0b010, 0b100]));
-    assert!(rt; has_sets(&second, [0b111, 0b011, 0b010, 0b100, 0b100]));
-    assert_eq!(rt;
-        split(&node, 1, set(0b010), &mut first, &mut second),
-        Ok(())
-    );
-    assert!(rt; has_sets(&first, [0b111, 0b010, 0b010, 0b110, 0b100]));
-    assert!(rt; has_sets(&second, [0b111, 0b001, 0b010, 0b110, 0b100]));
-    Ok(())
+/// Whether each of these parts of a call of the uneven root is refused. The second call has the first two cars.
+fn are_refused(node: &Node, first: &mut Node, second: &mut Node) -> bool
+    requires first { length first.old ≡ length node.now }
+    requires second { length second.old ≡ length node.now }
+    ensures first { length first.new ≡ length node.now }
+    ensures second { length second.new ≡ length node.now }
+{
+    is_refused(node, 1, 0, first, second)
+        && is_refused(node, 1, 0b011, first, second)
+        && is_refused(node, 1, 0b101, first, second)
+        && is_refused(node, 1, 0b100, first, second)
+        && is_refused(node, 2, 0b010, first, second)
+        && is_refused(node, 5, 0b001, first, second)
+}
+
+/// Whether parts that do not divide a set are refused, and leave both nodes as they were.
+fn refuses(node: &Node, first: &mut Node, second: &mut Node) -> bool
+    requires first { length first.old ≡ length node.now }
+    requires second { length second.old ≡ length node.now }
+{
+    split(node, 3, set(0b010), first, second) == Ok(())
+        && are_refused(node, first, second)
+        && has_sets(first, [0b111, 0b011, 0b010, 0b010, 0b100])
+        && has_sets(second, [0b111, 0b011, 0b010, 0b100, 0b100])
+        && split(node, 1, set(0b010), first, second) == Ok(())
+        && has_sets(first, [0b111, 0b010, 0b010, 0b110, 0b100])
+        && has_sets(second, [0b111, 0b001, 0b010, 0b110, 0b100])
+}
+
+/// Whether the root of the crowd, and its split, have the greatest sizes.
+fn is_greatest(node: &Node, first: &mut Node, second: &mut Node) -> bool
+    requires first { length first.old ≡ length node.now }
+    requires second { length second.old ≡ length node.now }
+{
+    demands(node, 0) == [u128::MAX, 0]
+        && demands(node, 15) == [u128::MAX, 0]
+        && split(node, 127, set(1 << 15), first, second) == Ok(())
+        && demands(first, 15) == [u128::MAX, 1 << 127]
+        && demands(second, 15) == [u128::MAX >> 1, 0]
+        && second.set(127) == set(0x7fff)
+}
+
+/// What is compared of a root.
+#[derive(Clone, Copy)]
+enum Case {
+    PossibleCars,
+    Divided,
+    Refused,
+    Greatest,
+}
+
+impl Case {
+    fn root(self, alloc: Global) -> Option<Node> {
+        match self {
+            Case::PossibleCars | Case::Divided | Case::Refused => {
+                root_in(alloc, UNEVEN.as_bytes())
+            }
+            Case::Greatest => crowded_root(alloc),
+        }
+    }
+
+    /// Whether it is so of the root, where both others are copies of it.
+    fn is_so(self, node: &Node, first: &mut Node, second: &mut Node) -> bool
+        requires first { length first.old ≡ length node.now }
+        requires second { length second.old ≡ length node.now }
+    {
+        match self {
+            Case::PossibleCars => has_possible_cars(node),
+            Case::Divided => divides(node, first, second),
+            Case::Refused => refuses(node, first, second),
+            Case::Greatest => is_greatest(node, first, second),
+        }
+    }
+
+    fn is_so_of(self, alloc: Global, node: &Node) -> bool {
+        let Ok(mut first) = node.copy(alloc) else {
+            return false;
+        };
+        match node.copy(alloc) {
+            Ok(mut second) => self.is_so(node, &mut first, &mut second),
+            Err(_) => false,
+        }
+    }
+
+    fn is_right(self, alloc: Global) -> bool {
+        match self.root(alloc) {
+            Some(node) => self.is_so_of(alloc, &node),
+            None => false,
+        }
+    }
 }
 
 /// Appends a snapshot of 16 cars and 128 calls, from all floors to the next one.
@@ -164,18 +218,9 @@ fn crowded_root(alloc: Global) -> Option<Node> {
 }
 
 #[test]
-fn a_root_of_the_greatest_size(rt: HostRuntime) -> Result<(), Fail> {
-    let node = crowded_root(rt.alloc()).ok_or("a root")?;
-    assert_eq!(rt; demands(&node, 0), [u128::MAX, 0]);
-    assert_eq!(rt; demands(&node, 15), [u128::MAX, 0]);
-    let mut first = node.copy(rt.alloc())?;
-    let mut second = node.copy(rt.alloc())?;
-    assert_eq!(rt;
-        split(&node, 127, set(1 << 15), &mut first, &mut second),
-        Ok(())
-    );
-    assert_eq!(rt; demands(&first, 15), [u128::MAX, 1 << 127]);
-    assert_eq!(rt; demands(&second, 15), [u128::MAX >> 1, 0]);
-    assert_eq!(rt; second.set(127), set(0x7fff));
-    Ok(())
+fn roots_and_splits(rt: HostRuntime) {
+    assert!(rt; Case::PossibleCars.is_right(rt.alloc()));
+    assert!(rt; Case::Divided.is_right(rt.alloc()));
+    assert!(rt; Case::Refused.is_right(rt.alloc()));
+    assert!(rt; Case::Greatest.is_right(rt.alloc()));
 }

@@ -14,37 +14,55 @@ pub(crate) enum Asked {
     All,
 }
 
-/// The number that the word at this place writes.
+/// The number that the word at this place writes, and 0 where there is no such word. None where it writes none.
 fn number(words: &[String], place: usize) -> Option<u32> {
-    words.get(place)?.as_str().parse::<u32>().ok()
+    match words.get(place) {
+        Some(word) => word.as_str().parse::<u32>().ok(),
+        None => Some(0),
+    }
 }
 
-/// The measurement that the words after the program's name ask for, and None for other words.
-pub(crate) fn asked_in(words: &[String]) -> Option<Asked> {
-    let number = |place: usize| number(words, place);
-    match (words.get(1)?.as_str(), words.len()) {
-        ("first_plan", 3) => Some(Asked::Kinds { count: number(2)? }),
+/// The numbers behind the first word, of which there are at most four.
+fn numbers(words: &[String]) -> Option<[u32; 4]> {
+    Some([
+        number(words, 2)?,
+        number(words, 3)?,
+        number(words, 4)?,
+        number(words, 5)?,
+    ])
+}
+
+/// The measurement of this name with these numbers, and None where it has another number of them.
+fn named(name: &str, words: usize, numbers: [u32; 4]) -> Option<Asked> {
+    let [first, second, third, count] = numbers;
+    match (name, words) {
+        ("first_plan", 3) => Some(Asked::Kinds { count: first }),
         ("first_plan", 6) => Some(Asked::Costs {
             cases: Cases {
-                floors: number(2)?,
-                cars: number(3)?,
-                calls: number(4)?,
-                count: number(5)?,
+                floors: first,
+                cars: second,
+                calls: third,
+                count,
             },
         }),
         ("pricing", 5) => Some(Asked::Pricing {
             pricing: Pricing {
-                factor: number(2)?,
-                limit: number(3)?,
-                rounds: number(4)?,
+                factor: first,
+                limit: second,
+                rounds: third,
             },
         }),
-        ("walk", 3) => Some(Asked::Walk { tours: number(2)? }),
+        ("walk", 3) => Some(Asked::Walk { tours: first }),
         ("read", 4) => Some(Asked::Read {
-            rounds: number(2)?,
-            cases: number(3)?,
+            rounds: first,
+            cases: second,
         }),
         ("all", 2) => Some(Asked::All),
         _ => None,
     }
+}
+
+/// The measurement that the words after the program's name ask for, and None for other words.
+pub(crate) fn asked_in(words: &[String]) -> Option<Asked> {
+    named(words.get(1)?.as_str(), words.len(), numbers(words)?)
 }

@@ -1,5 +1,7 @@
 //! What first plans cost, and how much more than the cheapest ones.
 
+ghost use Rattle.std.specs.Prelude.{◌≤◌};
+
 use crate::kinds::{KINDS, Kind, accepted_snapshot};
 use call_state::Snapshot;
 use case_kit::Draws;
@@ -28,6 +30,22 @@ fn first_cost(alloc: Global, snapshot: &Snapshot) -> Result<u64, AllocError> {
     Ok(plan_cost(snapshot, &plan))
 }
 
+/// What the first plan of a generated case costs.
+fn case_cost(alloc: Global, number: u32, cases: Cases) -> Result<u64, AllocError>
+    requires floors { (2 ≤ cases.floors) × (cases.floors ≤ 64) }
+    requires cars { (1 ≤ cases.cars) × (cases.cars ≤ 8) }
+    requires calls { cases.calls ≤ 64 }
+{
+    let snapshot = make(
+        alloc,
+        u64::from(number),
+        cases.floors,
+        cases.cars,
+        cases.calls,
+    )?;
+    first_cost(alloc, &snapshot)
+}
+
 /// Prints a line for each case: floors, cars, calls, number, and what its first plan costs. False where there are no
 /// cases of these sizes.
 pub(crate) fn print_costs(rt: &HostRuntime, cases: Cases) -> io::Result<bool> {
@@ -41,8 +59,7 @@ pub(crate) fn print_costs(rt: &HostRuntime, cases: Cases) -> io::Result<bool> {
         return Ok(false);
     }
     for number in 1..=count {
-        let snapshot = make(rt.alloc(), u64::from(number), floors, cars, calls)?;
-        let cost = first_cost(rt.alloc(), &snapshot)?;
+        let cost = case_cost(rt.alloc(), number, cases)?;
         println!(rt; "{floors} {cars} {calls} {number} {cost}")?;
     }
     Ok(true)

@@ -4,9 +4,8 @@ use crate::cases::FOUR_CALLS;
 use call_sets::CarSet;
 use call_state::{Building, Snapshot, Travel};
 use case_kit::{plan_in, snapshot_in, tour_in};
-use elevator_model::{Plan, Stop, Tour};
-use std::alloc::{AllocError, Global};
-use std::test::Fail;
+use elevator_model::{Plan, Stop};
+use std::alloc::Global;
 
 fn is_plan_copied(alloc: Global, plan: &Plan) -> bool {
     match plan.copy(alloc) {
@@ -31,35 +30,46 @@ fn is_plan_pushed(alloc: Global, plan: &Plan) -> bool {
     }
 }
 
-#[test]
-fn plans_are_copied(rt: HostRuntime) -> Result<(), Fail> {
-    let plan = plan_in(rt.alloc(), "2:2 0 / 0:3 1:01 3 / 1 3").ok_or("no plan")?;
-    assert!(rt; is_plan_copied(rt.alloc(), &plan));
-    assert!(rt; is_plan_pushed(rt.alloc(), &plan));
-    Ok(())
+fn are_boards_copied(alloc: Global, stop: &Stop) -> bool {
+    match stop.boards.copy(alloc) {
+        Ok(copy) => copy == stop.boards,
+        Err(_) => false,
+    }
 }
 
 /// Whether a copy of the stop is the same, and one of those who board there.
-fn is_stop_copied(alloc: Global, stop: &Stop) -> Result<bool, AllocError> {
-    let boards = stop.boards.copy(alloc)?;
-    Ok(stop.copy(alloc)? == *stop && boards == stop.boards)
+fn is_stop_copied(alloc: Global, stop: &Stop) -> bool {
+    match stop.copy(alloc) {
+        Ok(copy) => copy == *stop && are_boards_copied(alloc, stop),
+        Err(_) => false,
+    }
 }
 
-/// Whether this is so at each stop.
-fn are_stops_copied(alloc: Global, tour: &Tour) -> Result<bool, AllocError> {
+/// Whether this is so at each stop of the tour in this text.
+fn are_stops_copied(alloc: Global, text: &str) -> bool {
+    let Some(tour) = tour_in(alloc, text) else {
+        return false;
+    };
     for stop in tour.stops() {
-        if !is_stop_copied(alloc, stop)? {
-            return Ok(false);
+        if !is_stop_copied(alloc, stop) {
+            return false;
         }
     }
-    Ok(true)
+    true
+}
+
+/// Whether the plan in this text is the same copied, and pushed tour by tour.
+fn is_plan_kept(alloc: Global, text: &str) -> bool {
+    match plan_in(alloc, text) {
+        Some(plan) => is_plan_copied(alloc, &plan) && is_plan_pushed(alloc, &plan),
+        None => false,
+    }
 }
 
 #[test]
-fn stops_are_copied(rt: HostRuntime) -> Result<(), Fail> {
-    let tour = tour_in(rt.alloc(), "0:3 1:01 3").ok_or("no plan")?;
-    assert!(rt; are_stops_copied(rt.alloc(), &tour) == Ok(true));
-    Ok(())
+fn plans_and_stops_are_copied(rt: HostRuntime) {
+    assert!(rt; is_plan_kept(rt.alloc(), "2:2 0 / 0:3 1:01 3 / 1 3"));
+    assert!(rt; are_stops_copied(rt.alloc(), "0:3 1:01 3"));
 }
 
 fn are_four_floors(travel: &Travel) -> bool {
@@ -107,11 +117,19 @@ fn is_copied(alloc: Global, snapshot: &Snapshot) -> bool {
     }
 }
 
+/// Whether this is so of the four calls, of their building and its travel times.
+fn are_four_calls_copied(alloc: Global) -> bool {
+    match snapshot_in(alloc, FOUR_CALLS.as_bytes()) {
+        Some(snapshot) => {
+            is_copied(alloc, &snapshot)
+                && is_building_copied(alloc, snapshot.building())
+                && is_travel_copied(alloc, snapshot.building().travel())
+        }
+        None => false,
+    }
+}
+
 #[test]
-fn snapshots_are_copied(rt: HostRuntime) -> Result<(), Fail> {
-    let snapshot = snapshot_in(rt.alloc(), FOUR_CALLS.as_bytes()).ok_or("a snapshot")?;
-    assert!(rt; is_copied(rt.alloc(), &snapshot));
-    assert!(rt; is_building_copied(rt.alloc(), snapshot.building()));
-    assert!(rt; is_travel_copied(rt.alloc(), snapshot.building().travel()));
-    Ok(())
+fn snapshots_are_copied(rt: HostRuntime) {
+    assert!(rt; are_four_calls_copied(rt.alloc()));
 }

@@ -3,14 +3,13 @@
 
 ghost use Rattle.std.specs.Prelude.{◌≡◌, ◌<◌, ℕ, length, IsTrue};
 ghost use Rattle.elevator_model.specs.Snapshot.{call_count, call_of, group_of};
-ghost use Rattle.day_state.specs.Openings.{IsNewCall};
+ghost use Rattle.day_state.specs.Openings.{IsNewCall, IsOpeningSnapshot};
 
 use crate::cases::{FOUR_FLOORS, UNEVEN_PAIR, snapshot_of};
 use call_state::{Aboard, Call, CarState, Snapshot};
 use case_kit::{is_feasible, plan_in, snapshot_in};
 use day_state::{Event, NotTaken, World};
 use std::alloc::Global;
-use std::test::Fail;
 
 fn boards(call: u32, car: u32, moment: u64) -> Event {
     Event::Board { call, car, moment }
@@ -146,13 +145,19 @@ fn step(alloc: Global, world: &mut World, call: Call, text: &str, events: &mut V
         && plan(alloc, world, text)
 }
 
+/// Whether nobody waits and nobody is aboard.
+fn is_empty(snapshot: &Snapshot) -> bool
+    ensures { IsTrue result → IsOpeningSnapshot snapshot.now }
+{
+    snapshot.calls().is_empty() && snapshot.aboard().is_empty()
+}
+
 /// The world of a day that begins with one car of this capacity, as these lines say.
 fn opened(alloc: Global, capacity: u64, lines: &str) -> Option<World> {
-    let snapshot = snapshot_of(alloc, FOUR_FLOORS, &[capacity], lines)?;
-    if !snapshot.calls().is_empty() || !snapshot.aboard().is_empty() {
-        return None;
+    match snapshot_of(alloc, FOUR_FLOORS, &[capacity], lines) {
+        Some(snapshot) if is_empty(&snapshot) => World::opening(alloc, snapshot).ok(),
+        _ => None,
     }
-    World::opening(alloc, snapshot).ok()
 }
 
 /// A day of three calls, the second one at the moment of an arrival, the third during a dwell.
@@ -178,13 +183,6 @@ fn is_day_right(alloc: Global, world: &mut World) -> bool {
         && runs_out(alloc, world, &last)
 }
 
-#[test]
-fn a_day_of_three_calls(rt: HostRuntime) -> Result<(), Fail> {
-    let mut world = opened(rt.alloc(), 8, "now 0 / car 1 idle 0 0").ok_or("no world")?;
-    assert!(rt; is_day_right(rt.alloc(), &mut world));
-    Ok(())
-}
-
 /// A car that moves picks up a second call on its way, and comes to its floor once it can stop nowhere else.
 fn is_moving_day_right(alloc: Global, world: &mut World) -> bool {
     let mut events = Vec::new(alloc);
@@ -207,13 +205,6 @@ fn is_moving_day_right(alloc: Global, world: &mut World) -> bool {
         && advance(alloc, world, 2001, &mut events)
         && has_states(world.snapshot(), &[coming(1, 4000)])
         && events.is_empty()
-}
-
-#[test]
-fn a_day_of_a_moving_car(rt: HostRuntime) -> Result<(), Fail> {
-    let mut world = opened(rt.alloc(), 8, "now 0 / car 1 idle 0 0").ok_or("no world")?;
-    assert!(rt; is_moving_day_right(rt.alloc(), &mut world));
-    Ok(())
 }
 
 /// Whether the day of this car begins with this plan.
@@ -266,15 +257,18 @@ fn has_plan(alloc: Global, world: &World, text: &str) -> bool {
     }
 }
 
+/// Whether both worlds have the same plan, moment, groups and calls.
+fn are_same(copy: &World, world: &World) -> bool {
+    copy.plan() == world.plan()
+        && copy.snapshot().now() == world.snapshot().now()
+        && copy.snapshot().aboard() == world.snapshot().aboard()
+        && copy.snapshot().calls() == world.snapshot().calls()
+}
+
 /// Whether a copy of the world is the same.
 fn is_copied(alloc: Global, world: &World) -> bool {
     match world.copy(alloc) {
-        Ok(copy) => {
-            copy.plan() == world.plan()
-                && copy.snapshot().now() == world.snapshot().now()
-                && copy.snapshot().aboard() == world.snapshot().aboard()
-                && copy.snapshot().calls() == world.snapshot().calls()
-        }
+        Ok(copy) => are_same(&copy, world),
         Err(_) => false,
     }
 }
@@ -287,38 +281,32 @@ fn is_then(alloc: Global, world: &mut World, t: u64, states: &[CarState], due: &
         && has_states(world.snapshot(), states)
 }
 
-#[test]
-fn two_uneven_cars_before_and_at_an_arrival(rt: HostRuntime) -> Result<(), Fail> {
-    let mut world = uneven_world(rt.alloc()).ok_or("no world")?;
-    let states = [standing(2, 5000), coming(0, 2500)];
-    assert!(rt; is_then(rt.alloc(), &mut world, 2499, &states, &[]));
-    assert!(rt; has_plan(rt.alloc(), &world, "0 1:01 3 / 0 2:2 0"));
-    let states = [standing(2, 5000), standing(0, 3800)];
-    assert!(rt; is_then(rt.alloc(), &mut world, 2500, &states, &[]));
-    assert!(rt; has_plan(rt.alloc(), &world, "0 1:01 3 / 2:2 0"));
-    assert!(rt; has_calls(world.snapshot(), &[5, 2, 9]));
-    Ok(())
+/// The cars before and at an arrival.
+fn is_arrival_right(alloc: Global, world: &mut World) -> bool {
+    let before = [standing(2, 5000), coming(0, 2500)];
+    let after = [standing(2, 5000), standing(0, 3800)];
+    is_then(alloc, world, 2499, &before, &[])
+        && has_plan(alloc, world, "0 1:01 3 / 0 2:2 0")
+        && is_then(alloc, world, 2500, &after, &[])
+        && has_plan(alloc, world, "0 1:01 3 / 2:2 0")
+        && has_calls(world.snapshot(), &[5, 2, 9])
 }
 
-#[test]
-fn two_uneven_cars_under_way(rt: HostRuntime) -> Result<(), Fail> {
-    let mut world = uneven_world(rt.alloc()).ok_or("no world")?;
+/// The cars under way.
+fn is_way_right(alloc: Global, world: &mut World) -> bool {
     let due = [gets_off(30, 7, 13975), boards(9, 8, 12475)];
     let states = [standing(0, 17375), standing(2, 13375)];
-    assert!(rt; is_then(rt.alloc(), &mut world, 12875, &states, &due));
-    assert!(rt; has_plan(rt.alloc(), &world, "1:01 3 / 0"));
-    assert!(rt; has_calls(world.snapshot(), &[5, 2]));
-    let aboard = [group(9, 1, 0, 1, 12475)];
-    assert!(rt; world.snapshot().aboard() == aboard.as_slice());
-    assert!(rt; is_copied(rt.alloc(), &world));
-    let states = [coming(1, 21250), coming(0, 21250)];
-    assert!(rt; is_then(rt.alloc(), &mut world, 21125, &states, &[]));
-    Ok(())
+    let later = [coming(1, 21250), coming(0, 21250)];
+    is_then(alloc, world, 12875, &states, &due)
+        && has_plan(alloc, world, "1:01 3 / 0")
+        && has_calls(world.snapshot(), &[5, 2])
+        && world.snapshot().aboard() == [group(9, 1, 0, 1, 12475)].as_slice()
+        && is_copied(alloc, world)
+        && is_then(alloc, world, 21125, &later, &[])
 }
 
-#[test]
-fn those_who_board_together_come_by_their_ids(rt: HostRuntime) -> Result<(), Fail> {
-    let mut world = uneven_world(rt.alloc()).ok_or("no world")?;
+/// Those who board together come by their ids.
+fn is_boarding_right(alloc: Global, world: &mut World) -> bool {
     let due = [
         gets_off(30, 7, 13975),
         boards(2, 7, 22350),
@@ -327,27 +315,28 @@ fn those_who_board_together_come_by_their_ids(rt: HostRuntime) -> Result<(), Fai
         gets_off(9, 8, 22050),
     ];
     let states = [rising(1, 23950), standing(0, 24000)];
-    assert!(rt; is_then(rt.alloc(), &mut world, 24000, &states, &due));
-    assert!(rt; has_plan(rt.alloc(), &world, "3 /"));
     let aboard = [group(2, 0, 3, 1, 22350), group(5, 0, 3, 2, 22350)];
-    assert!(rt; world.snapshot().aboard() == aboard.as_slice());
     let last = [gets_off(2, 7, 31592), gets_off(5, 7, 31592)];
-    assert!(rt; runs_out(rt.alloc(), &world, &last));
-    Ok(())
+    is_then(alloc, world, 24000, &states, &due)
+        && has_plan(alloc, world, "3 /")
+        && world.snapshot().aboard() == aboard.as_slice()
+        && runs_out(alloc, world, &last)
 }
 
-#[test]
-fn the_index_of_a_call_that_waits_falls(rt: HostRuntime) -> Result<(), Fail> {
-    let mut world = uneven_world(rt.alloc()).ok_or("no world")?;
-    let mut events = Vec::new(rt.alloc());
-    assert!(rt; plan(rt.alloc(), &mut world, "0 1:0 3 1:1 3 / 0 2:2 0"));
-    assert!(rt; advance(rt.alloc(), &mut world, 24000, &mut events));
-    assert!(rt; has_plan(rt.alloc(), &world, "3 1:0 3 /"));
-    Ok(())
+/// The index of a call that waits falls.
+fn is_index_right(alloc: Global, world: &mut World) -> bool {
+    let mut events = Vec::new(alloc);
+    plan(alloc, world, "0 1:0 3 1:1 3 / 0 2:2 0")
+        && advance(alloc, world, 24000, &mut events)
+        && has_plan(alloc, world, "3 1:0 3 /")
 }
 
 /// Takes 64 calls while the car comes, and then one that is too many.
 fn is_full(alloc: Global, world: &mut World) -> bool {
+    let large = call(7, 0, 1, 9, 0);
+    if accept(alloc, world, large).is_some() {
+        return false;
+    }
     for id in 1..65 {
         if accept(alloc, world, call(id, 0, 1, 1, 0)) != Some(Ok(())) {
             return false;
@@ -357,24 +346,73 @@ fn is_full(alloc: Global, world: &mut World) -> bool {
         && world.snapshot().calls().len() == 64
 }
 
-#[test]
-fn a_world_takes_no_call_that_is_too_many(rt: HostRuntime) -> Result<(), Fail> {
-    let mut world = opened(rt.alloc(), 8, "now 0 / car 1 coming 3 90000000").ok_or("no world")?;
-    let large = Call {
-        persons: 9,
-        ..call(7, 0, 1, 1, 0)
-    };
-    assert!(rt; accept(rt.alloc(), &mut world, large).is_none());
-    assert!(rt; is_full(rt.alloc(), &mut world));
-    Ok(())
+/// Takes no call for three persons, which the car cannot carry, and one for two.
+fn is_choosy(alloc: Global, world: &mut World) -> bool {
+    accept(alloc, world, call(7, 0, 1, 3, 0)) == Some(Err(NotTaken::NoCar))
+        && accept(alloc, world, call(7, 0, 1, 2, 0)) == Some(Ok(()))
+        && world.snapshot().calls().len() == 1
+}
+
+/// A day that was worked out by hand.
+#[derive(Clone, Copy)]
+enum Day {
+    ThreeCalls,
+    MovingCar,
+    Full,
+    Choosy,
+    Arrival,
+    UnderWay,
+    BoardingTogether,
+    FallingIndex,
+}
+
+impl Day {
+    /// The world with which it begins.
+    fn opening(self, alloc: Global) -> Option<World> {
+        match self {
+            Day::ThreeCalls | Day::MovingCar => opened(alloc, 8, "now 0 / car 1 idle 0 0"),
+            Day::Full => opened(alloc, 8, "now 0 / car 1 coming 3 90000000"),
+            Day::Choosy => opened(alloc, 2, "now 0 / car 1 idle 0 0"),
+            Day::Arrival | Day::UnderWay | Day::BoardingTogether | Day::FallingIndex => {
+                uneven_world(alloc)
+            }
+        }
+    }
+
+    /// Whether it goes as it was worked out.
+    fn goes_right(self, alloc: Global, world: &mut World) -> bool {
+        match self {
+            Day::ThreeCalls => is_day_right(alloc, world),
+            Day::MovingCar => is_moving_day_right(alloc, world),
+            Day::Full => is_full(alloc, world),
+            Day::Choosy => is_choosy(alloc, world),
+            Day::Arrival => is_arrival_right(alloc, world),
+            Day::UnderWay => is_way_right(alloc, world),
+            Day::BoardingTogether => is_boarding_right(alloc, world),
+            Day::FallingIndex => is_index_right(alloc, world),
+        }
+    }
+
+    fn is_right(self, alloc: Global) -> bool {
+        match self.opening(alloc) {
+            Some(mut world) => self.goes_right(alloc, &mut world),
+            None => false,
+        }
+    }
 }
 
 #[test]
-fn a_world_takes_no_call_that_no_car_can_take(rt: HostRuntime) -> Result<(), Fail> {
-    let mut world = opened(rt.alloc(), 2, "now 0 / car 1 idle 0 0").ok_or("no world")?;
-    let three = call(7, 0, 1, 3, 0);
-    assert!(rt; accept(rt.alloc(), &mut world, three) == Some(Err(NotTaken::NoCar)));
-    assert!(rt; accept(rt.alloc(), &mut world, call(7, 0, 1, 2, 0)) == Some(Ok(())));
-    assert!(rt; world.snapshot().calls().len() == 1);
-    Ok(())
+fn days_of_one_car(rt: HostRuntime) {
+    assert!(rt; Day::ThreeCalls.is_right(rt.alloc()));
+    assert!(rt; Day::MovingCar.is_right(rt.alloc()));
+    assert!(rt; Day::Full.is_right(rt.alloc()));
+    assert!(rt; Day::Choosy.is_right(rt.alloc()));
+}
+
+#[test]
+fn days_of_two_uneven_cars(rt: HostRuntime) {
+    assert!(rt; Day::Arrival.is_right(rt.alloc()));
+    assert!(rt; Day::UnderWay.is_right(rt.alloc()));
+    assert!(rt; Day::BoardingTogether.is_right(rt.alloc()));
+    assert!(rt; Day::FallingIndex.is_right(rt.alloc()));
 }

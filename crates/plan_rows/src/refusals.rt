@@ -8,7 +8,6 @@ use call_state::{
     Travel,
 };
 use std::alloc::{AllocError, Global};
-use std::test::Fail;
 
 fn bad(fault: Fault, item: u32) -> Option<StateFault> {
     Some(StateFault::Bad { fault, item })
@@ -125,15 +124,25 @@ fn coming(floor: u32) -> CarState {
     }
 }
 
-#[test]
-fn items_of_snapshots_are_refused(rt: HostRuntime) -> Result<(), Fail> {
+/// Whether a snapshot with a person aboard is refused so with another state of its car and another call.
+fn is_refused(alloc: Global, state: CarState, call: Call, fault: Option<StateFault>) -> bool {
     let head = "building 1 / speed 2000 / accel 1000 / weights 1 1 / floors 0 4000 8000 12000
         car 9 8 1000 1000 500 500 0 1 2";
-    let lines = "now 5000 / car 9 idle 0 5000 / aboard 9 9 2 1 0";
-    let snapshot = snapshot_of(rt.alloc(), head, &[], lines).ok_or("a snapshot")?;
-    let lacks_floor = fault_with(rt.alloc(), &snapshot, &[coming(3)], &[call_to(2)]);
-    assert!(rt; lacks_floor == bad(Fault::NotServed, 1));
-    let stays = fault_with(rt.alloc(), &snapshot, &[coming(1)], &[call_to(0)]);
-    assert!(rt; stays == bad(Fault::OriginIsDestination, 3));
-    Ok(())
+    match snapshot_of(
+        alloc,
+        head,
+        &[],
+        "now 5000 / car 9 idle 0 5000 / aboard 9 9 2 1 0",
+    ) {
+        Some(snapshot) => fault_with(alloc, &snapshot, &[state], &[call]) == fault,
+        None => false,
+    }
+}
+
+#[test]
+fn items_of_snapshots_are_refused(rt: HostRuntime) {
+    let lacks_floor = bad(Fault::NotServed, 1);
+    assert!(rt; is_refused(rt.alloc(), coming(3), call_to(2), lacks_floor));
+    let stays = bad(Fault::OriginIsDestination, 3);
+    assert!(rt; is_refused(rt.alloc(), coming(1), call_to(0), stays));
 }

@@ -68,13 +68,9 @@ fn may_begin_anywhere(alloc: Global, snapshot: &Snapshot) -> bool {
     }
 }
 
-#[test]
-fn one_call_is_served(rt: HostRuntime) -> Result<(), Fail> {
-    let snapshot = snapshot_of(rt.alloc(), FOUR_FLOORS, &[8], ONE_CALL).ok_or("a snapshot")?;
-    assert!(rt; is_fetched(rt.alloc(), &snapshot));
-    assert!(rt; may_stay(rt.alloc(), &snapshot));
-    assert!(rt; may_begin_anywhere(rt.alloc(), &snapshot));
-    Ok(())
+/// Whether one call is served.
+fn is_one_served(alloc: Global, snapshot: &Snapshot) -> bool {
+    is_fetched(alloc, snapshot) && may_stay(alloc, snapshot) && may_begin_anywhere(alloc, snapshot)
 }
 
 /// Whether the first of two cars fetches both calls at once. The order in which they board has no meaning.
@@ -109,12 +105,9 @@ fn takes_the_second(alloc: Global, snapshot: &Snapshot) -> bool {
     }
 }
 
-#[test]
-fn two_calls_are_fetched_together(rt: HostRuntime) -> Result<(), Fail> {
-    let snapshot = snapshot_of(rt.alloc(), FOUR_FLOORS, &[8, 8], TWO_CALLS).ok_or("a snapshot")?;
-    assert!(rt; starts_with_both(rt.alloc(), &snapshot));
-    assert!(rt; takes_the_second(rt.alloc(), &snapshot));
-    Ok(())
+/// Whether two calls are fetched together.
+fn are_two_served(alloc: Global, snapshot: &Snapshot) -> bool {
+    starts_with_both(alloc, snapshot) && takes_the_second(alloc, snapshot)
 }
 
 /// Whether the plain plan serves the four calls one after another.
@@ -192,15 +185,35 @@ fn costs(alloc: Global, snapshot: &Snapshot, text: &str, due: u64) -> bool {
     }
 }
 
+/// Whether four calls are served.
+fn are_four_served(alloc: Global, snapshot: &Snapshot) -> bool {
+    is_plain(alloc, snapshot)
+        && is_in_order(alloc, snapshot)
+        && opens_twice(alloc, snapshot)
+        && is_second_timed(alloc, snapshot)
+        && costs(alloc, snapshot, "2:2 0 / 0:3 1:01 3 / 1 3", 252_292)
+}
+
+/// Whether so many calls are served as they are to be.
+fn are_served(alloc: Global, calls: u32) -> bool {
+    let snapshot = match calls {
+        1 => snapshot_of(alloc, FOUR_FLOORS, &[8], ONE_CALL),
+        2 => snapshot_of(alloc, FOUR_FLOORS, &[8, 8], TWO_CALLS),
+        _ => snapshot_in(alloc, FOUR_CALLS.as_bytes()),
+    };
+    match (&snapshot, calls) {
+        (Some(snapshot), 1) => is_one_served(alloc, snapshot),
+        (Some(snapshot), 2) => are_two_served(alloc, snapshot),
+        (Some(snapshot), _) => are_four_served(alloc, snapshot),
+        (None, _) => false,
+    }
+}
+
 #[test]
-fn four_calls_are_served(rt: HostRuntime) -> Result<(), Fail> {
-    let snapshot = snapshot_in(rt.alloc(), FOUR_CALLS.as_bytes()).ok_or("a snapshot")?;
-    assert!(rt; is_plain(rt.alloc(), &snapshot));
-    assert!(rt; is_in_order(rt.alloc(), &snapshot));
-    assert!(rt; opens_twice(rt.alloc(), &snapshot));
-    assert!(rt; is_second_timed(rt.alloc(), &snapshot));
-    assert!(rt; costs(rt.alloc(), &snapshot, "2:2 0 / 0:3 1:01 3 / 1 3", 252_292));
-    Ok(())
+fn calls_are_served(rt: HostRuntime) {
+    assert!(rt; are_served(rt.alloc(), 1));
+    assert!(rt; are_served(rt.alloc(), 2));
+    assert!(rt; are_served(rt.alloc(), 4));
 }
 
 #[test]
