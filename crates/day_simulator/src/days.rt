@@ -51,8 +51,8 @@ fn unsolved_by(cost: u64, bound: u64) -> u32
     if bound < cost { 1 } else { 0 }
 }
 
-/// Brings this world in place of the present one, which it leaves there, and notes what happened until then and the
-/// call that came. It fails only where there is no memory left: then the present world and the calls are as before.
+/// Swaps this world with the present one, and notes what happened until then and the call that came. It fails
+/// only where there is no memory left: then the present world and the calls are as before.
 fn go_on_in(
     next: &mut World,
     events: &[Event],
@@ -72,8 +72,8 @@ fn go_on_in(
     Ok(())
 }
 
-/// Runs the last plan to its end, notes at the calls what happens, appends what is left of the log, and gives the served
-/// calls. It fails only where there is no memory left: then the log is as before.
+/// Runs the last plan to its end, notes at the calls what happens, appends what is left of the log, and gives
+/// the served calls. It fails only where there is no memory left: then the log is as before.
 fn finish_in(
     alloc: Global,
     world: &World,

@@ -87,7 +87,8 @@ fn accepted_lines(
     Ok(text)
 }
 
-/// Appends the lines of a row that was accepted. It fails only where there is no memory left: then the log is as before.
+/// Appends the lines of a row that was accepted. It fails only where there is no memory left: then the log
+/// is as before.
 pub(crate) fn add_accepted(
     alloc: Global,
     number: u32,

@@ -142,8 +142,8 @@ impl World {
         world_at(alloc, self, t, reached.as_slice())
     }
 
-    /// Becomes the later world, and adds what happened until then. It fails only where there is no memory left: then
-    /// world and events are as before.
+    /// Becomes the later world, and adds what happened until then. It fails only where there is no memory
+    /// left: then world and events are as before.
     fn give_way_to(
         &mut self,
         later: World,
