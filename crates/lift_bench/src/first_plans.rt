@@ -54,8 +54,8 @@ fn case_cost(alloc: Global, number: u32, cases: Cases) -> Result<u64, AllocError
     first_cost(alloc, &snapshot)
 }
 
-/// Prints a line for each case: floors, cars, calls, number, and what its first plan costs. False where there are no
-/// cases of these sizes.
+/// Prints a line for each case: floors, cars, calls, number, and what its first plan costs. False where there
+/// are no cases of these sizes.
 pub(crate) fn print_costs(rt: &HostRuntime, cases: Cases) -> io::Result<bool> {
     let Cases {
         floors,

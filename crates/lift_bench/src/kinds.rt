@@ -1,5 +1,5 @@
-//! Small snapshots of eight kinds, drawn by chance: four floors 4000 mm apart, 2000 mm/s and 1000 mm/s², weights 1 and
-//! 1, cars that need 1000 ms for their doors each way and 500 ms a person, and three calls.
+//! Small snapshots of eight kinds, drawn by chance: four floors 4000 mm apart, 2000 mm/s and 1000 mm/s²,
+//! weights 1 and 1, cars that need 1000 ms for their doors each way and 500 ms a person, and three calls.
 
 use call_state::{Aboard, Call, CarState, Snapshot};
 use case_kit::{Draws, put_call, put_group, put_state, snapshot_in};
@@ -180,8 +180,8 @@ fn put_second(text: &mut Vec<u8>, second: Second, draws: &mut Draws) -> Result<(
     put_state(text, 2, state)
 }
 
-/// One or two groups aboard the first car, which stands at this floor. They may want to go to two sides of it: then the
-/// snapshot is refused.
+/// One or two groups aboard the first car, which stands at this floor. They may want to go to two sides of
+/// it: then the snapshot is refused.
 fn put_groups(text: &mut Vec<u8>, draws: &mut Draws, floor: u32) -> Result<(), AllocError> {
     for group in 0..1 + draws.below(2) {
         let group = Aboard {
