@@ -11,8 +11,8 @@ use pricing_bound::bound;
 use std::alloc::Global;
 use std::test::Fail;
 
-/// The car stands at the lowest floor with two persons for the highest one. Calls wait at the middle, the highest and
-/// the lowest floor. A ms of waiting costs 3 and past 6,000 ms 5 more, and one of riding 2.
+/// The car stands at the lowest floor with two persons for the highest one. Calls wait at the middle, the
+/// highest and the lowest floor. A ms of waiting costs 3 and past 6,000 ms 5 more, and one of riding 2.
 const THREE_CALLS: &str = "building 3
 speed 2000
 accel 1000
@@ -116,9 +116,9 @@ fn bounds(alloc: Global, prices: [i128; 3], allowed: u128, required: u128) -> Op
     }
 }
 
-// Where the first call has boarded, the doors are open at 7,500: it costs 30,200 to its floor and the group 45,200.
-// The second call would cost 124,800 and the third one 49,600. At 14,400 both are there, for 89,800 together, and
-// the others would cost 290,400 and 156,000.
+// Where the first call has boarded, the doors are open at 7,500: it costs 30,200 to its floor and the group
+// 45,200. The second call would cost 124,800 and the third one 49,600. At 14,400 both are there, for 89,800
+// together, and the others would cost 290,400 and 156,000.
 
 #[test]
 fn a_call_counts_where_it_lowers_the_bound(rt: HostRuntime) -> Result<(), Fail> {

@@ -52,8 +52,8 @@ fn has_first_cars(snapshot: &Snapshot, floors: u32) -> bool
         && snapshot.car(2) == idle_at(third % floors)
 }
 
-// These numbers of floors have no factor in common, and their product is above 2^32: so what they leave of a draw
-// is that of no other number.
+// These numbers of floors have no factor in common, and their product is above 2^32: so what they leave of a
+// draw is that of no other number.
 #[test]
 fn first_draws_of_zero(rt: HostRuntime) {
     for floors in [64, 63, 61, 59, 55, 53] {
@@ -72,7 +72,8 @@ fn call(id: u32, origin: u32, destination: u32, persons: u32, released: u64) -> 
     })
 }
 
-/// Whether the case of a number has these sizes (floors, cars and calls), its first car at this floor and this last call.
+/// Whether the case of a number has these sizes (floors, cars and calls), its first car at this floor and
+/// this last call.
 fn is_made(alloc: Global, number: u64, sizes: [u32; 3], floor: u32, last: Option<Call>) -> bool {
     let [floors, cars, calls] = sizes;
     if floors < 2 || floors > 64 || cars < 1 || cars > 8 || calls > 64 {

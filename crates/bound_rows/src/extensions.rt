@@ -11,8 +11,8 @@ use partial_tours::Prefix;
 use std::alloc::Global;
 use tour_extension::{Demand, can_be_extended};
 
-/// At the middle floor two persons came first, and then one. All go to the upper floor. The car stands at the lower
-/// one.
+/// At the middle floor two persons came first, and then one. All go to the upper floor. The car stands at the
+/// lower one.
 const QUEUE: &str = "building 1
 speed 2000
 accel 1000

@@ -7,8 +7,8 @@ use case_kit::{put_lines, snapshot_in};
 use lift_text::put_words;
 use std::alloc::{AllocError, Global};
 
-/// The first car lacks the top floor, the third one floor 1. The third call is for more persons than the third car
-/// takes, and the last one is pinned to that car.
+/// The first car lacks the top floor, the third one floor 1. The third call is for more persons than the
+/// third car takes, and the last one is pinned to that car.
 const UNEVEN: &str = "building 1
 speed 2000
 accel 1000
@@ -93,7 +93,8 @@ fn divides(node: &Node, first: &mut Node, second: &mut Node) -> bool
         && demands(second, 2) == [0b11000, 0b10000]
 }
 
-/// Whether each of these parts of a call of the uneven root is refused. The second call has the first two cars.
+/// Whether each of these parts of a call of the uneven root is refused. The second call has the first two
+/// cars.
 fn are_refused(node: &Node, first: &mut Node, second: &mut Node) -> bool
     requires first { length first.old ≡ length node.now }
     requires second { length second.old ≡ length node.now }

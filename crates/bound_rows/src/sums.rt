@@ -10,8 +10,8 @@ use pricing_bound::{Rates, StraightRides};
 use std::alloc::Global;
 use std::test::Fail;
 
-/// The car comes to the lowest floor with two persons for the highest one and one for the middle. Four calls wait. A ms
-/// of waiting costs 3 and past 6,000 ms 5 more, and one of riding 2.
+/// The car comes to the lowest floor with two persons for the highest one and one for the middle. Four calls
+/// wait. A ms of waiting costs 3 and past 6,000 ms 5 more, and one of riding 2.
 const FOUR_CALLS: &str = "building 3
 speed 2000
 accel 1000
@@ -102,9 +102,10 @@ fn agreed(seen: Option<Seen>, visits: u64) -> bool {
     }
 }
 
-// The only tour without calls: the car opens at 3,600 at the lowest floor, at 9,500 at the middle one, where the one
-// person has ridden 8,600 ms for 17,200, and at 16,300 at the highest one, where two have ridden 15,600 ms for 62,400.
-// From there it may also go to either of the others, which it could not leave again: seven partial tours.
+// The only tour without calls: the car opens at 3,600 at the lowest floor, at 9,500 at the middle one, where
+// the one person has ridden 8,600 ms for 17,200, and at 16,300 at the highest one, where two have ridden
+// 15,600 ms for 62,400. From there it may also go to either of the others, which it could not leave again:
+// seven partial tours.
 
 #[test]
 fn the_groups_alone_have_one_tour(rt: HostRuntime) -> Result<(), Fail> {

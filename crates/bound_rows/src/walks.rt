@@ -27,7 +27,8 @@ pub(crate) struct Asked<'a> {
     pub(crate) required: CallSet,
 }
 
-/// What a walk saw: how many partial tours, at how many the sums agreed with `bound`, and the least value of a tour.
+/// What a walk saw: how many partial tours, at how many the sums agreed with `bound`, and the least value of
+/// a tour.
 #[derive(Clone, Copy, PartialEq, Debug)]
 pub(crate) struct Seen {
     pub(crate) visits: u64,
@@ -63,8 +64,8 @@ fn agrees(prefix: &Prefix, rides: &StraightRides, asked: &Asked, sums: &Sums) ->
     rides.value(sums) == whole
 }
 
-/// The sums at a next stop, from the departure. It is noted as a partial tour where something disagrees if the sums
-/// found without a departure have another bound, or the departure tells of a greater one.
+/// The sums at a next stop, from the departure. It is noted as a partial tour where something disagrees if
+/// the sums found without a departure have another bound, or the departure tells of a greater one.
 fn arrived(prefix: &Prefix, rides: &StraightRides, sums: &Sums, floor: u32, seen: &mut Seen) -> Sums
     requires kept { IsKept (aim_at rides.now.rates.now rides.now.car rides.now.allowed
         rides.now.required) prefix.now sums.now }

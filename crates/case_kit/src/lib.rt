@@ -1,8 +1,8 @@
-//! What tests and measurements of several crates make: draws, the texts of snapshots and the snapshots in them, tours
-//! and plans in short texts, what these cost, and counts of checks.
+//! What tests and measurements of several crates make: draws, the texts of snapshots and the snapshots in
+//! them, tours and plans in short texts, what these cost, and counts of checks.
 //!
-//! What answers an `Option` or a `bool` says `None` or no where memory is wanting, so that a test fails then. With few
-//! early returns, and few values to drop at them, what calls it is proved fast.
+//! What answers an `Option` or a `bool` says `None` or no where memory is wanting, so that a test fails then.
+//! With few early returns, and few values to drop at them, what calls it is proved fast.
 #![tactic(auto)]
 
 mod checks;

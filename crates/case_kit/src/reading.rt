@@ -9,7 +9,8 @@ use std::alloc::Global;
 /// How many bytes are read at once. An uneven number cuts words and lines.
 const PIECE: usize = 7;
 
-/// The snapshot of a text: its building, and then the snapshot itself. None where it is refused, or memory is wanting.
+/// The snapshot of a text: its building, and then the snapshot itself. None where it is refused, or memory is
+/// wanting.
 pub fn snapshot_in(alloc: Global, text: &[u8]) -> Option<Snapshot> {
     let bytes = Vec::from_slice(alloc, text).ok()?;
     let mut source = MemorySource::new(bytes, PIECE, Vec::new(alloc));
@@ -17,12 +18,12 @@ pub fn snapshot_in(alloc: Global, text: &[u8]) -> Option<Snapshot> {
     read_case(alloc, &mut lines).ok()
 }
 
-/// A case that was worked out by hand: three floors 4000 mm apart, a car for one person at the lowest floor and one for
-/// two at the middle one, two calls from the lowest floor to the highest and two the other way. A ms of waiting or of
-/// riding costs 1.
+/// A case that was worked out by hand: three floors 4000 mm apart, a car for one person at the lowest floor
+/// and one for two at the middle one, two calls from the lowest floor to the highest and two the other way. A
+/// ms of waiting or of riding costs 1.
 ///
-/// Its cheapest plan costs 61000: the first car takes a call up for 9500, and the second one takes the two calls down for
-/// 14000 each and then the other call up for 23500.
+/// Its cheapest plan costs 61000: the first car takes a call up for 9500, and the second one takes the two
+/// calls down for 14000 each and then the other call up for 23500.
 pub const WORKED_CASE: &str = "building 1
 speed 2000
 accel 1000

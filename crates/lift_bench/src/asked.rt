@@ -14,7 +14,8 @@ pub(crate) enum Asked {
     All,
 }
 
-/// The number that the word at this place writes, and 0 where there is no such word. None where it writes none.
+/// The number that the word at this place writes, and 0 where there is no such word. None where it writes
+/// none.
 fn number(words: &[String], place: usize) -> Option<u32> {
     match words.get(place) {
         Some(word) => word.as_str().parse::<u32>().ok(),

@@ -2,7 +2,7 @@
 
 ghost use Rattle.std.specs.Prelude.{◌≤◌};
 
-use crate::kinds::{KINDS, Kind, accepted_snapshot};
+use crate::kinds::{KINDS, Kind, drawn_snapshot};
 use call_state::Snapshot;
 use case_kit::Draws;
 use case_maker::make;
@@ -14,6 +14,9 @@ use tour_cost::plan_cost;
 
 /// What the draws of the first kind begin with; each later kind begins one higher.
 const SEED: u64 = 20_261_127;
+
+/// How often a snapshot is drawn until one is accepted.
+const MOST_DRAWS: u32 = 20;
 
 /// The generated cases of these sizes with the numbers from 1 to `count`.
 #[derive(Clone, Copy)]
@@ -28,6 +31,11 @@ pub(crate) struct Cases {
 fn first_cost(alloc: Global, snapshot: &Snapshot) -> Result<u64, AllocError> {
     let plan = first(alloc, snapshot)?;
     Ok(plan_cost(snapshot, &plan))
+}
+
+/// What a cheapest plan costs.
+fn cheapest_cost(alloc: Global, snapshot: &Snapshot) -> Result<u64, AllocError> {
+    Ok(cheapest_plan(alloc, snapshot)?.cost)
 }
 
 /// What the first plan of a generated case costs.
@@ -46,8 +54,8 @@ fn case_cost(alloc: Global, number: u32, cases: Cases) -> Result<u64, AllocError
     first_cost(alloc, &snapshot)
 }
 
-/// Prints a line for each case: floors, cars, calls, number, and what its first plan costs. False where there are no
-/// cases of these sizes.
+/// Prints a line for each case: floors, cars, calls, number, and what its first plan costs. False where there
+/// are no cases of these sizes.
 pub(crate) fn print_costs(rt: &HostRuntime, cases: Cases) -> io::Result<bool> {
     let Cases {
         floors,
@@ -92,30 +100,49 @@ impl Score {
     }
 }
 
-/// Counts a snapshot in the score.
-fn compare(alloc: Global, snapshot: &Snapshot, score: &mut Score) -> Result<(), AllocError> {
-    let cheapest = cheapest_plan(alloc, snapshot)?;
-    score.add(first_cost(alloc, snapshot)?, cheapest.cost);
-    Ok(())
+/// Counts a snapshot in the score. False where memory is wanting.
+fn compare(alloc: Global, snapshot: &Snapshot, score: &mut Score) -> bool {
+    match (first_cost(alloc, snapshot), cheapest_cost(alloc, snapshot)) {
+        (Ok(first), Ok(cheapest)) => {
+            score.add(first, cheapest);
+            true
+        }
+        _ => false,
+    }
 }
 
-/// Compares the plans of so many snapshots of this kind; each is compared or skipped.
-fn score_of(alloc: Global, kind: &Kind, seed: u64, count: u32) -> Result<Score, AllocError> {
+/// Draws a snapshot of this kind and counts it in the score. False where it is refused, or memory is wanting.
+fn compare_next(alloc: Global, kind: &Kind, draws: &mut Draws, score: &mut Score) -> bool {
+    match drawn_snapshot(alloc, kind, draws) {
+        Some(snapshot) => compare(alloc, &snapshot, score),
+        None => false,
+    }
+}
+
+/// Counts the first of 20 snapshots of this kind that is accepted, or counts that none is.
+fn compare_first(alloc: Global, kind: &Kind, draws: &mut Draws, score: &mut Score) {
+    for _ in 0..MOST_DRAWS {
+        if compare_next(alloc, kind, draws, score) {
+            return;
+        }
+    }
+    score.skipped = score.skipped.saturating_add(1);
+}
+
+/// Compares the plans of so many snapshots of this kind. Each is compared or skipped.
+fn score_of(alloc: Global, kind: &Kind, seed: u64, count: u32) -> Score {
     let mut draws = Draws::from_state(seed);
     let mut score = Score::default();
     for _ in 0..count {
-        match accepted_snapshot(alloc, kind, &mut draws) {
-            Some(snapshot) => compare(alloc, &snapshot, &mut score)?,
-            None => score.skipped = score.skipped.saturating_add(1),
-        }
+        compare_first(alloc, kind, &mut draws, &mut score);
     }
-    Ok(score)
+    score
 }
 
 /// Compares the plans of so many snapshots of each kind, and prints a line for each.
 pub(crate) fn print_kinds(rt: &HostRuntime, count: u32) -> io::Result<bool> {
     for (place, kind) in KINDS.iter().enumerate() {
-        let score = score_of(rt.alloc(), kind, SEED.wrapping_add(place as u64), count)?;
+        let score = score_of(rt.alloc(), kind, SEED.wrapping_add(place as u64), count);
         println!(rt;
             "{} made {} equal {} excess_permille_worst {} excess_permille_mean {}",
             kind.name,

@@ -1,5 +1,5 @@
-//! Small snapshots of eight kinds, drawn by chance: four floors 4000 mm apart, 2000 mm/s and 1000 mm/s², weights 1 and
-//! 1, cars that need 1000 ms for their doors each way and 500 ms a person, and three calls.
+//! Small snapshots of eight kinds, drawn by chance: four floors 4000 mm apart, 2000 mm/s and 1000 mm/s²,
+//! weights 1 and 1, cars that need 1000 ms for their doors each way and 500 ms a person, and three calls.
 
 use call_state::{Aboard, Call, CarState, Snapshot};
 use case_kit::{Draws, put_call, put_group, put_state, snapshot_in};
@@ -148,9 +148,6 @@ const FLOORS: u32 = 4;
 /// The moment of every snapshot, in ms.
 const NOW: u64 = 10_000;
 
-/// How often a snapshot is drawn until one is accepted.
-const MOST_DRAWS: u32 = 20;
-
 /// A floor other than this one.
 fn other_floor(draws: &mut Draws, floor: u32) -> u32 {
     (floor % FLOORS + 1 + draws.below(FLOORS - 1)) % FLOORS
@@ -183,8 +180,8 @@ fn put_second(text: &mut Vec<u8>, second: Second, draws: &mut Draws) -> Result<(
     put_state(text, 2, state)
 }
 
-/// One or two groups aboard the first car, which stands at this floor. They may want to go to two sides of it: then the
-/// snapshot is refused.
+/// One or two groups aboard the first car, which stands at this floor. They may want to go to two sides of
+/// it: then the snapshot is refused.
 fn put_groups(text: &mut Vec<u8>, draws: &mut Draws, floor: u32) -> Result<(), AllocError> {
     for group in 0..1 + draws.below(2) {
         let group = Aboard {
@@ -232,22 +229,11 @@ fn put_case(text: &mut Vec<u8>, kind: &Kind, draws: &mut Draws) -> Result<(), Al
     text.extend_from_slice(b"end\n")
 }
 
-/// A snapshot of this kind. None where what was drawn is refused, or memory is wanting.
-fn drawn_snapshot(alloc: Global, kind: &Kind, draws: &mut Draws) -> Option<Snapshot> {
+/// The next snapshot of this kind. None where what was drawn is refused, or memory is wanting.
+pub(crate) fn drawn_snapshot(alloc: Global, kind: &Kind, draws: &mut Draws) -> Option<Snapshot> {
     let mut text = Vec::new(alloc);
     match put_case(&mut text, kind, draws) {
         Ok(()) => snapshot_in(alloc, &text),
         Err(_) => None,
     }
-}
-
-/// The first accepted snapshot of this kind that is drawn, and None where 20 in a row are none.
-pub(crate) fn accepted_snapshot(alloc: Global, kind: &Kind, draws: &mut Draws) -> Option<Snapshot> {
-    for _ in 0..MOST_DRAWS {
-        let drawn = drawn_snapshot(alloc, kind, draws);
-        if drawn.is_some() {
-            return drawn;
-        }
-    }
-    None
 }

@@ -117,8 +117,8 @@ fn price_often<P: Pricer>(
     seen
 }
 
-/// Prices all cars at this price, and answers how many microseconds that took. Only the pricings are timed: not the
-/// making of the desk.
+/// Prices all cars at this price, and answers how many microseconds that took. Only the pricings are timed:
+/// not the making of the desk.
 fn price_all(
     rt: &HostRuntime,
     snapshot: &Snapshot,
@@ -134,8 +134,8 @@ fn price_all(
     Ok((seen, start.elapsed(rt)?.as_micros()))
 }
 
-/// Prices all cars, and prints how many partial tours were visited, how many pricings reached the limit, and the sum of
-/// the worths; and to standard error the microseconds that the pricings took.
+/// Prices all cars, and prints how many partial tours were visited, how many pricings reached the limit, and
+/// the sum of the worths; and to standard error the microseconds that the pricings took.
 pub(crate) fn print_pricing(
     rt: &HostRuntime,
     snapshot: &Snapshot,

@@ -43,8 +43,8 @@ fn copy_answer(
     }
 }
 
-/// Reads so many cases with their answers, one after another, appends the text of each, and counts their calls. None
-/// where one of them is refused, or memory is wanting.
+/// Reads so many cases with their answers, one after another, appends the text of each, and counts their
+/// calls. None where one of them is refused, or memory is wanting.
 fn copy_cases(
     alloc: Global,
     lines: &mut LineReader<MemorySource>,
@@ -63,8 +63,8 @@ fn copy_cases(
     Some(calls)
 }
 
-/// Reads the text of so many cases with their answers by one reader, writes it again, and counts that. False where one
-/// is refused, or memory is wanting.
+/// Reads the text of so many cases with their answers by one reader, writes it again, and counts that. False
+/// where one is refused, or memory is wanting.
 fn go_round(alloc: Global, text: &[u8], cases: u32, counts: &mut Counts) -> bool {
     let Ok(bytes) = Vec::from_slice(alloc, text) else {
         return false;
@@ -91,9 +91,9 @@ fn repeated(alloc: Global, text: &[u8], cases: u32) -> Result<Vec<u8>, AllocErro
     Ok(all)
 }
 
-/// Makes a text of so many of these cases with an answer, reads it so often from memory, each time by one reader,
-/// writes what it read, and prints how many bytes there were and how many of the texts written were the text read.
-/// False where the text is none of a building, a snapshot and an answer.
+/// Makes a text of so many of these cases with an answer, reads it so often from memory, each time by one
+/// reader, writes what it read, and prints how many bytes there were and how many of the texts written were
+/// the text read. False where the text is none of a building, a snapshot and an answer.
 pub(crate) fn print_rounds(
     rt: &HostRuntime,
     case: &[u8],

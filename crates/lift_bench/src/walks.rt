@@ -20,7 +20,8 @@ struct Seen {
     settled: u64,
 }
 
-/// Walks on through the partial tours of the prefix's car, depth first, until so many were seen or none is left.
+/// Walks on through the partial tours of the prefix's car, depth first, until so many were seen or none is
+/// left.
 fn walk_on(prefix: &mut Prefix, tours: u32, seen: &mut Seen)
     requires { seen.old.ended ≤ seen.old.tours }
     ensures ended { seen.new.ended ≤ seen.new.tours }
@@ -66,8 +67,9 @@ fn walk(prefix: &mut Prefix, tours: u32) -> Seen
     seen
 }
 
-/// Walks so many partial tours of the first car depth first (where there are fewer, from the start again), and prints
-/// how many there were, how many of them ended, and the sum of what those who got off cost, modulo 2^64.
+/// Walks so many partial tours of the first car depth first (where there are fewer, from the start again),
+/// and prints how many there were, how many of them ended, and the sum of what those who got off cost, modulo
+/// 2^64.
 pub(crate) fn print_walk(rt: &HostRuntime, snapshot: &Snapshot, tours: u32) -> io::Result<bool> {
     if snapshot.building().cars().is_empty() {
         return Ok(false);

@@ -23,14 +23,19 @@ fn breaks(snapshot: &Snapshot, plan: &Plan, place: [u32; 2], number: u8) -> bool
     }
 }
 
-/// Whether this is so of the plan in this text for the four calls.
-fn breaks_in(alloc: Global, text: &str, place: [u32; 2], number: u8) -> bool {
-    match (
-        snapshot_in(alloc, FOUR_CALLS.as_bytes()),
-        plan_in(alloc, text),
-    ) {
-        (Some(snapshot), Some(plan)) => breaks(&snapshot, &plan, place, number),
-        _ => false,
+/// Whether this is so of the plan in this text.
+fn breaks_in(alloc: Global, snapshot: &Snapshot, text: &str, place: [u32; 2], number: u8) -> bool {
+    match plan_in(alloc, text) {
+        Some(plan) => breaks(snapshot, &plan, place, number),
+        None => false,
+    }
+}
+
+/// The same for the four calls.
+fn breaks_of_four(alloc: Global, text: &str, place: [u32; 2], number: u8) -> bool {
+    match snapshot_in(alloc, FOUR_CALLS.as_bytes()) {
+        Some(snapshot) => breaks_in(alloc, &snapshot, text, place, number),
+        None => false,
     }
 }
 
@@ -50,7 +55,10 @@ fn each_rule_of_a_plan_is_broken_once(rt: HostRuntime) {
         ("2:2 0 / 0:3 1:1 3 / 1 2:0 3", 2, 2, 11),
         ("2:2 0 / 0:3 1:0 3 / 1 3", 3, 1, 12),
     ] {
-        assert!(rt; breaks_in(rt.alloc(), text, [car, stop], number), "{text}");
+        assert!(rt;
+            breaks_of_four(rt.alloc(), text, [car, stop], number),
+            "{text}"
+        );
     }
 }
 

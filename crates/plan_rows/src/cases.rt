@@ -17,9 +17,9 @@ pub(crate) const ONE_CALL: &str = "now 0 / car 1 idle 0 0 / call 1 0 1 1 0 any";
 pub(crate) const TWO_CALLS: &str = "now 0 / car 1 idle 0 0 / car 2 coming 0 60000 / aboard 2 3 1 2 0
     call 1 0 1 1 0 any / call 2 0 1 1 0 any";
 
-/// A ms of waiting costs 3 and one of riding 2, and the first car lacks the top floor. Two cars stand, and the third
-/// comes to floor 1 with a person for floor 3. Of the four calls the first two are of one queue, in which the second one
-/// comes first; the third is pinned to the first car.
+/// A ms of waiting costs 3 and one of riding 2, and the first car lacks the top floor. Two cars stand, and
+/// the third comes to floor 1 with a person for floor 3. Of the four calls the first two are of one queue, in
+/// which the second one comes first; the third is pinned to the first car.
 pub(crate) const FOUR_CALLS: &str = "building 1
 speed 2000
 accel 1000
@@ -42,8 +42,8 @@ call 11 0 1 2 1100 any
 end
 ";
 
-/// Four uneven floors with a large car and a small one, whose doors and passengers take uneven times. The large car
-/// stands with three persons for floor 0, and the small one comes there. Three calls are open.
+/// Four uneven floors with a large car and a small one, whose doors and passengers take uneven times. The
+/// large car stands with three persons for floor 0, and the small one comes there. Three calls are open.
 pub(crate) const UNEVEN_PAIR: &str = "building 2
 speed 1500
 accel 800
@@ -64,8 +64,8 @@ call 9 2 0 1 400 any
 end
 ";
 
-/// Appends a building with this head: a car for each capacity, with the ids from 1 on, that serves all floors, with doors
-/// of 1000 ms each way and 500 ms a person.
+/// Appends a building with this head: a car for each capacity, with the ids from 1 on, that serves all
+/// floors, with doors of 1000 ms each way and 500 ms a person.
 pub(crate) fn put_building(
     text: &mut Vec<u8>,
     head: &str,

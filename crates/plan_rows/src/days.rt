@@ -228,12 +228,21 @@ fn days_open_with_stops_of_cars_on_their_way(rt: HostRuntime) {
     }
 }
 
+/// The world of the snapshot with a plan in this text.
+fn world_with(alloc: Global, snapshot: Snapshot, text: &str) -> Option<World> {
+    match plan_in(alloc, text) {
+        Some(plan) => Some(World::of_parts(snapshot, plan)),
+        None => None,
+    }
+}
+
 /// The two uneven cars with a plan: the large one delivers its group and takes two calls, the small one stops
 /// where it comes to and takes one.
 fn uneven_world(alloc: Global) -> Option<World> {
-    let snapshot = snapshot_in(alloc, UNEVEN_PAIR.as_bytes())?;
-    let plan = plan_in(alloc, "0 1:01 3 / 0 2:2 0")?;
-    Some(World::of_parts(snapshot, plan))
+    match snapshot_in(alloc, UNEVEN_PAIR.as_bytes()) {
+        Some(snapshot) => world_with(alloc, snapshot, "0 1:01 3 / 0 2:2 0"),
+        None => None,
+    }
 }
 
 /// Whether these calls wait, by their ids.

@@ -13,8 +13,8 @@ fn bad(fault: Fault, item: u32) -> Option<StateFault> {
     Some(StateFault::Bad { fault, item })
 }
 
-/// What three floors are refused for where a ride between the lowest and the highest takes `direct` ms, and one
-/// over the floor between them 2 ms.
+/// What three floors are refused for where a ride between the lowest and the highest takes `direct` ms, and
+/// one over the floor between them 2 ms.
 fn fault_of_times(alloc: Global, direct: u64) -> Option<StateFault> {
     match [0, 1, direct, 1, 0, 1, direct, 1, 0].to_vec(alloc) {
         Ok(times) => Travel::build(3, times).err(),
@@ -91,8 +91,8 @@ fn changed(
     })
 }
 
-/// What the snapshot with other states of its cars and other calls is refused for. None where it is accepted, or has
-/// another number of cars.
+/// What the snapshot with other states of its cars and other calls is refused for. None where it is accepted,
+/// or has another number of cars.
 pub(crate) fn fault_with(
     alloc: Global,
     snapshot: &Snapshot,

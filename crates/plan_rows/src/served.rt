@@ -194,26 +194,35 @@ fn are_four_served(alloc: Global, snapshot: &Snapshot) -> bool {
         && costs(alloc, snapshot, "2:2 0 / 0:3 1:01 3 / 1 3", 252_292)
 }
 
-/// Whether so many calls are served as they are to be.
-fn are_served(alloc: Global, calls: u32) -> bool {
-    let snapshot = match calls {
-        1 => snapshot_of(alloc, FOUR_FLOORS, &[8], ONE_CALL),
-        2 => snapshot_of(alloc, FOUR_FLOORS, &[8, 8], TWO_CALLS),
-        _ => snapshot_in(alloc, FOUR_CALLS.as_bytes()),
-    };
-    match (&snapshot, calls) {
-        (Some(snapshot), 1) => is_one_served(alloc, snapshot),
-        (Some(snapshot), 2) => are_two_served(alloc, snapshot),
-        (Some(snapshot), _) => are_four_served(alloc, snapshot),
-        (None, _) => false,
+/// Whether one, two or four calls are served as they are to be.
+fn are_all_served(alloc: Global, snapshot: &Snapshot, calls: u32) -> bool {
+    match calls {
+        1 => is_one_served(alloc, snapshot),
+        2 => are_two_served(alloc, snapshot),
+        _ => are_four_served(alloc, snapshot),
+    }
+}
+
+/// Whether this is so of the snapshot, if there is one.
+fn are_served(alloc: Global, snapshot: Option<Snapshot>, calls: u32) -> bool {
+    match snapshot {
+        Some(snapshot) => are_all_served(alloc, &snapshot, calls),
+        None => false,
     }
 }
 
 #[test]
-fn calls_are_served(rt: HostRuntime) {
-    assert!(rt; are_served(rt.alloc(), 1));
-    assert!(rt; are_served(rt.alloc(), 2));
-    assert!(rt; are_served(rt.alloc(), 4));
+fn one_call_and_two_are_served(rt: HostRuntime) {
+    let snapshot = snapshot_of(rt.alloc(), FOUR_FLOORS, &[8], ONE_CALL);
+    assert!(rt; are_served(rt.alloc(), snapshot, 1));
+    let snapshot = snapshot_of(rt.alloc(), FOUR_FLOORS, &[8, 8], TWO_CALLS);
+    assert!(rt; are_served(rt.alloc(), snapshot, 2));
+}
+
+#[test]
+fn four_calls_are_served(rt: HostRuntime) {
+    let snapshot = snapshot_in(rt.alloc(), FOUR_CALLS.as_bytes());
+    assert!(rt; are_served(rt.alloc(), snapshot, 4));
 }
 
 #[test]

@@ -95,7 +95,15 @@ fn longer(alloc: Global, snapshot: &Snapshot) -> Option<Vec<Call>> {
     Some(calls)
 }
 
-/// What a snapshot is refused for that has all cars and one call too many.
+/// What the snapshot is refused for with its cars in these states and one call more.
+fn fault_of_longer(alloc: Global, snapshot: &Snapshot, states: &[CarState]) -> Option<StateFault> {
+    match longer(alloc, snapshot) {
+        Some(calls) => fault_with(alloc, snapshot, states, &calls),
+        None => None,
+    }
+}
+
+/// The same of a snapshot with all cars and so many calls.
 fn fault_of_crowd(
     alloc: Global,
     head: &str,
@@ -103,9 +111,10 @@ fn fault_of_crowd(
     states: &[CarState],
     calls: u32,
 ) -> Option<StateFault> {
-    let snapshot = crowded(alloc, head, capacities, calls)?;
-    let calls = longer(alloc, &snapshot)?;
-    fault_with(alloc, &snapshot, states, &calls)
+    match crowded(alloc, head, capacities, calls) {
+        Some(snapshot) => fault_of_longer(alloc, &snapshot, states),
+        None => None,
+    }
 }
 
 #[test]

@@ -8,7 +8,8 @@ use restricted_master::Pool;
 use std::alloc::{AllocError, Global};
 use tour_rules::judge;
 
-/// Puts a tour of the car in. Says whether there is such a car and the tour is feasible; else the pool stays as it is.
+/// Puts a tour of the car in. Says whether there is such a car and the tour is feasible; else the pool stays
+/// as it is.
 pub(crate) fn offer(pool: &mut Pool<'_>, car: u32, tour: Tour) -> bool {
     let snapshot = pool.snapshot();
     if snapshot.building().cars().len() <= car as usize || judge(snapshot, car, &tour).is_err() {

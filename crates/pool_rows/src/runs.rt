@@ -118,8 +118,8 @@ fn compare_pool(
     Ok(())
 }
 
-/// Selects from a pool with too many plans to list: once with a limit that is not reached, and then with what was found
-/// as the target and a limit of 20, which is to give the same unless it is spent.
+/// Selects from a pool with too many plans to list: once with a limit that is not reached, and then with what
+/// was found as the target and a limit of 20, which is to give the same unless it is spent.
 fn compare_large(alloc: Global, pool: &Pool<'_>, tally: &mut Tally) -> Result<(), AllocError> {
     let calls = pool.snapshot().calls().len();
     let Some(price) = Price::new(0) else {

@@ -16,8 +16,8 @@ pub(crate) struct Tally {
     pub(crate) none: Checks,
     /// Where the choice is not spent, it is a plan of the least cost, or there is no plan.
     pub(crate) least: Checks,
-    /// A plan that is to cost less than a target does so, and there is one of the least cost exactly where that is less,
-    /// unless the choice is spent.
+    /// A plan that is to cost less than a target does so, and there is one of the least cost exactly where
+    /// that is less, unless the choice is spent.
     pub(crate) below: Checks,
     /// Where it is spent, the pool has as many partial selections as the limit.
     pub(crate) spent: Checks,
@@ -25,7 +25,8 @@ pub(crate) struct Tally {
     pub(crate) ample: Checks,
     /// The limit 1 is reached before there is a plan.
     pub(crate) first: Checks,
-    /// Of a pool with too many plans to list, a choice with a low limit has the least cost, unless it is spent.
+    /// Of a pool with too many plans to list, a choice with a low limit has the least cost, unless it is
+    /// spent.
     pub(crate) large: Checks,
     /// How many of these were not spent.
     pub(crate) quick: u64,
@@ -34,7 +35,8 @@ pub(crate) struct Tally {
 }
 
 impl Tally {
-    /// Prints the tally, a line for each kind of checks. Says whether no check failed, and there were some of each kind.
+    /// Prints the tally, a line for each kind of checks. Says whether no check failed, and there were some of
+    /// each kind.
     pub(crate) fn print(&self, rt: &HostRuntime) -> io::Result<bool> {
         let kinds = [
             ("columns", self.columns),

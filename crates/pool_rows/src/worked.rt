@@ -1,9 +1,9 @@
-//! A case that was worked out by hand: three floors, a car for one person at the lowest floor and one for two at the
-//! middle one, two calls from the lowest floor to the highest and two the other way.
+//! A case that was worked out by hand: three floors, a car for one person at the lowest floor and one for two
+//! at the middle one, two calls from the lowest floor to the highest and two the other way.
 //!
-//! The first car takes a call up for 9500. The second one takes the two calls down for 14000 each, and then the other
-//! call up for 23500: 61000 together. Where both cars first take a call up and then one down, that costs the first one
-//! 9500 and 18500, and the second one 13500 and 22500: 64000 together.
+//! The first car takes a call up for 9500. The second one takes the two calls down for 14000 each, and then
+//! the other call up for 23500: 61000 together. Where both cars first take a call up and then one down, that
+//! costs the first one 9500 and 18500, and the second one 13500 and 22500: 64000 together.
 
 use crate::fills::{offer, tours_of};
 use crate::listing::count_of;

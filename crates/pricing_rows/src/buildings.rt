@@ -110,8 +110,8 @@ fn put_head(
     put_line(text, b"floors", heights)
 }
 
-/// Appends the next building of these sizes, of version 1, 2 or 3. What is drawn of its cars and times is drawn before its
-/// weights.
+/// Appends the next building of these sizes, of version 1, 2 or 3. What is drawn of its cars and times is
+/// drawn before its weights.
 pub(crate) fn put_building(
     text: &mut Vec<u8>,
     rest: &mut Vec<u8>,

@@ -18,7 +18,8 @@ fn is_kept(aim: &Aim, prefix: &Prefix, worth: i128) -> bool
     aim.bound(prefix) < worth && aim.has_begun_with(prefix)
 }
 
-/// How many partial tours are kept at a worth, of those that begin with this one. None where there are too many.
+/// How many partial tours are kept at a worth, of those that begin with this one. None where there are too
+/// many.
 fn count_from(aim: &Aim, prefix: &mut Prefix, worth: i128) -> Option<u64>
     requires same { aim.now.snapshot.now ≡ prefix.old.snapshot }
     requires prices { length aim.now.prices.now ≡ call_count aim.now.snapshot.now }
@@ -43,7 +44,8 @@ fn count_from(aim: &Aim, prefix: &mut Prefix, worth: i128) -> Option<u64>
     None
 }
 
-/// The least value of a tour in the node, the bound of the empty partial tour, and how many partial tours are kept.
+/// The least value of a tour in the node, the bound of the empty partial tour, and how many partial tours are
+/// kept.
 #[derive(Clone, Copy)]
 pub(crate) struct Kept {
     pub(crate) worth: i128,

@@ -37,7 +37,8 @@ pub(crate) struct Tally {
 }
 
 impl Tally {
-    /// Prints the tally, a line for each kind of checks. Says whether no check failed, and there were some of each kind.
+    /// Prints the tally, a line for each kind of checks. Says whether no check failed, and there were some of
+    /// each kind.
     pub(crate) fn print(&self, rt: &HostRuntime) -> io::Result<bool> {
         let kinds = [
             ("listed", self.listed),

@@ -1,5 +1,5 @@
-//! A case that was worked out by hand: three floors, a car for one person at the lowest floor and one for two at the
-//! middle one, two calls from the lowest floor to the highest and two the other way.
+//! A case that was worked out by hand: three floors, a car for one person at the lowest floor and one for two
+//! at the middle one, two calls from the lowest floor to the highest and two the other way.
 
 ghost use Rattle.std.specs.Prelude.{◌≡◌, ◌<◌};
 ghost use Rattle.elevator_model.specs.Snapshot.{car_count, call_count};
@@ -24,8 +24,8 @@ struct Due {
     boards: [u128; 2],
 }
 
-/// The first car stands where the first two calls wait: either costs it 9500, and two calls at least 28000. Each call
-/// costs the second car 13500, and two that start at one floor cost it 28000.
+/// The first car stands where the first two calls wait: either costs it 9500, and two calls at least 28000.
+/// Each call costs the second car 13500, and two that start at one floor cost it 28000.
 const ALL_DUE: [Due; 6] = [
     Due {
         car: 0,

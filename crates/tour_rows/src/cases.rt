@@ -65,8 +65,8 @@ call 83 2 0 2 61900 any
 end
 ";
 
-/// A moving car that can still stop at floor 3, but would have been there already; stated travel times that differ
-/// by direction.
+/// A moving car that can still stop at floor 3, but would have been there already; stated travel times that
+/// differ by direction.
 const MOVING_DOWN: &str = "building 3
 speed 2300
 accel 1100
@@ -149,8 +149,8 @@ call 103 29 46 1 78900 any
 end
 ";
 
-/// Three calls of a queue, of which two were released at the same moment, the one with the greater id first; stated
-/// travel times that differ by direction.
+/// Three calls of a queue, of which two were released at the same moment, the one with the greater id first;
+/// stated travel times that differ by direction.
 const TIES: &str = "building 3
 speed 1000
 accel 1000
@@ -208,8 +208,8 @@ car 7 idle 0 20000
 car 1 idle 3 20600
 ";
 
-/// Appends the call with this id. The second car may take three of the calls, of which one is pinned to it: the
-/// others are pinned to the first.
+/// Appends the call with this id. The second car may take three of the calls, of which one is pinned to it:
+/// the others are pinned to the first.
 fn put_call(out: &mut Vec<u8>, id: u64) -> Result<(), AllocError>
     requires { id ≤ 128 }
 {

@@ -1,6 +1,6 @@
-//! Tests that walk all partial tours of a car on snapshots of every kind, each read from its texts. How many there
-//! are, how many of them end and what these cost was counted by a program of its own, which tries all lists of
-//! stops and judges each from its start.
+//! Tests that walk all partial tours of a car on snapshots of every kind, each read from its texts. How many
+//! there are, how many of them end and what these cost was counted by a program of its own, which tries all
+//! lists of stops and judges each from its start.
 //!
 //! A helper that says whether something is so says no where memory is wanting, so that its test fails.
 #![tactic(auto)]

@@ -62,8 +62,8 @@ fn has_ended(prefix: &Prefix) -> bool
     }
 }
 
-/// What the tour of an ended partial tour costs. None where it has not ended, where its tour breaks a rule, or
-/// where it has settled something else.
+/// What the tour of an ended partial tour costs. None where it has not ended, where its tour breaks a rule,
+/// or where it has settled something else.
 fn settled_cost(alloc: Global, snapshot: &Snapshot, car: u32, prefix: &Prefix) -> Option<u64> {
     if !has_ended(prefix) {
         return None;
