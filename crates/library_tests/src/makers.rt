@@ -5,7 +5,7 @@ ghost use Rattle.std.specs.Prelude.{◌≤◌};
 use building_text::read_building;
 use byte_streams::{MemorySource, SureSource};
 use call_state::{Building, Snapshot};
-use case_text::read_case;
+use case_kit::snapshot_in;
 use lift_text::LineReader;
 use std::alloc::Global;
 
@@ -56,7 +56,5 @@ pub(crate) fn house(alloc: Global) -> Option<Building> {
 
 /// The snapshot with the three calls.
 pub(crate) fn noon(alloc: Global) -> Option<Snapshot> {
-    let mut source = SureSource::new(Vec::from_slice(alloc, NOON).ok()?);
-    let mut lines = LineReader::new(alloc, &mut source).ok()?;
-    read_case(alloc, &mut lines).ok()
+    snapshot_in(alloc, NOON)
 }

@@ -1,6 +1,7 @@
 //! Workers that price side by side.
 
 use byte_streams::{Gate, MemorySource, SureSink};
+use case_kit::WORKED_CASE;
 use lift_commands::{Status, run};
 use std::alloc::Global;
 use std::marker::Sync;
@@ -59,26 +60,6 @@ impl Gate for Lookout {
     }
 }
 
-/// Two cars and four calls.
-const TWO_EACH_WAY: &[u8] = b"building 1
-speed 2000
-accel 1000
-weights 1 1
-floors 0 4000 8000
-car 1 1 1000 1000 500 500 all
-car 2 2 1000 1000 500 500 all
-end
-snapshot 1
-now 0
-car 1 idle 0 0
-car 2 idle 1 0
-call 1 0 2 1 0 any
-call 2 0 2 1 0 any
-call 3 2 0 1 0 any
-call 4 2 0 1 0 any
-end
-";
-
 /// The words, as a command line has them.
 fn words_of(alloc: Global, words: &[&str]) -> Option<Vec<String>> {
     let mut all = Vec::new(alloc);
@@ -91,7 +72,7 @@ fn words_of(alloc: Global, words: &[&str]) -> Option<Vec<String>> {
 /// Whether the program solves the case with two workers, where each pricing passes the gate.
 fn solves<G: Gate + Sync>(rt: &(impl Threads + Sync), alloc: Global, gate: &G) -> Option<bool> {
     let words = words_of(alloc, &["lift", "solve", "--brief", "--workers", "2"])?;
-    let bytes = Vec::from_slice(alloc, TWO_EACH_WAY).ok()?;
+    let bytes = Vec::from_slice(alloc, WORKED_CASE.as_bytes()).ok()?;
     let mut sink = SureSink::new(alloc, 1 << 17).ok()?;
     let mut source = MemorySource::new(bytes, 4096, Vec::new(alloc));
     let ended = run(rt, alloc, words.as_slice(), &mut source, &mut sink, gate);
