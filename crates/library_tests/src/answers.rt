@@ -69,16 +69,29 @@ stop 3
 stop 4294967295 7
 ";
 
-fn are_written(alloc: Global) -> Option<bool> {
-    let snapshot = noon(alloc)?;
-    let all = written(alloc, &snapshot, LOOSE, 1)?.as_slice() == WRITTEN
-        && written(alloc, &snapshot, GREATEST, 100)?.as_slice() == GREATEST_WRITTEN
-        && parts(alloc, &snapshot, LOOSE)?.as_slice() == PARTS;
-    Some(all)
+/// Whether this is what a text was written as.
+fn is_text(written: Option<Vec<u8>>, due: &[u8]) -> bool {
+    match written {
+        Some(text) => text.as_slice() == due,
+        None => false,
+    }
+}
+
+fn are_written(alloc: Global, snapshot: &Snapshot) -> bool {
+    is_text(written(alloc, snapshot, LOOSE, 1), WRITTEN)
+        && is_text(written(alloc, snapshot, GREATEST, 100), GREATEST_WRITTEN)
+        && is_text(parts(alloc, snapshot, LOOSE), PARTS)
+}
+
+fn are_written_at_noon(alloc: Global) -> bool {
+    match noon(alloc) {
+        Some(snapshot) => are_written(alloc, &snapshot),
+        None => false,
+    }
 }
 
 #[test]
 fn answers_are_read_and_written(rt: HostRuntime) -> Result<(), Fail> {
-    assert!(rt; are_written(rt.alloc()) == Some(true));
+    assert!(rt; are_written_at_noon(rt.alloc()));
     Ok(())
 }

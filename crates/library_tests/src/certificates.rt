@@ -113,18 +113,18 @@ const LONE: &[u8] = b"certificate 1\nleaf\nprice 22 -1000000000000000000000000\n
 
 const LONE_WRITTEN: &[u8] = b"certificate 1\nleaf\nprice 22 -1000000000000000000000000\nend\n";
 
-fn are_written(alloc: Global) -> Option<bool> {
-    let snapshot = noon(alloc)?;
-    let all = written(alloc, &snapshot, LOOSE, 1)?.as_slice() == WRITTEN
-        && written(alloc, &snapshot, DEEP, 7)?.as_slice() == DEEP
-        && written(alloc, &snapshot, LONE, 100)?.as_slice() == LONE_WRITTEN;
-    Some(all)
+/// Whether this is what a text was written as.
+fn is_text(written: Option<Vec<u8>>, due: &[u8]) -> bool {
+    match written {
+        Some(text) => text.as_slice() == due,
+        None => false,
+    }
 }
 
-#[test]
-fn certificates_are_read_and_written(rt: HostRuntime) -> Result<(), Fail> {
-    assert!(rt; are_written(rt.alloc()) == Some(true));
-    Ok(())
+fn are_written(alloc: Global, snapshot: &Snapshot) -> bool {
+    is_text(written(alloc, snapshot, LOOSE, 1), WRITTEN)
+        && is_text(written(alloc, snapshot, DEEP, 7), DEEP)
+        && is_text(written(alloc, snapshot, LONE, 100), LONE_WRITTEN)
 }
 
 fn bad(line: u64, code: u8) -> Last {
@@ -132,8 +132,7 @@ fn bad(line: u64, code: u8) -> Last {
 }
 
 /// Whether each text gives so many twigs, and then this.
-fn come_one_by_one(alloc: Global) -> Option<bool> {
-    let snapshot = noon(alloc)?;
+fn come_one_by_one(alloc: Global, snapshot: &Snapshot) -> bool {
     let deep: &[u8] = b"certificate 1\nsplit 22\nsplit 7 3\nleaf\nprice 4 1\nleaf\nleaf\nend";
     let table: [(&[u8], u64, Last); 6] = [
         (b"certificate 1\nleaf\nend\nleaf", 1, Last::End),
@@ -144,15 +143,27 @@ fn come_one_by_one(alloc: Global) -> Option<bool> {
         (b"certificate 1\nsplit 22\nleaf\nleaf\nleaf", 2, bad(5, 8)),
     ];
     for (bytes, twigs, last) in table {
-        if handed_out(alloc, &snapshot, bytes)? != (twigs, last) {
-            return Some(false);
+        if handed_out(alloc, snapshot, bytes) != Some((twigs, last)) {
+            return false;
         }
     }
-    fails_for_good(alloc, &snapshot)
+    true
+}
+
+/// Whether all of this is so of the snapshot with the three calls.
+fn are_so(alloc: Global) -> bool {
+    match noon(alloc) {
+        Some(snapshot) => {
+            are_written(alloc, &snapshot)
+                && come_one_by_one(alloc, &snapshot)
+                && fails_for_good(alloc, &snapshot) == Some(true)
+        }
+        None => false,
+    }
 }
 
 #[test]
-fn twigs_come_one_by_one(rt: HostRuntime) -> Result<(), Fail> {
-    assert!(rt; come_one_by_one(rt.alloc()) == Some(true));
+fn certificates_are_written_and_come_twig_by_twig(rt: HostRuntime) -> Result<(), Fail> {
+    assert!(rt; are_so(rt.alloc()));
     Ok(())
 }

@@ -18,23 +18,46 @@ fn words_behind<S: Source>(lines: &mut LineReader<S>) -> u32 {
     }
 }
 
-/// The snapshot that is read of a text, which comes in pieces, and the words of the line behind it.
-fn read(alloc: Global, bytes: &[u8], each: usize, is_opening: bool) -> Option<(Snapshot, u32)>
-    requires { 1 ≤ each }
-{
-    let mut source = source_of(alloc, bytes, each)?;
-    let mut lines = LineReader::new(alloc, &mut source).ok()?;
+/// What is read of the lines of a snapshot, or of an opening one.
+fn read<S: Source>(alloc: Global, lines: &mut LineReader<S>, is_opening: bool) -> Option<Snapshot> {
     let building = house(alloc)?;
-    let snapshot = if is_opening {
-        read_opening(alloc, &mut lines, building).ok()?
+    if is_opening {
+        read_opening(alloc, lines, building).ok()
     } else {
-        read_snapshot(alloc, &mut lines, building).ok()?
-    };
-    let words = words_behind(&mut lines);
-    Some((snapshot, words))
+        read_snapshot(alloc, lines, building).ok()
+    }
 }
 
-/// Whether the snapshot that is read of a text is written so, and whether so many words stand in the line behind it.
+/// The text of a snapshot.
+fn text_of(alloc: Global, snapshot: &Snapshot) -> Option<Vec<u8>> {
+    let mut out = Vec::new(alloc);
+    write_snapshot(snapshot, &mut out).ok()?;
+    Some(out)
+}
+
+/// Whether this is the text of the snapshot.
+fn has_text(alloc: Global, snapshot: &Snapshot, due: &[u8]) -> bool {
+    match text_of(alloc, snapshot) {
+        Some(text) => text.as_slice() == due,
+        None => false,
+    }
+}
+
+/// Whether a snapshot is read that has this text.
+fn reads_text<S: Source>(
+    alloc: Global,
+    lines: &mut LineReader<S>,
+    is_opening: bool,
+    due: &[u8],
+) -> bool {
+    match read(alloc, lines, is_opening) {
+        Some(snapshot) => has_text(alloc, &snapshot, due),
+        None => false,
+    }
+}
+
+/// Whether the snapshot that is read of a text, which comes in pieces, is written so, and whether so many words stand in
+/// the line behind it.
 fn is_written(
     alloc: Global,
     bytes: &[u8],
@@ -45,10 +68,10 @@ fn is_written(
 ) -> Option<bool>
     requires { 1 ≤ each }
 {
-    let (snapshot, words) = read(alloc, bytes, each, is_opening)?;
-    let mut out = Vec::new(alloc);
-    write_snapshot(&snapshot, &mut out).ok()?;
-    Some(words == behind && out.as_slice() == due)
+    let mut source = source_of(alloc, bytes, each)?;
+    let mut lines = LineReader::new(alloc, &mut source).ok()?;
+    let is_text = reads_text(alloc, &mut lines, is_opening, due);
+    Some(is_text && words_behind(&mut lines) == behind)
 }
 
 const LOOSE: &[u8] = b"# a\nsnapshot 01\n\nnow 5000\ncar 3 coming 2 7000\ncar 7 idle 1 5000 # b

@@ -97,14 +97,73 @@ worth 3 0 900
 end
 ";
 
+/// What a verdict is to be.
+#[derive(Clone, Copy)]
+enum Wanted {
+    Yes,
+    /// The second leaf states too much of the first car.
+    UnderInTheSecondLeaf,
+}
+
+impl Wanted {
+    fn is(self, said: &Option<Verdict>) -> bool {
+        match self {
+            Wanted::Yes => matches!(said, Some(Verdict::Yes)),
+            Wanted::UnderInTheSecondLeaf => is_under_in_the_second_leaf(said),
+        }
+    }
+}
+
+fn is_under_in_the_second_leaf(said: &Option<Verdict>) -> bool {
+    matches!(
+        said,
+        Some(Verdict::No(Reason::Under {
+            node: 3,
+            car: 1,
+            worth: 0,
+            value: -1000000,
+            ..
+        }))
+    )
+}
+
+/// Whether so many workers have this verdict.
+fn is_checked(
+    rt: &(impl Threads + Sync),
+    alloc: Global,
+    certified: &Certified,
+    workers: u32,
+    wanted: Wanted,
+) -> bool {
+    let said = verdict(rt, alloc, certified, workers);
+    wanted.is(&said)
+}
+
+/// Whether each number of workers has this verdict on the text.
+fn are_checked(
+    rt: &(impl Threads + Sync),
+    alloc: Global,
+    certified: &Certified,
+    wanted: Wanted,
+) -> bool {
+    for workers in [1, 2, 3, 16] {
+        if !is_checked(rt, alloc, certified, workers, wanted) {
+            return false;
+        }
+    }
+    true
+}
+
+fn text_is_checked(rt: &(impl Threads + Sync), alloc: Global, text: &[u8], wanted: Wanted) -> bool {
+    match read(alloc, text) {
+        Some(certified) => are_checked(rt, alloc, &certified, wanted),
+        None => false,
+    }
+}
+
 #[test]
 fn a_tree_is_checked_at_once(rt: HostRuntime) -> Result<(), Fail> {
-    let alloc = rt.alloc();
-    let certified = read(alloc, TWO_LEAVES).ok_or("memory")?;
-    for workers in [1, 2, 3, 16] {
-        let said = verdict(&rt, alloc, &certified, workers);
-        assert!(rt; matches!(said, Some(Verdict::Yes)));
-    }
+    assert!(rt; text_is_checked(&rt, rt.alloc(), TWO_LEAVES, Wanted::Yes));
     Ok(())
 }
 
@@ -121,23 +180,8 @@ fn with_too_much(alloc: Global) -> Option<Vec<u8>> {
 
 #[test]
 fn a_reason_names_its_leaf_and_car(rt: HostRuntime) -> Result<(), Fail> {
-    let alloc = rt.alloc();
-    let text = with_too_much(alloc).ok_or("memory")?;
-    let certified = read(alloc, &text).ok_or("memory")?;
-    for workers in [1, 2, 3, 16] {
-        let said = verdict(&rt, alloc, &certified, workers);
-        assert!(rt;
-            matches!(
-                said,
-                Some(Verdict::No(Reason::Under {
-                    node: 3,
-                    car: 1,
-                    worth: 0,
-                    value: -1000000,
-                    ..
-                }))
-            )
-        );
-    }
+    let text = with_too_much(rt.alloc()).ok_or("memory")?;
+    let wanted = Wanted::UnderInTheSecondLeaf;
+    assert!(rt; text_is_checked(&rt, rt.alloc(), &text, wanted));
     Ok(())
 }
