@@ -3,7 +3,7 @@
 use elevator_model::Plan;
 
 /// A plan, with what is said of it. Nothing is judged: the plan need not be feasible.
-#[derive(Debug, Drop)]
+#[derive(Drop)]
 pub struct Stated {
     pub plan: Plan,
     /// The cost of the plan, in cost units.

@@ -1,7 +1,7 @@
 //! What tells the lines of an answer section apart.
 
 /// Which line is due.
-#[derive(Clone, Copy, Debug, PartialEq, Eq)]
+#[derive(Clone, Copy)]
 pub(crate) enum Due {
     /// The first line, with the version.
     Head,
@@ -12,7 +12,7 @@ pub(crate) enum Due {
 }
 
 /// The first word of a line.
-#[derive(Clone, Copy, Debug, PartialEq, Eq)]
+#[derive(Clone, Copy)]
 pub(crate) enum LineWord {
     Answer,
     Cost,

@@ -14,7 +14,7 @@ use std::marker::Model;
 ///
 /// Contracts see it as the list of these sets, in the order of the calls. The calls that each car may and has to
 /// board are kept beside it, so that reading them looks nothing through.
-#[derive(Drop, Debug)]
+#[derive(Drop)]
 pub struct Node {
     sets: Vec<CarSet>,
     /// For each car the calls whose set has it, and those whose set is the car alone.

@@ -9,7 +9,7 @@ use crate::nodes::Node;
 use call_sets::CarSet;
 
 /// A part that does not divide the set of its call.
-#[derive(Clone, Copy, PartialEq, Eq, Debug)]
+#[derive(Clone, Copy, PartialEq, Eq)]
 pub struct BadSplit {
     pub part: CarSet,
 }

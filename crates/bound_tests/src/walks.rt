@@ -29,7 +29,7 @@ pub(crate) struct Asked<'a> {
 
 /// What a walk saw: how many partial tours, at how many the sums agreed with `bound`, and the least value of
 /// a tour.
-#[derive(Clone, Copy, PartialEq, Debug)]
+#[derive(Clone, Copy, PartialEq)]
 pub(crate) struct Seen {
     pub(crate) visits: u64,
     pub(crate) agreed: u64,

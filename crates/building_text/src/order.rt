@@ -7,7 +7,7 @@ use lift_text::{LineReader, Source};
 use text_sections::{TextCode, is_word};
 
 /// The line of a building's text that is due.
-#[derive(Clone, Copy, Debug, PartialEq, Eq)]
+#[derive(Clone, Copy)]
 pub(crate) enum Due {
     Version,
     Speed,

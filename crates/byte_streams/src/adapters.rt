@@ -11,7 +11,7 @@ const REPEATS: u32 = 1000;
 
 /// A source over a reader. A call that is interrupted is repeated up to 1,000 times; the next
 /// interruption, and any other error, is a fault. The count of faults stops at 2^64 - 1.
-#[derive(Debug, Drop)]
+#[derive(Drop)]
 pub struct StdSource<R> {
     reader: R,
     faults: u64,
@@ -45,7 +45,7 @@ impl<R: Read> Source for StdSource<R> {
 /// A sink over a writer. A call that is interrupted is repeated up to 1,000 times; the next
 /// interruption, any other error, and a write that takes nothing of a piece, is a fault. The count of
 /// faults stops at 2^64 - 1.
-#[derive(Debug, Drop)]
+#[derive(Drop)]
 pub struct StdSink<W> {
     writer: W,
     faults: u64,

@@ -9,7 +9,7 @@ use std::marker::Model;
 /// A set of calls, by index: numbers below 128.
 ///
 /// Contracts see it as the number whose bit `k` says whether `k` is in it, and speak of it by `has`.
-#[derive(Clone, Copy, PartialEq, Eq, Debug)]
+#[derive(Clone, Copy, PartialEq, Eq)]
 pub struct CallSet {
     bits: u128,
 }
@@ -199,7 +199,7 @@ impl CallSet {
 }
 
 /// The members of a set of calls, rising.
-#[derive(Drop, Debug)]
+#[derive(Drop)]
 pub struct Calls {
     /// The members that are still to come.
     pub left: CallSet,

@@ -9,7 +9,7 @@ use std::marker::Model;
 /// A set of cars, by index: numbers below 16.
 ///
 /// Contracts see it as the number whose bit `k` says whether `k` is in it, and speak of it by `has`.
-#[derive(Clone, Copy, PartialEq, Eq, Debug)]
+#[derive(Clone, Copy, PartialEq, Eq)]
 pub struct CarSet {
     bits: u16,
 }
@@ -148,7 +148,7 @@ impl CarSet {
 }
 
 /// The members of a set of cars, rising.
-#[derive(Drop, Debug)]
+#[derive(Drop)]
 pub struct Cars {
     /// The members that are still to come.
     pub left: CarSet,

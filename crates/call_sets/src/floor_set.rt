@@ -9,7 +9,7 @@ use std::marker::Model;
 /// A set of floors, by index: numbers below 64.
 ///
 /// Contracts see it as the number whose bit `k` says whether `k` is in it, and speak of it by `has`.
-#[derive(Clone, Copy, PartialEq, Eq, Debug)]
+#[derive(Clone, Copy, PartialEq, Eq)]
 pub struct FloorSet {
     bits: u64,
 }
@@ -197,7 +197,7 @@ impl FloorSet {
 }
 
 /// The members of a set of floors, rising.
-#[derive(Drop, Debug)]
+#[derive(Drop)]
 pub struct Floors {
     /// The members that are still to come.
     pub left: FloorSet,

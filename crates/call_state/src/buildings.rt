@@ -17,7 +17,7 @@ use std::alloc::{AllocError, Global};
 use std::marker::Model;
 
 /// What a building is made of.
-#[derive(Drop, Debug)]
+#[derive(Drop)]
 pub struct BuildingParts {
     /// 1, 2 or 3: version 1 has no patience, at most 8 cars and 64 open calls, the others at most 16 cars
     /// and 128 calls.
@@ -42,7 +42,7 @@ pub struct BuildingParts {
 
 /// A building that keeps the rules: its numbers are in their ranges, its heights rise, and each of its
 /// cars has an id of its own and serves at least two floors.
-#[derive(Drop, Debug)]
+#[derive(Drop)]
 pub struct Building {
     parts: BuildingParts,
     ids: IdIndex,

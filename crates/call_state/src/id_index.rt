@@ -12,7 +12,7 @@ use std::alloc::{AllocError, Global};
 use std::marker::Model;
 
 /// Different ids in their order, of which each is found without going through them.
-#[derive(Drop, Debug)]
+#[derive(Drop)]
 pub struct IdIndex {
     ids: IndexSet<u32>,
 }

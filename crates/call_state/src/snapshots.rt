@@ -24,7 +24,7 @@ use std::alloc::{AllocError, Global};
 use std::marker::Model;
 
 /// What a snapshot is made of.
-#[derive(Drop, Debug)]
+#[derive(Drop)]
 pub struct SnapshotParts {
     /// 1 or 2: only version 2 knows moving cars.
     pub version: u8,
@@ -38,7 +38,7 @@ pub struct SnapshotParts {
 }
 
 /// What keeps the parts of a snapshot from being tested for faults.
-#[derive(Clone, Copy, PartialEq, Eq, Debug)]
+#[derive(Clone, Copy)]
 pub enum PartsFlaw {
     /// The version is neither 1 nor 2.
     Version,
@@ -175,7 +175,7 @@ impl SnapshotParts {
 
 /// A snapshot that keeps the rules: each car can deliver those aboard, and each open call has a car that
 /// can take it.
-#[derive(Drop, Debug)]
+#[derive(Drop)]
 pub struct Snapshot {
     parts: SnapshotParts,
     ids: IdIndex,

@@ -16,7 +16,7 @@ const LONGEST: u64 = 20_000_000;
 ///
 /// It has 2 to 64 floors. The time is 0 from a floor to itself and 1 to 20,000,000 ms between two floors,
 /// and no way over a third floor is shorter.
-#[derive(Drop, Debug)]
+#[derive(Drop)]
 pub struct Travel {
     floors: u32,
     times: Vec<u64>,

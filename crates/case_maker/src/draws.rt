@@ -5,7 +5,7 @@ ghost use Rattle.std.specs.Prelude.{◌≡◌, ◌%◌, ◌<◌};
 ghost use Rattle.search_model.specs.Cases.{state_after, drawn_by};
 
 /// Gives one number after another. The state is the first number, or what the last draw made of it.
-#[derive(Drop, Debug)]
+#[derive(Drop)]
 pub(crate) struct Draws {
     pub(crate) state: u64,
 }

@@ -4,7 +4,7 @@ ghost use Rattle.std.specs.Prelude.{◌≡◌, if◌then◌else◌, int_lt};
 ghost use Rattle.cert_checker.specs.declared.visits.Visits.TheVariants.{Going, Under};
 
 /// How the visits to the partial tours of a kept list have gone.
-#[derive(Clone, Copy, PartialEq, Eq, Debug)]
+#[derive(Clone, Copy)]
 pub(crate) enum Visits {
     /// None of them ends a tour of a value below the worth, and so many more may be visited.
     Going(u64),

@@ -5,7 +5,7 @@ use lift_text::TextFault;
 use search_model::{Leaf, PriceOf, WorthOf};
 
 /// The first word of a line.
-#[derive(Clone, Copy, Debug, PartialEq, Eq)]
+#[derive(Clone, Copy)]
 pub(crate) enum LineWord {
     Certificate,
     Split,
@@ -16,7 +16,7 @@ pub(crate) enum LineWord {
 }
 
 /// What a line behind the first one says.
-#[derive(Clone, Copy, Debug, PartialEq, Eq)]
+#[derive(Clone, Copy)]
 pub(crate) enum Entry {
     /// A split, with the part of its first subtree.
     Split { call: u32, part: CarSet },
@@ -31,7 +31,7 @@ pub(crate) enum Entry {
 }
 
 /// What the lines that were read began, and what is not handed out yet.
-#[derive(Debug, Drop)]
+#[derive(Drop)]
 pub enum Begun {
     /// Nothing: a twig is due.
     Nothing,

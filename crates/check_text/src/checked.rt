@@ -4,7 +4,7 @@ use call_state::Snapshot;
 use search_model::Verdict;
 
 /// A case whose certificate was checked, with what its answer states, and the verdict.
-#[derive(Debug, Drop)]
+#[derive(Drop)]
 pub struct Checked {
     pub snapshot: Snapshot,
     /// The stated cost of the plan, in cost units.

@@ -18,7 +18,7 @@ use opening_text::read_day_opening;
 use std::alloc::{AllocError, Global};
 
 /// Why a day did not come to its end.
-#[derive(Clone, Copy, PartialEq, Eq, Debug)]
+#[derive(Clone, Copy)]
 pub enum DayFault {
     /// What stands before the rows is bad, or could not be read; nothing was written.
     Opening(TextFault),

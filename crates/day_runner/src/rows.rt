@@ -19,7 +19,7 @@ use lift_text::{LineReader, RawLine, TextFault};
 use std::alloc::{AllocError, Global};
 
 /// Why rows were not run to their end.
-#[derive(Clone, Copy, PartialEq, Eq, Debug)]
+#[derive(Clone, Copy)]
 pub enum RunFault {
     /// The text has more than 67,108,864 bytes, and the next line does not end among the first of them.
     TooLong,
@@ -32,7 +32,7 @@ pub enum RunFault {
 }
 
 /// What stood next in the text.
-#[derive(Clone, Copy, PartialEq, Eq, Debug)]
+#[derive(Clone, Copy)]
 pub(crate) enum Turn {
     /// A line.
     More,

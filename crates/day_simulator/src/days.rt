@@ -25,7 +25,7 @@ use std::marker::Model;
 use std::mem;
 
 /// What became of a row.
-#[derive(Clone, Copy, PartialEq, Eq, Debug)]
+#[derive(Clone, Copy)]
 pub enum RowAnswer {
     /// Its call was taken, with a plan of this cost and this bound, in cost units.
     Taken { cost: u64, bound: u64 },

@@ -6,7 +6,7 @@
 use elevator_model::Plan;
 
 /// A plan for a snapshot, as a planner states it.
-#[derive(Debug, Drop)]
+#[derive(Drop)]
 pub struct Planned {
     pub plan: Plan,
     /// The cost of the plan, in cost units.

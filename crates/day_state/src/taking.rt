@@ -12,7 +12,7 @@ use elevator_model::most_calls;
 use std::alloc::{AllocError, Global};
 
 /// Why a world does not take a call.
-#[derive(Clone, Copy, PartialEq, Eq, Debug)]
+#[derive(Clone, Copy, PartialEq, Eq)]
 pub enum NotTaken {
     /// As many calls are open as may be.
     Full,

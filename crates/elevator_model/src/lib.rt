@@ -21,7 +21,7 @@ use std::fmt;
 use std::marker::Model;
 
 /// A car as a building has it.
-#[derive(Clone, Copy, PartialEq, Eq, Debug)]
+#[derive(Clone, Copy)]
 pub struct CarSpec {
     /// The car's id in the texts.
     pub id: u32,
@@ -40,7 +40,7 @@ pub struct CarSpec {
 }
 
 /// Where a car is.
-#[derive(Clone, Copy, PartialEq, Eq, Debug)]
+#[derive(Clone, Copy)]
 pub enum CarState {
     /// It stands with closed doors, or will at the moment `free`, and leaves no earlier.
     Idle { floor: u32, free: u64 },
@@ -98,7 +98,7 @@ impl CarState {
 }
 
 /// A group of passengers aboard a car.
-#[derive(Clone, Copy, PartialEq, Eq, Debug)]
+#[derive(Clone, Copy)]
 pub struct Aboard {
     pub id: u32,
     /// The index of its car.
@@ -111,7 +111,7 @@ pub struct Aboard {
 }
 
 /// An open landing call.
-#[derive(Clone, Copy, PartialEq, Eq, Debug)]
+#[derive(Clone, Copy)]
 pub struct Call {
     pub id: u32,
     pub origin: u32,
@@ -241,7 +241,7 @@ impl fmt::Display for Fault {
 }
 
 /// A rule that a tour or a plan can break, in the order in which they are tested at one stop.
-#[derive(Clone, Copy, PartialEq, Eq, Debug)]
+#[derive(Clone, Copy)]
 pub enum Rule {
     /// The first stop of a coming car is its floor, and that of a moving car is open; neither may have no stop.
     FirstStop,
@@ -295,7 +295,7 @@ impl Rule {
 }
 
 /// The first bad stop of a tour, counted from 1, and the lowest rule broken there.
-#[derive(Clone, Copy, PartialEq, Eq, Debug)]
+#[derive(Clone, Copy)]
 pub struct Broken {
     pub stop: u32,
     pub rule: Rule,
@@ -303,7 +303,7 @@ pub struct Broken {
 
 /// The first bad place of a plan. For `Rule::Unserved` the car is the number of cars, and the stop is
 /// the index of the call.
-#[derive(Clone, Copy, PartialEq, Eq, Debug)]
+#[derive(Clone, Copy)]
 pub struct BadPlan {
     pub car: u32,
     pub stop: u32,
@@ -311,7 +311,7 @@ pub struct BadPlan {
 }
 
 /// One step of a partial tour.
-#[derive(Clone, Copy, PartialEq, Eq, Debug)]
+#[derive(Clone, Copy, PartialEq, Eq)]
 pub enum Move {
     /// A call boards at the present stop.
     Board(u32),
@@ -322,7 +322,7 @@ pub enum Move {
 }
 
 /// The moments of one stop, in ms.
-#[derive(Clone, Copy, PartialEq, Eq, Debug)]
+#[derive(Clone, Copy)]
 pub struct Times {
     pub arrival: u64,
     pub opened: u64,
@@ -330,7 +330,7 @@ pub struct Times {
 }
 
 /// The calls that board at a stop, by index. Their order has no meaning.
-#[derive(Debug, Drop)]
+#[derive(Drop)]
 pub struct Boards {
     calls: Vec<u32>,
 }
@@ -421,7 +421,7 @@ impl PartialEq for Boards {
 }
 
 /// A stop of a tour: a floor, and the calls that board there.
-#[derive(Debug, Drop, PartialEq)]
+#[derive(Drop, PartialEq)]
 pub struct Stop {
     pub floor: u32,
     pub boards: Boards,
@@ -440,7 +440,7 @@ impl Stop {
 }
 
 /// The stops of one car, in order.
-#[derive(Debug, Drop)]
+#[derive(Drop)]
 pub struct Tour {
     stops: Vec<Stop>,
 }
@@ -521,7 +521,7 @@ impl PartialEq for Tour {
 }
 
 /// One tour per car, in the building's order.
-#[derive(Debug, Drop)]
+#[derive(Drop)]
 pub struct Plan {
     tours: Vec<Tour>,
 }

@@ -118,8 +118,8 @@ fn sections_are_read_in_any_pieces(rt: HostRuntime) -> Result<(), Fail> {
             assert!(rt; each >= 1);
             let mut source = source_of(alloc, bytes, each).ok_or("memory")?;
             let (answer, words) = read(alloc, &mut source)?;
-            assert_eq!(rt; answer, want);
-            assert_eq!(rt; words, behind);
+            assert!(rt; answer == want);
+            assert!(rt; words == behind);
         }
     }
     Ok(())
@@ -130,10 +130,10 @@ fn several_numbers_are_appended(rt: HostRuntime) -> Result<(), Fail> {
     let alloc = rt.alloc();
     let mut source = SureSource::new(Vec::from_slice(alloc, b"x 7 005 3")?);
     let mut lines = LineReader::new(alloc, &mut source)?;
-    assert_eq!(rt; lines.next_line(), Ok(true));
+    assert!(rt; lines.next_line() == Ok(true));
     let mut out = Vec::from_slice(alloc, &[2])?;
-    assert_eq!(rt; numbers(&lines, 1, 3, 7, &mut out), Ok(()));
-    assert_eq!(rt; out.as_slice(), [2, 7, 5, 3].as_slice());
-    assert_eq!(rt; numbers(&lines, 1, 3, 6, &mut out), Err(LineFault::Bad(7)));
+    assert!(rt; numbers(&lines, 1, 3, 7, &mut out) == Ok(()));
+    assert!(rt; out.as_slice() == [2, 7, 5, 3].as_slice());
+    assert!(rt; numbers(&lines, 1, 3, 6, &mut out) == Err(LineFault::Bad(7)));
     Ok(())
 }

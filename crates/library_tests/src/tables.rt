@@ -22,9 +22,16 @@ fn a_table_is_read(rt: HostRuntime) -> Result<(), Fail> {
     Ok(())
 }
 
+/// Whether the first three floors that break the inequality are 0, 1 and 2.
+fn is_broken_at_the_first(judged: Result<(), Triple>) -> bool {
+    match judged {
+        Err(triple) => triple.f == 0 && triple.g == 1 && triple.h == 2,
+        Ok(()) => false,
+    }
+}
+
 #[test]
 fn the_first_triple_is_found(rt: HostRuntime) {
-    let first = Err(Triple { f: 0, g: 1, h: 2 });
-    assert_eq!(rt; judge_table(3, &[0, 1, 3, 1, 0, 1, 3, 1, 0]), first);
-    assert_eq!(rt; judge_table(3, &[0, 1, 2, 1, 0, 1, 2, 1, 0]), Ok(()));
+    assert!(rt; is_broken_at_the_first(judge_table(3, &[0, 1, 3, 1, 0, 1, 3, 1, 0])));
+    assert!(rt; judge_table(3, &[0, 1, 2, 1, 0, 1, 2, 1, 0]).is_ok());
 }

@@ -6,7 +6,7 @@ ghost use Rattle.lift_commands.specs.Outcome.{status_of as status_of_lem, status
 use search_model::{StopReason, Verdict};
 
 /// How a run ended. The numbers are the program's exit statuses.
-#[derive(Clone, Copy, PartialEq, Eq, Debug)]
+#[derive(Clone, Copy, PartialEq, Eq)]
 pub enum Status {
     /// The whole answer was written.
     Done = 0,

@@ -49,7 +49,7 @@ impl<T: Drop> From<AllocFailed<T>> for TextFault {
 }
 
 /// What a line is as it stands.
-#[derive(Clone, Copy, Debug, PartialEq, Eq)]
+#[derive(Clone, Copy, PartialEq, Eq)]
 pub enum RawLine {
     /// A line of at most 4,096 bytes without its end.
     Line,

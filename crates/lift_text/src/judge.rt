@@ -9,7 +9,7 @@ use crate::words::{Span, are_allowed, before_comment, find_words};
 pub(crate) const LINE_LIMIT: usize = 4_096;
 
 /// Why a line is bad whatever it says.
-#[derive(Clone, Copy, Debug, PartialEq, Eq)]
+#[derive(Clone, Copy)]
 pub(crate) enum Flaw {
     OverLong,
     ForbiddenByte,

@@ -8,7 +8,7 @@ ghost use Rattle.std.specs.Int.{w128};
 ghost use Rattle.lift_text.specs.Numbers.{read_number, starts_with_minus};
 
 /// Why a word is not read as a number.
-#[derive(Clone, Copy, Debug, PartialEq, Eq)]
+#[derive(Clone, Copy)]
 pub enum NumberFault {
     /// The word is not one or more decimal digits, with a `-` in front where that is allowed.
     NoNumber,

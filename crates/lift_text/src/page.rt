@@ -18,7 +18,7 @@ const TEXT_LIMIT: usize = 67_108_864;
 const MOST_WORDS: usize = 2_049;
 
 /// What one line turned out to be.
-#[derive(Clone, Copy, Debug, PartialEq, Eq)]
+#[derive(Clone, Copy)]
 pub(crate) enum Step {
     WithWords,
     Blank,

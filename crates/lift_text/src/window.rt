@@ -23,7 +23,7 @@ const SIZE: usize = LONGEST + LARGEST_READ;
 
 /// What came of asking a source for more: bytes, the end of the input, or a byte past the most that
 /// may be taken.
-#[derive(Clone, Copy, Debug, PartialEq, Eq)]
+#[derive(Clone, Copy)]
 pub(crate) enum Fill {
     More,
     End,
@@ -32,7 +32,7 @@ pub(crate) enum Fill {
 
 /// What stands at the front of what is left: a line of some length, which takes `size` bytes with its
 /// end; a line that is over long; a line that goes past the most bytes that may be taken; or nothing.
-#[derive(Clone, Copy, Debug, PartialEq, Eq)]
+#[derive(Clone, Copy)]
 pub(crate) enum Found {
     Line { line: usize, size: usize },
     Long,
@@ -41,7 +41,7 @@ pub(crate) enum Found {
 }
 
 /// How a line was skipped: whole, or up to the most bytes that may be taken.
-#[derive(Clone, Copy, Debug, PartialEq, Eq)]
+#[derive(Clone, Copy)]
 pub(crate) enum Skipped {
     Whole,
     Cut,

@@ -7,7 +7,7 @@ ghost use Rattle.lift_text.specs.Words.{parts_of, word_span};
 use crate::places::place_of;
 
 /// Where a word stands in its line: from `start` up to `end`.
-#[derive(Clone, Copy, Debug, PartialEq, Eq)]
+#[derive(Clone, Copy)]
 pub(crate) struct Span {
     pub start: usize,
     pub end: usize,

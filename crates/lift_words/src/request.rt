@@ -8,7 +8,7 @@ use std::error::Error;
 use std::fmt;
 
 /// What the words of the command line ask for.
-#[derive(Clone, Copy, Debug, PartialEq, Eq)]
+#[derive(Clone, Copy)]
 pub enum Request {
     /// `solve`: the case of the input is to be solved.
     Solve(SolveOptions),
@@ -25,7 +25,7 @@ pub enum Request {
 }
 
 /// The options of `solve`.
-#[derive(Clone, Copy, Debug, PartialEq, Eq)]
+#[derive(Clone, Copy)]
 pub struct SolveOptions {
     /// `--rounds`: at most so many rounds, 1 to 10^18. The default is 2000.
     pub rounds: u64,
@@ -38,14 +38,14 @@ pub struct SolveOptions {
 }
 
 /// The options of `check`.
-#[derive(Clone, Copy, Debug, PartialEq, Eq)]
+#[derive(Clone, Copy)]
 pub struct CheckOptions {
     /// `--workers`: so many threads, 1 to 16. The default is 1.
     pub workers: u32,
 }
 
 /// The options of `day` and of `report`.
-#[derive(Clone, Copy, Debug, PartialEq, Eq)]
+#[derive(Clone, Copy)]
 pub struct DayOptions {
     /// `--rounds`: at most so many rounds at each accepted call, 1 to 10^18. The default is 2000.
     pub rounds: u64,
@@ -56,7 +56,7 @@ pub struct DayOptions {
 }
 
 /// The sizes of a generated case. `make` takes `--rounds` and `--moves` too, which change nothing without `--run`.
-#[derive(Clone, Copy, Debug, PartialEq, Eq)]
+#[derive(Clone, Copy)]
 pub struct CaseSizes {
     /// `--number`: the number that the case is made from, any of 64 bits. The default is 1.
     pub number: u64,
@@ -69,7 +69,7 @@ pub struct CaseSizes {
 }
 
 /// The options of `make --run`.
-#[derive(Clone, Copy, Debug, PartialEq, Eq)]
+#[derive(Clone, Copy)]
 pub struct RunOptions {
     /// The sizes of the case.
     pub sizes: CaseSizes,

@@ -3,7 +3,7 @@ ghost use Rattle.std.specs.Prelude.{◌≡◌};
 ghost use Rattle.lift_words.specs.Table.{Shows, command_of, flags_of, numbers_of, setting_of, texts, word_of};
 
 /// A command.
-#[derive(Clone, Copy, Debug, PartialEq, Eq)]
+#[derive(Clone, Copy)]
 pub(crate) enum CommandWord {
     Solve,
     Check,
@@ -13,7 +13,7 @@ pub(crate) enum CommandWord {
 }
 
 /// An option that takes a number.
-#[derive(Clone, Copy, Debug, PartialEq, Eq)]
+#[derive(Clone, Copy)]
 pub(crate) enum NumberOption {
     Rounds,
     Moves,
@@ -26,7 +26,7 @@ pub(crate) enum NumberOption {
 
 /// What the table says of an option that takes a number: its name without the dashes, its least and its
 /// greatest value, and the value where it is not given.
-#[derive(Clone, Copy, Debug)]
+#[derive(Clone, Copy)]
 pub(crate) struct Setting {
     pub(crate) name: &'static str,
     pub(crate) low: u64,

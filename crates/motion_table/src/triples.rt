@@ -7,7 +7,7 @@ ghost use Rattle.motion_table.specs.Triples.{IsFirstThird, IsFirstFrom, IsFirstT
 use call_state::are_rows_direct;
 
 /// Three floors: the way from `f` to `h` over `g` is shorter than the time from `f` to `h`.
-#[derive(Clone, Copy, Debug, PartialEq, Eq)]
+#[derive(Clone, Copy)]
 pub struct Triple {
     pub f: u32,
     pub g: u32,

@@ -31,7 +31,7 @@ use std::marker::Sync;
 use std::thread::Threads;
 
 /// How long a search may go on.
-#[derive(Clone, Copy, PartialEq, Eq, Debug)]
+#[derive(Clone, Copy)]
 pub struct Limits {
     /// How many rounds it may do: 1 to 10^18.
     pub rounds: u64,

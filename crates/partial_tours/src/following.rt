@@ -197,7 +197,7 @@ fn first_choice(call: Option<u32>, floor: Option<u32>, ends: bool) -> Option<Mov
 }
 
 /// Moves that may follow a partial tour, as sets.
-#[derive(Clone, Copy, Debug)]
+#[derive(Clone, Copy)]
 pub struct Followers {
     boards: CallSet,
     leaves: FloorSet,

@@ -22,7 +22,7 @@ use std::marker::Model;
 use tour_rules::places::is_carried;
 
 /// The moves that may follow a partial tour, with room for all of them.
-#[derive(Drop, Debug)]
+#[derive(Drop)]
 pub struct Moves {
     items: Vec<Move>,
 }

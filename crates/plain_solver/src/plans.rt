@@ -12,7 +12,7 @@ use elevator_model::Plan;
 use std::alloc::{AllocError, Global};
 
 /// An optimal plan and its cost.
-#[derive(Debug, Drop)]
+#[derive(Drop)]
 pub struct Cheapest {
     pub plan: Plan,
     /// In cost units.

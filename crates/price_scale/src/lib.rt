@@ -17,7 +17,7 @@ const MOST: i128 = 1_000_000_000_000_000_000_000_000;
 /// A price in thousandths of a cost unit, of absolute value at most 10^24.
 ///
 /// Contracts see it as that whole number.
-#[derive(Clone, Copy, Debug, PartialEq, Eq, PartialOrd, Ord)]
+#[derive(Clone, Copy, PartialEq, Eq, PartialOrd, Ord)]
 pub struct Price {
     value: i128,
 }

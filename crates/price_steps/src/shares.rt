@@ -9,7 +9,7 @@ use std::alloc::{AllocError, Global};
 
 /// For each call and car a running share of the pricings in which the car took the call, in 2^20ths: 0 is never, and
 /// 2^20 always. The newest pricing makes a quarter of it.
-#[derive(Debug, Drop)]
+#[derive(Drop)]
 pub(crate) struct Shares {
     calls: usize,
     /// Car by car.

@@ -32,7 +32,7 @@ const LEAST_NEW_RATE: i64 = ONE / 8;
 
 /// What a node of a search remembers of its pricings and of those of the nodes above it: from it come the prices of the
 /// next pricing, when the node is split, and where.
-#[derive(Debug, Drop)]
+#[derive(Drop)]
 pub struct Steps {
     /// For each call, in 2^20ths: the average of 1 less the number of tours that took it, of which the newest pricing
     /// makes a sixth.

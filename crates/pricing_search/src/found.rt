@@ -8,7 +8,7 @@ use std::alloc::{AllocError, Global};
 use std::marker::Model;
 
 /// The moves of a tour that was found, with room for the longest.
-#[derive(Drop, Debug)]
+#[derive(Drop)]
 pub(crate) struct Found {
     moves: Vec<Move>,
 }

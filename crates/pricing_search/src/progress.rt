@@ -7,7 +7,7 @@ use partial_tours::Prefix;
 use std::alloc::{AllocError, Global};
 
 /// How far a walk over the partial tours of a car is. Values and bounds are in thousandths of a cost unit.
-#[derive(Drop, Debug)]
+#[derive(Drop)]
 pub(crate) struct Progress {
     /// How many partial tours were visited.
     pub(crate) visits: u64,

@@ -23,7 +23,7 @@ pub const MOST_TOURS: usize = 32;
 const MOST_REDUCED_COST: i128 = 200_000_000_000_000_000_000_000_000;
 
 /// A feasible tour of a car, with what a choice of tours asks of it.
-#[derive(Debug, Drop)]
+#[derive(Drop)]
 pub struct Column {
     /// The tour itself.
     pub tour: Tour,
@@ -91,7 +91,7 @@ impl Column {
 }
 
 /// At most 32 columns of one car, no two with the same tour, the oldest first.
-#[derive(Debug, Drop)]
+#[derive(Drop)]
 pub(crate) struct Columns {
     items: Vec<Column>,
 }

@@ -15,7 +15,7 @@ use price_scale::Price;
 use std::alloc::{AllocError, Global};
 
 /// What a selection found.
-#[derive(Debug, Drop)]
+#[derive(Drop)]
 pub struct Choice {
     /// A feasible plan made of tours of the pool, where one was found.
     pub plan: Option<Plan>,

@@ -16,7 +16,7 @@ pub use items::Items;
 use price_scale::Price;
 
 /// The price of a call, in a leaf of a certificate.
-#[derive(Clone, Copy, PartialEq, Eq, Debug)]
+#[derive(Clone, Copy)]
 pub struct PriceOf {
     pub call: u32,
     pub price: Price,
@@ -24,7 +24,7 @@ pub struct PriceOf {
 
 /// The worth of a car in a leaf of a certificate, and how many partial tours a checker has to visit for
 /// it at most.
-#[derive(Clone, Copy, PartialEq, Eq, Debug)]
+#[derive(Clone, Copy)]
 pub struct WorthOf {
     pub car: u32,
     pub worth: i128,
@@ -32,7 +32,7 @@ pub struct WorthOf {
 }
 
 /// A leaf of a certificate: prices of calls and worths of cars, in any order.
-#[derive(Debug, Drop)]
+#[derive(Drop)]
 pub struct Leaf {
     pub prices: Items<PriceOf>,
     pub worths: Items<WorthOf>,
@@ -40,7 +40,7 @@ pub struct Leaf {
 
 /// A node of a certificate's tree. The nodes stand in preorder: after a split come the nodes of its first
 /// part and then those of its second part.
-#[derive(Debug, Drop)]
+#[derive(Drop)]
 pub enum Twig {
     /// The first part gives the call to the cars of `part`, the second one to the rest of its cars.
     Split { call: u32, part: CarSet },
@@ -49,7 +49,7 @@ pub enum Twig {
 }
 
 /// An answer: a plan, its cost, and a bound that no feasible plan's cost is below, as someone states them.
-#[derive(Debug, Drop)]
+#[derive(Drop)]
 pub struct Stated {
     pub plan: Plan,
     pub cost: u64,
@@ -57,7 +57,7 @@ pub struct Stated {
 }
 
 /// Why a checker says no.
-#[derive(Debug, Drop)]
+#[derive(Drop)]
 pub enum Reason {
     /// The plan is not feasible.
     Plan(BadPlan),
@@ -97,14 +97,14 @@ pub enum Reason {
 }
 
 /// What a checker says.
-#[derive(Debug, Drop)]
+#[derive(Drop)]
 pub enum Verdict {
     Yes,
     No(Reason),
 }
 
 /// What a pricing of a car answers.
-#[derive(Clone, Copy, PartialEq, Eq, Debug)]
+#[derive(Clone, Copy)]
 pub struct Priced {
     /// No feasible tour of the node has a smaller value.
     pub worth: i128,
@@ -115,21 +115,21 @@ pub struct Priced {
 }
 
 /// A car's pricing in a turn, and the tour that it gave.
-#[derive(Debug, Drop)]
+#[derive(Drop)]
 pub struct TurnOf {
     pub priced: Priced,
     pub tour: Option<Tour>,
 }
 
 /// One pricing of every car at the root: the prices by the calls' indexes, and the pricings by the cars'.
-#[derive(Debug, Drop)]
+#[derive(Drop)]
 pub struct Turn {
     pub prices: Items<Price>,
     pub cars: Items<TurnOf>,
 }
 
 /// Why a search ended.
-#[derive(Clone, Copy, PartialEq, Eq, Debug)]
+#[derive(Clone, Copy)]
 pub enum StopReason {
     /// The cost equals the bound.
     Solved,
@@ -140,14 +140,14 @@ pub enum StopReason {
 }
 
 /// A moment at which a call boarded or was delivered, by the ids of the call and the car.
-#[derive(Clone, Copy, PartialEq, Eq, Debug)]
+#[derive(Clone, Copy)]
 pub enum Event {
     Board { call: u32, car: u32, moment: u64 },
     Deliver { call: u32, car: u32, moment: u64 },
 }
 
 /// Why a row of a day is refused.
-#[derive(Clone, Copy, PartialEq, Eq, Debug)]
+#[derive(Clone, Copy)]
 pub enum RowFault {
     /// It is no row: its form, a number or a floor is bad.
     NoRow,
@@ -160,7 +160,7 @@ pub enum RowFault {
 }
 
 /// A call of a day: its id and the moments at which it came, boarded and was delivered.
-#[derive(Clone, Copy, PartialEq, Eq, Debug)]
+#[derive(Clone, Copy)]
 pub struct Served {
     pub call: u32,
     pub released: u64,
@@ -170,7 +170,7 @@ pub struct Served {
 
 /// A column of a report, in ms: number, sum and greatest of the items, those of three ranks, and the mean
 /// as a fraction in lowest terms.
-#[derive(Clone, Copy, PartialEq, Eq, Debug)]
+#[derive(Clone, Copy)]
 pub struct Column {
     pub count: u64,
     pub sum: u64,
@@ -183,7 +183,7 @@ pub struct Column {
 }
 
 /// The report of a day.
-#[derive(Clone, Copy, PartialEq, Eq, Debug)]
+#[derive(Clone, Copy)]
 pub struct Report {
     /// From coming to boarding.
     pub wait: Column,

@@ -16,7 +16,7 @@ use search_model::TurnOf;
 use std::alloc::{AllocError, Global};
 
 /// At which call a node is split, and the cars that may still serve it in the first part.
-#[derive(Clone, Copy, PartialEq, Eq, Debug)]
+#[derive(Clone, Copy)]
 pub struct SplitAt {
     pub call: u32,
     pub part: CarSet,

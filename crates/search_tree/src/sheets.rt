@@ -13,7 +13,7 @@ use std::alloc::{AllocError, Global};
 use std::marker::Model;
 
 /// A worth of a car, and the claim that fits it: how many partial tours a checker visits for it at most.
-#[derive(Clone, Copy, PartialEq, Eq, Debug)]
+#[derive(Clone, Copy)]
 pub struct Worth {
     /// In thousandths of a cost unit.
     pub worth: i128,

@@ -1,7 +1,7 @@
 //! What tells the lines of a snapshot section apart.
 
 /// Which line is due.
-#[derive(Clone, Copy, Debug, PartialEq, Eq)]
+#[derive(Clone, Copy)]
 pub(crate) enum Due {
     /// The first line, with the version.
     Version,
@@ -12,7 +12,7 @@ pub(crate) enum Due {
 }
 
 /// The first word of a line.
-#[derive(Clone, Copy, Debug, PartialEq, Eq)]
+#[derive(Clone, Copy)]
 pub(crate) enum LineWord {
     Snapshot,
     Now,
@@ -23,7 +23,7 @@ pub(crate) enum LineWord {
 }
 
 /// How a `car` line says where its car is.
-#[derive(Clone, Copy, Debug, PartialEq, Eq)]
+#[derive(Clone, Copy)]
 pub(crate) enum Form {
     /// The word that says so is missing.
     Unsaid,

@@ -6,7 +6,7 @@ ghost use Rattle.text_sections.specs.Codes.{code_of};
 use std::alloc::{AllocError, AllocFailed};
 
 /// What is wrong with the words of a line.
-#[derive(Clone, Copy, Debug, PartialEq, Eq)]
+#[derive(Clone, Copy)]
 pub enum TextCode {
     /// The first word is no line word of the section, or a word that must be one of some fixed words
     /// is none of them.
@@ -61,7 +61,7 @@ impl TextCode {
 }
 
 /// Why a line of a section is not taken.
-#[derive(Clone, Copy, Debug, PartialEq, Eq)]
+#[derive(Clone, Copy, PartialEq, Eq)]
 pub enum LineFault {
     /// The line is bad with this code.
     Bad(u8),

@@ -13,7 +13,7 @@ use lift_text::{LineReader, Source, TextFault};
 const MOST_LINES: u64 = 67_108_865;
 
 /// What a line that is taken does to its section.
-#[derive(Clone, Copy, Debug, PartialEq, Eq)]
+#[derive(Clone, Copy)]
 pub enum Turn {
     /// The section goes on.
     More,

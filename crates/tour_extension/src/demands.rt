@@ -8,7 +8,7 @@ use call_sets::CallSet;
 use partial_tours::Prefix;
 
 /// What a node asks of a car: a tour in which allowed calls alone board, and each required one does.
-#[derive(Clone, Copy, PartialEq, Eq, Debug)]
+#[derive(Clone, Copy)]
 pub struct Demand {
     /// The calls that may board. The car may take each of them.
     pub allowed: CallSet,

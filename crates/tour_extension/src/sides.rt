@@ -11,7 +11,7 @@ use call_sets::FloorSet;
 use partial_tours::Point;
 
 /// To which sides of its floor a car carries someone.
-#[derive(Clone, Copy, Debug)]
+#[derive(Clone, Copy)]
 pub(crate) struct Sides {
     pub(crate) above: bool,
     pub(crate) below: bool,
