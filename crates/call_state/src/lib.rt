@@ -11,8 +11,9 @@
 //! - `Building::build` and `Snapshot::build` take exactly the ones that keep the rules, and name the first
 //!   fault of any other: what is wrong, and at which item.
 //! - `Travel::of_square`, `Building::of_faultless`, `Snapshot::of_accepted`: the value of parts that the
-//!   caller knows to keep the rules (a `requires`), which are not judged again. A reader that judged each
-//!   line uses these.
+//!   caller knows to keep the rules (a `requires`), which are not judged again: `snapshot_text`, which judged
+//!   each line, and `day_state` use these; `building_text` uses `Travel::of_square`, and `Building::build`
+//!   for the whole.
 //! - `spec_fault`, `state_fault`, `aboard_fault`, `call_fault`: the first fault of one item after those
 //!   before it, for readers that judge line by line. `indexed_aboard_fault` and `indexed_call_fault` are the
 //!   same where the ids before it are in an `IdIndex`, which tells whether it has an id.
