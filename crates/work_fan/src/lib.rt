@@ -1,7 +1,8 @@
 //! Work that is drawn from one line of jobs, by workers in threads of their own.
 //!
-//! No call waits for another thread: there is no lock, no channel and no loop that waits. The calling thread
-//! joins the workers at the end (`work_at`).
+//! The calling thread starts the workers and waits for them (`work_at`); a lone worker is the calling thread
+//! itself. While jobs are drawn and done no worker waits for another: there is no lock, no channel and no
+//! loop that waits.
 //!
 //! # What is promised
 //!
