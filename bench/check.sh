@@ -1,6 +1,6 @@
 #!/bin/sh
-# Solves generated cases as bench/solve.sh does, with so many numbers each (2 where no number is given), and checks what was
-# written. For each case it prints the ms of `solve` and of `check`, the bytes of the certificate, and the verdict.
+# check.sh [NUMBERS] [WORKERS]: solves generated cases as bench/solve.sh does, NUMBERS of each size (2 by default), and checks
+# what was written. For each case it prints the ms of `solve` and of `check`, the bytes of the certificate, and the verdict.
 numbers="${1:-2}"
 workers="${2:-1}"
 lift="$(dirname "$0")/../crates/lift/out/lift"

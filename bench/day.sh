@@ -1,7 +1,7 @@
 #!/bin/sh
-# Runs two generated days: a morning peak of so many rows (500 where no number is given), and a quiet day of so many (20,000).
-# For each it prints the rows, the seconds, the rows a second, the greatest memory in KB, and the last lines of the log. The
-# limits are the program's own where none are given.
+# day.sh [PEAK] [QUIET] [ROUNDS] [MOVES]: runs two generated days, a morning peak of PEAK rows (500 by default) and a quiet day
+# of QUIET rows (20,000). For each it prints the rows, the seconds, the rows a second, the greatest memory in KB, and the last
+# lines of the log. The limits are the program's defaults unless others are given.
 peak="${1:-500}"
 quiet="${2:-20000}"
 rounds="${3:-2000}"
@@ -17,7 +17,7 @@ opening() {
     for car in 1 2 3 4; do echo "car $car idle 0 0"; done
     printf 'end\ntime,origin,destination,persons\n'
 }
-# Rows so many ms apart: every fifth goes down to the lowest floor, all others up from it.
+# N rows, EVERY ms apart: every fifth goes down to the lowest floor, all others up from it.
 rows() {
     awk -v n="$1" -v every="$2" 'BEGIN {
         for (k = 0; k < n; k++)

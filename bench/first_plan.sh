@@ -1,7 +1,7 @@
 #!/bin/sh
-# Compares first plans with cheaper ones. First with the cheapest ones, on so many small snapshots of each kind (20 where no
-# number is given). Then on generated cases with the costs of first_plan_costs.txt, lines of floors, cars, calls, number and
-# the least cost known: for each group the mean and the greatest excess in hundredths of a per cent, and the ms for its plans.
+# first_plan.sh [N]: compares first plans with cheaper ones. First with the cheapest ones, on N small snapshots of each kind (20
+# by default). Then on generated cases with the costs of first_plan_costs.txt, lines of floors, cars, calls, number and the
+# least cost known: for each group the mean and the greatest excess in hundredths of a per cent, and the ms for its plans.
 cd "$(dirname "$0")" || exit 1
 (cd ../crates/lift_bench && rt run -- first_plan "${1:-20}") || exit 1
 program=../crates/lift_bench/out/lift_bench

@@ -1,8 +1,8 @@
 #!/bin/sh
-# Prices each car of twelve generated snapshots of 8 to 30 calls at their roots, at the price 0 for each call and at twice
-# and four times the mean cost of a call in a first plan, with at most so many visits a pricing (2,000,000 where no number
-# is given), about 4,000,000 visits each and as often as said (3 times where no number is given). It prints visits and the
-# most visits a second of the pricings' own time, and last the harmonic mean of these and how many are above 5,000,000.
+# pricing.sh [LIMIT] [TIMES]: prices each car of twelve generated snapshots of 8 to 30 calls at their roots, at the price 0 for
+# each call and at twice and four times the mean cost of a call in a first plan, with at most LIMIT visits a pricing (2,000,000
+# by default), about 4,000,000 visits each and TIMES times (3 by default). It prints visits and the most visits a second of the
+# pricings' own time, and last the harmonic mean of these and how many are above 5,000,000.
 limit="${1:-2000000}"
 times="${2:-3}"
 cd "$(dirname "$0")/../crates/lift_bench" || exit 1
@@ -11,7 +11,7 @@ lift=../lift/out/lift
 mkdir -p out
 rt run -- all < stdin > out/first_run.txt 2>&1 || { cat out/first_run.txt; exit 1; }
 
-# The program's line for one factor and so many rounds; how long it took goes to out/took.txt.
+# priced FACTOR ROUNDS: the program's line for them; how long it took goes to out/took.txt.
 priced() {
     ./out/lift_bench pricing "$1" "$limit" "$2" < out/case.txt 2> out/took.txt
 }

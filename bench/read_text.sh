@@ -1,10 +1,10 @@
 #!/bin/sh
-# Reads and writes the text of a large building with a snapshot (64 floors with stated times, 16 cars, 128 groups aboard,
-# 128 calls) and a short answer from memory, so many rounds (1,000 where no number is given), and prints MB (of 1,000,000
-# bytes) a second of processor time, where a round reads the text once and writes it once. Then the same of a text that is
-# ten times as long, ten such cases one after another, in a tenth of the rounds, and how many times as long one of its
-# rounds takes: about ten, since what is read costs as many steps as it has bytes. Then both of a small case with a long
-# answer: 2,048 stops where eight calls board.
+# read_text.sh [ROUNDS]: reads and writes the text of a large building with a snapshot (64 floors with stated times, 16 cars,
+# 128 groups aboard, 128 calls) and a short answer from memory, in ROUNDS rounds (1,000 by default), and prints MB (of 1,000,000
+# bytes) a second of processor time, where a round reads the text once and writes it once. Then the same of a text that is ten
+# times as long, ten such cases one after another, in a tenth of the rounds, and how many times as long one of its rounds takes:
+# about ten, since what is read costs as many steps as it has bytes. Then both of a small case with a long answer: 2,048 stops
+# at which eight calls board.
 rounds="${1:-1000}"
 cd "$(dirname "$0")/../crates/lift_bench" || exit 1
 rt run -- all < stdin > out/first_run.txt 2>&1 || { cat out/first_run.txt; exit 1; }

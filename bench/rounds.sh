@@ -1,7 +1,7 @@
 #!/bin/sh
-# How many rounds a search takes: for generated cases of 12 and 20 floors, 2 to 8 cars and 4 to 12 calls, with so many
-# numbers each (3 where no number is given), finds the least --rounds with which the case is solved, by halving, and
-# prints it for each case and the mean of all. Groups of more than seven calls a car are left out, as in solve.sh.
+# rounds.sh [NUMBERS]: how many rounds a search takes. For generated cases of 12 and 20 floors, 2 to 8 cars and 4 to 12 calls,
+# NUMBERS of each size (3 by default), it finds the least --rounds with which the case is solved, by halving, and prints it for
+# each case and the mean of all. Groups of more than seven calls a car are left out, as in solve.sh.
 numbers="${1:-3}"
 lift="$(dirname "$0")/../crates/lift/out/lift"
 [ -x "$lift" ] || (cd "$(dirname "$0")/../crates/lift" && rt run -- solve --brief < ../../examples/lunch.txt > /dev/null) || exit 1

@@ -1,7 +1,7 @@
 #!/bin/sh
-# Solves generated cases of 12 and 20 floors, 2 to 8 cars and 4 to 20 calls, with so many numbers each (3 where no number is
-# given), and prints for each group how many were solved within the default limits, the cases, and the ms for all of them.
-# Groups of more than seven calls a car are left out: a single car cannot be priced there within its moves.
+# solve.sh [NUMBERS] [WORKERS]: solves generated cases of 12 and 20 floors, 2 to 8 cars and 4 to 20 calls, NUMBERS of each size (3
+# by default), and prints for each group how many were solved within the default limits, the cases, and the ms for all of them.
+# Groups of more than seven calls a car are left out: a single car cannot be priced there within its limit of partial tours.
 numbers="${1:-3}"
 workers="${2:-1}"
 lift="$(dirname "$0")/../crates/lift/out/lift"

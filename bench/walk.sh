@@ -1,6 +1,6 @@
 #!/bin/sh
-# Walks the partial tours of a car depth first (first move, next move, push, settled cost, pop) on snapshots of 8 to 128
-# calls, so many partial tours each (8,000,000 where no number is given), and prints partial tours a second.
+# walk.sh [TOURS]: walks the partial tours of a car depth first (first move, next move, push, settled cost, pop) on snapshots of 8
+# to 128 calls, TOURS partial tours each (8,000,000 by default), and prints partial tours a second.
 tours="${1:-8000000}"
 cd "$(dirname "$0")/../crates/lift_bench" || exit 1
 lift=../lift/out/lift

@@ -1,5 +1,5 @@
 #!/bin/sh
-# Solves ten generated cases that take more than a second each, so many times (5 where no number is given): alone with one
+# workers.sh [TIMES]: solves ten generated cases that take more than a second each, TIMES times (5 by default): alone with one
 # worker, as four programs at once with one worker each, and with four workers. It prints the medians in ms, and how many
 # times less four workers take than one worker alone and than one of the four programs. The second compares processors that
 # are all in use: a lone worker may have a faster clock, or a whole core where two virtual processors share one.
@@ -9,7 +9,7 @@ lift="$(dirname "$0")/../crates/lift/out/lift"
 folder=$(mktemp -d) || exit 1
 trap 'rm -r "$folder"' EXIT
 
-# The ms that one run with so many workers takes.
+# run WORKERS COPY: the ms that one run takes.
 run() {
     start=$(date +%s%N)
     "$lift" solve --brief --workers "$1" < "$folder/case" > "$folder/answer$2" || exit 1

@@ -28,7 +28,7 @@ def leading_pieces(lines):
 
 
 def blocks(lines):
-    """The blocks of a file: the kind, the name, and the numbers of the lines between which the rest stands."""
+    """The blocks of a file: the kind, the name, and the first and the end line number of the rest."""
     heads = [at for at, line in enumerate(lines) if line.startswith(HEADS)]
     for at, end in zip(heads, heads[1:] + [len(lines)]):
         kind, name = lines[at].split(' ', 1)
@@ -36,7 +36,7 @@ def blocks(lines):
 
 
 def steps(lines, first, end):
-    """The numbers of the lines between which each step of a case stands."""
+    """The first and the end line number of each step of a case."""
     begins = [first] + [at for at in range(first + 1, end) if lines[at].startswith(LATER)]
     return list(zip(begins, begins[1:] + [end]))
 

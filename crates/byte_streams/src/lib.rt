@@ -1,4 +1,13 @@
 //! Where bytes come from and where they go: sources, sinks, and the gate that jobs pass.
+//!
+//! `Source` and `Sink` are traits with what is left or taken, where that is told, and a count of faults that
+//! never falls; `Gate` is one too. There are sources and sinks in memory (that can fail, or cannot) and over
+//! std's reader and writer.
+//!
+//! # What is promised
+//!
+//! - `read_full` and `put_all`: what was read and written, and that a fault comes from the source or the sink
+//!   alone.
 #![tactic(auto)]
 
 mod adapters;

@@ -1,8 +1,30 @@
-//! The states that the rules allow: a square of travel times between floors, a building with its cars,
-//! and a snapshot of a building with its cars' states, the groups aboard and the open calls. What breaks
-//! the rules is refused with its first fault, and a value of these types keeps them.
+//! The states that the rules allow: a square of travel times between floors, a building with its cars, and a
+//! snapshot of a building with its cars' states, the groups aboard and the open calls. What breaks the rules
+//! is refused with its first fault, and a value of these types keeps them.
 //!
 //! Lengths are in mm, moments and times in ms. Floors, cars and calls are named by their index, from 0.
+//!
+//! # What is promised
+//!
+//! - `Travel::build` takes exactly the travel squares. `are_rows_direct` tells whether no way over a third
+//!   floor is shorter.
+//! - `Building::build` and `Snapshot::build` take exactly the ones that keep the rules, and name the first
+//!   fault of any other: what is wrong, and at which item.
+//! - `Travel::of_square`, `Building::of_faultless`, `Snapshot::of_accepted`: the value of parts that the
+//!   caller knows to keep the rules (a `requires`), which are not judged again: `snapshot_text`, which judged
+//!   each line, and `day_state` use these; `building_text` uses `Travel::of_square`, and `Building::build`
+//!   for the whole.
+//! - `spec_fault`, `state_fault`, `aboard_fault`, `call_fault`: the first fault of one item after those
+//!   before it, for readers that judge line by line. `indexed_aboard_fault` and `indexed_call_fault` are the
+//!   same where the ids before it are in an `IdIndex`, which tells whether it has an id.
+//! - `Building::car_of` and `Snapshot::call_of` give the index of exactly the car, the call, with an id, from
+//!   an index of the ids. Copies are equal values.
+//! - `SnapshotParts::flaw` tells whether the parts fit together, and a condition of `Snapshot::build` that
+//!   fails where they do not. `Snapshot::possible` and `may_take` are exactly the cars that may take a call;
+//!   they are worked out once, when the snapshot is built.
+//!
+//! Every reader of these types also says that what it reads is accepted, so callers need no condition for it.
+//! The triangle inequality is tested row by row, with an inner loop that has no exit, since that is faster.
 #![tactic(auto)]
 
 ghost use Rattle.std.specs.Prelude.{◌≡◌};

@@ -1,8 +1,13 @@
 //! How long a car travels.
 //!
-//! A car speeds up with a constant acceleration to at most its greatest speed, and brakes as strongly as
-//! it speeds up. The travel time over a distance is the time from rest to rest, rounded up to a whole
+//! A car speeds up with a constant acceleration to at most its greatest speed, and brakes as strongly as it
+//! speeds up. The travel time over a distance is the time from rest to rest, rounded up to a whole
 //! millisecond.
+//!
+//! # What is promised
+//!
+//! - `least_time` is the least whole time in which a distance can be covered, found in constant time.
+//! - `travel_of` is the square of these times, which is a travel square.
 #![tactic(auto)]
 
 ghost use Rattle.std.specs.Prelude.{◌≡◌, ℕ, ◌+◌, ◌*◌, ◌≤◌, ◌<◌, length, slice_index, IfOk};

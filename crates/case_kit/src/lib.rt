@@ -1,8 +1,9 @@
 //! What tests and measurements of several crates make: draws, the texts of snapshots and the snapshots in
-//! them, tours and plans in short texts, what these cost, and counts of checks.
+//! them, tours and plans in short texts, what these cost (also where they may break a rule), and counts of
+//! checks.
 //!
-//! What answers an `Option` or a `bool` says `None` or no where memory is wanting, so that a test fails then.
-//! With few early returns, and few values to drop at them, what calls it is proved fast.
+//! What answers an `Option` or a `bool` says `None` or no when out of memory, so that a test fails then. With
+//! few early returns, and few values to drop at them, what calls it is proved fast.
 #![tactic(auto)]
 
 mod checks;

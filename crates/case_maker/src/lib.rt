@@ -2,6 +2,13 @@
 //!
 //! Lengths are in mm, moments and times in ms. Floors are named by their index, from 0; cars and calls have
 //! the ids from 1 on.
+//!
+//! # What is promised
+//!
+//! - `make` gives exactly the generated case of a number and three sizes (2 to 64 floors, 1 to 8 cars, at
+//!   most 64 calls), draw by draw as the definition says. It fails only when out of memory: each case is an
+//!   accepted snapshot (`proofs/CaseLemmas.antt`, `proofs/AcceptedCases.antt`), so neither the building nor
+//!   the snapshot can be refused for a fault.
 #![tactic(auto)]
 
 ghost use Rattle.std.specs.Prelude.{◌≡◌, ◌≤◌, IfOk, IfErr, OnErr};

@@ -1,5 +1,22 @@
-//! Runs a day over lines: rows are read, and what each does is written before more of the source is read than what its
-//! line takes.
+//! Runs a day over lines: rows are read, and what each does is written before more of the source is read than
+//! what its line takes.
+//!
+//! # What is promised
+//!
+//! - `run_day_text` and `run_day`, over the lines of a text and for any planner: which rows were read, done
+//!   and written, whatever fails, with each row's lines written before more of the source is read than what
+//!   its line takes. Where nothing fails and the text is an opening and rows, the whole log and the served
+//!   calls, whose times' sums stay below 2^64.
+//!
+//! `run_day_text` reads what comes before the rows (`opening_text`); `run_day` writes the first line of the
+//! log, reads line by line, lets the day do what each says, writes its lines of the log before it reads on,
+//! and at the end runs the last plan out. One record says of every outcome which lines were read, that their
+//! rows did what the definition says (`AreRowsDone`), that no accepted call was lost, and what the sink has
+//! taken (`RanDay`). After a failed read those are the lines that are whole among the bytes taken
+//! (`IsCutOff`); after a failed write a beginning of the log was written, and of its end only where no line
+//! was left (`IsCutIn`); an input that is too long stops before the line that does not end within the limit.
+//! Where the text is an opening and rows, only a failed read or write and running out of memory keep the day
+//! from its end (`EndsUnlessFailed`).
 #![tactic(auto)]
 
 mod days;

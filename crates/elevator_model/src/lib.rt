@@ -1,9 +1,22 @@
-//! The plain values of elevator dispatching, and in `specs/` the definitions that the contracts of the
-//! other crates cite: travel times, buildings, snapshots, tours and their rules, times, costs, plans,
-//! partial tours.
+//! The plain values of elevator dispatching, and in `specs/` the definitions that the contracts of the other
+//! crates cite: travel times, buildings, snapshots, tours and their rules, times, costs, plans, partial
+//! tours.
 //!
-//! Lengths are in mm, moments and times in ms. Floors are numbered from 0. Cars and calls have ids in
-//! the texts; here they are named by their index, from 0, in the order of the text.
+//! Lengths are in mm, moments and times in ms. Floors are numbered from 0. Cars and calls have ids in the
+//! texts; here they are named by their index, from 0, in the order of the text.
+//!
+//! # What is promised
+//!
+//! - `CarState::floor`, `Call::is_later_in_queue`, `Fault::code`, `Rule::number` and what else a value knows
+//!   by itself: each is its definition. Copies are equal values.
+//! - The greatest sizes, moments and costs have their one home here (`limits`).
+//!
+//! The definitions are over records of lists and numbers and copy no loop of the code. `specs/Worked.antt`
+//! computes worked cases from them: costs of tours and plans, with patience too, and with numbers that all
+//! differ, so that no two can be taken for each other; timelines; plans of several cars; moves, with what
+//! they settled; moving cars; orders that the queue rule forbids; each rule of a tour broken once, and two at
+//! one stop; first bad places of plans; each first fault of a building and of a snapshot, also where two come
+//! together.
 #![tactic(auto)]
 
 ghost use Rattle.std.specs.Prelude.{◌≡◌, ◌↔◌, ◌≤◌, ℕ, List, [], ◌∷◌, ◌++◌, length, IsTrue, OnOk, OnErr, IfOk, IfErr};

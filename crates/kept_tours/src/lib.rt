@@ -1,4 +1,24 @@
-//! The kept partial tours of a car: those that some tour of a node begins with and whose bound is below a worth.
+//! The kept partial tours of a car: those that some tour of a node begins with and whose bound is below a
+//! worth. This walk is what a search and a checker share.
+//!
+//! # What is promised
+//!
+//! - `step` is one move of a walk over the partial tours that some tour of a node begins with. The move is
+//!   made, and the bound's sums are given, exactly where some tour of the node begins with the longer partial
+//!   tour, for any `CompletionBound`.
+//! - `step_below` is the same for a worth: the sums are given and the move is made, or neither; neither only
+//!   where the longer partial tour is not kept for the worth. It tests first a leave by the departure, then
+//!   the bound, since neither needs a move.
+//! - `followers_below` has the moves that may follow, but for some after which the partial tour is not kept
+//!   for the worth, among them all useless leaves; it has no leave where the departure refuses all
+//!   (`AreFollowersBelow`).
+//! - `kept_law`: the kept list has exactly the kept partial tours, in the order of moves, each once.
+//!
+//! What holds at each partial tour of a walk is `IsWalking` and `IsOpen` (`specs/Walking.antt`), and neither
+//! a walk nor a loop over it knows which bound it is: `B: CompletionBound` is resolved when the program is
+//! compiled. `proofs/Followers.antt` has the moves that may follow, place by place, `proofs/ListLemmas.antt`
+//! what a partial tour's lists are made of (itself, and those of its followers), and `proofs/EndLemmas.antt`
+//! that an ended partial tour is one tour, but for the order of boards at a stop.
 #![tactic(auto)]
 
 mod kept_steps;

@@ -1,4 +1,6 @@
 //! `lift`: exact, machine-checked dispatching of elevator groups.
+//!
+//! `main` takes the real words, source and sink, calls `run` of `lift_commands` and ends with its status.
 #![tactic(auto)]
 
 ghost use Rattle.std.specs.Prelude.{◌≡◌, IfErr};

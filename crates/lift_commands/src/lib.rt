@@ -1,4 +1,87 @@
-//! The commands of `lift`: from the words of the command line and a source to a sink and a status.
+//! The commands of `lift`: from the words of the command line and a source to a sink and a status. It is a
+//! library so that tests can call it with sources and sinks in memory.
+//!
+//! # What is promised
+//!
+//! Ten clauses of `run`, over the definitions in `specs/Outcome.antt` and `specs/DayOutcome.antt`. What they
+//! say of the input holds where the source tells what it has left.
+//!
+//! **`solve`.** Status 0: the whole input was read and is the text of an accepted snapshot, and what was
+//! written is an **optimal** plan of it, its cost and an equal bound, for 1 to 16 workers, and without
+//! `--brief` the certificate that proves them. Status 3: the same of a feasible plan, a bound that no
+//! feasible plan's cost is below, and the limit of rounds or moves that was reached, which a tree of the
+//! search proves; never where the limits are enough. Status 5: the input is no such text, and the line
+//! written tells its first bad line with its one code, or that it is too long. A case and no fault give
+//! status 0, 3 or 8; any other input and no fault give 5 or 8. Where the input ends with LF and has at most
+//! 1,000,000 bytes, and the limits are at most the defaults, the input followed by all that was written is an
+//! input of `check`, whose verdict is yes.
+//!
+//! **`check`.** The whole input was read and is the text of an accepted snapshot, of an answer to it and of a
+//! certificate, and what was written is its verdict, the same for 1 to 16 workers. Status 0 exactly where it
+//! is yes, and then the plan is feasible and has its cost, no feasible plan costs less than the bound, and no
+//! claim is exceeded; status 4 exactly where it is no, with the first reason. With claims that are enough for
+//! any search it is yes exactly where the certificate proves. Status 5: the input is no such text, and the
+//! line written tells its first bad line with its one code, or that it is too long.
+//!
+//! **`day`.** Where the input begins with a building, an opening snapshot of it and the header of rows, the
+//! rows after it are done and the log says so: each does exactly its step of the day, with a feasible plan,
+//! its cost and a bound that no feasible plan's cost is below where it is accepted, as a search within the
+//! limits answers them, for 1 to 16 workers; no accepted call is lost, and at the end each is delivered.
+//! Status 0: no accepted row has a bound below its cost; 3: some has. Status 5: the input does not begin so,
+//! and the line tells its first bad line with its one code; or its rows do not end within the limit, told
+//! after the log of those that do. Status 6: a read failed, and the rows done are those whose lines are whole
+//! among the bytes taken; 7: a write failed, and what was written is a beginning; 8: out of memory, and what
+//! was written is a beginning. Such an input that is not too long and no fault give status 0, 3 or 8.
+//!
+//! **`report`.** Of the same day, and with the same statuses, the report of the definition over the served
+//! calls, and nothing else.
+//!
+//! **`make`.** The text of the generated case, which is read as that snapshot again; nothing is read. `make
+//! --run`: the numbers of the case with the cost and the bound that a search of it with one worker answers;
+//! status 0 exactly where they are equal, and then the cost is the least one; status 3 exactly where the
+//! bound is below the cost, never where the limits are enough; nothing is read.
+//!
+//! Status 2 comes exactly where the words are not taken, with the usage line, and nothing is read. Each other
+//! status comes exactly when it is due, and says what was written.
+//!
+//! # The clauses
+//!
+//! - `ends` says for each status what was read and written, by words of other commands than `day` and
+//!   `report`. A text is *due* with a status (`RunDue`). By words of `solve` the input is the text of an
+//!   accepted snapshot (`IsCaseText`), and the text written is due as a search answers it (`IsSolution`),
+//!   with the tree of that search as a certificate unless `--brief` is given. Where the input ends with LF,
+//!   has at most 1,000,000 bytes and the limits are at most the defaults (`CanBeChecked`), input and text
+//!   together are an input of `check` whose verdict is yes (`IsSaidYes`). By words of `check`, Done and
+//!   Refused come with the text of the verdict (`VerdictIsDue`): the input is the text of an accepted
+//!   snapshot, an answer and a certificate (`IsCheckText`), and the verdict is that of the definition. By
+//!   words of `make`, the text is that of the generated case; or the six lines of `make --run`
+//!   (`IsSolvedCase`). With Input the refusal line, with what is wrong with the input (`IsLoneCaseFault`, of
+//!   `check` `IsCheckFault`). With Words the usage line, where no request is taken from the words. With Write
+//!   a part of a text that is due was written, and the sink's count of faults rose; with Read the source's
+//!   rose, and nothing was written; with Memory nothing was written.
+//! - `solves`: by words of `solve`, the text of an accepted snapshot and no fault give Done, Stopped or
+//!   Memory, and never Stopped where the limits are enough for the snapshot. `refuses`: any other input and
+//!   no fault give Input or Memory.
+//! - `checks`: by words of `check`, a text of a case, an answer and a certificate and no fault give the
+//!   status of its verdict, or Memory; Done where the certificate proves and its claims are enough for any
+//!   search. `refuses_checks`: any other input and no fault give Input or Memory.
+//! - `makes`: words of `make` without `--run` and no fault of the sink give Done or Memory. `runs`: words of
+//!   `make --run` and no fault of the sink give Done, Stopped or Memory, and never Stopped where the limits
+//!   are enough for the case.
+//! - `days`: by words of `day`, what was read, done and written with each status (`DayEnds`): with Done and
+//!   Stopped the log of the whole day, where a planner's plan is what a search within the limits answers
+//!   (`IsSolvedRow`), and Stopped exactly where an accepted row has a bound below its cost; with Input the
+//!   refusal line alone, or after the log of the rows that end within the limit; with Read, Write and Memory
+//!   which rows were done and how much of their log was written. And the day of an opening and rows comes to
+//!   its end unless the source or the sink fails or memory runs out (`Completes`).
+//! - `reports`: by words of `report`, the same day without a log, and with Done and Stopped the text of its
+//!   report (`ReportDue`).
+//! - `refuses_words`: all other words and no fault of the sink give Words or Memory.
+//!
+//! `proofs/SolvedTrees.antt` and `proofs/SaidYes.antt` show that what `solve` writes is checked with a yes:
+//! the tree of a search within the default limits has a text of less than 60,000,000 bytes, and the verdict
+//! on it is yes. `day` and `report` run one day (`run_input`) whose planner is a search within the limits
+//! (`plan_within`), the one over the sink, the other over a sink that keeps nothing.
 #![tactic(auto)]
 
 mod checking;

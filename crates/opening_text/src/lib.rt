@@ -1,4 +1,11 @@
-//! What stands before the rows of a day: a building, an opening snapshot of it, and the header of the rows.
+//! What comes before the rows of a day: a building, an opening snapshot of it, and the header of the rows.
+//!
+//! # What is promised
+//!
+//! - `read_day_opening` accepts exactly the texts that begin with a building, an opening snapshot of it and
+//!   the header of rows, and gives that snapshot, with nobody aboard and no call. The rows' bytes are what is
+//!   left: `DayOpeningInFront` says it from one place of the text to another, line by line as they are. Of
+//!   any other text it tells the first bad line with its one code.
 #![tactic(auto)]
 
 mod headers;

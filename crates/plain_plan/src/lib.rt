@@ -2,6 +2,12 @@
 //! of.
 //!
 //! Floors, cars and calls are named by their index, from 0.
+//!
+//! # What is promised
+//!
+//! - `plan_of` gives a feasible plan for every accepted snapshot, or is out of memory. Each car lets off
+//!   those aboard and then serves its calls one after another; that this is feasible is a theorem
+//!   (`proofs/PlainPlan.antt`).
 #![tactic(auto)]
 
 mod choosing;

@@ -1,6 +1,11 @@
 //! Exact prices: whole numbers of thousandths of a cost unit, and sums of them.
 //!
 //! Nothing here takes memory.
+//!
+//! # What is promised
+//!
+//! - `Price`, `unscale_up`, `sum_prices`: exact sums, rounded up to whole cost units. Each sum of 128 prices
+//!   can be rounded.
 #![tactic(auto)]
 
 ghost use Rattle.std.specs.Prelude.{◌≡◌, ◌≤◌, ◌^◌, ◌*ℤ◌, ◌≤ℤ◌, pos, neg_ℤ, length, SomeIff};

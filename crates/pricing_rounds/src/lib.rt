@@ -1,6 +1,15 @@
 //! A round of pricings: every car at each of a few nodes, shared by workers.
 //!
 //! Prices, values and worths are in thousandths of a cost unit. Cars and calls are named by their index.
+//!
+//! # What is promised
+//!
+//! - `price_nodes` prices every car at each of at most four nodes, by any `Pricer` and 1 to 16 workers: each
+//!   place has a right answer, in the order of the nodes and, within one, of the cars (`AreAnswersOf`).
+//!
+//! Each pricing is one job of `fan`, drawn by as many workers as there are desks. The jobs are drawn by
+//! falling size (`drawing_order`), which the caller foretells. No clause rests on what it foretells, since
+//! `in_places` puts each answer of the drawn order into its place.
 #![tactic(auto)]
 
 mod desks;

@@ -1,11 +1,31 @@
 //! The plain values of the search, of certificates and of days, and in `specs/` the definitions that the
-//! contracts of the other crates cite: the order of partial tours, nodes and splits, values and worths,
-//! what a certificate proves, completion bounds and kept lists, verdicts, what a search answers, the run
-//! of a day, its report, and generated cases.
+//! contracts of the other crates cite: the order of partial tours, nodes and splits, values and worths, what
+//! a certificate proves, completion bounds and kept lists, verdicts, what a search answers, the run of a day,
+//! its report, and generated cases.
 //!
 //! Costs are in cost units; prices, values and worths are in thousandths of a cost unit. Moments and times
 //! are in ms. Cars and calls are named by their index, but for events and served calls, which name them by
 //! their ids.
+//!
+//! The definitions speak of all tours and all plans: there is no pool, round, thread or running sum in them.
+//! `specs/Worked*.antt` computes worked cases: kept lists, verdicts, turns at the root, days event by event,
+//! reports, draws.
+//!
+//! # What is promised
+//!
+//! Laws over these definitions, proved in `proofs/`:
+//!
+//! - `split-keeps`: a split loses no plan. `plan_in_one_leaf`: each feasible plan is in exactly one leaf's
+//!   node of a certificate that proves. `proves-bound`: no feasible plan costs less than a bound that a
+//!   certificate proves.
+//! - `worth_in_first`, `kept_in_first` and their like (`SplitLemmas`, `KeptLemmas`, `BoundLemmas`): in both
+//!   nodes of a split a worth stays one, completion bounds stay right, and no kept list is longer, so claims
+//!   stay enough.
+//! - `tested_lists-few`: a car has fewer partial tours than the sufficient limit.
+//!
+//! Of the laws that depend on how cars move, `ExtendingLaw` is proved in `tour_extension`, `LowerLaw` and
+//! `GrowthLaw` in `pricing_bound`, `KeptLaw` in `kept_tours`, `VerdictLaw` in `cert_checker` and `AdvanceLaw`
+//! in `day_state`.
 #![tactic(auto)]
 
 mod items;
