@@ -42,20 +42,20 @@ fn read<S: Source>(
     }
 }
 
-/// Reads an answer section up to its line `end`: what stands behind it stays unread. The allocator comes
+/// Reads an answer section up to its line `end`: what follows it stays unread. The allocator comes
 /// first.
 ///
 /// Where the text begins with one that `write_answer` wrote for this snapshot, that answer is read, whatever
-/// follows, with the boards of each stop by rising index. The lines that are accepted are those that stand for an
-/// answer: `answer 1`, `cost U`, `bound L` with numbers up to 10^18, for each car in the building's order
-/// `tour CAR` and any number of lines `stop FLOOR CALL ..`, and `end`. The plan that is read has one tour per
-/// car, and each board is the index of a call of the snapshot. It need not be feasible.
+/// follows, with the boards of each stop by rising index. The lines that are accepted are those that stand
+/// for an answer: `answer 1`, `cost U`, `bound L` with numbers up to 10^18, for each car in the building's
+/// order `tour CAR` and any number of lines `stop FLOOR CALL ..`, and `end`. The plan that is read has one
+/// tour per car, and each board is the index of a call of the snapshot. It need not be feasible.
 ///
-/// The first bad line decides, with one code, of which the first of these comes: 3 for an unknown first
-/// word, 8 for a line out of order and for `end` where a tour is missing, 4 for a missing word, 5 for a word too
-/// many, 6 and 7 for a word that is no number in its range, 25 for the id of an unknown car or call, and then 8 for
-/// a car that is not the next one due. Code 9 comes where the input ends first. `Read` comes only where a read of
-/// the source failed.
+/// The first bad line decides, with one code, of which the first of these comes: 3 for an unknown first word,
+/// 8 for a line out of order and for `end` where a tour is missing, 4 for a missing word, 5 for a word too
+/// many, 6 and 7 for a word that is no number in its range, 25 for the id of an unknown car or call, and then
+/// 8 for a car that is not the next one due. Code 9 comes where the input ends first. `Read` comes only where
+/// a read of the source failed.
 pub fn read_answer<S: Source>(
     alloc: Global,
     lines: &mut LineReader<S>,

@@ -99,11 +99,11 @@ fn put_answer(out: &mut Vec<u8>, snapshot: &Snapshot, stated: &Stated) -> Result
     put_line(out, b"end", &[])
 }
 
-/// Appends the canonical text of an answer: `answer 1`, `cost U`, `bound L`, for each car in the building's order
-/// `tour CAR` and a line `stop FLOOR CALL ..` for each stop, and `end`. The calls of a stop come by rising index,
-/// and a call that stands there twice is written twice.
+/// Appends the canonical text of an answer: `answer 1`, `cost U`, `bound L`, for each car in the building's
+/// order `tour CAR` and a line `stop FLOOR CALL ..` for each stop, and `end`. The calls of a stop come by
+/// rising index, and a call that stands there twice is written twice.
 ///
-/// The only error is want of memory, which leaves `out` as it was: the text is made apart first.
+/// The only error is that memory runs out, which leaves `out` as it was: the text is made apart first.
 pub fn write_answer(
     snapshot: &Snapshot,
     stated: &Stated,
@@ -121,7 +121,7 @@ pub fn write_answer(
 /// Appends the lines of an answer between its first line and its `end`. The cost and the bound are in cost
 /// units.
 ///
-/// The only error is want of memory, which leaves `out` as it was.
+/// The only error is that memory runs out, which leaves `out` as it was.
 pub fn write_body(
     snapshot: &Snapshot,
     plan: &Plan,
@@ -140,7 +140,7 @@ pub fn write_body(
 
 /// Appends the `stop` lines of one tour.
 ///
-/// The only error is want of memory, which leaves `out` as it was.
+/// The only error is that memory runs out, which leaves `out` as it was.
 pub fn write_stops(snapshot: &Snapshot, tour: &Tour, out: &mut Vec<u8>) -> Result<(), AllocError>
     requires { BoardsCalls snapshot.now tour.now }
     ensures text { OnOk result (out.new.items ≡ out.old.items ++ stops_text snapshot.now tour.now) }

@@ -12,8 +12,8 @@ use std::marker::Model;
 
 /// A node of a search: for each call the set of the cars that may still serve it.
 ///
-/// Contracts see it as the list of these sets, in the order of the calls. The calls that each car may and has to
-/// board are kept beside it, so that reading them looks nothing through.
+/// Contracts see it as the list of these sets, in the order of the calls. The calls that each car may and has
+/// to board are kept beside it, so that reading them looks nothing through.
 #[derive(Drop)]
 pub struct Node {
     sets: Vec<CarSet>,
@@ -54,7 +54,7 @@ impl Node {
         }
     }
 
-    /// The same node once more. It fails only where there is no memory left.
+    /// A copy of the node. It fails only where there is no memory left.
     pub fn copy(&self, alloc: Global) -> Result<Node, AllocError>
         ensures { IfOk result (λ node. node ≡ self.now) }
     {
@@ -117,7 +117,8 @@ impl Node {
     }
 }
 
-/// The root of a snapshot's search: each call has its possible cars. It fails only where there is no memory left.
+/// The root of a snapshot's search: each call has its possible cars. It fails only where there is no memory
+/// left.
 pub fn root(alloc: Global, snapshot: &Snapshot) -> Result<Node, AllocError>
     ensures root { IfOk result (λ node. node ≡ root_of snapshot.now) }
     ensures node { IfOk result (IsNodeOf snapshot.now) }

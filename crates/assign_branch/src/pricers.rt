@@ -14,9 +14,11 @@ use search_model::Priced;
 use std::alloc::{AllocError, Global};
 use std::marker::{Send, Sync};
 
-/// Prices the cars of one snapshot: finds the tour of a car in a node that has the least value at given prices.
+/// Prices the cars of one snapshot: finds the tour of a car in a node that has the least value at given
+/// prices.
 ///
-/// Threads may share a pricer. Each works at a desk of its own, which holds the last pricing that was made at it.
+/// Threads may share a pricer. Each works at a desk of its own, which holds the last pricing that was made at
+/// it.
 pub trait Pricer: Sync {
     type Desk: Send + Drop;
 
@@ -37,11 +39,12 @@ pub trait Pricer: Sync {
         ensures own { IfOk result (λ desk. owns self.now desk) }
         ensures empty { IfOk result (λ desk. (p : Pricing) → holds self.now desk p → ⊥) };
 
-    /// Prices a car in a node, at one price for each call in their order, and tries at most `limit` partial tours.
-    /// It takes no memory.
+    /// Prices a car in a node, at one price for each call in their order, and tries at most `limit` partial
+    /// tours. It takes no memory.
     ///
-    /// The worth is one that no tour of the car in the node has a value below, in thousandths of a cost unit, and
-    /// where the limit was not reached some tour has it. The number of visits is a claim that fits the worth.
+    /// The worth is one that no tour of the car in the node has a value below, in thousandths of a cost unit,
+    /// and where the limit was not reached some tour has it. The number of visits is a claim that fits the
+    /// worth.
     fn price(
         &self,
         car: u32,
@@ -67,8 +70,8 @@ pub trait Pricer: Sync {
             → (result.visits ≡ limit) × HasPartialTours (snapshot self.now) node.now car limit }
         ensures claim { fits self.now node.now car (price_at prices.now) result.worth result.visits };
 
-    /// A tour of the last pricing at the desk: one that has the worth where the limit was not reached, and else any
-    /// tour of the car in the node, or none. None is given before the first pricing.
+    /// A tour of the last pricing at the desk: one that has the worth where the limit was not reached, and
+    /// else any tour of the car in the node, or none. None is given before the first pricing.
     ///
     /// It fails only where there is no memory left.
     fn tour(&self, alloc: Global, desk: &Self::Desk) -> Result<Option<Tour>, AllocError>

@@ -42,11 +42,11 @@ fn is_part(set: CarSet, part: CarSet) -> bool
     has_any(part) && has_outside(set, part) && !has_outside(part, set)
 }
 
-/// Splits a node at a call: in `first` the cars of the part may serve it, in `second` the rest of its cars, and
-/// all other sets stay.
+/// Splits a node at a call: in `first` the cars of the part may serve it, in `second` the rest of its cars,
+/// and all other sets stay.
 ///
-/// It is refused exactly where the part is empty, is the whole set or has a car outside the set, which is always so
-/// where there is no such call; then both nodes are as before.
+/// It is refused exactly where the part is empty, is the whole set or has a car outside the set, which is
+/// always so where there is no such call; then both nodes are as before.
 pub fn split(
     from: &Node,
     call: u32,

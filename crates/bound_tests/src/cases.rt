@@ -13,7 +13,7 @@ fn has_ends(snapshot: &Snapshot, first: CarState, last: Option<Call>) -> bool {
         && snapshot.calls().last().copied() == last
 }
 
-/// Whether the snapshot has so many floors, cars and calls.
+/// Whether the snapshot has this many floors, cars and calls.
 fn has_sizes(snapshot: &Snapshot, sizes: [u32; 3]) -> bool {
     let building = snapshot.building();
     building.heights().len() == sizes[0] as usize

@@ -20,7 +20,7 @@ const LONGEST: u64 = 60_000;
 /// The most persons in a car.
 const MOST_PERSONS: u64 = 64;
 
-/// Whether there is a word `all` and none behind it, or there are two served floors at least.
+/// Whether there is a word `all` and none after it, or there are two served floors at least.
 fn has_words<S: Source>(lines: &LineReader<S>) -> Result<(), TextCode>
     ensures value { result ≡ has_car_words (words lines.now) }
     ensures count { OnOk result (8 ≤ length (words lines.now)) }
@@ -66,7 +66,7 @@ fn set_of(floors: &[u64]) -> Option<FloorSet>
     Some(FloorSet::from_bits(set))
 }
 
-/// The served floors in a building with so many floors, and `None` where one of them is in no building.
+/// The served floors in a building with this many floors, and `None` where one of them is in no building.
 fn served<S: Source>(
     alloc: Global,
     floors: u32,
@@ -113,8 +113,8 @@ fn judged(
     }
 }
 
-/// The car of a line, after those of the lines before it: in a building with so many floors, which may have
-/// at most so many cars.
+/// The car of a line, after those of the lines before it: in a building with this many floors, which may have
+/// at most this many cars.
 pub(crate) fn car_of_line<S: Source>(
     alloc: Global,
     floors: u32,

@@ -51,7 +51,7 @@ impl Due {
         matches!(self, Due::NextCar)
     }
 
-    /// What is due behind the weights: version 1 has no patience.
+    /// What is due after the weights: version 1 has no patience.
     pub(crate) fn after_weights(version: u8) -> Due
         ensures { result ≡ after_weights version }
     {
@@ -62,7 +62,7 @@ impl Due {
         }
     }
 
-    /// What is due behind the heights: only version 3 states times.
+    /// What is due after the heights: only version 3 states times.
     pub(crate) fn after_floors(version: u8) -> Due
         ensures { result ≡ after_floors version }
     {

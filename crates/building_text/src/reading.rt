@@ -12,13 +12,13 @@ use lift_text::{LineReader, Source, TextFault};
 use std::alloc::Global;
 use text_sections::read_section;
 
-/// Reads a building from its lines: the text goes on right behind its `end`. The allocator comes first.
+/// Reads a building from its lines: the text goes on right after its `end`. The allocator comes first.
 ///
 /// It accepts exactly the lines that stand for a building, and gives that building; a building that was
 /// written is read as that building again, whatever follows. The first bad line
 /// decides, with its number and one code. Code 9 comes where the input ends before the section does, at
-/// the line behind the last. `Read` comes only where a read of the source failed. After an `Err` of a
-/// line the reader stands behind that line.
+/// the line after the last. `Read` comes only where a read of the source failed. After an `Err` of a
+/// line the reader is after that line.
 pub fn read_building<S: Source>(
     alloc: Global,
     lines: &mut LineReader<S>,

@@ -80,7 +80,7 @@ fn put_floors(out: &mut Vec<u8>, floors: usize, set: FloorSet) -> Result<(), All
     Ok(())
 }
 
-/// Writes the served floors of a building with so many floors.
+/// Writes the served floors of a building with this many floors.
 fn put_served(out: &mut Vec<u8>, floors: usize, set: FloorSet) -> Result<(), AllocError>
     requires low { 1 ≤ floors }
     requires high { floors ≤ 64 }

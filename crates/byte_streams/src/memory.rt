@@ -143,7 +143,7 @@ impl Source for SureSource {
     }
 }
 
-/// A sink in memory with room for so many bytes, which takes at most `each` of them in a write, and
+/// A sink in memory with room for this many bytes, which takes at most `each` of them in a write, and
 /// whose writes with the listed numbers fail, counted from 1.
 #[derive(Drop)]
 pub struct MemorySink {
@@ -175,7 +175,7 @@ impl Model for MemorySink {
 
 impl MemorySink {
     /// A sink that takes up to `room` bytes, at most `each` in a write. The memory for all of them is
-    /// taken here, and the only error is want of it.
+    /// taken here, and the only error is that it runs out.
     pub fn new(
         alloc: Global,
         room: usize,
@@ -253,7 +253,7 @@ impl Sink for MemorySink {
     }
 }
 
-/// A sink in memory with room for so many bytes, which takes whole pieces as far as its room goes and
+/// A sink in memory with room for this many bytes, which takes whole pieces as far as its room goes and
 /// fails only where there is none.
 #[derive(Drop)]
 pub struct SureSink {
@@ -275,7 +275,7 @@ impl Model for SureSink {
 
 impl SureSink {
     /// A sink that takes up to `room` bytes. The memory for all of them is taken here, and the only
-    /// error is want of it.
+    /// error is that it runs out.
     pub fn new(alloc: Global, room: usize) -> Result<SureSink, AllocError>
         ensures empty { IfOk result (λ sink. sink.taken ≡ []) }
         ensures room { IfOk result (λ sink. sink.room ≡ room) }
@@ -333,7 +333,7 @@ impl Sink for SureSink {
     }
 }
 
-/// Whether the call after so many is listed.
+/// Whether the call after this many is listed.
 fn is_next_listed(listed: &[u64], calls: u64) -> bool
     ensures listed { IsTrue result ↔ Contains listed.now (calls + 1) }
     ensures more { IsTrue result → calls < last_count }

@@ -26,8 +26,8 @@ impl Model for CallSet {
     ghost inverse = { λ n. record { bits = n } };
 }
 
-// A set is read and changed by the half in which a call is: shifts of 128 bits take several instructions, and most sets
-// have no call from 64 on.
+// A set is read and changed by the half in which a call is: shifts of 128 bits take several instructions, and
+// most sets have no call from 64 on.
 impl CallSet {
     /// The members below 64 as the places of the ones, and those from 64 on, less 64.
     fn halves(self) -> (u64, u64)

@@ -41,7 +41,7 @@ impl FloorSet {
         Self { bits }
     }
 
-    /// The lowest floors, so many of them.
+    /// The lowest floors, this many of them.
     pub fn lowest(floors: u32) -> Self
         requires { floors ≤ 64 }
         ensures set { result ≡ 2 ^ floors - 1 }
@@ -100,7 +100,7 @@ impl FloorSet {
         }
     }
 
-    /// Whether each member is one of so many lowest floors.
+    /// Whether each member is one of this many lowest floors.
     pub fn is_below(self, floors: u32) -> bool
         requires { floors ≤ 64 }
         ensures { IsTrue result ↔ (self < 2 ^ floors) }
@@ -108,7 +108,7 @@ impl FloorSet {
         floors == 64 || self.bits >> floors == 0
     }
 
-    /// How many of the lowest floors, of so many, are members.
+    /// How many of the lowest floors, of this many, are members.
     pub fn count_below(self, floors: u32) -> u32
         requires { floors ≤ 64 }
         ensures { result ≡ sum_where floors (has self) (λ _. 1) }

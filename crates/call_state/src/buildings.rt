@@ -81,7 +81,7 @@ impl Building {
         Ok(Building::of_faultless(alloc, parts)?)
     }
 
-    /// The building with these parts, which are known to keep the rules, so that nothing is judged once more. It
+    /// The building with these parts, which are known to keep the rules, so that nothing is judged again. It
     /// fails only where there is no memory left.
     pub fn of_faultless(alloc: Global, parts: BuildingParts) -> Result<Building, AllocError>
         requires { IsBuilding (building_of parts) }
@@ -104,7 +104,7 @@ impl Building {
         }
     }
 
-    /// The same building once more. It fails only where there is no memory left.
+    /// A copy of the building. It fails only where there is no memory left.
     pub fn copy(&self, alloc: Global) -> Result<Building, AllocError>
         ensures { IfOk result (λ building. building ≡ self.now) }
     {
@@ -211,7 +211,7 @@ pub fn are_rising(numbers: &[u64]) -> bool
     true
 }
 
-/// The first fault of the cars of a building with so many floors, which may have at most `greatest` cars,
+/// The first fault of the cars of a building with this many floors, which may have at most `greatest` cars,
 /// and the place of the car with it, from 1.
 fn first_spec_fault(floors: u32, greatest: u32, cars: &[CarSpec]) -> Option<(Fault, u32)>
     requires floors { floors ≤ 64 }
@@ -229,7 +229,7 @@ fn first_spec_fault(floors: u32, greatest: u32, cars: &[CarSpec]) -> Option<(Fau
 impl BuildingParts {
     ghost use Rattle.call_state.specs.BuildingParts.{building_of};
 
-    /// The same parts once more. It fails only where there is no memory left.
+    /// A copy of the parts. It fails only where there is no memory left.
     fn copy(&self, alloc: Global) -> Result<BuildingParts, AllocError>
         ensures { IfOk result (λ parts. building_of parts ≡ building_of self.now) }
     {

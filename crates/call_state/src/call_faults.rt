@@ -105,8 +105,8 @@ pub fn call_fault(
     fault_of_new(building, now, before, item)
 }
 
-/// The same fault, where indexes have the ids of the groups aboard, `groups`, and of the calls before, `calls`:
-/// so its id is not looked for in them.
+/// The same fault, where indexes have the ids of the groups aboard, `groups`, and of the calls before,
+/// `calls`: so its id is not looked for in them.
 pub fn indexed_call_fault(
     building: &Building,
     now: u64,

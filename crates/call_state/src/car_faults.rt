@@ -27,7 +27,7 @@ pub fn has_car(cars: &[CarSpec], id: u32) -> bool
     cars.iter().any(|car| car.id == id)
 }
 
-/// The first fault of a car, after the cars `before` it: of a building with so many floors, which may have
+/// The first fault of a car, after the cars `before` it: of a building with this many floors, which may have
 /// at most `greatest` cars.
 pub fn spec_fault(floors: u32, greatest: u32, before: &[CarSpec], item: &CarSpec) -> Option<Fault>
     requires { floors ≤ 64 }

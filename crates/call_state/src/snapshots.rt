@@ -57,9 +57,9 @@ pub enum PartsFlaw {
 impl SnapshotParts {
     ghost use Rattle.call_state.specs.SnapshotParts.{snapshot_of};
 
-    /// Whether the parts fit together, so that they can be tested for faults: the version is 1 or 2, the moment
-    /// is at most 10^9, each car has a state that the version knows, and each car that a group or a pin
-    /// names is one of the building.
+    /// Whether the parts fit together, so that they can be tested for faults: the version is 1 or 2, the
+    /// moment is at most 10^9, each car has a state that the version knows, and each car that a group or a
+    /// pin names is one of the building.
     pub fn are_whole(&self) -> bool
         ensures { IsTrue result ↔ AreSnapshotParts (snapshot_of self.entry.now) }
     {
@@ -93,7 +93,7 @@ impl SnapshotParts {
         None
     }
 
-    /// The same parts once more. It fails only where there is no memory left.
+    /// A copy of the parts. It fails only where there is no memory left.
     fn copy(&self, alloc: Global) -> Result<SnapshotParts, AllocError>
         ensures { IfOk result (λ parts. snapshot_of parts ≡ snapshot_of self.entry.now) }
     {
@@ -221,7 +221,7 @@ impl Snapshot {
         Ok(Snapshot::of_accepted(alloc, parts)?)
     }
 
-    /// The snapshot with these parts, which are known to keep the rules, so that nothing is judged once more.
+    /// The snapshot with these parts, which are known to keep the rules, so that nothing is judged again.
     /// It fails only where there is no memory left.
     pub fn of_accepted(alloc: Global, parts: SnapshotParts) -> Result<Snapshot, AllocError>
         requires { IsAccepted (snapshot_of parts) }
@@ -249,7 +249,7 @@ impl Snapshot {
         }
     }
 
-    /// The same snapshot once more. It fails only where there is no memory left.
+    /// A copy of the snapshot. It fails only where there is no memory left.
     pub fn copy(&self, alloc: Global) -> Result<Snapshot, AllocError>
         ensures { IfOk result (λ snapshot. snapshot ≡ self.now) }
     {

@@ -79,7 +79,7 @@ impl Travel {
         self.times[from as usize * self.floors as usize + to as usize]
     }
 
-    /// The same square once more. It fails only where there is no memory left.
+    /// A copy of the square. It fails only where there is no memory left.
     pub fn copy(&self, alloc: Global) -> Result<Travel, AllocError>
         ensures { IfOk result (λ travel. travel ≡ self.now) }
     {

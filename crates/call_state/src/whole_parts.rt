@@ -24,7 +24,7 @@ pub(crate) fn are_unmoving(states: &[CarState]) -> bool
     true
 }
 
-/// Whether each group's car is one of so many.
+/// Whether each group's car is one of this many.
 pub(crate) fn ride_in_cars(groups: &[Aboard], cars: usize) -> bool
     ensures { IsTrue result
         ↔ ((k : ℕ) → k < length groups.now → (slice_index_or groups.now k no_group).car < cars) }
@@ -46,7 +46,7 @@ fn is_free_or_below(pin: Option<u32>, cars: usize) -> bool
     }
 }
 
-/// Whether each pin is one of so many cars.
+/// Whether each pin is one of this many cars.
 pub(crate) fn are_pinned_to_cars(calls: &[Call], cars: usize) -> bool
     ensures { IsTrue result
         ↔ ((j : ℕ) → j < length calls.now → IfSome (slice_index_or calls.now j no_call).pin

@@ -31,8 +31,8 @@ pub struct Layout<'a> {
     /// The floors that it serves, and those where it may stop first.
     served: FloorSet,
     first: FloorSet,
-    /// The floors to which groups aboard it go, and for each floor the persons who go there and the sum of the
-    /// moments at which each of them boarded.
+    /// The floors to which groups aboard it go, and for each floor the persons who go there and the sum of
+    /// the moments at which each of them boarded.
     destinations: FloorSet,
     persons: Vec<u32>,
     moments: Vec<u64>,
@@ -52,7 +52,7 @@ impl<'a> Model for Layout<'a> {
 }
 
 impl<'a> Layout<'a> {
-    /// Lays out a snapshot and a car. The only error is want of memory.
+    /// Lays out a snapshot and a car. The only error is that memory runs out.
     pub fn new(alloc: Global, snapshot: &'a Snapshot, car: u32) -> Result<Self, AllocError>
         requires { car < car_count snapshot.now }
         ensures { IfOk result (λ layout. layout ≡ record { snapshot = snapshot.now; car = car }) }
@@ -137,7 +137,7 @@ impl<'a> Layout<'a> {
         self.earlier[call as usize]
     }
 
-    /// The calls of at most so many persons, up to 8.
+    /// The calls of at most this many persons, up to 8.
     pub fn fitting(&self, persons: u32) -> CallSet
         requires { persons ≤ 8 }
         ensures { (j : ℕ) → has result j ≡ fits_in self.now.snapshot persons j }

@@ -48,7 +48,7 @@ fn calls_to(calls: &[Call], floor: u32) -> CallSet
     set
 }
 
-/// The calls of at most so many persons.
+/// The calls of at most this many persons.
 fn calls_of_at_most(calls: &[Call], persons: u32) -> CallSet
     requires { length calls.now ≤ 128 }
     ensures { (j : ℕ) → has result j ≡ (nat_lt j (length calls.now)

@@ -31,7 +31,7 @@ impl Draws {
         (self.state >> 32) as u32 % count
     }
 
-    /// Something that comes once in so many draws.
+    /// Something that comes once in this many draws.
     pub fn once_in(&mut self, count: u32) -> bool
         requires { 0 < count }
     {

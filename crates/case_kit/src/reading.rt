@@ -9,8 +9,8 @@ use std::alloc::Global;
 /// How many bytes are read at once. An uneven number cuts words and lines.
 const PIECE: usize = 7;
 
-/// The snapshot of a text: its building, and then the snapshot itself. None where it is refused, or memory is
-/// wanting.
+/// The snapshot of a text: its building, and then the snapshot itself. None where it is refused, or memory
+/// runs out.
 pub fn snapshot_in(alloc: Global, text: &[u8]) -> Option<Snapshot> {
     let bytes = Vec::from_slice(alloc, text).ok()?;
     let mut source = MemorySource::new(bytes, PIECE, Vec::new(alloc));

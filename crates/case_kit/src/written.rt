@@ -1,4 +1,4 @@
-//! Tours and plans as short texts. There is none where the text is none of these, or memory is wanting.
+//! Tours and plans as short texts. There is none where the text is none of these, or memory runs out.
 
 use elevator_model::{Boards, Plan, Stop, Tour};
 use std::alloc::Global;

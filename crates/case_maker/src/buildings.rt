@@ -22,7 +22,7 @@ const SPEED: u64 = 2_000;
 /// The acceleration and braking of each car, in mm/s².
 const ACCEL: u64 = 1_000;
 
-/// The heights of so many floors, in mm.
+/// The heights of this many floors, in mm.
 fn heights_of(alloc: Global, floors: u32) -> Result<Vec<u64>, AllocError>
     ensures { IfOk result (λ heights. heights.items ≡ map (λ f. 4000 * f) (range_with_len 0 floors)) }
 {
@@ -60,7 +60,7 @@ fn cars_of(alloc: Global, floors: u32, cars: u32) -> Result<Vec<CarSpec>, AllocE
     Ok(specs)
 }
 
-/// The building of each case with so many floors and cars.
+/// The building of each case with this many floors and cars.
 pub(crate) fn building_of(alloc: Global, floors: u32, cars: u32) -> Result<Building, AllocError>
     requires floors_low { 2 ≤ floors }
     requires floors_high { floors ≤ 64 }

@@ -31,7 +31,7 @@ use std::alloc::{AllocError, Global};
 /// The moment that each case shows, in ms.
 const NOW: u64 = 600_000;
 
-/// The case of a number, with so many floors, cars and open calls: nobody is aboard, each car is idle at a
+/// The case of a number, with this many floors, cars and open calls: nobody is aboard, each car is idle at a
 /// drawn floor, and each call has drawn floors, persons and a drawn moment.
 ///
 /// It fails only where there is no memory left.

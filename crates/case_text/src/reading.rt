@@ -13,7 +13,7 @@ use snapshot_text::read_snapshot;
 use std::alloc::Global;
 use text_sections::TextCode;
 
-/// Reads a building and a snapshot of it, up to the snapshot's `end`: what stands behind it stays unread.
+/// Reads a building and a snapshot of it, up to the snapshot's `end`: what follows it stays unread.
 ///
 /// It accepts exactly the lines that stand for an accepted snapshot and its building. The first bad line
 /// decides, with its number and one code. `Read` comes only where a read of the source failed.

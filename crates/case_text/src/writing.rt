@@ -9,7 +9,8 @@ use std::alloc::{AllocError, Global};
 
 /// Appends the canonical text of a snapshot's building and then of the snapshot.
 ///
-/// What is written is the text of that snapshot: it is read as it again. The only error is want of memory, which leaves `out` as it was.
+/// What is written is the text of that snapshot: it is read as it again. The only error is that memory runs
+/// out, which leaves `out` as it was.
 #[tactic(auto, using(crate::proofs::AgainLemmas::case_again))]
 pub fn write_case(alloc: Global, snapshot: &Snapshot, out: &mut Vec<u8>) -> Result<(), AllocError>
     ensures text { OnOk result (out.new.items ≡ out.old.items ++ case_text snapshot.now) }

@@ -29,11 +29,11 @@ enum State {
     Open { places: Places, seen: u32 },
 }
 
-/// Says whether a certificate's tree proves a plan, its cost and a bound. It takes the tree twig by twig, in preorder and
-/// in pieces of any size.
+/// Says whether a certificate's tree proves a plan, its cost and a bound. It takes the tree twig by twig, in
+/// preorder and in pieces of any size.
 ///
-/// It keeps the first reason to say no, or else the nodes of the places of the tree that are still to be filled, of which
-/// there are never more than one and the cars of all calls.
+/// It keeps the first reason to say no, or else the nodes of the places of the tree that are still to be
+/// filled, of which there are never more than one and the cars of all calls.
 #[derive(Drop)]
 pub struct Checker {
     /// In cost units.
@@ -60,11 +60,13 @@ impl Checker {
         Ok(Checker { bound, state })
     }
 
-    /// Takes the next twigs of the tree, in preorder. Each leaf among them that is still to be judged is one job, numbered
-    /// from 0, of which `gate` is told before it begins; they are shared by `workers` workers, 1 to 16.
+    /// Takes the next twigs of the tree, in preorder. Each leaf among them that is still to be judged is one
+    /// job, numbered from 0, of which `gate` is told before it begins; they are shared by `workers` workers,
+    /// 1 to 16.
     ///
-    /// The snapshot has to be the checker's own. In all a checker takes fewer than 2^32 twigs, of which each worth is of
-    /// absolute value at most 10^27. It fails only where there is no memory left, and then it is as before.
+    /// The snapshot has to be the checker's own. In all a checker takes fewer than 2^32 twigs, of which each
+    /// worth is of absolute value at most 10^27. It fails only where there is no memory left, and then it is
+    /// as before.
     pub fn feed<G: Gate + Sync>(
         &mut self,
         rt: &(impl Threads + Sync),
@@ -146,11 +148,12 @@ fn goes_on<G: Gate + Sync>(
     Ok(State::Open { places, seen })
 }
 
-/// Whether the tree proves the plan, its cost and the bound: the verdict of one whole tree, its twigs in preorder.
+/// Whether the tree proves the plan, its cost and the bound: the verdict of one whole tree, its twigs in
+/// preorder.
 ///
-/// The plan has to have one tour per car, the tree fewer than 2^32 twigs, of which each worth is of absolute value at most
-/// 10^27. Its leaves are shared by `workers` workers, 1 to 16, and `gate` is told of each before it begins. It fails only
-/// where there is no memory left.
+/// The plan has to have one tour per car, the tree fewer than 2^32 twigs, of which each worth is of absolute
+/// value at most 10^27. Its leaves are shared by `workers` workers, 1 to 16, and `gate` is told of each
+/// before it begins. It fails only where there is no memory left.
 pub fn check<G: Gate + Sync>(
     rt: &(impl Threads + Sync),
     alloc: Global,

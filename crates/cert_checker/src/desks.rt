@@ -21,8 +21,8 @@ use search_model::{Leaf, Reason};
 use std::alloc::{AllocError, Global};
 use tour_extension::Demand;
 
-/// Where one worker judges leaves: the partial tour that it is at, what each call costs alone, and the prices, worths
-/// and claims of the leaf that it judges. All memory is taken when it is made.
+/// Where one worker judges leaves: the partial tour that it is at, what each call costs alone, and the
+/// prices, worths and claims of the leaf that it judges. All memory is taken when it is made.
 #[derive(Drop)]
 pub(crate) struct Desk<'a> {
     pub(crate) snapshot: &'a Snapshot,

@@ -58,7 +58,7 @@ fn has_all(set: CallSet, count: usize) -> bool
     true
 }
 
-/// Whether there is one entry for each of so many calls or cars, and no other.
+/// Whether there is one entry for each of this many calls or cars, and no other.
 pub(crate) fn are_each_once<E: Entry>(entries: &[E], count: usize) -> bool
     requires { count ≤ 128 }
     ensures { result ≡ are_each_once_lem count (map E.key entries.now) }

@@ -86,7 +86,7 @@ fn first_of(mut answers: Vec<Option<Reason>>) -> Option<Reason>
     first
 }
 
-/// The first reason of the leaves, which so many workers judge. `gate` is told of each before it begins.
+/// The first reason of the leaves, which these workers judge. `gate` is told of each before it begins.
 ///
 /// It fails only where there is no memory left.
 pub(crate) fn judge_tasks<G: Gate + Sync>(

@@ -75,7 +75,8 @@ fn is_whole(snapshot: &Snapshot, leaf: &Leaf) -> bool
         && are_each_once(leaf.worths.as_slice(), snapshot.building().cars().len())
 }
 
-/// Why a leaf at a node does not prove the bound, with the number that its node has in the tree: None where it does.
+/// Why a leaf at a node does not prove the bound, with the number that its node has in the tree: None where
+/// it does.
 ///
 /// It fails only where there is no memory left for the tour that it answers.
 pub(crate) fn judge_leaf(

@@ -13,8 +13,8 @@ use partial_tours::Prefix;
 use pricing_bound::CompletionBound;
 use tour_extension::Demand;
 
-/// Visits the kept list of the car for a worth, from its empty partial tour on: at most so many as the claim says,
-/// until one ends a tour of a value below the worth.
+/// Visits the kept list of the car for a worth, from its empty partial tour on: at most as many as the claim
+/// says, until one ends a tour of a value below the worth.
 ///
 /// Where one does, the partial tour is that one. It takes no memory.
 pub(crate) fn scan<B: CompletionBound>(

@@ -90,8 +90,8 @@ impl<'t> Piece<'t> {
         }
     }
 
-    /// The twigs at the places that they fill, up to the first bad split or to where no place is left. So many twigs
-    /// came before them.
+    /// The twigs at the places that they fill, up to the first bad split or to where no place is left. So
+    /// many twigs came before them.
     ///
     /// It fails only where there is no memory left.
     pub(crate) fn of_twigs(

@@ -36,7 +36,7 @@ impl Places {
         Ok(Places { nodes })
     }
 
-    /// The same places once more. It fails only where there is no memory left.
+    /// A copy of the places. It fails only where there is no memory left.
     pub(crate) fn copy(&self, alloc: Global) -> Result<Self, AllocError>
         ensures { IfOk result (λ places. places ≡ self.now) }
     {
@@ -53,8 +53,9 @@ impl Places {
         self.nodes.pop()
     }
 
-    /// Puts the two nodes of a split of this node in front, in the first of which the cars of the part may serve the
-    /// call. It says false, and nothing is put in front, exactly where the part does not divide the call's set.
+    /// Puts the two nodes of a split of this node in front, in the first of which the cars of the part may
+    /// serve the call. It says false, and nothing is put in front, exactly where the part does not divide the
+    /// call's set.
     ///
     /// It fails only where there is no memory left.
     pub(crate) fn split(
@@ -81,7 +82,7 @@ impl Places {
     }
 }
 
-/// The same nodes once more.
+/// A copy of the nodes.
 fn copies(alloc: Global, nodes: &[Node]) -> Result<Vec<Node>, AllocError>
     ensures { IfOk result (λ copies. copies.items ≡ nodes.now) }
 {

@@ -6,7 +6,7 @@ ghost use Rattle.cert_checker.specs.declared.visits.Visits.TheVariants.{Going, U
 /// How the visits to the partial tours of a kept list have gone.
 #[derive(Clone, Copy)]
 pub(crate) enum Visits {
-    /// None of them ends a tour of a value below the worth, and so many more may be visited.
+    /// None of them ends a tour of a value below the worth, and this many more may be visited.
     Going(u64),
     /// One more was due than the claim allows, and was not looked at.
     Passed,
@@ -15,7 +15,7 @@ pub(crate) enum Visits {
 }
 
 impl Visits {
-    /// After a visit to a partial tour that ends a tour of this value, where so many more may be visited.
+    /// After a visit to a partial tour that ends a tour of this value, where this many more may be visited.
     pub(crate) fn of_tour(value: i128, worth: i128, left: u64) -> Self
         ensures { result ≡ (if int_lt value worth then Under value else Going left) }
     {

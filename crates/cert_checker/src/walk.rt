@@ -12,11 +12,11 @@ use partial_tours::Prefix;
 use pricing_bound::CompletionBound;
 use tour_extension::Demand;
 
-/// Visits a partial tour that some tour of the node begins with, where it is kept for the worth, and the kept ones that
-/// begin with it, depth first in the order of moves.
+/// Visits a partial tour that some tour of the node begins with, where it is kept for the worth, and the kept
+/// ones that begin with it, depth first in the order of moves.
 ///
-/// At most `left` are visited. The walk stops where one more is due, or at one that ends a tour of a value below the
-/// worth, and stays there; else it comes back. It takes no memory.
+/// At most `left` are visited. The walk stops where one more is due, or at one that ends a tour of a value
+/// below the worth, and stays there; else it comes back. It takes no memory.
 #[cycle(walk)]
 pub(crate) fn visit<B: CompletionBound>(
     bound: &B,

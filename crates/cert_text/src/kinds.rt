@@ -15,7 +15,7 @@ pub(crate) enum LineWord {
     End,
 }
 
-/// What a line behind the first one says.
+/// What a line after the first one says.
 #[derive(Clone, Copy)]
 pub(crate) enum Entry {
     /// A split, with the part of its first subtree.

@@ -45,7 +45,7 @@ impl Section for FirstLine {
 }
 
 /// A twig that is being read. It is whole with the line that ends it: a split with its own, a leaf with the
-/// first line behind its prices and worths.
+/// first line after its prices and worths.
 #[derive(Drop)]
 pub(crate) struct Piece<'a> {
     pub(crate) alloc: Global,
@@ -58,7 +58,7 @@ pub(crate) struct Piece<'a> {
     pub(crate) leaf: Option<Leaf>,
     /// The twig that is whole.
     pub(crate) ready: Option<Twig>,
-    /// What the line behind it began.
+    /// What the line after it began.
     pub(crate) begun: Begun,
 }
 

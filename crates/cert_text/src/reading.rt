@@ -95,7 +95,7 @@ fn read<S: Source>(
     Ok(tree)
 }
 
-/// Reads a certificate section up to its line `end`: what stands behind it stays unread. The allocator comes
+/// Reads a certificate section up to its line `end`: what follows it stays unread. The allocator comes
 /// first. The twigs are those of `TreeReader`, and so are the codes.
 pub fn read_cert<S: Source>(
     alloc: Global,

@@ -151,13 +151,13 @@ fn put_cert(out: &mut Vec<u8>, snapshot: &Snapshot, tree: &[Twig]) -> Result<(),
 }
 
 /// Appends the canonical text of a certificate: `certificate 1`, the twigs in preorder, and `end`. A split is
-/// `split CALL CAR ..` with the cars of its part by rising index; a leaf is `leaf`, then `price CALL P` for each
-/// price and then `worth CAR R CLAIM` for each worth, in the order of the lists.
+/// `split CALL CAR ..` with the cars of its part by rising index; a leaf is `leaf`, then `price CALL P` for
+/// each price and then `worth CAR R CLAIM` for each worth, in the order of the lists.
 ///
-/// Each call and each car must be one of the snapshot. The numbers may be any; a text with one outside the ranges
-/// of a certificate is refused where it is read.
+/// Each call and each car must be one of the snapshot. The numbers may be any; a text with one outside the
+/// ranges of a certificate is refused where it is read.
 ///
-/// The only error is want of memory, which leaves `out` as it was: the text is made apart first.
+/// The only error is that memory runs out, which leaves `out` as it was: the text is made apart first.
 pub fn write_cert(snapshot: &Snapshot, tree: &[Twig], out: &mut Vec<u8>) -> Result<(), AllocError>
     requires { AreTwigsKnown snapshot.now tree.now }
     ensures text { OnOk result (out.new.items ≡ out.old.items ++ cert_text snapshot.now tree.now) }

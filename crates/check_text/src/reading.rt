@@ -27,8 +27,8 @@ use std::thread::Threads;
 /// The most twigs of a piece.
 const MOST_TWIGS: usize = 256;
 
-/// More pieces than a text has: each of them has 256 twigs, but the last one, and a twig is a line at least. So the end of
-/// the count is never reached.
+/// More pieces than a text has: each of them has 256 twigs, but the last one, and a twig is a line at least.
+/// So the end of the count is never reached.
 const MOST_PIECES: u32 = 4_000_000;
 
 /// Reads a twig and adds it to the piece. True where the tree is complete, and no twig is left.
@@ -201,7 +201,8 @@ struct Judged {
     verdict: Verdict,
 }
 
-/// Reads an answer to the snapshot, a certificate of it and the text to its end, and says what the certificate proves.
+/// Reads an answer to the snapshot, a certificate of it and the text to its end, and says what the
+/// certificate proves.
 fn judge<S: Source, G: Gate + Sync>(
     rt: &(impl Threads + Sync),
     alloc: Global,
@@ -242,14 +243,15 @@ fn judge<S: Source, G: Gate + Sync>(
     }
 }
 
-/// Reads a case, an answer to it and a certificate, one after the other, and the text to its end, and says whether the
-/// certificate proves the answer. The runtime and the allocator come first.
+/// Reads a case, an answer to it and a certificate, one after the other, and the text to its end, and says
+/// whether the certificate proves the answer. The runtime and the allocator come first.
 ///
-/// The certificate is checked while it is read, at most 256 twigs at a time: the leaves among them are shared by `workers`
-/// workers, 1 to 16, and `gate` is told of each before it begins. The answer's plan need not be feasible.
+/// The certificate is checked while it is read, at most 256 twigs at a time: the leaves among them are shared
+/// by `workers` workers, 1 to 16, and `gate` is told of each before it begins. The answer's plan need not be
+/// feasible.
 ///
-/// The first bad line decides, with its number and one code, also where it stands behind what makes the verdict a no.
-/// `Read` comes only where a read of the source failed.
+/// The first bad line decides, with its number and one code, also if it comes after what makes the verdict a
+/// no. `Read` comes only where a read of the source failed.
 pub fn read_check<S: Source, G: Gate + Sync>(
     rt: &(impl Threads + Sync),
     alloc: Global,

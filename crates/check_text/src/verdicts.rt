@@ -130,8 +130,8 @@ fn put_verdict(out: &mut Vec<u8>, checked: &Checked) -> Result<(), AllocError>
 /// - `no 36 NODE CAR CLAIM`: the kept list of a car is longer than the claim.
 /// - `no 37 NODE`: a leaf lacks or repeats a price or a worth.
 ///
-/// Nodes are counted from 1 in preorder. The only error is want of memory, which leaves `out` as it was: the text is
-/// made apart first.
+/// Nodes are counted from 1 in preorder. The only error is that memory runs out, which leaves `out` as it
+/// was: the text is made apart first.
 pub fn write_verdict(checked: &Checked, out: &mut Vec<u8>) -> Result<(), AllocError>
     requires { IsToldOf checked.now.snapshot checked.now.verdict }
     ensures text { OnOk result (out.new.items ≡ out.old.items

@@ -25,7 +25,7 @@ fn is_head(line: &str) -> bool {
     line.starts_with("text ") || line.starts_with("case ") || line.starts_with("table ")
 }
 
-/// The first block from this place on; what stands before it is passed over.
+/// The first block from this place on; what comes before it is passed over.
 pub(crate) fn block_from<'a>(lines: &'a [&'a str], from: usize) -> Option<Block<'a>> {
     let rest = lines.get(from..)?;
     let start = rest.iter().position(|line| is_head(line))?;

@@ -1,12 +1,12 @@
-//! The costs and bounds that a text states, and how often a line stands in it.
+//! The costs and bounds that a text states, and how often it has a line.
 
 /// The number that a line states after this word.
 fn stated(line: &str, word: &str) -> Option<u64> {
     line.strip_prefix(word)?.parse().ok()
 }
 
-/// Whether a text states no bound above the cost before it, and whether all bounds are equal to it, so that the status is 0,
-/// and else 3.
+/// Whether a text states no bound above the cost before it, and whether all bounds are equal to it, so that
+/// the status is 0, and else 3.
 pub(crate) fn are_bounds_right(text: &[u8], status: u8) -> bool {
     let Ok(text) = str::from_utf8(text) else {
         return false;
@@ -27,7 +27,7 @@ pub(crate) fn are_bounds_right(text: &[u8], status: u8) -> bool {
     status == if is_solved { 0 } else { 3 }
 }
 
-/// Whether a line stands in the text as often as `N LINE` says, or more. None where it says no number.
+/// Whether the text has a line as often as `N LINE` says, or more. None where it says no number.
 pub(crate) fn stands_often(said: &str, text: &[u8]) -> Option<bool> {
     let (least, wanted) = said.split_once(" ")?;
     let least: usize = least.parse().ok()?;

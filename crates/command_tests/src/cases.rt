@@ -54,7 +54,8 @@ fn least_of(step: Step<'_>) -> Option<u64> {
         .ok()
 }
 
-/// Runs a step over what the step before it read and wrote, and keeps what it reads and writes. Says whether it is as is due.
+/// Runs a step over what the step before it read and wrote, and keeps what it reads and writes. Says whether
+/// it is as is due.
 fn takes_step(
     rt: &(impl Threads + Sync),
     alloc: Global,
@@ -81,8 +82,8 @@ fn takes_step(
     }
 }
 
-/// Runs the steps of a case, until one is not as is due. None where it is not written as it has to be, or there is no memory
-/// for it.
+/// Runs the steps of a case, until one is not as is due. None where it is not written as it has to be, or
+/// there is no memory for it.
 fn run_steps<'a>(
     rt: &(impl Threads + Sync),
     alloc: Global,

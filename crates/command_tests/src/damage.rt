@@ -148,7 +148,8 @@ impl Judge<'_> {
     }
 }
 
-/// The first wrong check of an answer to the case, with each line and each digit damaged in turn. None out of memory.
+/// The first wrong check of an answer to the case, with each line and each digit damaged in turn. None out of
+/// memory.
 pub(crate) fn is_always_right(
     rt: &(impl Threads + Sync),
     alloc: Global,

@@ -113,8 +113,8 @@ fn is_said(alloc: Global, lines: &[&str], pieces: &[&str], text: &[u8]) -> Optio
     Some(place.find(pattern.as_slice(), rest).is_some())
 }
 
-/// Whether the text is one of those that the step's sections `output` say; any text is where there is no such section. None
-/// for what is no piece, or out of memory.
+/// Whether the text is one of those that the step's sections `output` say; any text is where there is no such
+/// section. None for what is no piece, or out of memory.
 pub(crate) fn is_due<'a>(
     alloc: Global,
     lines: &'a [&'a str],

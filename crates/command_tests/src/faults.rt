@@ -8,8 +8,8 @@ use std::alloc::Global;
 use std::marker::Sync;
 use std::thread::Threads;
 
-/// What is due once so many lines of the input were read whole: a line `after N` among the pieces says that those after it
-/// come with the N-th line.
+/// What is due once this many lines of the input were read whole: a line `after N` among the pieces says that
+/// those after it come with the N-th line.
 fn due_after(alloc: Global, step: Step<'_>, whole: usize) -> Option<Vec<u8>> {
     let mut due = Vec::new(alloc);
     let mut needed: usize = 0;
@@ -33,8 +33,8 @@ fn is(ran: &Ran, status: u8, text: &[u8]) -> bool {
     ran.status == status && ran.text.as_slice() == text
 }
 
-/// Reads give one byte each, and the first fails, then the second alone, and so on to the one at the input's end: the first of
-/// these runs that is not as is due. None for what is no piece, or out of memory.
+/// Reads give one byte each, and the first fails, then the second alone, and so on to the one at the input's
+/// end: the first of these runs that is not as is due. None for what is no piece, or out of memory.
 pub(crate) fn fits_each_failing_read(
     rt: &(impl Threads + Sync),
     alloc: Global,
@@ -56,8 +56,8 @@ pub(crate) fn fits_each_failing_read(
     Some(None)
 }
 
-/// Writes take one byte each, and the first fails, then the second alone, and so on: the first of these runs that is not as
-/// is due. None for what is no piece, or out of memory.
+/// Writes take one byte each, and the first fails, then the second alone, and so on: the first of these runs
+/// that is not as is due. None for what is no piece, or out of memory.
 pub(crate) fn fits_each_failing_write(
     rt: &(impl Threads + Sync),
     alloc: Global,

@@ -1,6 +1,6 @@
-//! `command_tests FILE..` runs the cases of these files through the program, with sources and sinks in memory. It prints a
-//! line for each case that differs, with what came, and last how many cases there were. `docs/cases.md` says how a case is
-//! written.
+//! `command_tests FILE..` runs the cases of these files through the program, with sources and sinks in
+//! memory. It prints a line for each case that differs, with what came, and last how many cases there were.
+//! `docs/cases.md` says how a case is written.
 #![tactic(auto)]
 
 mod blocks;

@@ -1,7 +1,8 @@
 //! The pieces of an input, or of what is due, as bytes.
 //!
-//! `|TEXT` is a line. `~TEXT` has no end of a line but where it writes one: `\n`, `\r`, `\t`, `\\` and `\xHH` are bytes.
-//! `*N TEXT` is N lines, and `^N TEXT` the same without ends, where `{}` stands for the number, from 0. `+NAME` is a text.
+//! `|TEXT` is a line. `~TEXT` has no end of a line but where it writes one: `\n`, `\r`, `\t`, `\\` and `\xHH`
+//! are bytes. `*N TEXT` is N lines, and `^N TEXT` the same without ends, where `{}` stands for the number,
+//! from 0. `+NAME` is a text.
 
 use crate::blocks::text_named;
 use std::alloc::Global;
@@ -118,7 +119,8 @@ fn put_plain(alloc: Global, pieces: &[&str], out: &mut Vec<u8>) -> Option<()> {
     Some(())
 }
 
-/// Appends the pieces. `lines` has the texts that they name, which name no others. None for what is no piece, or out of memory.
+/// Appends the pieces. `lines` has the texts that they name, which name no others. None for what is no piece,
+/// or out of memory.
 pub(crate) fn put_pieces(
     alloc: Global,
     lines: &[&str],

@@ -6,8 +6,8 @@ use std::alloc::Global;
 use std::marker::Sync;
 use std::thread::Threads;
 
-/// How the input comes and the output goes: the most bytes of a read and of a write, the number of the read and of the write
-/// that fails (0 where none does), and the bytes that the output has room for.
+/// How the input comes and the output goes: the most bytes of a read and of a write, the number of the read
+/// and of the write that fails (0 where none does), and the bytes that the output has room for.
 #[derive(Clone, Copy)]
 pub(crate) struct Streams {
     pub reads: usize,
@@ -18,7 +18,7 @@ pub(crate) struct Streams {
 }
 
 impl Streams {
-    /// Streams that do not fail, with reads of so many bytes.
+    /// Streams that do not fail, with reads of this many bytes.
     pub(crate) fn of_reads(reads: usize) -> Streams {
         Streams {
             reads,
@@ -37,7 +37,8 @@ pub(crate) struct Ran {
     pub text: Vec<u8>,
 }
 
-/// The words of a line, between single spaces; the word `''` is the empty one. Workers that are not 0 are one word more.
+/// The words of a line, between single spaces; the word `''` is the empty one. Workers that are not 0 are one
+/// word more.
 fn words_of(alloc: Global, line: &str, workers: u32) -> Option<Vec<String>> {
     let mut words = Vec::new(alloc);
     for word in line.split(' ') {

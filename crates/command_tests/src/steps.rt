@@ -1,4 +1,5 @@
-//! A step of a case: runs with its words over an input, each with every number of workers and every size of reads.
+//! A step of a case: runs with its words over an input, each with every number of workers and every size of
+//! reads.
 
 use crate::blocks::said;
 use crate::bounds::{are_bounds_right, stands_often};
@@ -49,7 +50,7 @@ impl Step<'_> {
         said(self.lines, word)?.parse().ok()
     }
 
-    /// How the input comes in reads of so many bytes, and how the output goes.
+    /// How the input comes in reads of this many bytes, and how the output goes.
     fn streams(self, reads: usize) -> Streams {
         let plain = Streams::of_reads(reads);
         let size = |number: Option<u64>, usual: usize| match number {
@@ -92,7 +93,8 @@ impl Step<'_> {
     }
 }
 
-/// Runs with these words and workers and each size of reads, where all have to write what the first one wrote.
+/// Runs with these words and workers and each size of reads, where all have to write what the first one
+/// wrote.
 fn run_reads(
     rt: &(impl Threads + Sync),
     alloc: Global,
@@ -180,7 +182,8 @@ fn run_words(
     }
 }
 
-/// Runs the step with all its words. None where it is not written as it has to be, or there is no memory for it.
+/// Runs the step with all its words. None where it is not written as it has to be, or there is no memory for
+/// it.
 pub(crate) fn run_step(
     rt: &(impl Threads + Sync),
     alloc: Global,

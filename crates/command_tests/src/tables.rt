@@ -1,4 +1,5 @@
-//! Tables of inputs that are refused: each row has the line and the code that are due, and what is put into a text.
+//! Tables of inputs that are refused: each row has the line and the code that are due, and what is put into a
+//! text.
 
 use crate::blocks::{Block, said, text_named};
 use crate::pieces::{bytes_of, put_escaped};
@@ -87,7 +88,7 @@ impl Table<'_> {
         Some(all)
     }
 
-    /// Runs over an input that comes in reads of so many bytes, and says whether it is refused so.
+    /// Runs over an input that comes in reads of this many bytes, and says whether it is refused so.
     fn is_refused(
         self,
         rt: &(impl Threads + Sync),
@@ -108,8 +109,8 @@ impl Table<'_> {
         Some(false)
     }
 
-    /// Runs over an input as it stands, in pieces of one byte, and where the line that is refused is the last one and has no
-    /// end.
+    /// Runs over an input as it stands, in pieces of one byte, and where the line that is refused is the last
+    /// one and has no end.
     fn run_refused(
         self,
         rt: &(impl Threads + Sync),

@@ -48,15 +48,15 @@ fn end_day<K: Sink>(alloc: Global, day: Day, sink: &mut K) -> Result<Ended, RunF
     }
 }
 
-/// Runs the day that opens with a snapshot, without calls and with nobody aboard, over the rows of the lines that are left,
-/// and writes its log.
+/// Runs the day that opens with a snapshot, without calls and with nobody aboard, over the rows of the lines
+/// that are left, and writes its log.
 ///
-/// A line of 1 to 4,096 bytes without its end is a row, also the last one where it has no end. A line of no bytes is none,
-/// and a longer one is a row that is refused. What a row does is written before more of the source is read than what its
-/// line takes.
+/// A line of 1 to 4,096 bytes without its end is a row, also the last one where it has no end. A line of no
+/// bytes is none, and a longer one is a row that is refused. What a row does is written before more of the
+/// source is read than what its line takes.
 ///
-/// After a fault the log is written as far as the rows go that were done before it; where a write failed, a beginning of
-/// that. Memory may be wanting at any row and at the end, and then what was written before stays.
+/// After a fault the log is written as far as the rows go that were done before it; where a write failed, a
+/// beginning of that. Memory may run out at any row and at the end, and then what was written before stays.
 pub fn run_day<F, S: Source, K: Sink>(
     alloc: Global,
     plan: &F,

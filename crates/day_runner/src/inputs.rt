@@ -20,13 +20,13 @@ use std::alloc::{AllocError, Global};
 /// Why a day did not come to its end.
 #[derive(Clone, Copy)]
 pub enum DayFault {
-    /// What stands before the rows is bad, or could not be read; nothing was written.
+    /// What comes before the rows is rejected, or could not be read; nothing was written.
     Opening(TextFault),
     /// The rows were not run to their end.
     Rows(RunFault),
 }
 
-/// Reads what stands before the rows of a day, and runs the day over them, with its log.
+/// Reads what comes before the rows of a day, and runs the day over them, with its log.
 ///
 /// The sums of the served calls' times have at most 64 bits.
 pub fn run_day_text<F, S: Source, K: Sink>(

@@ -27,7 +27,7 @@ pub enum RunFault {
     Read,
     /// The sink failed.
     Write,
-    /// Memory was wanting.
+    /// Out of memory.
     NoMemory,
 }
 
@@ -74,8 +74,8 @@ fn do_long_line(day: &mut Day, out: &mut Vec<u8>) -> Result<(), AllocError>
     Ok(())
 }
 
-/// Does what a line of at most 4,096 bytes says, and puts what the log says of it into the empty text. A line of no
-/// bytes is no row.
+/// Does what a line of at most 4,096 bytes says, and puts what the log says of it into the empty text. A line
+/// of no bytes is no row.
 fn do_short_line<F: Fn(&Snapshot) -> Result<Planned, AllocError>>(
     alloc: Global,
     plan: &F,
@@ -99,8 +99,8 @@ fn do_short_line<F: Fn(&Snapshot) -> Result<Planned, AllocError>>(
     Ok(())
 }
 
-/// Does what a line says, and puts what the log says of it into the empty text. A line of no bytes is no row, and one
-/// of more than 4,096 bytes says nothing.
+/// Does what a line says, and puts what the log says of it into the empty text. A line of no bytes is no row,
+/// and one of more than 4,096 bytes says nothing.
 fn do_line<F: Fn(&Snapshot) -> Result<Planned, AllocError>>(
     alloc: Global,
     plan: &F,
@@ -125,7 +125,7 @@ fn do_line<F: Fn(&Snapshot) -> Result<Planned, AllocError>>(
     }
 }
 
-/// A line was done, or memory was wanting for it.
+/// A line was done, or memory ran out for it.
 fn turn_after(done: Result<(), AllocError>) -> Result<Turn, RunFault>
     ensures { result ≡ turn_after done }
 {
@@ -231,8 +231,8 @@ where
     }
 }
 
-/// Does what the next lines of the text say, row by row, to their end, and writes what the log says of each before more
-/// of the source is read than what its line takes.
+/// Does what the next lines of the text say, row by row, to their end, and writes what the log says of each
+/// before more of the source is read than what its line takes.
 ///
 /// After a fault the rows before it are done and written; where a write failed, the last of them in part.
 pub(crate) fn run_rows<F, S: Source, K: Sink>(

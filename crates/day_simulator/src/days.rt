@@ -29,13 +29,13 @@ use std::mem;
 pub enum RowAnswer {
     /// Its call was taken, with a plan of this cost and this bound, in cost units.
     Taken { cost: u64, bound: u64 },
-    /// It was refused: 41 is no row, 42 before the present moment, 43 as many calls are open as may be, 44 no car
-    /// can take the call.
+    /// It was refused: 41 is no row, 42 before the present moment, 43 as many calls are open as may be, 44 no
+    /// car can take the call.
     Refused { code: u8 },
 }
 
-/// A day: the world, how many rows were refused, how many of the accepted ones had a bound below their cost, and
-/// the accepted calls.
+/// A day: the world, how many rows were refused, how many of the accepted ones had a bound below their cost,
+/// and the accepted calls.
 #[derive(Drop)]
 pub struct Day {
     world: World,
@@ -146,8 +146,8 @@ impl Model for Day {
 }
 
 impl Day {
-    /// The day that opens with a snapshot without calls, where nobody is aboard. It fails only where there is no
-    /// memory left.
+    /// The day that opens with a snapshot without calls, where nobody is aboard. It fails only where there is
+    /// no memory left.
     pub fn new(alloc: Global, opening: Snapshot) -> Result<Day, AllocError>
         requires { IsOpeningSnapshot opening }
         ensures { IfOk result (λ day. day ≡ opening_day opening) }
@@ -196,8 +196,8 @@ impl Day {
         })
     }
 
-    /// Goes on in this world, in which the call of the next row has come and a plan holds of this cost, with this bound.
-    /// The world before is left in its place.
+    /// Goes on in this world, in which the call of the next row has come and a plan holds of this cost, with
+    /// this bound. The world before is left in its place.
     fn take(
         &mut self,
         world: &mut World,
@@ -266,7 +266,7 @@ impl Day {
         }
     }
 
-    /// A copy of the world at this time. What happens until then stands behind the events.
+    /// A copy of the world at this time. What happens until then is appended to the events.
     fn moved(&self, alloc: Global, time: u64, events: &mut Vec<Event>) -> Result<World, AllocError>
         requires later { self.now.world.snapshot.moment ≤ time }
         requires early { time ≤ 1000000000 }
@@ -279,8 +279,8 @@ impl Day {
         Ok(world)
     }
 
-    /// The world at the time of the next row with its call, and what happens until then; or why the row is refused.
-    /// What may be refused is tried on a copy of the world.
+    /// The world at the time of the next row with its call, and what happens until then; or why the row is
+    /// refused. What may be refused is tried on a copy of the world.
     fn brought(
         &self,
         alloc: Global,
@@ -346,14 +346,14 @@ impl Day {
         }
     }
 
-    /// Takes or refuses the next row, and appends its lines to the log. The bytes are those of a line without its
-    /// end. Fewer than 2^32 - 1 rows came before.
+    /// Takes or refuses the next row, and appends its lines to the log. The bytes are those of a line without
+    /// its end. Fewer than 2^32 - 1 rows came before.
     ///
-    /// The line is one record (RFC 4180) of four fields: the time in ms, at most 10^9, two different floors of the
-    /// building, and 1 to 8 persons. Each is one or more decimal digits; spaces at both ends of a field do not count.
-    /// A line that begins with a byte order mark or has the end of a line inside it is no record. A row that is
-    /// accepted brings the world to its time, adds the call and takes a plan of the planner; one that is refused
-    /// changes nothing but the count of rows.
+    /// The line is one record (RFC 4180) of four fields: the time in ms, at most 10^9, two different floors
+    /// of the building, and 1 to 8 persons. Each is one or more decimal digits; spaces at both ends of a
+    /// field do not count. A line that begins with a byte order mark or has the end of a line inside it is no
+    /// record. A row that is accepted brings the world to its time, adds the call and takes a plan of the
+    /// planner; one that is refused changes nothing but the count of rows.
     ///
     /// It fails only where there is no memory left: then the day and the log are as before.
     pub fn row<F: Fn(&Snapshot) -> Result<Planned, AllocError>>(
@@ -396,8 +396,8 @@ impl Day {
         answer
     }
 
-    /// Runs the last plan to its end, appends what is left of the log, and gives the served calls in the order of
-    /// their ids. Each accepted call is delivered then.
+    /// Runs the last plan to its end, appends what is left of the log, and gives the served calls in the
+    /// order of their ids. Each accepted call is delivered then.
     ///
     /// It fails only where there is no memory left: then the log is as before.
     pub fn finish(self, alloc: Global, out: &mut Vec<u8>) -> Result<Vec<Served>, AllocError>

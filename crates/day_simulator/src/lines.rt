@@ -68,7 +68,8 @@ fn put_plan(out: &mut Vec<u8>, snapshot: &Snapshot, planned: &Planned) -> Result
     }
 }
 
-/// The lines of a row that was accepted: what happened until its time, and the plan for the snapshot with its call.
+/// The lines of a row that was accepted: what happened until its time, and the plan for the snapshot with its
+/// call.
 fn accepted_lines(
     alloc: Global,
     number: u32,
@@ -106,7 +107,7 @@ pub(crate) fn add_accepted(
     out.extend_from_slice(text.as_slice())
 }
 
-/// Writes the line of a row that was refused. After an `Err` a beginning of it may stand there.
+/// Writes the line of a row that was refused. After an `Err` a beginning of it may be written.
 pub(crate) fn put_refused(out: &mut Vec<u8>, number: u32, fault: RowFault) -> Result<(), AllocError>
     ensures { OnOk result (out.new.items ≡ out.old.items ++ refused_text number fault) }
 {
@@ -125,7 +126,7 @@ fn put_solved(out: &mut Vec<u8>, unsolved: u32) -> Result<(), AllocError>
     }
 }
 
-/// Writes the lines behind the last event. After an `Err` a beginning of them may stand there.
+/// Writes the lines after the last event. After an `Err` a beginning of them may be written.
 fn put_total(
     out: &mut Vec<u8>,
     accepted: u64,
@@ -141,8 +142,8 @@ fn put_total(
     put_solved(out, unsolved)
 }
 
-/// Writes the lines behind the last row: the last events, and the totals. After an `Err` a beginning of them may
-/// stand there.
+/// Writes the lines after the last row: the last events, and the totals. After an `Err` a beginning of them
+/// may be written.
 pub(crate) fn put_end(
     out: &mut Vec<u8>,
     events: &[Event],

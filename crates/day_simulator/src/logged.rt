@@ -71,7 +71,7 @@ fn id_of_event(event: &Event) -> u32
     }
 }
 
-/// Where the call with this id stands, if there is one.
+/// Where the call with this id is, if there is one.
 fn place_of(calls: &[LoggedCall], id: u32) -> Option<usize>
     requires { IdsRise (day_calls calls.now) }
     ensures found { IfSome result (λ k. (k < length calls.now) × (id_at (day_calls calls.now) k ≡ id)) }
@@ -108,8 +108,8 @@ pub(crate) fn note_all(calls: &mut Vec<LoggedCall>, events: &[Event])
     note_each(calls.as_mut_slice(), events);
 }
 
-/// Notes all events at their calls, and puts a new call behind them. It fails only where there is no memory left: then
-/// the calls are as before.
+/// Notes all events at their calls, and puts a new call after them. It fails only where there is no memory
+/// left: then the calls are as before.
 pub(crate) fn add_call(
     calls: &mut Vec<LoggedCall>,
     events: &[Event],

@@ -1,7 +1,8 @@
 //! What a day asks for a snapshot.
 //!
-//! A planner is a function: what it answers for a snapshot is a feasible plan with its cost, and a bound that no feasible plan
-//! costs less than, and it fails only where there is no memory left. Whoever calls shows this of the function (`PlannerLaw`).
+//! A planner is a function: what it answers for a snapshot is a feasible plan with its cost, and a bound that
+//! no feasible plan costs less than, and it fails only where there is no memory left. Whoever calls shows
+//! this of the function (`PlannerLaw`).
 
 use elevator_model::Plan;
 

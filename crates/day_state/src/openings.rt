@@ -47,8 +47,8 @@ fn lone_stop(alloc: Global, floor: u32) -> Result<Tour, AllocError>
     Ok(tour)
 }
 
-/// The tour that ends a car's way: a coming car stops where it comes to, a moving one at the nearest floor that
-/// is open, and an idle one nowhere.
+/// The tour that ends a car's way: a coming car stops where it comes to, a moving one at the nearest floor
+/// that is open, and an idle one nowhere.
 fn opening_tour(alloc: Global, snapshot: &Snapshot, car: u32) -> Result<Tour, AllocError>
     requires { car < car_count snapshot.now }
     ensures { IfOk result

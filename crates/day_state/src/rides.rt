@@ -22,7 +22,7 @@ use tour_rules::walking::Walker;
 pub(crate) struct Ride {
     /// Where it is, and when.
     pub walker: Walker,
-    /// Those aboard in the order in which they boarded: calls by index, and behind all calls the groups.
+    /// Those aboard in the order in which they boarded: calls by index, and after all calls the groups.
     pub riders: Vec<usize>,
     /// The moment at which each call boarded, by index, in ms: 0 where it did not.
     pub boarded_at: Vec<u64>,
@@ -66,7 +66,7 @@ impl Ride {
         })
     }
 
-    /// The car after its next stop. What happens there stands behind the events.
+    /// The car after its next stop. What happens there is appended to the events.
     fn after_stop(
         self,
         alloc: Global,
@@ -115,7 +115,7 @@ impl Ride {
     }
 }
 
-/// The car after the first stops of its feasible tour. What happens there stands behind the events.
+/// The car after the first stops of its feasible tour. What happens there is appended to the events.
 pub(crate) fn ride_along(
     alloc: Global,
     snapshot: &Snapshot,
@@ -169,7 +169,7 @@ pub(crate) struct Reached {
     pub ride: Ride,
 }
 
-/// The stops of a tour that are left after so many of them.
+/// The stops of a tour that are left after this many of them.
 pub(crate) fn stops_left(tour: &Tour, done: usize) -> &[Stop]
     requires { done ≤ length tour.now }
     ensures { result.now ≡ drop done tour.now }
@@ -177,7 +177,7 @@ pub(crate) fn stops_left(tour: &Tour, done: usize) -> &[Stop]
     &tour.stops()[done..]
 }
 
-/// How far the car is at the moment `t`. What happens at the stops reached by then stands behind the events.
+/// How far the car is at the moment `t`. What happens at the stops reached by then is appended to the events.
 pub(crate) fn ride_until(
     alloc: Global,
     snapshot: &Snapshot,

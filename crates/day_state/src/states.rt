@@ -59,8 +59,8 @@ fn any_group_passed(
     false
 }
 
-/// Whether the car, in this state at the moment `t`, can still stop first at the floor, and at the destination of
-/// everyone whom it carries.
+/// Whether the car, in this state at the moment `t`, can still stop first at the floor, and at the
+/// destination of everyone whom it carries.
 fn can_still_choose(
     snapshot: &Snapshot,
     car: u32,
@@ -94,8 +94,8 @@ fn comes_to(snapshot: &Snapshot, car: u32, walker: &Walker, stop: &Stop) -> CarS
     }
 }
 
-/// The state of a car that has left the floor of its last stop: on the way to the next one, or with nowhere to
-/// go.
+/// The state of a car that has left the floor of its last stop: on the way to the next one, or with nowhere
+/// to go.
 fn state_under_way(
     snapshot: &Snapshot,
     car: u32,

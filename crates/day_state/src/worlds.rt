@@ -37,8 +37,8 @@ impl Model for World {
 }
 
 impl World {
-    /// The world of a snapshot that has no calls and nobody aboard: a coming car goes on to its stop, a moving one
-    /// to the nearest floor where it can still stop. It fails only where there is no memory left.
+    /// The world of a snapshot that has no calls and nobody aboard: a coming car goes on to its stop, a
+    /// moving one to the nearest floor where it can still stop. It fails only where there is no memory left.
     pub fn opening(alloc: Global, snapshot: Snapshot) -> Result<World, AllocError>
         requires { IsOpeningSnapshot snapshot }
         ensures world { IfOk result (λ world. world ≡ opening_world snapshot) }
@@ -72,7 +72,7 @@ impl World {
         &self.plan
     }
 
-    /// The same world once more. It fails only where there is no memory left.
+    /// A copy of the world. It fails only where there is no memory left.
     pub fn copy(&self, alloc: Global) -> Result<World, AllocError>
         ensures { IfOk result (λ world. world ≡ self.now) }
     {
@@ -80,7 +80,7 @@ impl World {
         Ok(World::of_parts(self.snapshot.copy(alloc)?, plan))
     }
 
-    /// How far each car is at the moment `t`. What happens until then stands behind the events.
+    /// How far each car is at the moment `t`. What happens until then is appended to the events.
     fn reached(
         &self,
         alloc: Global,
@@ -102,9 +102,9 @@ impl World {
         Ok(reached)
     }
 
-    /// Goes on to the moment `t` in ms, and adds what happens until then to the events: the cars in order, and of each
-    /// its stops in order, at each of them first who gets off, in the order of boarding, and then who boards, by
-    /// rising id.
+    /// Goes on to the moment `t` in ms, and adds what happens until then to the events: the cars in order,
+    /// and of each its stops in order, at each of them first who gets off, in the order of boarding, and then
+    /// who boards, by rising id.
     ///
     /// It fails only where there is no memory left: then world and events are as before.
     pub fn advance(
@@ -128,7 +128,7 @@ impl World {
         self.give_way_to(later, happened.as_slice(), events)
     }
 
-    /// The world at the moment `t`. What happens until then stands behind the events.
+    /// The world at the moment `t`. What happens until then is appended to the events.
     fn later(&self, alloc: Global, t: u64, events: &mut Vec<Event>) -> Result<World, AllocError>
         requires feasible { IsFeasiblePlan self.now.snapshot self.now.plan }
         requires later { self.now.snapshot.moment ≤ t }
@@ -199,8 +199,8 @@ impl World {
 
     /// Takes a new call, which comes last. Until the next `set_plan` no tour serves it.
     ///
-    /// It fails with `Full` exactly where as many calls are open as may be, else with `NoCar` exactly where no car
-    /// can take the call, and else only where there is no memory left. Then the world is as before.
+    /// It fails with `Full` exactly where as many calls are open as may be, else with `NoCar` exactly where
+    /// no car can take the call, and else only where there is no memory left. Then the world is as before.
     pub fn accept(&mut self, alloc: Global, call: Call) -> Result<(), NotTaken>
         requires { IsNewCall self.old.snapshot call }
         ensures snapshot { OnOk result (self.new.snapshot ≡ taken self.old.snapshot call) }

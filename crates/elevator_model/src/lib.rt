@@ -256,7 +256,8 @@ impl fmt::Display for Fault {
 /// A rule that a tour or a plan can break, in the order in which they are tested at one stop.
 #[derive(Clone, Copy)]
 pub enum Rule {
-    /// The first stop of a coming car is its floor, and that of a moving car is open; neither may have no stop.
+    /// The first stop of a coming car is its floor, and that of a moving car is open; neither may have no
+    /// stop.
     FirstStop,
     /// Two stops in a row at one floor.
     SameFloorTwice,

@@ -26,16 +26,16 @@ pub const LONGEST_WORK: u64 = 100_000_000;
 /// opening and closing, and 60,000 for each of at most 2,112 persons that get off and on.
 pub const MOST_STOP_TIME: u64 = 150_000_000;
 
-/// No moment of a feasible tour is later, in ms: a tour starts at most 1,100,000,000 ms after 0, and each call
-/// and each group aboard adds less than its share of what is left.
+/// No moment of a feasible tour is later, in ms: a tour starts at most 1,100,000,000 ms after 0, and each
+/// call and each group aboard adds less than its share of what is left.
 pub const LATEST_MOMENT: u64 = 10_000_000_000;
 
 /// Moments that a running state may hold stay at most this, in ms: ten times the latest one, so that what the
 /// code adds and multiplies stays in 64 bits before a moment is known to be early.
 pub const MOMENT_LIMIT: u64 = 100_000_000_000;
 
-/// One call costs at most this much, in cost units: 8 persons, weights of 1,000 for waiting, for waiting past the
-/// patience and for riding, over `MOMENT_LIMIT`.
+/// One call costs at most this much, in cost units: 8 persons, weights of 1,000 for waiting, for waiting past
+/// the patience and for riding, over `MOMENT_LIMIT`.
 pub const MOST_CALL_COST: u64 = 2_400_000_000_000_000;
 
 /// The groups aboard one car cost at most this much, in cost units: 64 persons, weight 1,000, over

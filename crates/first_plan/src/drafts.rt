@@ -29,8 +29,8 @@ pub(crate) struct Draft {
     pub(crate) cost: u64,
 }
 
-/// Adds those of the stops that are of use, with their moments, and stops of one floor in a row as one. The car at
-/// its end.
+/// Adds those of the stops that are of use, with their moments, and stops of one floor in a row as one. The
+/// car at its end.
 fn add_timed(
     snapshot: &Snapshot,
     queues: &Queues,
@@ -162,7 +162,7 @@ impl Draft {
         Ok(())
     }
 
-    /// The draft once more.
+    /// A copy of the draft.
     pub(crate) fn copy(&self, alloc: Global) -> Result<Self, AllocError> {
         Ok(Self {
             start: self.start,
@@ -174,7 +174,8 @@ impl Draft {
         })
     }
 
-    /// What a ms of delay from a stop on would cost those who ride there or board there or later, in cost units.
+    /// What a ms of delay from a stop on would cost those who ride there or board there or later, in cost
+    /// units.
     pub(crate) fn delay_rate(&self, stop: &DraftStop, travel_weight: u64) -> u64 {
         travel_weight
             .saturating_mul(stop.arriving)

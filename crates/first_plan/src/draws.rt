@@ -1,5 +1,5 @@
-//! Numbers drawn by a linear congruential generator (Knuth, The Art of Computer Programming, volume 2): the same
-//! ones in each run.
+//! Numbers drawn by a linear congruential generator (Knuth, The Art of Computer Programming, volume 2): the
+//! same ones in each run.
 
 ghost use Rattle.std.specs.Prelude.{◌<◌};
 
@@ -37,7 +37,7 @@ impl Draws {
         self.draw() as usize % below
     }
 
-    /// A place in a list of so many, by the product of two draws: the earlier the likelier.
+    /// A place in a list of this many, by the product of two draws: the earlier the likelier.
     pub(crate) fn pick_early(&mut self, count: usize) -> usize {
         let product = (self.draw() as u64).wrapping_mul(self.draw() as u64) >> 32;
         (product.wrapping_mul(count as u64) >> 32) as usize

@@ -1,8 +1,8 @@
 //! Where a call is put into a draft at the least cost.
 //!
-//! Where a call boards, the place where it gets off follows: its car goes on while its stops lie on the way, and may not
-//! turn before the call's destination. So a draft of k stops has some k + 2 places, and each is judged by the stops on
-//! the way alone: from there on all is late by the same time.
+//! Where a call boards, the place where it gets off follows: its car goes on while its stops lie on the way,
+//! and may not turn before the call's destination. So a draft of k stops has some k + 2 places, and each is
+//! judged by the stops on the way alone: from there on all is late by the same time.
 
 use crate::drafts::Draft;
 use crate::queues::Queues;
@@ -110,12 +110,13 @@ impl Search<'_> {
             .saturating_add(self.spec.opening)
     }
 
-    /// Whether the call fits in beside so many persons.
+    /// Whether the call fits in beside this many persons.
     fn fits(&self, load: u64) -> bool {
         load.saturating_add(self.persons) <= self.spec.capacity as u64
     }
 
-    /// The car that carries the call after it boarded at this moment, where the car would leave at another one without it.
+    /// The car that carries the call after it boarded at this moment, where the car would leave at another
+    /// one without it.
     fn boarding(&self, floor: u32, boarded: u64, leaves: u64, load: u64) -> Carrying {
         let time = self.spec.boarding.saturating_mul(self.persons);
         Carrying {
@@ -130,7 +131,7 @@ impl Search<'_> {
         }
     }
 
-    /// By how much the cost rises where a stop is late by so many ms and the one before it by others.
+    /// By how much the cost rises where a stop is late by this many ms and the one before it by others.
     fn rise_by(&self, stop: &DraftStop, before: u64, delay: u64) -> u64 {
         let weight = self.snapshot.building().travel_weight();
         let rate = self.draft.delay_rate(stop, weight);
@@ -148,7 +149,8 @@ impl Search<'_> {
         carrying.last.leaves = stop.leaves.saturating_add(delay);
     }
 
-    /// By how much the cost rises where the call gets off at this stop of the draft, with the others behind it.
+    /// By how much the cost rises where the call gets off at this stop of the draft, with the others after
+    /// it.
     fn rise_at(&self, carrying: Carrying, stop: &DraftStop, next: Option<&DraftStop>) -> u64 {
         let mut carrying = carrying;
         self.pass(&mut carrying, stop);
@@ -187,8 +189,8 @@ impl Search<'_> {
         rise
     }
 
-    /// Where the call gets off among the stops to come, of which the first has this place, and by how much the cost
-    /// rises. None where a rule is broken or the cost rises by the limit or more.
+    /// Where the call gets off among the stops to come, of which the first has this place, and by how much
+    /// the cost rises. None where a rule is broken or the cost rises by the limit or more.
     fn delivery(
         &self,
         carrying: Carrying,
@@ -226,7 +228,7 @@ impl Search<'_> {
         Some((Spot::Before(place), self.rise_before(carrying, None)))
     }
 
-    /// The place where the call boards at this stop of the draft, with these behind it.
+    /// The place where the call boards at this stop of the draft, with these after it.
     fn at_stop(
         &self,
         at: usize,
@@ -244,8 +246,8 @@ impl Search<'_> {
         Some(self.place(Spot::At(at), leaves, rise))
     }
 
-    /// The place where the call boards at a new stop at this place, before these stops, of which the first has the place
-    /// `from`.
+    /// The place where the call boards at a new stop at this place, before these stops, of which the first
+    /// has the place `from`.
     fn before_stops(
         &self,
         at: usize,
@@ -298,7 +300,8 @@ impl Search<'_> {
                 .is_empty()
     }
 
-    /// The place at a new first stop. A first stop of the draft where nobody boards or gets off is not made then.
+    /// The place at a new first stop. A first stop of the draft where nobody boards or gets off is not made
+    /// then.
     fn at_first(&self, stops: &[DraftStop], limit: u64, tried: &mut u64) -> Option<Place> {
         if !self.draft.start.may_begin_at(self.wanted.origin) {
             return None;
@@ -312,7 +315,8 @@ impl Search<'_> {
         }
     }
 
-    /// The place where the call boards at the first of these stops, or before it where the car comes from elsewhere.
+    /// The place where the call boards at the first of these stops, or before it where the car comes from
+    /// elsewhere.
     fn from_here(
         &self,
         at: usize,

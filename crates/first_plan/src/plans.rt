@@ -49,11 +49,11 @@ fn feasible_plan(alloc: Global, snapshot: &Snapshot) -> Result<Plan, AllocError>
     Ok(better_plan(snapshot, plain, proposed))
 }
 
-/// A feasible plan of the snapshot: every accepted snapshot has one. The error is want of memory alone.
+/// A feasible plan of the snapshot: every accepted snapshot has one. The only error is that memory runs out.
 ///
-/// It is made by putting the calls one after another where the cost rises least, and then taking calls out and
-/// putting them back, some at a time, for 100 rounds a call and 8,000 at most. Where that fails, each car serves its
-/// calls one after another.
+/// It is made by putting the calls one after another where the cost rises least, and then taking calls out
+/// and putting them back, some at a time, for 100 rounds a call and 8,000 at most. Where that fails, each car
+/// serves its calls one after another.
 pub fn first(alloc: Global, snapshot: &Snapshot) -> Result<Plan, AllocError>
     ensures feasible { IfOk result (λ plan. IsFeasiblePlan snapshot.now plan) }
     ensures exists { (plan : List (List Stop)) × IsFeasiblePlan snapshot.now plan }
@@ -62,10 +62,12 @@ pub fn first(alloc: Global, snapshot: &Snapshot) -> Result<Plan, AllocError>
     feasible_plan(alloc, snapshot)
 }
 
-/// A feasible plan of the snapshot, made from a plan that lacks this call. The error is want of memory alone.
+/// A feasible plan of the snapshot, made from a plan that lacks this call. The only error is that memory runs
+/// out.
 ///
-/// The call is put where the cost rises least, if the given plan with it is feasible; else the plan is made anew.
-/// Only that the plan is feasible is promised, nothing of its cost or of what it keeps of the given one.
+/// The call is put where the cost rises least, if the given plan with it is feasible; else the plan is made
+/// anew. Only that the plan is feasible is promised, nothing of its cost or of what it keeps of the given
+/// one.
 pub fn insert(
     alloc: Global,
     snapshot: &Snapshot,

@@ -1,7 +1,7 @@
 //! Taking calls out of draft tours and putting them back, round by round.
 //!
-//! Large neighbourhood search: P. Shaw, *Using constraint programming and local search methods to solve vehicle routing
-//! problems*, CP 1998. Nothing here has to be right: what comes of it is judged.
+//! Large neighbourhood search: P. Shaw, *Using constraint programming and local search methods to solve
+//! vehicle routing problems*, CP 1998. Nothing here has to be right: what comes of it is judged.
 
 ghost use Rattle.std.specs.Prelude.{◌≤◌};
 
@@ -57,7 +57,7 @@ fn cost_of(drafts: &[Draft]) -> u64 {
     cost
 }
 
-/// The drafts once more.
+/// A copy of the drafts.
 fn copies_of(alloc: Global, drafts: &[Draft]) -> Result<Vec<Draft>, AllocError> {
     let mut copies = Vec::new(alloc);
     for draft in drafts {
@@ -189,8 +189,8 @@ impl<'a> Moving<'a> {
         Ok(())
     }
 
-    /// One round: takes the calls out, puts them back, and keeps that if it costs no more than before or exceeds the
-    /// best cost by little.
+    /// One round: takes the calls out, puts them back, and keeps that if it costs no more than before or
+    /// exceeds the best cost by little.
     fn turn(&mut self, taken: &Taken, rounds_left: u64, rounds: u64) -> Result<(), AllocError> {
         self.take_out(taken)?;
         let all_put = self.put_back(taken)?;
@@ -208,7 +208,7 @@ impl<'a> Moving<'a> {
     }
 }
 
-/// How many rounds there are for so many calls.
+/// How many rounds there are for this many calls.
 fn rounds_for(calls: usize) -> usize
     ensures { result ≤ MOST_ROUNDS }
 {

@@ -55,7 +55,8 @@ impl Taken {
         Ok(())
     }
 
-    /// Chooses the calls of a round: first each alone, in this order; then a drawn one and some that are like it.
+    /// Chooses the calls of a round: first each alone, in this order; then a drawn one and some that are like
+    /// it.
     pub(crate) fn choose(
         &mut self,
         round: usize,

@@ -21,8 +21,8 @@ fn leaves_in_vain<B: CompletionBound>(bound: &B, departure: &B::Departure, worth
     bound.least_value(departure) >= worth
 }
 
-/// The moves that may follow, but for leaves after which the partial tour is not kept for the worth: the useless ones,
-/// and all where none leads to a bound below the worth.
+/// The moves that may follow, but for leaves after which the partial tour is not kept for the worth: the
+/// useless ones, and all where none leads to a bound below the worth.
 pub fn followers_below<B: CompletionBound>(
     bound: &B,
     demand: &Demand,
@@ -81,9 +81,9 @@ fn sums_after<B: CompletionBound>(
     }
 }
 
-/// Makes one move more where it leads to a partial tour that is kept for the worth, and gives the sums there. For any
-/// other it gives None and makes no move. The bound is tested first, since that needs no move; a leave is tested by the
-/// departure before.
+/// Makes one move more where it leads to a partial tour that is kept for the worth, and gives the sums there.
+/// For any other it gives None and makes no move. The bound is tested first, since that needs no move; a
+/// leave is tested by the departure before.
 pub fn step_below<B: CompletionBound>(
     bound: &B,
     demand: &Demand,

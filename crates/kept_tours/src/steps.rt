@@ -9,8 +9,8 @@ use partial_tours::Prefix;
 use pricing_bound::CompletionBound;
 use tour_extension::{Demand, can_be_extended};
 
-/// Makes one move more, and gives the sums of the bound where it leads. None where no tour of the node begins with
-/// the longer partial tour. Either way the move is made, and `pop` takes it back.
+/// Makes one move more, and gives the sums of the bound where it leads. None where no tour of the node begins
+/// with the longer partial tour. Either way the move is made, and `pop` takes it back.
 pub fn step<B: CompletionBound>(
     bound: &B,
     demand: &Demand,

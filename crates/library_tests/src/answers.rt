@@ -24,7 +24,8 @@ fn written(alloc: Global, snapshot: &Snapshot, bytes: &[u8], each: usize) -> Opt
     Some(out)
 }
 
-/// The body of the answer that is read of a text, with another cost and another bound, and then the stops of each tour.
+/// The body of the answer that is read of a text, with another cost and another bound, and then the stops of
+/// each tour.
 fn parts(alloc: Global, snapshot: &Snapshot, bytes: &[u8]) -> Option<Vec<u8>> {
     let mut source = source_of(alloc, bytes, 4096)?;
     let mut lines = LineReader::new(alloc, &mut source).ok()?;

@@ -1,4 +1,5 @@
-//! Certificates: what is read of a text and written again, and what comes twig by twig, also after a bad line.
+//! Certificates: what is read of a text and written again, and what comes twig by twig, also after a bad
+//! line.
 
 ghost use Rattle.std.specs.Prelude.{◌≤◌};
 
@@ -10,7 +11,8 @@ use lift_text::{LineReader, TextFault};
 use std::alloc::Global;
 use std::test::Fail;
 
-/// The text of the certificate that is read of this one, which comes in pieces, and a `+` where a line follows.
+/// The text of the certificate that is read of this one, which comes in pieces, and a `+` where a line
+/// follows.
 fn written(alloc: Global, snapshot: &Snapshot, bytes: &[u8], each: usize) -> Option<Vec<u8>>
     requires { 1 ≤ each }
 {
@@ -66,7 +68,8 @@ fn handed_out(alloc: Global, snapshot: &Snapshot, bytes: &[u8]) -> Option<(u64, 
     None
 }
 
-/// Whether a certificate whose 28th read fails, in its third line, hands out its split, and fails from then on.
+/// Whether a certificate whose 28th read fails, in its third line, hands out its split, and fails from then
+/// on.
 fn fails_for_good(alloc: Global, snapshot: &Snapshot) -> Option<bool> {
     let bytes = Vec::from_slice(alloc, b"certificate 1\nsplit 22 7\nleaf\nleaf\nend\n").ok()?;
     let mut source = MemorySource::new(bytes, 1, Vec::from_slice(alloc, &[28]).ok()?);
@@ -131,7 +134,7 @@ fn bad(line: u64, code: u8) -> Last {
     Last::Bad { line, code }
 }
 
-/// Whether each text gives so many twigs, and then this.
+/// Whether each text gives this many twigs, and then this.
 fn come_one_by_one(alloc: Global, snapshot: &Snapshot) -> bool {
     let deep: &[u8] = b"certificate 1\nsplit 22\nsplit 7 3\nleaf\nprice 4 1\nleaf\nleaf\nend";
     let table: [(&[u8], u64, Last); 6] = [

@@ -1,5 +1,5 @@
-//! A day with a planner of the test's own: it gives the cheapest plan with a bound that is less, and a text in place of the
-//! plan's lines.
+//! A day with a planner of the test's own: it gives the cheapest plan with a bound that is less, and a text
+//! in place of the plan's lines.
 
 ghost use Rattle.std.specs.Prelude.{IfOk};
 ghost use Rattle.day_simulator.specs.Planning.{IsRightPlan};

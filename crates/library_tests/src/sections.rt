@@ -77,7 +77,7 @@ fn times<S: Source>(lines: &LineReader<S>) -> Result<u64, TextCode>
     }
 }
 
-/// What is read of the section, and the words of the line behind it.
+/// What is read of the section, and the words of the line after it.
 fn read<S: Source>(alloc: Global, source: &mut S) -> Result<(Result<u64, TextFault>, u32), Fail> {
     let mut lines = LineReader::new(alloc, source)?;
     let mut sample = Sample { state: 0 };

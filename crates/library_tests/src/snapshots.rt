@@ -56,8 +56,8 @@ fn reads_text<S: Source>(
     }
 }
 
-/// Whether the snapshot that is read of a text, which comes in pieces, is written so, and whether so many words stand in
-/// the line behind it.
+/// Whether the snapshot that is read of a text, which comes in pieces, is written so, and whether this many
+/// words stand in the line after it.
 fn is_written(
     alloc: Global,
     bytes: &[u8],

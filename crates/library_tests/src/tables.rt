@@ -1,4 +1,5 @@
-//! Tables of travel times: what is read of the lines, and the first three floors that break the triangle inequality.
+//! Tables of travel times: what is read of the lines, and the first three floors that break the triangle
+//! inequality.
 
 use crate::makers::source_of;
 use lift_text::LineReader;

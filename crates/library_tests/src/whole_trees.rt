@@ -40,7 +40,7 @@ fn read(alloc: Global, text: &[u8]) -> Option<Certified> {
     })
 }
 
-/// The verdict of so many workers.
+/// The verdict of this many workers.
 fn verdict(
     rt: &(impl Threads + Sync),
     alloc: Global,
@@ -127,7 +127,7 @@ fn is_under_in_the_second_leaf(said: &Option<Verdict>) -> bool {
     )
 }
 
-/// Whether so many workers have this verdict.
+/// Whether this many workers have this verdict.
 fn is_checked(
     rt: &(impl Threads + Sync),
     alloc: Global,

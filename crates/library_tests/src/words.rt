@@ -4,7 +4,7 @@ use lift_words::{Request, SolveOptions, WordsFault, read_words};
 use std::alloc::Global;
 use std::test::Fail;
 
-/// What the words are read as, and none where memory is wanting.
+/// What the words are read as, and none when out of memory.
 fn read(alloc: Global, words: &[&str]) -> Option<Result<Request, WordsFault>> {
     let mut all = Vec::new(alloc);
     for word in words {

@@ -11,7 +11,7 @@ use std::process::ExitCode;
 use std::{env, io};
 
 /// The words of the command line. Where one is not text there are none, and no such words are taken. An
-/// `Err` is the status of want of memory.
+/// `Err` is the status of running out of memory.
 fn words(rt: &HostRuntime) -> Result<Vec<String>, Status>
     ensures { IfErr result (λ status. status ≡ Status.Memory) }
 {

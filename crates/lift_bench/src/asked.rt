@@ -23,7 +23,7 @@ fn number(words: &[String], place: usize) -> Option<u32> {
     }
 }
 
-/// The numbers behind the first word, of which there are at most four.
+/// The numbers after the first word, of which there are at most four.
 fn numbers(words: &[String]) -> Option<[u32; 4]> {
     Some([
         number(words, 2)?,

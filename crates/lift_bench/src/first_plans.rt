@@ -100,7 +100,7 @@ impl Score {
     }
 }
 
-/// Counts a snapshot in the score. False where memory is wanting.
+/// Counts a snapshot in the score. False when out of memory.
 fn compare(alloc: Global, snapshot: &Snapshot, score: &mut Score) -> bool {
     match (first_cost(alloc, snapshot), cheapest_cost(alloc, snapshot)) {
         (Ok(first), Ok(cheapest)) => {
@@ -111,7 +111,7 @@ fn compare(alloc: Global, snapshot: &Snapshot, score: &mut Score) -> bool {
     }
 }
 
-/// Draws a snapshot of this kind and counts it in the score. False where it is refused, or memory is wanting.
+/// Draws a snapshot of this kind and counts it in the score. False where it is refused, or memory runs out.
 fn compare_next(alloc: Global, kind: &Kind, draws: &mut Draws, score: &mut Score) -> bool {
     match drawn_snapshot(alloc, kind, draws) {
         Some(snapshot) => compare(alloc, &snapshot, score),
@@ -129,7 +129,7 @@ fn compare_first(alloc: Global, kind: &Kind, draws: &mut Draws, score: &mut Scor
     score.skipped = score.skipped.saturating_add(1);
 }
 
-/// Compares the plans of so many snapshots of this kind. Each is compared or skipped.
+/// Compares the plans of this many snapshots of this kind. Each is compared or skipped.
 fn score_of(alloc: Global, kind: &Kind, seed: u64, count: u32) -> Score {
     let mut draws = Draws::from_state(seed);
     let mut score = Score::default();
@@ -139,7 +139,7 @@ fn score_of(alloc: Global, kind: &Kind, seed: u64, count: u32) -> Score {
     score
 }
 
-/// Compares the plans of so many snapshots of each kind, and prints a line for each.
+/// Compares the plans of this many snapshots of each kind, and prints a line for each.
 pub(crate) fn print_kinds(rt: &HostRuntime, count: u32) -> io::Result<bool> {
     for (place, kind) in KINDS.iter().enumerate() {
         let score = score_of(rt.alloc(), kind, SEED.wrapping_add(place as u64), count);

@@ -7,7 +7,7 @@ use case_kit::snapshot_in;
 /// The longest text that is taken, in bytes.
 const MOST_BYTES: usize = 1_048_576;
 
-/// The input. None where it is too long, reading fails or memory is wanting.
+/// The input. None where it is too long, reading fails or memory runs out.
 pub(crate) fn input(rt: &HostRuntime) -> Option<Vec<u8>> {
     let mut bytes = Vec::from_elem(rt.alloc(), 0, MOST_BYTES).ok()?;
     let mut source = StdSource::new(rt.reader());
@@ -20,7 +20,7 @@ pub(crate) fn input(rt: &HostRuntime) -> Option<Vec<u8>> {
     }
 }
 
-/// The snapshot whose text the input is. None where there is none, or memory is wanting.
+/// The snapshot whose text the input is. None where there is none, or memory runs out.
 pub(crate) fn snapshot_of(rt: &HostRuntime) -> Option<Snapshot> {
     snapshot_in(rt.alloc(), &input(rt)?)
 }

@@ -229,7 +229,7 @@ fn put_case(text: &mut Vec<u8>, kind: &Kind, draws: &mut Draws) -> Result<(), Al
     text.extend_from_slice(b"end\n")
 }
 
-/// The next snapshot of this kind. None where what was drawn is refused, or memory is wanting.
+/// The next snapshot of this kind. None where what was drawn is refused, or memory runs out.
 pub(crate) fn drawn_snapshot(alloc: Global, kind: &Kind, draws: &mut Draws) -> Option<Snapshot> {
     let mut text = Vec::new(alloc);
     match put_case(&mut text, kind, draws) {

@@ -3,7 +3,7 @@
 //!     first_plan N                    first plans of N drawn snapshots of each kind beside cheapest ones
 //!     first_plan FLOORS CARS CALLS N  what the first plans of N generated cases cost
 //!     pricing FACTOR LIMIT ROUNDS     prices the cars of the snapshot that it reads
-//!     walk TOURS                      walks so many partial tours of that snapshot's first car
+//!     walk TOURS                      walks this many partial tours of that snapshot's first car
 //!     read ROUNDS CASES               reads and writes the building, snapshot and answer that it reads
 //!     all                             takes each of these once, with small numbers
 //!

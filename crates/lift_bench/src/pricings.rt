@@ -88,7 +88,7 @@ fn price_each<P: Pricer>(
     }
 }
 
-/// Prices all cars at the root, so many times, at one desk.
+/// Prices all cars at the root, this many times, at one desk.
 fn price_often<P: Pricer>(
     pricer: &P,
     snapshot: &Snapshot,

@@ -22,7 +22,7 @@ struct Counts {
     same: u32,
 }
 
-/// The snapshot that is read from the lines. None where they are refused, or memory is wanting.
+/// The snapshot that is read from the lines. None where they are refused, or memory runs out.
 fn read_from(alloc: Global, lines: &mut LineReader<MemorySource>) -> Option<Snapshot> {
     match read_building(alloc, lines) {
         Ok(building) => read_snapshot(alloc, lines, building).ok(),
@@ -30,7 +30,7 @@ fn read_from(alloc: Global, lines: &mut LineReader<MemorySource>) -> Option<Snap
     }
 }
 
-/// Reads an answer to the snapshot and appends its text. False where it is refused, or memory is wanting.
+/// Reads an answer to the snapshot and appends its text. False where it is refused, or memory runs out.
 fn copy_answer(
     alloc: Global,
     lines: &mut LineReader<MemorySource>,
@@ -43,8 +43,8 @@ fn copy_answer(
     }
 }
 
-/// Reads so many cases with their answers, one after another, appends the text of each, and counts their
-/// calls. None where one of them is refused, or memory is wanting.
+/// Reads this many cases with their answers, one after another, appends the text of each, and counts their
+/// calls. None where one of them is refused, or memory runs out.
 fn copy_cases(
     alloc: Global,
     lines: &mut LineReader<MemorySource>,
@@ -63,8 +63,8 @@ fn copy_cases(
     Some(calls)
 }
 
-/// Reads the text of so many cases with their answers by one reader, writes it again, and counts that. False
-/// where one is refused, or memory is wanting.
+/// Reads the text of this many cases with their answers by one reader, writes it again, and counts that.
+/// False where one is refused, or memory runs out.
 fn go_round(alloc: Global, text: &[u8], cases: u32, counts: &mut Counts) -> bool {
     let Ok(bytes) = Vec::from_slice(alloc, text) else {
         return false;
@@ -82,7 +82,7 @@ fn go_round(alloc: Global, text: &[u8], cases: u32, counts: &mut Counts) -> bool
     calls.is_some()
 }
 
-/// The text of so many cases, one after another.
+/// The text of this many cases, one after another.
 fn repeated(alloc: Global, text: &[u8], cases: u32) -> Result<Vec<u8>, AllocError> {
     let mut all = Vec::new(alloc);
     for _ in 0..cases {
@@ -91,7 +91,7 @@ fn repeated(alloc: Global, text: &[u8], cases: u32) -> Result<Vec<u8>, AllocErro
     Ok(all)
 }
 
-/// Makes a text of so many of these cases with an answer, reads it so often from memory, each time by one
+/// Makes a text of this many of these cases with an answer, reads it so often from memory, each time by one
 /// reader, writes what it read, and prints how many bytes there were and how many of the texts written were
 /// the text read. False where the text is none of a building, a snapshot and an answer.
 pub(crate) fn print_rounds(

@@ -20,7 +20,7 @@ struct Seen {
     settled: u64,
 }
 
-/// Walks on through the partial tours of the prefix's car, depth first, until so many were seen or none is
+/// Walks on through the partial tours of the prefix's car, depth first, until this many were seen or none is
 /// left.
 fn walk_on(prefix: &mut Prefix, tours: u32, seen: &mut Seen)
     requires { seen.old.ended ≤ seen.old.tours }
@@ -47,7 +47,7 @@ fn walk_on(prefix: &mut Prefix, tours: u32, seen: &mut Seen)
     }
 }
 
-/// Walks the partial tours of the prefix's car, all of them and then all of them again, so many together.
+/// Walks the partial tours of the prefix's car, all of them and then all of them again, this many together.
 fn walk(prefix: &mut Prefix, tours: u32) -> Seen
     requires { 0 < car_count prefix.old.snapshot }
 {
@@ -67,7 +67,7 @@ fn walk(prefix: &mut Prefix, tours: u32) -> Seen
     seen
 }
 
-/// Walks so many partial tours of the first car depth first (where there are fewer, from the start again),
+/// Walks this many partial tours of the first car depth first (where there are fewer, from the start again),
 /// and prints how many there were, how many of them ended, and the sum of what those who got off cost, modulo
 /// 2^64.
 pub(crate) fn print_walk(rt: &HostRuntime, snapshot: &Snapshot, tours: u32) -> io::Result<bool> {

@@ -57,8 +57,8 @@ fn verdict_answer(alloc: Global, checked: &Checked) -> Result<Answer, AllocError
     Ok(Answer { status, text })
 }
 
-/// Reads a case with an answer and a certificate, and writes whether the certificate proves the answer, or why not; or what
-/// is wrong with the input.
+/// Reads a case with an answer and a certificate, and writes whether the certificate proves the answer, or
+/// why not; or what is wrong with the input.
 pub(crate) fn check<S: Source, K: Sink, G: Gate + Sync>(
     rt: &(impl Threads + Sync),
     alloc: Global,

@@ -71,7 +71,7 @@ fn run_input<S: Source, K: Sink, G: Gate + Sync>(
     ended
 }
 
-/// The status of a day of which so many rows had a bound below their cost.
+/// The status of a day of which this many rows had a bound below their cost.
 fn status_of_unsolved(unsolved: u32) -> Status
     ensures { result ≡ status_of_unsolved_lem unsolved }
 {
@@ -96,7 +96,8 @@ fn put_rows_fault<K: Sink>(fault: RunFault, sink: &mut K) -> Status
     }
 }
 
-/// Reads an opening and rows, and writes the log of their day as the rows come, or what is wrong with the input.
+/// Reads an opening and rows, and writes the log of their day as the rows come, or what is wrong with the
+/// input.
 pub(crate) fn day<S: Source, K: Sink, G: Gate + Sync>(
     rt: &(impl Threads + Sync),
     alloc: Global,

@@ -95,7 +95,8 @@ fn solved_case<G: Gate + Sync>(
     })
 }
 
-/// Solves a generated case and writes its number and sizes, and the cost and the bound that were found. Nothing is read.
+/// Solves a generated case and writes its number and sizes, and the cost and the bound that were found.
+/// Nothing is read.
 pub(crate) fn write_solved_case<K: Sink, G: Gate + Sync>(
     rt: &(impl Threads + Sync),
     alloc: Global,

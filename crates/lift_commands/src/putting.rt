@@ -41,7 +41,7 @@ fn refusal_line(alloc: Global, line: u64, code: u8) -> Result<Vec<u8>, AllocErro
     Ok(text)
 }
 
-/// Writes what is wrong with an input. After a failed read, and where memory was wanting, nothing is written.
+/// Writes what is wrong with an input. After a failed read, and when out of memory, nothing is written.
 pub(crate) fn put_fault<K: Sink>(alloc: Global, fault: TextFault, sink: &mut K) -> Status
     ensures { PutsFault fault result (K.taken sink.old) (K.taken sink.new) (K.faults sink.old)
         (K.faults sink.new) }

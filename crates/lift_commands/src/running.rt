@@ -22,18 +22,20 @@ const USAGE: &[u8] = b"usage: lift solve/check/day/report/make [options]\n";
 /// Runs the program: what the words of the command line ask for, the program's name first, from the source to
 /// the sink.
 ///
-/// `solve` reads a case, to its end, and writes a plan with its cost and a bound that no feasible plan's cost is below, equal
-/// to the cost unless a limit was reached, and, without `--brief`, a certificate that proves them; `check` takes the input with
-/// all that behind it, and says yes.
-/// `check` reads a case with an answer and a certificate of any origin, and writes whether the certificate proves the answer,
-/// or why not.
-/// `day` reads what stands before the rows of a day, and then the rows, and writes the log of the day: what each row that is
-/// accepted brings about, with a plan as `solve` finds it, and at the end that every accepted call was delivered. The lines of a
-/// row are written before more of the source is read than what its line takes. `report` reads the same and writes how long the
-/// calls waited and rode.
-/// All write what is wrong with an input that they do not take: its first bad line with its code, or that it is too long.
-/// `make` writes a generated case, and `make --run` the cost and the bound of such a case; they read nothing. Other words are
-/// refused with the usage line.
+/// - `solve` reads a case, to its end, and writes a plan with its cost and a bound that no feasible plan's
+///   cost is below, equal to the cost unless a limit was reached, and, without `--brief`, a certificate that
+///   proves them. `check` takes the input followed by all of that, and says yes.
+/// - `check` reads a case with an answer and a certificate of any origin, and writes whether the certificate
+///   proves the answer, or why not.
+/// - `day` reads what comes before the rows of a day, and then the rows, and writes the log of the day: what
+///   each row that is accepted brings about, with a plan as `solve` finds it, and at the end that every
+///   accepted call was delivered. The lines of a row are written before more of the source is read than what
+///   its line takes.
+/// - `report` reads the same and writes how long the calls waited and rode.
+/// - `make` writes a generated case, and `make --run` the cost and the bound of such a case; they read nothing.
+///
+/// All write what is wrong with an input that they do not take: its first bad line with its code, or that it
+/// is too long. Other words are refused with the usage line.
 pub fn run<S: Source, K: Sink, G: Gate + Sync>(
     rt: &(impl Threads + Sync),
     alloc: Global,
@@ -48,57 +50,57 @@ pub fn run<S: Source, K: Sink, G: Gate + Sync>(
         (streams (S.left source.new) (K.taken sink.new) (S.faults source.new)
         (K.faults sink.new)) result }
 
-    // `solve`: a case is solved, unless the source or the sink fails or memory is wanting.
+    // `solve`: a case is solved, unless the source or the sink fails or memory runs out.
     ensures solves { SolvesByWords (map string_bytes words.now)
         (streams (S.left source.old) (K.taken sink.old) (S.faults source.old) (K.faults sink.old))
         (streams (S.left source.new) (K.taken sink.new) (S.faults source.new)
         (K.faults sink.new)) result }
 
-    // `solve`: whatever else is read is refused, unless the source or the sink fails or memory is wanting.
+    // `solve`: whatever else is read is refused, unless the source or the sink fails or memory runs out.
     ensures refuses { RefusesByWords (map string_bytes words.now)
         (streams (S.left source.old) (K.taken sink.old) (S.faults source.old) (K.faults sink.old))
         (streams (S.left source.new) (K.taken sink.new) (S.faults source.new)
         (K.faults sink.new)) result }
 
-    // `check`: a verdict is given of a case with an answer and a certificate, unless the source or the sink fails or memory is
-    // wanting.
+    // `check`: a verdict is given of a case with an answer and a certificate, unless the source or the sink
+    // fails or memory runs out.
     ensures checks { ChecksByWords (map string_bytes words.now)
         (streams (S.left source.old) (K.taken sink.old) (S.faults source.old) (K.faults sink.old))
         (streams (S.left source.new) (K.taken sink.new) (S.faults source.new)
         (K.faults sink.new)) result }
 
-    // `check`: whatever else is read is refused, unless the source or the sink fails or memory is wanting.
+    // `check`: whatever else is read is refused, unless the source or the sink fails or memory runs out.
     ensures refuses_checks { RefusesChecksByWords (map string_bytes words.now)
         (streams (S.left source.old) (K.taken sink.old) (S.faults source.old) (K.faults sink.old))
         (streams (S.left source.new) (K.taken sink.new) (S.faults source.new)
         (K.faults sink.new)) result }
 
-    // `day`: the log of a day is written as its rows come, and the day comes to its end unless the source or the sink fails or
-    // memory is wanting.
+    // `day`: the log of a day is written as its rows come, and the day comes to its end unless the source or
+    // the sink fails or memory runs out.
     ensures days { DaysByWords (map string_bytes words.now)
         (streams (S.left source.old) (K.taken sink.old) (S.faults source.old) (K.faults sink.old))
         (streams (S.left source.new) (K.taken sink.new) (S.faults source.new)
         (K.faults sink.new)) result }
 
-    // `report`: the report of a day is written, unless the source or the sink fails or memory is wanting.
+    // `report`: the report of a day is written, unless the source or the sink fails or memory runs out.
     ensures reports { ReportsByWords (map string_bytes words.now)
         (streams (S.left source.old) (K.taken sink.old) (S.faults source.old) (K.faults sink.old))
         (streams (S.left source.new) (K.taken sink.new) (S.faults source.new)
         (K.faults sink.new)) result }
 
-    // `make`: a case is written, unless the sink fails or memory is wanting.
+    // `make`: a case is written, unless the sink fails or memory runs out.
     ensures makes { MakesByWords (map string_bytes words.now)
         (streams (S.left source.old) (K.taken sink.old) (S.faults source.old) (K.faults sink.old))
         (streams (S.left source.new) (K.taken sink.new) (S.faults source.new)
         (K.faults sink.new)) result }
 
-    // `make --run`: a case is solved, unless the sink fails or memory is wanting.
+    // `make --run`: a case is solved, unless the sink fails or memory runs out.
     ensures runs { RunsByWords (map string_bytes words.now)
         (streams (S.left source.old) (K.taken sink.old) (S.faults source.old) (K.faults sink.old))
         (streams (S.left source.new) (K.taken sink.new) (S.faults source.new)
         (K.faults sink.new)) result }
 
-    // Other words get the usage line, unless the sink fails or memory is wanting.
+    // Other words get the usage line, unless the sink fails or memory runs out.
     ensures refuses_words { RefusesWords (map string_bytes words.now)
         (streams (S.left source.old) (K.taken sink.old) (S.faults source.old) (K.faults sink.old))
         (streams (S.left source.new) (K.taken sink.new) (S.faults source.new)

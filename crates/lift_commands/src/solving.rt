@@ -78,7 +78,8 @@ fn put_certificate(
     write_cert(snapshot, tree, text)
 }
 
-/// The text of a plan with its cost and a bound, with its certificate unless none is wanted, and why the search for it ended.
+/// The text of a plan with its cost and a bound, with its certificate unless none is wanted, and why the
+/// search for it ended.
 fn solution_of<G: Gate + Sync>(
     rt: &(impl Threads + Sync),
     alloc: Global,
@@ -112,8 +113,8 @@ fn solution_of<G: Gate + Sync>(
     Ok(Answer { status, text })
 }
 
-/// Reads a case and writes the cheapest plan of it that the search finds within the limits, or what is wrong with the
-/// input.
+/// Reads a case and writes the cheapest plan of it that the search finds within the limits, or what is wrong
+/// with the input.
 pub(crate) fn solve<S: Source, K: Sink, G: Gate + Sync>(
     rt: &(impl Threads + Sync),
     alloc: Global,

@@ -22,7 +22,7 @@ pub enum Status {
     Read = 6,
     /// The sink failed.
     Write = 7,
-    /// Memory was wanting.
+    /// Out of memory.
     Memory = 8,
 }
 

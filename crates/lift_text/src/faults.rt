@@ -15,7 +15,7 @@ pub enum TextFault {
     TooLong,
     /// The line with this number, counted from 1, is the first bad one, and the code says why.
     Bad { line: u64, code: u8 },
-    /// Memory is wanting.
+    /// Out of memory.
     NoMemory,
 }
 

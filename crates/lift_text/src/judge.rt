@@ -1,4 +1,4 @@
-//! Whether a line may stand in a text.
+//! Whether a line is allowed in a text.
 ghost use Rattle.std.specs.Prelude.{◌≡◌, ◌*◌, ◌<◌, ◌≤◌, [], length, All, true, OnErr, vec_len, vec_capacity};
 ghost use Rattle.lift_text.specs.Words.{parts_of};
 ghost use Rattle.lift_text.specs.Judge.{Judged};

@@ -1,4 +1,4 @@
-//! The line of a text that is being read, and what is read of the text behind it.
+//! The line of a text that is being read, and what is read of the text after it.
 ghost use Rattle.std.specs.Prelude.{◌≡◌, ◌≢◌, ℕ, ◌+◌, ◌<◌, ◌≤◌, List, [], ◌∷◌, ◌++◌, Some, None, true, false, length, take, drop, IfOk, IfErr, IfSome, OnOk, OnErr, IsErrOf};
 ghost use Rattle.byte_streams.specs.Streams.{Rose};
 ghost use Rattle.lift_text.specs.Page.{IfBad, step_of};
@@ -86,7 +86,7 @@ impl Page {
         })
     }
 
-    /// Leaves the current line behind.
+    /// Passes over the current line.
     fn clear(&mut self)
         ensures { self.new ≡ record self.old { current = []; words = []; raw = [] } }
     {
@@ -96,7 +96,7 @@ impl Page {
         self.spans.clear();
     }
 
-    /// Goes on to the next line, where the line before was left behind.
+    /// Goes on to the next line, where the line before was passed over.
     fn advance<S: Source>(&mut self, source: &mut S) -> Result<Found, SourceFault>
         requires current { self.old.current ≡ [] }
         requires words { self.old.words ≡ [] }
@@ -127,7 +127,7 @@ impl Page {
         Ok(found)
     }
 
-    /// Finds the words of the current line, which has so many bytes without its end.
+    /// Finds the words of the current line, which has this many bytes without its end.
     fn judge_line(&mut self, count: usize) -> Result<Step, TextFault>
         requires within { count ≤ length self.old.current }
         requires words { self.old.words ≡ [] }
@@ -141,7 +141,7 @@ impl Page {
         step_of(self.line, judgement)
     }
 
-    /// Reads the next line, where the line before was left behind.
+    /// Reads the next line, where the line before was passed over.
     fn read_line<S: Source>(&mut self, source: &mut S) -> Result<Step, TextFault>
         requires current { self.old.current ≡ [] }
         requires words { self.old.words ≡ [] }
@@ -247,7 +247,7 @@ impl Page {
         result
     }
 
-    /// Keeps the current line as it stands, which has so many bytes without its end, if it is not
+    /// Keeps the current line as it stands, which has this many bytes without its end, if it is not
     /// over long.
     fn keep_raw(&mut self, count: usize) -> RawLine
         requires { count ≤ length self.old.current }
@@ -263,7 +263,7 @@ impl Page {
         RawLine::Line
     }
 
-    /// Leaves an over-long line behind.
+    /// Passes over an over-long line.
     fn skip_long<S: Source>(&mut self, source: &mut S) -> Result<RawLine, TextFault>
         requires some { 0 < length self.old.unread }
         requires current { self.old.current ≡ [] }
@@ -293,7 +293,7 @@ impl Page {
         }
     }
 
-    /// Reads the next line as it stands, where the line before was left behind.
+    /// Reads the next line as it stands, where the line before was passed over.
     fn read_raw<S: Source>(&mut self, source: &mut S) -> Result<RawLine, TextFault>
         requires current { self.old.current ≡ [] }
         requires words { self.old.words ≡ [] }

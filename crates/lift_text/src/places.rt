@@ -1,4 +1,4 @@
-//! Where a byte stands.
+//! Where a byte is.
 ghost use Rattle.std.specs.Prelude.{◌≡◌, ◌≤◌, ◌==◌, length};
 ghost use Rattle.std.specs.List.{position_or_len};
 

@@ -17,7 +17,7 @@ use std::alloc::{AllocError, Global};
 /// A line ends with LF, or with CR LF; the last line may lack its end. From a `#` on, the rest of a
 /// line is a comment and may hold any bytes. Outside comments a line holds the bytes from the space
 /// to `~` and tabs, and spaces and tabs separate its words. A line has at most 4,096 bytes without its
-/// end, and a text has at most 67,108,864 bytes: so many are taken from the source at most, and one more
+/// end, and a text has at most 67,108,864 bytes: that many are taken from the source at most, and one more
 /// with the first `TooLong`. The answers are the same whatever pieces the source gives.
 ///
 /// The memory that it needs is taken when it is made.
@@ -30,7 +30,7 @@ pub struct LineReader<'a, S> {
 impl<'a, S: Source> LineReader<'a, S> {
     ghost use Rattle.lift_text.specs.LineReader.{text, line, words, raw, failure, quota, unread};
 
-    /// A reader before the first line. The only error is want of memory.
+    /// A reader before the first line. The only error is that memory runs out.
     pub fn new(alloc: Global, source: &'a mut S) -> Result<LineReader<'a, S>, AllocError>
         ensures same_source { IfOk result
             (λ reader. reader.source.ghost_name ≡ source.entry.ghost_name) }

@@ -17,7 +17,7 @@ pub(crate) const LONGEST: usize = 4_098;
 /// The most bytes that are asked of a source at once.
 const LARGEST_READ: usize = 65_536;
 
-/// Room for the front of a line and a largest read behind it. So the front of a line is moved to the
+/// Room for the front of a line and a largest read after it. So the front of a line is moved to the
 /// front of the window once at most.
 const SIZE: usize = LONGEST + LARGEST_READ;
 
@@ -98,7 +98,7 @@ impl Window {
         self.start += count;
     }
 
-    /// Moves the unread bytes to the front where there is little room behind them.
+    /// Moves the unread bytes to the front where there is little room after them.
     fn make_room(&mut self)
         requires { length self.old.unread < 4098 }
         ensures unread { self.new.unread ≡ self.old.unread }
@@ -113,7 +113,7 @@ impl Window {
         }
     }
 
-    /// Reads behind the unread bytes.
+    /// Appends what is read to the unread bytes.
     fn read_more<S: Source>(&mut self, source: &mut S) -> Result<usize, SourceFault>
         requires room { 0 < self.old.room }
         requires quota { 0 < self.old.quota }
@@ -135,7 +135,7 @@ impl Window {
         Ok(count)
     }
 
-    /// Reads more behind the unread bytes, of which there are too few to be a longest line.
+    /// Reads more after the unread bytes, of which there are too few to be a longest line.
     fn fill<S: Source>(&mut self, source: &mut S) -> Result<Fill, SourceFault>
         requires { length self.old.unread < 4098 }
         ensures more { result ≡ Ok Fill.More → (more : List ℕ) × (0 < length more)
@@ -200,7 +200,7 @@ impl Window {
         }
     }
 
-    /// Leaves the line at the front behind, however long it is.
+    /// Passes over the line at the front, however long it is.
     pub(crate) fn skip_line<S: Source>(&mut self, source: &mut S) -> Result<Skipped, SourceFault>
         requires { 0 < length self.old.unread }
         ensures ok { IfOk result (λ skipped. SkippedIn skipped (prepend_known self.old.unread (S.left source.old))
@@ -260,7 +260,7 @@ impl Window {
     }
 }
 
-/// What stands before the end of the input, where it has no LF.
+/// What comes before the end of the input, if it has no LF.
 fn last_found(length: usize) -> Found
     ensures none { length ≡ 0 → result ≡ Found.End }
     ensures line { 0 < length → result ≡ Found.Line length length }

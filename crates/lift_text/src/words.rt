@@ -6,14 +6,14 @@ ghost use Rattle.lift_text.specs.Words.{parts_of, word_span};
 
 use crate::places::place_of;
 
-/// Where a word stands in its line: from `start` up to `end`.
+/// Where a word is in its line: from `start` up to `end`.
 #[derive(Clone, Copy)]
 pub(crate) struct Span {
     pub start: usize,
     pub end: usize,
 }
 
-/// What stands before the comment of a line.
+/// What comes before the comment of a line.
 pub(crate) fn before_comment(line: &[u8]) -> &[u8]
     ensures value { result.now ≡ before_comment line.now }
     ensures length { length result.now ≤ length line.now }
@@ -21,7 +21,7 @@ pub(crate) fn before_comment(line: &[u8]) -> &[u8]
     &line[..place_of(b'#', line)]
 }
 
-/// Whether no byte is one that may stand only in a comment.
+/// Whether no byte is one that is allowed only in a comment.
 pub(crate) fn are_allowed(bytes: &[u8]) -> bool
     ensures { result ≡ list_all is_allowed bytes.now }
 {
@@ -37,7 +37,7 @@ fn is_blank(byte: u8) -> bool
 }
 
 /// Finds the words of a text without a comment, for which there must be room: a word and the blank
-/// behind it take two bytes at least.
+/// after it take two bytes at least.
 pub(crate) fn find_words(text: &[u8], spans: &mut Vec<Span>)
     requires room { length text.now < 2 * vec_capacity spans.old }
     requires none { spans.old.items ≡ [] }

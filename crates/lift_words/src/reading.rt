@@ -19,7 +19,7 @@ use std::alloc::Global;
 ///
 /// Options are written `--name value` or `--name=value`, in any order, each at most once. A value is one
 /// or more decimal digits, in the option's range; an option that is not given has its default.
-/// `NotTaken` comes exactly where the words are not taken, unless memory is wanting.
+/// `NotTaken` comes exactly where the words are not taken, unless memory runs out.
 pub fn read_words(alloc: Global, words: &[String]) -> Result<Request, WordsFault>
     ensures taken { IfOk result (λ request. AreTaken (map string_bytes words.now) request) }
     ensures refused { IfErr result (λ fault. fault ≡ WordsFault.NotTaken

@@ -27,11 +27,11 @@ pub enum Request {
 /// The options of `solve`.
 #[derive(Clone, Copy)]
 pub struct SolveOptions {
-    /// `--rounds`: at most so many rounds, 1 to 10^18. The default is 2000.
+    /// `--rounds`: at most this many rounds, 1 to 10^18. The default is 2000.
     pub rounds: u64,
-    /// `--moves`: at most so many moves in one pricing, 1 to 10^18. The default is 75000.
+    /// `--moves`: at most this many partial tours in one pricing, 1 to 10^18. The default is 75000.
     pub moves: u64,
-    /// `--workers`: so many threads, 1 to 16. The default is 1.
+    /// `--workers`: this many threads, 1 to 16. The default is 1.
     pub workers: u32,
     /// `--brief`: no certificate is to be written.
     pub brief: bool,
@@ -40,22 +40,23 @@ pub struct SolveOptions {
 /// The options of `check`.
 #[derive(Clone, Copy)]
 pub struct CheckOptions {
-    /// `--workers`: so many threads, 1 to 16. The default is 1.
+    /// `--workers`: this many threads, 1 to 16. The default is 1.
     pub workers: u32,
 }
 
 /// The options of `day` and of `report`.
 #[derive(Clone, Copy)]
 pub struct DayOptions {
-    /// `--rounds`: at most so many rounds at each accepted call, 1 to 10^18. The default is 2000.
+    /// `--rounds`: at most this many rounds at each accepted call, 1 to 10^18. The default is 2000.
     pub rounds: u64,
-    /// `--moves`: at most so many moves in one pricing, 1 to 10^18. The default is 75000.
+    /// `--moves`: at most this many partial tours in one pricing, 1 to 10^18. The default is 75000.
     pub moves: u64,
-    /// `--workers`: so many threads, 1 to 16. The default is 1.
+    /// `--workers`: this many threads, 1 to 16. The default is 1.
     pub workers: u32,
 }
 
-/// The sizes of a generated case. `make` takes `--rounds` and `--moves` too, which change nothing without `--run`.
+/// The sizes of a generated case. `make` takes `--rounds` and `--moves` too, which change nothing without
+/// `--run`.
 #[derive(Clone, Copy)]
 pub struct CaseSizes {
     /// `--number`: the number that the case is made from, any of 64 bits. The default is 1.
@@ -73,9 +74,9 @@ pub struct CaseSizes {
 pub struct RunOptions {
     /// The sizes of the case.
     pub sizes: CaseSizes,
-    /// `--rounds`: at most so many rounds, 1 to 10^18. The default is 2000.
+    /// `--rounds`: at most this many rounds, 1 to 10^18. The default is 2000.
     pub rounds: u64,
-    /// `--moves`: at most so many moves in one pricing, 1 to 10^18. The default is 75000.
+    /// `--moves`: at most this many partial tours in one pricing, 1 to 10^18. The default is 75000.
     pub moves: u64,
 }
 
@@ -84,7 +85,7 @@ pub struct RunOptions {
 pub enum WordsFault {
     /// The words are not taken.
     NotTaken,
-    /// Memory is wanting.
+    /// Out of memory.
     NoMemory,
 }
 

@@ -131,7 +131,7 @@ fn rests_at(floor: usize, times: &[u64]) -> bool
 }
 
 /// Reads the lines of a table, `times T0 T1 ..` with a time in ms for each floor, one line for each floor:
-/// what stands behind the last stays unread. The first line decides the number of floors, 2 to 64, where it
+/// what follows the last stays unread. The first line decides the number of floors, 2 to 64, where it
 /// is not given. The allocator comes first.
 ///
 /// The first bad line decides, with one code: 3 where its first word is not `times`, 4 and 5 where a word is

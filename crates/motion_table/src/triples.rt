@@ -36,8 +36,9 @@ pub fn judge_table(floors: u32, times: &[u64]) -> Result<(), Triple>
     Ok(())
 }
 
-/// Whether the square has a time between all floors and no way over a third floor is shorter. Most squares that are
-/// read are like that, and to tell this of a whole square is faster than to look for the first floors that are not.
+/// Whether the square has a time between all floors and no way over a third floor is shorter. Most squares
+/// that are read are like that, and to tell this of a whole square is faster than to look for the first
+/// floors that are not.
 fn is_direct_square(floors: u32, times: &[u64]) -> bool
     ensures { IsTrue result → AreRowsDirect (square_of floors times.now) }
 {

@@ -11,8 +11,8 @@ use std::alloc::{AllocError, Global};
 /// The most nodes that a round prices.
 const MOST_NODES: usize = 4;
 
-/// Whether a round may price the node: it is a leaf whose bound is below the cost, and it was not priced yet or some call
-/// has two cars or more.
+/// Whether a round may price the node: it is a leaf whose bound is below the cost, and it was not priced yet
+/// or some call has two cars or more.
 fn is_wanted(branch: &Branch, cost: u64, calls: usize) -> bool
     requires { calls ≤ 128 }
     ensures wanted { (s : Snapshot) → call_count s ≡ calls → result ≡ true → IsWanted s cost branch.now }
@@ -24,13 +24,15 @@ fn is_wanted(branch: &Branch, cost: u64, calls: usize) -> bool
     branch.rounds == 0 || first_choice(&branch.node, calls).is_some()
 }
 
-/// Whether the first node is to be priced before the second one: the one with the lower bound, then the deeper one.
+/// Whether the first node is to be priced before the second one: the one with the lower bound, then the
+/// deeper one.
 fn comes_first(first: &Branch, second: &Branch) -> bool {
     let (bound, other) = (first.sheet.bound(), second.sheet.bound());
     bound < other || bound == other && first.depth > second.depth
 }
 
-/// The node that comes first of those that a round may price and that are not marked, the older one of two like ones.
+/// The node that comes first of those that a round may price and that are not marked, the older one of two
+/// like ones.
 fn best_place(branches: &[Branch], marks: &[bool], cost: u64, calls: usize) -> Option<usize>
     requires { calls ≤ 128 }
 {
@@ -113,8 +115,9 @@ fn marked(
     Ok(places)
 }
 
-/// The places of the nodes that a round prices, rising: at most four, those with the lowest bounds first, then the deeper,
-/// then the older ones. None only where no node may be priced any more. It fails only where there is no memory left.
+/// The places of the nodes that a round prices, rising: at most four, those with the lowest bounds first,
+/// then the deeper, then the older ones. None only where no node may be priced any more. It fails only where
+/// there is no memory left.
 pub(crate) fn chosen(
     alloc: Global,
     branches: &[Branch],

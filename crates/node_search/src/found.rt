@@ -72,13 +72,15 @@ fn steps_of(
     let mut steps = NodeSteps::new(alloc, calls, cars)?;
     for turn in turns {
         let spent = turn.cars.as_slice().iter().any(|car| car.priced.spent);
-        // By how much a turn raised the root's sum counts for nothing here: the root is split after its last turn.
+        // By how much a turn raised the root's sum counts for nothing here: the root is split after its last
+        // turn.
         steps.note(0, turn.cars.as_slice(), 0, spent);
     }
     Ok(steps)
 }
 
-/// Splits the root: as `first` says where nothing else is proposed. It fails only where there is no memory left.
+/// Splits the root: as `first` says where nothing else is proposed. It fails only where there is no memory
+/// left.
 fn split_root(
     alloc: Global,
     tree: &mut SearchTree,
@@ -115,7 +117,7 @@ fn spent_car(branches: &[Branch], cost: u64) -> Option<u32>
 }
 
 impl<'a> Search<'a> {
-    /// Why it ended, where each pricing may try so many partial tours.
+    /// Why it ended, where each pricing may try this many partial tours.
     fn reason(&self, calls: usize, moves: u64) -> StopReason
         requires { calls ≤ 128 }
         ensures { (s : SnapshotOf) → call_count s ≡ calls → IsReasonOf s moves self.now result }
@@ -135,8 +137,8 @@ impl<'a> Search<'a> {
     }
 }
 
-/// The answer of a search that ended with this tree, this plan and these turns. It fails only where there is no memory
-/// left.
+/// The answer of a search that ended with this tree, this plan and these turns. It fails only where there is
+/// no memory left.
 fn answer(
     alloc: Global,
     tree: SearchTree,
@@ -159,8 +161,8 @@ fn answer(
     })
 }
 
-/// Splits the root where it had as many turns as it may have and some call has two cars. It fails only where there is no
-/// memory left.
+/// Splits the root where it had as many turns as it may have and some call has two cars. It fails only where
+/// there is no memory left.
 fn split_where_due(
     alloc: Global,
     tree: &mut SearchTree,
@@ -354,13 +356,14 @@ fn find_at<P: Pricer, G: Gate + Sync>(
     end(alloc, pricer, begun, limits)
 }
 
-/// Searches for a plan of the snapshot that costs least, from a feasible one, and from prices of the calls with a worth of
-/// each car in the root.
+/// Searches for a plan of the snapshot that costs least, from a feasible one, and from prices of the calls
+/// with a worth of each car in the root.
 ///
-/// The plan that it answers costs `cost`, and no feasible plan costs less than `bound`, as the tree proves. It starts
-/// with turns at the root: up to 20 pricings of all cars, at prices that move from turn to turn. Then rounds each price a
-/// few leaves of the tree, which are split in time, until cost and bound are the same, as many rounds were done as
-/// `limits` allows, or nothing is left to split. Each price and each worth of the tree lies in its range. `workers` is 1 to 16, and `gate` is told of each pricing before it begins.
+/// The plan that it answers costs `cost`, and no feasible plan costs less than `bound`, as the tree proves.
+/// It starts with turns at the root: up to 20 pricings of all cars, at prices that move from turn to turn.
+/// Then rounds each price a few leaves of the tree, which are split in time, until cost and bound are the
+/// same, as many rounds were done as `limits` allows, or nothing is left to split. Each price and each worth
+/// of the tree lies in its range. `workers` is 1 to 16, and `gate` is told of each pricing before it begins.
 /// It fails only where there is no memory left.
 pub fn find_plan<P: Pricer, G: Gate + Sync>(
     rt: &(impl Threads + Sync),

@@ -45,7 +45,8 @@ impl<'a> Root<'a> {
     ghost use Rattle.search_tree.specs.Answers.{AreAnswersIn};
     ghost use Rattle.node_search.specs.Roots.{HasOneTurn, HasTurned, IsEnough, IsNewRoot, IsRoot, IsSolvedIfUnspent, turn_with};
 
-    /// The root with these prices and worths, before its first turn. It fails only where there is no memory left.
+    /// The root with these prices and worths, before its first turn. It fails only where there is no memory
+    /// left.
     pub(crate) fn new(
         alloc: Global,
         snapshot: &'a Snapshot,
@@ -175,7 +176,7 @@ impl<'a> Root<'a> {
         Ok(())
     }
 
-    /// Turns until there are so many or the root is not open. It fails only where there is no memory left.
+    /// Turns until there are this many or the root is not open. It fails only where there is no memory left.
     pub(crate) fn turn_until<P: Pricer, G: Gate + Sync>(
         &mut self,
         rt: &(impl Threads + Sync),
@@ -206,8 +207,8 @@ impl<'a> Root<'a> {
         Ok(())
     }
 
-    /// Takes the plan of the tours of the only turn where it is cheaper and no car reached the limit. It fails only where
-    /// there is no memory left.
+    /// Takes the plan of the tours of the only turn where it is cheaper and no car reached the limit. It
+    /// fails only where there is no memory left.
     fn offer_turn<P: Pricer>(
         &mut self,
         alloc: Global,
@@ -232,8 +233,8 @@ impl<'a> Root<'a> {
         Ok(())
     }
 
-    /// The only turn of a root in which each call has one car: where no car reached the limit, its tours make a plan that
-    /// costs no more than the leaf's bound. It fails only where there is no memory left.
+    /// The only turn of a root in which each call has one car: where no car reached the limit, its tours make
+    /// a plan that costs no more than the leaf's bound. It fails only where there is no memory left.
     pub(crate) fn turn_once<P: Pricer, G: Gate + Sync>(
         &mut self,
         rt: &(impl Threads + Sync),
@@ -260,8 +261,8 @@ impl<'a> Root<'a> {
         Ok(())
     }
 
-    /// The turns that are due: where some call has two cars, as many as there may be rounds and 20 at most, or until the
-    /// root is not open; else one where it is open. It fails only where there is no memory left.
+    /// The turns that are due: where some call has two cars, as many as there may be rounds and 20 at most,
+    /// or until the root is not open; else one where it is open. It fails only where there is no memory left.
     pub(crate) fn turn_as_due<P: Pricer, G: Gate + Sync>(
         &mut self,
         rt: &(impl Threads + Sync),

@@ -24,7 +24,8 @@ pub(crate) struct Chosen {
 }
 
 impl<'a> Search<'a> {
-    /// The leaf at this place, with the prices of its next pricing. It fails only where there is no memory left.
+    /// The leaf at this place, with the prices of its next pricing. It fails only where there is no memory
+    /// left.
     fn chosen_at(&self, alloc: Global, place: usize) -> Result<Chosen, AllocError>
         requires { place < length self.now.tree }
         ensures { IfOk result (IsPricedFrom self.now place) }
@@ -35,8 +36,8 @@ impl<'a> Search<'a> {
         Ok(Chosen { place, prices })
     }
 
-    /// The leaves that a round prices, in the order of the tree: at most four, and none only where no leaf may be priced
-    /// any more. It fails only where there is no memory left.
+    /// The leaves that a round prices, in the order of the tree: at most four, and none only where no leaf
+    /// may be priced any more. It fails only where there is no memory left.
     fn choose(&self, alloc: Global) -> Result<Vec<Chosen>, AllocError>
         ensures { IfOk result (λ chosen. AreTaken self.now.best.pool.snapshot self.now chosen.items) }
     {
@@ -67,8 +68,8 @@ impl<'a> Search<'a> {
         Ok(tasks)
     }
 
-    /// How many partial tours each car's pricing in each of these leaves may try, as those that gave the leaf's
-    /// worths tell. It fails only where there is no memory left.
+    /// How many partial tours each car's pricing in each of these leaves may try, as those that gave the
+    /// leaf's worths tell. It fails only where there is no memory left.
     fn sizes_of(&self, alloc: Global, chosen: &[Chosen]) -> Result<Vec<u64>, AllocError>
         requires { All (λ (c : Chosen). c.place < length self.now.tree) chosen.now }
     {
@@ -82,8 +83,8 @@ impl<'a> Search<'a> {
         Ok(sizes)
     }
 
-    /// Prices every car in each of these leaves, with one worker for each desk. It fails only where there is no memory
-    /// left.
+    /// Prices every car in each of these leaves, with one worker for each desk. It fails only where there is
+    /// no memory left.
     fn price<P: Pricer, G: Gate + Sync>(
         &self,
         rt: &(impl Threads + Sync),
@@ -109,8 +110,8 @@ impl<'a> Search<'a> {
         price_nodes(rt, alloc, pricer, cars, &tasks, &sizes, moves, desks, gate)
     }
 
-    /// Takes in the pricings of every car in each of these leaves, the last leaf first: a split moves only what stands
-    /// behind it. It fails only where there is no memory left.
+    /// Takes in the pricings of every car in each of these leaves, the last leaf first: a split moves only
+    /// what comes after it. It fails only where there is no memory left.
     fn settle_all<P: Pricer>(
         &mut self,
         alloc: Global,
@@ -139,8 +140,8 @@ impl<'a> Search<'a> {
         Ok(())
     }
 
-    /// Prices up to four leaves and takes in what was answered. False, and all is as before, exactly where no leaf may be
-    /// priced any more. It fails only where there is no memory left.
+    /// Prices up to four leaves and takes in what was answered. False, and all is as before, exactly where no
+    /// leaf may be priced any more. It fails only where there is no memory left.
     fn round<P: Pricer, G: Gate + Sync>(
         &mut self,
         rt: &(impl Threads + Sync),
@@ -177,7 +178,8 @@ impl<'a> Search<'a> {
         Ok(true)
     }
 
-    /// Rounds until so many were done or no leaf may be priced any more. It fails only where there is no memory left.
+    /// Rounds until this many were done or no leaf may be priced any more. It fails only where there is no
+    /// memory left.
     pub(crate) fn run<P: Pricer, G: Gate + Sync>(
         &mut self,
         rt: &(impl Threads + Sync),

@@ -51,8 +51,8 @@ fn plan_of(alloc: Global, cars: &[TurnOf]) -> Result<Plan, AllocError>
 }
 
 impl<'a> Best<'a> {
-    /// Takes the plan of the tours of a pricing in a node in which each call has one car left and no car reached the
-    /// limit, where it is cheaper. It fails only where there is no memory left.
+    /// Takes the plan of the tours of a pricing in a node in which each call has one car left and no car
+    /// reached the limit, where it is cheaper. It fails only where there is no memory left.
     pub(crate) fn offer_tours<P: Pricer>(
         &mut self,
         alloc: Global,
@@ -83,7 +83,7 @@ impl<'a> Best<'a> {
 }
 
 impl<'a> Search<'a> {
-    /// Whether the leaf is to be split: after so many pricings as it may have, or where they gain little.
+    /// Whether the leaf is to be split: after as many pricings as it may have, or where they gain little.
     fn is_due(&self, place: usize) -> bool
         requires { place < length self.now.tree }
         ensures open { result ≡ true
@@ -108,8 +108,9 @@ impl<'a> Search<'a> {
 }
 
 impl<'a> Search<'a> {
-    /// Takes in a pricing of a leaf in whose node each call has one car left. Where no car reached the limit, the tours
-    /// make a plan, which costs no more than the leaf's bound. It fails only where there is no memory left.
+    /// Takes in a pricing of a leaf in whose node each call has one car left. Where no car reached the limit,
+    /// the tours make a plan, which costs no more than the leaf's bound. It fails only where there is no
+    /// memory left.
     fn settle_single<P: Pricer>(
         &mut self,
         alloc: Global,
@@ -136,8 +137,8 @@ impl<'a> Search<'a> {
         Ok(())
     }
 
-    /// Takes in a pricing of a leaf in whose node some call has two cars or more, and splits it where that is due: as
-    /// `first` says where nothing else is proposed. It fails only where there is no memory left.
+    /// Takes in a pricing of a leaf in whose node some call has two cars or more, and splits it where that is
+    /// due: as `first` says where nothing else is proposed. It fails only where there is no memory left.
     fn settle_open<P: Pricer>(
         &mut self,
         alloc: Global,
@@ -176,9 +177,9 @@ impl<'a> Search<'a> {
         Ok(())
     }
 
-    /// Takes in the pricings of all cars in the leaf at this place, at these prices: its prices and worths and the tours,
-    /// and a plan where they make one; and splits the leaf where that is due. It fails only where there is no memory
-    /// left.
+    /// Takes in the pricings of all cars in the leaf at this place, at these prices: its prices and worths
+    /// and the tours, and a plan where they make one; and splits the leaf where that is due. It fails only
+    /// where there is no memory left.
     pub(crate) fn settle<P: Pricer>(
         &mut self,
         alloc: Global,

@@ -56,7 +56,8 @@ impl NodeSteps {
         }
     }
 
-    /// The prices of the node's next pricing: first those of its leaf. It fails only where there is no memory left.
+    /// The prices of the node's next pricing: first those of its leaf. It fails only where there is no memory
+    /// left.
     pub(crate) fn next_prices(
         &self,
         alloc: Global,

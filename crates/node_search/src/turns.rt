@@ -24,7 +24,8 @@ pub(crate) fn greatest_of(prices: &[Price]) -> i128
     greatest
 }
 
-/// The step after so many turns and one: the first turn's step, divided by the number of the turn and rounded down.
+/// The step of the turn after these: the first turn's step, divided by the number of the turn and rounded
+/// down.
 pub(crate) fn step_after(step: i128, turns: usize) -> i128
     requires low { pos 0 ≤ℤ step }
     requires high { step ≤ℤ pos (10 ^ 24) }
@@ -80,8 +81,8 @@ fn boards_counts(alloc: Global, cars: &[TurnOf], calls: usize) -> Result<Vec<u32
     Ok(counts)
 }
 
-/// The prices of the turn after one at these prices: each moves by `step * (1 - count)`, where `count` says in how many
-/// of the turn's tours its call boards. It fails only where there is no memory left.
+/// The prices of the turn after one at these prices: each moves by `step * (1 - count)`, where `count` says
+/// in how many of the turn's tours its call boards. It fails only where there is no memory left.
 pub(crate) fn prices_after(
     alloc: Global,
     prices: &[Price],

@@ -1,4 +1,4 @@
-//! Reading what stands before the rows of a day.
+//! Reading what comes before the rows of a day.
 ghost use Rattle.std.specs.Prelude.{◌≡◌, ◌≤◌, None, IfErr, IfOk, OnOk, IsErrOf};
 ghost use Rattle.byte_streams.specs.Streams.{Rose};
 ghost use Rattle.lift_text.specs.LineReader.{text, failure};
@@ -12,11 +12,11 @@ use lift_text::{LineReader, Source, TextFault};
 use snapshot_text::read_opening;
 use std::alloc::Global;
 
-/// Reads what stands before the rows of a day: a building, an opening snapshot of it, with nobody aboard and no open
-/// call, and the header of the rows. The rows behind the header stay unread, and are the next lines.
+/// Reads what comes before the rows of a day: a building, an opening snapshot of it, with nobody aboard and
+/// no open call, and the header of the rows. The rows after the header stay unread, and are the next lines.
 ///
-/// The first bad line decides, with its number and one code: those of `read_building` and of `read_opening`, and
-/// then those of `read_header`. `Read` comes only where a read of the source failed.
+/// The first bad line decides, with its number and one code: those of `read_building` and of `read_opening`,
+/// and then those of `read_header`. `Read` comes only where a read of the source failed.
 pub fn read_day_opening<S: Source>(
     alloc: Global,
     lines: &mut LineReader<S>,

@@ -68,7 +68,7 @@ impl Point {
         !layout.snapshot().car(layout.car()).is_idle()
     }
 
-    /// Where the leave to a floor leads, where so many persons get off.
+    /// Where the leave to a floor leads, where this many persons get off.
     pub(crate) fn after_leave(&self, layout: &Layout, floor: u32, persons_off: u32) -> Self
         requires lawful { LeadsOn layout.now.snapshot layout.now.car self.now (Move.Leave floor) }
         requires off { (x : Course) → TracksCourse layout.now.snapshot layout.now.car self.now x

@@ -240,8 +240,8 @@ impl<'a> Prefix<'a> {
         self.last_step().point.place.floor
     }
 
-    /// The moment in ms at which the doors of the last stop are open; where no stop has begun, that from which
-    /// the first arrival counts.
+    /// The moment in ms at which the doors of the last stop are open; where no stop has begun, that from
+    /// which the first arrival counts.
     pub fn opened(&self) -> u64
         ensures value { (x : Course) → course self.now ≡ Some x
             → result ≡ (reached self.now.snapshot self.now.car x).opened }
@@ -250,8 +250,8 @@ impl<'a> Prefix<'a> {
         self.last_step().tally.opened
     }
 
-    /// The moment in ms at which the car departs from the last stop; where no stop has begun, that from which the
-    /// first arrival counts.
+    /// The moment in ms at which the car departs from the last stop; where no stop has begun, that from which
+    /// the first arrival counts.
     pub fn departs_at(&self) -> u64
         ensures value { (x : Course) → course self.now ≡ Some x
             → result ≡ (reached self.now.snapshot self.now.car x).leaves }
@@ -260,8 +260,8 @@ impl<'a> Prefix<'a> {
         self.last_step().tally.leaves
     }
 
-    /// The moment in ms at which the doors would be open at a next stop at this floor. The leave to it has to be
-    /// lawful. Those who would have got off then cost less than `MOST_COST`.
+    /// The moment in ms at which the doors would be open at a next stop at this floor. The leave to it has to
+    /// be lawful. Those who would have got off then cost less than `MOST_COST`.
     pub fn opened_after(&self, floor: u32) -> u64
         requires { IsLawful self.now.snapshot self.now.car
             (self.now.moves ++ MoveValue.Leave floor ∷ []) }
@@ -380,8 +380,8 @@ fn add_move(alloc: Global, stops: &mut Vec<Stop>, next: Move) -> Result<(), Allo
     Ok(())
 }
 
-/// The stops that the moves make: a leave begins one, and a board adds a call to the last one begun. The error is
-/// want of memory alone.
+/// The stops that the moves make: a leave begins one, and a board adds a call to the last one begun. The
+/// only error is that memory runs out.
 pub fn tour_of(alloc: Global, moves: &[Move]) -> Result<Tour, AllocError>
     ensures { IfOk result (λ tour. tour ≡ stops_made moves.now) }
 {

@@ -94,8 +94,8 @@ impl Step {
     }
 }
 
-/// The moment, in ms, at which the doors are open at a next stop at this floor, where the car leaves its place
-/// at the moment `leaves`.
+/// The moment, in ms, at which the doors are open at a next stop at this floor, where the car leaves its
+/// place at the moment `leaves`.
 pub(crate) fn opened_at(layout: &Layout, place: &Place, leaves: u64, floor: u32) -> u64
     requires from { place.now.floor < floor_count layout.now.snapshot.building }
     requires to { floor < floor_count layout.now.snapshot.building }

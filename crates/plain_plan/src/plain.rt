@@ -99,8 +99,8 @@ fn plain_tour(
     Ok(Tour::from_vec(stops))
 }
 
-/// A feasible plan of the snapshot, found without a search: every accepted snapshot has one. The only error is
-/// want of memory.
+/// A feasible plan of the snapshot, found without a search: every accepted snapshot has one. The only error
+/// is that memory runs out.
 ///
 /// Each car lets off those aboard and then serves its calls one after another; a call goes to the possible
 /// car with the fewest calls so far.

@@ -31,7 +31,7 @@ pub(crate) struct Choices {
 }
 
 impl Choices {
-    /// The choices of a car. The error is want of memory alone.
+    /// The choices of a car. The only error is that memory runs out.
     pub(crate) fn new(alloc: Global, snapshot: &Snapshot, car: u32) -> Result<Self, AllocError>
         requires { car < car_count snapshot.now }
         ensures { IfOk result
@@ -180,7 +180,7 @@ fn end_of(alloc: Global, snapshot: &Snapshot, taken: CallSet) -> Option<Rest>
 }
 
 /// The cheapest tours of the cars from `car` on, whose choices these are, that serve each call that is not
-/// taken. None where no tours do. The error is want of memory alone.
+/// taken. None where no tours do. The only error is that memory runs out.
 pub(crate) fn cheapest_rest(
     alloc: Global,
     snapshot: &Snapshot,

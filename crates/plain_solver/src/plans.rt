@@ -19,7 +19,8 @@ pub struct Cheapest {
     pub cost: u64,
 }
 
-/// The cheapest plan of a snapshot. The error is want of memory alone: every snapshot has a feasible plan.
+/// The cheapest plan of a snapshot. The only error is that memory runs out: every snapshot has a feasible
+/// plan.
 ///
 /// It tries every choice of one feasible tour for each car: this is for a few calls only.
 pub fn cheapest_plan(alloc: Global, snapshot: &Snapshot) -> Result<Cheapest, AllocError>

@@ -15,8 +15,8 @@ use std::alloc::{AllocError, Global};
 /// The feasible tours of a car: every way to stop and to let calls board that breaks no rule, each once.
 /// The order in which calls board at a stop makes no other tour.
 ///
-/// Their number grows fast with the number of calls: this is for a few calls only. The error is want of
-/// memory alone.
+/// Their number grows fast with the number of calls: this is for a few calls only. The only error
+/// is that memory runs out.
 pub fn feasible_tours(alloc: Global, snapshot: &Snapshot, car: u32) -> Result<Vec<Tour>, AllocError>
     requires { car < car_count snapshot.now }
     ensures { IfOk result (λ tours. AreAllTours snapshot.now car tours.items) }

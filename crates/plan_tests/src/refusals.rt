@@ -28,7 +28,7 @@ fn a_shorter_way_over_a_third_floor_is_refused(rt: HostRuntime) {
     assert!(rt; fault_of_times(rt.alloc(), 2).is_none());
 }
 
-/// A car for so many persons. Bit `f` of `serves` is floor `f`.
+/// A car for this many persons. Bit `f` of `serves` is floor `f`.
 fn car(id: u32, capacity: u32, serves: u64) -> CarSpec {
     CarSpec {
         id,

@@ -37,7 +37,7 @@ fn standing(id: u32) -> CarState {
     }
 }
 
-/// Appends a snapshot with a car for each capacity and so many calls.
+/// Appends a snapshot with a car for each capacity and this many calls.
 fn put_crowd(
     text: &mut Vec<u8>,
     head: &str,
@@ -57,7 +57,7 @@ fn put_crowd(
     put_lines(text, "end")
 }
 
-/// The snapshot with a car for each capacity and so many calls.
+/// The snapshot with a car for each capacity and this many calls.
 fn crowded(alloc: Global, head: &str, capacities: &[u64], calls: u32) -> Option<Snapshot> {
     let mut text = Vec::new(alloc);
     match put_crowd(&mut text, head, capacities, calls) {
@@ -74,7 +74,7 @@ fn start_price(alloc: Global, snapshot: &Snapshot) -> Option<u64> {
     }
 }
 
-/// What the start plan of so many calls costs.
+/// What the start plan of this many calls costs.
 fn start_cost(alloc: Global, head: &str, capacities: &[u64], calls: u32) -> Option<u64> {
     match crowded(alloc, head, capacities, calls) {
         Some(snapshot) => start_price(alloc, &snapshot),
@@ -103,7 +103,7 @@ fn fault_of_longer(alloc: Global, snapshot: &Snapshot, states: &[CarState]) -> O
     }
 }
 
-/// The same of a snapshot with all cars and so many calls.
+/// The same of a snapshot with all cars and this many calls.
 fn fault_of_crowd(
     alloc: Global,
     head: &str,

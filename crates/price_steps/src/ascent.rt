@@ -1,8 +1,8 @@
 //! Prices at which the known tours of a node come close to what a plan costs.
 //!
-//! At any prices, these and the least values of the cars' tours in the node together bound what a plan costs there. The
-//! tours of a pool are only some of them, so what they say is no bound, but a model of it that costs no pricing. A
-//! subgradient ascent finds prices at which the model is great.
+//! At any prices, these and the least values of the cars' tours in the node together bound what a plan costs
+//! there. The tours of a pool are only some of them, so what they say is no bound, but a model of it that
+//! costs no pricing. A subgradient ascent finds prices at which the model is great.
 
 ghost use Rattle.std.specs.Prelude.{◌≡◌, ◌≤◌, length};
 
@@ -68,8 +68,9 @@ impl Course {
     }
 }
 
-/// Moves the prices to ones at which the pool's tours in the node say more, and answers what they say there. `next` is
-/// room for as many prices. The sum that is hoped for, in thousandths of a cost unit, is the target.
+/// Moves the prices to ones at which the pool's tours in the node say more, and answers what they say there.
+/// `next` is room for as many prices. The sum that is hoped for, in thousandths of a cost unit, is the
+/// target.
 pub(crate) fn raise(
     pool: &Pool,
     node: &Node,

@@ -4,15 +4,16 @@ use crate::fixed::ONE;
 use call_sets::CallSet;
 use elevator_model::{MOST_CALLS, Tour};
 
-/// For each call 1 less the number of tours that take it, in 2^20ths: above 0 where its price is to rise. It is 0 where
-/// there is no call, so that only calls make the length of a direction, by which a step is divided.
+/// For each call 1 less the number of tours that take it, in 2^20ths: above 0 where its price is to rise. It
+/// is 0 where there is no call, so that only calls make the length of a direction, by which a step is
+/// divided.
 #[derive(Clone, Copy)]
 pub(crate) struct Lacks {
     pub(crate) per_call: [i64; MOST_CALLS],
 }
 
 impl Lacks {
-    /// Where there is no tour, of so many calls.
+    /// Where there is no tour, of this many calls.
     pub(crate) fn new(calls: usize) -> Self {
         let mut per_call = [0; MOST_CALLS];
         for call in 0..calls.min(MOST_CALLS) {

@@ -25,8 +25,8 @@ fn square_of(direction: &[i64]) -> i128 {
     square
 }
 
-/// Moves prices from these on in a direction, a call's part of which is in 2^20ths: so far that what rises with the
-/// direction alone would close this share of the gap, in 2^20ths (Polyak's step).
+/// Moves prices from these on in a direction, a call's part of which is in 2^20ths: so far that what rises
+/// with the direction alone would close this share of the gap, in 2^20ths (Polyak's step).
 pub(crate) fn step(from: &[Price], direction: &[i64], gap: i128, rate: i64, next: &mut [Price])
     ensures { length next.new ≡ length next.old }
 {
@@ -42,7 +42,7 @@ pub(crate) fn step(from: &[Price], direction: &[i64], gap: i128, rate: i64, next
     }
 }
 
-/// Halves so many times.
+/// Halves this many times.
 fn halved(way: i128, times: u32) -> i128 {
     let mut way = way;
     for _ in 0..times {
@@ -51,7 +51,7 @@ fn halved(way: i128, times: u32) -> i128 {
     way
 }
 
-/// Takes prices back towards these: the way between them is halved so many times.
+/// Takes prices back towards these: the way between them is halved this many times.
 pub(crate) fn take_back(prices: &mut [Price], from: &[Price], times: u32)
     ensures { length prices.new ≡ length prices.old }
 {

@@ -39,8 +39,8 @@ fn is_part(set: CarSet, part: CarSet) -> bool
 }
 
 impl Shares {
-    /// The cars of the set by falling share in the call, as many as have at most half of all shares together: the first
-    /// one in any case, and never the last one.
+    /// The cars of the set by falling share in the call, as many as have at most half of all shares together:
+    /// the first one in any case, and never the last one.
     fn part(&self, call: usize, set: CarSet) -> Part {
         let total = self.sum(call, set);
         let mut cars = CarSet::empty();
@@ -63,7 +63,8 @@ impl Shares {
         }
     }
 
-    /// The call whose cars' shares are divided the most evenly, the first of equal ones, and how it is divided.
+    /// The call whose cars' shares are divided the most evenly, the first of equal ones, and how it is
+    /// divided.
     pub(crate) fn most_even(&self, node: &Node, calls: usize) -> Option<SplitAt>
         requires { calls ≤ 128 }
         ensures { IfSome result

@@ -7,8 +7,8 @@ use assign_branch::{CallSet, CarSet};
 use elevator_model::{MOST_CALLS, MOST_CARS};
 use std::alloc::{AllocError, Global};
 
-/// For each call and car a running share of the pricings in which the car took the call, in 2^20ths: 0 is never, and
-/// 2^20 always. The newest pricing makes a quarter of it.
+/// For each call and car a running share of the pricings in which the car took the call, in 2^20ths: 0 is
+/// never, and 2^20 always. The newest pricing makes a quarter of it.
 #[derive(Drop)]
 pub(crate) struct Shares {
     calls: usize,
@@ -25,7 +25,7 @@ impl Shares {
         })
     }
 
-    /// The same once more. It fails only where there is no memory left.
+    /// A copy of it. It fails only where there is no memory left.
     pub(crate) fn copy(&self, alloc: Global) -> Result<Self, AllocError> {
         Ok(Shares {
             calls: self.calls,

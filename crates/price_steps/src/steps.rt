@@ -30,19 +30,20 @@ const LEAST_RATE: i64 = ONE / 64;
 
 const LEAST_NEW_RATE: i64 = ONE / 8;
 
-/// What a node of a search remembers of its pricings and of those of the nodes above it: from it come the prices of the
-/// next pricing, when the node is split, and where.
+/// What a node of a search remembers of its pricings and of those of the nodes above it: from it come the
+/// prices of the next pricing, when the node is split, and where.
 #[derive(Drop)]
 pub struct Steps {
-    /// For each call, in 2^20ths: the average of 1 less the number of tours that took it, of which the newest pricing
-    /// makes a sixth.
+    /// For each call, in 2^20ths: the average of 1 less the number of tours that took it, of which the newest
+    /// pricing makes a sixth.
     violation: Vec<i64>,
     shares: Shares,
     /// The share of the gap that a step is to close, in 2^20ths.
     rate: i64,
     /// How often the way to the model's prices is halved.
     back: u32,
-    /// By how much each of the last pricings raised the leaf's sum, the newest first, in thousandths of a cost unit.
+    /// By how much each of the last pricings raised the leaf's sum, the newest first, in thousandths of a
+    /// cost unit.
     gains: [i128; 4],
     /// How many pricings the node had.
     pricings: u32,
@@ -73,8 +74,8 @@ impl Steps {
         })
     }
 
-    /// Takes in a pricing of all cars, which raised the leaf's sum by so much, in thousandths of a cost unit. It is
-    /// spent where some car's pricing reached the limit of partial tours: its tours then tell nothing.
+    /// Takes in a pricing of all cars, which raised the leaf's sum by so much, in thousandths of a cost unit.
+    /// It is spent where some car's pricing reached the limit of partial tours: its tours then tell nothing.
     pub fn note(&mut self, cars: &[TurnOf], gain: i128, spent: bool) {
         if !spent {
             self.note_tours(cars);
@@ -114,11 +115,12 @@ impl Steps {
         self.pricings = self.pricings.saturating_add(1);
     }
 
-    /// The prices at which the node is priced next, where its leaf is this one and the best known plan costs so many
-    /// cost units. It fails only where there is no memory left.
+    /// The prices at which the node is priced next, where its leaf is this one and the best known plan costs
+    /// this many cost units. It fails only where there is no memory left.
     ///
-    /// They lie on the way to prices at which the pool's tours in the node say more than the leaf does. Where the leaf's
-    /// own are the best that are found, they are a step from there by what the calls lacked on average.
+    /// They lie on the way to prices at which the pool's tours in the node say more than the leaf does. Where
+    /// the leaf's own are the best that are found, they are a step from there by what the calls lacked on
+    /// average.
     pub fn next_prices(
         &self,
         alloc: Global,
@@ -155,9 +157,9 @@ impl Steps {
         Ok(prices)
     }
 
-    /// Whether the node is to be split, where its leaf's sum is below the cost of the best known plan by so much, in
-    /// thousandths of a cost unit: its last pricings together closed less than a tenth of the gap, or it had as many as
-    /// a node may have.
+    /// Whether the node is to be split, where its leaf's sum is below the cost of the best known plan by so
+    /// much, in thousandths of a cost unit: its last pricings together closed less than a tenth of the gap,
+    /// or it had as many as a node may have.
     pub fn is_due(&self, gap: i128) -> bool {
         let mut gained: i128 = 0;
         for gain in &self.gains {
@@ -167,8 +169,8 @@ impl Steps {
         MOST_PRICINGS <= self.pricings || JUDGED <= self.pricings && is_slow
     }
 
-    /// At which call the node is split, of so many, and how: such that the pricings' tours are divided as evenly as may
-    /// be. None exactly where each call has one car.
+    /// At which call the node is split, of this many, and how: such that the pricings' tours are divided as
+    /// evenly as may be. None exactly where each call has one car.
     pub fn choice(&self, node: &Node, calls: usize) -> Option<SplitAt>
         requires { calls ≤ 128 }
         ensures call { MatchOption result (AreSingle calls node.now) (λ at. at.call < calls) }

@@ -85,13 +85,14 @@ fn all_parts(
         + calls_part(snapshot, prefix, prices, allowed, required)
 }
 
-/// The completion bound of a partial tour, in thousandths of a cost unit: what each feasible tour of its car that
-/// begins with it, boards all required calls and only allowed ones is worth at least, at one price per call.
+/// The completion bound of a partial tour, in thousandths of a cost unit: what each feasible tour of its car
+/// that begins with it, boards all required calls and only allowed ones is worth at least, at one price per
+/// call.
 ///
-/// The snapshot is the partial tour's. The bound is the cost of those who got off; that of those carried, if the
-/// car went straight to each destination; less the prices of the calls that boarded; and for each allowed call that
-/// has not boarded its cost if it boarded at once and rode straight, less its price, where that is negative or the
-/// call is required. It is exact, of absolute value at most 10^27, and takes no memory.
+/// The snapshot is the partial tour's. The bound is the cost of those who got off; that of those carried, if
+/// the car went straight to each destination; less the prices of the calls that boarded; and for each allowed
+/// call that has not boarded its cost if it boarded at once and rode straight, less its price, where that is
+/// negative or the call is required. It is exact, of absolute value at most 10^27, and takes no memory.
 pub fn bound(
     snapshot: &Snapshot,
     prefix: &Prefix,

@@ -1,5 +1,5 @@
-//! What those carried would cost, if the car stood at a floor and went straight to each destination from there, in cost
-//! units.
+//! What those carried would cost, if the car stood at a floor and went straight to each destination from
+//! there, in cost units.
 
 ghost use Rattle.std.specs.Prelude.{◌≡◌, ℕ, ◌+◌, ◌<◌, ◌≤◌, Some, true};
 ghost use Rattle.call_sets.specs.Counting.{has, sum_where};
@@ -120,8 +120,8 @@ fn cost_of_groups(snapshot: &Snapshot, prefix: &Prefix, floor: u32, opened: u64)
     snapshot.building().travel_weight() * ridden_to_all(snapshot, prefix, floor, opened, floors)
 }
 
-/// What all those carried would cost, if the car stood at this floor with its doors open at the moment `opened`, in ms,
-/// and went straight to each destination from there.
+/// What all those carried would cost, if the car stood at this floor with its doors open at the moment
+/// `opened`, in ms, and went straight to each destination from there.
 pub(crate) fn cost_of_carried(rates: &Rates, prefix: &Prefix, floor: u32, opened: u64) -> u64
     requires same { rates.now.snapshot ≡ prefix.now.snapshot }
     requires car { prefix.now.car < car_count rates.now.snapshot }

@@ -21,8 +21,8 @@ use price_scale::{Price, scaled};
 use std::alloc::{AllocError, Global};
 use std::marker::Model;
 
-/// What a call costs by the moments at which it boards and gets off: so many cost units for each ms past its
-/// release until it boards, so many more for each ms past its patience, and so many for each ms from there on.
+/// What a call costs by the moments at which it boards and gets off: cost units for each ms past its
+/// release until it boards, more for each ms past its patience, and others for each ms from there on.
 /// Moments are in ms.
 #[derive(Clone, Copy)]
 pub(crate) struct Rate {
@@ -68,8 +68,8 @@ impl Rate {
             + self.over * moment.saturating_sub(self.late)
     }
 
-    /// A moment before which it costs less than this price if it boards and rides straight to its destination: the
-    /// first one at which it costs no less, rounded down, where its patience costs nothing.
+    /// A moment before which it costs less than this price if it boards and rides straight to its
+    /// destination: the first one at which it costs no less, rounded down, where its patience costs nothing.
     fn below_price(&self, price: i128) -> u64
         requires wait { self.now.wait ≤ 8000 }
         requires over { self.now.over ≤ 8000 }
@@ -201,8 +201,8 @@ fn set_prices(rates: &mut [Rate], prices: &[Price])
     }
 }
 
-/// A moment in ms before which each call but the early ones costs less than its price, if it boards and rides straight
-/// to its destination. The last end is past all moments.
+/// A moment in ms before which each call but the early ones costs less than its price, if it boards and rides
+/// straight to its destination. The last end is past all moments.
 #[derive(Clone, Copy)]
 pub(crate) struct End {
     until: u64,
@@ -240,8 +240,8 @@ fn ended_by(rates: &[Rate], moment: u64) -> CallSet
     ended
 }
 
-/// Puts the ends of calls at these rates in place of those that are there, the first one first: at each of them some
-/// more calls are early. It takes no memory.
+/// Puts the ends of calls at these rates in place of those that are there, the first one first: at each of
+/// them some more calls are early. It takes no memory.
 fn lay_out_ends(rates: &[Rate], ends: &mut Vec<End>)
     requires few { length rates.now ≤ 128 }
     requires room { 129 ≤ vec_capacity ends.old }
@@ -334,7 +334,7 @@ impl<'a> Model for Rates<'a> {
 }
 
 impl<'a> Rates<'a> {
-    /// The rates of the calls of a snapshot, at the price 0 each. The only error is want of memory.
+    /// The rates of the calls of a snapshot, at the price 0 each. The only error is that memory runs out.
     pub fn new(alloc: Global, snapshot: &'a Snapshot) -> Result<Self, AllocError>
         ensures snapshot { IfOk result (λ rates. rates.snapshot ≡ snapshot.now) }
         ensures prices { IfOk result (λ rates. rates.prices ≡ map (λ _. pos 0) snapshot.now.calls) }
@@ -393,8 +393,8 @@ impl<'a> Rates<'a> {
         self.rates[call as usize].price
     }
 
-    /// What a call costs that boarded at a moment and rides straight to its destination from a floor where the doors
-    /// are open at the moment `opened`, in cost units.
+    /// What a call costs that boarded at a moment and rides straight to its destination from a floor where
+    /// the doors are open at the moment `opened`, in cost units.
     pub(crate) fn cost_from(&self, call: u32, boarded: u64, floor: u32, opened: u64) -> u64
         requires call { call < call_count self.now.snapshot }
         requires boarded { boarded ≤ MOMENT_LIMIT }
@@ -410,8 +410,8 @@ impl<'a> Rates<'a> {
         rate.wait_cost(boarded) + rate.travel * delivered.saturating_sub(boarded)
     }
 
-    /// What a call costs without its price, if it boards at this moment and rides straight to its destination, in
-    /// thousandths of a cost unit.
+    /// What a call costs without its price, if it boards at this moment and rides straight to its
+    /// destination, in thousandths of a cost unit.
     pub(crate) fn term(&self, call: u32, moment: u64) -> i128
         requires call { call < call_count self.now.snapshot }
         requires early { moment ≤ MOMENT_LIMIT }
@@ -424,8 +424,8 @@ impl<'a> Rates<'a> {
         scaled(rate.wait_cost(moment) + rate.ride) - rate.price
     }
 
-    /// The calls that may cost no less than their prices where they board at this moment and ride straight to their
-    /// destinations. Their end is looked for from this place on: 0, or that of an earlier moment.
+    /// The calls that may cost no less than their prices where they board at this moment and ride straight to
+    /// their destinations. Their end is looked for from this place on: 0, or that of an earlier moment.
     pub(crate) fn due(&self, place: usize, moment: u64) -> Due
         ensures { (j : ℕ) → j < call_count self.now.snapshot → has result.calls j ≡ false
             → int_lt (scaled_lem (cost_if_alone self.now.snapshot j moment)

@@ -14,8 +14,8 @@ use elevator_model::{LATEST_MOMENT, MOMENT_LIMIT, MOST_CALL_COST};
 use partial_tours::Prefix;
 use tour_rules::riding::{cost_of_call, cost_of_group};
 
-/// The moment in ms at which a car would be at a floor that goes there straight from a floor where its doors are open
-/// at the moment `opened`.
+/// The moment in ms at which a car would be at a floor that goes there straight from a floor where its doors
+/// are open at the moment `opened`.
 pub(crate) fn arrival_from(snapshot: &Snapshot, from: u32, opened: u64, to: u32) -> u64
     requires from { from < floor_count snapshot.now.building }
     requires to { to < floor_count snapshot.now.building }
@@ -73,7 +73,8 @@ pub(crate) fn straight_cost_of_group(snapshot: &Snapshot, prefix: &Prefix, group
     cost_of_group(snapshot.building(), rider, delivered)
 }
 
-/// The cost in cost units of a call, if it boarded at once, wherever the car is, and rode straight to its destination.
+/// The cost in cost units of a call, if it boarded at once, wherever the car is, and rode straight to its
+/// destination.
 pub(crate) fn cost_alone(snapshot: &Snapshot, prefix: &Prefix, call: u32) -> u64
     requires same { snapshot.now ≡ prefix.now.snapshot }
     requires call { call < call_count snapshot.now }

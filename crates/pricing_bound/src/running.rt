@@ -11,9 +11,10 @@ use partial_tours::Prefix;
 
 /// A completion bound of the partial tours of one car, kept along the moves.
 ///
-/// It is laid out for a car of a snapshot, one price per call, the calls that a tour may board and those that it has
-/// to board. A walk over the car's partial tours keeps the sums of each of them: it starts with those of the empty
-/// one, and gets those after a move from those before it, so that a move need not be made to see its bound. Values and bounds are in thousandths of a cost unit.
+/// It is laid out for a car of a snapshot, one price per call, the calls that a tour may board and those that
+/// it has to board. A walk over the car's partial tours keeps the sums of each of them: it starts with those
+/// of the empty one, and gets those after a move from those before it, so that a move need not be made to see
+/// its bound. Values and bounds are in thousandths of a cost unit.
 pub trait CompletionBound {
     /// What is kept where a partial tour leads.
     type Sums: Copy;

@@ -35,8 +35,8 @@ pub struct Sums {
     bound: i128,
     /// The prices of the calls that boarded, added up.
     paid: i128,
-    /// The calls that have not boarded and add to the bound: those that are required, and those that lower it. Later
-    /// a call costs no less, so one that does not lower the bound never will.
+    /// The calls that have not boarded and add to the bound: those that are required, and those that lower
+    /// it. Later a call costs no less, so one that does not lower the bound never will.
     waiting: Waiting,
 }
 
@@ -60,8 +60,8 @@ impl Sums {
     }
 }
 
-/// The sums of what is settled and what those carried cost, both in cost units, of what was paid and of calls that
-/// wait.
+/// The sums of what is settled and what those carried cost, both in cost units, of what was paid and of calls
+/// that wait.
 fn sums_of(settled: u64, carried: u64, paid: i128, waiting: Waiting) -> Sums
     requires settled { settled ≤ 10 ^ 18 }
     requires carried { carried ≤ 10 ^ 18 }
@@ -97,8 +97,9 @@ fn sums_at_start(groups: i128, waiting: Waiting) -> Sums
     }
 }
 
-/// The completion bound in which each call boards at once and rides straight to its destination, for a car at laid
-/// out rates, with the calls that a tour may board and those that it has to board. It is `bound`, kept along the moves.
+/// The completion bound in which each call boards at once and rides straight to its destination, for a car at
+/// laid out rates, with the calls that a tour may board and those that it has to board. It is `bound`, kept
+/// along the moves.
 #[derive(Clone, Copy)]
 pub struct StraightRides<'a> {
     pub(crate) rates: &'a Rates<'a>,
@@ -255,7 +256,8 @@ impl<'a> StraightRides<'a> {
         })
     }
 
-    /// The same of calls that wait, at a later moment. Their costs are added up anew where one has changed its pace.
+    /// The same of calls that wait, at a later moment. Their costs are added up anew where one has changed
+    /// its pace.
     fn waiting_later(&self, waiting: &Waiting, moment: u64) -> Waiting
         requires are { AreEven (aim_at self.now.rates.now self.now.car self.now.allowed
             self.now.required) waiting.now }
@@ -300,8 +302,8 @@ impl<'a> StraightRides<'a> {
         waiting.without(call, term, slope)
     }
 
-    /// What a call that boards adds to the bound: nothing where it was counted, since it boards at the moment for
-    /// which it was.
+    /// What a call that boards adds to the bound: nothing where it was counted, since it boards at the moment
+    /// for which it was.
     fn board_adds(&self, waiting: &Waiting, call: u32) -> i128
         requires call { call < call_count self.now.rates.now.snapshot }
         requires early { waiting.now.moment ≤ MOMENT_LIMIT }
@@ -339,9 +341,9 @@ impl<'a> StraightRides<'a> {
         sums.with_board(more, self.rates.price(call), waiting)
     }
 
-    /// The sums of the car as it departs. At no next stop are its doors open before it could be at the nearest
-    /// floor, so calls that have ceased to count by then are left out once for all of them. A car that made no stop
-    /// departs as it stands, since it may stop first where it is.
+    /// The sums of the car as it departs. At no next stop are its doors open before it could be at the
+    /// nearest floor, so calls that have ceased to count by then are left out once for all of them. A car
+    /// that made no stop departs as it stands, since it may stop first where it is.
     fn departing(&self, prefix: &Prefix, sums: &Sums) -> Sums
         requires for_it { AimsAt (aim_at self.now.rates.now self.now.car self.now.allowed
             self.now.required) prefix.now }
@@ -386,7 +388,8 @@ impl<'a> StraightRides<'a> {
         self.after_departure(prefix, sums, floor)
     }
 
-    /// The sums after a car that departs goes to a stop: later, those carried have ridden on, and calls cost more.
+    /// The sums after a car that departs goes to a stop: later, those carried have ridden on, and calls cost
+    /// more.
     fn after_departure(&self, prefix: &Prefix, departing: &Sums, floor: u32) -> Sums
         requires for_it { AimsAt (aim_at self.now.rates.now self.now.car self.now.allowed
             self.now.required) prefix.now }

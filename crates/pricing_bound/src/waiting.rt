@@ -8,7 +8,7 @@ use call_sets::CallSet;
 use elevator_model::MOMENT_LIMIT;
 use price_scale::scaled;
 
-/// How a cost grows: by so many cost units each ms, until a moment in ms.
+/// How a cost grows: by this many cost units each ms, until a moment in ms.
 #[derive(Clone, Copy)]
 pub(crate) struct Growth {
     pub(crate) slope: u64,
@@ -40,7 +40,8 @@ pub(crate) struct Waiting {
     /// The moment in ms, and how what they cost grows from there on.
     pub(crate) moment: u64,
     pub(crate) growth: Growth,
-    /// The place of an end of calls from which on the one for a later moment is looked for. No law speaks of it.
+    /// The place of an end of calls from which on the one for a later moment is looked for. No law speaks of
+    /// it.
     pub(crate) place: usize,
 }
 

@@ -60,14 +60,15 @@ impl<'a, P: Pricer> Jobs for Round<'a, P> {
     }
 }
 
-/// Prices every car at each of the nodes, with one worker for each desk: at `i * cars + c` stands the pricing of car `c`
-/// at the node of task `i`, of at most `moves` partial tours, and the tour that it gave.
+/// Prices every car at each of the nodes, with one worker for each desk: at `i * cars + c` stands the pricing
+/// of car `c` at the node of task `i`, of at most `moves` partial tours, and the tour that it gave.
 ///
 /// `sizes` tells how many partial tours each pricing may try, as far as one can tell, in the order of the
 /// answers. It only says which pricings are drawn first, and may be of any length.
 ///
-/// It needs at most four tasks and 1 to 16 desks of the pricer, which are its own afterwards too, also where memory ran
-/// out. `gate` is told of each pricing before it begins. It fails only where there is no memory left.
+/// It needs at most four tasks and 1 to 16 desks of the pricer, which are its own afterwards too, also where
+/// memory ran out. `gate` is told of each pricing before it begins. It fails only where there is no memory
+/// left.
 pub fn price_nodes<P: Pricer, G: Gate + Sync>(
     rt: &(impl Threads + Sync),
     alloc: Global,

@@ -71,8 +71,8 @@ impl Favourite {
     }
 }
 
-/// The move after which the partial tour promises most, of those with which some tour of the node goes on. None where
-/// there is none.
+/// The move after which the partial tour promises most, of those with which some tour of the node goes on.
+/// None where there is none.
 fn most_promising<B: CompletionBound>(
     bound: &B,
     demand: &Demand,

@@ -45,7 +45,8 @@ impl Found {
     pub(crate) fn take(&mut self, prefix: &Prefix)
         ensures { self.new ≡ prefix.now.moves }
     {
-        // Their readers say that the snapshot is accepted and the car one of its cars, so there are at most 450 moves.
+        // Their readers say that the snapshot is accepted and the car one of its cars, so there are at most
+        // 450 moves.
         let _accepted = prefix.layout().snapshot();
         let _car = prefix.car();
         self.moves.clear();

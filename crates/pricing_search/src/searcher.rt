@@ -19,8 +19,8 @@ use pricing_bound::{Rates, StraightRides};
 use std::alloc::{AllocError, Global};
 use tour_extension::Demand;
 
-/// Prices the cars of a snapshot exactly: finds the tour of least value by a walk over the partial tours that some
-/// tour of the node begins with and whose completion bound is below the best value.
+/// Prices the cars of a snapshot exactly: finds the tour of least value by a walk over the partial tours that
+/// some tour of the node begins with and whose completion bound is below the best value.
 ///
 /// A claim fits where the kept list of the worth is not longer.
 #[derive(Drop)]
@@ -28,8 +28,8 @@ pub struct Searcher<'a> {
     snapshot: &'a Snapshot,
 }
 
-/// Where a searcher works: the partial tour that it is at, what each call costs alone, and how far it is. All memory is
-/// taken when it is made.
+/// Where a searcher works: the partial tour that it is at, what each call costs alone, and how far it is. All
+/// memory is taken when it is made.
 #[derive(Drop)]
 pub struct Desk<'a> {
     prefix: Prefix<'a>,
@@ -46,8 +46,8 @@ impl<'a> Searcher<'a> {
         Searcher { snapshot }
     }
 
-    /// What `price` does. Beside what a pricer promises, the worth is no less than the completion bound of the empty
-    /// partial tour.
+    /// What `price` does. Beside what a pricer promises, the worth is no less than the completion bound of
+    /// the empty partial tour.
     fn price_car(
         &self,
         car: u32,

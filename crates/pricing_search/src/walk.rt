@@ -14,8 +14,8 @@ use tour_extension::Demand;
 
 /// Visits a partial tour that some tour of the node begins with, and those that begin with it.
 ///
-/// It goes depth first in the order of moves, and passes by what has a bound not below the best value. Once so many
-/// were visited as the limit says, the least bound of those that are left out is noted.
+/// It goes depth first in the order of moves, and passes by what has a bound not below the best value. Once
+/// as many were visited as the limit says, the least bound of those that are left out is noted.
 #[cycle(walk)]
 pub(crate) fn visit<B: CompletionBound>(
     bound: &B,
@@ -57,8 +57,8 @@ pub(crate) fn visit<B: CompletionBound>(
     }
 }
 
-/// The same of the partial tour with one move more, where some tour of the node begins with it and its bound is below the
-/// best value.
+/// The same of the partial tour with one move more, where some tour of the node begins with it and its bound
+/// is below the best value.
 #[cycle(walk)]
 fn visit_after<B: CompletionBound>(
     bound: &B,

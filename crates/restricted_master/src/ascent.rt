@@ -1,7 +1,8 @@
 //! Prices at which the tours of a pool come close to what a plan costs.
 //!
-//! At any prices, these and the least reduced costs of the cars together are at most what a plan of these tours costs.
-//! A subgradient ascent raises that bound. No contract says how far, since none of what `select` answers rests on it.
+//! At any prices, these and the least reduced costs of the cars together are at most what a plan of these
+//! tours costs. A subgradient ascent raises that bound. No contract says how far, since none of what `select`
+//! answers rests on it.
 
 ghost use Rattle.std.specs.Prelude.{◌≡◌, ◌≤◌, IfOk, length};
 

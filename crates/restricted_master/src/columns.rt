@@ -53,8 +53,8 @@ impl Column {
         }
     }
 
-    /// The reduced cost at these prices: what the tour costs without the prices of its calls, in thousandths of a
-    /// cost unit.
+    /// The reduced cost at these prices: what the tour costs without the prices of its calls, in thousandths
+    /// of a cost unit.
     pub(crate) fn reduced_cost(&self, prices: &[Price]) -> i128
         requires few { length prices.now ≤ 128 }
         requires small { self.now.cost ≤ 10 ^ 18 }

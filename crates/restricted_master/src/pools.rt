@@ -14,8 +14,8 @@ use std::marker::Model;
 
 /// Feasible tours of the cars of a snapshot: of each car at most 32, no two the same, the oldest first.
 ///
-/// Contracts see it as its snapshot and, for each car, a list of tours. What a tour costs and the calls that it
-/// takes are laid out when it is put in.
+/// Contracts see it as its snapshot and, for each car, a list of tours. What a tour costs and the calls that
+/// it takes are laid out when it is put in.
 #[derive(Drop)]
 pub struct Pool<'a> {
     snapshot: &'a Snapshot,
@@ -73,8 +73,8 @@ impl<'a> Pool<'a> {
         Some(&column.tour)
     }
 
-    /// The car's columns, the oldest first: each is a feasible tour of the car, with its cost and with exactly the
-    /// calls that board in it.
+    /// The car's columns, the oldest first: each is a feasible tour of the car, with its cost and with
+    /// exactly the calls that board in it.
     pub fn columns(&self, car: u32) -> &[Column]
         requires { car < car_count self.now.snapshot }
         ensures tours { tours_of result.now ≡ tours_of_car self.now car }

@@ -12,9 +12,9 @@ use price_scale::Price;
 /// The greatest absolute value of a price, in thousandths of a cost unit.
 const MOST_PRICE: i128 = 1_000_000_000_000_000_000_000_000;
 
-/// Moves the price of each call by `step * (1 - count)`, where `count` says how many tours take the call, and cuts
-/// it at plus and minus 10^24: the price rises where no tour takes the call, and falls where two or more do.
-/// Prices and step are in thousandths of a cost unit.
+/// Moves the price of each call by `step * (1 - count)`, where `count` says how many tours take the call, and
+/// cuts it at plus and minus 10^24: the price rises where no tour takes the call, and falls where two or more
+/// do. Prices and step are in thousandths of a cost unit.
 pub fn adjust(prices: &mut [Price], counts: &[u32], step: i128)
     requires lengths { length prices.old ≡ length counts.now }
     requires counts { (j : ℕ) → slice_index counts.now j ≤ 16 }
@@ -29,7 +29,7 @@ pub fn adjust(prices: &mut [Price], counts: &[u32], step: i128)
     }
 }
 
-/// The price after a turn in which so many tours take the call.
+/// The price after a turn in which this many tours take the call.
 fn moved(price: Price, count: u32, step: i128) -> Price
     requires count { count ≤ 16 }
     requires low { pos 0 ≤ℤ step }

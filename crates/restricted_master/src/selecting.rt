@@ -61,13 +61,14 @@ impl<'a> Pool<'a> {
     ghost use Rattle.restricted_master.specs.Priced.{IsPriced};
     ghost use Rattle.restricted_master.specs.Choices.{AreCandidates, AreChoices, IsPicked, CanPick, IsPlanPick, IsCheapestPick, IsLeastBelow, HasPicked};
 
-    /// The cheapest feasible plan that is made of tours of the pool, found depth first over the cars. A partial
-    /// selection is one tour for each of the first cars, of none up to all; at most `limit` of them are tried, which is
-    /// at least 1. The choice is spent only where there are as many. The only error is want of memory.
+    /// The cheapest feasible plan that is made of tours of the pool, found depth first over the cars. A
+    /// partial selection is one tour for each of the first cars, of none up to all; at most `limit` of them
+    /// are tried, which is at least 1. The choice is spent only where there are as many. The only error is
+    /// that memory runs out.
     ///
-    /// The prices, of which each call has one, and the target, such as what the best known plan costs, in cost units,
-    /// only steer the search: they may change how many partial selections it tries, and which of the cheapest plans it
-    /// finds.
+    /// The prices, of which each call has one, and the target, such as what the best known plan costs, in
+    /// cost units, only steer the search: they may change how many partial selections it tries, and which of
+    /// the cheapest plans it finds.
     pub fn select(
         &self,
         alloc: Global,
@@ -95,10 +96,10 @@ impl<'a> Pool<'a> {
         self.choice_of(alloc, &choices, found)
     }
 
-    /// The cheapest feasible plan that is made of tours of the pool and costs less than `below`, in cost units, and None
-    /// exactly where no plan of the pool does, unless the choice is spent. It is found as `select` finds one, which goes
-    /// on to dearer plans where there is none; the bounds of this one leave most partial selections untried. The only
-    /// error is want of memory.
+    /// The cheapest feasible plan that is made of tours of the pool and costs less than `below`, in cost
+    /// units, and None exactly where no plan of the pool does, unless the choice is spent. It is found as
+    /// `select` finds one, which goes on to dearer plans where there is none; the bounds of this one leave
+    /// most partial selections untried. The only error is that memory runs out.
     pub fn select_below(
         &self,
         alloc: Global,
@@ -156,8 +157,8 @@ impl<'a> Pool<'a> {
         })
     }
 
-    /// The picks of a cheapest plan. Those that cost no more than the target are looked for first: a cheapest plan is
-    /// mostly among them, and few others are tried on the way.
+    /// The picks of a cheapest plan. Those that cost no more than the target are looked for first: a cheapest
+    /// plan is mostly among them, and few others are tried on the way.
     fn best_picks(&self, choices: &[CarChoice], prices: &[Price], target: u64, limit: u64) -> Found
         requires choices { AreChoices self.now choices.now }
         requires prices { length prices.now ≡ call_count self.now.snapshot }
@@ -250,7 +251,7 @@ impl<'a> Pool<'a> {
     }
 }
 
-/// The first calls, so many.
+/// The first calls, this many.
 fn first_calls(count: usize) -> CallSet
     requires { count ≤ 128 }
     ensures { (k : ℕ) → has result k ≡ nat_lt k count }

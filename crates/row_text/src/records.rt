@@ -40,7 +40,7 @@ fn read_record(alloc: Global, line: &[u8]) -> Result<Option<ByteRecord>, AllocEr
         .flexible(true)
         .from_reader(alloc, line);
     let mut record = ByteRecord::new(alloc);
-    // A line in memory can be read, and no record of any length is refused: nothing but memory can be wanting.
+    // A line in memory can be read, and no record of any length is refused: only memory can run out.
     match reader.read_byte_record(&mut record) {
         Ok(true) => Ok(Some(record)),
         Ok(false) => Ok(None),
@@ -111,8 +111,8 @@ fn is_header_record(fields: &ByteRecord) -> bool
         && says(fields, 3, b"persons")
 }
 
-/// Whether the line is the header of rows: the names time, origin, destination and persons, between commas. Spaces
-/// at both ends of a field do not count. It fails only where there is no memory left.
+/// Whether the line is the header of rows: the names time, origin, destination and persons, between commas.
+/// Spaces at both ends of a field do not count. It fails only where there is no memory left.
 pub fn is_header(alloc: Global, line: &[u8]) -> Result<bool, AllocError>
     ensures { IfOk result (λ is. IsTrue is ↔ (texts_of_line line.now ≡ Some header_fields)) }
 {

@@ -109,7 +109,8 @@ fn row_in(building: &Building, fields: &ByteRecord) -> Option<GoodRow>
     row.carries_someone().then_some(row)
 }
 
-/// The row that the line says, where its numbers lie in their ranges. It fails only where there is no memory left.
+/// The row that the line says, where its numbers lie in their ranges. It fails only where there is no memory
+/// left.
 pub fn read_row(
     alloc: Global,
     building: &Building,

@@ -58,7 +58,7 @@ pub struct Leaf {
     pub worths: Items<WorthOf>,
 }
 
-/// A node of a certificate's tree. The nodes stand in preorder: after a split come the nodes of its first
+/// A node of a certificate's tree. The nodes are in preorder: after a split come the nodes of its first
 /// part and then those of its second part.
 #[derive(Drop)]
 pub enum Twig {

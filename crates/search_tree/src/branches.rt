@@ -93,8 +93,9 @@ impl Branch {
         self.split.is_some()
     }
 
-    /// Takes in a pricing of all cars at these prices. The first one is at the prices of the leaf, and each car keeps
-    /// the greater of its worths. A later one replaces the prices and worths where its sum is greater.
+    /// Takes in a pricing of all cars at these prices. The first one is at the prices of the leaf, and each
+    /// car keeps the greater of its worths. A later one replaces the prices and worths where its sum is
+    /// greater.
     pub(crate) fn note(&mut self, prices: &[Price], cars: &[TurnOf])
         requires calls { length prices.now ≡ length self.old.sheet.prices }
         requires cars { length cars.now ≡ length self.old.sheet.worths }
@@ -113,8 +114,8 @@ impl Branch {
         self.spent = first_spent_of(cars);
     }
 
-    /// A part of a split of this leaf: not priced yet, with the leaf's prices and worths. It fails only where there is
-    /// no memory left.
+    /// A part of a split of this leaf: not priced yet, with the leaf's prices and worths. It fails only where
+    /// there is no memory left.
     fn part(&self, alloc: Global, node: Node) -> Result<Self, AllocError>
         ensures { IfOk result (λ part. part ≡ leaf_at node self.now.sheet (depth_below self.now)) }
     {
@@ -122,8 +123,8 @@ impl Branch {
         Ok(Branch::leaf(node, self.sheet.copy(alloc)?, depth))
     }
 
-    /// The two parts of a split of this leaf: None exactly where the cars do not divide the call's set. It fails only
-    /// where there is no memory left.
+    /// The two parts of a split of this leaf: None exactly where the cars do not divide the call's set. It
+    /// fails only where there is no memory left.
     pub(crate) fn parts(
         &self,
         alloc: Global,

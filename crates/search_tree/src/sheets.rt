@@ -154,7 +154,7 @@ impl Sheet {
         unscale_up(self.sum)
     }
 
-    /// The same once more. It fails only where there is no memory left.
+    /// A copy of it. It fails only where there is no memory left.
     pub fn copy(&self, alloc: Global) -> Result<Self, AllocError>
         ensures { IfOk result (λ sheet. sheet ≡ self.now) }
     {

@@ -14,8 +14,8 @@ use search_model::{Items, TurnOf};
 use std::alloc::{AllocError, Global};
 use std::marker::Model;
 
-/// The nodes of a search, in preorder: after a node that was split come those of its first part and then those of
-/// its second part.
+/// The nodes of a search, in preorder: after a node that was split come those of its first part and then
+/// those of its second part.
 #[derive(Drop)]
 pub struct SearchTree {
     branches: Vec<Branch>,
@@ -60,11 +60,11 @@ impl SearchTree {
         self.branches[place].note(prices, cars);
     }
 
-    /// Splits the leaf at this place: in the first part the cars of `part` may serve the call, in the second one the
-    /// rest of its cars. Both begin with the leaf's prices and worths.
+    /// Splits the leaf at this place: in the first part the cars of `part` may serve the call, in the second
+    /// one the rest of its cars. Both begin with the leaf's prices and worths.
     ///
-    /// It says false, and the tree is as before, exactly where the part does not divide the call's set. It fails only
-    /// where there is no memory left, and then the tree is as before too.
+    /// It says false, and the tree is as before, exactly where the part does not divide the call's set. It
+    /// fails only where there is no memory left, and then the tree is as before too.
     pub fn split(
         &mut self,
         alloc: Global,
@@ -101,7 +101,8 @@ impl SearchTree {
         least
     }
 
-    /// The twigs of a certificate: each price and each worth of them lies in its range. It fails only where there is no memory left.
+    /// The twigs of a certificate: each price and each worth of them lies in its range. It fails only where
+    /// there is no memory left.
     pub fn to_tree(&self, alloc: Global) -> Result<Tree, AllocError>
         ensures twigs { IfOk result (λ tree. tree.twigs ≡ map twig_of self.now) }
         ensures sized { IfOk result (λ tree. All IsSizedTwig tree.twigs) }

@@ -48,8 +48,8 @@ impl Span {
     }
 }
 
-/// The report of served calls, each of which counts once, in time n log n for n calls. The sum of their
-/// total times has to have at most 64 bits. The only error is want of memory, of which it takes that of one
+/// The report of served calls, each of which counts once, in time n log n for n calls. The sum of their total
+/// times has to have at most 64 bits. The only error is that memory runs out, of which it takes that of one
 /// number a call.
 pub fn report_of(alloc: Global, served: &[Served]) -> Result<Report, AllocError>
     requires { (report_of served.now).total.sum < 2 ^ 64 }

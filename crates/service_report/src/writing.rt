@@ -9,7 +9,7 @@ use search_model::{Column, Report};
 use std::alloc::{AllocError, Global};
 
 /// Appends the text of a report: a line of the columns' names, and then one of each measure. The only
-/// error is want of memory, which leaves `out` as it was.
+/// error is that memory runs out, which leaves `out` as it was.
 pub fn write_report(alloc: Global, report: &Report, out: &mut Vec<u8>) -> Result<(), AllocError>
     ensures ok { OnOk result (out.new.items ≡ out.old.items ++ report_text report.now) }
     ensures err { OnErr result (out.new.items ≡ out.old.items) }
@@ -123,7 +123,7 @@ fn put_line(
         → HasWritten (λ v. Some v.items) writer.new
         (text ++ line_of measure.now wait.now ride.now total.now)) }
 {
-    // The lines are of one length, so nothing but memory can be wanting.
+    // The lines are of one length, so only memory can run out.
     writer
         .write_fields(&[measure, wait, ride, total])
         .map_err(|_| AllocError)?;

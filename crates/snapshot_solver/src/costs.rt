@@ -39,8 +39,8 @@ fn lesser(least: Option<u64>, cost: u64) -> u64
     }
 }
 
-/// The least cost of a call, over its possible cars, if it boarded at the moment from which the car's tour is timed and
-/// rode straight to its destination.
+/// The least cost of a call, over its possible cars, if it boarded at the moment from which the car's tour is
+/// timed and rode straight to its destination.
 pub(crate) fn least_lone_cost_of(snapshot: &Snapshot, call: u32) -> u64
     requires { call < call_count snapshot.now }
     ensures cost { result ≡ least_lone_cost snapshot.now call }

@@ -18,9 +18,10 @@ use std::thread::Threads;
 
 /// Searches for the cheapest plan of the snapshot within the limits, with 1 to 16 workers.
 ///
-/// What it answers is a feasible plan with its cost, a bound that no feasible plan's cost is below, and the tree that
-/// proves them, whose prices and worths lie in their ranges. Cost and bound are equal unless a limit was reached, and where the limits are enough for the snapshot none
-/// is. `gate` is told of each pricing before it begins. It fails only where there is no memory left.
+/// What it answers is a feasible plan with its cost, a bound that no feasible plan's cost is below, and the
+/// tree that proves them, whose prices and worths lie in their ranges. Cost and bound are equal unless a
+/// limit was reached, and where the limits are enough for the snapshot none is. `gate` is told of each
+/// pricing before it begins. It fails only where there is no memory left.
 pub fn solve<G: Gate + Sync>(
     rt: &(impl Threads + Sync),
     alloc: Global,

@@ -37,8 +37,8 @@ fn start_prices(alloc: Global, snapshot: &Snapshot) -> Result<Vec<Price>, AllocE
 
 /// The worth with which a car starts, and the claim that fits it.
 ///
-/// At these prices no waiting call adds anything to the completion bound of the empty partial tour, so it is what the
-/// groups aboard cost.
+/// At these prices no waiting call adds anything to the completion bound of the empty partial tour, so it is
+/// what the groups aboard cost.
 fn start_worth(snapshot: &Snapshot, car: u32) -> Worth
     requires { car < car_count snapshot.now }
     ensures { result ≡ start_worth_lem snapshot.now car }
@@ -60,12 +60,12 @@ fn start_worths(alloc: Global, snapshot: &Snapshot) -> Result<Vec<Worth>, AllocE
     Ok(worths)
 }
 
-/// The leaf with which a search starts: the price of a call is its least lone cost, the worth of a car the completion
-/// bound of its empty partial tour at these prices in the root, and each claim is 1. It fails only where there is no
-/// memory left.
+/// The leaf with which a search starts: the price of a call is its least lone cost, the worth of a car the
+/// completion bound of its empty partial tour at these prices in the root, and each claim is 1. It fails only
+/// where there is no memory left.
 ///
-/// It is right in the root, and adds up to the least lone costs of all calls and what each group aboard costs if its
-/// car goes straight to its destination. No plan costs less.
+/// It is right in the root, and adds up to the least lone costs of all calls and what each group aboard costs
+/// if its car goes straight to its destination. No plan costs less.
 pub fn start_leaf(alloc: Global, snapshot: &Snapshot) -> Result<Sheet, AllocError>
     ensures prices { IfOk result (λ sheet. sheet.prices ≡ start_prices_lem snapshot.now) }
     ensures worths { IfOk result (λ sheet. sheet.worths ≡ start_worths_lem snapshot.now) }

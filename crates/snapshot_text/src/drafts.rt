@@ -32,7 +32,7 @@ fn nothing_stated(alloc: Global, cars: &[CarSpec]) -> Result<Vec<bool>, AllocErr
     cars.iter().map(|_| false).collect(alloc)
 }
 
-/// Puts an item behind the others, and its id behind theirs. It fails only where there is no memory left:
+/// Puts an item after the others, and its id after theirs. It fails only where there is no memory left:
 /// then both are as before.
 fn add_indexed<T: Copy>(
     items: &mut Vec<T>,

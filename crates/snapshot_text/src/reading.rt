@@ -14,8 +14,8 @@ use lift_text::{LineReader, Source, TextFault};
 use std::alloc::{AllocError, Global};
 use text_sections::read_section;
 
-/// The snapshot that was read. Each item was judged with its line, so it keeps the rules, and nothing is judged
-/// once more. It fails only where there is no memory left.
+/// The snapshot that was read. Each item was judged with its line, so it keeps the rules, and nothing is
+/// judged once more. It fails only where there is no memory left.
 fn into_snapshot(alloc: Global, draft: Draft) -> Result<Snapshot, AllocError>
     requires { IsAccepted (snapshot_read draft) }
     ensures value { IfOk result (λ snapshot. snapshot ≡ snapshot_read draft) }
@@ -63,15 +63,15 @@ fn read<S: Source>(
     }
 }
 
-/// Reads a snapshot section up to its line `end`: the text goes on right behind it. The allocator comes
+/// Reads a snapshot section up to its line `end`: the text goes on right after it. The allocator comes
 /// first. A call that fails drops the building.
 ///
 /// Where the text begins with one that `write_snapshot` wrote for a snapshot of this building, that snapshot
-/// is read, whatever follows. The lines that are accepted are those that stand for an accepted snapshot of the building: `snapshot V`,
-/// `now T`, a line `car ID idle FLOOR FREE`, `car ID coming FLOOR ARRIVES` or, in version 2,
-/// `car ID moving FROM up|down LEFT` for each car in any order, then the lines
-/// `aboard CAR ID DESTINATION PERSONS BOARDED`, then the lines
-/// `call ID ORIGIN DESTINATION PERSONS RELEASED CAR` with a car's id or `any` at their end, and `end`.
+/// is read, whatever follows. The lines that are accepted are those that stand for an accepted snapshot of
+/// the building: `snapshot V`, `now T`, a line `car ID idle FLOOR FREE`, `car ID coming FLOOR ARRIVES` or, in
+/// version 2, `car ID moving FROM up|down LEFT` for each car in any order, then the lines `aboard CAR ID
+/// DESTINATION PERSONS BOARDED`, then the lines `call ID ORIGIN DESTINATION PERSONS RELEASED CAR` with a
+/// car's id or `any` at their end, and `end`.
 ///
 /// The first bad line decides, with one code, of which the first of these comes: 3 for an unknown first,
 /// third or fifth word, 8 for a line out of order, 4 for a missing word, 5 for a word too many, 6 and 7 for

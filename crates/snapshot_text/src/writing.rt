@@ -190,7 +190,7 @@ fn put_snapshot(out: &mut Vec<u8>, snapshot: &Snapshot) -> Result<(), AllocError
 /// Appends the canonical text of a snapshot: its section, with the `car` lines in the building's order, one
 /// space between words, an LF at each line's end, and no leading zeros.
 ///
-/// The only error is want of memory, which leaves `out` as it was: the text is made apart first.
+/// The only error is that memory runs out, which leaves `out` as it was: the text is made apart first.
 pub fn write_snapshot(snapshot: &Snapshot, out: &mut Vec<u8>) -> Result<(), AllocError>
     ensures text { OnOk result (out.new.items ≡ out.old.items ++ snapshot_text snapshot.now) }
     ensures memory { OnErr result (out.new.items ≡ out.old.items) }

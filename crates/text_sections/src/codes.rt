@@ -19,7 +19,7 @@ pub enum TextCode {
     NoNumber,
     /// A number is outside its range.
     OutOfRange,
-    /// The line stands out of order or is repeated, or lines before it are missing.
+    /// The line is out of order or repeated, or lines before it are missing.
     OutOfOrder,
     /// The input ended before the section did, or before the header of the rows of a day.
     CutShort,
@@ -29,7 +29,7 @@ pub enum TextCode {
     ClaimsPast,
     /// The id of a car or a call is not known.
     UnknownId,
-    /// The line may not stand in the opening snapshot of a day.
+    /// The line may not come in the opening snapshot of a day.
     NotInOpening,
     /// The line is not the header of the rows of a day.
     NoHeader,
@@ -65,7 +65,7 @@ impl TextCode {
 pub enum LineFault {
     /// The line is bad with this code.
     Bad(u8),
-    /// Memory is wanting.
+    /// Out of memory.
     NoMemory,
 }
 

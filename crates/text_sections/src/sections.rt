@@ -32,12 +32,12 @@ pub trait Section {
         ensures { Did (after self.old (words lines.now)) result self.new };
 }
 
-/// Reads the lines of a section up to its last one. What stands behind it stays unread: the text goes on right
-/// behind that line.
+/// Reads the lines of a section up to its last one. What follows it stays unread: the text goes on right
+/// after that line.
 ///
-/// Where the written lines of a section stand in front, that section is read, whatever follows.
+/// If a text begins with the written lines of a section, that section is read, whatever follows.
 /// The first bad line decides, with its number and one code. Code 9 comes where the input ends before
-/// the section is whole, at the line behind the last. `Read` comes only where a read of the source
+/// the section is whole, at the line after the last. `Read` comes only where a read of the source
 /// failed. After an `Err` nothing is known of the section.
 pub fn read_section<S: Source, T: Section>(
     lines: &mut LineReader<S>,

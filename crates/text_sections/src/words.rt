@@ -6,10 +6,10 @@ ghost use Rattle.text_sections.specs.Words.{at_least, at_most, exactly, is_word,
 use crate::codes::TextCode;
 use lift_text::{LineReader, Source, TextFault};
 
-/// The code with which a line is bad where a word is no number.
+/// The code with which a line is rejected if a word is no number.
 const NO_NUMBER: u8 = 6;
 
-/// There are at least so many words on the line.
+/// There are at least this many words on the line.
 pub fn at_least<S: Source>(lines: &LineReader<S>, count: u32) -> Result<(), TextCode>
     ensures value { result ≡ at_least (words lines.now) count }
     ensures count { OnOk result (count ≤ length (words lines.now)) }
@@ -20,7 +20,7 @@ pub fn at_least<S: Source>(lines: &LineReader<S>, count: u32) -> Result<(), Text
     Ok(())
 }
 
-/// There are at most so many words on the line.
+/// There are at most this many words on the line.
 pub fn at_most<S: Source>(lines: &LineReader<S>, count: u32) -> Result<(), TextCode>
     ensures value { result ≡ at_most (words lines.now) count }
     ensures count { OnOk result (length (words lines.now) ≤ count) }
@@ -31,7 +31,7 @@ pub fn at_most<S: Source>(lines: &LineReader<S>, count: u32) -> Result<(), TextC
     Ok(())
 }
 
-/// There are exactly so many words on the line.
+/// There are exactly this many words on the line.
 pub fn exactly<S: Source>(lines: &LineReader<S>, count: u32) -> Result<(), TextCode>
     ensures value { result ≡ exactly (words lines.now) count }
     ensures count { OnOk result (length (words lines.now) ≡ count) }

@@ -65,7 +65,7 @@ fn reads_raw(lines: &mut LineReader<MemorySource>, due: RawLines) -> bool {
     true
 }
 
-/// A source that gives these bytes, so many in a read.
+/// A source that gives these bytes, this many in a read.
 fn source_of(alloc: Global, bytes: &[u8], each: usize) -> Result<MemorySource, AllocError>
     requires { 1 ≤ each }
 {
@@ -183,7 +183,7 @@ fn bytes_that_no_line_has(rt: HostRuntime) {
     assert!(rt; has_raw(alloc, b"a\r\r\n", &raw));
 }
 
-/// A text whose fourth line has so many bytes.
+/// A text whose fourth line has this many bytes.
 fn wide(alloc: Global, size: usize) -> Result<Vec<u8>, AllocError>
     requires { size ≤ 200000 }
 {

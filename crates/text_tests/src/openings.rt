@@ -11,7 +11,7 @@ use std::test::Fail;
 const FRONT: &[u8] = b"building 1\nspeed 2000\naccel 1000\nweights 2 1\nfloors 0 4000 9000\n\
     car 7 5 1000 1100 500 400 all\nend\n# the car stands\nsnapshot 1\nnow 650\ncar 7 idle 2 700\nend\n";
 
-/// The front with these bytes behind it.
+/// The front with these bytes after it.
 fn text(alloc: Global, behind: &[u8]) -> Result<Vec<u8>, AllocError> {
     let mut bytes = Vec::from_slice(alloc, FRONT)?;
     bytes.extend_from_slice(behind)?;
@@ -28,7 +28,7 @@ fn fault_of<T: Drop>(answer: Result<T, TextFault>) -> (u64, u8) {
     }
 }
 
-/// What is wrong with the text of the source. None where memory is wanting.
+/// What is wrong with the text of the source. None when out of memory.
 fn fault_in(alloc: Global, mut source: MemorySource) -> Option<(u64, u8)> {
     match LineReader::new(alloc, &mut source) {
         Ok(mut lines) => Some(fault_of(read_day_opening(alloc, &mut lines))),
@@ -36,15 +36,15 @@ fn fault_in(alloc: Global, mut source: MemorySource) -> Option<(u64, u8)> {
     }
 }
 
-/// What is wrong with the text that has these bytes behind the front, a byte in each piece, where the reads with
-/// the listed numbers fail.
+/// What is wrong with the text that has these bytes after the front, a byte in each piece, where the reads
+/// with the listed numbers fail.
 fn fault(alloc: Global, behind: &[u8], failing: &[u64]) -> Option<(u64, u8)> {
     let failing = Vec::from_slice(alloc, failing).ok()?;
     let bytes = text(alloc, behind).ok()?;
     fault_in(alloc, MemorySource::new(bytes, 1, failing))
 }
 
-/// What stands behind the front, whose next line is line 13, and the line and the code of its fault.
+/// What follows the front, whose next line is line 13, and the line and the code of its fault.
 const HEADERS: [(&[u8], u64, u8); 16] = [
     (b"time,origin,destination,persons\n9,2,0,4\n", 0, 0),
     (b"time,origin,destination,persons", 0, 0),
@@ -71,7 +71,7 @@ fn headers_behind_the_snapshot(rt: HostRuntime) {
     }
 }
 
-/// A header of so many bytes.
+/// A header of this many bytes.
 fn wide_header(alloc: Global, size: usize) -> Result<Vec<u8>, AllocError> {
     let mut line = Vec::from_slice(alloc, b"time,origin,destination,persons")?;
     for _ in 31..size {
@@ -138,7 +138,7 @@ fn goes_on(lines: &mut LineReader<MemorySource>, first: &[u8], second: &[u8]) ->
     has_first && has_second
 }
 
-/// Whether these bytes behind the front are an opening, and the lines behind it these two.
+/// Whether these bytes after the front are an opening, and the lines after it these two.
 fn has_lines(alloc: Global, behind: &[u8], first: &[u8], second: &[u8]) -> Option<bool> {
     let mut source = MemorySource::new(text(alloc, behind).ok()?, 1, Vec::new(alloc));
     let mut lines = LineReader::new(alloc, &mut source).ok()?;

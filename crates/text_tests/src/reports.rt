@@ -38,7 +38,7 @@ fn calls(alloc: Global, moments: &[Moments]) -> Result<Vec<Served>, AllocError>
     Ok(served)
 }
 
-/// The text of the report of these calls, behind a `#`.
+/// The text of the report of these calls, after a `#`.
 fn text_of(alloc: Global, moments: &[Moments]) -> Result<Vec<u8>, AllocError>
     requires { length moments.now ≤ 100 }
 {

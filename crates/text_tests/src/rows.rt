@@ -14,9 +14,9 @@ const HEADERS: [(&[u8], bool); 24] = [
     (b" time , origin,destination ,   persons  ", true),
     (b"\"time\",\"origin\",\"destination\",\"persons\"", true),
     (b"\" time \",origin,\"destination \",persons", true),
-    // What stands behind the closing quote belongs to the field.
+    // What follows the closing quote belongs to the field.
     (b"\"tim\"e,origin,destination,persons", true),
-    // A quote behind a space is a byte of the field.
+    // A quote after a space is a byte of the field.
     (b" \"time\",origin,destination,persons", false),
     (b"time\t,origin,destination,persons", false),
     (b"\xEF\xBB\xBFtime,origin,destination,persons", false),
@@ -50,7 +50,7 @@ fn headers(rt: HostRuntime) -> Result<(), Fail> {
 const HOUSE: &[u8] = b"building 1\nspeed 2000\naccel 1000\nweights 1 1\nfloors 0 4000 8000 12000\n\
     car 7 5 1000 1100 500 400 all\nend\n";
 
-/// The building. None where memory is wanting.
+/// The building. None when out of memory.
 fn house(alloc: Global) -> Option<Building> {
     let bytes = Vec::from_slice(alloc, HOUSE).ok()?;
     let mut source = MemorySource::new(bytes, 100, Vec::new(alloc));

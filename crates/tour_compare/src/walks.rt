@@ -13,7 +13,7 @@ use partial_tours::{Moves, Prefix, next_moves};
 use plain_solver::feasible_tours;
 use std::alloc::Global;
 
-/// A walk that comes to so many partial tours stops, and has seen nothing.
+/// A walk that comes to this many partial tours stops, and has seen nothing.
 const TOO_MANY: u32 = 20_000;
 
 /// What a walk saw.

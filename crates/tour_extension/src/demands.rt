@@ -17,8 +17,8 @@ pub struct Demand {
 }
 
 impl Demand {
-    /// Whether it can be asked of the car of the partial tour: each required call is allowed, and each allowed one
-    /// is a call that the car may take.
+    /// Whether it can be asked of the car of the partial tour: each required call is allowed, and each
+    /// allowed one is a call that the car may take.
     pub fn is_for(&self, prefix: &Prefix) -> bool
         ensures { IsTrue result ↔ IsDemand prefix.now.snapshot prefix.now.car (has self.now.allowed)
             (has self.now.required) }

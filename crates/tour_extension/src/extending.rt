@@ -106,7 +106,8 @@ fn passes_none(layout: &Layout, missing: CallSet, call: u32) -> bool
     !any_call(layout.earlier(call).intersection(missing))
 }
 
-/// Whether the call passes no missing one of its queue, and goes the way of all that are carried from this floor.
+/// Whether the call passes no missing one of its queue, and goes the way of all that are carried from this
+/// floor.
 fn keeps_queue_and_way(
     layout: &Layout,
     floor: u32,
@@ -222,8 +223,8 @@ fn passes_test(layout: &Layout, point: &Point, demand: &Demand) -> bool
     can_go_on(layout, point, demand)
 }
 
-/// Whether some tour of the car begins with the partial tour and meets the demand: a feasible one, in which each
-/// required call boards, and allowed calls alone. It takes no memory and passes over no list.
+/// Whether some tour of the car begins with the partial tour and meets the demand: a feasible one, in which
+/// each required call boards, and allowed calls alone. It takes no memory and passes over no list.
 pub fn can_be_extended(prefix: &Prefix, demand: &Demand) -> bool
     requires { IsDemand prefix.now.snapshot prefix.now.car (has demand.now.allowed)
         (has demand.now.required) }

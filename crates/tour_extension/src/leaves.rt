@@ -52,7 +52,8 @@ fn floors_without(layout: &Layout, calls: CallSet, floors: FloorSet) -> FloorSet
     rest
 }
 
-/// The moves that may follow, without the leaves to floors where nobody can get off and no allowed call can board.
+/// The moves that may follow, without the leaves to floors where nobody can get off and no allowed call can
+/// board.
 ///
 /// No tour that meets the demand goes on with a leave that is left out. Before the first stop none is.
 pub fn useful(prefix: &Prefix, demand: &Demand, followers: Followers) -> Followers

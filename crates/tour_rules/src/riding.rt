@@ -43,7 +43,7 @@ pub fn opening_of(snapshot: &Snapshot, car: u32) -> u64
     snapshot.spec(car).opening
 }
 
-/// How long the doors stay open and take to close, in ms, where so many persons get off and on.
+/// How long the doors stay open and take to close, in ms, where this many persons get off and on.
 pub fn dwell_of(snapshot: &Snapshot, car: u32, off: u64, on: u64) -> u64
     requires car { car < car_count snapshot.now }
     requires off { off ≤ 1088 }

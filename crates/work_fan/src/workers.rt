@@ -76,7 +76,8 @@ fn work_through<D, A: Drop, J: Jobs<Desk = D, Answer = A>, G: Gate>(
     Ok(())
 }
 
-// The worker of a desk draws from the line, in a thread of its own where one can be made, and this thread waits.
+// The worker of a desk draws from the line, in a thread of its own where one can be made, and this thread
+// waits.
 fn work_aside<
     R: Threads + Sync,
     D: Send,
@@ -113,8 +114,8 @@ fn work_aside<
 
 // The worker of each desk draws from the line, in a thread of its own where one can be made.
 //
-// This thread starts them all and waits. If it drew jobs too, some schedulers (Linux's among them) would put a thread
-// that it starts behind it, on the same processor, for milliseconds while others are idle.
+// This thread starts them all and waits. If it drew jobs too, some schedulers (Linux's among them) would put
+// a thread that it starts behind it, on the same processor, for milliseconds while others are idle.
 #[cycle(desks)]
 fn work_at<
     R: Threads + Sync,
@@ -302,12 +303,12 @@ pub fn in_order<A: Drop>(
     taken_out(alloc, places)
 }
 
-/// Does all jobs, with one worker for each desk, and gives their answers: in place `k` stands a right answer of job `k`.
+/// Does all jobs, with one worker for each desk, and gives their answers: in place `k` stands a right answer
+/// of job `k`.
 ///
-/// The workers draw their jobs from one line: a lone one in this thread, several in threads of their own where they can be
-/// made. `gate` is told of each job
-/// before it begins. It needs 1 to 16 desks, each of which serves the jobs, and serves them afterwards too, also where
-/// memory ran out.
+/// The workers draw their jobs from one line: a lone one in this thread, several in threads of their own
+/// where they can be made. `gate` is told of each job before it begins. It needs 1 to 16 desks, each of which
+/// serves the jobs, and serves them afterwards too, also where memory ran out.
 pub fn fan<J: Jobs, G: Gate + Sync>(
     rt: &(impl Threads + Sync),
     alloc: Global,
