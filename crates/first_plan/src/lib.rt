@@ -5,8 +5,8 @@
 //! # What is promised
 //!
 //! - `first` and `insert` give a feasible plan, for every accepted snapshot, or are out of memory; `first`
-//!   also says that there is one. Nothing is promised of how good it is, nor of what `insert` keeps of the
-//!   plan that it is given.
+//!   also says that there is one, and `insert` puts one call into a given plan. Nothing is promised of how
+//!   good it is, nor of what `insert` keeps of the plan that it is given.
 //!
 //! Both take a proposal only where it is judged feasible, and fall back on the plain plan. A proposal puts
 //! the calls one after another at their cheapest places (`places`): where a call boards, the place where it
