@@ -11,3 +11,4 @@ pub mod RootTurns
 pub mod SearchStart
 pub mod SearchEnd
 pub mod RootDue
+pub mod RootStart

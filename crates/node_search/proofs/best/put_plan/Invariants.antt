@@ -1,6 +1,6 @@
 use Rattle.std.proofs.Common.{◌≡◌, ◌≤◌, ℕ, length}
 use Rattle.restricted_master.specs.Pools.{tours_of_car}
-use Rattle.node_search.proofs.best.pool_of.Given as goal
+use Rattle.node_search.proofs.best.put_plan.Given as goal
 
 abbrev pub invariant-loop-car : goal.invariant-loop-car
 invariant-loop-car l =
