@@ -1,5 +1,6 @@
 pub mod TurnPrices
 pub mod PoolLists
+pub mod PlanPools
 pub mod TurnLists
 pub mod RootLaws
 pub mod PlanLaws

@@ -3,7 +3,8 @@
 ghost use Rattle.std.specs.Prelude.{◌≡◌, ◌<◌, ◌≤◌, ◌+◌, ◌^◌, ℕ, pos, int_lt, IfOk, OnOk, length, slice_set, [], ◌∷◌, ◌++◌};
 ghost use Rattle.elevator_model.specs.Snapshot.{call_count};
 ghost use Rattle.elevator_model.specs.Plans.{IsFeasiblePlan};
-ghost use Rattle.search_tree.specs.Branches.{AreSingle, at_place, noted};
+ghost use Rattle.search_model.specs.Nodes.{IsNodeOf, root_of};
+ghost use Rattle.search_tree.specs.Branches.{AreSingle, at_place, leaf_at, noted};
 ghost use Rattle.search_tree.specs.Standing.{bound_of_sheet};
 ghost use Rattle.work_fan.specs.Work.{Serving};
 ghost use Rattle.node_search.specs.Found.{HasDueTurns};
@@ -40,9 +41,25 @@ pub(crate) struct Root<'a> {
 /// The most turns that are made at the root.
 pub(crate) const MOST_TURNS: usize = 20;
 
+/// The tree of the root alone, with these prices and worths. It fails only where there is no memory left.
+fn tree_of(
+    alloc: Global,
+    snapshot: &Snapshot,
+    sheet: Sheet,
+) -> Result<SearchTree<Steps>, AllocError>
+    ensures node { IfOk result (λ _. IsNodeOf snapshot.now (root_of snapshot.now)) }
+    ensures tree { IfOk result
+        (λ tree. tree.branches ≡ leaf_at (root_of snapshot.now) sheet 0 ∷ []) }
+{
+    let node = root_node(alloc, snapshot)?;
+    let cars = snapshot.building().cars().len();
+    let steps = Steps::new(alloc, sheet.prices().len(), cars)?;
+    let tree = SearchTree::new(alloc, node, sheet, steps)?;
+    Ok(tree)
+}
+
 impl<'a> Root<'a> {
     ghost use Rattle.elevator_model.specs.Snapshot.{IsAccepted};
-    ghost use Rattle.search_model.specs.Nodes.{root_of};
     ghost use Rattle.search_tree.specs.Answers.{AreAnswersIn};
     ghost use Rattle.node_search.specs.Roots.{HasOneTurn, HasTakenIn, HasTurned, IsEnough, IsNewRoot, IsRoot, IsSolvedIfUnspent, turn_with};
 
@@ -59,12 +76,11 @@ impl<'a> Root<'a> {
     {
         let prices = sheet.prices().to_vec(alloc)?;
         let step = greatest_of(&prices);
-        let node = root_node(alloc, snapshot)?;
-        let cars = snapshot.building().cars().len();
-        let steps = Steps::new(alloc, prices.len(), cars)?;
+        let best = Best::new(alloc, snapshot, start)?;
+        let tree = tree_of(alloc, snapshot, sheet)?;
         Ok(Root {
-            tree: SearchTree::new(alloc, node, sheet, steps)?,
-            best: Best::new(alloc, snapshot, start)?,
+            tree,
+            best,
             turns: Vec::new(alloc),
             prices,
             step,

@@ -39,18 +39,28 @@ fn gap_of(leaf: &Branch, cost: u64) -> i128 {
         .saturating_sub(leaf.sheet.sum())
 }
 
-/// The plan of the tours that the pricings of all cars gave. It fails only where there is no memory left.
-fn plan_of(alloc: Global, cars: &[TurnOf]) -> Result<Plan, AllocError>
-    requires { (c : ℕ) → c < length cars.now → IsSome (slice_index_or cars.now c no_turn).tour }
-    ensures { IfOk result (IsPlanOf cars.now) }
+/// Gives a plan without tours those that the pricings of all cars gave. It fails only where there is no memory left.
+fn push_tours(plan: &mut Plan, alloc: Global, cars: &[TurnOf]) -> Result<(), AllocError>
+    requires none { length plan.old ≡ 0 }
+    requires tours { (c : ℕ) → c < length cars.now → IsSome (slice_index_or cars.now c no_turn).tour }
+    ensures { OnOk result (IsPlanOf cars.now plan.new) }
 {
-    let mut plan = Plan::new(alloc);
     for car in 0..cars.len() {
         let Some(tour) = &cars[car].tour else {
             unreachable!()
         };
         plan.push(tour.copy(alloc)?)?;
     }
+    Ok(())
+}
+
+/// The plan of the tours that the pricings of all cars gave. It fails only where there is no memory left.
+fn plan_of(alloc: Global, cars: &[TurnOf]) -> Result<Plan, AllocError>
+    requires { (c : ℕ) → c < length cars.now → IsSome (slice_index_or cars.now c no_turn).tour }
+    ensures { IfOk result (IsPlanOf cars.now) }
+{
+    let mut plan = Plan::new(alloc);
+    push_tours(&mut plan, alloc, cars)?;
     Ok(plan)
 }
 
