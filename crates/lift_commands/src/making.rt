@@ -85,7 +85,7 @@ fn solved_case<G: Gate + Sync>(
     let snapshot = case_of(alloc, sizes)?;
     let limits = Limits {
         rounds: options.rounds,
-        moves: options.moves,
+        most_tours: options.moves,
     };
     let found = solve(rt, alloc, &snapshot, limits, 1, gate)?;
     let text = run_lines(alloc, sizes, found.cost, found.bound)?;

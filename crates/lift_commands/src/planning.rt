@@ -29,7 +29,7 @@ pub(crate) fn plan_within<G: Gate + Sync>(
     let _moment = snapshot.now();
     let limits = Limits {
         rounds: options.rounds,
-        moves: options.moves,
+        most_tours: options.moves,
     };
     let found = solve(rt, alloc, snapshot, limits, options.workers, gate)?;
     Ok(Planned {

@@ -97,7 +97,7 @@ fn solution_of<G: Gate + Sync>(
     prove!(snapshot.calls().len() <= 128);
     let limits = Limits {
         rounds: options.rounds,
-        moves: options.moves,
+        most_tours: options.moves,
     };
     let found = solve_within(rt, alloc, snapshot, limits, options.workers, gate)?;
     let status = status_of(found.why);

@@ -1,5 +1,6 @@
 pub mod TurnPrices
 pub mod PoolLists
+pub mod PlanPools
 pub mod TurnLists
 pub mod RootLaws
 pub mod PlanLaws
@@ -11,3 +12,4 @@ pub mod RootTurns
 pub mod SearchStart
 pub mod SearchEnd
 pub mod RootDue
+pub mod RootStart

@@ -23,29 +23,50 @@ use Rattle.search_tree.specs.Standing.{IsLeafIn, IsKindIn}
 use Rattle.search_tree.specs.Answers.{AreAnswersIn}
 use Rattle.search_tree.proofs.TurnLaws.{IsNotedSheet, noted-sheet}
 use Rattle.search_tree.proofs.TreeLaws.{noted-branch}
+use Rattle.price_steps.specs.declared.steps.Steps.{Steps}
+use Rattle.search_tree.specs.Payloads.{TreeNodes}
+use Rattle.node_search.specs.declared.best.Best.{Best}
 use Rattle.node_search.specs.declared.root.Root.{Root}
 use Rattle.node_search.specs.Best.{IsBest, AreToursOf, with_turn}
 use Rattle.node_search.specs.Turns.{moved_price, BoardsBelow, BoardBelow}
-use Rattle.node_search.specs.Roots.{IsRoot, IsPooled, IsCheapestOf, IsTurnBelow, due_prices, start_of_turns}
+use Rattle.node_search.specs.Roots.{HasTakenIn, IsRoot, IsPooled, IsCheapestOf, IsTurnBelow, due_prices, start_of_turns}
 use Rattle.node_search.proofs.PoolLists.{turn_of_pool, IsTurnOfCar}
 use Rattle.node_search.proofs.TurnLists.{due-more, turns-more, start-more, turn_with, answers_are_turn, turn-sum, moved_are_due}
 
 -- what taking in the pricings of all cars does
-pub record IsStepOf (s : Snapshot) (moves : ℕ) (old new : Root) (cars : List TurnOf) : Type 0 where
-  pub tree : new.tree ≡ set old.tree 0 (noted (at_place old.tree 0) old.prices.items cars)
+pub record IsStepOf (s : Snapshot) (most_tours : ℕ) (old new : Root) (cars : List TurnOf) : Type 0 where
+  pub tree : new.tree.branches ≡ set old.tree.branches 0 (noted (at_place old.tree.branches 0) old.prices.items cars)
   pub turns : new.turns.items ≡ old.turns.items ++ turn_with old.prices.items cars ∷ []
   pub count : length new.prices.items ≡ length old.prices.items
   pub each : (j : ℕ) → j < length old.prices.items → price_at new.prices.items j ≡ moved_price old.prices.items (pos (greatest_price (start_of_turns old.turns.items old.prices.items) / (length old.turns.items + 1))) cars j
   pub best : IsBest s new.best
   pub pool : new.best.pool ≡ with_turn old.best.pool 0 cars
-  pub cheapest : IsCheapestOf s moves new.best.pool new.best.cost
+  pub cheapest : IsCheapestOf s most_tours new.best.pool new.best.cost
   pub step : new.step ≡ old.step
   pub pools : length old.best.pool.tours ≡ car_count s
 
-leaf_of_kind : (fits : Fits) (s : Snapshot) (moves : ℕ) (node : Node) (b : Branch) → b.split ≡ None → IsKindIn fits s moves node b b.split → IsLeafIn fits s moves node b
-leaf_of_kind fits s moves node b leaf kind = subst (IsKindIn fits s moves node b) leaf kind
+-- they were, and the turn was put behind the others
+pub taken_step : (s : Snapshot) (most_tours : ℕ) (old mid new : Root) (next : List ℤ) (cars : List TurnOf) → HasTakenIn s most_tours old mid next cars → new.tree ≡ mid.tree → new.best ≡ mid.best → new.step ≡ mid.step → new.prices.items ≡ next → new.turns.items ≡ mid.turns.items ++ turn_with mid.prices.items cars ∷ [] → IsStepOf s most_tours old new cars
+taken_step s most_tours old mid new next cars is tree best step prices turns =
+    record {
+      tree = ap (λ (nodes : TreeNodes Steps). nodes.branches) tree ∙ is.tree;
+      turns = turns ∙ ap (λ (ts : List Turn). ts ++ turn_with mid.prices.items cars ∷ []) is.turns ∙ ap (λ (ps : List ℤ). old.turns.items ++ turn_with ps cars ∷ []) is.prices;
+      count = ap length prices ∙ is.count;
+      each = λ j lt. ap (λ (ps : List ℤ). price_at ps j) prices ∙ is.each j lt;
+      best = subst (IsBest s) (sym best) is.best;
+      pool = ap (λ (b : Best). b.pool) best ∙ is.pool;
+      cheapest = subst (λ (b : Best). IsCheapestOf s most_tours b.pool b.cost) (sym best) is.cheapest;
+      step = step ∙ is.step;
+      pools = is.pools;
+    }
 
-module _ (fits : Fits) (s : Snapshot) (moves : ℕ) (few_cars : car_count s ≤ 16) (old new : Root) (cars : List TurnOf) (is : IsRoot fits s moves old) (lt : length old.turns.items < 20) (given : AreAnswersIn fits s moves (root_of s) old.prices.items cars) (step : IsStepOf s moves old new cars) where
+pub taken_cheaper : (old mid new : Root) → new.best ≡ mid.best → mid.best.cost ≤ old.best.cost → new.best.cost ≤ old.best.cost
+taken_cheaper old mid new best cheaper = subst (λ (b : Best). b.cost ≤ old.best.cost) (sym best) cheaper
+
+leaf_of_kind : (fits : Fits) (s : Snapshot) (most_tours : ℕ) (node : Node) (b : Branch) → b.split ≡ None → IsKindIn fits s most_tours node b b.split → IsLeafIn fits s most_tours node b
+leaf_of_kind fits s most_tours node b leaf kind = subst (IsKindIn fits s most_tours node b) leaf kind
+
+module _ (fits : Fits) (s : Snapshot) (most_tours : ℕ) (few_cars : car_count s ≤ 16) (old new : Root) (cars : List TurnOf) (is : IsRoot fits s most_tours old) (lt : length old.turns.items < 20) (given : AreAnswersIn fits s most_tours (root_of s) old.prices.items cars) (step : IsStepOf s most_tours old new cars) where
   abbrev b : Branch
   b = is.branch
 
@@ -55,23 +76,23 @@ module _ (fits : Fits) (s : Snapshot) (moves : ℕ) (few_cars : car_count s ≤ 
   abbrev turn : Turn
   turn = turn_with prices cars
 
-  answers : AreAnswersIn fits s moves b.node prices cars
-  answers = subst (λ (n : Node). AreAnswersIn fits s moves n prices cars) (sym is.at.node) given
+  answers : AreAnswersIn fits s most_tours b.node prices cars
+  answers = subst (λ (n : Node). AreAnswersIn fits s most_tours n prices cars) (sym is.at.node) given
 
   rounds_few : b.rounds < 20
   rounds_few = let same = is.rounds in omega (arith, lt, same)
 
-  in_leaf : IsLeafIn fits s moves b.node b
-  in_leaf = leaf_of_kind fits s moves b.node b is.leaf is.at.kind
+  in_leaf : IsLeafIn fits s most_tours b.node b
+  in_leaf = leaf_of_kind fits s most_tours b.node b is.leaf is.at.kind
 
-  sheet : IsNotedSheet fits s moves b.node b.sheet (sheet_of_turn prices cars) (noted b prices cars).sheet
-  sheet = noted-sheet fits s moves b.node b prices cars in_leaf is.begins answers
+  sheet : IsNotedSheet fits s most_tours b.node b.sheet (sheet_of_turn prices cars) (noted b prices cars).sheet
+  sheet = noted-sheet fits s most_tours b.node b prices cars in_leaf is.begins answers
 
-  first_of : at_place old.tree 0 ≡ b
+  first_of : at_place old.tree.branches 0 ≡ b
   first_of = ap (λ (tree : List Branch). at_place tree 0) is.lone
 
-  lone : new.tree ≡ noted b prices cars ∷ []
-  lone = step.tree ∙ ap (λ (a : Branch). set old.tree 0 (noted a prices cars)) first_of ∙ ap (λ (tree : List Branch). set tree 0 (noted b prices cars)) is.lone
+  lone : new.tree.branches ≡ noted b prices cars ∷ []
+  lone = step.tree ∙ ap (λ (a : Branch). set old.tree.branches 0 (noted a prices cars)) first_of ∙ ap (λ (tree : List Branch). set tree 0 (noted b prices cars)) is.lone
 
   start_same : start_of_turns new.turns.items new.prices.items ≡ start_of_turns old.turns.items prices
   start_same = ap (λ (ts : List Turn). start_of_turns ts new.prices.items) step.turns ∙ start-more old.turns.items turn new.prices.items
@@ -82,11 +103,11 @@ module _ (fits : Fits) (s : Snapshot) (moves : ℕ) (few_cars : car_count s ≤ 
   count_is : length new.turns.items ≡ length old.turns.items + 1
   count_is = ap length step.turns ∙ length-append old.turns.items (turn ∷ [])
 
-  turn_is : IsRootTurn s moves (due_prices s start old.turns.items) turn
-  turn_is = subst (λ (ps : List ℤ). IsRootTurn s moves ps turn) is.prices (answers_are_turn fits s moves prices cars given)
+  turn_is : IsRootTurn s most_tours (due_prices s start old.turns.items) turn
+  turn_is = subst (λ (ps : List ℤ). IsRootTurn s most_tours ps turn) is.prices (answers_are_turn fits s most_tours prices cars given)
 
-  turns_are : AreRootTurns s moves start new.turns.items
-  turns_are = subst (AreRootTurns s moves start) (sym step.turns) (turns-more s moves start old.turns.items turn is.turns turn_is)
+  turns_are : AreRootTurns s most_tours start new.turns.items
+  turns_are = subst (AreRootTurns s most_tours start) (sym step.turns) (turns-more s most_tours start old.turns.items turn is.turns turn_is)
 
   due : new.prices.items ≡ due_prices s start new.turns.items
   due =
@@ -110,12 +131,12 @@ module _ (fits : Fits) (s : Snapshot) (moves : ℕ) (few_cars : car_count s ≤ 
   turn_below : IsTurnBelow (sum_of_sheet (noted b prices cars).sheet) turn
   turn_below = let same = turn-sum prices cars in let up = sheet.takes in omega (arith, ints, same, up)
 
-  pub root-step : IsRoot fits s moves new
+  pub root-step : IsRoot fits s most_tours new
   root-step =
       record {
         branch = noted b prices cars;
         lone = lone;
-        at = noted-branch fits s moves few_cars (root_place s) b prices cars is.at is.leaf rounds_few is.begins answers;
+        at = noted-branch fits s most_tours few_cars (root_place s) b prices cars is.at is.leaf rounds_few is.begins answers;
         leaf = is.leaf;
         rounds = (let same = is.rounds in let count = count_is in omega (arith, same, count));
         begins = λ none. absurd (omega (arith, none));
@@ -125,7 +146,7 @@ module _ (fits : Fits) (s : Snapshot) (moves : ℕ) (few_cars : car_count s ≤ 
         step = step.step ∙ is.step ∙ ap (λ (ps : List ℤ). pos (greatest_price ps)) (sym start_same);
         small = subst (λ (z : ℤ). z ≤ℤ pos (10 ^ 24)) (sym step.step) is.small;
         few_turns = (let count = count_is in omega (arith, count, lt));
-        turns = subst (λ (ps : List ℤ). AreRootTurns s moves ps new.turns.items) (sym start_same) turns_are;
+        turns = subst (λ (ps : List ℤ). AreRootTurns s most_tours ps new.turns.items) (sym start_same) turns_are;
         takes = subst (All (IsTurnBelow (sum_of_sheet (noted b prices cars).sheet))) (sym step.turns) (All-push (IsTurnBelow (sum_of_sheet (noted b prices cars).sheet)) old.turns.items turn (All-weaker (IsTurnBelow (sum_of_sheet b.sheet)) (IsTurnBelow (sum_of_sheet (noted b prices cars).sheet)) still_below old.turns.items is.takes) turn_below);
         pooled = subst (All (IsPooled s new.best.pool)) (sym step.turns) (All-push (IsPooled s new.best.pool) old.turns.items turn (All-weaker (IsPooled s old.best.pool) (IsPooled s new.best.pool) still_pooled old.turns.items is.pooled) turn_pooled);
         few = λ c. (let more = (of_pool c).few in let most = is.few c in let count = count_is in omega (arith, more, most, count));
@@ -138,10 +159,10 @@ if_some : {X : Type 0} (P Q : X → Type 0) → ((x : X) → P x → Q x) → (o
 if_some P Q f None h = tt
 if_some P Q f (Some x) h = f x h
 
-pub feasible_tours : (fits : Fits) (s s' : Snapshot) (moves : ℕ) (node : Node) (prices : List ℤ) (cars : List TurnOf) → s' ≡ s → AreAnswersIn fits s moves node prices cars → AreToursOf s' cars
-feasible_tours fits s s' moves node prices cars same answers c lt =
+pub feasible_tours : (fits : Fits) (s s' : Snapshot) (most_tours : ℕ) (node : Node) (prices : List ℤ) (cars : List TurnOf) → s' ≡ s → AreAnswersIn fits s most_tours node prices cars → AreToursOf s' cars
+feasible_tours fits s s' most_tours node prices cars same answers c lt =
     if_some (IsTourIn s node c) (IsFeasible s' c) (λ t within. subst (λ (x : Snapshot). IsFeasible x c t) (sym same) within.feasible) (get_or cars c no_turn).tour ((answers.each c (let count = answers.count in omega (arith, lt, count))).within)
 
-pub below_tours : (fits : Fits) (s : Snapshot) (moves : ℕ) (node : Node) (prices : List ℤ) (cars : List TurnOf) → call_count s ≤ 128 → AreAnswersIn fits s moves node prices cars → BoardBelow cars
-below_tours fits s moves node prices cars few answers c lt =
+pub below_tours : (fits : Fits) (s : Snapshot) (most_tours : ℕ) (node : Node) (prices : List ℤ) (cars : List TurnOf) → call_count s ≤ 128 → AreAnswersIn fits s most_tours node prices cars → BoardBelow cars
+below_tours fits s most_tours node prices cars few answers c lt =
     if_some (IsTourIn s node c) BoardsBelow (λ t within j boards. (let below = boarded-below s c t j within.feasible boards in omega (arith, below, few))) (get_or cars c no_turn).tour ((answers.each c (let count = answers.count in omega (arith, lt, count))).within)

@@ -42,8 +42,8 @@ use Rattle.node_search.proofs.TurnPrices.{stored}
 use Rattle.node_search.proofs.SearchStart.{branches_alone, lone_stands, turns_above}
 
 -- what stands below the root stands after the rounds
-pub ended_of : (fits : Fits) (s : Snapshot) (rounds moves : ℕ) (start : PriceSheet) (turns : List Turn) (old new : Search) → IsBegun fits s rounds moves start turns old → IsSearching fits s moves new → HasRun s rounds old new → IsEnded fits s rounds moves start turns new
-ended_of fits s rounds moves start turns old new begun searching run =
+pub ended_of : (fits : Fits) (s : Snapshot) (rounds most_tours : ℕ) (start : PriceSheet) (turns : List Turn) (old new : Search) → IsBegun fits s rounds most_tours start turns old → IsSearching fits s most_tours new → HasRun s rounds old new → IsEnded fits s rounds most_tours start turns new
+ended_of fits s rounds most_tours start turns old new begun searching run =
     record {
       begun = record {
         searching = searching;
@@ -52,7 +52,7 @@ ended_of fits s rounds moves start turns old new begun searching run =
           root_turns = begun.above.root_turns;
           few_turns = begun.above.few_turns;
           above_start = run.sums (sum_of_sheet start) begun.above.above_start;
-          above_turns = All-weaker (λ (turn : Turn). AllInTree (IsAtLeast (sum_of_turn turn)) s old.tree) (λ (turn : Turn). AllInTree (IsAtLeast (sum_of_turn turn)) s new.tree) (λ turn h. run.sums (sum_of_turn turn) h) turns begun.above.above_turns;
+          above_turns = All-weaker (λ (turn : Turn). AllInTree (IsAtLeast (sum_of_turn turn)) s old.tree.branches) (λ (turn : Turn). AllInTree (IsAtLeast (sum_of_turn turn)) s new.tree.branches) (λ turn h. run.sums (sum_of_turn turn) h) turns begun.above.above_turns;
           tours = λ enough other feasible of. (let le = begun.above.tours enough other feasible of in let cheaper = run.cheaper in omega (arith, le, cheaper));
         };
         few = run.few;
@@ -71,63 +71,63 @@ least-cost cost (Tip leaf ∷ twigs) =
     let is = int_min_is (bound_of_leaf leaf) (least_bound cost twigs) in
     omega (arith, ints, rest, is)
 
-pub bound_natural : (fits : Fits) (s : Snapshot) (moves : ℕ) (start : PriceSheet) (turns : List Turn) (tree : List Branch) (best : Best) → IsBest s best → HasTurnsAbove fits s moves start turns tree best.cost → pos 0 ≤ℤ sum_of_sheet start → pos 0 ≤ℤ least_of best.cost tree
-bound_natural fits s moves start turns tree best is above natural =
-    bound_exists fits s moves start tree best.plan best.cost above.sheet natural above.above_start is.feasible is.costs
+pub bound_natural : (fits : Fits) (s : Snapshot) (most_tours : ℕ) (start : PriceSheet) (turns : List Turn) (tree : List Branch) (best : Best) → IsBest s best → HasTurnsAbove fits s most_tours start turns tree best.cost → pos 0 ≤ℤ sum_of_sheet start → pos 0 ≤ℤ least_of best.cost tree
+bound_natural fits s most_tours start turns tree best is above natural =
+    bound_exists fits s most_tours start tree best.plan best.cost above.sheet natural above.above_start is.feasible is.costs
 
 -- ---- a root that is not open
 
 -- Its tree is one leaf, whose bound is not below the cost.
-pub found_solved : (fits : Fits) (s : Snapshot) (rounds moves : ℕ) (start : PriceSheet) (root : Root) (bound : ℕ) → 1 ≤ car_count s → IsTurned fits s rounds moves start root → pos root.best.cost ≤ℤ bound_of_sheet (leaf_of_root root).sheet → pos bound ≡ least_of root.best.cost root.tree → IsFound fits start.prices (bound_of_sheet start) s rounds moves root.best.plan root.best.cost bound (map twig_of root.tree) root.turns.items Solved
-found_solved fits s rounds moves start root bound cars turned closed bound_is =
-    found fits s rounds moves start root.turns.items root.tree root.best.plan root.best.cost bound Solved (record {
+pub found_solved : (fits : Fits) (s : Snapshot) (rounds most_tours : ℕ) (start : PriceSheet) (root : Root) (bound : ℕ) → 1 ≤ car_count s → IsTurned fits s rounds most_tours start root → pos root.best.cost ≤ℤ bound_of_sheet (leaf_of_root root).sheet → pos bound ≡ least_of root.best.cost root.tree.branches → IsFound fits start.prices (bound_of_sheet start) s rounds most_tours root.best.plan root.best.cost bound (map twig_of root.tree.branches) root.turns.items Solved
+found_solved fits s rounds most_tours start root bound cars turned closed bound_is =
+    found fits s rounds most_tours start root.turns.items root.tree.branches root.best.plan root.best.cost bound Solved (record {
       sheet = above.sheet;
       root_turns = above.root_turns;
       few_turns = above.few_turns;
-      branches = branches_alone fits s rounds moves start root turned;
+      branches = branches_alone fits s rounds most_tours start root turned;
       above_start = above.above_start;
       above_turns = above.above_turns;
     }) (let one = ap length is.lone in omega (arith, one)) is.best.feasible is.best.costs bound_is many above.tours solved
   where
-    is : IsRoot fits s moves root
+    is : IsRoot fits s most_tours root
     is = turned.stands
 
-    above : HasTurnsAbove fits s moves start root.turns.items root.tree root.best.cost
-    above = turns_above fits s rounds moves start root turned cars
+    above : HasTurnsAbove fits s most_tours start root.turns.items root.tree.branches root.best.cost
+    above = turns_above fits s rounds most_tours start root turned cars
 
     high : pos root.best.cost ≤ℤ bound_of_sheet is.branch.sheet
-    high = subst (λ (b : Branch). pos root.best.cost ≤ℤ bound_of_sheet b.sheet) (root_branch fits s moves root is) closed
+    high = subst (λ (b : Branch). pos root.best.cost ≤ℤ bound_of_sheet b.sheet) (root_branch fits s most_tours root is) closed
 
-    leaves : AllInTree (IsAbove (pos root.best.cost)) s root.tree
+    leaves : AllInTree (IsAbove (pos root.best.cost)) s root.tree.branches
     leaves = subst (AllInTree (IsAbove (pos root.best.cost)) s) (sym is.lone) (lone_stands (IsAbove (pos root.best.cost)) s is.branch is.leaf (of_leaf (pos root.best.cost ≤ℤ bound_of_sheet is.branch.sheet) is.branch.split high))
 
     solved : root.best.cost ≡ bound
     solved =
-        let low = least-of-leaves (pos root.best.cost) root.best.cost (omega (arith, ints)) (root_place s ∷ []) root.tree leaves in
-        let most = least-cost root.best.cost (map twig_of root.tree) in
+        let low = least-of-leaves (pos root.best.cost) root.best.cost (omega (arith, ints)) (root_place s ∷ []) root.tree.branches leaves in
+        let most = least-cost root.best.cost (map twig_of root.tree.branches) in
         omega (arith, ints, low, most, bound_is)
 
-    unsplit : list_any is_split (map twig_of root.tree) ≡ false
+    unsplit : list_any is_split (map twig_of root.tree.branches) ≡ false
     unsplit = ap (λ (bs : List Branch). list_any is_split (map twig_of bs)) is.lone ∙ ap (λ (x : Option SplitAt). list_any is_split (twig_at x is.branch.sheet ∷ [])) is.leaf
 
-    many : HasChoice s → IsTrue (list_any is_split (map twig_of root.tree)) ⊎ (bound < root.best.cost) → length root.turns.items ≡ min rounds 20
-    many choice (inl some) = absurd (both_ways (list_any is_split (map twig_of root.tree)) unsplit some)
+    many : HasChoice s → IsTrue (list_any is_split (map twig_of root.tree.branches)) ⊎ (bound < root.best.cost) → length root.turns.items ≡ min rounds 20
+    many choice (inl some) = absurd (both_ways (list_any is_split (map twig_of root.tree.branches)) unsplit some)
     many choice (inr less) = let same = solved in absurd (omega (arith, less, same))
 
 -- ---- a search below the root
 
-module _ (fits : Fits) (s : Snapshot) (rounds moves : ℕ) (start : PriceSheet) (turns : List Turn) (x : Search) (ended : IsEnded fits s rounds moves start turns x) where
+module _ (fits : Fits) (s : Snapshot) (rounds most_tours : ℕ) (start : PriceSheet) (turns : List Turn) (x : Search) (ended : IsEnded fits s rounds most_tours start turns x) where
   abbrev tree : List Branch
-  tree = x.tree
+  tree = x.tree.branches
 
   abbrev cost : ℕ
   cost = x.best.cost
 
-  pub found_ended : (bound : ℕ) (why : StopReason) → pos bound ≡ least_of x.best.cost x.tree → IsReason s rounds moves x.best.cost bound (map twig_of x.tree) why → IsFound fits start.prices (bound_of_sheet start) s rounds moves x.best.plan x.best.cost bound (map twig_of x.tree) turns why
+  pub found_ended : (bound : ℕ) (why : StopReason) → pos bound ≡ least_of x.best.cost x.tree.branches → IsReason s rounds most_tours x.best.cost bound (map twig_of x.tree.branches) why → IsFound fits start.prices (bound_of_sheet start) s rounds most_tours x.best.plan x.best.cost bound (map twig_of x.tree.branches) turns why
   found_ended bound why bound_is reason =
       let above = ended.begun.above in
       let way = ended.begun.searching.under_way in
-      found fits s rounds moves start turns x.tree x.best.plan x.best.cost bound why (record {
+      found fits s rounds most_tours start turns x.tree.branches x.best.plan x.best.cost bound why (record {
         sheet = above.sheet;
         root_turns = above.root_turns;
         few_turns = above.few_turns;
@@ -136,21 +136,21 @@ module _ (fits : Fits) (s : Snapshot) (rounds moves : ℕ) (start : PriceSheet) 
         above_turns = above.above_turns;
       }) (let size = ended.begun.searching.size in let few = ended.begun.few in omega (arith, size, few)) way.best.feasible way.best.costs bound_is (λ choice _. ended.begun.many choice) above.tours reason
 
-  resting_at : (k : ℕ) → IsBelow x.best.cost x.tree k → IsResting s x.best.cost (at_place x.tree k)
+  resting_at : (k : ℕ) → IsBelow x.best.cost x.tree.branches k → IsResting s x.best.cost (at_place x.tree.branches k)
   resting_at k below =
-      if_leaf (IsResting s x.best.cost (at_place x.tree k)) (at_place x.tree k).split below.leaf (stand-at (IsRestingAt s x.best.cost) k (root_place s ∷ []) x.tree below.in_tree ended.begun.searching.under_way.tree.resting).1
+      if_leaf (IsResting s x.best.cost (at_place x.tree.branches k)) (at_place x.tree.branches k).split below.leaf (stand-at (IsRestingAt s x.best.cost) k (root_place s ∷ []) x.tree.branches below.in_tree ended.begun.searching.under_way.tree.resting).1
 
   -- a leaf that is left below the cost was spent
-  left_spent : (k : ℕ) → IsBelow x.best.cost x.tree k → IsAtRest s x → (at_place x.tree k).spent ≡ None → ⊥
+  left_spent : (k : ℕ) → IsBelow x.best.cost x.tree.branches k → IsAtRest s x → (at_place x.tree.branches k).spent ≡ None → ⊥
   left_spent k below rest none =
       let left = rest k below.in_tree in
       let high = (resting_at k below).single (left.single below.leaf below.below) (left.was below.leaf below.below) none in
       let low = below.below in
       omega (arith, ints, high, low)
 
-  below_at : (bound : ℕ) → pos bound ≡ least_of x.best.cost x.tree → bound < x.best.cost → (k : ℕ) × IsBelow x.best.cost x.tree k
+  below_at : (bound : ℕ) → pos bound ≡ least_of x.best.cost x.tree.branches → bound < x.best.cost → (k : ℕ) × IsBelow x.best.cost x.tree.branches k
   below_at bound bound_is lt =
-      let at = some_below x.best.cost bound x.tree bound_is lt in
+      let at = some_below x.best.cost bound x.tree.branches bound_is lt in
       (at.0, record { in_tree = at.1.in_tree; leaf = at.1.leaf; below = at.1.below })
 
   stuck : (b : Branch) → IsRestingAt s x.best.cost (root_place s) b → IsLeft s x.best.cost b → IsStuckAt s x.best.cost (root_place s) b
@@ -174,21 +174,21 @@ module _ (fits : Fits) (s : Snapshot) (rounds moves : ℕ) (start : PriceSheet) 
       (stuck b h.0 (left 0 (omega arith)), stuck_all (places_after place (twig_of b) places) bs h.1 (λ k lt. left (suc k) (omega (arith, lt))))
 
   -- Why it ended.
-  pub reason_is : (bound : ℕ) (why : StopReason) → pos bound ≡ least_of x.best.cost x.tree → IsReasonOf s moves x why → IsReason s rounds moves x.best.cost bound (map twig_of x.tree) why
+  pub reason_is : (bound : ℕ) (why : StopReason) → pos bound ≡ least_of x.best.cost x.tree.branches → IsReasonOf s most_tours x why → IsReason s rounds most_tours x.best.cost bound (map twig_of x.tree.branches) why
   reason_is bound Solved bound_is high =
-      let most = least-cost x.best.cost (map twig_of x.tree) in
+      let most = least-cost x.best.cost (map twig_of x.tree.branches) in
       omega (arith, ints, high, most, bound_is)
   reason_is bound (Rounds done) bound_is why =
       let low = why.below in
       let lt : bound < x.best.cost = omega (arith, ints, low, bound_is) in
       let way = ended.begun.searching.under_way in
       let all : x.done ≡ rounds = (elim ended.ended [ inl e ↦ e | inr rest ↦ (let at = below_at bound bound_is lt in absurd (left_spent at.0 at.1 rest (why.unspent rest at.0 at.1))) ]) in
-      out_of_rounds fits s rounds moves x.best.cost bound done x.tree way.tree.priced way.tree.branches (subst (λ (n : ℕ). n ≤ pricings_of x.tree) (sym why.done_is) ended.begun.searching.pricings) (why.done_is ∙ all) lt
+      out_of_rounds fits s rounds most_tours x.best.cost bound done x.tree.branches way.tree.priced way.tree.branches (subst (λ (n : ℕ). n ≤ pricings_of x.tree.branches) (sym why.done_is) ended.begun.searching.pricings) (why.done_is ∙ all) lt
   reason_is bound (Moves car count) bound_is why =
       let low = why.below in
       let lt : bound < x.best.cost = omega (arith, ints, low, bound_is) in
       let way = ended.begun.searching.under_way in
-      subst (λ (n : ℕ). IsOutOfMoves s moves x.best.cost bound car n (map twig_of x.tree)) (sym why.count_is) (out_of_moves fits s moves x.best.cost bound car x.tree why.place (stuck_all (root_place s ∷ []) x.tree way.tree.resting why.rest) way.tree.priced way.tree.branches lt why.at.in_tree why.at.leaf why.at.below why.spent)
+      subst (λ (n : ℕ). IsOutOfMoves s most_tours x.best.cost bound car n (map twig_of x.tree.branches)) (sym why.count_is) (out_of_moves fits s most_tours x.best.cost bound car x.tree.branches why.place (stuck_all (root_place s ∷ []) x.tree.branches way.tree.resting why.rest) way.tree.priced way.tree.branches lt why.at.in_tree why.at.leaf why.at.below why.spent)
 
 -- ---- the bound in 64 bits
 
@@ -202,13 +202,13 @@ natural_cast z cost few low high =
 
 -- ---- the answer
 
-pub answer_found : (fits : Fits) (start : List ℤ) (least : ℤ) (s : Snapshot) (rounds moves : ℕ) (tree : List Branch) (best : Best) (turns : List Turn) (why : StopReason) (f : Found) → IsAnswerOf tree best turns why f → IsFound fits start least s rounds moves best.plan best.cost f.bound (map twig_of tree) turns why → IsFound fits start least s rounds moves f.plan f.cost f.bound f.tree.twigs f.turns f.why
-answer_found fits start least s rounds moves tree best turns why f is h =
-    let a = subst (λ (p : List (List Stop)). IsFound fits start least s rounds moves p best.cost f.bound (map twig_of tree) turns why) (sym is.plan) h in
-    let b = subst (λ (n : ℕ). IsFound fits start least s rounds moves f.plan n f.bound (map twig_of tree) turns why) (sym is.cost) a in
-    let c = subst (λ (ts : List Twig). IsFound fits start least s rounds moves f.plan f.cost f.bound ts turns why) (sym is.twigs) b in
-    let d = subst (λ (ts : List Turn). IsFound fits start least s rounds moves f.plan f.cost f.bound f.tree.twigs ts why) (sym is.turns_are) c in
-    subst (λ (w : StopReason). IsFound fits start least s rounds moves f.plan f.cost f.bound f.tree.twigs f.turns w) (sym is.why_is) d
+pub answer_found : (fits : Fits) (start : List ℤ) (least : ℤ) (s : Snapshot) (rounds most_tours : ℕ) (tree : List Branch) (best : Best) (turns : List Turn) (why : StopReason) (f : Found) → IsAnswerOf tree best turns why f → IsFound fits start least s rounds most_tours best.plan best.cost f.bound (map twig_of tree) turns why → IsFound fits start least s rounds most_tours f.plan f.cost f.bound f.tree.twigs f.turns f.why
+answer_found fits start least s rounds most_tours tree best turns why f is h =
+    let a = subst (λ (p : List (List Stop)). IsFound fits start least s rounds most_tours p best.cost f.bound (map twig_of tree) turns why) (sym is.plan) h in
+    let b = subst (λ (n : ℕ). IsFound fits start least s rounds most_tours f.plan n f.bound (map twig_of tree) turns why) (sym is.cost) a in
+    let c = subst (λ (ts : List Twig). IsFound fits start least s rounds most_tours f.plan f.cost f.bound ts turns why) (sym is.twigs) b in
+    let d = subst (λ (ts : List Turn). IsFound fits start least s rounds most_tours f.plan f.cost f.bound f.tree.twigs ts why) (sym is.turns_are) c in
+    subst (λ (w : StopReason). IsFound fits start least s rounds most_tours f.plan f.cost f.bound f.tree.twigs f.turns w) (sym is.why_is) d
 
 pub if_ok : {X E : Type 0} (r : Result X E) (P Q : X → Type 0) → ((x : X) → P x → Q x) → IfOk r P → IfOk r Q
 if_ok (Ok x) P Q f h = f x h

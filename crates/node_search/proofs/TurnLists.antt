@@ -26,13 +26,13 @@ pub due-more : (s : Snapshot) (start : List ℤ) (turns : List Turn) (last : Tur
 due-more s start [] last = ap (λ (k : ℕ). prices_after s start k last) (omega arith)
 due-more s start (turn ∷ turns) last = due_from-more s start 1 turn turns last ∙ ap (λ (k : ℕ). prices_after s start k last) (omega arith)
 
-follow-more : (s : Snapshot) (moves : ℕ) (start : List ℤ) (i : ℕ) (turn : Turn) (turns : List Turn) (last : Turn) → FollowTurn s moves start i turn turns → IsRootTurn s moves (due_from s start i turn turns) last → FollowTurn s moves start i turn (turns ++ last ∷ [])
-follow-more s moves start i turn [] last h is = (is, tt)
-follow-more s moves start i turn (next ∷ turns) last h is = (h.0, follow-more s moves start (i + 1) next turns last h.1 is)
+follow-more : (s : Snapshot) (most_tours : ℕ) (start : List ℤ) (i : ℕ) (turn : Turn) (turns : List Turn) (last : Turn) → FollowTurn s most_tours start i turn turns → IsRootTurn s most_tours (due_from s start i turn turns) last → FollowTurn s most_tours start i turn (turns ++ last ∷ [])
+follow-more s most_tours start i turn [] last h is = (is, tt)
+follow-more s most_tours start i turn (next ∷ turns) last h is = (h.0, follow-more s most_tours start (i + 1) next turns last h.1 is)
 
-pub turns-more : (s : Snapshot) (moves : ℕ) (start : List ℤ) (turns : List Turn) (last : Turn) → AreRootTurns s moves start turns → IsRootTurn s moves (due_prices s start turns) last → AreRootTurns s moves start (turns ++ last ∷ [])
-turns-more s moves start [] last h is = (is, tt)
-turns-more s moves start (turn ∷ turns) last h is = (h.0, follow-more s moves start 1 turn turns last h.1 is)
+pub turns-more : (s : Snapshot) (most_tours : ℕ) (start : List ℤ) (turns : List Turn) (last : Turn) → AreRootTurns s most_tours start turns → IsRootTurn s most_tours (due_prices s start turns) last → AreRootTurns s most_tours start (turns ++ last ∷ [])
+turns-more s most_tours start [] last h is = (is, tt)
+turns-more s most_tours start (turn ∷ turns) last h is = (h.0, follow-more s most_tours start 1 turn turns last h.1 is)
 
 pub start-more : (turns : List Turn) (last : Turn) (next : List ℤ) → start_of_turns (turns ++ last ∷ []) next ≡ start_of_turns turns last.prices
 start-more [] last next = refl
@@ -43,8 +43,8 @@ start-more (turn ∷ turns) last next = refl
 abbrev pub turn_with : List ℤ → List TurnOf → Turn
 turn_with prices cars = record { prices = prices; cars = cars }
 
-pub answers_are_turn : (fits : Fits) (s : Snapshot) (moves : ℕ) (prices : List ℤ) (cars : List TurnOf) → AreAnswersIn fits s moves (root_of s) prices cars → IsRootTurn s moves prices (turn_with prices cars)
-answers_are_turn fits s moves prices cars answers =
+pub answers_are_turn : (fits : Fits) (s : Snapshot) (most_tours : ℕ) (prices : List ℤ) (cars : List TurnOf) → AreAnswersIn fits s most_tours (root_of s) prices cars → IsRootTurn s most_tours prices (turn_with prices cars)
+answers_are_turn fits s most_tours prices cars answers =
     record {
       prices = refl;
       calls = answers.calls;
@@ -52,7 +52,7 @@ answers_are_turn fits s moves prices cars answers =
       pricings = λ c lt. by_spent c (answers.each c lt) (get_or cars c no_turn).priced.spent refl;
     }
   where
-    by_spent : (c : ℕ) → IsAnswerIn fits s moves (root_of s) (price_at prices) c (get_or cars c no_turn) → (b : Bool) → (get_or cars c no_turn).priced.spent ≡ b → IsPricing s moves c (price_at prices) (get_or cars c no_turn) b
+    by_spent : (c : ℕ) → IsAnswerIn fits s most_tours (root_of s) (price_at prices) c (get_or cars c no_turn) → (b : Bool) → (get_or cars c no_turn).priced.spent ≡ b → IsPricing s most_tours c (price_at prices) (get_or cars c no_turn) b
     by_spent c a true e = record { worth = a.worth; within = a.within; many = a.many e }
     by_spent c a false e =
         let given = a.gives e in

@@ -1,81 +1,74 @@
 -- How a search ends.
-use Rattle.std.specs.Prelude.{◌≡◌, ℕ, ◌<◌, ◌≤◌, ◌^◌, ◌⊎◌, min, ℤ, pos, ◌≤ℤ◌, ◌<ℤ◌, List, length, map, true, All, Some, None}
+use Rattle.std.specs.Prelude.{◌≡◌, ℕ, ◌<◌, ◌≤◌, ◌^◌, ◌⊎◌, min, ℤ, pos, ◌≤ℤ◌, ◌<ℤ◌, List, length, map, All, Some, None}
 use Rattle.elevator_model.specs.declared.Stop.{Stop}
 use Rattle.elevator_model.specs.Snapshot.{Snapshot, car_count, call_count}
 use Rattle.elevator_model.specs.Plans.{IsFeasiblePlan, plan_cost_of, tour_of}
 use Rattle.search_model.specs.declared.Turn.{Turn}
 use Rattle.search_model.specs.declared.StopReason.{StopReason}
 use Rattle.search_model.specs.declared.StopReason.TheVariants.{Solved, Rounds, Moves}
-use Rattle.search_model.specs.Nodes.{is_part, root_of, set_of}
+use Rattle.search_model.specs.Nodes.{root_of}
 use Rattle.search_model.specs.Solving.{Fits, HasChoice, AreRootTurns, IsTourOfTurns, least_bound, sum_of_turn}
 use Rattle.search_tree.specs.declared.branches.Branch.{Branch}
 use Rattle.search_tree.specs.Sheets.{PriceSheet, sum_of_sheet}
-use Rattle.search_tree.specs.Branches.{AreSingle, at_place, split_tree, twig_of}
+use Rattle.search_tree.specs.Branches.{AreSingle, at_place, twig_of}
 use Rattle.search_tree.specs.Standing.{AllInTree, IsAtLeast, IsSheetIn, bound_of_sheet}
 use Rattle.node_search.specs.declared.best.Best.{Best}
 use Rattle.node_search.specs.declared.found.Found.{Found}
 use Rattle.node_search.specs.declared.root.Root.{Root}
+use Rattle.node_search.specs.declared.root.TheConstants.{MOST_TURNS}
 use Rattle.node_search.specs.declared.search.Search.{Search}
 use Rattle.node_search.specs.Roots.{IsRoot, IsSolvedIfUnspent, leaf_of_root, start_of_turns}
 use Rattle.node_search.specs.Searches.{IsSearching, IsAtRest}
 
--- with enough moves no plan made of the tours of the turns is cheaper
-abbrev pub IsCheapestOfTurns : Snapshot → (moves cost : ℕ) → List Turn → Type 0
-IsCheapestOfTurns s moves cost turns =
-    34 ^ car_count s ≤ moves → (other : List (List Stop)) → IsFeasiblePlan s other → ((c : ℕ) → c < car_count s → IsTourOfTurns turns c (tour_of other c)) → cost ≤ plan_cost_of s other
+-- where so many tries are enough, no plan made of the tours of the turns is cheaper
+abbrev pub IsCheapestOfTurns : Snapshot → (most_tours cost : ℕ) → List Turn → Type 0
+IsCheapestOfTurns s most_tours cost turns =
+    34 ^ car_count s ≤ most_tours → (other : List (List Stop)) → IsFeasiblePlan s other → ((c : ℕ) → c < car_count s → IsTourOfTurns turns c (tour_of other c)) → cost ≤ plan_cost_of s other
 
 -- the root's bound is below the cost
 abbrev pub IsOpenRoot : Root → Type 0
 IsOpenRoot root = bound_of_sheet (leaf_of_root root).sheet <ℤ pos root.best.cost
 
--- The root after the turns that are due: where it is open they are as many as the rounds allow and 20 at most where some
--- call has two cars, and else one is enough, whose tours were tried.
+-- The root after the turns that are due: where it is open they are as many as the rounds allow and
+-- `MOST_TURNS` at most where some call has two cars, and else one is enough, whose tours were tried.
 pub record HasDueTurns (s : Snapshot) (rounds : ℕ) (root : Root) : Type 0 where
   pub few : length root.turns.items ≤ rounds
   pub begun : IsOpenRoot root → 1 ≤ length root.turns.items
   pub single : AreSingle (call_count s) (root_of s) → IsOpenRoot root → IsSolvedIfUnspent root
-  pub many : (AreSingle (call_count s) (root_of s) → ⊥) → IsOpenRoot root → length root.turns.items ≡ min rounds 20
+  pub many : (AreSingle (call_count s) (root_of s) → ⊥) → IsOpenRoot root → length root.turns.items ≡ min rounds MOST_TURNS
 
 -- the root after its turns, in a search that started with these prices and worths
-pub record IsTurned (fits : Fits) (s : Snapshot) (rounds moves : ℕ) (start : PriceSheet) (root : Root) : Type 0 where
-  pub stands : IsRoot fits s moves root
+pub record IsTurned (fits : Fits) (s : Snapshot) (rounds most_tours : ℕ) (start : PriceSheet) (root : Root) : Type 0 where
+  pub stands : IsRoot fits s most_tours root
   pub start_is : start_of_turns root.turns.items root.prices.items ≡ start.prices
-  pub sheet : IsSheetIn fits s moves (root_of s) start
+  pub sheet : IsSheetIn fits s most_tours (root_of s) start
   pub rises : sum_of_sheet start ≤ℤ sum_of_sheet (leaf_of_root root).sheet
   pub due : HasDueTurns s rounds root
-
--- the tree of one leaf is split into the two parts of some set
-pub record IsSplitRoot (old new : List Branch) : Type 0 where
-  pub call : ℕ
-  pub part : ℕ
-  pub small : part < 2 ^ 16
-  pub is : is_part (set_of (at_place old 0).node call) part ≡ true
-  pub split : new ≡ split_tree old 0 call part
 
 -- the tree stays as it was: no call has two cars, or there were too few turns for a split
 pub record IsKeptRoot (calls turns : ℕ) (old new : List Branch) : Type 0 where
   pub same : new ≡ old
-  pub few : (AreSingle calls (at_place old 0).node → ⊥) → turns < 20
+  pub few : (AreSingle calls (at_place old 0).node → ⊥) → turns < MOST_TURNS
 
 -- What stands of the turns at the root and of the tree that grows from it.
-pub record HasTurnsAbove (fits : Fits) (s : Snapshot) (moves : ℕ) (start : PriceSheet) (turns : List Turn) (tree : List Branch) (cost : ℕ) : Type 0 where
-  pub sheet : IsSheetIn fits s moves (root_of s) start
-  pub root_turns : AreRootTurns s moves start.prices turns
-  pub few_turns : length turns ≤ 20
+pub record HasTurnsAbove (fits : Fits) (s : Snapshot) (most_tours : ℕ) (start : PriceSheet) (turns : List Turn) (tree : List Branch) (cost : ℕ) : Type 0 where
+  pub sheet : IsSheetIn fits s most_tours (root_of s) start
+  pub root_turns : AreRootTurns s most_tours start.prices turns
+  pub few_turns : length turns ≤ MOST_TURNS
   pub above_start : AllInTree (IsAtLeast (sum_of_sheet start)) s tree
   pub above_turns : All (λ (turn : Turn). AllInTree (IsAtLeast (sum_of_turn turn)) s tree) turns
-  pub tours : IsCheapestOfTurns s moves cost turns
+  pub tours : IsCheapestOfTurns s most_tours cost turns
 
 -- A search below the root, whose turns were these.
-pub record IsBegun (fits : Fits) (s : Snapshot) (rounds moves : ℕ) (start : PriceSheet) (turns : List Turn) (x : Search) : Type 0 where
-  pub searching : IsSearching fits s moves x
-  pub above : HasTurnsAbove fits s moves start turns x.tree x.best.cost
+pub record IsBegun (fits : Fits) (s : Snapshot) (rounds most_tours : ℕ) (start : PriceSheet) (turns : List Turn) (x : Search) : Type 0 where
+  pub searching : IsSearching fits s most_tours x
+  pub above : HasTurnsAbove fits s most_tours start turns x.tree.branches x.best.cost
   pub few : x.done ≤ rounds
-  pub many : HasChoice s → length turns ≡ min rounds 20
+  pub many : HasChoice s → length turns ≡ min rounds MOST_TURNS
 
 -- It has ended: as many rounds were done as may be, or no leaf may be priced any more.
-pub record IsEnded (fits : Fits) (s : Snapshot) (rounds moves : ℕ) (start : PriceSheet) (turns : List Turn) (x : Search) : Type 0 where
-  pub begun : IsBegun fits s rounds moves start turns x
+pub record IsEnded (fits : Fits) (s : Snapshot) (rounds most_tours : ℕ) (start : PriceSheet) (turns : List Turn) (x : Search) : Type 0 where
+  pub begun : IsBegun fits s rounds most_tours start turns x
   pub ended : (x.done ≡ rounds) ⊎ IsAtRest s x
 
 -- ---- the answer
@@ -92,24 +85,24 @@ pub record IsBelow (cost : ℕ) (tree : List Branch) (k : ℕ) : Type 0 where
 
 -- the bound is below the cost, and where no leaf may be priced any more, none of those below the cost was spent
 pub record AreRoundsDone (s : Snapshot) (x : Search) (done : ℕ) : Type 0 where
-  pub below : least_of x.best.cost x.tree <ℤ pos x.best.cost
+  pub below : least_of x.best.cost x.tree.branches <ℤ pos x.best.cost
   pub done_is : done ≡ x.done
-  pub unspent : IsAtRest s x → (k : ℕ) → IsBelow x.best.cost x.tree k → (at_place x.tree k).spent ≡ None
+  pub unspent : IsAtRest s x → (k : ℕ) → IsBelow x.best.cost x.tree.branches k → (at_place x.tree.branches k).spent ≡ None
 
 -- the bound is below the cost, no leaf may be priced any more, and the car was spent in one that is below the cost
-pub record IsCarSpent (s : Snapshot) (moves : ℕ) (x : Search) (car count : ℕ) : Type 0 where
-  pub below : least_of x.best.cost x.tree <ℤ pos x.best.cost
-  pub count_is : count ≡ moves
+pub record IsCarSpent (s : Snapshot) (most_tours : ℕ) (x : Search) (car count : ℕ) : Type 0 where
+  pub below : least_of x.best.cost x.tree.branches <ℤ pos x.best.cost
+  pub count_is : count ≡ most_tours
   pub rest : IsAtRest s x
   pub place : ℕ
-  pub at : IsBelow x.best.cost x.tree place
-  pub spent : (at_place x.tree place).spent ≡ Some car
+  pub at : IsBelow x.best.cost x.tree.branches place
+  pub spent : (at_place x.tree.branches place).spent ≡ Some car
 
 -- why the rounds ended
-abbrev pub IsReasonOf : Snapshot → (moves : ℕ) → Search → StopReason → Type 0
-IsReasonOf s moves x Solved = pos x.best.cost ≤ℤ least_of x.best.cost x.tree
-IsReasonOf s moves x (Rounds done) = AreRoundsDone s x done
-IsReasonOf s moves x (Moves car count) = IsCarSpent s moves x car count
+abbrev pub IsReasonOf : Snapshot → (most_tours : ℕ) → Search → StopReason → Type 0
+IsReasonOf s most_tours x Solved = pos x.best.cost ≤ℤ least_of x.best.cost x.tree.branches
+IsReasonOf s most_tours x (Rounds done) = AreRoundsDone s x done
+IsReasonOf s most_tours x (Moves car count) = IsCarSpent s most_tours x car count
 
 -- the answer of a search that ended with this tree, this plan and these turns
 pub record IsAnswerOf (tree : List Branch) (best : Best) (turns : List Turn) (why : StopReason) (f : Found) : Type 0 where

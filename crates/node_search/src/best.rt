@@ -7,7 +7,7 @@ ghost use Rattle.elevator_model.specs.declared.Stop.{Stop};
 ghost use Rattle.elevator_model.specs.Plans.{IsFeasiblePlan, plan_cost_of};
 ghost use Rattle.search_model.specs.Solving.{no_turn};
 ghost use Rattle.restricted_master.specs.Pools.{IsMadeOf, tours_of_car};
-ghost use Rattle.node_search.specs.Best.{IsBest, AreToursOf, with_turn};
+ghost use Rattle.node_search.specs.Best.{IsBest, AreToursOf, with_given, with_turn};
 
 use call_state::Snapshot;
 use elevator_model::{Plan, Tour};
@@ -26,18 +26,53 @@ pub(crate) struct Best<'a> {
     pub(crate) pool: Pool<'a>,
 }
 
+/// Puts the tours of a feasible plan into a pool without tours. It fails only where there is no memory left.
+fn put_plan(
+    pool: &mut Pool,
+    alloc: Global,
+    snapshot: &Snapshot,
+    plan: &Plan,
+) -> Result<(), AllocError>
+    requires snapshot { pool.old.snapshot ≡ snapshot.now }
+    requires none { (c : ℕ) → length (tours_of_car pool.old c) ≡ 0 }
+    requires plan { IsFeasiblePlan snapshot.now plan.now }
+    ensures snapshot { OnOk result (pool.new.snapshot ≡ snapshot.now) }
+    ensures few { OnOk result ((c : ℕ) → length (tours_of_car pool.new c) ≤ 1) }
+{
+    prove!(snapshot.calls().len() <= 128);
+    for car in 0..plan.tours().len() {
+        pool.put(car as u32, plan.tours()[car].copy(alloc)?);
+    }
+    Ok(())
+}
+
 /// A pool with the tours of a feasible plan. It fails only where there is no memory left.
 fn pool_of<'a>(alloc: Global, snapshot: &'a Snapshot, plan: &Plan) -> Result<Pool<'a>, AllocError>
     requires { IsFeasiblePlan snapshot.now plan.now }
     ensures snapshot { IfOk result (λ pool. pool.snapshot ≡ snapshot.now) }
     ensures few { IfOk result (λ pool. (c : ℕ) → length (tours_of_car pool c) ≤ 1) }
 {
-    prove!(snapshot.calls().len() <= 128);
     let mut pool = Pool::new(alloc, snapshot)?;
-    for car in 0..plan.tours().len() {
-        pool.put(car as u32, plan.tours()[car].copy(alloc)?);
-    }
+    put_plan(&mut pool, alloc, snapshot, plan)?;
     Ok(pool)
+}
+
+/// Puts the tour of a pricing into the pool, if it gave one. It fails only where there is no memory left.
+fn put_given(
+    pool: &mut Pool,
+    alloc: Global,
+    car: u32,
+    tour: &Option<Tour>,
+) -> Result<(), AllocError>
+    requires car { car < car_count pool.old.snapshot }
+    requires feasible { IfSome tour.now (IsFeasible pool.old.snapshot car) }
+    ensures pool { OnOk result (pool.new ≡ with_given pool.old car tour.now) }
+    ensures snapshot { OnOk result (pool.new.snapshot ≡ pool.old.snapshot) }
+{
+    if let Some(tour) = tour {
+        pool.put(car, tour.copy(alloc)?);
+    }
+    Ok(())
 }
 
 impl<'a> Best<'a> {
@@ -82,9 +117,7 @@ impl<'a> Best<'a> {
     {
         prove!(self.pool.snapshot().calls().len() <= 128);
         for car in 0..cars.len() {
-            if let Some(tour) = &cars[car].tour {
-                self.pool.put(car as u32, tour.copy(alloc)?);
-            }
+            put_given(&mut self.pool, alloc, car as u32, &cars[car].tour)?;
         }
         Ok(())
     }

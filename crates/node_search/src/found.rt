@@ -1,10 +1,10 @@
 //! The whole search: turns at the root, rounds below it, and what is answered at the end.
 
-ghost use Rattle.std.specs.Prelude.{◌≡◌, ◌<◌, ◌≤◌, ◌^◌, ◌⊎◌, ℕ, ℤ, pos, ◌≤ℤ◌, ◌<ℤ◌, All, IfOk, OnOk, MatchOption, length, None, Some, IfSome, true};
+ghost use Rattle.std.specs.Prelude.{◌≡◌, ◌<◌, ◌≤◌, ◌^◌, ◌⊎◌, ℕ, ℤ, pos, ◌≤ℤ◌, ◌<ℤ◌, All, IfOk, OnOk, MatchOption, length, None, Some, IfSome};
 ghost use Rattle.elevator_model.specs.Snapshot.{Snapshot as SnapshotOf, IsAccepted, call_count, car_count};
 ghost use Rattle.elevator_model.specs.Plans.{IsFeasiblePlan};
 ghost use Rattle.search_model.specs.Sums.{rounded_up};
-ghost use Rattle.search_model.specs.Nodes.{is_part, root_of, set_of};
+ghost use Rattle.search_model.specs.Nodes.{root_of};
 ghost use Rattle.search_model.specs.Solving.{IsFound};
 ghost use Rattle.search_tree.specs.Sheets.{IsSizedTwig, PriceSheet, sum_of_sheet};
 ghost use Rattle.search_tree.specs.Branches.{at_place};
@@ -12,20 +12,22 @@ ghost use Rattle.search_tree.specs.Standing.{IsSheetIn, bound_of_sheet};
 ghost use Rattle.work_fan.specs.Work.{Serving};
 ghost use Rattle.node_search.specs.Best.{IsBest};
 ghost use Rattle.node_search.specs.Roots.{IsRoot};
-ghost use Rattle.node_search.specs.Found.{IsAnswerOf, IsBegun, IsBelow, IsEnded, IsKeptRoot, IsOpenRoot, IsReasonOf, IsSplitRoot, IsTurned, least_of};
+ghost use Rattle.node_search.specs.Searches.{IsSplit};
+ghost use Rattle.node_search.specs.Found.{IsAnswerOf, IsBegun, IsBelow, IsEnded, IsKeptRoot, IsOpenRoot, IsReasonOf, IsTurned, least_of};
 
 use crate::best::Best;
 use crate::choosing::first_wanted;
 use crate::root::{MOST_TURNS, Root};
 use crate::search::Search;
-use crate::steps::NodeSteps;
+use crate::steps::{note_turns, split};
 use assign_branch::{Pricer, Tree};
 use byte_streams::Gate;
 use call_state::Snapshot;
 use elevator_model::Plan;
+use price_steps::Steps;
 use pricing_rounds::desks_for;
 use search_model::{Items, StopReason, Turn};
-use search_tree::{Branch, SearchTree, Sheet, SplitAt, first_choice};
+use search_tree::{Branch, SearchTree, Sheet, first_choice};
 use std::alloc::{AllocError, Global};
 use std::marker::Sync;
 use std::thread::Threads;
@@ -36,7 +38,7 @@ pub struct Limits {
     /// How many rounds it may do: 1 to 10^18.
     pub rounds: u64,
     /// How many partial tours each pricing may try: 1 to 10^18.
-    pub moves: u64,
+    pub most_tours: u64,
 }
 
 /// What a search answers.
@@ -62,44 +64,6 @@ struct Begun<'a> {
     turns: Vec<Turn>,
 }
 
-/// The choices at the root after its turns. It fails only where there is no memory left.
-fn steps_of(
-    alloc: Global,
-    turns: &[Turn],
-    calls: usize,
-    cars: usize,
-) -> Result<NodeSteps, AllocError> {
-    let mut steps = NodeSteps::new(alloc, calls, cars)?;
-    for turn in turns {
-        let spent = turn.cars.as_slice().iter().any(|car| car.priced.spent);
-        // By how much a turn raised the root's sum counts for nothing here: the root is split after its last
-        // turn.
-        steps.note(0, turn.cars.as_slice(), 0, spent);
-    }
-    Ok(steps)
-}
-
-/// Splits the root: as `first` says where nothing else is proposed. It fails only where there is no memory
-/// left.
-fn split_root(
-    alloc: Global,
-    tree: &mut SearchTree,
-    steps: &mut NodeSteps,
-    calls: usize,
-    first: SplitAt,
-) -> Result<(), AllocError>
-    requires some { 0 < length tree.old }
-    requires calls { calls ≤ 128 }
-    requires part { is_part (set_of (at_place tree.old 0).node first.call) first.part ≡ true }
-    ensures { OnOk result (IsSplitRoot tree.old tree.new) }
-{
-    let at = steps.choice(0, &tree.branches()[0].node, calls, first);
-    if tree.split(alloc, 0, at.call, at.part)? {
-        steps.split(alloc, 0)?;
-    }
-    Ok(())
-}
-
 /// The car whose pricing reached the limit last in the first such leaf whose bound is below the cost.
 fn spent_car(branches: &[Branch], cost: u64) -> Option<u32>
     ensures { MatchOption result
@@ -117,10 +81,10 @@ fn spent_car(branches: &[Branch], cost: u64) -> Option<u32>
 }
 
 impl<'a> Search<'a> {
-    /// Why it ended, where each pricing may try this many partial tours.
-    fn reason(&self, calls: usize, moves: u64) -> StopReason
+    /// Why it ended, where each pricing may try so many partial tours.
+    fn reason(&self, calls: usize, most_tours: u64) -> StopReason
         requires { calls ≤ 128 }
-        ensures { (s : SnapshotOf) → call_count s ≡ calls → IsReasonOf s moves self.now result }
+        ensures { (s : SnapshotOf) → call_count s ≡ calls → IsReasonOf s most_tours self.now result }
     {
         let (branches, cost) = (self.tree.branches(), self.best.cost);
         let done = self.done;
@@ -131,7 +95,10 @@ impl<'a> Search<'a> {
             return StopReason::Rounds { done };
         }
         match spent_car(branches, cost) {
-            Some(car) => StopReason::Moves { car, count: moves },
+            Some(car) => StopReason::Moves {
+                car,
+                count: most_tours,
+            },
             None => StopReason::Rounds { done },
         }
     }
@@ -141,13 +108,13 @@ impl<'a> Search<'a> {
 /// no memory left.
 fn answer(
     alloc: Global,
-    tree: SearchTree,
+    tree: SearchTree<Steps>,
     best: Best,
     turns: Vec<Turn>,
     why: StopReason,
 ) -> Result<Found, AllocError>
-    requires { pos 0 ≤ℤ least_of best.cost tree }
-    ensures answer { IfOk result (IsAnswerOf tree best.entry turns.items why) }
+    requires { pos 0 ≤ℤ least_of best.cost tree.branches }
+    ensures answer { IfOk result (IsAnswerOf tree.branches best.entry turns.items why) }
     ensures sized { IfOk result (λ f. All IsSizedTwig f.tree.twigs) }
 {
     let bound = tree.bound(best.cost) as u64;
@@ -165,20 +132,21 @@ fn answer(
 /// there is no memory left.
 fn split_where_due(
     alloc: Global,
-    tree: &mut SearchTree,
-    steps: &mut NodeSteps,
+    tree: &mut SearchTree<Steps>,
     turns: usize,
     calls: usize,
 ) -> Result<(), AllocError>
-    requires some { 0 < length tree.old }
+    requires some { 0 < length tree.old.branches }
     requires calls { calls ≤ 128 }
-    ensures { OnOk result (IsSplitRoot tree.old tree.new ⊎ IsKeptRoot calls turns tree.old tree.new) }
+    ensures { OnOk result
+        (IsSplit 0 tree.old.branches tree.new.branches
+        ⊎ IsKeptRoot calls turns tree.old.branches tree.new.branches) }
 {
     if turns < MOST_TURNS {
         return Ok(());
     }
     if let Some(first) = first_choice(&tree.branches()[0].node, calls) {
-        split_root(alloc, tree, steps, calls, first)?;
+        split(tree, alloc, 0, calls, first)?;
     }
     Ok(())
 }
@@ -191,13 +159,13 @@ fn begin<'a, P: Pricer>(
     limits: Limits,
 ) -> Result<Begun<'a>, AllocError>
     requires accepted { IsAccepted (P.snapshot pricer.now) }
-    requires root { IsRoot (P.fits pricer.now) (P.snapshot pricer.now) limits.moves root }
+    requires root { IsRoot (P.fits pricer.now) (P.snapshot pricer.now) limits.most_tours root }
     ensures { IfOk result (λ begun. (start : PriceSheet)
-        → IsTurned (P.fits pricer.now) (P.snapshot pricer.now) limits.rounds limits.moves start root.entry
-        → IsOpenRoot root.entry → IsBegun (P.fits pricer.now) (P.snapshot pricer.now) limits.rounds limits.moves start
+        → IsTurned (P.fits pricer.now) (P.snapshot pricer.now) limits.rounds limits.most_tours start
+        root.entry → IsOpenRoot root.entry
+        → IsBegun (P.fits pricer.now) (P.snapshot pricer.now) limits.rounds limits.most_tours start
         begun.turns.items begun.search) }
 {
-    let cars = root.best.pool.snapshot().building().cars().len();
     let Root {
         mut tree,
         best,
@@ -206,15 +174,10 @@ fn begin<'a, P: Pricer>(
         ..
     } = root;
     let calls = prices.len();
-    let mut steps = steps_of(alloc, &turns, calls, cars)?;
-    split_where_due(alloc, &mut tree, &mut steps, turns.len(), calls)?;
+    note_turns(&mut tree, &turns);
+    split_where_due(alloc, &mut tree, turns.len(), calls)?;
     let done = turns.len() as u64;
-    let search = Search {
-        tree,
-        best,
-        steps,
-        done,
-    };
+    let search = Search { tree, best, done };
     Ok(Begun { search, turns })
 }
 
@@ -230,18 +193,26 @@ fn go_on<'a, P: Pricer, G: Gate + Sync>(
 ) -> Result<Begun<'a>, AllocError>
     requires accepted { IsAccepted (P.snapshot pricer.now) }
     requires turned { (start : PriceSheet)
-        × IsTurned (P.fits pricer.now) (P.snapshot pricer.now) limits.rounds limits.moves start root }
+        × IsTurned (P.fits pricer.now) (P.snapshot pricer.now) limits.rounds limits.most_tours start root }
     requires open_yet { IsOpenRoot root }
     requires rounds { (1 ≤ limits.rounds) × (limits.rounds ≤ 10 ^ 18) }
-    requires moves { (1 ≤ limits.moves) × (limits.moves ≤ 10 ^ 18) }
+    requires most_tours { (1 ≤ limits.most_tours) × (limits.most_tours ≤ 10 ^ 18) }
     requires desks { Serving (P.owns pricer.now) desks.old }
     ensures { IfOk result (λ begun. (start : PriceSheet)
-        → IsTurned (P.fits pricer.now) (P.snapshot pricer.now) limits.rounds limits.moves start root.entry
-        → IsEnded (P.fits pricer.now) (P.snapshot pricer.now) limits.rounds limits.moves start
+        → IsTurned (P.fits pricer.now) (P.snapshot pricer.now) limits.rounds limits.most_tours start
+        root.entry → IsEnded (P.fits pricer.now) (P.snapshot pricer.now) limits.rounds limits.most_tours start
         begun.turns.items begun.search) }
 {
     let Begun { mut search, turns } = begin(alloc, pricer, root, limits)?;
-    search.run(rt, alloc, pricer, limits.rounds, limits.moves, desks, gate)?;
+    search.run(
+        rt,
+        alloc,
+        pricer,
+        limits.rounds,
+        limits.most_tours,
+        desks,
+        gate,
+    )?;
     Ok(Begun { search, turns })
 }
 
@@ -253,18 +224,18 @@ fn end<P: Pricer>(
     limits: Limits,
 ) -> Result<Found, AllocError>
     requires ended { (start : PriceSheet) × (pos 0 ≤ℤ sum_of_sheet start)
-        × IsEnded (P.fits pricer.now) (P.snapshot pricer.now) limits.rounds limits.moves start
+        × IsEnded (P.fits pricer.now) (P.snapshot pricer.now) limits.rounds limits.most_tours start
         begun.turns.items begun.search }
     ensures found { IfOk result (λ f. (start : PriceSheet)
-        → IsEnded (P.fits pricer.now) (P.snapshot pricer.now) limits.rounds limits.moves start
+        → IsEnded (P.fits pricer.now) (P.snapshot pricer.now) limits.rounds limits.most_tours start
         begun.entry.turns.items begun.entry.search
         → IsFound (P.fits pricer.now) start.prices (rounded_up (sum_of_sheet start)) (P.snapshot pricer.now)
-        limits.rounds limits.moves f.plan f.cost f.bound f.tree.twigs f.turns f.why) }
+        limits.rounds limits.most_tours f.plan f.cost f.bound f.tree.twigs f.turns f.why) }
     ensures sized { IfOk result (λ f. All IsSizedTwig f.tree.twigs) }
 {
     let Begun { search, turns } = begun;
     let calls = search.best.pool.snapshot().calls().len();
-    let why = search.reason(calls, limits.moves);
+    let why = search.reason(calls, limits.most_tours);
     let Search { tree, best, .. } = search;
     answer(alloc, tree, best, turns, why)
 }
@@ -278,12 +249,12 @@ fn close<P: Pricer>(
 ) -> Result<Found, AllocError>
     requires accepted { IsAccepted (P.snapshot pricer.now) }
     requires turned { (start : PriceSheet) × (pos 0 ≤ℤ sum_of_sheet start)
-        × IsTurned (P.fits pricer.now) (P.snapshot pricer.now) limits.rounds limits.moves start root }
-    requires closed { pos root.best.cost ≤ℤ bound_of_sheet (at_place root.tree 0).sheet }
+        × IsTurned (P.fits pricer.now) (P.snapshot pricer.now) limits.rounds limits.most_tours start root }
+    requires closed { pos root.best.cost ≤ℤ bound_of_sheet (at_place root.tree.branches 0).sheet }
     ensures found { IfOk result (λ f. (start : PriceSheet)
-        → IsTurned (P.fits pricer.now) (P.snapshot pricer.now) limits.rounds limits.moves start root.entry
-        → IsFound (P.fits pricer.now) start.prices (rounded_up (sum_of_sheet start)) (P.snapshot pricer.now)
-        limits.rounds limits.moves f.plan f.cost f.bound f.tree.twigs f.turns f.why) }
+        → IsTurned (P.fits pricer.now) (P.snapshot pricer.now) limits.rounds limits.most_tours start
+        root.entry → IsFound (P.fits pricer.now) start.prices (rounded_up (sum_of_sheet start)) (P.snapshot pricer.now)
+        limits.rounds limits.most_tours f.plan f.cost f.bound f.tree.twigs f.turns f.why) }
     ensures sized { IfOk result (λ f. All IsSizedTwig f.tree.twigs) }
 {
     let Root {
@@ -309,17 +280,27 @@ fn turned<'a, P: Pricer, G: Gate + Sync>(
 ) -> Result<Root<'a>, AllocError>
     requires snapshot { P.snapshot pricer.now ≡ snapshot.now }
     requires start { IsFeasiblePlan snapshot.now start }
-    requires sheet { IsSheetIn (P.fits pricer.now) snapshot.now limits.moves (root_of snapshot.now) sheet }
+    requires sheet { IsSheetIn (P.fits pricer.now) snapshot.now limits.most_tours
+        (root_of snapshot.now) sheet }
     requires rounds { 1 ≤ limits.rounds }
-    requires moves { (1 ≤ limits.moves) × (limits.moves ≤ 10 ^ 18) }
+    requires most_tours { (1 ≤ limits.most_tours) × (limits.most_tours ≤ 10 ^ 18) }
     requires desks { Serving (P.owns pricer.now) desks.old }
-    ensures turned { IfOk result (IsTurned (P.fits pricer.now) (P.snapshot pricer.now) limits.rounds limits.moves sheet) }
+    ensures turned { IfOk result
+        (IsTurned (P.fits pricer.now) (P.snapshot pricer.now) limits.rounds limits.most_tours sheet) }
     ensures accepted { IsAccepted (P.snapshot pricer.now) }
     ensures desks { IfOk result (λ _. Serving (P.owns pricer.now) desks.new) }
 {
     prove!(snapshot.calls().len() <= 128);
     let mut root = Root::new(alloc, snapshot, start, sheet)?;
-    root.turn_as_due(rt, alloc, pricer, limits.rounds, limits.moves, desks, gate)?;
+    root.turn_as_due(
+        rt,
+        alloc,
+        pricer,
+        limits.rounds,
+        limits.most_tours,
+        desks,
+        gate,
+    )?;
     Ok(root)
 }
 
@@ -337,13 +318,14 @@ fn find_at<P: Pricer, G: Gate + Sync>(
 ) -> Result<Found, AllocError>
     requires snapshot { P.snapshot pricer.now ≡ snapshot.now }
     requires start { IsFeasiblePlan snapshot.now start }
-    requires sheet { IsSheetIn (P.fits pricer.now) snapshot.now limits.moves (root_of snapshot.now) sheet }
+    requires sheet { IsSheetIn (P.fits pricer.now) snapshot.now limits.most_tours
+        (root_of snapshot.now) sheet }
     requires sum { pos 0 ≤ℤ sum_of_sheet sheet }
     requires rounds { (1 ≤ limits.rounds) × (limits.rounds ≤ 10 ^ 18) }
-    requires moves { (1 ≤ limits.moves) × (limits.moves ≤ 10 ^ 18) }
+    requires most_tours { (1 ≤ limits.most_tours) × (limits.most_tours ≤ 10 ^ 18) }
     requires desks { Serving (P.owns pricer.now) desks.old }
     ensures found { IfOk result (λ f. IsFound (P.fits pricer.now) sheet.prices (rounded_up (sum_of_sheet sheet)) snapshot.now
-        limits.rounds limits.moves f.plan f.cost f.bound f.tree.twigs f.turns f.why) }
+        limits.rounds limits.most_tours f.plan f.cost f.bound f.tree.twigs f.turns f.why) }
     ensures sized { IfOk result (λ f. All IsSizedTwig f.tree.twigs) }
 {
     let root = turned(
@@ -378,13 +360,14 @@ pub fn find_plan<P: Pricer, G: Gate + Sync>(
 ) -> Result<Found, AllocError>
     requires snapshot { P.snapshot pricer.now ≡ snapshot.now }
     requires start { IsFeasiblePlan snapshot.now start }
-    requires sheet { IsSheetIn (P.fits pricer.now) snapshot.now limits.moves (root_of snapshot.now) sheet }
+    requires sheet { IsSheetIn (P.fits pricer.now) snapshot.now limits.most_tours
+        (root_of snapshot.now) sheet }
     requires sum { pos 0 ≤ℤ sum_of_sheet sheet }
     requires rounds { (1 ≤ limits.rounds) × (limits.rounds ≤ 10 ^ 18) }
-    requires moves { (1 ≤ limits.moves) × (limits.moves ≤ 10 ^ 18) }
+    requires most_tours { (1 ≤ limits.most_tours) × (limits.most_tours ≤ 10 ^ 18) }
     requires workers { (1 ≤ workers) × (workers ≤ 16) }
     ensures found { IfOk result (λ f. IsFound (P.fits pricer.now) sheet.prices (rounded_up (sum_of_sheet sheet)) snapshot.now
-        limits.rounds limits.moves f.plan f.cost f.bound f.tree.twigs f.turns f.why) }
+        limits.rounds limits.most_tours f.plan f.cost f.bound f.tree.twigs f.turns f.why) }
     ensures sized { IfOk result (λ f. All IsSizedTwig f.tree.twigs) }
 {
     let mut desks = desks_for(alloc, pricer, workers)?;

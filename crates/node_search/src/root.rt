@@ -3,7 +3,8 @@
 ghost use Rattle.std.specs.Prelude.{◌≡◌, ◌<◌, ◌≤◌, ◌+◌, ◌^◌, ℕ, pos, int_lt, IfOk, OnOk, length, slice_set, [], ◌∷◌, ◌++◌};
 ghost use Rattle.elevator_model.specs.Snapshot.{call_count};
 ghost use Rattle.elevator_model.specs.Plans.{IsFeasiblePlan};
-ghost use Rattle.search_tree.specs.Branches.{AreSingle, at_place, noted};
+ghost use Rattle.search_model.specs.Nodes.{IsNodeOf, root_of};
+ghost use Rattle.search_tree.specs.Branches.{AreSingle, at_place, leaf_at, noted};
 ghost use Rattle.search_tree.specs.Standing.{bound_of_sheet};
 ghost use Rattle.work_fan.specs.Work.{Serving};
 ghost use Rattle.node_search.specs.Found.{HasDueTurns};
@@ -15,6 +16,7 @@ use byte_streams::Gate;
 use call_state::Snapshot;
 use elevator_model::Plan;
 use price_scale::Price;
+use price_steps::Steps;
 use pricing_rounds::{Task, price_nodes};
 use search_model::{Items, Turn, TurnOf};
 use search_tree::{SearchTree, Sheet, first_choice};
@@ -27,7 +29,7 @@ use std::thread::Threads;
 #[derive(Drop)]
 pub(crate) struct Root<'a> {
     /// One leaf.
-    pub(crate) tree: SearchTree,
+    pub(crate) tree: SearchTree<Steps>,
     pub(crate) best: Best<'a>,
     pub(crate) turns: Vec<Turn>,
     /// The prices of the next turn.
@@ -39,11 +41,27 @@ pub(crate) struct Root<'a> {
 /// The most turns that are made at the root.
 pub(crate) const MOST_TURNS: usize = 20;
 
+/// The tree of the root alone, with these prices and worths. It fails only where there is no memory left.
+fn tree_of(
+    alloc: Global,
+    snapshot: &Snapshot,
+    sheet: Sheet,
+) -> Result<SearchTree<Steps>, AllocError>
+    ensures node { IfOk result (λ _. IsNodeOf snapshot.now (root_of snapshot.now)) }
+    ensures tree { IfOk result
+        (λ tree. tree.branches ≡ leaf_at (root_of snapshot.now) sheet 0 ∷ []) }
+{
+    let node = root_node(alloc, snapshot)?;
+    let cars = snapshot.building().cars().len();
+    let steps = Steps::new(alloc, sheet.prices().len(), cars)?;
+    let tree = SearchTree::new(alloc, node, sheet, steps)?;
+    Ok(tree)
+}
+
 impl<'a> Root<'a> {
     ghost use Rattle.elevator_model.specs.Snapshot.{IsAccepted};
-    ghost use Rattle.search_model.specs.Nodes.{root_of};
     ghost use Rattle.search_tree.specs.Answers.{AreAnswersIn};
-    ghost use Rattle.node_search.specs.Roots.{HasOneTurn, HasTurned, IsEnough, IsNewRoot, IsRoot, IsSolvedIfUnspent, turn_with};
+    ghost use Rattle.node_search.specs.Roots.{HasOneTurn, HasTakenIn, HasTurned, IsEnough, IsNewRoot, IsRoot, IsSolvedIfUnspent, turn_with};
 
     /// The root with these prices and worths, before its first turn. It fails only where there is no memory
     /// left.
@@ -59,10 +77,11 @@ impl<'a> Root<'a> {
     {
         let prices = sheet.prices().to_vec(alloc)?;
         let step = greatest_of(&prices);
-        let node = root_node(alloc, snapshot)?;
+        let best = Best::new(alloc, snapshot, start)?;
+        let tree = tree_of(alloc, snapshot, sheet)?;
         Ok(Root {
-            tree: SearchTree::new(alloc, node, sheet)?,
-            best: Best::new(alloc, snapshot, start)?,
+            tree,
+            best,
             turns: Vec::new(alloc),
             prices,
             step,
@@ -71,8 +90,9 @@ impl<'a> Root<'a> {
 
     /// Whether its bound is below the cost of the cheapest plan that is known.
     pub(crate) fn is_open(&self) -> bool
-        requires { 0 < length self.now.tree }
-        ensures { result ≡ int_lt (bound_of_sheet (at_place self.now.tree 0).sheet) (pos self.now.best.cost) }
+        requires { 0 < length self.now.tree.branches }
+        ensures { result ≡ int_lt (bound_of_sheet (at_place self.now.tree.branches 0).sheet)
+            (pos self.now.best.cost) }
     {
         self.tree.branches()[0].sheet.bound() < i128::from(self.best.cost)
     }
@@ -95,15 +115,16 @@ impl<'a> Root<'a> {
         rt: &(impl Threads + Sync),
         alloc: Global,
         pricer: &P,
-        moves: u64,
+        most_tours: u64,
         desks: &mut [P::Desk],
         gate: &G,
     ) -> Result<Vec<TurnOf>, AllocError>
         requires accepted { IsAccepted (P.snapshot pricer.now) }
-        requires root { IsRoot (P.fits pricer.now) (P.snapshot pricer.now) moves self.now }
-        requires moves { (1 ≤ moves) × (moves ≤ 10 ^ 18) }
+        requires root { IsRoot (P.fits pricer.now) (P.snapshot pricer.now) most_tours self.now }
+        requires most_tours { (1 ≤ most_tours) × (most_tours ≤ 10 ^ 18) }
         requires desks { Serving (P.owns pricer.now) desks.old }
-        ensures answers { IfOk result (λ cars. AreAnswersIn (P.fits pricer.now) (P.snapshot pricer.now) moves
+        ensures answers { IfOk result
+            (λ cars. AreAnswersIn (P.fits pricer.now) (P.snapshot pricer.now) most_tours
             (root_of (P.snapshot pricer.now)) self.now.prices.items cars.items) }
         ensures desks { Serving (P.owns pricer.now) desks.new }
     {
@@ -113,7 +134,51 @@ impl<'a> Root<'a> {
             prices: &self.prices,
         }];
         let sizes = self.last_sizes(alloc)?;
-        price_nodes(rt, alloc, pricer, cars, &tasks, &sizes, moves, desks, gate)
+        price_nodes(
+            rt, alloc, pricer, cars, &tasks, &sizes, most_tours, desks, gate,
+        )
+    }
+
+    /// Takes in the pricings of all cars at the present prices, and answers the prices of the next turn. It fails only
+    /// where there is no memory left.
+    fn take_in<P: Pricer>(
+        &mut self,
+        alloc: Global,
+        pricer: &P,
+        most_tours: u64,
+        cars: &[TurnOf],
+    ) -> Result<Vec<Price>, AllocError>
+        requires accepted { IsAccepted (P.snapshot pricer.now) }
+        requires root { IsRoot (P.fits pricer.now) (P.snapshot pricer.now) most_tours self.old }
+        requires turns { length self.old.turns.items < MOST_TURNS }
+        requires answers { AreAnswersIn (P.fits pricer.now) (P.snapshot pricer.now) most_tours
+            (root_of (P.snapshot pricer.now)) self.old.prices.items cars.now }
+        requires most_tours { 1 ≤ most_tours }
+        ensures { IfOk result (λ next. HasTakenIn (P.snapshot pricer.now) most_tours
+            self.old self.new next.items cars.now) }
+    {
+        self.tree.note(0, &self.prices, cars);
+        self.best.put_tours(alloc, cars)?;
+        self.best.select(alloc, &self.prices, most_tours)?;
+        let step = step_after(self.step, self.turns.len());
+        let next = prices_after(alloc, &self.prices, cars, step)?;
+        Ok(next)
+    }
+
+    /// Puts the turn at the present prices behind the others, and goes on to the next prices. It fails only where there
+    /// is no memory left.
+    fn push_turn(&mut self, next: Vec<Price>, cars: Vec<TurnOf>) -> Result<(), AllocError>
+        ensures tree { self.new.tree ≡ self.old.tree }
+        ensures best { self.new.best ≡ self.old.best }
+        ensures step { self.new.step ≡ self.old.step }
+        ensures prices { OnOk result (self.new.prices.items ≡ next.items) }
+        ensures turns { OnOk result
+            (self.new.turns.items ≡ self.old.turns.items ++ turn_with self.old.prices.items cars.items ∷ []) }
+    {
+        let prices = Items::from_vec(replace(&mut self.prices, next));
+        let cars = Items::from_vec(cars);
+        self.turns.push(Turn { prices, cars })?;
+        Ok(())
     }
 
     /// Takes in the pricings of all cars at the present prices. It fails only where there is no memory left.
@@ -121,30 +186,25 @@ impl<'a> Root<'a> {
         &mut self,
         alloc: Global,
         pricer: &P,
-        moves: u64,
+        most_tours: u64,
         cars: Vec<TurnOf>,
     ) -> Result<(), AllocError>
         requires accepted { IsAccepted (P.snapshot pricer.now) }
-        requires root { IsRoot (P.fits pricer.now) (P.snapshot pricer.now) moves self.old }
+        requires root { IsRoot (P.fits pricer.now) (P.snapshot pricer.now) most_tours self.old }
         requires turns { length self.old.turns.items < MOST_TURNS }
-        requires answers { AreAnswersIn (P.fits pricer.now) (P.snapshot pricer.now) moves
+        requires answers { AreAnswersIn (P.fits pricer.now) (P.snapshot pricer.now) most_tours
             (root_of (P.snapshot pricer.now)) self.old.prices.items cars.items }
-        requires moves { 1 ≤ moves }
-        ensures root { OnOk result (IsRoot (P.fits pricer.now) (P.snapshot pricer.now) moves self.new) }
+        requires most_tours { 1 ≤ most_tours }
+        ensures root { OnOk result (IsRoot (P.fits pricer.now) (P.snapshot pricer.now) most_tours self.new) }
         ensures turned { OnOk result (HasTurned self.old self.new) }
         ensures turns { OnOk result
             (self.new.turns.items ≡ self.old.turns.items ++ turn_with self.old.prices.items cars.items ∷ []) }
         ensures tree { OnOk result
-            (self.new.tree ≡ slice_set self.old.tree 0 (noted (at_place self.old.tree 0) self.old.prices.items cars.items)) }
+            (self.new.tree.branches ≡ slice_set self.old.tree.branches 0
+            (noted (at_place self.old.tree.branches 0) self.old.prices.items cars.items)) }
     {
-        self.tree.note(0, &self.prices, &cars);
-        self.best.put_tours(alloc, &cars)?;
-        self.best.select(alloc, &self.prices, moves)?;
-        let step = step_after(self.step, self.turns.len());
-        let next = prices_after(alloc, &self.prices, &cars, step)?;
-        let prices = Items::from_vec(replace(&mut self.prices, next));
-        let cars = Items::from_vec(cars);
-        self.turns.push(Turn { prices, cars })?;
+        let next = self.take_in(alloc, pricer, most_tours, &cars)?;
+        self.push_turn(next, cars)?;
         Ok(())
     }
 
@@ -154,25 +214,25 @@ impl<'a> Root<'a> {
         rt: &(impl Threads + Sync),
         alloc: Global,
         pricer: &P,
-        moves: u64,
+        most_tours: u64,
         desks: &mut [P::Desk],
         gate: &G,
     ) -> Result<(), AllocError>
         requires accepted { IsAccepted (P.snapshot pricer.now) }
-        requires root { IsRoot (P.fits pricer.now) (P.snapshot pricer.now) moves self.old }
+        requires root { IsRoot (P.fits pricer.now) (P.snapshot pricer.now) most_tours self.old }
         requires turns { length self.old.turns.items < MOST_TURNS }
-        requires moves { (1 ≤ moves) × (moves ≤ 10 ^ 18) }
+        requires most_tours { (1 ≤ most_tours) × (most_tours ≤ 10 ^ 18) }
         requires desks { Serving (P.owns pricer.now) desks.old }
-        ensures root { OnOk result (IsRoot (P.fits pricer.now) (P.snapshot pricer.now) moves self.new) }
+        ensures root { OnOk result (IsRoot (P.fits pricer.now) (P.snapshot pricer.now) most_tours self.new) }
         ensures turned { OnOk result (HasTurned self.old self.new) }
         ensures turns { OnOk result
             (length self.new.turns.items ≡ length self.old.turns.items + 1) }
         ensures first { OnOk result (self.old.turns.items ≡ []
-            → HasOneTurn (P.fits pricer.now) (P.snapshot pricer.now) moves self.new) }
+            → HasOneTurn (P.fits pricer.now) (P.snapshot pricer.now) most_tours self.new) }
         ensures desks { OnOk result (Serving (P.owns pricer.now) desks.new) }
     {
-        let cars = self.price(rt, alloc, pricer, moves, desks, gate)?;
-        self.take(alloc, pricer, moves, cars)?;
+        let cars = self.price(rt, alloc, pricer, most_tours, desks, gate)?;
+        self.take(alloc, pricer, most_tours, cars)?;
         Ok(())
     }
 
@@ -182,18 +242,18 @@ impl<'a> Root<'a> {
         rt: &(impl Threads + Sync),
         alloc: Global,
         pricer: &P,
-        moves: u64,
+        most_tours: u64,
         most: usize,
         desks: &mut [P::Desk],
         gate: &G,
     ) -> Result<(), AllocError>
         requires accepted { IsAccepted (P.snapshot pricer.now) }
-        requires root { IsRoot (P.fits pricer.now) (P.snapshot pricer.now) moves self.old }
+        requires root { IsRoot (P.fits pricer.now) (P.snapshot pricer.now) most_tours self.old }
         requires most { length self.old.turns.items ≤ most }
         requires few { most ≤ MOST_TURNS }
-        requires moves { (1 ≤ moves) × (moves ≤ 10 ^ 18) }
+        requires most_tours { (1 ≤ most_tours) × (most_tours ≤ 10 ^ 18) }
         requires desks { Serving (P.owns pricer.now) desks.old }
-        ensures root { OnOk result (IsRoot (P.fits pricer.now) (P.snapshot pricer.now) moves self.new) }
+        ensures root { OnOk result (IsRoot (P.fits pricer.now) (P.snapshot pricer.now) most_tours self.new) }
         ensures turned { OnOk result (HasTurned self.old self.new) }
         ensures enough { OnOk result (IsEnough most self.new) }
         ensures desks { OnOk result (Serving (P.owns pricer.now) desks.new) }
@@ -202,7 +262,7 @@ impl<'a> Root<'a> {
             if !self.is_open() {
                 break;
             }
-            self.turn(rt, alloc, pricer, moves, desks, gate)?;
+            self.turn(rt, alloc, pricer, most_tours, desks, gate)?;
         }
         Ok(())
     }
@@ -213,12 +273,12 @@ impl<'a> Root<'a> {
         &mut self,
         alloc: Global,
         pricer: &P,
-        moves: u64,
+        most_tours: u64,
     ) -> Result<(), AllocError>
-        requires root { IsRoot (P.fits pricer.now) (P.snapshot pricer.now) moves self.old }
+        requires root { IsRoot (P.fits pricer.now) (P.snapshot pricer.now) most_tours self.old }
         requires single { AreSingle (call_count (P.snapshot pricer.now)) (root_of (P.snapshot pricer.now)) }
-        requires one { HasOneTurn (P.fits pricer.now) (P.snapshot pricer.now) moves self.old }
-        ensures root { OnOk result (IsRoot (P.fits pricer.now) (P.snapshot pricer.now) moves self.new) }
+        requires one { HasOneTurn (P.fits pricer.now) (P.snapshot pricer.now) most_tours self.old }
+        ensures root { OnOk result (IsRoot (P.fits pricer.now) (P.snapshot pricer.now) most_tours self.new) }
         ensures turned { OnOk result (HasTurned self.old self.new) }
         ensures turns { OnOk result (self.new.turns.items ≡ self.old.turns.items) }
         ensures solved { OnOk result (IsSolvedIfUnspent self.new) }
@@ -228,7 +288,7 @@ impl<'a> Root<'a> {
             let turn = &self.turns[0];
             let (prices, cars) = (turn.prices.as_slice(), turn.cars.as_slice());
             self.best
-                .offer_tours(alloc, pricer, moves, &branch.node, prices, cars)?;
+                .offer_tours(alloc, pricer, most_tours, &branch.node, prices, cars)?;
         }
         Ok(())
     }
@@ -240,24 +300,24 @@ impl<'a> Root<'a> {
         rt: &(impl Threads + Sync),
         alloc: Global,
         pricer: &P,
-        moves: u64,
+        most_tours: u64,
         desks: &mut [P::Desk],
         gate: &G,
     ) -> Result<(), AllocError>
         requires accepted { IsAccepted (P.snapshot pricer.now) }
-        requires root { IsRoot (P.fits pricer.now) (P.snapshot pricer.now) moves self.old }
+        requires root { IsRoot (P.fits pricer.now) (P.snapshot pricer.now) most_tours self.old }
         requires single { AreSingle (call_count (P.snapshot pricer.now)) (root_of (P.snapshot pricer.now)) }
         requires turns { self.old.turns.items ≡ [] }
-        requires moves { (1 ≤ moves) × (moves ≤ 10 ^ 18) }
+        requires most_tours { (1 ≤ most_tours) × (most_tours ≤ 10 ^ 18) }
         requires desks { Serving (P.owns pricer.now) desks.old }
-        ensures root { OnOk result (IsRoot (P.fits pricer.now) (P.snapshot pricer.now) moves self.new) }
+        ensures root { OnOk result (IsRoot (P.fits pricer.now) (P.snapshot pricer.now) most_tours self.new) }
         ensures turned { OnOk result (HasTurned self.old self.new) }
         ensures turns { OnOk result (length self.new.turns.items ≡ 1) }
         ensures solved { OnOk result (IsSolvedIfUnspent self.new) }
         ensures desks { OnOk result (Serving (P.owns pricer.now) desks.new) }
     {
-        self.turn(rt, alloc, pricer, moves, desks, gate)?;
-        self.offer_turn(alloc, pricer, moves)?;
+        self.turn(rt, alloc, pricer, most_tours, desks, gate)?;
+        self.offer_turn(alloc, pricer, most_tours)?;
         Ok(())
     }
 
@@ -269,17 +329,17 @@ impl<'a> Root<'a> {
         alloc: Global,
         pricer: &P,
         rounds: u64,
-        moves: u64,
+        most_tours: u64,
         desks: &mut [P::Desk],
         gate: &G,
     ) -> Result<(), AllocError>
         requires accepted { IsAccepted (P.snapshot pricer.now) }
-        requires root { IsRoot (P.fits pricer.now) (P.snapshot pricer.now) moves self.old }
+        requires root { IsRoot (P.fits pricer.now) (P.snapshot pricer.now) most_tours self.old }
         requires turns { self.old.turns.items ≡ [] }
         requires rounds { 1 ≤ rounds }
-        requires moves { (1 ≤ moves) × (moves ≤ 10 ^ 18) }
+        requires most_tours { (1 ≤ most_tours) × (most_tours ≤ 10 ^ 18) }
         requires desks { Serving (P.owns pricer.now) desks.old }
-        ensures root { OnOk result (IsRoot (P.fits pricer.now) (P.snapshot pricer.now) moves self.new) }
+        ensures root { OnOk result (IsRoot (P.fits pricer.now) (P.snapshot pricer.now) most_tours self.new) }
         ensures turned { OnOk result (HasTurned self.old self.new) }
         ensures due { OnOk result (HasDueTurns (P.snapshot pricer.now) rounds self.new) }
         ensures desks { OnOk result (Serving (P.owns pricer.now) desks.new) }
@@ -287,9 +347,9 @@ impl<'a> Root<'a> {
         let calls = self.prices.len();
         if first_choice(&self.tree.branches()[0].node, calls).is_some() {
             let most = rounds.min(MOST_TURNS as u64) as usize;
-            self.turn_until(rt, alloc, pricer, moves, most, desks, gate)?;
+            self.turn_until(rt, alloc, pricer, most_tours, most, desks, gate)?;
         } else if self.is_open() {
-            self.turn_once(rt, alloc, pricer, moves, desks, gate)?;
+            self.turn_once(rt, alloc, pricer, most_tours, desks, gate)?;
         }
         Ok(())
     }

@@ -7,6 +7,7 @@ ghost use Rattle.node_search.specs.Searches.{ArePriced, AreTaken, AreTasksFor, H
 
 use crate::choosing::chosen;
 use crate::search::Search;
+use crate::steps::next_prices;
 use assign_branch::Pricer;
 use byte_streams::Gate;
 use price_scale::Price;
@@ -27,12 +28,12 @@ impl<'a> Search<'a> {
     /// The leaf at this place, with the prices of its next pricing. It fails only where there is no memory
     /// left.
     fn chosen_at(&self, alloc: Global, place: usize) -> Result<Chosen, AllocError>
-        requires { place < length self.now.tree }
+        requires { place < length self.now.tree.branches }
         ensures { IfOk result (IsPricedFrom self.now place) }
     {
         let branch = &self.tree.branches()[place];
         let (cost, pool) = (self.best.cost, &self.best.pool);
-        let prices = self.steps.next_prices(alloc, place, branch, cost, pool)?;
+        let prices = next_prices(alloc, self.tree.payload(place), branch, cost, pool)?;
         Ok(Chosen { place, prices })
     }
 
@@ -56,7 +57,7 @@ impl<'a> Search<'a> {
         alloc: Global,
         chosen: &'b [Chosen],
     ) -> Result<Vec<Task<'b>>, AllocError>
-        requires { All (λ (c : Chosen). c.place < length self.now.tree) chosen.now }
+        requires { All (λ (c : Chosen). c.place < length self.now.tree.branches) chosen.now }
         ensures { IfOk result (λ tasks. AreTasksFor self.now chosen.now tasks.items) }
     {
         let mut tasks = Vec::new(alloc);
@@ -71,7 +72,7 @@ impl<'a> Search<'a> {
     /// How many partial tours each car's pricing in each of these leaves may try, as those that gave the
     /// leaf's worths tell. It fails only where there is no memory left.
     fn sizes_of(&self, alloc: Global, chosen: &[Chosen]) -> Result<Vec<u64>, AllocError>
-        requires { All (λ (c : Chosen). c.place < length self.now.tree) chosen.now }
+        requires { All (λ (c : Chosen). c.place < length self.now.tree.branches) chosen.now }
     {
         let mut sizes = Vec::new(alloc);
         for index in 0..chosen.len() {
@@ -90,24 +91,26 @@ impl<'a> Search<'a> {
         rt: &(impl Threads + Sync),
         alloc: Global,
         pricer: &P,
-        moves: u64,
+        most_tours: u64,
         chosen: &[Chosen],
         desks: &mut [P::Desk],
         gate: &G,
     ) -> Result<Vec<TurnOf>, AllocError>
         requires accepted { IsAccepted (P.snapshot pricer.now) }
-        requires way { IsUnderWay (P.fits pricer.now) (P.snapshot pricer.now) moves self.now }
+        requires way { IsUnderWay (P.fits pricer.now) (P.snapshot pricer.now) most_tours self.now }
         requires taken { AreTaken (P.snapshot pricer.now) self.now chosen.now }
-        requires moves { (1 ≤ moves) × (moves ≤ 10 ^ 18) }
+        requires most_tours { (1 ≤ most_tours) × (most_tours ≤ 10 ^ 18) }
         requires desks { Serving (P.owns pricer.now) desks.old }
         ensures priced { IfOk result (λ answers. ArePriced (P.fits pricer.now)
-            (P.snapshot pricer.now) moves self.now chosen.now answers.items) }
+            (P.snapshot pricer.now) most_tours self.now chosen.now answers.items) }
         ensures desks { All (P.owns pricer.now) desks.new }
     {
         let cars = self.best.pool.snapshot().building().cars().len() as u32;
         let tasks = self.tasks_of(alloc, chosen)?;
         let sizes = self.sizes_of(alloc, chosen)?;
-        price_nodes(rt, alloc, pricer, cars, &tasks, &sizes, moves, desks, gate)
+        price_nodes(
+            rt, alloc, pricer, cars, &tasks, &sizes, most_tours, desks, gate,
+        )
     }
 
     /// Takes in the pricings of every car in each of these leaves, the last leaf first: a split moves only
@@ -116,18 +119,18 @@ impl<'a> Search<'a> {
         &mut self,
         alloc: Global,
         pricer: &P,
-        moves: u64,
+        most_tours: u64,
         cars: usize,
         chosen: &[Chosen],
         answers: &[TurnOf],
     ) -> Result<(), AllocError>
         requires accepted { IsAccepted (P.snapshot pricer.now) }
-        requires way { IsUnderWay (P.fits pricer.now) (P.snapshot pricer.now) moves self.old }
+        requires way { IsUnderWay (P.fits pricer.now) (P.snapshot pricer.now) most_tours self.old }
         requires cars { cars ≡ car_count (P.snapshot pricer.now) }
-        requires priced { ArePriced (P.fits pricer.now) (P.snapshot pricer.now) moves self.old
+        requires priced { ArePriced (P.fits pricer.now) (P.snapshot pricer.now) most_tours self.old
             chosen.now answers.now }
         ensures way { OnOk result
-            (IsUnderWay (P.fits pricer.now) (P.snapshot pricer.now) moves self.new) }
+            (IsUnderWay (P.fits pricer.now) (P.snapshot pricer.now) most_tours self.new) }
         ensures advanced { OnOk result
             (HasAdvanced (P.snapshot pricer.now) (length chosen.now) self.old self.new) }
     {
@@ -135,7 +138,7 @@ impl<'a> Search<'a> {
             let Chosen { place, prices } = &chosen[index];
             let start = index * cars;
             let priced = &answers[start..start + cars];
-            self.settle(alloc, pricer, moves, *place, prices, priced)?;
+            self.settle(alloc, pricer, most_tours, *place, prices, priced)?;
         }
         Ok(())
     }
@@ -147,17 +150,17 @@ impl<'a> Search<'a> {
         rt: &(impl Threads + Sync),
         alloc: Global,
         pricer: &P,
-        moves: u64,
+        most_tours: u64,
         desks: &mut [P::Desk],
         gate: &G,
     ) -> Result<bool, AllocError>
         requires accepted { IsAccepted (P.snapshot pricer.now) }
-        requires searching { IsSearching (P.fits pricer.now) (P.snapshot pricer.now) moves self.old }
-        requires moves { (1 ≤ moves) × (moves ≤ 10 ^ 18) }
+        requires searching { IsSearching (P.fits pricer.now) (P.snapshot pricer.now) most_tours self.old }
+        requires most_tours { (1 ≤ most_tours) × (most_tours ≤ 10 ^ 18) }
         requires done { self.old.done < 10 ^ 18 }
         requires desks { Serving (P.owns pricer.now) desks.old }
         ensures searching { OnOk result
-            (IsSearching (P.fits pricer.now) (P.snapshot pricer.now) moves self.new) }
+            (IsSearching (P.fits pricer.now) (P.snapshot pricer.now) most_tours self.new) }
         ensures done { IfOk result
             (λ more. more ≡ true → HasDoneRound (P.snapshot pricer.now) self.old self.new) }
         ensures busy { IfOk result
@@ -170,10 +173,12 @@ impl<'a> Search<'a> {
         if chosen.is_empty() {
             return Ok(false);
         }
-        let answers = self.price(rt, alloc, pricer, moves, &chosen, desks, gate)?;
-        let cars = self.best.pool.snapshot().building().cars().len();
-        self.settle_all(alloc, pricer, moves, cars, &chosen, &answers)?;
-        self.best.select(alloc, &chosen[0].prices, moves)?;
+        {
+            let answers = self.price(rt, alloc, pricer, most_tours, &chosen, desks, gate)?;
+            let cars = self.best.pool.snapshot().building().cars().len();
+            self.settle_all(alloc, pricer, most_tours, cars, &chosen, &answers)?;
+        }
+        self.best.select(alloc, &chosen[0].prices, most_tours)?;
         self.done += 1;
         Ok(true)
     }
@@ -186,22 +191,22 @@ impl<'a> Search<'a> {
         alloc: Global,
         pricer: &P,
         rounds: u64,
-        moves: u64,
+        most_tours: u64,
         desks: &mut [P::Desk],
         gate: &G,
     ) -> Result<(), AllocError>
         requires accepted { IsAccepted (P.snapshot pricer.now) }
-        requires searching { IsSearching (P.fits pricer.now) (P.snapshot pricer.now) moves self.old }
-        requires moves { (1 ≤ moves) × (moves ≤ 10 ^ 18) }
+        requires searching { IsSearching (P.fits pricer.now) (P.snapshot pricer.now) most_tours self.old }
+        requires most_tours { (1 ≤ most_tours) × (most_tours ≤ 10 ^ 18) }
         requires rounds { (self.old.done ≤ rounds) × (rounds ≤ 10 ^ 18) }
         requires desks { Serving (P.owns pricer.now) desks.old }
         ensures searching { OnOk result
-            (IsSearching (P.fits pricer.now) (P.snapshot pricer.now) moves self.new) }
+            (IsSearching (P.fits pricer.now) (P.snapshot pricer.now) most_tours self.new) }
         ensures run { OnOk result (HasRun (P.snapshot pricer.now) rounds self.old self.new) }
         ensures desks { All (P.owns pricer.now) desks.new }
     {
         while self.done < rounds {
-            if !self.round(rt, alloc, pricer, moves, desks, gate)? {
+            if !self.round(rt, alloc, pricer, most_tours, desks, gate)? {
                 break;
             }
         }

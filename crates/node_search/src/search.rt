@@ -13,26 +13,45 @@ ghost use Rattle.node_search.specs.Best.{IsBest};
 ghost use Rattle.node_search.specs.Searches.{HasSettled, IsPlanOf, IsPricingOf, IsUnderWay};
 
 use crate::best::Best;
-use crate::steps::NodeSteps;
+use crate::steps::{note, split};
 use assign_branch::{Node, Pricer};
 use elevator_model::Plan;
 use price_scale::{Price, SCALE};
+use price_steps::Steps;
 use search_model::TurnOf;
-use search_tree::{SearchTree, SplitAt, first_choice};
+use search_tree::{Branch, MOST_PRICINGS, SearchTree, SplitAt, first_choice};
 use std::alloc::{AllocError, Global};
 use tour_cost::plan_cost;
-
-/// The most rounds that price a node before it is split.
-const MOST_PRICINGS: u32 = 20;
 
 /// A search below the root.
 #[derive(Drop)]
 pub(crate) struct Search<'a> {
-    pub(crate) tree: SearchTree,
+    pub(crate) tree: SearchTree<Steps>,
     pub(crate) best: Best<'a>,
-    pub(crate) steps: NodeSteps,
     /// How many rounds were done.
     pub(crate) done: u64,
+}
+
+/// How far the leaf's sum lies below the cost of a plan, in thousandths of a cost unit.
+fn gap_of(leaf: &Branch, cost: u64) -> i128 {
+    SCALE
+        .saturating_mul(i128::from(cost))
+        .saturating_sub(leaf.sheet.sum())
+}
+
+/// Gives a plan without tours those that the pricings of all cars gave. It fails only where there is no memory left.
+fn push_tours(plan: &mut Plan, alloc: Global, cars: &[TurnOf]) -> Result<(), AllocError>
+    requires none { length plan.old ≡ 0 }
+    requires tours { (c : ℕ) → c < length cars.now → IsSome (slice_index_or cars.now c no_turn).tour }
+    ensures { OnOk result (IsPlanOf cars.now plan.new) }
+{
+    for car in 0..cars.len() {
+        let Some(tour) = &cars[car].tour else {
+            unreachable!()
+        };
+        plan.push(tour.copy(alloc)?)?;
+    }
+    Ok(())
 }
 
 /// The plan of the tours that the pricings of all cars gave. It fails only where there is no memory left.
@@ -41,12 +60,7 @@ fn plan_of(alloc: Global, cars: &[TurnOf]) -> Result<Plan, AllocError>
     ensures { IfOk result (IsPlanOf cars.now) }
 {
     let mut plan = Plan::new(alloc);
-    for car in 0..cars.len() {
-        let Some(tour) = &cars[car].tour else {
-            unreachable!()
-        };
-        plan.push(tour.copy(alloc)?)?;
-    }
+    push_tours(&mut plan, alloc, cars)?;
     Ok(plan)
 }
 
@@ -57,7 +71,7 @@ impl<'a> Best<'a> {
         &mut self,
         alloc: Global,
         pricer: &P,
-        moves: u64,
+        most_tours: u64,
         node: &Node,
         prices: &[Price],
         cars: &[TurnOf],
@@ -65,7 +79,8 @@ impl<'a> Best<'a> {
         requires best { IsBest (P.snapshot pricer.now) self.old }
         requires node { IsNodeOf (P.snapshot pricer.now) node.now }
         requires single { AreSingle (call_count (P.snapshot pricer.now)) node.now }
-        requires answers { AreAnswersIn (P.fits pricer.now) (P.snapshot pricer.now) moves node.now prices.now cars.now }
+        requires answers { AreAnswersIn (P.fits pricer.now) (P.snapshot pricer.now) most_tours
+            node.now prices.now cars.now }
         requires none { (c : ℕ) → c < length cars.now
             → (slice_index_or cars.now c no_turn).priced.spent ≡ false }
         ensures best { OnOk result (IsBest (P.snapshot pricer.now) self.new) }
@@ -85,25 +100,26 @@ impl<'a> Best<'a> {
 impl<'a> Search<'a> {
     /// Whether the leaf is to be split: after as many pricings as it may have, or where they gain little.
     fn is_due(&self, place: usize) -> bool
-        requires { place < length self.now.tree }
+        requires { place < length self.now.tree.branches }
         ensures open { result ≡ true
-            → bound_of_sheet (at_place self.now.tree place).sheet <ℤ pos self.now.best.cost }
-        ensures most { result ≡ false → MOST_PRICINGS ≤ (at_place self.now.tree place).rounds
-            → pos self.now.best.cost ≤ℤ bound_of_sheet (at_place self.now.tree place).sheet }
-        ensures root { result ≡ true → (at_place self.now.tree place).depth ≡ 0
-            → MOST_PRICINGS ≤ (at_place self.now.tree place).rounds }
+            → bound_of_sheet (at_place self.now.tree.branches place).sheet <ℤ pos self.now.best.cost }
+        ensures most { result ≡ false → MOST_PRICINGS ≤ (at_place self.now.tree.branches place).rounds
+            → pos self.now.best.cost ≤ℤ bound_of_sheet (at_place self.now.tree.branches place).sheet }
+        ensures root { result ≡ true → (at_place self.now.tree.branches place).depth ≡ 0
+            → MOST_PRICINGS ≤ (at_place self.now.tree.branches place).rounds }
     {
         let branch = &self.tree.branches()[place];
         if branch.sheet.bound() >= i128::from(self.best.cost) {
             return false;
         }
-        if branch.depth == 0 {
-            return branch.rounds >= MOST_PRICINGS;
+        if branch.rounds >= MOST_PRICINGS {
+            return true;
         }
-        let gap = SCALE
-            .saturating_mul(i128::from(self.best.cost))
-            .saturating_sub(branch.sheet.sum());
-        branch.rounds >= MOST_PRICINGS || self.steps.is_due(place, gap)
+        if branch.depth == 0 {
+            return false;
+        }
+        let gap = gap_of(branch, self.best.cost);
+        self.tree.payload(place).is_due(gap)
     }
 }
 
@@ -115,24 +131,26 @@ impl<'a> Search<'a> {
         &mut self,
         alloc: Global,
         pricer: &P,
-        moves: u64,
+        most_tours: u64,
         place: usize,
         prices: &[Price],
         cars: &[TurnOf],
     ) -> Result<(), AllocError>
         requires accepted { IsAccepted (P.snapshot pricer.now) }
-        requires way { IsUnderWay (P.fits pricer.now) (P.snapshot pricer.now) moves self.old }
-        requires pricing { IsPricingOf (P.fits pricer.now) (P.snapshot pricer.now) moves self.old place prices.now cars.now }
-        requires single { AreSingle (call_count (P.snapshot pricer.now)) (at_place self.old.tree place).node }
+        requires way { IsUnderWay (P.fits pricer.now) (P.snapshot pricer.now) most_tours self.old }
+        requires pricing { IsPricingOf (P.fits pricer.now) (P.snapshot pricer.now) most_tours self.old
+            place prices.now cars.now }
+        requires single { AreSingle (call_count (P.snapshot pricer.now))
+            (at_place self.old.tree.branches place).node }
         ensures way { OnOk result
-            (IsUnderWay (P.fits pricer.now) (P.snapshot pricer.now) moves self.new) }
+            (IsUnderWay (P.fits pricer.now) (P.snapshot pricer.now) most_tours self.new) }
         ensures settled { OnOk result (HasSettled (P.snapshot pricer.now) self.old self.new place) }
     {
         self.tree.note(place, prices, cars);
         let branch = &self.tree.branches()[place];
         if branch.spent.is_none() {
             self.best
-                .offer_tours(alloc, pricer, moves, &branch.node, prices, cars)?;
+                .offer_tours(alloc, pricer, most_tours, &branch.node, prices, cars)?;
         }
         Ok(())
     }
@@ -143,36 +161,26 @@ impl<'a> Search<'a> {
         &mut self,
         alloc: Global,
         pricer: &P,
-        moves: u64,
+        most_tours: u64,
         place: usize,
         prices: &[Price],
         cars: &[TurnOf],
         first: SplitAt,
     ) -> Result<(), AllocError>
         requires accepted { IsAccepted (P.snapshot pricer.now) }
-        requires way { IsUnderWay (P.fits pricer.now) (P.snapshot pricer.now) moves self.old }
-        requires pricing { IsPricingOf (P.fits pricer.now) (P.snapshot pricer.now) moves self.old place prices.now cars.now }
+        requires way { IsUnderWay (P.fits pricer.now) (P.snapshot pricer.now) most_tours self.old }
+        requires pricing { IsPricingOf (P.fits pricer.now) (P.snapshot pricer.now) most_tours self.old
+            place prices.now cars.now }
         requires call { first.call < call_count (P.snapshot pricer.now) }
-        requires part { is_part (set_of (at_place self.old.tree place).node first.call) first.part ≡ true }
+        requires part { is_part (set_of (at_place self.old.tree.branches place).node first.call)
+            first.part ≡ true }
         ensures way { OnOk result
-            (IsUnderWay (P.fits pricer.now) (P.snapshot pricer.now) moves self.new) }
+            (IsUnderWay (P.fits pricer.now) (P.snapshot pricer.now) most_tours self.new) }
         ensures settled { OnOk result (HasSettled (P.snapshot pricer.now) self.old self.new place) }
     {
-        let sum = self.tree.branches()[place].sheet.sum();
-        self.tree.note(place, prices, cars);
-        let branch = &self.tree.branches()[place];
-        let gain = branch.sheet.sum().saturating_sub(sum);
-        self.steps.note(place, cars, gain, branch.spent.is_some());
+        note(&mut self.tree, place, prices, cars);
         if self.is_due(place) {
-            let at = self.steps.choice(
-                place,
-                &self.tree.branches()[place].node,
-                prices.len(),
-                first,
-            );
-            if self.tree.split(alloc, place, at.call, at.part)? {
-                self.steps.split(alloc, place)?;
-            }
+            split(&mut self.tree, alloc, place, prices.len(), first)?;
         }
         Ok(())
     }
@@ -184,23 +192,24 @@ impl<'a> Search<'a> {
         &mut self,
         alloc: Global,
         pricer: &P,
-        moves: u64,
+        most_tours: u64,
         place: usize,
         prices: &[Price],
         cars: &[TurnOf],
     ) -> Result<(), AllocError>
         requires accepted { IsAccepted (P.snapshot pricer.now) }
-        requires way { IsUnderWay (P.fits pricer.now) (P.snapshot pricer.now) moves self.old }
-        requires pricing { IsPricingOf (P.fits pricer.now) (P.snapshot pricer.now) moves self.old place prices.now cars.now }
+        requires way { IsUnderWay (P.fits pricer.now) (P.snapshot pricer.now) most_tours self.old }
+        requires pricing { IsPricingOf (P.fits pricer.now) (P.snapshot pricer.now) most_tours self.old
+            place prices.now cars.now }
         ensures way { OnOk result
-            (IsUnderWay (P.fits pricer.now) (P.snapshot pricer.now) moves self.new) }
+            (IsUnderWay (P.fits pricer.now) (P.snapshot pricer.now) most_tours self.new) }
         ensures settled { OnOk result (HasSettled (P.snapshot pricer.now) self.old self.new place) }
     {
         prove!(self.best.pool.snapshot().calls().len() <= 128);
         self.best.put_tours(alloc, cars)?;
         match first_choice(&self.tree.branches()[place].node, prices.len()) {
-            Some(first) => self.settle_open(alloc, pricer, moves, place, prices, cars, first),
-            None => self.settle_single(alloc, pricer, moves, place, prices, cars),
+            Some(first) => self.settle_open(alloc, pricer, most_tours, place, prices, cars, first),
+            None => self.settle_single(alloc, pricer, most_tours, place, prices, cars),
         }
     }
 }

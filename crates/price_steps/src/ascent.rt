@@ -6,7 +6,7 @@
 
 ghost use Rattle.std.specs.Prelude.{◌≡◌, ◌≤◌, length};
 
-use crate::columns::{Turn, turn_at};
+use crate::columns::{Estimate, estimate_at};
 use crate::fixed::{ONE, percent_of};
 use crate::moves::step;
 use assign_branch::Node;
@@ -15,7 +15,7 @@ use price_scale::Price;
 use restricted_master::Pool;
 
 /// How often the prices are moved at most.
-const TURNS: u32 = 30;
+const MOST_MOVES: u32 = 30;
 
 /// Which way the prices move, and how far.
 #[derive(Clone, Copy)]
@@ -23,14 +23,14 @@ struct Course {
     /// The greatest sum so far, and the one that is to be reached, in thousandths of a cost unit.
     sum: i128,
     target: i128,
-    /// For each call, in 2^20ths: the average of what it lacked, of which the newest turn makes a fifth.
+    /// For each call, in 2^20ths: the average of what it lacked, of which the newest estimate makes a fifth.
     direction: [i64; MOST_CALLS],
-    /// The share of the gap that a turn is to close, in 2^20ths.
+    /// The share of the gap that a move is to close, in 2^20ths.
     rate: i64,
 }
 
 impl Course {
-    fn new(first: &Turn, target: i128) -> Self {
+    fn new(first: &Estimate, target: i128) -> Self {
         Course {
             sum: first.sum,
             target,
@@ -52,14 +52,14 @@ impl Course {
         step(best, &self.direction, gap, self.rate, next);
     }
 
-    /// Notes a turn, and says whether its sum is the greatest so far.
-    fn note(&mut self, turn: &Turn) -> bool {
-        for (part, lack) in self.direction.iter_mut().zip(&turn.lacks.per_call) {
+    /// Notes an estimate, and says whether its sum is the greatest so far.
+    fn note(&mut self, estimate: &Estimate) -> bool {
+        for (part, lack) in self.direction.iter_mut().zip(&estimate.lacks.per_call) {
             *part = part.saturating_add(lack.saturating_sub(*part) / 5);
         }
-        let has_gained = self.sum < turn.sum;
+        let has_gained = self.sum < estimate.sum;
         if has_gained {
-            self.sum = turn.sum;
+            self.sum = estimate.sum;
             self.rate = percent_of(107, self.rate).min(2 * ONE);
         } else {
             self.rate = percent_of(78, self.rate);
@@ -82,13 +82,13 @@ pub(crate) fn raise(
     requires room { length next.old ≡ length best.old }
     ensures { length best.new ≡ length best.old }
 {
-    let mut course = Course::new(&turn_at(pool, node, best), target);
-    for _ in 0..TURNS {
+    let mut course = Course::new(&estimate_at(pool, node, best), target);
+    for _ in 0..MOST_MOVES {
         if course.has_arrived() {
             break;
         }
         course.step(best, next);
-        if course.note(&turn_at(pool, node, next)) {
+        if course.note(&estimate_at(pool, node, next)) {
             best.copy_from_slice(next);
         }
     }

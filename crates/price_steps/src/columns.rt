@@ -9,13 +9,13 @@ use restricted_master::{Column, Pool};
 
 /// What the cheapest of these tours say at some prices.
 #[derive(Clone, Copy)]
-pub(crate) struct Turn {
+pub(crate) struct Estimate {
     /// The prices and the least values of the cars together, in thousandths of a cost unit.
     pub(crate) sum: i128,
     pub(crate) lacks: Lacks,
 }
 
-impl Turn {
+impl Estimate {
     /// Notes the cheapest tour of a car.
     fn note(&mut self, cheapest: Cheapest) {
         self.sum = self.sum.saturating_add(cheapest.value);
@@ -66,10 +66,10 @@ fn cheapest_in(columns: &[Column], node: &Node, car: u32, prices: &[Price]) -> O
 }
 
 /// What the pool's tours in the node say at these prices. A car that has none there says nothing.
-pub(crate) fn turn_at(pool: &Pool, node: &Node, prices: &[Price]) -> Turn
+pub(crate) fn estimate_at(pool: &Pool, node: &Node, prices: &[Price]) -> Estimate
     requires { length prices.now ≤ 128 }
 {
-    let mut turn = Turn {
+    let mut estimate = Estimate {
         sum: sum_prices(prices),
         lacks: Lacks::new(prices.len()),
     };
@@ -77,8 +77,8 @@ pub(crate) fn turn_at(pool: &Pool, node: &Node, prices: &[Price]) -> Turn
     for car in 0..cars {
         let columns = pool.columns(car as u32);
         if let Some(cheapest) = cheapest_in(columns, node, car as u32, prices) {
-            turn.note(cheapest);
+            estimate.note(cheapest);
         }
     }
-    turn
+    estimate
 }

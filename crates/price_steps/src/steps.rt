@@ -13,11 +13,8 @@ use assign_branch::Node;
 use price_scale::{Price, SCALE};
 use restricted_master::Pool;
 use search_model::TurnOf;
-use search_tree::{Sheet, SplitAt, first_choice};
+use search_tree::{MOST_PRICINGS, Sheet, SplitAt, first_choice};
 use std::alloc::{AllocError, Global};
-
-/// How many pricings a node has at most.
-const MOST_PRICINGS: u32 = 20;
 
 /// How many pricings are judged together.
 const JUDGED: u32 = 4;

@@ -29,26 +29,26 @@ abbrev pub done_from : List (ℕ × TurnOf) → List (Done TurnOf)
 done_from pairs = map (λ (p : ℕ × TurnOf). record { job = p.0; answer = p.1 }) pairs
 
 -- few tasks and cars, so that their pricings can be numbered, what each pricing requires, and which pricing each job is
-pub record IsRound (s : Snapshot) (tasks : List Task) (cars moves : ℕ) (order : List ℕ) : Type 0 where
+pub record IsRound (s : Snapshot) (tasks : List Task) (cars most_tours : ℕ) (order : List ℕ) : Type 0 where
   pub few_tasks : length tasks ≤ 4
   pub few_cars : cars ≤ 16
   pub cars_are : cars ≡ car_count s
   pub each : (i : ℕ) (task : Task) → slice_get tasks i ≡ Some task → IsTaskOf s task
-  pub low : 1 ≤ moves
-  pub high : moves ≤ 10 ^ 18
+  pub low : 1 ≤ most_tours
+  pub high : most_tours ≤ 10 ^ 18
   pub drawn : length order ≡ length tasks * cars
   pub below : All (λ p. p < length tasks * cars) order
 
 -- a pricing of car c at task i, where there is such a task
-abbrev pub IsAnswerOf : Fits → Snapshot → (moves : ℕ) → List Task → (i c : ℕ) → TurnOf → Type 0
-IsAnswerOf fits s moves tasks i c answer =
-    (task : Task) → slice_get tasks i ≡ Some task → IsAnswerIn fits s moves task.node.now (price_at task.prices.now) c answer
+abbrev pub IsAnswerOf : Fits → Snapshot → (most_tours : ℕ) → List Task → (i c : ℕ) → TurnOf → Type 0
+IsAnswerOf fits s most_tours tasks i c answer =
+    (task : Task) → slice_get tasks i ≡ Some task → IsAnswerIn fits s most_tours task.node.now (price_at task.prices.now) c answer
 
 -- an answer of pricing p, that of car p % cars at task p / cars
-abbrev pub IsAnswerAt : Fits → Snapshot → (moves : ℕ) → List Task → (cars p : ℕ) → TurnOf → Type 0
-IsAnswerAt fits s moves tasks cars p answer = IsAnswerOf fits s moves tasks (p / cars) (p % cars) answer
+abbrev pub IsAnswerAt : Fits → Snapshot → (most_tours : ℕ) → List Task → (cars p : ℕ) → TurnOf → Type 0
+IsAnswerAt fits s most_tours tasks cars p answer = IsAnswerOf fits s most_tours tasks (p / cars) (p % cars) answer
 
 -- the pricings of all cars at all tasks: at i * cars + c stands that of car c at task i
-abbrev pub AreAnswersOf : Fits → Snapshot → (moves : ℕ) → List Task → (cars : ℕ) → List TurnOf → Type 0
-AreAnswersOf fits s moves tasks cars answers =
-    (i c : ℕ) → c < cars → IsAnswerOf fits s moves tasks i c (slice_index_or answers (i * cars + c) no_turn)
+abbrev pub AreAnswersOf : Fits → Snapshot → (most_tours : ℕ) → List Task → (cars : ℕ) → List TurnOf → Type 0
+AreAnswersOf fits s most_tours tasks cars answers =
+    (i c : ℕ) → c < cars → IsAnswerOf fits s most_tours tasks i c (slice_index_or answers (i * cars + c) no_turn)

@@ -23,10 +23,10 @@ struct Round<'a, P: Pricer> {
     tasks: &'a [Task<'a>],
     cars: u32,
     /// How many partial tours each pricing may try.
-    moves: u64,
+    most_tours: u64,
     order: &'a [u32],
     alloc: Global,
-    ghost is_round: { IsRound (P.snapshot pricer.now) tasks.now cars moves order.now },
+    ghost is_round: { IsRound (P.snapshot pricer.now) tasks.now cars most_tours order.now },
 }
 
 impl<'a, P: Pricer> Jobs for Round<'a, P> {
@@ -42,7 +42,7 @@ impl<'a, P: Pricer> Jobs for Round<'a, P> {
     ghost serves = { λ it desk. P.owns it.pricer.now desk };
 
     ghost is_right = { λ it k answer. IsAnswerAt (P.fits it.pricer.now) (P.snapshot it.pricer.now)
-        it.moves it.tasks.now it.cars (slice_index it.order.now k) answer };
+        it.most_tours it.tasks.now it.cars (slice_index it.order.now k) answer };
 
     fn count(&self) -> u32 {
         self.tasks.len() as u32 * self.cars
@@ -54,14 +54,14 @@ impl<'a, P: Pricer> Jobs for Round<'a, P> {
         let car = pricing % self.cars;
         let priced = self
             .pricer
-            .price(car, task.node, task.prices, self.moves, desk);
+            .price(car, task.node, task.prices, self.most_tours, desk);
         let tour = self.pricer.tour(self.alloc, desk)?;
         Ok(TurnOf { priced, tour })
     }
 }
 
-/// Prices every car at each of the nodes, with one worker for each desk: at `i * cars + c` stands the pricing
-/// of car `c` at the node of task `i`, of at most `moves` partial tours, and the tour that it gave.
+/// Prices every car at each of the nodes, with one worker for each desk: at `i * cars + c` stands the pricing of car `c`
+/// at the node of task `i`, of at most `most_tours` partial tours, and the tour that it gave.
 ///
 /// `sizes` tells how many partial tours each pricing may try, as far as one can tell, in the order of the
 /// answers. It only says which pricings are drawn first, and may be of any length.
@@ -76,7 +76,7 @@ pub fn price_nodes<P: Pricer, G: Gate + Sync>(
     cars: u32,
     tasks: &[Task],
     sizes: &[u64],
-    moves: u64,
+    most_tours: u64,
     desks: &mut [P::Desk],
     gate: &G,
 ) -> Result<Vec<TurnOf>, AllocError>
@@ -84,11 +84,11 @@ pub fn price_nodes<P: Pricer, G: Gate + Sync>(
     requires cars { cars ≡ car_count (P.snapshot pricer.now) }
     requires few { length tasks.now ≤ 4 }
     requires tasks { All (IsTaskOf (P.snapshot pricer.now)) tasks.now }
-    requires limit { (1 ≤ moves) × (moves ≤ 10 ^ 18) }
+    requires limit { (1 ≤ most_tours) × (most_tours ≤ 10 ^ 18) }
     requires desks { Serving (P.owns pricer.now) desks.old }
     ensures count { IfOk result (λ answers. length answers.items ≡ length tasks.now * cars) }
     ensures answers { IfOk result (λ answers. AreAnswersOf (P.fits pricer.now)
-        (P.snapshot pricer.now) moves tasks.now cars answers.items) }
+        (P.snapshot pricer.now) most_tours tasks.now cars answers.items) }
     ensures desks { All (P.owns pricer.now) desks.new }
 {
     let count = tasks.len() as u32 * cars;
@@ -97,7 +97,7 @@ pub fn price_nodes<P: Pricer, G: Gate + Sync>(
         pricer,
         tasks,
         cars,
-        moves,
+        most_tours,
         order: &order,
         alloc,
     };

@@ -98,9 +98,9 @@ root-bounds s sheet plan is feasible = by_sign (rounded_up (sum_of_sheet sheet))
 
 -- ---- turns
 
-pricing-worth : (s : Snapshot) (moves c : ℕ) (price : ℕ → ℤ) (t : TurnOf) (spent : Bool) → IsPricing s moves c price t spent → IsWorth s (root_of s) c price t.priced.worth
-pricing-worth s moves c price t true h = h.worth
-pricing-worth s moves c price t false h = h.worth
+pricing-worth : (s : Snapshot) (most_tours c : ℕ) (price : ℕ → ℤ) (t : TurnOf) (spent : Bool) → IsPricing s most_tours c price t spent → IsWorth s (root_of s) c price t.priced.worth
+pricing-worth s most_tours c price t true h = h.worth
+pricing-worth s most_tours c price t false h = h.worth
 
 abbrev sheet_of : Turn → PriceSheet
 sheet_of turn = sheet_of_turn turn.prices turn.cars
@@ -108,21 +108,21 @@ sheet_of turn = sheet_of_turn turn.prices turn.cars
 turn-worth : (turn : Turn) (c : ℕ) → c < length turn.cars → worth_of_car (sheet_of turn) c ≡ (turn_of_car turn c).priced.worth
 turn-worth turn c lt = ap (λ (w : Worth). w.worth) (get_or-map turn_worth turn.cars c no_turn no_worth lt)
 
-turn-sheet : (s : Snapshot) (moves : ℕ) (given : List ℤ) (turn : Turn) → IsRootTurn s moves given turn → IsRootSheet s (sheet_of turn)
-turn-sheet s moves given turn is =
+turn-sheet : (s : Snapshot) (most_tours : ℕ) (given : List ℤ) (turn : Turn) → IsRootTurn s most_tours given turn → IsRootSheet s (sheet_of turn)
+turn-sheet s most_tours given turn is =
     record {
       calls = is.calls;
       cars = length-map turn.cars turn_worth ∙ is.cars;
-      worths = λ c lt. subst (IsWorth s (root_of s) c (price_at turn.prices)) (sym (turn-worth turn c (subst (λ (n : ℕ). c < n) (sym is.cars) lt))) (pricing-worth s moves c (price_at turn.prices) (turn_of_car turn c) (turn_of_car turn c).priced.spent (is.pricings c lt));
+      worths = λ c lt. subst (IsWorth s (root_of s) c (price_at turn.prices)) (sym (turn-worth turn c (subst (λ (n : ℕ). c < n) (sym is.cars) lt))) (pricing-worth s most_tours c (price_at turn.prices) (turn_of_car turn c) (turn_of_car turn c).priced.spent (is.pricings c lt));
     }
 
 turn-bound : (turn : Turn) → rounded_up (sum_of_turn turn) ≡ bound_of_sheet (sheet_of turn)
 turn-bound turn = ap (λ (z : ℤ). rounded_up (int_sum_by (λ (x : ℤ). x) turn.prices +ℤ z)) (sym (turn_sum turn.cars))
 
 -- no feasible plan costs less than a turn's rounded sum
-turn-costs : (s : Snapshot) (moves : ℕ) (given : List ℤ) (turn : Turn) (plan : List (List Stop)) → IsRootTurn s moves given turn → IsFeasiblePlan s plan → rounded_up (sum_of_turn turn) ≤ℤ pos (plan_cost_of s plan)
-turn-costs s moves given turn plan is feasible =
-    subst (λ (z : ℤ). z ≤ℤ pos (plan_cost_of s plan)) (sym (turn-bound turn)) (root-bounds s (sheet_of turn) plan (turn-sheet s moves given turn is) feasible)
+turn-costs : (s : Snapshot) (most_tours : ℕ) (given : List ℤ) (turn : Turn) (plan : List (List Stop)) → IsRootTurn s most_tours given turn → IsFeasiblePlan s plan → rounded_up (sum_of_turn turn) ≤ℤ pos (plan_cost_of s plan)
+turn-costs s most_tours given turn plan is feasible =
+    subst (λ (z : ℤ). z ≤ℤ pos (plan_cost_of s plan)) (sym (turn-bound turn)) (root-bounds s (sheet_of turn) plan (turn-sheet s most_tours given turn is) feasible)
 
 -- ---- the least bound
 
@@ -156,39 +156,39 @@ rounded-of-leaves s sum cost tree le h =
     least-of-leaves (rounded_up sum) cost le (root_place s ∷ []) tree (stand-more (IsAtLeast sum) (IsAbove (rounded_up sum)) (above-rounded sum) (root_place s ∷ []) tree h)
 
 -- the least bound is at least the rounded sum that the search starts with
-start-least : (fits : Fits) (s : Snapshot) (moves : ℕ) (start : PriceSheet) (tree : List Branch) (plan : List (List Stop)) (cost : ℕ) → IsSheetIn fits s moves (root_of s) start → AllInTree (IsAtLeast (sum_of_sheet start)) s tree → IsFeasiblePlan s plan → plan_cost_of s plan ≡ cost → rounded_up (sum_of_sheet start) ≤ℤ least_bound cost (map twig_of tree)
-start-least fits s moves start tree plan cost sheet leaves feasible costs =
+start-least : (fits : Fits) (s : Snapshot) (most_tours : ℕ) (start : PriceSheet) (tree : List Branch) (plan : List (List Stop)) (cost : ℕ) → IsSheetIn fits s most_tours (root_of s) start → AllInTree (IsAtLeast (sum_of_sheet start)) s tree → IsFeasiblePlan s plan → plan_cost_of s plan ≡ cost → rounded_up (sum_of_sheet start) ≤ℤ least_bound cost (map twig_of tree)
+start-least fits s most_tours start tree plan cost sheet leaves feasible costs =
     let is : IsRootSheet s start = record { calls = sheet.calls; cars = sheet.cars; worths = sheet.worths } in
     rounded-of-leaves s (sum_of_sheet start) cost tree (subst (λ (n : ℕ). bound_of_sheet start ≤ℤ pos n) costs (root-bounds s start plan is feasible)) leaves
 
 -- ---- all turns
 
 -- what holds of each turn at the root and of what is known of it
-follow-all : (s : Snapshot) (moves : ℕ) (Q P : Turn → Type 0) → ((given : List ℤ) (turn : Turn) → IsRootTurn s moves given turn → Q turn → P turn) → (start : List ℤ) (i : ℕ) (turn : Turn) (turns : List Turn) → FollowTurn s moves start i turn turns → All Q turns → All P turns
-follow-all s moves Q P f start i turn [] h q = All-nil P
-follow-all s moves Q P f start i turn (next ∷ turns) h q =
-    All-cons P next turns (f (prices_after s start i turn) next h.0 (All-head Q next turns q)) (follow-all s moves Q P f start (i + 1) next turns h.1 (All-tail Q next turns q))
+follow-all : (s : Snapshot) (most_tours : ℕ) (Q P : Turn → Type 0) → ((given : List ℤ) (turn : Turn) → IsRootTurn s most_tours given turn → Q turn → P turn) → (start : List ℤ) (i : ℕ) (turn : Turn) (turns : List Turn) → FollowTurn s most_tours start i turn turns → All Q turns → All P turns
+follow-all s most_tours Q P f start i turn [] h q = All-nil P
+follow-all s most_tours Q P f start i turn (next ∷ turns) h q =
+    All-cons P next turns (f (prices_after s start i turn) next h.0 (All-head Q next turns q)) (follow-all s most_tours Q P f start (i + 1) next turns h.1 (All-tail Q next turns q))
 
-turns-all : (s : Snapshot) (moves : ℕ) (Q P : Turn → Type 0) → ((given : List ℤ) (turn : Turn) → IsRootTurn s moves given turn → Q turn → P turn) → (start : List ℤ) (turns : List Turn) → AreRootTurns s moves start turns → All Q turns → All P turns
-turns-all s moves Q P f start [] h q = All-nil P
-turns-all s moves Q P f start (turn ∷ turns) h q =
-    All-cons P turn turns (f start turn h.0 (All-head Q turn turns q)) (follow-all s moves Q P f start 1 turn turns h.1 (All-tail Q turn turns q))
+turns-all : (s : Snapshot) (most_tours : ℕ) (Q P : Turn → Type 0) → ((given : List ℤ) (turn : Turn) → IsRootTurn s most_tours given turn → Q turn → P turn) → (start : List ℤ) (turns : List Turn) → AreRootTurns s most_tours start turns → All Q turns → All P turns
+turns-all s most_tours Q P f start [] h q = All-nil P
+turns-all s most_tours Q P f start (turn ∷ turns) h q =
+    All-cons P turn turns (f start turn h.0 (All-head Q turn turns q)) (follow-all s most_tours Q P f start 1 turn turns h.1 (All-tail Q turn turns q))
 
 -- ---- what was found
 
 -- The tree's least bound is not negative where the sum that the search starts with is not.
-pub bound_exists : (fits : Fits) (s : Snapshot) (moves : ℕ) (start : PriceSheet) (tree : List Branch) (plan : List (List Stop)) (cost : ℕ) → IsSheetIn fits s moves (root_of s) start → pos 0 ≤ℤ sum_of_sheet start → AllInTree (IsAtLeast (sum_of_sheet start)) s tree → IsFeasiblePlan s plan → plan_cost_of s plan ≡ cost → pos 0 ≤ℤ least_bound cost (map twig_of tree)
-bound_exists fits s moves start tree plan cost sheet natural leaves feasible costs =
+pub bound_exists : (fits : Fits) (s : Snapshot) (most_tours : ℕ) (start : PriceSheet) (tree : List Branch) (plan : List (List Stop)) (cost : ℕ) → IsSheetIn fits s most_tours (root_of s) start → pos 0 ≤ℤ sum_of_sheet start → AllInTree (IsAtLeast (sum_of_sheet start)) s tree → IsFeasiblePlan s plan → plan_cost_of s plan ≡ cost → pos 0 ≤ℤ least_bound cost (map twig_of tree)
+bound_exists fits s most_tours start tree plan cost sheet natural leaves feasible costs =
     let low = rounded_up-natural (sum_of_sheet start) natural in
-    let least = start-least fits s moves start tree plan cost sheet leaves feasible costs in
+    let least = start-least fits s most_tours start tree plan cost sheet leaves feasible costs in
     omega (arith, ints, low, least)
 
 -- What stands of the tree and of the turns at the root once a search has ended that started with these prices and worths.
-pub record IsTreeAtEnd (fits : Fits) (s : Snapshot) (moves : ℕ) (start : PriceSheet) (turns : List Turn) (tree : List Branch) : Type 0 where
-  pub sheet : IsSheetIn fits s moves (root_of s) start
-  pub root_turns : AreRootTurns s moves start.prices turns
+pub record IsTreeAtEnd (fits : Fits) (s : Snapshot) (most_tours : ℕ) (start : PriceSheet) (turns : List Turn) (tree : List Branch) : Type 0 where
+  pub sheet : IsSheetIn fits s most_tours (root_of s) start
+  pub root_turns : AreRootTurns s most_tours start.prices turns
   pub few_turns : length turns ≤ 20
-  pub branches : AllInTree (IsBranchAt fits s moves) s tree
+  pub branches : AllInTree (IsBranchAt fits s most_tours) s tree
   -- no leaf's sum is below that of the start or of a turn
   pub above_start : AllInTree (IsAtLeast (sum_of_sheet start)) s tree
   pub above_turns : All (λ (turn : Turn). AllInTree (IsAtLeast (sum_of_turn turn)) s tree) turns
@@ -197,56 +197,56 @@ pub record IsTreeAtEnd (fits : Fits) (s : Snapshot) (moves : ℕ) (start : Price
 abbrev pub HasManyTurns : Snapshot → (rounds cost bound : ℕ) → List Twig → List Turn → Type 0
 HasManyTurns s rounds cost bound tree turns = HasChoice s → IsTrue (list_any is_split tree) ⊎ (bound < cost) → length turns ≡ min rounds 20
 
--- with enough moves no plan made of the tours of the turns is cheaper
-abbrev pub IsBestOfTurns : Snapshot → (moves cost : ℕ) → List Turn → Type 0
-IsBestOfTurns s moves cost turns =
-    34 ^ car_count s ≤ moves → (other : List (List Stop)) → IsFeasiblePlan s other → ((c : ℕ) → c < car_count s → IsTourOfTurns turns c (tour_of other c)) → cost ≤ plan_cost_of s other
+-- with a limit that is enough no plan made of the tours of the turns is cheaper
+abbrev pub IsBestOfTurns : Snapshot → (most_tours cost : ℕ) → List Turn → Type 0
+IsBestOfTurns s most_tours cost turns =
+    34 ^ car_count s ≤ most_tours → (other : List (List Stop)) → IsFeasiblePlan s other → ((c : ℕ) → c < car_count s → IsTourOfTurns turns c (tour_of other c)) → cost ≤ plan_cost_of s other
 
 -- Its tree proves plan, cost and bound, and the bound is at least that of the start and of each turn.
-pub found : (fits : Fits) (s : Snapshot) (rounds moves : ℕ) (start : PriceSheet) (turns : List Turn) (tree : List Branch) (plan : List (List Stop)) (cost bound : ℕ) (why : StopReason) → IsTreeAtEnd fits s moves start turns tree → length tree ≤ 8 * rounds + 1 → IsFeasiblePlan s plan → plan_cost_of s plan ≡ cost → pos bound ≡ least_bound cost (map twig_of tree) → HasManyTurns s rounds cost bound (map twig_of tree) turns → IsBestOfTurns s moves cost turns → IsReason s rounds moves cost bound (map twig_of tree) why → IsFound fits start.prices (bound_of_sheet start) s rounds moves plan cost bound (map twig_of tree) turns why
-found fits s rounds moves start turns tree plan cost bound why stands twigs feasible costs bound_is many tours reason =
+pub found : (fits : Fits) (s : Snapshot) (rounds most_tours : ℕ) (start : PriceSheet) (turns : List Turn) (tree : List Branch) (plan : List (List Stop)) (cost bound : ℕ) (why : StopReason) → IsTreeAtEnd fits s most_tours start turns tree → length tree ≤ 8 * rounds + 1 → IsFeasiblePlan s plan → plan_cost_of s plan ≡ cost → pos bound ≡ least_bound cost (map twig_of tree) → HasManyTurns s rounds cost bound (map twig_of tree) turns → IsBestOfTurns s most_tours cost turns → IsReason s rounds most_tours cost bound (map twig_of tree) why → IsFound fits start.prices (bound_of_sheet start) s rounds most_tours plan cost bound (map twig_of tree) turns why
+found fits s rounds most_tours start turns tree plan cost bound why stands twigs feasible costs bound_is many tours reason =
     record {
-      proves = tree-proves fits s moves plan cost bound tree feasible costs bound_is stands.branches;
+      proves = tree-proves fits s most_tours plan cost bound tree feasible costs bound_is stands.branches;
       best_bound = bound_is;
-      at_least = subst (λ (z : ℤ). bound_of_sheet start ≤ℤ z) (sym bound_is) (start-least fits s moves start tree plan cost stands.sheet stands.above_start feasible costs);
+      at_least = subst (λ (z : ℤ). bound_of_sheet start ≤ℤ z) (sym bound_is) (start-least fits s most_tours start tree plan cost stands.sheet stands.above_start feasible costs);
       twigs = subst (λ (n : ℕ). n ≤ 8 * rounds + 1) (sym (length-map tree twig_of)) twigs;
-      claims = tree-claimed fits s moves tree stands.branches;
+      claims = tree-claimed fits s most_tours tree stands.branches;
       root_turns = stands.root_turns;
       few_turns = stands.few_turns;
-      turn_bounds = turns-all s moves (λ (turn : Turn). AllInTree (IsAtLeast (sum_of_turn turn)) s tree) (λ (turn : Turn). rounded_up (sum_of_turn turn) ≤ℤ pos bound) turn_bound start.prices turns stands.root_turns stands.above_turns;
+      turn_bounds = turns-all s most_tours (λ (turn : Turn). AllInTree (IsAtLeast (sum_of_turn turn)) s tree) (λ (turn : Turn). rounded_up (sum_of_turn turn) ≤ℤ pos bound) turn_bound start.prices turns stands.root_turns stands.above_turns;
       many_turns = many;
       tours = tours;
       reason = reason;
     }
   where
-    turn_bound : (given : List ℤ) (turn : Turn) → IsRootTurn s moves given turn → AllInTree (IsAtLeast (sum_of_turn turn)) s tree → rounded_up (sum_of_turn turn) ≤ℤ pos bound
+    turn_bound : (given : List ℤ) (turn : Turn) → IsRootTurn s most_tours given turn → AllInTree (IsAtLeast (sum_of_turn turn)) s tree → rounded_up (sum_of_turn turn) ≤ℤ pos bound
     turn_bound given turn is leaves =
-        let below_cost = subst (λ (n : ℕ). rounded_up (sum_of_turn turn) ≤ℤ pos n) costs (turn-costs s moves given turn plan is feasible) in
+        let below_cost = subst (λ (n : ℕ). rounded_up (sum_of_turn turn) ≤ℤ pos n) costs (turn-costs s most_tours given turn plan is feasible) in
         subst (λ (z : ℤ). rounded_up (sum_of_turn turn) ≤ℤ z) (sym bound_is) (rounded-of-leaves s (sum_of_turn turn) cost tree below_cost leaves)
 
 -- ---- out of rounds
 
 -- no node had a part in more than 20 pricings
-pub pricings-few : (fits : Fits) (s : Snapshot) (moves : ℕ) (places : List Place) (tree : List Branch) → AllStand (IsBranchAt fits s moves) places tree → pricings_of tree ≤ 20 * length tree
-pricings-few fits s moves [] [] h = omega arith
-pricings-few fits s moves [] (b ∷ tree) h = absurd h
-pricings-few fits s moves (place ∷ places) [] h = absurd h
-pricings-few fits s moves (place ∷ places) (b ∷ tree) h =
+pub pricings-few : (fits : Fits) (s : Snapshot) (most_tours : ℕ) (places : List Place) (tree : List Branch) → AllStand (IsBranchAt fits s most_tours) places tree → pricings_of tree ≤ 20 * length tree
+pricings-few fits s most_tours [] [] h = omega arith
+pricings-few fits s most_tours [] (b ∷ tree) h = absurd h
+pricings-few fits s most_tours (place ∷ places) [] h = absurd h
+pricings-few fits s most_tours (place ∷ places) (b ∷ tree) h =
     let few = h.0.few in
-    let rest = pricings-few fits s moves (places_after place (twig_of b) places) tree h.1 in
+    let rest = pricings-few fits s most_tours (places_after place (twig_of b) places) tree h.1 in
     omega (arith, few, rest, sum_by-cons (λ (a : Branch). a.rounds) b tree)
 
 -- A search that did as many rounds as it may.
-pub out_of_rounds : (fits : Fits) (s : Snapshot) (rounds moves cost bound done : ℕ) (tree : List Branch) → AllInTree (IsPricedAt s moves) s tree → AllInTree (IsBranchAt fits s moves) s tree → done ≤ pricings_of tree → done ≡ rounds → bound < cost → IsOutOfRounds s rounds moves cost bound done (map twig_of tree)
-out_of_rounds fits s rounds moves cost bound done tree priced branches part limit below =
+pub out_of_rounds : (fits : Fits) (s : Snapshot) (rounds most_tours cost bound done : ℕ) (tree : List Branch) → AllInTree (IsPricedAt s most_tours) s tree → AllInTree (IsBranchAt fits s most_tours) s tree → done ≤ pricings_of tree → done ≡ rounds → bound < cost → IsOutOfRounds s rounds most_tours cost bound done (map twig_of tree)
+out_of_rounds fits s rounds most_tours cost bound done tree priced branches part limit below =
     record {
       below = below;
       limit = limit;
-      priced = tree-priced fits s moves tree priced;
-      twigs = (let few = pricings-few fits s moves (root_place s ∷ []) tree branches in let same = length-map tree twig_of in omega (arith, part, few, same));
+      priced = tree-priced fits s most_tours tree priced;
+      twigs = (let few = pricings-few fits s most_tours (root_place s ∷ []) tree branches in let same = length-map tree twig_of in omega (arith, part, few, same));
     }
 
--- ---- out of moves
+-- ---- the limit of partial tours was reached
 
 -- each call has one car left, and the last pricing of some car reached the limit
 pub record IsSpentEnd (s : Snapshot) (b : Branch) : Type 0 where
@@ -262,17 +262,17 @@ abbrev pub IsStuckAt : Snapshot → (cost : ℕ) → Holding
 IsStuckAt s cost place b = IfLeaf b.split (IsStuck s cost b)
 
 -- the car that a pricing of the leaf was spent on has too many partial tours at its place
-spent-there : (fits : Fits) (s : Snapshot) (moves : ℕ) (place : Place) (b : Branch) (car : ℕ) → IsBranchAt fits s moves place b → b.split ≡ None → b.spent ≡ Some car → IsSpentCar s moves place.node car
-spent-there fits s moves place b car is leaf e =
-    let own = subst (IsKindIn fits s moves b.node b) leaf is.kind in
-    subst (λ (n : Node). IsSpentCar s moves n car) is.node (subst (λ (x : Option ℕ). IfSome x (IsSpentCar s moves b.node)) e own.spent)
+spent-there : (fits : Fits) (s : Snapshot) (most_tours : ℕ) (place : Place) (b : Branch) (car : ℕ) → IsBranchAt fits s most_tours place b → b.split ≡ None → b.spent ≡ Some car → IsSpentCar s most_tours place.node car
+spent-there fits s most_tours place b car is leaf e =
+    let own = subst (IsKindIn fits s most_tours b.node b) leaf is.kind in
+    subst (λ (n : Node). IsSpentCar s most_tours n car) is.node (subst (λ (x : Option ℕ). IfSome x (IsSpentCar s most_tours b.node)) e own.spent)
 
-stuck-ends : (fits : Fits) (s : Snapshot) (moves cost : ℕ) (place : Place) (b : Branch) → IsBranchAt fits s moves place b → IsStuckAt s cost place b → EndsThere s cost moves place (twig_of b)
-stuck-ends fits s moves cost place b is stuck = by_kind b.split refl stuck
+stuck-ends : (fits : Fits) (s : Snapshot) (most_tours cost : ℕ) (place : Place) (b : Branch) → IsBranchAt fits s most_tours place b → IsStuckAt s cost place b → EndsThere s cost most_tours place (twig_of b)
+stuck-ends fits s most_tours cost place b is stuck = by_kind b.split refl stuck
   where
-    at_end : b.split ≡ None → IsSpentEnd s b → IsAtEnd s place.node moves
+    at_end : b.split ≡ None → IsSpentEnd s b → IsAtEnd s place.node most_tours
     at_end leaf stands =
-        let spent = spent-there fits s moves place b stands.car is leaf stands.spent in
+        let spent = spent-there fits s most_tours place b stands.car is leaf stands.spent in
         record {
           single = subst (λ (n : Node). (j : ℕ) → j < call_count s → (c : ℕ) × (set_of n j ≡ 2 ^ c)) is.node (single-in_node s b.node is.is_node stands.single);
           car = stands.car;
@@ -280,7 +280,7 @@ stuck-ends fits s moves cost place b is stuck = by_kind b.split refl stuck
           many = spent.1;
         }
 
-    by_kind : (x : Option SplitAt) → b.split ≡ x → IfLeaf x (IsStuck s cost b) → EndsThere s cost moves place (twig_at x b.sheet)
+    by_kind : (x : Option SplitAt) → b.split ≡ x → IfLeaf x (IsStuck s cost b) → EndsThere s cost most_tours place (twig_at x b.sheet)
     by_kind None e stands = λ below. at_end e (stands (subst (λ (z : ℤ). z <ℤ pos cost) (ap rounded_up (sum_of_leaf-sheet b.sheet)) below))
     by_kind (Some at) e stands = tt
 
@@ -295,23 +295,23 @@ stand-some P Q (suc k) (place ∷ places) (b ∷ tree) lt f h =
     let in' = a.2 in
     (suc a.0, a.1, omega (arith, in'), a.3, a.4)
 
-is-end : (fits : Fits) (s : Snapshot) (moves cost car : ℕ) (place : Place) (b : Branch) → b.split ≡ None → bound_of_sheet b.sheet <ℤ pos cost → b.spent ≡ Some car → IsBranchAt fits s moves place b → IsEndOf s cost car moves place (twig_of b)
-is-end fits s moves cost car place b leaf below spent is =
-    subst (λ (x : Option SplitAt). IsEndOf s cost car moves place (twig_at x b.sheet)) (sym leaf) (subst (λ (z : ℤ). z <ℤ pos cost) (sym (ap rounded_up (sum_of_leaf-sheet b.sheet))) below, (spent-there fits s moves place b car is leaf spent).1)
+is-end : (fits : Fits) (s : Snapshot) (most_tours cost car : ℕ) (place : Place) (b : Branch) → b.split ≡ None → bound_of_sheet b.sheet <ℤ pos cost → b.spent ≡ Some car → IsBranchAt fits s most_tours place b → IsEndOf s cost car most_tours place (twig_of b)
+is-end fits s most_tours cost car place b leaf below spent is =
+    subst (λ (x : Option SplitAt). IsEndOf s cost car most_tours place (twig_at x b.sheet)) (sym leaf) (subst (λ (z : ℤ). z <ℤ pos cost) (sym (ap rounded_up (sum_of_leaf-sheet b.sheet))) below, (spent-there fits s most_tours place b car is leaf spent).1)
 
 -- A search in whose tree no leaf is left that a round may take.
-pub out_of_moves : (fits : Fits) (s : Snapshot) (moves cost bound car : ℕ) (tree : List Branch) (k : ℕ) → AllInTree (IsStuckAt s cost) s tree → AllInTree (IsPricedAt s moves) s tree → AllInTree (IsBranchAt fits s moves) s tree → bound < cost → k < length tree → (at_place tree k).split ≡ None → bound_of_sheet (at_place tree k).sheet <ℤ pos cost → (at_place tree k).spent ≡ Some car → IsOutOfMoves s moves cost bound car moves (map twig_of tree)
-out_of_moves fits s moves cost bound car tree k stuck priced branches below lt leaf under spent =
-    let Both : Holding = λ (place : Place) (b : Branch). IsBranchAt fits s moves place b × IsStuckAt s cost place b in
-    let both = stand-both (IsBranchAt fits s moves) (IsStuckAt s cost) Both (λ place b p q. (p, q)) (root_place s ∷ []) tree branches stuck in
-    let own = stand-at (IsBranchAt fits s moves) k (root_place s ∷ []) tree lt branches in
+pub out_of_moves : (fits : Fits) (s : Snapshot) (most_tours cost bound car : ℕ) (tree : List Branch) (k : ℕ) → AllInTree (IsStuckAt s cost) s tree → AllInTree (IsPricedAt s most_tours) s tree → AllInTree (IsBranchAt fits s most_tours) s tree → bound < cost → k < length tree → (at_place tree k).split ≡ None → bound_of_sheet (at_place tree k).sheet <ℤ pos cost → (at_place tree k).spent ≡ Some car → IsOutOfMoves s most_tours cost bound car most_tours (map twig_of tree)
+out_of_moves fits s most_tours cost bound car tree k stuck priced branches below lt leaf under spent =
+    let Both : Holding = λ (place : Place) (b : Branch). IsBranchAt fits s most_tours place b × IsStuckAt s cost place b in
+    let both = stand-both (IsBranchAt fits s most_tours) (IsStuckAt s cost) Both (λ place b p q. (p, q)) (root_place s ∷ []) tree branches stuck in
+    let own = stand-at (IsBranchAt fits s most_tours) k (root_place s ∷ []) tree lt branches in
     record {
       below = below;
       limit = refl;
-      priced = tree-priced fits s moves tree priced;
-      ends = stand-placed Both (EndsThere s cost moves) (λ place b p. stuck-ends fits s moves cost place b p.0 p.1) (root_place s ∷ []) tree both;
-      is_car = (spent-there fits s moves own.0 (at_place tree k) car own.1 leaf spent).0;
-      at_car = stand-some (IsBranchAt fits s moves) (IsEndOf s cost car moves) k (root_place s ∷ []) tree lt (λ place is. is-end fits s moves cost car place (at_place tree k) leaf under spent is) branches;
+      priced = tree-priced fits s most_tours tree priced;
+      ends = stand-placed Both (EndsThere s cost most_tours) (λ place b p. stuck-ends fits s most_tours cost place b p.0 p.1) (root_place s ∷ []) tree both;
+      is_car = (spent-there fits s most_tours own.0 (at_place tree k) car own.1 leaf spent).0;
+      at_car = stand-some (IsBranchAt fits s most_tours) (IsEndOf s cost car most_tours) k (root_place s ∷ []) tree lt (λ place is. is-end fits s most_tours cost car place (at_place tree k) leaf under spent is) branches;
     }
 
 -- a leaf of the tree whose bound is below the cost
@@ -504,8 +504,8 @@ abbrev pub HasFewTours : Snapshot → Type 0
 HasFewTours s = (node : Node) (c n : ℕ) → c < car_count s → HasPartialTours s node c n → n < moves_enough s
 
 -- With sufficient limits a search ends solved: its cost is its bound.
-pub enough_is_solved : (fits : Fits) (start : List ℤ) (least : ℤ) (s : Snapshot) (rounds moves : ℕ) (plan : List (List Stop)) (cost bound : ℕ) (tree : List Twig) (turns : List Turn) (why : StopReason) → IsAccepted s → HasFewTours s → rounds_enough s ≤ rounds → moves_enough s ≤ moves → IsFound fits start least s rounds moves plan cost bound tree turns why → (cost ≡ bound) × (why ≡ Solved)
-enough_is_solved fits start least s rounds moves plan cost bound tree turns why accepted few_tours many_rounds many_moves is =
+pub enough_is_solved : (fits : Fits) (start : List ℤ) (least : ℤ) (s : Snapshot) (rounds most_tours : ℕ) (plan : List (List Stop)) (cost bound : ℕ) (tree : List Twig) (turns : List Turn) (why : StopReason) → IsAccepted s → HasFewTours s → rounds_enough s ≤ rounds → moves_enough s ≤ most_tours → IsFound fits start least s rounds most_tours plan cost bound tree turns why → (cost ≡ bound) × (why ≡ Solved)
+enough_is_solved fits start least s rounds most_tours plan cost bound tree turns why accepted few_tours many_rounds many_moves is =
     by_reason why is.reason
   where
     at_end : (count car : ℕ) (p : Placed) → moves_enough s ≤ count → car < car_count s → IsEndOf s cost car count p.place p.twig → ⊥
@@ -515,7 +515,7 @@ enough_is_solved fits start least s rounds moves plan cost bound tree turns why 
         by_twig (Split j part) h = h
         by_twig (Tip leaf) h = let fewer = few_tours p.place.node car count lt h.1 in omega (arith, many, fewer)
 
-    by_reason : (reason : StopReason) → IsReason s rounds moves cost bound tree reason → (cost ≡ bound) × (reason ≡ Solved)
+    by_reason : (reason : StopReason) → IsReason s rounds most_tours cost bound tree reason → (cost ≡ bound) × (reason ≡ Solved)
     by_reason Solved h = (h, refl)
     by_reason (Rounds done) h =
         let few = twigs-few s plan cost bound tree accepted is.proves in

@@ -45,8 +45,8 @@ allowed-more node other c tight lt (m ∷ moves) h = (one m h.0, allowed-more no
     one (Leave g) e = e
     one End e = e
 
-pub tighter-tours : (s : Snapshot) (moves : ℕ) (node other : Node) (c : ℕ) → IsTighter node other → c < 16 → HasPartialTours s node c moves → HasPartialTours s other c moves
-tighter-tours s moves node other c tight lt many =
+pub tighter-tours : (s : Snapshot) (most_tours : ℕ) (node other : Node) (c : ℕ) → IsTighter node other → c < 16 → HasPartialTours s node c most_tours → HasPartialTours s other c most_tours
+tighter-tours s most_tours node other c tight lt many =
     record {
       lists = many.lists;
       each = each_less (IsPartialTour s c (allows node c)) (IsPartialTour s c (allows other c)) many.lists (λ w p. record { lawful = p.lawful; allowed_boards = allowed-more node other c tight lt w p.allowed_boards }) many.each;
@@ -54,10 +54,10 @@ tighter-tours s moves node other c tight lt many =
       many = many.many;
     }
 
-pub least-above : (s : Snapshot) (moves : ℕ) (node other : Node) (sheet : PriceSheet) → car_count s ≤ 16 → IsTighter node other → AreLeastIn s moves node sheet → AreLeastIn s moves other sheet
-least-above s moves node other sheet cars tight least c lt =
+pub least-above : (s : Snapshot) (most_tours : ℕ) (node other : Node) (sheet : PriceSheet) → car_count s ≤ 16 → IsTighter node other → AreLeastIn s most_tours node sheet → AreLeastIn s most_tours other sheet
+least-above s most_tours node other sheet cars tight least c lt =
     let few : c < 16 = omega (arith, lt, cars) in
-    elim (least c lt) [ inl r ↦ inl (record { tour = r.tour; within = tighter-tour s node other c r.tour tight few r.within; least = r.least }) | inr many ↦ inr (tighter-tours s moves node other c tight few many) ]
+    elim (least c lt) [ inl r ↦ inl (record { tour = r.tour; within = tighter-tour s node other c r.tour tight few r.within; least = r.least }) | inr many ↦ inr (tighter-tours s most_tours node other c tight few many) ]
 
 pub first-tighter : (node : Node) (call part : ℕ) → is_part (set_of node call) part ≡ true → IsTighter (first_of_split node call part) node
 first-tighter node call part is =
@@ -75,8 +75,8 @@ second-tighter node call part is =
 
 -- ---- a leaf that was priced
 
-pub leaf_of_kind : (fits : Fits) (s : Snapshot) (moves : ℕ) (node : Node) (b : Branch) → b.split ≡ None → IsKindIn fits s moves node b b.split → IsLeafIn fits s moves node b
-leaf_of_kind fits s moves node b leaf kind = subst (IsKindIn fits s moves node b) leaf kind
+pub leaf_of_kind : (fits : Fits) (s : Snapshot) (most_tours : ℕ) (node : Node) (b : Branch) → b.split ≡ None → IsKindIn fits s most_tours node b b.split → IsLeafIn fits s most_tours node b
+leaf_of_kind fits s most_tours node b leaf kind = subst (IsKindIn fits s most_tours node b) leaf kind
 
 pub if_leaf : (P : Type 0) (split : Option SplitAt) → split ≡ None → IfLeaf split P → P
 if_leaf P split leaf h = subst (λ (x : Option SplitAt). IfLeaf x P) leaf h
@@ -85,28 +85,28 @@ pub of_leaf : (P : Type 0) (split : Option SplitAt) → P → IfLeaf split P
 of_leaf P None h = h
 of_leaf P (Some at) h = tt
 
-module _ (fits : Fits) (s : Snapshot) (moves : ℕ) (cars : car_count s ≤ 16) where
-  pub noted-branch : (place : Place) (b : Branch) (prices : List ℤ) (turns : List TurnOf) → IsBranchAt fits s moves place b → b.split ≡ None → b.rounds < 20 → BeginsAt b prices → AreAnswersIn fits s moves b.node prices turns → IsBranchAt fits s moves place (noted b prices turns)
+module _ (fits : Fits) (s : Snapshot) (most_tours : ℕ) (cars : car_count s ≤ 16) where
+  pub noted-branch : (place : Place) (b : Branch) (prices : List ℤ) (turns : List TurnOf) → IsBranchAt fits s most_tours place b → b.split ≡ None → b.rounds < 20 → BeginsAt b prices → AreAnswersIn fits s most_tours b.node prices turns → IsBranchAt fits s most_tours place (noted b prices turns)
   noted-branch place b prices turns is leaf few begins answers =
       record {
         node = is.node;
         is_node = is.is_node;
         above = is.above;
         few = omega (arith, few);
-        kind = subst (IsKindIn fits s moves b.node (noted b prices turns)) (sym leaf) (noted-leaf fits s moves b.node b prices turns (leaf_of_kind fits s moves b.node b leaf is.kind) begins answers);
+        kind = subst (IsKindIn fits s most_tours b.node (noted b prices turns)) (sym leaf) (noted-leaf fits s most_tours b.node b prices turns (leaf_of_kind fits s most_tours b.node b leaf is.kind) begins answers);
       }
 
   -- once it was priced its worths are those of its node, so also those of the node above
-  pub noted-priced : (place : Place) (b : Branch) (prices : List ℤ) (turns : List TurnOf) → IsBranchAt fits s moves place b → b.split ≡ None → BeginsAt b prices → AreAnswersIn fits s moves b.node prices turns → IsPricedAt s moves place (noted b prices turns)
+  pub noted-priced : (place : Place) (b : Branch) (prices : List ℤ) (turns : List TurnOf) → IsBranchAt fits s most_tours place b → b.split ≡ None → BeginsAt b prices → AreAnswersIn fits s most_tours b.node prices turns → IsPricedAt s most_tours place (noted b prices turns)
   noted-priced place b prices turns is leaf begins answers =
-      of_leaf (AreLeastIn s moves place.above (noted b prices turns).sheet) b.split (least-above s moves b.node place.above (noted b prices turns).sheet cars is.above (noted-sheet fits s moves b.node b prices turns (leaf_of_kind fits s moves b.node b leaf is.kind) begins answers).least)
+      of_leaf (AreLeastIn s most_tours place.above (noted b prices turns).sheet) b.split (least-above s most_tours b.node place.above (noted b prices turns).sheet cars is.above (noted-sheet fits s most_tours b.node b prices turns (leaf_of_kind fits s most_tours b.node b leaf is.kind) begins answers).least)
 
   -- a leaf that was priced, at its place
-  pub priced-above : (place : Place) (b : Branch) → IsBranchAt fits s moves place b → 0 < b.rounds → IsPricedAt s moves place b
+  pub priced-above : (place : Place) (b : Branch) → IsBranchAt fits s most_tours place b → 0 < b.rounds → IsPricedAt s most_tours place b
   priced-above place b is was = by_kind b.split refl is.kind
     where
-      by_kind : (x : Option SplitAt) → b.split ≡ x → IsKindIn fits s moves b.node b x → IfLeaf x (AreLeastIn s moves place.above b.sheet)
-      by_kind None e kind = least-above s moves b.node place.above b.sheet cars is.above (kind.priced was)
+      by_kind : (x : Option SplitAt) → b.split ≡ x → IsKindIn fits s most_tours b.node b x → IfLeaf x (AreLeastIn s most_tours place.above b.sheet)
+      by_kind None e kind = least-above s most_tours b.node place.above b.sheet cars is.above (kind.priced was)
       by_kind (Some at) e kind = tt
 
   -- ---- a leaf that was split
@@ -118,7 +118,7 @@ module _ (fits : Fits) (s : Snapshot) (moves : ℕ) (cars : car_count s ≤ 16) 
     in_range : call < length b.node
     in_range = part-index b.node call part part_is
 
-    first-sheet : IsSheetIn fits s moves b.node b.sheet → IsSheetIn fits s moves (first_of_split b.node call part) b.sheet
+    first-sheet : IsSheetIn fits s most_tours b.node b.sheet → IsSheetIn fits s most_tours (first_of_split b.node call part) b.sheet
     first-sheet sheet =
         record {
           calls = sheet.calls;
@@ -128,7 +128,7 @@ module _ (fits : Fits) (s : Snapshot) (moves : ℕ) (cars : car_count s ≤ 16) 
           fit = λ c lt. (splits b.node c call part (price_at b.sheet.prices) (worth_of_car b.sheet c) (claim_of_car b.sheet c) accepted is_node lt call_below part_is (sheet.fit c lt)).0;
         }
 
-    second-sheet : IsSheetIn fits s moves b.node b.sheet → IsSheetIn fits s moves (second_of_split b.node call part) b.sheet
+    second-sheet : IsSheetIn fits s most_tours b.node b.sheet → IsSheetIn fits s most_tours (second_of_split b.node call part) b.sheet
     second-sheet sheet =
         record {
           calls = sheet.calls;
@@ -138,25 +138,25 @@ module _ (fits : Fits) (s : Snapshot) (moves : ℕ) (cars : car_count s ≤ 16) 
           fit = λ c lt. (splits b.node c call part (price_at b.sheet.prices) (worth_of_car b.sheet c) (claim_of_car b.sheet c) accepted is_node lt call_below part_is (sheet.fit c lt)).1;
         }
 
-    new-leaf : (node : Node) (depth : ℕ) → IsSheetIn fits s moves node b.sheet → IsLeafIn fits s moves node (leaf_at node b.sheet depth)
+    new-leaf : (node : Node) (depth : ℕ) → IsSheetIn fits s most_tours node b.sheet → IsLeafIn fits s most_tours node (leaf_at node b.sheet depth)
     new-leaf node depth sheet = record { sheet = sheet; priced = λ lt. absurd (omega (arith, lt)); spent = tt }
 
     abbrev pub PartsAt : (P : Place → Branch → Type 0) → Place → Type 0
     PartsAt P place = P place (split_at b call part) × P (first_place place call part) (first_part b call part) × P (second_place place call part) (second_part b call part)
 
-    pub split-branches : (place : Place) → IsBranchAt fits s moves place b → b.split ≡ None → PartsAt (IsBranchAt fits s moves) place
+    pub split-branches : (place : Place) → IsBranchAt fits s most_tours place b → b.split ≡ None → PartsAt (IsBranchAt fits s most_tours) place
     split-branches place is leaf =
-        let in_leaf = leaf_of_kind fits s moves b.node b leaf is.kind in (
+        let in_leaf = leaf_of_kind fits s most_tours b.node b leaf is.kind in (
           record { node = is.node; is_node = is.is_node; above = is.above; few = is.few; kind = part_is },
           record { node = ap (λ (n : Node). first_of_split n call part) is.node; is_node = first_is_node s b.node call part small is_node call_below part_is; above = subst (IsTighter (first_of_split b.node call part)) is.node (first-tighter b.node call part part_is); few = omega arith; kind = new-leaf (first_of_split b.node call part) _ (first-sheet in_leaf.sheet) },
           record { node = ap (λ (n : Node). second_of_split n call part) is.node; is_node = second_is_node s b.node call part is_node call_below part_is; above = subst (IsTighter (second_of_split b.node call part)) is.node (second-tighter b.node call part part_is); few = omega arith; kind = new-leaf (second_of_split b.node call part) _ (second-sheet in_leaf.sheet) },
         )
 
     -- the parts begin with worths of the node that was split, once it was priced
-    pub split-priced : (place : Place) → IsBranchAt fits s moves place b → b.split ≡ None → 0 < b.rounds → PartsAt (IsPricedAt s moves) place
+    pub split-priced : (place : Place) → IsBranchAt fits s most_tours place b → b.split ≡ None → 0 < b.rounds → PartsAt (IsPricedAt s most_tours) place
     split-priced place is leaf was =
-        let least = (leaf_of_kind fits s moves b.node b leaf is.kind).priced was in
-        (tt, subst (λ (n : Node). AreLeastIn s moves n b.sheet) is.node least, subst (λ (n : Node). AreLeastIn s moves n b.sheet) is.node least)
+        let least = (leaf_of_kind fits s most_tours b.node b leaf is.kind).priced was in
+        (tt, subst (λ (n : Node). AreLeastIn s most_tours n b.sheet) is.node least, subst (λ (n : Node). AreLeastIn s most_tours n b.sheet) is.node least)
 
     pub split-resting : (cost : ℕ) (place : Place) → PartsAt (IsRestingAt s cost) place
     split-resting cost place = (tt, fresh (first_of_split b.node call part) _, fresh (second_of_split b.node call part) _)
@@ -176,11 +176,11 @@ resting-cheaper s cost cost' le place b h = by_kind b.split h
     by_kind None r = record { single = λ one was none. (let most = r.single one was none in omega (arith, ints, most, le)); many = λ some many. (let most = r.many some many in omega (arith, ints, most, le)) }
     by_kind (Some at) r = tt
 
-pub tree-cheaper : (fits : Fits) (s : Snapshot) (moves cost cost' : ℕ) (tree : List Branch) → cost' ≤ cost → IsTreeOf fits s moves cost tree → IsTreeOf fits s moves cost' tree
-tree-cheaper fits s moves cost cost' tree le h =
+pub tree-cheaper : (fits : Fits) (s : Snapshot) (most_tours cost cost' : ℕ) (tree : List Branch) → cost' ≤ cost → IsTreeOf fits s most_tours cost tree → IsTreeOf fits s most_tours cost' tree
+tree-cheaper fits s most_tours cost cost' tree le h =
     record { branches = h.branches; priced = h.priced; resting = stand-more (IsRestingAt s cost) (IsRestingAt s cost') (resting-cheaper s cost cost' le) (root_place s ∷ []) tree h.resting }
 
-module _ (fits : Fits) (s : Snapshot) (moves cost cost' : ℕ) (cars : car_count s ≤ 16) (le : cost' ≤ cost) (tree : List Branch) (k : ℕ) (lt : k < length tree) (leaf : (at_place tree k).split ≡ None) (few : (at_place tree k).rounds < 20) (prices : List ℤ) (turns : List TurnOf) (begins : BeginsAt (at_place tree k) prices) (answers : AreAnswersIn fits s moves (at_place tree k).node prices turns) (h : IsTreeOf fits s moves cost tree) where
+module _ (fits : Fits) (s : Snapshot) (most_tours cost cost' : ℕ) (cars : car_count s ≤ 16) (le : cost' ≤ cost) (tree : List Branch) (k : ℕ) (lt : k < length tree) (leaf : (at_place tree k).split ≡ None) (few : (at_place tree k).rounds < 20) (prices : List ℤ) (turns : List TurnOf) (begins : BeginsAt (at_place tree k) prices) (answers : AreAnswersIn fits s most_tours (at_place tree k).node prices turns) (h : IsTreeOf fits s most_tours cost tree) where
   abbrev b : Branch
   b = at_place tree k
 
@@ -188,14 +188,14 @@ module _ (fits : Fits) (s : Snapshot) (moves cost cost' : ℕ) (cars : car_count
   places = root_place s ∷ []
 
   abbrev pub At : Place → Branch → Type 0
-  At = IsBranchAt fits s moves
+  At = IsBranchAt fits s most_tours
 
   -- the leaf is priced, and rests
-  pub tree-noted : IsResting s cost' (noted b prices turns) → IsTreeOf fits s moves cost' (set tree k (noted b prices turns))
+  pub tree-noted : IsResting s cost' (noted b prices turns) → IsTreeOf fits s most_tours cost' (set tree k (noted b prices turns))
   tree-noted rests =
       record {
-        branches = stand-set At At (noted b prices turns) k places tree lt (λ place p q. noted-branch fits s moves cars place b prices turns p leaf few begins answers) same h.branches h.branches;
-        priced = stand-set At (IsPricedAt s moves) (noted b prices turns) k places tree lt (λ place p q. noted-priced fits s moves cars place b prices turns p leaf begins answers) same h.branches h.priced;
+        branches = stand-set At At (noted b prices turns) k places tree lt (λ place p q. noted-branch fits s most_tours cars place b prices turns p leaf few begins answers) same h.branches h.branches;
+        priced = stand-set At (IsPricedAt s most_tours) (noted b prices turns) k places tree lt (λ place p q. noted-priced fits s most_tours cars place b prices turns p leaf begins answers) same h.branches h.priced;
         resting = stand-set At (IsRestingAt s cost') (noted b prices turns) k places tree lt (λ place p q. of_leaf (IsResting s cost' (noted b prices turns)) b.split rests) same h.branches (stand-more (IsRestingAt s cost) (IsRestingAt s cost') (resting-cheaper s cost cost' le) places tree h.resting);
       }
     where
@@ -211,13 +211,13 @@ module _ (fits : Fits) (s : Snapshot) (moves cost cost' : ℕ) (cars : car_count
     node_is : IsNodeOf s b.node
     node_is = (stand-at At k places tree lt h.branches).1.is_node
 
-    noted_at : (place : Place) → IsBranchAt fits s moves place b → IsBranchAt fits s moves place (n b)
-    noted_at place p = noted-branch fits s moves cars place b prices turns p leaf few begins answers
+    noted_at : (place : Place) → IsBranchAt fits s most_tours place b → IsBranchAt fits s most_tours place (n b)
+    noted_at place p = noted-branch fits s most_tours cars place b prices turns p leaf few begins answers
 
-    pub tree-split : IsTreeOf fits s moves cost' (split_tree (set tree k (noted b prices turns)) k call part)
+    pub tree-split : IsTreeOf fits s most_tours cost' (split_tree (set tree k (noted b prices turns)) k call part)
     tree-split =
-        subst (IsTreeOf fits s moves cost') (sym (split_tree-noted n call part k tree lt)) (record {
-          branches = stand-split At At n call part k places tree lt leaf (λ place p q. split-branches fits s moves cars accepted splits (n b) call part small part_is node_is place (noted_at place p) leaf) h.branches h.branches;
-          priced = stand-split At (IsPricedAt s moves) n call part k places tree lt leaf (λ place p q. split-priced fits s moves cars accepted splits (n b) call part small part_is node_is place (noted_at place p) leaf (omega arith)) h.branches h.priced;
-          resting = stand-split At (IsRestingAt s cost') n call part k places tree lt leaf (λ place p q. split-resting fits s moves cars accepted splits (n b) call part small part_is node_is cost' place) h.branches (stand-more (IsRestingAt s cost) (IsRestingAt s cost') (resting-cheaper s cost cost' le) places tree h.resting);
+        subst (IsTreeOf fits s most_tours cost') (sym (split_tree-noted n call part k tree lt)) (record {
+          branches = stand-split At At n call part k places tree lt leaf (λ place p q. split-branches fits s most_tours cars accepted splits (n b) call part small part_is node_is place (noted_at place p) leaf) h.branches h.branches;
+          priced = stand-split At (IsPricedAt s most_tours) n call part k places tree lt leaf (λ place p q. split-priced fits s most_tours cars accepted splits (n b) call part small part_is node_is place (noted_at place p) leaf (omega arith)) h.branches h.priced;
+          resting = stand-split At (IsRestingAt s cost') n call part k places tree lt leaf (λ place p q. split-resting fits s most_tours cars accepted splits (n b) call part small part_is node_is cost' place) h.branches (stand-more (IsRestingAt s cost) (IsRestingAt s cost') (resting-cheaper s cost cost' le) places tree h.resting);
         })

@@ -51,8 +51,8 @@ greater w v = by_test (int_lt w.worth v.worth) refl
     by_test true e = record { is = inr refl; first = omega (arith, ints, e); second = omega (arith, ints) }
     by_test false e = record { is = inl refl; first = omega (arith, ints); second = omega (arith, ints, e) }
 
-module _ (fits : Fits) (s : Snapshot) (moves : ℕ) (node : Node) (prices : List ℤ) (cars : List TurnOf) (answers : AreAnswersIn fits s moves node prices cars) where
-  answer : (c : ℕ) → c < car_count s → IsAnswerIn fits s moves node (price_at prices) c (get_or cars c no_turn)
+module _ (fits : Fits) (s : Snapshot) (most_tours : ℕ) (node : Node) (prices : List ℤ) (cars : List TurnOf) (answers : AreAnswersIn fits s most_tours node prices cars) where
+  answer : (c : ℕ) → c < car_count s → IsAnswerIn fits s most_tours node (price_at prices) c (get_or cars c no_turn)
   answer c lt = answers.each c lt
 
   below : (c : ℕ) → c < car_count s → c < length cars
@@ -62,25 +62,25 @@ module _ (fits : Fits) (s : Snapshot) (moves : ℕ) (node : Node) (prices : List
   at c lt = turn-at cars c (below c lt)
 
   -- what the pricings state
-  pub turn-sheet : IsSheetIn fits s moves node (sheet_of_turn prices cars)
+  pub turn-sheet : IsSheetIn fits s most_tours node (sheet_of_turn prices cars)
   turn-sheet =
       record {
         calls = answers.calls;
         cars = turn-length cars ∙ answers.count;
         worths = λ c lt. subst (λ (w : Worth). IsWorth s node c (price_at prices) w.worth) (sym (at c lt)) (answer c lt).worth;
-        claims = λ c lt. subst (λ (w : Worth). (1 ≤ w.claim) × (w.claim ≤ moves)) (sym (at c lt)) (answer c lt).visits;
+        claims = λ c lt. subst (λ (w : Worth). (1 ≤ w.claim) × (w.claim ≤ most_tours)) (sym (at c lt)) (answer c lt).visits;
         fit = λ c lt. subst (λ (w : Worth). fits node c (price_at prices) w.worth w.claim) (sym (at c lt)) (answer c lt).claim;
       }
 
-  least-of : (c : ℕ) → c < car_count s → (spent : Bool) → (get_or cars c no_turn).priced.spent ≡ spent → ReachesLeast s node c (price_at prices) (get_or cars c no_turn).priced.worth ⊎ HasPartialTours s node c moves
+  least-of : (c : ℕ) → c < car_count s → (spent : Bool) → (get_or cars c no_turn).priced.spent ≡ spent → ReachesLeast s node c (price_at prices) (get_or cars c no_turn).priced.worth ⊎ HasPartialTours s node c most_tours
   least-of c lt true e = inr ((answer c lt).many e)
   least-of c lt false e = inl ((answer c lt).least e)
 
-  pub turn-least : AreLeastIn s moves node (sheet_of_turn prices cars)
+  pub turn-least : AreLeastIn s most_tours node (sheet_of_turn prices cars)
   turn-least c lt =
-      subst (λ (w : Worth). ReachesLeast s node c (price_at prices) w.worth ⊎ HasPartialTours s node c moves) (sym (at c lt)) (least-of c lt (get_or cars c no_turn).priced.spent refl)
+      subst (λ (w : Worth). ReachesLeast s node c (price_at prices) w.worth ⊎ HasPartialTours s node c most_tours) (sym (at c lt)) (least-of c lt (get_or cars c no_turn).priced.spent refl)
 
-  module _ (sheet : PriceSheet) (in_node : IsSheetIn fits s moves node sheet) (same : sheet.prices ≡ prices) where
+  module _ (sheet : PriceSheet) (in_node : IsSheetIn fits s most_tours node sheet) (same : sheet.prices ≡ prices) where
     raised_at : (c : ℕ) → c < car_count s → get_or (raised sheet.worths cars) c no_worth ≡ greater_of (get_or sheet.worths c no_worth) (turn_worth (get_or cars c no_turn))
     raised_at c lt =
         let count = answers.count in
@@ -93,17 +93,17 @@ module _ (fits : Fits) (s : Snapshot) (moves : ℕ) (node : Node) (prices : List
         let whole : P (greater_of (get_or sheet.worths c no_worth) (turn_worth (get_or cars c no_turn))).worth (greater_of (get_or sheet.worths c no_worth) (turn_worth (get_or cars c no_turn))).claim = elim g.is [ inl e ↦ subst (λ (w : Worth). P w.worth w.claim) (sym e) p | inr e ↦ subst (λ (w : Worth). P w.worth w.claim) (sym e) q ] in
         subst (λ (w : Worth). P w.worth w.claim) (sym (raised_at c lt)) whole
 
-    pub raised-sheet-in : IsSheetIn fits s moves node (raised_sheet sheet cars)
+    pub raised-sheet-in : IsSheetIn fits s most_tours node (raised_sheet sheet cars)
     raised-sheet-in =
         record {
           calls = in_node.calls;
           cars = raised-length sheet.worths cars ∙ in_node.cars;
           worths = λ c lt. in_both (λ worth claim. IsWorth s node c (price_at sheet.prices) worth) c lt (in_node.worths c lt) (subst (λ (ps : List ℤ). IsWorth s node c (price_at ps) (get_or cars c no_turn).priced.worth) (sym same) (answer c lt).worth);
-          claims = λ c lt. in_both (λ worth claim. (1 ≤ claim) × (claim ≤ moves)) c lt (in_node.claims c lt) (answer c lt).visits;
+          claims = λ c lt. in_both (λ worth claim. (1 ≤ claim) × (claim ≤ most_tours)) c lt (in_node.claims c lt) (answer c lt).visits;
           fit = λ c lt. in_both (λ worth claim. fits node c (price_at sheet.prices) worth claim) c lt (in_node.fit c lt) (subst (λ (ps : List ℤ). fits node c (price_at ps) (get_or cars c no_turn).priced.worth (get_or cars c no_turn).priced.visits) (sym same) (answer c lt).claim);
         }
 
-    pub raised-least : AreLeastIn s moves node (raised_sheet sheet cars)
+    pub raised-least : AreLeastIn s most_tours node (raised_sheet sheet cars)
     raised-least c lt =
         let g = greater (get_or sheet.worths c no_worth) (turn_worth (get_or cars c no_turn)) in
         let rises : (get_or cars c no_turn).priced.worth ≤ℤ worth_of_car (raised_sheet sheet cars) c = subst (λ (w : Worth). (get_or cars c no_turn).priced.worth ≤ℤ w.worth) (sym (raised_at c lt)) g.second in
@@ -166,40 +166,40 @@ better sheet other = by_test (int_lt (sum_of_sheet sheet) (sum_of_sheet other)) 
 
 -- ---- the leaf
 
-pub record IsNotedSheet (fits : Fits) (s : Snapshot) (moves : ℕ) (node : Node) (old : PriceSheet) (turn new : PriceSheet) : Type 0 where
-  pub sheet : IsSheetIn fits s moves node new
-  pub least : AreLeastIn s moves node new
+pub record IsNotedSheet (fits : Fits) (s : Snapshot) (most_tours : ℕ) (node : Node) (old : PriceSheet) (turn new : PriceSheet) : Type 0 where
+  pub sheet : IsSheetIn fits s most_tours node new
+  pub least : AreLeastIn s most_tours node new
   pub rises : sum_of_sheet old ≤ℤ sum_of_sheet new
   pub takes : sum_of_sheet turn ≤ℤ sum_of_sheet new
 
-pub noted-sheet : (fits : Fits) (s : Snapshot) (moves : ℕ) (node : Node) (b : Branch) (prices : List ℤ) (cars : List TurnOf) → IsLeafIn fits s moves node b → BeginsAt b prices → AreAnswersIn fits s moves node prices cars → IsNotedSheet fits s moves node b.sheet (sheet_of_turn prices cars) (noted b prices cars).sheet
-noted-sheet fits s moves node b prices cars leaf begins answers = by_test (b.rounds == 0) refl
+pub noted-sheet : (fits : Fits) (s : Snapshot) (most_tours : ℕ) (node : Node) (b : Branch) (prices : List ℤ) (cars : List TurnOf) → IsLeafIn fits s most_tours node b → BeginsAt b prices → AreAnswersIn fits s most_tours node prices cars → IsNotedSheet fits s most_tours node b.sheet (sheet_of_turn prices cars) (noted b prices cars).sheet
+noted-sheet fits s most_tours node b prices cars leaf begins answers = by_test (b.rounds == 0) refl
   where
     Is : PriceSheet → Type 0
-    Is new = IsNotedSheet fits s moves node b.sheet (sheet_of_turn prices cars) new
+    Is new = IsNotedSheet fits s most_tours node b.sheet (sheet_of_turn prices cars) new
 
     by_test : (v : Bool) → (b.rounds == 0) ≡ v → Is (cond v (raised_sheet b.sheet cars) (better_of b.sheet (sheet_of_turn prices cars)))
     by_test true e =
         let same = begins (eqb-true b.rounds 0 e) in
         let count : length cars ≡ length b.sheet.worths = answers.count ∙ sym leaf.sheet.cars in
         let sums = raised-at-least b.sheet prices cars count same in
-        record { sheet = raised-sheet-in fits s moves node prices cars answers b.sheet leaf.sheet same; least = raised-least fits s moves node prices cars answers b.sheet leaf.sheet same; rises = sums.0; takes = sums.1 }
+        record { sheet = raised-sheet-in fits s most_tours node prices cars answers b.sheet leaf.sheet same; least = raised-least fits s most_tours node prices cars answers b.sheet leaf.sheet same; rises = sums.0; takes = sums.1 }
     by_test false e =
         let was : 0 < b.rounds = elim (cases_lt 0 b.rounds) [ inl lt ↦ lt | inr past ↦ absurd (both_ways (b.rounds == 0) e (eq-eqb b.rounds 0 (omega (arith, past)))) ] in
         let g = better b.sheet (sheet_of_turn prices cars) in
         record {
-          sheet = elim g.is [ inl is ↦ subst (IsSheetIn fits s moves node) (sym is) leaf.sheet | inr is ↦ subst (IsSheetIn fits s moves node) (sym is) (turn-sheet fits s moves node prices cars answers) ];
-          least = elim g.is [ inl is ↦ subst (AreLeastIn s moves node) (sym is) (leaf.priced was) | inr is ↦ subst (AreLeastIn s moves node) (sym is) (turn-least fits s moves node prices cars answers) ];
+          sheet = elim g.is [ inl is ↦ subst (IsSheetIn fits s most_tours node) (sym is) leaf.sheet | inr is ↦ subst (IsSheetIn fits s most_tours node) (sym is) (turn-sheet fits s most_tours node prices cars answers) ];
+          least = elim g.is [ inl is ↦ subst (AreLeastIn s most_tours node) (sym is) (leaf.priced was) | inr is ↦ subst (AreLeastIn s most_tours node) (sym is) (turn-least fits s most_tours node prices cars answers) ];
           rises = g.first;
           takes = g.second;
         }
 
-pub noted-leaf : (fits : Fits) (s : Snapshot) (moves : ℕ) (node : Node) (b : Branch) (prices : List ℤ) (cars : List TurnOf) → IsLeafIn fits s moves node b → BeginsAt b prices → AreAnswersIn fits s moves node prices cars → IsLeafIn fits s moves node (noted b prices cars)
-noted-leaf fits s moves node b prices cars leaf begins answers =
-    let new = noted-sheet fits s moves node b prices cars leaf begins answers in
+pub noted-leaf : (fits : Fits) (s : Snapshot) (most_tours : ℕ) (node : Node) (b : Branch) (prices : List ℤ) (cars : List TurnOf) → IsLeafIn fits s most_tours node b → BeginsAt b prices → AreAnswersIn fits s most_tours node prices cars → IsLeafIn fits s most_tours node (noted b prices cars)
+noted-leaf fits s most_tours node b prices cars leaf begins answers =
+    let new = noted-sheet fits s most_tours node b prices cars leaf begins answers in
     let count = answers.count in
     record {
       sheet = new.sheet;
       priced = λ _. new.least;
-      spent = spent-car (IsSpentCar s moves node) 0 cars (λ k lt e. subst (IsSpentCar s moves node) (omega arith) (omega (arith, lt, count), (answers.each k (omega (arith, lt, count))).many e));
+      spent = spent-car (IsSpentCar s most_tours node) 0 cars (λ k lt e. subst (IsSpentCar s most_tours node) (omega arith) (omega (arith, lt, count), (answers.each k (omega (arith, lt, count))).many e));
     }

@@ -17,21 +17,21 @@ pub record GivesTour (s : Snapshot) (node : Node) (c : ℕ) (price : ℕ → ℤ
   pub has_it : value_of s c price tour ≡ t.priced.worth
 
 -- a pricing of the car in the node at these prices, of at most so many partial tours
-pub record IsAnswerIn (fits : Fits) (s : Snapshot) (moves : ℕ) (node : Node) (price : ℕ → ℤ) (c : ℕ) (t : TurnOf) : Type 0 where
+pub record IsAnswerIn (fits : Fits) (s : Snapshot) (most_tours : ℕ) (node : Node) (price : ℕ → ℤ) (c : ℕ) (t : TurnOf) : Type 0 where
   pub worth : IsWorth s node c price t.priced.worth
   pub size : IsWorthSize t.priced.worth
-  pub visits : (1 ≤ t.priced.visits) × (t.priced.visits ≤ moves)
+  pub visits : (1 ≤ t.priced.visits) × (t.priced.visits ≤ most_tours)
   pub claim : fits node c price t.priced.worth t.priced.visits
   pub least : t.priced.spent ≡ false → ReachesLeast s node c price t.priced.worth
   pub gives : t.priced.spent ≡ false → GivesTour s node c price t
-  pub many : t.priced.spent ≡ true → HasPartialTours s node c moves
+  pub many : t.priced.spent ≡ true → HasPartialTours s node c most_tours
   pub within : IfSome t.tour (IsTourIn s node c)
 
 -- the pricings of all cars
-pub record AreAnswersIn (fits : Fits) (s : Snapshot) (moves : ℕ) (node : Node) (prices : List ℤ) (cars : List TurnOf) : Type 0 where
+pub record AreAnswersIn (fits : Fits) (s : Snapshot) (most_tours : ℕ) (node : Node) (prices : List ℤ) (cars : List TurnOf) : Type 0 where
   pub calls : length prices ≡ call_count s
   pub count : length cars ≡ car_count s
-  pub each : (c : ℕ) → c < car_count s → IsAnswerIn fits s moves node (price_at prices) c (slice_index_or cars c no_turn)
+  pub each : (c : ℕ) → c < car_count s → IsAnswerIn fits s most_tours node (price_at prices) c (slice_index_or cars c no_turn)
 
 -- the first pricing of a leaf is at its prices
 abbrev pub BeginsAt : Branch → List ℤ → Type 0

@@ -15,6 +15,9 @@ use price_scale::Price;
 use search_model::TurnOf;
 use std::alloc::{AllocError, Global};
 
+/// The most pricings that a node may have: then it is split.
+pub const MOST_PRICINGS: u32 = 20;
+
 /// At which call a node is split, and the cars that may still serve it in the first part.
 #[derive(Clone, Copy)]
 pub struct SplitAt {
@@ -100,7 +103,7 @@ impl Branch {
         requires calls { length prices.now ≡ length self.old.sheet.prices }
         requires cars { length cars.now ≡ length self.old.sheet.worths }
         requires sizes { AreTurnSizes cars.now }
-        requires rounds { self.old.rounds < 20 }
+        requires rounds { self.old.rounds < MOST_PRICINGS }
         ensures { self.new ≡ noted self.old prices.now cars.now }
     {
         // A sheet has a worth for each of 16 cars at most.

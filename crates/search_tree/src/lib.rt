@@ -36,7 +36,7 @@ mod choices;
 mod sheets;
 mod tree;
 
-pub use branches::{Branch, SplitAt};
+pub use branches::{Branch, MOST_PRICINGS, SplitAt};
 pub use choices::first_choice;
 pub use sheets::{Sheet, Worth};
 pub use tree::SearchTree;

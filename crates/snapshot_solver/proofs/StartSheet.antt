@@ -59,12 +59,12 @@ root-fits s c =
 -- ---- all
 
 start-in_root : (s : Snapshot) → IsAccepted s → IsRootSheet s (start_sheet s)
-start-in_root s accepted moves few =
+start-in_root s accepted most_tours few =
     record {
       calls = length-map-range_with_len (λ j. scaled (least_lone_cost s j)) 0 (call_count s);
       cars = length-map-range_with_len (start_worth s) 0 (car_count s);
       worths = λ c car. subst (λ (w : Worth). IsWorth s (root_of s) c (price_at (start_prices s)) w.worth) (sym (worth-at s c car)) (root-worth s c accepted car);
-      claims = λ c car. subst (λ (w : Worth). (1 ≤ w.claim) × (w.claim ≤ moves)) (sym (worth-at s c car)) (omega arith, few);
+      claims = λ c car. subst (λ (w : Worth). (1 ≤ w.claim) × (w.claim ≤ most_tours)) (sym (worth-at s c car)) (omega arith, few);
       fit = λ c car. subst (λ (w : Worth). fits_kept s (root_of s) c (price_at (start_prices s)) w.worth w.claim) (sym (worth-at s c car)) (root-fits s c);
     }
 

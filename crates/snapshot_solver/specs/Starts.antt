@@ -24,7 +24,7 @@ start_worths s = map (start_worth s) (range_with_len 0 (car_count s))
 
 -- its worths and claims are right in the root, whatever the greatest claim is
 abbrev pub IsRootSheet : Snapshot → PriceSheet → Type 0
-IsRootSheet s sheet = (moves : ℕ) → 1 ≤ moves → IsSheetIn (fits_kept s) s moves (root_of s) sheet
+IsRootSheet s sheet = (most_tours : ℕ) → 1 ≤ most_tours → IsSheetIn (fits_kept s) s most_tours (root_of s) sheet
 
 -- the cost of the groups aboard a car if it went straight to each destination
 abbrev pub aboard_cost : Snapshot → ℕ → ℕ

@@ -31,12 +31,13 @@ pub fn solve<G: Gate + Sync>(
     gate: &G,
 ) -> Result<Found, AllocError>
     requires rounds { (1 ≤ limits.rounds) × (limits.rounds ≤ 10 ^ 18) }
-    requires moves { (1 ≤ limits.moves) × (limits.moves ≤ 10 ^ 18) }
+    requires most_tours { (1 ≤ limits.most_tours) × (limits.most_tours ≤ 10 ^ 18) }
     requires workers { (1 ≤ workers) × (workers ≤ 16) }
-    ensures answer { IfOk result (λ f. IsSolveAnswer snapshot.now limits.rounds limits.moves f.plan f.cost f.bound
-        f.tree.twigs f.turns f.why) }
+    ensures answer { IfOk result (λ f. IsSolveAnswer snapshot.now limits.rounds limits.most_tours
+        f.plan f.cost f.bound f.tree.twigs f.turns f.why) }
     ensures sized { IfOk result (λ f. All IsSizedTwig f.tree.twigs) }
-    ensures enough { rounds_enough snapshot.now ≤ limits.rounds → moves_enough snapshot.now ≤ limits.moves
+    ensures enough { rounds_enough snapshot.now ≤ limits.rounds
+        → moves_enough snapshot.now ≤ limits.most_tours
         → IfOk result (λ f. f.why ≡ Solved) }
 {
     prove!(snapshot.calls().len() <= 128);

@@ -12,7 +12,7 @@ answer-requires g c =
     let x = c.args.begun.search in
     let start = c.requires.ended.0 in
     let ended = c.requires.ended.2 in
-    bound_natural fits s c.args.limits.moves start c.args.begun.turns.items x.tree x.best ended.begun.searching.under_way.best ended.begun.above c.requires.ended.1
+    bound_natural fits s c.args.limits.most_tours start c.args.begun.turns.items x.tree.branches x.best ended.begun.searching.under_way.best ended.begun.above c.requires.ended.1
 
 pub returns-clause-found : goal.returns-clause-found
 returns-clause-found g c =
@@ -23,5 +23,5 @@ returns-clause-found g c =
     let why = c.reason-why.result in
     let ended = c.requires.ended.2 in
     let same = ended.begun.searching.under_way.best.snapshot in
-    let reason : IsReasonOf s c.args.limits.moves x why = c.reason-why.ensures s (sym (ap length c.calls-calls.ensures.value ∙ ap call_count (c.snapshot.ensures.value ∙ same))) in
-    if_ok c.answer.result (IsAnswerOf x.tree x.best turns why) _ (λ f is start ended'. answer_found fits start.prices (bound_of_sheet start) s c.args.limits.rounds c.args.limits.moves x.tree x.best turns why f is (found_ended fits s c.args.limits.rounds c.args.limits.moves start turns x ended' f.bound why is.bound (reason_is fits s c.args.limits.rounds c.args.limits.moves start turns x ended' f.bound why is.bound reason))) c.answer.ensures.answer
+    let reason : IsReasonOf s c.args.limits.most_tours x why = c.reason-why.ensures s (sym (ap length c.calls-calls.ensures.value ∙ ap call_count (c.snapshot.ensures.value ∙ same))) in
+    if_ok c.answer.result (IsAnswerOf x.tree.branches x.best turns why) _ (λ f is start ended'. answer_found fits start.prices (bound_of_sheet start) s c.args.limits.rounds c.args.limits.most_tours x.tree.branches x.best turns why f is (found_ended fits s c.args.limits.rounds c.args.limits.most_tours start turns x ended' f.bound why is.bound (reason_is fits s c.args.limits.rounds c.args.limits.most_tours start turns x ended' f.bound why is.bound reason))) c.answer.ensures.answer

@@ -1,4 +1,4 @@
-use Rattle.std.proofs.Common.{◌≡◌, ◌+◌, ◌∙◌, ap, subst, sym, refl, ◌++◌, ◌∷◌, [], List, drop}
+use Rattle.std.proofs.Common.{◌+◌, ◌∙◌, ap, subst, sym, ◌++◌, List, drop}
 use Rattle.std.specs.Prelude.{All}
 use Rattle.std.proofs.lemmas.List.Elements.{All-nil, All-push}
 use Rattle.price_scale.specs.Scale.{IsPrice}

@@ -23,6 +23,6 @@ returns c =
     let calls : call_count x.best.pool.snapshot ≡ length c.calls-calls.result.now = search rules in
     let ok = c.in_ok-places.places.ok.0 in
     let whole : c.loop-index.index ≡ length c.in_ok-places.places.items = omega (arith, ok) in
-    let branches : c.branches.result.now ≡ x.tree = c.branches.ensures in
+    let branches : c.branches.result.now ≡ x.tree.branches = c.branches.ensures in
     let are = c.in_ok-places.ensures x.best.pool.snapshot calls in
     taken_of x.best.pool.snapshot x c.in_ok-places.places.items c.loop-index.index c.loop-index.chosen.items (subst (λ (t : List Branch). AreChosen x.best.pool.snapshot x.best.cost t c.in_ok-places.places.items) branches are) whole c.loop-index.invariant

@@ -68,5 +68,5 @@ returns-then-not-branch-clause-run g c =
       cheaper = subst (λ (x : Search). x.best.cost ≤ c.args.self.now.best.cost) (sym same) was.cheaper;
       few = subst (λ (x : Search). x.done ≤ c.args.rounds) (sym same) few;
       ended = inr (c.in_ok-round.ensures.rest c.if-not-branch.true);
-      sums = λ z h. subst (λ (x : Search). AllInTree (IsAtLeast z) s x.tree) (sym same) (was.sums z h);
+      sums = λ z h. subst (λ (x : Search). AllInTree (IsAtLeast z) s x.tree.branches) (sym same) (was.sums z h);
     }

@@ -35,7 +35,7 @@ returns-clause-answer g c task at =
     let here : Task = slice_index_or it.tasks.now (pricing / it.cars) c.index-self-pricing.result in
     let told = c.price-priced.ensures in
     let p : Pricing = record { car = car; node = here.node.now; prices = here.prices.now; answer = c.price-priced.result } in
-    let answer : IsAnswerIn fits s it.moves here.node.now (price_at here.prices.now) car (record { priced = c.price-priced.result; tour = c.in_ok-tour.tour }) = record {
+    let answer : IsAnswerIn fits s it.most_tours here.node.now (price_at here.prices.now) car (record { priced = c.price-priced.result; tour = c.in_ok-tour.tour }) = record {
       worth = told.worth;
       size = told.size;
       visits = told.visits;
@@ -45,4 +45,4 @@ returns-clause-answer g c task at =
       many = λ e. (told.spent e).1;
       within = c.in_ok-tour.ensures.within p told.held;
     } in
-    subst (λ (t : Task). IsAnswerIn fits s it.moves t.node.now (price_at t.prices.now) car (record { priced = c.price-priced.result; tour = c.in_ok-tour.tour })) (get_or_from_slice_get it.tasks.now (pricing / it.cars) task c.index-self-pricing.result at) answer
+    subst (λ (t : Task). IsAnswerIn fits s it.most_tours t.node.now (price_at t.prices.now) car (record { priced = c.price-priced.result; tour = c.in_ok-tour.tour })) (get_or_from_slice_get it.tasks.now (pricing / it.cars) task c.index-self-pricing.result at) answer

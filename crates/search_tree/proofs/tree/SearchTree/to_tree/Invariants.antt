@@ -5,4 +5,4 @@ use Rattle.search_tree.specs.Sheets.{IsSizedTwig}
 use Rattle.search_tree.proofs.tree.SearchTree.to_tree.Given as goal
 
 abbrev pub invariant-loop-place : goal.invariant-loop-place
-invariant-loop-place l = (l.twigs ≡ map twig_of (take l.place l.self-inside.branches.items)) × All IsSizedTwig l.twigs
+invariant-loop-place g l = (l.twigs ≡ map twig_of (take l.place l.self-inside.branches.items)) × All IsSizedTwig l.twigs

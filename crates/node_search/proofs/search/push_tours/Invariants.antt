@@ -1,7 +1,7 @@
 use Rattle.std.proofs.Common.{◌≡◌, ◌<◌, ℕ, length, Some, slice_index_or}
 use Rattle.elevator_model.specs.Plans.{tour_of}
 use Rattle.search_model.specs.Solving.{no_turn}
-use Rattle.node_search.proofs.search.plan_of.Given as goal
+use Rattle.node_search.proofs.search.push_tours.Given as goal
 
 abbrev pub invariant-loop-car : goal.invariant-loop-car
 invariant-loop-car l =

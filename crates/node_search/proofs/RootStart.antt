@@ -1,0 +1,69 @@
+-- The root before its first turn, and after the turns that are due.
+use Rattle.std.proofs.Common.{rules, ◌≡◌, ℕ, ◌≤◌, ◌<◌, List, length, refl, sym, ap, ◌∙◌, subst, arith}
+use Rattle.std.specs.Prelude.{ℤ, All, None, pos}
+use Rattle.std.proofs.lemmas.Int.{ints}
+use Rattle.elevator_model.specs.Snapshot.{Snapshot}
+use Rattle.search_model.specs.declared.Turn.{Turn}
+use Rattle.search_model.specs.Nodes.{root_of}
+use Rattle.search_model.specs.Certificates.{root_place}
+use Rattle.search_model.specs.Solving.{Fits, AreRootTurns, greatest_price}
+use Rattle.restricted_master.specs.Pools.{tours_of_car}
+use Rattle.search_tree.specs.declared.branches.Branch.{Branch}
+use Rattle.search_tree.specs.Sheets.{PriceSheet, sum_of_sheet}
+use Rattle.search_tree.specs.Branches.{at_place, leaf_at}
+use Rattle.search_tree.specs.Standing.{IsBranchAt, IsLeafIn, IsSheetIn}
+use Rattle.node_search.specs.declared.root.Root.{Root}
+use Rattle.node_search.specs.Roots.{IsRoot, IsNewRoot, IsPooled, IsTurnBelow, HasTurned, due_prices, leaf_of_root, start_of_turns}
+use Rattle.node_search.specs.Found.{HasDueTurns, IsTurned}
+
+module _ (fits : Fits) (s : Snapshot) (most_tours : ℕ) (start : PriceSheet) (root : Root) (is : IsNewRoot s start root) (within : IsSheetIn fits s most_tours (root_of s) start) where
+  abbrev branch : Branch
+  branch = leaf_at (root_of s) start 0
+
+  in_leaf : IsLeafIn fits s most_tours (root_of s) branch
+  in_leaf = record { sheet = within; priced = λ lt. absurd (omega (arith, lt)); spent = tt }
+
+  at : IsBranchAt fits s most_tours (root_place s) branch
+  at =
+      record {
+        node = refl;
+        is_node = is.node;
+        above = record { fewer = λ c j lt h. h; more = λ c j lt h. h };
+        few = omega arith;
+        kind = in_leaf;
+      }
+
+  none : length root.turns.items ≡ 0
+  none = ap length is.turns
+
+  pub new_root : IsRoot fits s most_tours root
+  new_root =
+      record {
+        branch = branch;
+        lone = is.tree;
+        at = at;
+        leaf = refl;
+        rounds = sym none;
+        begins = λ _. sym is.prices;
+        best = is.best;
+        calls = ap length is.prices;
+        prices = subst (λ (ts : List Turn). root.prices.items ≡ due_prices s (start_of_turns ts root.prices.items) ts) (sym is.turns) refl;
+        step = subst (λ (ts : List Turn). root.step ≡ pos (greatest_price (start_of_turns ts root.prices.items))) (sym is.turns) is.step;
+        small = is.small;
+        few_turns = (let no = none in omega (arith, no));
+        turns = subst (λ (ts : List Turn). AreRootTurns s most_tours (start_of_turns ts root.prices.items) ts) (sym is.turns) tt;
+        takes = subst (All (IsTurnBelow (sum_of_sheet start))) (sym is.turns) (search rules);
+        pooled = subst (All (IsPooled s root.best.pool)) (sym is.turns) (search rules);
+        few = λ c. (let most = is.few c in omega (arith, most));
+        covered = λ lt. absurd (let no = none in omega (arith, lt, no));
+      }
+
+  pub turned_is : (rounds : ℕ) (new : Root) → IsRoot fits s most_tours new → HasTurned root new → HasDueTurns s rounds new → IsTurned fits s rounds most_tours start new
+  turned_is rounds new stands turned due =
+      record {
+        stands = stands;
+        start_is = turned.start ∙ ap (λ (ts : List Turn). start_of_turns ts root.prices.items) is.turns ∙ is.prices;
+        sheet = within;
+        rises = (let up = turned.rises in let was = ap (λ (bs : List Branch). sum_of_sheet (at_place bs 0).sheet) is.tree in omega (arith, ints, up, was));
+        due = due;
+      }
