@@ -13,7 +13,8 @@
 //!   pricing is at its own prices, and each car keeps the greater of its worths; a later one replaces the
 //!   sheet where its sum is greater.
 //! - `SearchTree::split` is refused exactly where the part does not divide the call's set, and the tree is as
-//!   before, also when out of memory; else the node's two parts follow it.
+//!   before, also when out of memory; else the node's two parts follow it, each with the payload that was given
+//!   for it. `SearchTree<T>` has a payload of its owner's for each node, which only `payload_mut` changes.
 //! - `SearchTree::bound` is the least of a cost and the bounds of the leaves; `to_tree` gives the twigs of a
 //!   certificate.
 //! - `tree-noted`, `tree-split`, `found`, lemmas: what pricings and splits keep of a tree, and that such a
