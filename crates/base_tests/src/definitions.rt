@@ -9,197 +9,55 @@ ghost use Rattle.search_model.specs.WorkedSolving.{AreFloors, AreTurns, AreRootW
 ghost use Rattle.search_model.specs.WorkedDays.{AreAdvanced, AreMoving, IsDay, IsMovingDay, AreRows, AreOpenings};
 ghost use Rattle.search_model.specs.WorkedCases.{AreReports, AreDraws};
 
-// The costs that the definitions give to the worked cases.
-fn worked_costs()
-    ensures { AreCosts }
+/// Costs, moments, broken rules and first faults; the uneven ones where no two numbers are the same.
+fn elevators()
+    ensures costs { AreCosts }
+    ensures broken_rules { AreBroken }
+    ensures faults { AreFaults }
+    ensures waits_past_patience { ArePatient }
+    ensures plans { ArePlans }
+    ensures building_faults { AreBuildingFaults }
+    ensures state_faults { AreStateFaults }
+    ensures group_faults { AreGroupFaults }
+    ensures call_faults { AreCallFaults }
+    ensures uneven_numbers { AreUneven }
+    ensures plans_of_three_cars { AreUnevenPlans }
+    ensures lowest_rules { AreLowest }
+    ensures settled_by_moves { AreMoves }
 {}
 
-// Each rule of a tour, broken once.
-fn broken_rules()
-    ensures { AreBroken }
+fn searches()
+    ensures orders { AreOrders }
+    ensures extendable { AreExtendable }
+    ensures splits { AreSplits }
+    ensures trees { AreTrees }
+    ensures uneven_verdicts { AreUnevenVerdicts }
+    ensures values { AreValues }
+    ensures bounds { AreBounds }
+    ensures kept { AreKept }
+    ensures verdicts { AreVerdicts }
+    ensures claims { AreClaims }
+    ensures enough_limits { AreEnough }
+    ensures floors { AreFloors }
+    ensures turns { AreTurns }
+    ensures root_worths { AreRootWorths }
+    ensures tree_bounds { AreTreeBounds }
 {}
 
-// First faults and their places.
-fn worked_faults()
-    ensures { AreFaults }
-{}
-
-// What a wait past the patience costs.
-fn waits_past_patience()
-    ensures { ArePatient }
-{}
-
-// Plans of several cars, and their first bad places.
-fn worked_plans()
-    ensures { ArePlans }
-{}
-
-fn building_faults()
-    ensures { AreBuildingFaults }
-{}
-
-fn state_faults()
-    ensures { AreStateFaults }
-{}
-
-fn group_faults()
-    ensures { AreGroupFaults }
-{}
-
-fn call_faults()
-    ensures { AreCallFaults }
-{}
-
-// Costs, rules and open floors where no two numbers are the same.
-fn uneven_numbers()
-    ensures { AreUneven }
-{}
-
-fn plans_of_three_cars()
-    ensures { AreUnevenPlans }
-{}
-
-fn lowest_rules()
-    ensures { AreLowest }
-{}
-
-// What moves settle, and the moments of their stops.
-fn settled_by_moves()
-    ensures { AreMoves }
-{}
-
-fn orders()
-    ensures { AreOrders }
-{}
-
-fn extendable()
-    ensures { AreExtendable }
-{}
-
-fn splits()
-    ensures { AreSplits }
-{}
-
-fn trees()
-    ensures { AreTrees }
-{}
-
-fn uneven_verdicts()
-    ensures { AreUnevenVerdicts }
-{}
-
-fn values()
-    ensures { AreValues }
-{}
-
-fn bounds()
-    ensures { AreBounds }
-{}
-
-fn kept()
-    ensures { AreKept }
-{}
-
-fn verdicts()
-    ensures { AreVerdicts }
-{}
-
-fn claims()
-    ensures { AreClaims }
-{}
-
-fn enough_limits()
-    ensures { AreEnough }
-{}
-
-fn floors()
-    ensures { AreFloors }
-{}
-
-fn turns()
-    ensures { AreTurns }
-{}
-
-fn root_worths()
-    ensures { AreRootWorths }
-{}
-
-fn tree_bounds()
-    ensures { AreTreeBounds }
-{}
-
-fn advanced()
-    ensures { AreAdvanced }
-{}
-
-fn moving()
-    ensures { AreMoving }
-{}
-
-fn whole_day()
-    ensures { IsDay }
-{}
-
-fn moving_day()
-    ensures { IsMovingDay }
-{}
-
-fn rows()
-    ensures { AreRows }
-{}
-
-fn openings()
-    ensures { AreOpenings }
-{}
-
-fn reports()
-    ensures { AreReports }
-{}
-
-fn draws()
-    ensures { AreDraws }
+fn days()
+    ensures advanced { AreAdvanced }
+    ensures moving { AreMoving }
+    ensures whole_day { IsDay }
+    ensures moving_day { IsMovingDay }
+    ensures rows { AreRows }
+    ensures openings { AreOpenings }
+    ensures reports { AreReports }
+    ensures draws { AreDraws }
 {}
 
 #[test]
-fn definitions_of_elevators_give_the_worked_cases() {
-    worked_costs();
-    broken_rules();
-    worked_faults();
-    waits_past_patience();
-    worked_plans();
-    building_faults();
-    state_faults();
-    group_faults();
-    call_faults();
-    uneven_numbers();
-    plans_of_three_cars();
-    lowest_rules();
-    settled_by_moves();
-}
-
-#[test]
-fn definitions_of_searches_and_days_give_the_worked_cases() {
-    orders();
-    extendable();
-    splits();
-    trees();
-    uneven_verdicts();
-    values();
-    bounds();
-    kept();
-    verdicts();
-    claims();
-    enough_limits();
-    floors();
-    turns();
-    root_worths();
-    tree_bounds();
-    advanced();
-    moving();
-    whole_day();
-    moving_day();
-    rows();
-    openings();
-    reports();
-    draws();
+fn definitions_give_the_worked_cases() {
+    elevators();
+    searches();
+    days();
 }

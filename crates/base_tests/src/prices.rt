@@ -4,7 +4,6 @@ ghost use Rattle.std.specs.Prelude.{◌≤◌, length};
 ghost use Rattle.price_scale.specs.Scale.{RoundsUp, price_sum};
 
 use price_scale::{Price, SCALE, sum_prices, unscale_up};
-use std::test::Fail;
 
 /// The sum of the prices of 128 calls in whole cost units, rounded up once.
 fn units_of(prices: &[Price]) -> i128
@@ -14,27 +13,28 @@ fn units_of(prices: &[Price]) -> i128
     unscale_up(sum_prices(prices))
 }
 
+const MOST: i128 = 1_000_000_000_000_000_000_000_000;
+
 #[test]
 fn accepts_exactly_the_range(rt: HostRuntime) {
-    let most = 1_000_000_000_000_000_000_000_000;
-    assert!(rt; Price::new(most + 1).is_none());
-    assert!(rt; Price::new(-most - 1).is_none());
-    assert!(rt; Price::new(most).is_some());
-    assert!(rt; Price::new(-most).is_some());
+    let is_refused = Price::new(MOST + 1).is_none() && Price::new(-MOST - 1).is_none();
+    let is_accepted = Price::new(MOST).is_some() && Price::new(-MOST).is_some();
+    assert!(rt; is_refused && is_accepted);
 }
 
 #[test]
 fn rounds_towards_the_greater_number(rt: HostRuntime) {
-    assert!(rt; unscale_up(1) == 1);
-    assert!(rt; unscale_up(1000) == 1);
-    assert!(rt; unscale_up(-999) == 0);
-    assert!(rt; unscale_up(-1000) == -1);
+    let above = unscale_up(1) == 1 && unscale_up(1000) == 1;
+    assert!(rt; above && unscale_up(-999) == 0 && unscale_up(-1000) == -1);
+}
+
+/// What the sum of these prices is, rounded up once.
+fn units_of_three(first: i128, second: i128) -> Option<i128> {
+    let (first, second) = (Price::new(first)?, Price::new(second)?);
+    Some(units_of(&[first, second, second]))
 }
 
 #[test]
-fn a_sum_is_rounded_up_once(rt: HostRuntime) -> Result<(), Fail> {
-    let first = Price::new(1700).ok_or("no price")?;
-    let second = Price::new(1701).ok_or("no price")?;
-    assert!(rt; units_of(&[first, second, second]) == 6);
-    Ok(())
+fn a_sum_is_rounded_up_once(rt: HostRuntime) {
+    assert!(rt; units_of_three(1700, 1701) == Some(6));
 }

@@ -1,22 +1,30 @@
 //! A line of jobs, and the workers that draw from it.
 
+ghost use Rattle.std.specs.Prelude.{◌≤◌};
+
 use byte_streams::{Gate, OpenGate};
-use std::alloc::AllocError;
+use std::alloc::{AllocError, Global};
+use std::marker::Sync;
 use std::sync::atomic::{AtomicBool, Ordering};
-use std::test::Fail;
+use std::thread::Threads;
 use work_fan::{JobLine, Jobs, fan};
 
+/// Whether each of two jobs is drawn and then none, in three draws.
+fn draws_two(alloc: Global) -> Option<bool> {
+    let (line, mut seat) = JobLine::begin(alloc, 2, 1).ok()?;
+    let is_drawn = line.draw(&mut seat) == Some(0)
+        && line.draw(&mut seat) == Some(1)
+        && line.draw(&mut seat).is_none();
+    Some(line.close(seat) == 3 && is_drawn)
+}
+
 #[test]
-fn draws_each_job_and_then_none(rt: HostRuntime) -> Result<(), Fail> {
-    let (line, mut seat) = JobLine::begin(rt.alloc(), 2, 1)?;
-    assert!(rt; line.draw(&mut seat) == Some(0));
-    assert!(rt; line.draw(&mut seat) == Some(1));
-    assert!(rt; line.draw(&mut seat).is_none());
-    assert!(rt; line.close(seat) == 3);
-    Ok(())
+fn draws_each_job_and_then_none(rt: HostRuntime) {
+    assert!(rt; draws_two(rt.alloc()) == Some(true));
 }
 
 // Job k is answered by 10 + k. Desks only count what was done at them.
+#[derive(Drop)]
 struct Tens {
     count: u32,
 }
@@ -44,16 +52,25 @@ impl Jobs for Tens {
     }
 }
 
-// Each job raises its flag. Then the one that looks out, or each where none is named, looks for the flags of
-// all others, for a while.
+// Each of two or three jobs raises its flag. Then the one that looks out, or each where none is named, looks
+// for the flags of all others, for a while.
 #[derive(Drop)]
-struct Lookout<const N: usize> {
-    begun: [AtomicBool; N],
+struct Lookout {
+    begun: [AtomicBool; 3],
     looker: Option<u32>,
     missed: AtomicBool,
 }
 
-impl<const N: usize> Lookout<N> {
+impl Lookout {
+    // The flag of a third job that is not there is raised.
+    fn of_jobs(jobs: u32, looker: Option<u32>) -> Self {
+        Lookout {
+            begun: [flag(), flag(), AtomicBool::new(jobs < 3)],
+            looker,
+            missed: flag(),
+        }
+    }
+
     fn sees_all(&self) -> bool {
         for _ in 0..100_000_000u32 {
             if self.begun.iter().all(|flag| flag.load(Ordering::SeqCst)) {
@@ -64,7 +81,7 @@ impl<const N: usize> Lookout<N> {
     }
 }
 
-impl<const N: usize> Gate for Lookout<N> {
+impl Gate for Lookout {
     fn enter(&self, job: u32) {
         if let Some(flag) = self.begun.get(job as usize) {
             flag.store(true, Ordering::SeqCst);
@@ -115,59 +132,66 @@ fn flag() -> AtomicBool {
     AtomicBool::new(false)
 }
 
-#[test]
-fn answers_in_the_order_of_the_jobs(rt: HostRuntime) -> Result<(), Fail> {
-    for workers in [1, 3, 16] {
-        let mut desks = [0; 16];
-        let answers = fan(
-            &rt,
-            rt.alloc(),
-            &Tens { count: 5 },
-            &mut desks[..workers],
-            &OpenGate,
-        )?;
-        assert!(rt; answers.as_slice() == [10, 11, 12, 13, 14].as_slice());
+/// Whether so many workers answer five jobs in their order.
+fn answer_in_order(rt: &(impl Threads + Sync), alloc: Global, workers: usize) -> bool
+    requires { (1 ≤ workers) × (workers ≤ 16) }
+{
+    let mut desks = [0; 16];
+    match fan(
+        rt,
+        alloc,
+        &Tens { count: 5 },
+        &mut desks[..workers],
+        &OpenGate,
+    ) {
+        Ok(answers) => answers.as_slice() == [10, 11, 12, 13, 14].as_slice(),
+        Err(_) => false,
     }
-    Ok(())
 }
 
 #[test]
-fn the_gate_is_told_of_a_job_before_it_begins(rt: HostRuntime) -> Result<(), Fail> {
+fn answers_in_the_order_of_the_jobs(rt: HostRuntime) {
+    for workers in [1, 3, 16] {
+        assert!(rt; answer_in_order(&rt, rt.alloc(), workers));
+    }
+}
+
+/// Whether each of three jobs finds that the gate was told of it.
+fn is_told_before(rt: &(impl Threads + Sync), alloc: Global) -> bool {
     let told = Told {
         flags: [flag(), flag(), flag()],
     };
-    let found = fan(&rt, rt.alloc(), &told, &mut [0, 0], &told)?;
-    assert!(rt; found.as_slice() == [true, true, true].as_slice());
-    Ok(())
+    match fan(rt, alloc, &told, &mut [0, 0], &told) {
+        Ok(found) => found.as_slice() == [true, true, true].as_slice(),
+        Err(_) => false,
+    }
 }
 
 #[test]
-fn two_workers_run_side_by_side(rt: HostRuntime) -> Result<(), Fail> {
-    let gate = Lookout {
-        begun: [flag(), flag()],
-        looker: None,
-        missed: flag(),
-    };
-    fan(&rt, rt.alloc(), &Tens { count: 2 }, &mut [0, 0], &gate)?;
-    assert!(rt; !gate.missed.load(Ordering::SeqCst));
-    Ok(())
+fn the_gate_is_told_of_a_job_before_it_begins(rt: HostRuntime) {
+    assert!(rt; is_told_before(&rt, rt.alloc()));
+}
+
+/// Whether two workers do so many jobs, and each that looks out is told of the others while it waits.
+fn see_others(rt: &(impl Threads + Sync), alloc: Global, count: u32, looker: Option<u32>) -> bool {
+    let gate = Lookout::of_jobs(count, looker);
+    let is_done = fan(rt, alloc, &Tens { count }, &mut [0, 0], &gate).is_ok();
+    is_done && !gate.missed.load(Ordering::SeqCst)
+}
+
+#[test]
+fn two_workers_run_side_by_side(rt: HostRuntime) {
+    assert!(rt; see_others(&rt, rt.alloc(), 2, None));
 }
 
 // No fixed share of the jobs passes all three runs: some worker has two jobs, and the one that it does first
 // never sees the other.
 #[test]
-fn a_worker_that_is_held_leaves_the_rest_to_the_other(rt: HostRuntime) -> Result<(), Fail> {
+fn a_worker_that_is_held_leaves_the_rest_to_the_other(rt: HostRuntime) {
     for looker in 0..3 {
-        let gate = Lookout {
-            begun: [flag(), flag(), flag()],
-            looker: Some(looker),
-            missed: flag(),
-        };
-        fan(&rt, rt.alloc(), &Tens { count: 3 }, &mut [0, 0], &gate)?;
         assert!(rt;
-            !gate.missed.load(Ordering::SeqCst),
+            see_others(&rt, rt.alloc(), 3, Some(looker)),
             "job {looker} was not told of the others"
         );
     }
-    Ok(())
 }

@@ -9,6 +9,7 @@
 mod checks;
 mod costs;
 mod draws;
+mod lending;
 mod lines;
 mod reading;
 mod written;
@@ -16,6 +17,7 @@ mod written;
 pub use checks::{Checks, are_right, print_kinds};
 pub use costs::{boards_of, is_feasible, lawful_cost, plan_price};
 pub use draws::Draws;
+pub use lending::is_so_of;
 pub use lines::{put_call, put_group, put_lines, put_state};
 pub use reading::{WORKED_CASE, snapshot_in};
 pub use written::{plan_in, tour_in};

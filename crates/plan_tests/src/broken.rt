@@ -2,7 +2,7 @@
 
 use crate::cases::FOUR_CALLS;
 use call_state::{Snapshot, StateFault};
-use case_kit::{plan_in, snapshot_in};
+use case_kit::{is_so_of, plan_in, snapshot_in};
 use elevator_model::{BadPlan, Fault, Plan, Rule};
 use std::alloc::Global;
 use tour_cost::judge_plan;
@@ -33,10 +33,10 @@ fn breaks_in(alloc: Global, snapshot: &Snapshot, text: &str, place: [u32; 2], nu
 
 /// The same for the four calls.
 fn breaks_of_four(alloc: Global, text: &str, place: [u32; 2], number: u8) -> bool {
-    match snapshot_in(alloc, FOUR_CALLS.as_bytes()) {
-        Some(snapshot) => breaks_in(alloc, &snapshot, text, place, number),
-        None => false,
-    }
+    is_so_of(
+        snapshot_in(alloc, FOUR_CALLS.as_bytes()),
+        &|snapshot: &Snapshot| -> bool { breaks_in(alloc, snapshot, text, place, number) },
+    )
 }
 
 #[test]

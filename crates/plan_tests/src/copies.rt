@@ -3,7 +3,7 @@
 use crate::cases::FOUR_CALLS;
 use call_sets::CarSet;
 use call_state::{Building, Snapshot, Travel};
-use case_kit::{plan_in, snapshot_in, tour_in};
+use case_kit::{is_so_of, plan_in, snapshot_in, tour_in};
 use elevator_model::{Plan, Stop};
 use std::alloc::Global;
 
@@ -45,17 +45,22 @@ fn is_stop_copied(alloc: Global, stop: &Stop) -> bool {
     }
 }
 
-/// Whether this is so at each stop of the tour in this text.
-fn are_stops_copied(alloc: Global, text: &str) -> bool {
-    let Some(tour) = tour_in(alloc, text) else {
-        return false;
-    };
-    for stop in tour.stops() {
+/// Whether this is so at each of these stops.
+fn are_copied(alloc: Global, stops: &[Stop]) -> bool {
+    for stop in stops {
         if !is_stop_copied(alloc, stop) {
             return false;
         }
     }
     true
+}
+
+/// Whether this is so at each stop of the tour in this text.
+fn are_stops_copied(alloc: Global, text: &str) -> bool {
+    match tour_in(alloc, text) {
+        Some(tour) => are_copied(alloc, tour.stops()),
+        None => false,
+    }
 }
 
 /// Whether the plan in this text is the same copied, and pushed tour by tour.
@@ -97,36 +102,38 @@ fn has_four_calls(snapshot: &Snapshot) -> bool {
 }
 
 fn is_travel_copied(alloc: Global, travel: &Travel) -> bool {
-    match travel.copy(alloc) {
-        Ok(copy) => are_four_floors(&copy),
-        Err(_) => false,
-    }
+    is_so_of(
+        travel.copy(alloc).ok(),
+        &|copy: &Travel| -> bool { are_four_floors(copy) },
+    )
 }
 
 fn is_building_copied(alloc: Global, building: &Building) -> bool {
-    match building.copy(alloc) {
-        Ok(copy) => has_three_cars(&copy),
-        Err(_) => false,
-    }
+    is_so_of(
+        building.copy(alloc).ok(),
+        &|copy: &Building| -> bool { has_three_cars(copy) },
+    )
 }
 
 fn is_copied(alloc: Global, snapshot: &Snapshot) -> bool {
-    match snapshot.copy(alloc) {
-        Ok(copy) => has_four_calls(&copy),
-        Err(_) => false,
-    }
+    is_so_of(
+        snapshot.copy(alloc).ok(),
+        &|copy: &Snapshot| -> bool { has_four_calls(copy) },
+    )
+}
+
+fn are_all_copied(alloc: Global, snapshot: &Snapshot) -> bool {
+    is_copied(alloc, snapshot)
+        && is_building_copied(alloc, snapshot.building())
+        && is_travel_copied(alloc, snapshot.building().travel())
 }
 
 /// Whether this is so of the four calls, of their building and its travel times.
 fn are_four_calls_copied(alloc: Global) -> bool {
-    match snapshot_in(alloc, FOUR_CALLS.as_bytes()) {
-        Some(snapshot) => {
-            is_copied(alloc, &snapshot)
-                && is_building_copied(alloc, snapshot.building())
-                && is_travel_copied(alloc, snapshot.building().travel())
-        }
-        None => false,
-    }
+    is_so_of(
+        snapshot_in(alloc, FOUR_CALLS.as_bytes()),
+        &|snapshot: &Snapshot| -> bool { are_all_copied(alloc, snapshot) },
+    )
 }
 
 #[test]

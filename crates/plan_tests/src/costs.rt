@@ -2,7 +2,7 @@
 
 use crate::cases::{FOUR_FLOORS, ONE_CALL, snapshot_of};
 use call_state::Snapshot;
-use case_kit::plan_price;
+use case_kit::{is_so_of, plan_price};
 use first_plan::first;
 use plain_solver::cheapest_plan;
 use std::alloc::Global;
@@ -23,12 +23,12 @@ fn least_of(alloc: Global, snapshot: &Snapshot) -> Option<u64> {
     }
 }
 
-/// The same of a snapshot of these lines.
-fn least_cost(alloc: Global, head: &str, capacities: &[u64], lines: &str) -> Option<u64> {
-    match snapshot_of(alloc, head, capacities, lines) {
-        Some(snapshot) => least_of(alloc, &snapshot),
-        None => None,
-    }
+/// Whether it costs so much for a snapshot of these lines.
+fn is_least(alloc: Global, head: &str, capacities: &[u64], lines: &str, due: u64) -> bool {
+    is_so_of(
+        snapshot_of(alloc, head, capacities, lines),
+        &|snapshot: &Snapshot| -> bool { least_of(alloc, snapshot) == Some(due) },
+    )
 }
 
 #[test]
@@ -104,8 +104,10 @@ fn cheapest_plans_of_four_floors(rt: HostRuntime) {
         ),
     ];
     for (capacities, lines, due) in rows {
-        let least = least_cost(rt.alloc(), FOUR_FLOORS, capacities, lines);
-        assert!(rt; least == Some(due), "{lines}");
+        assert!(rt;
+            is_least(rt.alloc(), FOUR_FLOORS, capacities, lines, due),
+            "{lines}"
+        );
     }
 }
 
@@ -124,9 +126,6 @@ fn waits_past_the_patience_cost_more(rt: HostRuntime) {
         ),
     ];
     for (head, due) in rows {
-        assert!(rt;
-            least_cost(rt.alloc(), head, &[8], ONE_CALL) == Some(due),
-            "{head}"
-        );
+        assert!(rt; is_least(rt.alloc(), head, &[8], ONE_CALL, due), "{head}");
     }
 }

@@ -6,9 +6,11 @@ ghost use Rattle.elevator_model.specs.Snapshot.{call_count, call_of, group_of};
 ghost use Rattle.day_state.specs.Openings.{IsNewCall, IsOpeningSnapshot};
 
 use crate::cases::{FOUR_FLOORS, UNEVEN_PAIR, snapshot_of};
+use crate::same::{Numbered, are_same};
 use call_state::{Aboard, Call, CarState, Snapshot};
-use case_kit::{is_feasible, plan_in, snapshot_in};
+use case_kit::{is_feasible, is_so_of, plan_in, snapshot_in};
 use day_state::{Event, NotTaken, World};
+use elevator_model::Plan;
 use std::alloc::Global;
 
 fn boards(call: u32, car: u32, moment: u64) -> Event {
@@ -86,7 +88,7 @@ fn runs_out(alloc: Global, world: &World, due: &[Event]) -> bool {
         return false;
     }
     let mut events = Vec::new(alloc);
-    world.run_out(alloc, &mut events).is_ok() && events.as_slice() == due
+    world.run_out(alloc, &mut events).is_ok() && are_same(events.as_slice(), due)
 }
 
 /// Whether these are the states of the cars.
@@ -95,7 +97,7 @@ fn has_states(snapshot: &Snapshot, states: &[CarState]) -> bool {
         return false;
     }
     for (car, state) in states.iter().enumerate() {
-        if snapshot.car(car as u32) != *state {
+        if snapshot.car(car as u32).numbers() != state.numbers() {
             return false;
         }
     }
@@ -152,11 +154,20 @@ fn is_empty(snapshot: &Snapshot) -> bool
     snapshot.calls().is_empty() && snapshot.aboard().is_empty()
 }
 
+/// The world of a day that begins with this snapshot.
+fn begun(alloc: Global, snapshot: Snapshot) -> Option<World> {
+    if is_empty(&snapshot) {
+        World::opening(alloc, snapshot).ok()
+    } else {
+        None
+    }
+}
+
 /// The world of a day that begins with one car of this capacity, as these lines say.
 fn opened(alloc: Global, capacity: u64, lines: &str) -> Option<World> {
     match snapshot_of(alloc, FOUR_FLOORS, &[capacity], lines) {
-        Some(snapshot) if is_empty(&snapshot) => World::opening(alloc, snapshot).ok(),
-        _ => None,
+        Some(snapshot) => begun(alloc, snapshot),
+        None => None,
     }
 }
 
@@ -177,9 +188,9 @@ fn is_day_right(alloc: Global, world: &mut World) -> bool {
         gets_off(2, 1, 19000),
         gets_off(3, 1, 25500),
     ];
-    done && events.as_slice() == due.as_slice()
+    done && are_same(events.as_slice(), &due)
         && has_states(world.snapshot(), &[standing(1, 11500)])
-        && world.snapshot().aboard() == [group(2, 0, 2, 1, 10000)].as_slice()
+        && are_same(world.snapshot().aboard(), &[group(2, 0, 2, 1, 10000)])
         && runs_out(alloc, world, &last)
 }
 
@@ -207,31 +218,10 @@ fn is_moving_day_right(alloc: Global, world: &mut World) -> bool {
         && events.is_empty()
 }
 
-/// Whether the day of this car begins with this plan.
-fn opens_with(alloc: Global, lines: &str, text: &str) -> bool {
-    match opened(alloc, 8, lines) {
-        Some(world) => has_plan(alloc, &world, text),
-        None => false,
-    }
-}
-
-#[test]
-fn days_open_with_stops_of_cars_on_their_way(rt: HostRuntime) {
-    for (lines, plan) in [
-        ("now 0 / car 1 idle 0 0", ""),
-        ("now 0 / car 1 coming 2 7", "2"),
-        ("now 2000 / car 1 moving 0 up 0", "1"),
-        ("now 2001 / car 1 moving 0 up 0", "2"),
-        ("now 2000 / car 1 moving 3 down 0", "2"),
-    ] {
-        assert!(rt; opens_with(rt.alloc(), lines, plan), "{lines}");
-    }
-}
-
-/// The world of the snapshot with a plan in this text.
-fn world_with(alloc: Global, snapshot: Snapshot, text: &str) -> Option<World> {
-    match plan_in(alloc, text) {
-        Some(plan) => Some(World::of_parts(snapshot, plan)),
+/// The world of the two uneven cars with this plan.
+fn uneven_world_with(alloc: Global, plan: Plan) -> Option<World> {
+    match snapshot_in(alloc, UNEVEN_PAIR.as_bytes()) {
+        Some(snapshot) => Some(World::of_parts(snapshot, plan)),
         None => None,
     }
 }
@@ -239,8 +229,8 @@ fn world_with(alloc: Global, snapshot: Snapshot, text: &str) -> Option<World> {
 /// The two uneven cars with a plan: the large one delivers its group and takes two calls, the small one stops
 /// where it comes to and takes one.
 fn uneven_world(alloc: Global) -> Option<World> {
-    match snapshot_in(alloc, UNEVEN_PAIR.as_bytes()) {
-        Some(snapshot) => world_with(alloc, snapshot, "0 1:01 3 / 0 2:2 0"),
+    match plan_in(alloc, "0 1:01 3 / 0 2:2 0") {
+        Some(plan) => uneven_world_with(alloc, plan),
         None => None,
     }
 }
@@ -267,26 +257,26 @@ fn has_plan(alloc: Global, world: &World, text: &str) -> bool {
 }
 
 /// Whether both worlds have the same plan, moment, groups and calls.
-fn are_same(copy: &World, world: &World) -> bool {
+fn are_alike(copy: &World, world: &World) -> bool {
     copy.plan() == world.plan()
         && copy.snapshot().now() == world.snapshot().now()
-        && copy.snapshot().aboard() == world.snapshot().aboard()
-        && copy.snapshot().calls() == world.snapshot().calls()
+        && are_same(copy.snapshot().aboard(), world.snapshot().aboard())
+        && are_same(copy.snapshot().calls(), world.snapshot().calls())
 }
 
 /// Whether a copy of the world is the same.
 fn is_copied(alloc: Global, world: &World) -> bool {
-    match world.copy(alloc) {
-        Ok(copy) => are_same(&copy, world),
-        Err(_) => false,
-    }
+    is_so_of(
+        world.copy(alloc).ok(),
+        &|copy: &World| -> bool { are_alike(copy, world) },
+    )
 }
 
 /// Whether at the moment these have happened and the cars are in these states.
 fn is_then(alloc: Global, world: &mut World, t: u64, states: &[CarState], due: &[Event]) -> bool {
     let mut events = Vec::new(alloc);
     advance(alloc, world, t, &mut events)
-        && events.as_slice() == due
+        && are_same(events.as_slice(), due)
         && has_states(world.snapshot(), states)
 }
 
@@ -309,7 +299,7 @@ fn is_way_right(alloc: Global, world: &mut World) -> bool {
     is_then(alloc, world, 12875, &states, &due)
         && has_plan(alloc, world, "1:01 3 / 0")
         && has_calls(world.snapshot(), &[5, 2])
-        && world.snapshot().aboard() == [group(9, 1, 0, 1, 12475)].as_slice()
+        && are_same(world.snapshot().aboard(), &[group(9, 1, 0, 1, 12475)])
         && is_copied(alloc, world)
         && is_then(alloc, world, 21125, &later, &[])
 }
@@ -328,7 +318,7 @@ fn is_boarding_right(alloc: Global, world: &mut World) -> bool {
     let last = [gets_off(2, 7, 31592), gets_off(5, 7, 31592)];
     is_then(alloc, world, 24000, &states, &due)
         && has_plan(alloc, world, "3 /")
-        && world.snapshot().aboard() == aboard.as_slice()
+        && are_same(world.snapshot().aboard(), &aboard)
         && runs_out(alloc, world, &last)
 }
 
@@ -365,6 +355,8 @@ fn is_choosy(alloc: Global, world: &mut World) -> bool {
 /// A day that was worked out by hand.
 #[derive(Clone, Copy)]
 enum Day {
+    /// Its car stands or moves as these lines say, and has this plan.
+    Opening(&'static str, &'static str),
     ThreeCalls,
     MovingCar,
     Full,
@@ -379,6 +371,7 @@ impl Day {
     /// The world with which it begins.
     fn opening(self, alloc: Global) -> Option<World> {
         match self {
+            Day::Opening(lines, _) => opened(alloc, 8, lines),
             Day::ThreeCalls | Day::MovingCar => opened(alloc, 8, "now 0 / car 1 idle 0 0"),
             Day::Full => opened(alloc, 8, "now 0 / car 1 coming 3 90000000"),
             Day::Choosy => opened(alloc, 2, "now 0 / car 1 idle 0 0"),
@@ -391,6 +384,7 @@ impl Day {
     /// Whether it goes as it was worked out.
     fn goes_right(self, alloc: Global, world: &mut World) -> bool {
         match self {
+            Day::Opening(_, text) => has_plan(alloc, world, text),
             Day::ThreeCalls => is_day_right(alloc, world),
             Day::MovingCar => is_moving_day_right(alloc, world),
             Day::Full => is_full(alloc, world),
@@ -407,6 +401,19 @@ impl Day {
             Some(mut world) => self.goes_right(alloc, &mut world),
             None => false,
         }
+    }
+}
+
+#[test]
+fn days_open_with_stops_of_cars_on_their_way(rt: HostRuntime) {
+    for (lines, plan) in [
+        ("now 0 / car 1 idle 0 0", ""),
+        ("now 0 / car 1 coming 2 7", "2"),
+        ("now 2000 / car 1 moving 0 up 0", "1"),
+        ("now 2001 / car 1 moving 0 up 0", "2"),
+        ("now 2000 / car 1 moving 3 down 0", "2"),
+    ] {
+        assert!(rt; Day::Opening(lines, plan).is_right(rt.alloc()), "{lines}");
     }
 }
 

@@ -20,6 +20,8 @@ mod days;
 #[cfg(test)]
 mod refusals;
 #[cfg(test)]
+mod same;
+#[cfg(test)]
 mod served;
 #[cfg(test)]
 mod sizes;

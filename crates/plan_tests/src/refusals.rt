@@ -7,6 +7,7 @@ use call_state::{
     Building, BuildingParts, Call, CarSpec, CarState, Fault, Snapshot, SnapshotParts, StateFault,
     Travel,
 };
+use case_kit::is_so_of;
 use std::alloc::{AllocError, Global};
 
 fn bad(fault: Fault, item: u32) -> Option<StateFault> {
@@ -81,18 +82,27 @@ fn changed(
     states: &[CarState],
     calls: &[Call],
 ) -> Result<SnapshotParts, AllocError> {
+    // The building is copied last, so that nothing that fails has to let it go.
     Ok(SnapshotParts {
         version: 2,
-        building: snapshot.building().copy(alloc)?,
         now: snapshot.now(),
         cars: states.to_vec(alloc)?,
         aboard: snapshot.aboard().to_vec(alloc)?,
         calls: calls.to_vec(alloc)?,
+        building: snapshot.building().copy(alloc)?,
     })
 }
 
-/// What the snapshot with other states of its cars and other calls is refused for. None where it is accepted,
-/// or has another number of cars.
+/// What these parts are refused for. None where they are accepted, or have another number of cars.
+fn fault_of_parts(alloc: Global, parts: SnapshotParts) -> Option<StateFault> {
+    if parts.are_whole() {
+        Snapshot::build(alloc, parts).err()
+    } else {
+        None
+    }
+}
+
+/// The same of the snapshot with other states of its cars and other calls.
 pub(crate) fn fault_with(
     alloc: Global,
     snapshot: &Snapshot,
@@ -100,8 +110,7 @@ pub(crate) fn fault_with(
     calls: &[Call],
 ) -> Option<StateFault> {
     match changed(alloc, snapshot, states, calls) {
-        Ok(parts) if parts.are_whole() => Snapshot::build(alloc, parts).err(),
-        Ok(_) => None,
+        Ok(parts) => fault_of_parts(alloc, parts),
         Err(AllocError) => Some(StateFault::NoMemory),
     }
 }
@@ -124,19 +133,19 @@ fn coming(floor: u32) -> CarState {
     }
 }
 
-/// Whether a snapshot with a person aboard is refused so with another state of its car and another call.
+/// A building whose car lacks the top floor.
+const LOW_CAR: &str = "building 1 / speed 2000 / accel 1000 / weights 1 1 / floors 0 4000 8000 12000
+    car 9 8 1000 1000 500 500 0 1 2";
+
+/// A person is aboard the car.
+const ABOARD: &str = "now 5000 / car 9 idle 0 5000 / aboard 9 9 2 1 0";
+
+/// Whether the snapshot with a person aboard is refused so with another state of its car and another call.
 fn is_refused(alloc: Global, state: CarState, call: Call, fault: Option<StateFault>) -> bool {
-    let head = "building 1 / speed 2000 / accel 1000 / weights 1 1 / floors 0 4000 8000 12000
-        car 9 8 1000 1000 500 500 0 1 2";
-    match snapshot_of(
-        alloc,
-        head,
-        &[],
-        "now 5000 / car 9 idle 0 5000 / aboard 9 9 2 1 0",
-    ) {
-        Some(snapshot) => fault_with(alloc, &snapshot, &[state], &[call]) == fault,
-        None => false,
-    }
+    is_so_of(
+        snapshot_of(alloc, LOW_CAR, &[], ABOARD),
+        &|snapshot: &Snapshot| -> bool { fault_with(alloc, snapshot, &[state], &[call]) == fault },
+    )
 }
 
 #[test]

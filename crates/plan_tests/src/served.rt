@@ -1,17 +1,17 @@
 //! Plans, tours and moves that are found.
 
 use crate::cases::{FOUR_CALLS, FOUR_FLOORS, ONE_CALL, TWO_CALLS, snapshot_of};
+use crate::same::are_same;
 use call_sets::CallSet;
 use call_state::Snapshot;
 use car_motion::travel_of;
-use case_kit::{plan_in, plan_price, snapshot_in, tour_in};
+use case_kit::{is_so_of, plan_in, plan_price, snapshot_in, tour_in};
 use elevator_model::{Move, Plan, Times, Tour};
 use first_plan::{first, insert};
 use partial_tours::{Moves, Prefix, next_moves};
 use plain_plan::{calls_in_order, opening_floors, plan_of};
 use plain_solver::{cheapest_plan, feasible_tours};
 use std::alloc::{AllocError, Global};
-use std::test::Fail;
 use tour_cost::timeline;
 use tour_rules::judge;
 
@@ -164,7 +164,7 @@ fn is_timed(alloc: Global, snapshot: &Snapshot, tour: &Tour) -> bool {
         times(19000, 20000, 22500),
     ];
     match moments(alloc, snapshot, tour) {
-        Ok(moments) => moments.as_slice() == due.as_slice(),
+        Ok(moments) => are_same(moments.as_slice(), &due),
         Err(_) => false,
     }
 }
@@ -205,10 +205,10 @@ fn are_all_served(alloc: Global, snapshot: &Snapshot, calls: u32) -> bool {
 
 /// Whether this is so of the snapshot, if there is one.
 fn are_served(alloc: Global, snapshot: Option<Snapshot>, calls: u32) -> bool {
-    match snapshot {
-        Some(snapshot) => are_all_served(alloc, &snapshot, calls),
-        None => false,
-    }
+    is_so_of(
+        snapshot,
+        &|snapshot: &Snapshot| -> bool { are_all_served(alloc, snapshot, calls) },
+    )
 }
 
 #[test]
@@ -225,12 +225,20 @@ fn four_calls_are_served(rt: HostRuntime) {
     assert!(rt; are_served(rt.alloc(), snapshot, 4));
 }
 
+/// Whether three uneven floors have these times: between the lowest two, the highest two and the outer two.
+fn have_times(alloc: Global, low: u64, high: u64, outer: u64) -> bool {
+    match travel_of(alloc, &[0, 4001, 12001], 2000, 1000) {
+        Ok(travel) => {
+            travel.floors() == 3
+                && travel.time(0, 1) == low
+                && travel.time(2, 1) == high
+                && travel.time(2, 0) == outer
+        }
+        Err(_) => false,
+    }
+}
+
 #[test]
-fn travel_times_between_uneven_floors(rt: HostRuntime) -> Result<(), Fail> {
-    let travel = travel_of(rt.alloc(), &[0, 4001, 12001], 2000, 1000)?;
-    assert!(rt; travel.floors() == 3);
-    assert!(rt;
-        travel.time(0, 1) == 4001 && travel.time(2, 1) == 6000 && travel.time(2, 0) == 8001
-    );
-    Ok(())
+fn travel_times_between_uneven_floors(rt: HostRuntime) {
+    assert!(rt; have_times(rt.alloc(), 4001, 6000, 8001));
 }

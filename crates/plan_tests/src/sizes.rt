@@ -3,7 +3,7 @@
 use crate::cases::{FOUR_FLOORS, put_building};
 use crate::refusals::fault_with;
 use call_state::{Call, CarState, Fault, Snapshot, StateFault};
-use case_kit::{plan_price, put_call, put_lines, put_state, snapshot_in};
+use case_kit::{is_so_of, plan_price, put_call, put_lines, put_state, snapshot_in};
 use first_plan::first;
 use std::alloc::{AllocError, Global};
 
@@ -74,18 +74,18 @@ fn start_price(alloc: Global, snapshot: &Snapshot) -> Option<u64> {
     }
 }
 
-/// What the start plan of this many calls costs.
-fn start_cost(alloc: Global, head: &str, capacities: &[u64], calls: u32) -> Option<u64> {
-    match crowded(alloc, head, capacities, calls) {
-        Some(snapshot) => start_price(alloc, &snapshot),
-        None => None,
-    }
+/// Whether so many calls have a start plan that costs something.
+fn has_start(alloc: Global, head: &str, capacities: &[u64], calls: u32) -> bool {
+    is_so_of(
+        crowded(alloc, head, capacities, calls),
+        &|snapshot: &Snapshot| -> bool { start_price(alloc, snapshot) > Some(0) },
+    )
 }
 
 #[test]
 fn the_largest_snapshots_have_a_plan(rt: HostRuntime) {
-    assert!(rt; start_cost(rt.alloc(), FOUR_FLOORS, &[8; 8], 64) > Some(0));
-    assert!(rt; start_cost(rt.alloc(), LATER_FLOORS, &[8; 16], 128) > Some(0));
+    assert!(rt; has_start(rt.alloc(), FOUR_FLOORS, &[8; 8], 64));
+    assert!(rt; has_start(rt.alloc(), LATER_FLOORS, &[8; 16], 128));
 }
 
 /// The snapshot's calls and one more.
@@ -103,26 +103,26 @@ fn fault_of_longer(alloc: Global, snapshot: &Snapshot, states: &[CarState]) -> O
     }
 }
 
-/// The same of a snapshot with all cars and this many calls.
-fn fault_of_crowd(
+/// Whether a snapshot with all cars and so many calls is refused at this item.
+fn is_refused_at(
     alloc: Global,
     head: &str,
     capacities: &[u64],
     states: &[CarState],
     calls: u32,
-) -> Option<StateFault> {
-    match crowded(alloc, head, capacities, calls) {
-        Some(snapshot) => fault_of_longer(alloc, &snapshot, states),
-        None => None,
-    }
+    item: u32,
+) -> bool {
+    let fault = Fault::TooManyCalls;
+    let due = Some(StateFault::Bad { fault, item });
+    is_so_of(
+        crowded(alloc, head, capacities, calls),
+        &|snapshot: &Snapshot| -> bool { fault_of_longer(alloc, snapshot, states) == due },
+    )
 }
 
 #[test]
 fn a_call_too_many_is_refused(rt: HostRuntime) {
-    let fault = Fault::TooManyCalls;
     let states = [standing(0); 16];
-    let refused = fault_of_crowd(rt.alloc(), FOUR_FLOORS, &[8; 8], &states[..8], 64);
-    assert!(rt; refused == Some(StateFault::Bad { fault, item: 73 }));
-    let refused = fault_of_crowd(rt.alloc(), TIMED_FLOORS, &[8; 16], &states, 128);
-    assert!(rt; refused == Some(StateFault::Bad { fault, item: 145 }));
+    assert!(rt; is_refused_at(rt.alloc(), FOUR_FLOORS, &[8; 8], &states[..8], 64, 73));
+    assert!(rt; is_refused_at(rt.alloc(), TIMED_FLOORS, &[8; 16], &states, 128, 145));
 }
