@@ -56,8 +56,12 @@ fn days()
 {}
 
 #[test]
-fn definitions_give_the_worked_cases() {
+fn definitions_of_elevators_give_the_worked_cases() {
     elevators();
+}
+
+#[test]
+fn definitions_of_searches_and_days_give_the_worked_cases() {
     searches();
     days();
 }

@@ -4,12 +4,11 @@ ghost use Rattle.std.specs.Prelude.{◌≡◌};
 
 use call_sets::CallSet;
 use call_state::Snapshot;
-use case_kit::snapshot_in;
+use case_kit::{is_so_of, snapshot_in};
 use partial_tours::Prefix;
 use price_scale::Price;
 use pricing_bound::bound;
 use std::alloc::Global;
-use std::test::Fail;
 
 /// The car stands at the lowest floor with two persons for the highest one. Calls wait at the middle, the
 /// highest and the lowest floor. A ms of waiting costs 3 and past 6,000 ms 5 more, and one of riding 2.
@@ -101,18 +100,20 @@ fn bounds_of(alloc: Global, snapshot: &Snapshot, asked: Asked) -> Option<[i128; 
     }
 }
 
-fn bounds(alloc: Global, prices: [i128; 3], allowed: u128, required: u128) -> Option<[i128; 2]> {
-    match snapshot_in(alloc, THREE_CALLS.as_bytes()) {
-        Some(snapshot) => bounds_of(
-            alloc,
-            &snapshot,
-            Asked {
-                prices,
-                allowed,
-                required,
-            },
-        ),
-        None => None,
+/// Whether these are the bounds in the snapshot with the three calls.
+fn are_bounds(alloc: Global, asked: Asked, due: [i128; 2]) -> bool {
+    is_so_of(
+        snapshot_in(alloc, THREE_CALLS.as_bytes()),
+        &|snapshot: &Snapshot| -> bool { bounds_of(alloc, snapshot, asked) == Some(due) },
+    )
+}
+
+/// What is asked at these prices of calls that may board and calls that have to.
+fn at(prices: [i128; 3], allowed: u128, required: u128) -> Asked {
+    Asked {
+        prices,
+        allowed,
+        required,
     }
 }
 
@@ -121,17 +122,18 @@ fn bounds(alloc: Global, prices: [i128; 3], allowed: u128, required: u128) -> Op
 // together, and the others would cost 290,400 and 156,000.
 
 #[test]
-fn a_call_counts_where_it_lowers_the_bound(rt: HostRuntime) -> Result<(), Fail> {
+fn a_call_counts_where_it_lowers_the_bound(rt: HostRuntime) {
     let prices = [11_000_013, 130_000_500, 0];
-    assert!(rt; bounds(rt.alloc(), prices, 0b111, 0b000) == Some([59_199_487, 78_799_987]));
-    assert!(rt; bounds(rt.alloc(), prices, 0b101, 0b000) == Some([64_399_987, 78_799_987]));
-    Ok(())
+    let all = at(prices, 0b111, 0b000);
+    assert!(rt; are_bounds(rt.alloc(), all, [59_199_487, 78_799_987]));
+    let some = at(prices, 0b101, 0b000);
+    assert!(rt; are_bounds(rt.alloc(), some, [64_399_987, 78_799_987]));
 }
 
 #[test]
-fn a_required_call_counts_always(rt: HostRuntime) -> Result<(), Fail> {
-    let prices = [11_000_013, 130_000_500, 0];
-    assert!(rt; bounds(rt.alloc(), prices, 0b111, 0b100) == Some([108_799_487, 234_799_987]));
-    assert!(rt; bounds(rt.alloc(), [0, 0, 0], 0b111, 0b010) == Some([200_200_000, 380_200_000]));
-    Ok(())
+fn a_required_call_counts_always(rt: HostRuntime) {
+    let third = at([11_000_013, 130_000_500, 0], 0b111, 0b100);
+    assert!(rt; are_bounds(rt.alloc(), third, [108_799_487, 234_799_987]));
+    let second = at([0, 0, 0], 0b111, 0b010);
+    assert!(rt; are_bounds(rt.alloc(), second, [200_200_000, 380_200_000]));
 }

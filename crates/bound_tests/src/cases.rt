@@ -1,16 +1,44 @@
 //! Generated cases: their sizes, their first car and their last call.
 
-ghost use Rattle.std.specs.Prelude.{◌≤◌};
-
 use call_state::{Call, CarState, Snapshot};
+use case_kit::is_so_of;
 use case_maker::make;
 use std::alloc::Global;
 
-/// Whether the snapshot has this state of its first car and this last call.
-fn has_ends(snapshot: &Snapshot, first: CarState, last: Option<Call>) -> bool {
+/// A call that is not pinned: its id, its floors, its persons and its moment.
+type Made = (u32, u32, u32, u32, u64);
+
+fn is_call(call: &Call, due: Made) -> bool {
+    let (id, origin, destination, persons, released) = due;
+    call.id == id
+        && call.origin == origin
+        && call.destination == destination
+        && call.persons == persons
+        && call.released == released
+        && call.pin.is_none()
+}
+
+/// Whether this is the last call, or there is none.
+fn has_last(calls: &[Call], due: Option<Made>) -> bool {
+    match calls.last() {
+        Some(call) => due.is_some_and(|due| is_call(call, due)),
+        None => due.is_none(),
+    }
+}
+
+/// Whether the car stands at this floor and may leave when each generated one may.
+fn is_idle_at(state: CarState, floor: u32) -> bool {
+    match state {
+        CarState::Idle { floor: at, free } => at == floor && free == 600_000,
+        CarState::Coming { .. } | CarState::Moving { .. } => false,
+    }
+}
+
+/// Whether the first car stands at this floor, and this is the last call.
+fn has_ends(snapshot: &Snapshot, floor: u32, last: Option<Made>) -> bool {
     !snapshot.building().cars().is_empty()
-        && snapshot.car(0) == first
-        && snapshot.calls().last().copied() == last
+        && is_idle_at(snapshot.car(0), floor)
+        && has_last(snapshot.calls(), last)
 }
 
 /// Whether the snapshot has this many floors, cars and calls.
@@ -21,13 +49,6 @@ fn has_sizes(snapshot: &Snapshot, sizes: [u32; 3]) -> bool {
         && snapshot.calls().len() == sizes[2] as usize
 }
 
-fn idle_at(floor: u32) -> CarState {
-    CarState::Idle {
-        floor,
-        free: 600_000,
-    }
-}
-
 /// The first numbers that 0 draws.
 const FIRST_DRAWS: [u32; 3] = [335_903_614, 436_792_849, 2_599_843_874];
 
@@ -36,20 +57,19 @@ fn stand_as_drawn(alloc: Global, floors: u32) -> bool {
     if floors < 2 || floors > 64 {
         return false;
     }
-    match make(alloc, 0, floors, 3, 0) {
-        Ok(snapshot) => has_first_cars(&snapshot, floors),
-        Err(_) => false,
-    }
+    is_so_of(
+        make(alloc, 0, floors, 3, 0).ok(),
+        &|snapshot: &Snapshot| -> bool { has_first_cars(snapshot, floors) },
+    )
 }
 
-fn has_first_cars(snapshot: &Snapshot, floors: u32) -> bool
-    requires { 2 ≤ floors }
-{
+fn has_first_cars(snapshot: &Snapshot, floors: u32) -> bool {
     let [first, second, third] = FIRST_DRAWS;
+    let floors = floors.max(1);
     snapshot.building().cars().len() == 3
-        && snapshot.car(0) == idle_at(first % floors)
-        && snapshot.car(1) == idle_at(second % floors)
-        && snapshot.car(2) == idle_at(third % floors)
+        && is_idle_at(snapshot.car(0), first % floors)
+        && is_idle_at(snapshot.car(1), second % floors)
+        && is_idle_at(snapshot.car(2), third % floors)
 }
 
 // These numbers of floors have no factor in common, and their product is above 2^32: so what they leave of a
@@ -61,37 +81,28 @@ fn first_draws_of_zero(rt: HostRuntime) {
     }
 }
 
-fn call(id: u32, origin: u32, destination: u32, persons: u32, released: u64) -> Option<Call> {
-    Some(Call {
-        id,
-        origin,
-        destination,
-        persons,
-        released,
-        pin: None,
-    })
-}
-
 /// Whether the case of a number has these sizes (floors, cars and calls), its first car at this floor and
 /// this last call.
-fn is_made(alloc: Global, number: u64, sizes: [u32; 3], floor: u32, last: Option<Call>) -> bool {
+fn is_made(alloc: Global, number: u64, sizes: [u32; 3], floor: u32, last: Option<Made>) -> bool {
     let [floors, cars, calls] = sizes;
     if floors < 2 || floors > 64 || cars < 1 || cars > 8 || calls > 64 {
         return false;
     }
-    match make(alloc, number, floors, cars, calls) {
-        Ok(snapshot) => has_sizes(&snapshot, sizes) && has_ends(&snapshot, idle_at(floor), last),
-        Err(_) => false,
-    }
+    is_so_of(
+        make(alloc, number, floors, cars, calls).ok(),
+        &|snapshot: &Snapshot| -> bool {
+            has_sizes(snapshot, sizes) && has_ends(snapshot, floor, last)
+        },
+    )
 }
 
 #[test]
 fn cases_of_all_sizes(rt: HostRuntime) {
     for (number, sizes, floor, last) in [
         (3, [2, 1, 0], 0, None),
-        (0, [4, 1, 1], 2, call(1, 1, 3, 2, 574_000)),
-        (7, [4, 2, 3], 0, call(3, 3, 0, 2, 567_000)),
-        (u64::MAX, [64, 8, 64], 17, call(64, 18, 44, 1, 572_000)),
+        (0, [4, 1, 1], 2, Some((1, 1, 3, 2, 574_000))),
+        (7, [4, 2, 3], 0, Some((3, 3, 0, 2, 567_000))),
+        (u64::MAX, [64, 8, 64], 17, Some((64, 18, 44, 1, 572_000))),
     ] {
         assert!(rt; is_made(rt.alloc(), number, sizes, floor, last), "{number}");
     }

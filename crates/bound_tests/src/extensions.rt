@@ -5,7 +5,7 @@ ghost use Rattle.elevator_model.specs.Partial.{IsLawful};
 
 use call_sets::CallSet;
 use call_state::Snapshot;
-use case_kit::snapshot_in;
+use case_kit::{is_so_of, snapshot_in};
 use elevator_model::Move;
 use partial_tours::Prefix;
 use std::alloc::Global;
@@ -50,31 +50,41 @@ fn make(prefix: &mut Prefix, wanted: Move) -> Option<()> {
     if next == wanted { Some(()) } else { None }
 }
 
-/// Whether some tour begins with these moves in which the required calls board.
-fn extends(alloc: Global, snapshot: &Snapshot, required: u128, moves: &[Move]) -> Option<bool> {
-    if snapshot.building().cars().is_empty() {
-        return None;
-    }
-    let mut prefix = Prefix::new(alloc, snapshot, 0).ok()?;
+/// Whether some tour begins with these moves, which come after the partial tour, in which the required calls
+/// board.
+fn goes_on(prefix: &mut Prefix, required: u128, moves: &[Move]) -> Option<bool> {
     for next in moves {
-        make(&mut prefix, *next)?;
+        make(prefix, *next)?;
     }
     let demand = Demand {
         allowed: CallSet::from_bits(0b11),
         required: CallSet::from_bits(required),
     };
-    if !demand.is_for(&prefix) {
+    if !demand.is_for(prefix) {
         return None;
     }
-    Some(can_be_extended(&prefix, &demand))
+    Some(can_be_extended(prefix, &demand))
 }
 
-/// The same of the queue.
-fn extends_in_queue(alloc: Global, required: u128, moves: &[Move]) -> Option<bool> {
-    match snapshot_in(alloc, QUEUE.as_bytes()) {
-        Some(snapshot) => extends(alloc, &snapshot, required, moves),
-        None => None,
+/// Whether some tour of the first car begins with these moves.
+fn extends(alloc: Global, snapshot: &Snapshot, required: u128, moves: &[Move]) -> Option<bool> {
+    if snapshot.building().cars().is_empty() {
+        return None;
     }
+    match Prefix::new(alloc, snapshot, 0) {
+        Ok(mut prefix) => goes_on(&mut prefix, required, moves),
+        Err(_) => None,
+    }
+}
+
+/// Whether this is so, or not so, in the queue.
+fn extends_in_queue(alloc: Global, required: u128, moves: &[Move], expected: bool) -> bool {
+    is_so_of(
+        snapshot_in(alloc, QUEUE.as_bytes()),
+        &|snapshot: &Snapshot| -> bool {
+            extends(alloc, snapshot, required, moves) == Some(expected)
+        },
+    )
 }
 
 #[test]
@@ -95,6 +105,6 @@ fn two_calls_of_a_queue(rt: HostRuntime) {
         (0b10, &[Leave(1), Board(0), Leave(2), End], false),
     ];
     for (required, moves, expected) in rows {
-        assert!(rt; extends_in_queue(rt.alloc(), required, moves) == Some(expected));
+        assert!(rt; extends_in_queue(rt.alloc(), required, moves, expected));
     }
 }

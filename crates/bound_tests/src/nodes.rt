@@ -3,7 +3,8 @@
 ghost use Rattle.std.specs.Prelude.{◌≡◌, length};
 
 use assign_branch::{BadSplit, CarSet, Node, root, split};
-use case_kit::{put_lines, snapshot_in};
+use call_state::Snapshot;
+use case_kit::{is_so_of, put_lines, snapshot_in};
 use lift_text::put_words;
 use std::alloc::{AllocError, Global};
 
@@ -30,14 +31,6 @@ call 2 2 3 1 0 any
 call 9 3 2 2 0 7
 end
 ";
-
-/// The root of a text's snapshot.
-fn root_in(alloc: Global, text: &[u8]) -> Option<Node> {
-    match snapshot_in(alloc, text) {
-        Some(snapshot) => root(alloc, &snapshot).ok(),
-        None => None,
-    }
-}
 
 /// Whether the first five calls have these sets, and there are no more.
 fn has_sets(node: &Node, sets: [u16; 5]) -> bool {
@@ -146,12 +139,12 @@ enum Case {
 }
 
 impl Case {
-    fn root(self, alloc: Global) -> Option<Node> {
+    fn snapshot(self, alloc: Global) -> Option<Snapshot> {
         match self {
             Case::PossibleCars | Case::Divided | Case::Refused => {
-                root_in(alloc, UNEVEN.as_bytes())
+                snapshot_in(alloc, UNEVEN.as_bytes())
             }
-            Case::Greatest => crowded_root(alloc),
+            Case::Greatest => crowded(alloc),
         }
     }
 
@@ -178,11 +171,18 @@ impl Case {
         }
     }
 
-    fn is_right(self, alloc: Global) -> bool {
-        match self.root(alloc) {
-            Some(node) => self.is_so_of(alloc, &node),
-            None => false,
+    fn is_so_in(self, alloc: Global, snapshot: &Snapshot) -> bool {
+        match root(alloc, snapshot) {
+            Ok(node) => self.is_so_of(alloc, &node),
+            Err(_) => false,
         }
+    }
+
+    fn is_right(self, alloc: Global) -> bool {
+        is_so_of(
+            self.snapshot(alloc),
+            &|snapshot: &Snapshot| -> bool { self.is_so_in(alloc, snapshot) },
+        )
     }
 }
 
@@ -209,11 +209,11 @@ fn put_crowd(text: &mut Vec<u8>) -> Result<(), AllocError> {
     put_lines(text, "end")
 }
 
-/// The root of that snapshot.
-fn crowded_root(alloc: Global) -> Option<Node> {
+/// That snapshot.
+fn crowded(alloc: Global) -> Option<Snapshot> {
     let mut text = Vec::new(alloc);
     match put_crowd(&mut text) {
-        Ok(()) => root_in(alloc, &text),
+        Ok(()) => snapshot_in(alloc, &text),
         Err(_) => None,
     }
 }

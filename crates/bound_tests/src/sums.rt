@@ -8,7 +8,6 @@ use partial_tours::Prefix;
 use price_scale::Price;
 use pricing_bound::{Rates, StraightRides};
 use std::alloc::Global;
-use std::test::Fail;
 
 /// The car comes to the lowest floor with two persons for the highest one and one for the middle. Four calls
 /// wait. A ms of waiting costs 3 and past 6,000 ms 5 more, and one of riding 2.
@@ -108,27 +107,25 @@ fn agreed(seen: Option<Seen>, visits: u64) -> bool {
 // seven partial tours.
 
 #[test]
-fn the_groups_alone_have_one_tour(rt: HostRuntime) -> Result<(), Fail> {
+fn the_groups_alone_have_one_tour(rt: HostRuntime) {
     let seen = Seen {
         visits: 7,
         agreed: 7,
         best: Some(79_600_000),
     };
     assert!(rt; walk(rt.alloc(), [1, 2, 3, 5], 0, 0) == Some(seen));
-    Ok(())
 }
 
 #[test]
-fn sums_agree_with_the_bound_after_each_move(rt: HostRuntime) -> Result<(), Fail> {
+fn sums_agree_with_the_bound_after_each_move(rt: HostRuntime) {
     let prices = [11_000_013, 130_000_500, 0, 95_000_007];
     assert!(rt; agreed(walk(rt.alloc(), prices, 0b1111, 0b0000), 300));
     assert!(rt; agreed(walk(rt.alloc(), prices, 0b1111, 0b0100), 300));
     assert!(rt; agreed(walk(rt.alloc(), prices, 0b1011, 0b0010), 50));
-    Ok(())
 }
 
 #[test]
-fn sums_agree_at_the_greatest_prices(rt: HostRuntime) -> Result<(), Fail> {
+fn sums_agree_at_the_greatest_prices(rt: HostRuntime) {
     let most = 1_000_000_000_000_000_000_000_000;
     assert!(rt;
         agreed(
@@ -136,5 +133,4 @@ fn sums_agree_at_the_greatest_prices(rt: HostRuntime) -> Result<(), Fail> {
             300
         )
     );
-    Ok(())
 }

@@ -4,10 +4,9 @@ ghost use Rattle.std.specs.Prelude.{◌≤◌};
 
 use crate::walks::{Seen, listed, walk};
 use call_state::Snapshot;
-use case_kit::snapshot_in;
+use case_kit::{is_so_of, snapshot_in};
 use lift_text::put_line;
 use std::alloc::{AllocError, Global};
-use std::test::Fail;
 
 /// Two groups aboard an idle car; one call in their direction, one in the other.
 const GROUPS_ABOARD: &str = "building 1
@@ -242,10 +241,10 @@ fn agrees(alloc: Global, snapshot: &Snapshot, car: u32, due: Seen) -> bool {
 
 /// Whether this is so of a text's snapshot.
 fn agrees_in(alloc: Global, text: &[u8], car: u32, due: Seen) -> bool {
-    match snapshot_in(alloc, text) {
-        Some(snapshot) => agrees(alloc, &snapshot, car, due),
-        None => false,
-    }
+    is_so_of(
+        snapshot_in(alloc, text),
+        &|snapshot: &Snapshot| -> bool { agrees(alloc, snapshot, car, due) },
+    )
 }
 
 fn seen(tours: u32, ended: u32, cost: u64) -> Seen {
@@ -270,9 +269,14 @@ fn partial_tours_are_walked_and_counted(rt: HostRuntime) {
     }
 }
 
+fn agrees_in_many_calls(alloc: Global, car: u32, due: Seen) -> bool {
+    match many_calls(alloc) {
+        Ok(text) => agrees_in(alloc, &text, car, due),
+        Err(_) => false,
+    }
+}
+
 #[test]
-fn three_of_many_calls_are_taken(rt: HostRuntime) -> Result<(), Fail> {
-    let text = many_calls(rt.alloc())?;
-    assert!(rt; agrees_in(rt.alloc(), &text, 1, seen(169, 19, 23_297_724)));
-    Ok(())
+fn three_of_many_calls_are_taken(rt: HostRuntime) {
+    assert!(rt; agrees_in_many_calls(rt.alloc(), 1, seen(169, 19, 23_297_724)));
 }
