@@ -8,6 +8,12 @@ use crate::pricings::Pricing;
 pub(crate) enum Asked {
     Kinds { count: u32 },
     Costs { cases: Cases },
+    OfInput { asked: OfInput },
+}
+
+/// A measurement of the text that is the input.
+#[derive(Clone, Copy)]
+pub(crate) enum OfInput {
     Pricing { pricing: Pricing },
     Walk { tours: u32 },
     Read { rounds: u32, cases: u32 },
@@ -33,6 +39,27 @@ fn numbers(words: &[String]) -> Option<[u32; 4]> {
     ])
 }
 
+/// The measurement of the input of this name with these numbers, and None where it has another number of them.
+fn of_input(name: &str, words: usize, numbers: [u32; 4]) -> Option<OfInput> {
+    let [first, second, third, _] = numbers;
+    match (name, words) {
+        ("pricing", 5) => Some(OfInput::Pricing {
+            pricing: Pricing {
+                factor: first,
+                limit: second,
+                rounds: third,
+            },
+        }),
+        ("walk", 3) => Some(OfInput::Walk { tours: first }),
+        ("read", 4) => Some(OfInput::Read {
+            rounds: first,
+            cases: second,
+        }),
+        ("all", 2) => Some(OfInput::All),
+        _ => None,
+    }
+}
+
 /// The measurement of this name with these numbers, and None where it has another number of them.
 fn named(name: &str, words: usize, numbers: [u32; 4]) -> Option<Asked> {
     let [first, second, third, count] = numbers;
@@ -46,20 +73,9 @@ fn named(name: &str, words: usize, numbers: [u32; 4]) -> Option<Asked> {
                 count,
             },
         }),
-        ("pricing", 5) => Some(Asked::Pricing {
-            pricing: Pricing {
-                factor: first,
-                limit: second,
-                rounds: third,
-            },
+        _ => Some(Asked::OfInput {
+            asked: of_input(name, words, numbers)?,
         }),
-        ("walk", 3) => Some(Asked::Walk { tours: first }),
-        ("read", 4) => Some(Asked::Read {
-            rounds: first,
-            cases: second,
-        }),
-        ("all", 2) => Some(Asked::All),
-        _ => None,
     }
 }
 

@@ -51,7 +51,9 @@ fn case_cost(alloc: Global, number: u32, cases: Cases) -> Result<u64, AllocError
         cases.cars,
         cases.calls,
     )?;
-    first_cost(alloc, &snapshot)
+    let cost = first_cost(alloc, &snapshot);
+    drop(snapshot);
+    cost
 }
 
 /// Prints a line for each case: floors, cars, calls, number, and what its first plan costs. False where there
@@ -114,7 +116,11 @@ fn compare(alloc: Global, snapshot: &Snapshot, score: &mut Score) -> bool {
 /// Draws a snapshot of this kind and counts it in the score. False where it is refused, or memory runs out.
 fn compare_next(alloc: Global, kind: &Kind, draws: &mut Draws, score: &mut Score) -> bool {
     match drawn_snapshot(alloc, kind, draws) {
-        Some(snapshot) => compare(alloc, &snapshot, score),
+        Some(snapshot) => {
+            let is_counted = compare(alloc, &snapshot, score);
+            drop(snapshot);
+            is_counted
+        }
         None => false,
     }
 }

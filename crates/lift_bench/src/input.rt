@@ -1,8 +1,6 @@
 //! The input.
 
 use byte_streams::{StdSource, read_full};
-use call_state::Snapshot;
-use case_kit::snapshot_in;
 
 /// The longest text that is taken, in bytes.
 const MOST_BYTES: usize = 1_048_576;
@@ -18,9 +16,4 @@ pub(crate) fn input(rt: &HostRuntime) -> Option<Vec<u8>> {
         }
         _ => None,
     }
-}
-
-/// The snapshot whose text the input is. None where there is none, or memory runs out.
-pub(crate) fn snapshot_of(rt: &HostRuntime) -> Option<Snapshot> {
-    snapshot_in(rt.alloc(), &input(rt)?)
 }

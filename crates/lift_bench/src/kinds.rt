@@ -22,7 +22,7 @@ pub(crate) struct Kind {
     most_persons: u32,
 }
 
-#[derive(Clone, Copy, PartialEq, Eq)]
+#[derive(Clone, Copy)]
 enum Second {
     Missing,
     Idle,
@@ -161,21 +161,21 @@ fn idle_at(draws: &mut Draws, floor: u32) -> CarState {
 }
 
 fn put_second(text: &mut Vec<u8>, second: Second, draws: &mut Draws) -> Result<(), AllocError> {
-    if second == Second::Missing {
-        return Ok(());
-    }
-    let floor = draws.below(FLOORS);
     let state = match second {
+        Second::Missing => return Ok(()),
+        Second::Idle => {
+            let floor = draws.below(FLOORS);
+            idle_at(draws, floor)
+        }
         Second::Coming => CarState::Coming {
-            floor,
+            floor: draws.below(FLOORS),
             arrives: NOW + draws.time(5_000),
         },
         Second::Moving => CarState::Moving {
-            from: floor,
+            from: draws.below(FLOORS),
             up: draws.below(2) == 1,
             left: NOW - draws.time(5_000),
         },
-        Second::Missing | Second::Idle => idle_at(draws, floor),
     };
     put_state(text, 2, state)
 }
@@ -217,23 +217,23 @@ fn put_calls(text: &mut Vec<u8>, kind: &Kind, draws: &mut Draws) -> Result<(), A
     Ok(())
 }
 
-fn put_case(text: &mut Vec<u8>, kind: &Kind, draws: &mut Draws) -> Result<(), AllocError> {
-    text.extend_from_slice(kind.head.as_bytes())?;
+/// Appends the text of a case of this kind. False where memory is wanting.
+fn put_case(text: &mut Vec<u8>, kind: &Kind, draws: &mut Draws) -> bool {
     let floor = draws.below(FLOORS);
-    put_state(text, 1, idle_at(draws, floor))?;
-    put_second(text, kind.second, draws)?;
-    if kind.has_groups {
-        put_groups(text, draws, floor)?;
-    }
-    put_calls(text, kind, draws)?;
-    text.extend_from_slice(b"end\n")
+    text.extend_from_slice(kind.head.as_bytes()).is_ok()
+        && put_state(text, 1, idle_at(draws, floor)).is_ok()
+        && put_second(text, kind.second, draws).is_ok()
+        && (!kind.has_groups || put_groups(text, draws, floor).is_ok())
+        && put_calls(text, kind, draws).is_ok()
+        && text.extend_from_slice(b"end\n").is_ok()
 }
 
 /// The next snapshot of this kind. None where what was drawn is refused, or memory runs out.
 pub(crate) fn drawn_snapshot(alloc: Global, kind: &Kind, draws: &mut Draws) -> Option<Snapshot> {
     let mut text = Vec::new(alloc);
-    match put_case(&mut text, kind, draws) {
-        Ok(()) => snapshot_in(alloc, &text),
-        Err(_) => None,
+    if put_case(&mut text, kind, draws) {
+        snapshot_in(alloc, &text)
+    } else {
+        None
     }
 }

@@ -18,10 +18,12 @@ mod pricings;
 mod rounds;
 mod walks;
 
-use asked::{Asked, asked_in};
+use asked::{Asked, OfInput, asked_in};
+use call_state::Snapshot;
+use case_kit::snapshot_in;
 use case_maker::make;
 use first_plans::{print_costs, print_kinds};
-use input::{input, snapshot_of};
+use input::input;
 use pricings::{Pricing, print_pricing};
 use rounds::print_rounds;
 use std::process::ExitCode;
@@ -37,6 +39,20 @@ fn words_given(rt: &HostRuntime) -> io::Result<Vec<String>> {
     }
 }
 
+/// Prices the cars of a snapshot.
+fn price(rt: &HostRuntime, snapshot: Snapshot, pricing: Pricing) -> io::Result<bool> {
+    let printed = print_pricing(rt, &snapshot, pricing);
+    drop(snapshot);
+    printed
+}
+
+/// Walks partial tours of a snapshot.
+fn walk(rt: &HostRuntime, snapshot: Snapshot, tours: u32) -> io::Result<bool> {
+    let printed = print_walk(rt, &snapshot, tours);
+    drop(snapshot);
+    printed
+}
+
 /// Each measurement once: of drawn snapshots, of generated ones, and of the text that is the input.
 fn print_all(rt: &HostRuntime, text: &[u8]) -> io::Result<bool> {
     print_kinds(rt, 31)?;
@@ -45,9 +61,43 @@ fn print_all(rt: &HostRuntime, text: &[u8]) -> io::Result<bool> {
         limit: 2000,
         rounds: 1,
     };
-    print_pricing(rt, &make(rt.alloc(), 1, 10, 2, 8)?, pricing)?;
-    print_walk(rt, &make(rt.alloc(), 1, 8, 1, 8)?, 2000)?;
+    price(rt, make(rt.alloc(), 1, 10, 2, 8)?, pricing)?;
+    walk(rt, make(rt.alloc(), 1, 8, 1, 8)?, 2000)?;
     print_rounds(rt, text, 3, 2)
+}
+
+/// Prices the cars of the snapshot whose text this is. False where there is none, or memory is wanting.
+fn price_text(rt: &HostRuntime, text: &[u8], pricing: Pricing) -> io::Result<bool> {
+    match snapshot_in(rt.alloc(), text) {
+        Some(snapshot) => price(rt, snapshot, pricing),
+        None => Ok(false),
+    }
+}
+
+/// Walks partial tours of the snapshot whose text this is. False where there is none, or memory is wanting.
+fn walk_text(rt: &HostRuntime, text: &[u8], tours: u32) -> io::Result<bool> {
+    match snapshot_in(rt.alloc(), text) {
+        Some(snapshot) => walk(rt, snapshot, tours),
+        None => Ok(false),
+    }
+}
+
+/// Takes a measurement of a text. False where the text is not what it is taken of.
+fn measure_text(rt: &HostRuntime, asked: OfInput, text: &[u8]) -> io::Result<bool> {
+    match asked {
+        OfInput::Pricing { pricing } => price_text(rt, text, pricing),
+        OfInput::Walk { tours } => walk_text(rt, text, tours),
+        OfInput::Read { rounds, cases } => print_rounds(rt, text, rounds, cases),
+        OfInput::All => print_all(rt, text),
+    }
+}
+
+/// Takes a measurement of the input. False where the input is not what it is taken of.
+fn measure_input(rt: &HostRuntime, asked: OfInput) -> io::Result<bool> {
+    match input(rt) {
+        Some(text) => measure_text(rt, asked, &text),
+        None => Ok(false),
+    }
 }
 
 /// Takes the measurement. False where the input is not what it is taken of.
@@ -55,22 +105,7 @@ fn measure(rt: &HostRuntime, asked: Asked) -> io::Result<bool> {
     match asked {
         Asked::Kinds { count } => print_kinds(rt, count),
         Asked::Costs { cases } => print_costs(rt, cases),
-        Asked::Pricing { pricing } => match snapshot_of(rt) {
-            Some(snapshot) => print_pricing(rt, &snapshot, pricing),
-            None => Ok(false),
-        },
-        Asked::Walk { tours } => match snapshot_of(rt) {
-            Some(snapshot) => print_walk(rt, &snapshot, tours),
-            None => Ok(false),
-        },
-        Asked::Read { rounds, cases } => match input(rt) {
-            Some(text) => print_rounds(rt, &text, rounds, cases),
-            None => Ok(false),
-        },
-        Asked::All => match input(rt) {
-            Some(text) => print_all(rt, &text),
-            None => Ok(false),
-        },
+        Asked::OfInput { asked } => measure_input(rt, asked),
     }
 }
 

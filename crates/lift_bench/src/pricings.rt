@@ -117,8 +117,43 @@ fn price_often<P: Pricer>(
     seen
 }
 
-/// Prices all cars at this price, and answers how many microseconds that took. Only the pricings are timed:
-/// not the making of the desk.
+/// Prices all cars at this desk, and answers how many microseconds that took.
+fn price_timed<P: Pricer>(
+    rt: &HostRuntime,
+    pricer: &P,
+    snapshot: &Snapshot,
+    node: &Node,
+    prices: &[Price],
+    pricing: Pricing,
+    desk: &mut P::Desk,
+) -> io::Result<(Seen, u128)>
+    requires same { P.snapshot pricer.now ≡ snapshot.now }
+    requires node { IsNodeOf snapshot.now node.now }
+    requires prices { length prices.now ≡ call_count snapshot.now }
+    requires own { P.owns pricer.now desk.old }
+{
+    let start = Instant::now(rt)?;
+    let seen = price_often(pricer, snapshot, node, prices, pricing, desk);
+    Ok((seen, start.elapsed(rt)?.as_micros()))
+}
+
+/// Prices all cars at these prices. Only the pricings are timed: not the making of the desk.
+fn price_at(
+    rt: &HostRuntime,
+    snapshot: &Snapshot,
+    node: &Node,
+    prices: &[Price],
+    pricing: Pricing,
+) -> io::Result<(Seen, u128)>
+    requires node { IsNodeOf snapshot.now node.now }
+    requires prices { length prices.now ≡ call_count snapshot.now }
+{
+    let searcher = Searcher::new(snapshot);
+    let mut desk = searcher.desk(rt.alloc())?;
+    price_timed(rt, &searcher, snapshot, node, prices, pricing, &mut desk)
+}
+
+/// Prices all cars at this price, and answers how many microseconds that took.
 fn price_all(
     rt: &HostRuntime,
     snapshot: &Snapshot,
@@ -127,11 +162,7 @@ fn price_all(
 ) -> io::Result<(Seen, u128)> {
     let prices = equal_prices(rt.alloc(), snapshot, price)?;
     let node = root(rt.alloc(), snapshot)?;
-    let searcher = Searcher::new(snapshot);
-    let mut desk = searcher.desk(rt.alloc())?;
-    let start = Instant::now(rt)?;
-    let seen = price_often(&searcher, snapshot, &node, &prices, pricing, &mut desk);
-    Ok((seen, start.elapsed(rt)?.as_micros()))
+    price_at(rt, snapshot, &node, &prices, pricing)
 }
 
 /// Prices all cars, and prints how many partial tours were visited, how many pricings reached the limit, and

@@ -43,8 +43,40 @@ fn copy_answer(
     }
 }
 
-/// Reads this many cases with their answers, one after another, appends the text of each, and counts their
-/// calls. None where one of them is refused, or memory runs out.
+/// Appends the text of a snapshot, reads an answer to it and appends that, and counts its calls. None where
+/// the answer is refused, or memory is wanting.
+fn copy_rest(
+    alloc: Global,
+    lines: &mut LineReader<MemorySource>,
+    snapshot: &Snapshot,
+    text: &mut Vec<u8>,
+) -> Option<u32> {
+    if write_case(alloc, snapshot, text).is_ok() && copy_answer(alloc, lines, snapshot, text) {
+        Some(snapshot.calls().len() as u32)
+    } else {
+        None
+    }
+}
+
+/// Reads a case with its answer, appends the text of both, and counts its calls. None where one of them is
+/// refused, or memory is wanting.
+fn copy_case(
+    alloc: Global,
+    lines: &mut LineReader<MemorySource>,
+    text: &mut Vec<u8>,
+) -> Option<u32> {
+    match read_from(alloc, lines) {
+        Some(snapshot) => {
+            let calls = copy_rest(alloc, lines, &snapshot, text);
+            drop(snapshot);
+            calls
+        }
+        None => None,
+    }
+}
+
+/// Reads so many cases with their answers, one after another, appends the text of each, and counts their
+/// calls. None where one of them is refused, or memory is wanting.
 fn copy_cases(
     alloc: Global,
     lines: &mut LineReader<MemorySource>,
@@ -53,12 +85,7 @@ fn copy_cases(
 ) -> Option<u32> {
     let mut calls = 0u32;
     for _ in 0..cases {
-        let snapshot = read_from(alloc, lines)?;
-        write_case(alloc, &snapshot, text).ok()?;
-        if !copy_answer(alloc, lines, &snapshot, text) {
-            return None;
-        }
-        calls = calls.wrapping_add(snapshot.calls().len() as u32);
+        calls = calls.wrapping_add(copy_case(alloc, lines, text)?);
     }
     Some(calls)
 }
