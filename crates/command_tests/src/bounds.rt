@@ -1,36 +1,36 @@
-//! The costs and bounds that a text states, and how often it has a line.
+//! The costs and bounds that a text states, and how often a line stands in it.
 
 /// The number that a line states after this word.
 fn stated(line: &str, word: &str) -> Option<u64> {
     line.strip_prefix(word)?.parse().ok()
 }
 
-/// Whether a text states no bound above the cost before it, and whether all bounds are equal to it, so that
-/// the status is 0, and else 3.
-pub(crate) fn are_bounds_right(text: &[u8], status: u8) -> bool {
-    let Ok(text) = str::from_utf8(text) else {
-        return false;
-    };
+/// Whether the lines state no bound above the cost before it, and whether all bounds are equal to it, so that the status is 0,
+/// and else 3.
+pub(crate) fn are_bounds_right(lines: &[&str], status: u8) -> bool {
     let mut cost = 0;
-    let mut is_solved = true;
-    for line in text.split('\n') {
-        if let Some(number) = stated(line, "cost ") {
-            cost = number;
+    let mut due = 0;
+    for line in lines {
+        cost = stated(line, "cost ").unwrap_or(cost);
+        let bound = stated(line, "bound ").unwrap_or(cost);
+        if bound > cost {
+            return false;
         }
-        if let Some(bound) = stated(line, "bound ") {
-            if bound > cost {
-                return false;
-            }
-            is_solved &= bound == cost;
+        if bound < cost {
+            due = 3;
         }
     }
-    status == if is_solved { 0 } else { 3 }
+    status == due
 }
 
-/// Whether the text has a line as often as `N LINE` says, or more. None where it says no number.
-pub(crate) fn stands_often(said: &str, text: &[u8]) -> Option<bool> {
-    let (least, wanted) = said.split_once(" ")?;
-    let least: usize = least.parse().ok()?;
-    let lines = text.split(|byte| *byte == b'\n');
-    Some(lines.filter(|line| *line == wanted.as_bytes()).count() >= least)
+/// Whether a line is one of these as often as `N LINE` says, or more.
+pub(crate) fn stand_often(lines: &[&str], said: &str) -> bool {
+    let (least, wanted) = said.split_once(" ").unwrap_or((said, ""));
+    let mut count: u64 = 0;
+    for line in lines {
+        if *line == wanted {
+            count = count.saturating_add(1);
+        }
+    }
+    count >= least.parse().unwrap_or(u64::MAX)
 }

@@ -1,172 +1,138 @@
 //! Answers that are damaged: a check of one says no, refuses it, or says yes to what is so.
 
-use crate::runs::{Ran, Streams, run_over};
-use std::alloc::Global;
+use crate::due::{is_said, lines_of};
+use crate::pieces::Text;
+use crate::runs::{Bench, Streams};
+use bstr::ByteSlice;
 use std::marker::Sync;
+use std::mem;
 use std::thread::Threads;
 
-/// What is done to a line.
+/// What is done to an answer.
 #[derive(Clone, Copy)]
 enum Damage {
-    Dropped,
-    Doubled,
-    /// It stands after the next one.
-    Swapped,
+    /// A line is written so often before the next one, and is put after it, or not.
+    Line { before: usize, is_after: bool },
+    /// This is added to a digit.
+    Digit { step: u8 },
 }
 
-/// The bytes between two places, as far as there are any.
-fn part(text: &[u8], from: usize, to: usize) -> &[u8] {
-    let to = to.min(text.len());
-    text.get(from.min(to)..to).unwrap_or(&[])
-}
+/// A line is dropped, doubled and put after the next one, and a digit is one more and one less.
+const DAMAGES: [Damage; 5] = [
+    Damage::Line {
+        before: 0,
+        is_after: false,
+    },
+    Damage::Line {
+        before: 2,
+        is_after: false,
+    },
+    Damage::Line {
+        before: 0,
+        is_after: true,
+    },
+    Damage::Digit { step: 1 },
+    Damage::Digit { step: 255 },
+];
 
-/// The place after the first LF from this place on.
-fn after_line(text: &[u8], from: usize) -> usize {
-    match part(text, from, text.len())
-        .iter()
-        .position(|byte| *byte == b'\n')
-    {
-        Some(length) => from.saturating_add(length).saturating_add(1),
-        None => text.len(),
+impl Text {
+    /// Appends lines of which the first stands so often before the second, and after it, or not.
+    fn put_moved(&mut self, text: &[u8], before: usize, is_after: bool) {
+        let mut lines = text.lines_with_terminator();
+        let line = lines.next().unwrap_or(&[]);
+        for _ in 0..before {
+            self.put(line);
+        }
+        self.put(lines.next().unwrap_or(&[]));
+        if is_after {
+            self.put(line);
+        }
+        self.put(lines.as_bytes());
+    }
+
+    /// Appends a text whose first byte, a digit, is greater by this. False where it is no digit.
+    fn put_raised(&mut self, text: &[u8], step: u8) -> bool {
+        match text.split_first() {
+            Some((digit, rest)) if digit.is_ascii_digit() => {
+                self.put(&[digit.wrapping_add(step)]);
+                self.put(rest);
+                true
+            }
+            _ => false,
+        }
+    }
+
+    /// Appends an answer with the line, or the digit, damaged that begins at this place. False where none does.
+    fn put_damaged(&mut self, answer: &[u8], place: usize, damage: Damage) -> bool {
+        let (front, rest) = answer.split_at_checked(place).unwrap_or((answer, &[]));
+        self.put(front);
+        match damage {
+            Damage::Digit { step } => self.put_raised(rest, step),
+            Damage::Line { before, is_after } => {
+                self.put_moved(rest, before, is_after);
+                front.is_empty() || front.ends_with(b"\n")
+            }
+        }
     }
 }
 
-/// The pieces of bytes, one after another.
-fn joined(alloc: Global, pieces: &[&[u8]]) -> Option<Vec<u8>> {
-    let mut all = Vec::new(alloc);
-    for piece in pieces {
-        all.extend_from_slice(piece).ok()?;
+impl<R: Threads + Sync> Bench<'_, R> {
+    /// Whether a check wrote the yes that is due.
+    fn says_yes(&self) -> bool {
+        match lines_of(self.alloc, &self.ran.text.bytes) {
+            Some(lines) => is_said(self.alloc, &self.due, &lines),
+            None => false,
+        }
     }
-    Some(all)
-}
 
-/// The text with the line that begins at this place damaged.
-fn damaged(alloc: Global, text: &[u8], from: usize, damage: Damage) -> Option<Vec<u8>> {
-    let to = after_line(text, from);
-    let next = after_line(text, to);
-    let front = part(text, 0, from);
-    let line = part(text, from, to);
-    let second = part(text, to, next);
-    let rest = part(text, next, text.len());
-    match damage {
-        Damage::Dropped => joined(alloc, &[front, second, rest]),
-        Damage::Doubled => joined(alloc, &[front, line, line, second, rest]),
-        Damage::Swapped => joined(alloc, &[front, second, line, rest]),
-    }
-}
-
-/// The text with another byte at this place.
-fn with_byte(alloc: Global, text: &[u8], place: usize, byte: u8) -> Option<Vec<u8>> {
-    let behind = place.saturating_add(1);
-    let pieces = [
-        part(text, 0, place),
-        &[byte],
-        part(text, behind, text.len()),
-    ];
-    joined(alloc, &pieces)
-}
-
-/// The cost and the bound of a line `yes COST BOUND`.
-fn numbers_of_yes(text: &[u8]) -> Option<(u64, u64)> {
-    let line = str::from_utf8(text).ok()?.strip_suffix("\n")?;
-    let (cost, bound) = line.strip_prefix("yes ")?.split_once(" ")?;
-    Some((cost.parse().ok()?, bound.parse().ok()?))
-}
-
-/// A case, and what its cheapest plan costs.
-#[derive(Clone, Copy)]
-struct Judge<'a> {
-    case: &'a [u8],
-    least: u64,
-}
-
-impl Judge<'_> {
-    /// Whether what a check wrote is a no, a refusal, or a yes to what is so.
-    fn is_right(self, ran: &Ran) -> bool {
-        match ran.status {
-            0 => match numbers_of_yes(ran.text.as_slice()) {
-                Some((cost, bound)) => cost >= self.least && bound <= self.least,
-                None => false,
-            },
+    /// Whether a check of the input says no, refuses it, or says the yes that is due.
+    fn is_checked(&mut self) -> bool {
+        if !self.run("lift check", "0", Streams::of_reads(4096)) {
+            return false;
+        }
+        match self.ran.status {
+            0 => self.says_yes(),
             status => status == 4 || status == 5,
         }
     }
 
-    /// The check of this answer, if it is not right.
-    fn wrong_check(
-        self,
-        rt: &(impl Threads + Sync),
-        alloc: Global,
-        answer: &[u8],
-    ) -> Option<Option<Ran>> {
-        let input = joined(alloc, &[self.case, answer])?;
-        let streams = Streams::of_reads(4096);
-        let one = run_over(rt, alloc, "lift check", 0, input.as_slice(), streams)?;
-        Some(if self.is_right(&one) { None } else { Some(one) })
-    }
-
-    /// The first wrong check of the answer with a line damaged.
-    fn wrong_at_line(
-        self,
-        rt: &(impl Threads + Sync),
-        alloc: Global,
-        answer: &[u8],
-        damage: Damage,
-    ) -> Option<Option<Ran>> {
-        let mut is_start = true;
-        for (place, byte) in answer.iter().enumerate() {
-            if is_start {
-                let text = damaged(alloc, answer, place, damage)?;
-                let wrong = self.wrong_check(rt, alloc, text.as_slice())?;
-                if wrong.is_some() {
-                    return Some(wrong);
-                }
+    /// Checks the answer with this damage at each place.
+    fn checks_each(&mut self, answer: &[u8], damage: Damage) -> bool {
+        let case = self.input.bytes.len();
+        for place in 0..answer.len() {
+            let is_damaged = self.input.put_damaged(answer, place, damage);
+            if is_damaged && !self.is_checked() {
+                return false;
             }
-            is_start = *byte == b'\n';
+            self.input.bytes.truncate(case);
         }
-        Some(None)
+        true
     }
 
-    /// The first wrong check of the answer with a digit made greater, or less, by one.
-    fn wrong_at_digit(
-        self,
-        rt: &(impl Threads + Sync),
-        alloc: Global,
-        answer: &[u8],
-        step: u8,
-    ) -> Option<Option<Ran>> {
-        for (place, byte) in answer.iter().enumerate() {
-            if byte.is_ascii_digit() {
-                let text = with_byte(alloc, answer, place, byte.wrapping_add(step))?;
-                let wrong = self.wrong_check(rt, alloc, text.as_slice())?;
-                if wrong.is_some() {
-                    return Some(wrong);
-                }
+    /// Checks the answer with each damage.
+    fn checks_all(&mut self, answer: &[u8]) -> bool {
+        for damage in DAMAGES.iter() {
+            if !self.checks_each(answer, *damage) {
+                return false;
             }
         }
-        Some(None)
+        true
     }
-}
 
-/// The first wrong check of an answer to the case, with each line and each digit damaged in turn. None out of
-/// memory.
-pub(crate) fn is_always_right(
-    rt: &(impl Threads + Sync),
-    alloc: Global,
-    case: &[u8],
-    answer: &[u8],
-    least: u64,
-) -> Option<Option<Ran>> {
-    let judge = Judge { case, least };
-    for damage in [Damage::Dropped, Damage::Doubled, Damage::Swapped] {
-        let wrong = judge.wrong_at_line(rt, alloc, answer, damage)?;
-        if wrong.is_some() {
-            return Some(wrong);
+    /// Checks what the last run wrote, damaged, as an answer to the case that is the input. `least` is what the cheapest plan
+    /// costs. Tells a check that is not right.
+    pub(crate) fn checks_damaged(&mut self, name: &str, least: &str) -> bool {
+        self.due.clear();
+        self.due.put(b"yes {");
+        self.due.put(least.as_bytes());
+        self.due.put(b"..18446744073709551615} {0..");
+        self.due.put(least.as_bytes());
+        self.due.put(b"}\n");
+        let answer = mem::replace(&mut self.ran.text.bytes, Vec::new(self.alloc));
+        let is_right = self.checks_all(&answer);
+        if !is_right {
+            self.report.differs(name, "damaged", &self.ran);
         }
+        is_right
     }
-    let wrong = judge.wrong_at_digit(rt, alloc, answer, 1)?;
-    if wrong.is_some() {
-        return Some(wrong);
-    }
-    judge.wrong_at_digit(rt, alloc, answer, 255)
 }

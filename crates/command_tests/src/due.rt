@@ -1,135 +1,87 @@
 //! Whether what came is what is due.
 //!
-//! In what is due `{LOW..HIGH}` is any number in this range, and a line `...` any lines, also none.
+//! In what is due a word `{LOW..HIGH}` is any number in this range, and a line `...` any lines, also none.
 
-use crate::blocks::{pieces_from, place_after};
-use crate::pieces::bytes_of;
+use crate::pieces::Text;
 use std::alloc::Global;
 
-/// The number with which a text begins, and what follows it.
-fn split_number(text: &[u8]) -> Option<(u64, &[u8])> {
-    let length = text
-        .iter()
-        .position(|byte| !byte.is_ascii_digit())
-        .unwrap_or(text.len());
-    let (digits, rest) = text.split_at_checked(length)?;
-    let number: u64 = str::from_utf8(digits).ok()?.parse().ok()?;
-    Some((number, rest))
-}
-
-/// What follows the number of the range `LOW..HIGH}` in the text, and what follows the range in the pattern.
-fn past_range<'a, 'b>(pattern: &'a [u8], text: &'b [u8]) -> Option<(&'a [u8], &'b [u8])> {
-    let (low, rest) = split_number(pattern)?;
-    let (high, rest) = split_number(rest.strip_prefix(b"..")?)?;
-    let (number, behind) = split_number(text)?;
-    if number < low || high < number {
-        return None;
-    }
-    Some((rest.strip_prefix(b"}")?, behind))
-}
-
-/// What follows in the text where it begins as the pattern says.
-fn past<'a>(pattern: &[u8], text: &'a [u8]) -> Option<&'a [u8]> {
-    let mut left = pattern;
-    let mut rest = text;
-    for _ in 0..pattern.len() {
-        let Some((byte, behind)) = left.split_first() else {
-            break;
-        };
-        if *byte == b'{' {
-            (left, rest) = past_range(behind, rest)?;
-        } else {
-            let (first, after) = rest.split_first()?;
-            if first != byte {
-                return None;
-            }
-            (left, rest) = (behind, after);
-        }
-    }
-    Some(rest)
-}
-
-/// Where the lines of a text that fit a pattern may begin, and whether they end the text.
-#[derive(Clone, Copy)]
-struct Place {
-    anywhere: bool,
-    ends: bool,
-}
-
-impl Place {
-    /// What follows the pattern at this line of the text.
-    fn past_here<'a>(self, pattern: &[u8], text: &'a [u8]) -> Option<&'a [u8]> {
-        let rest = past(pattern, text)?;
-        if self.ends && !rest.is_empty() {
-            return None;
-        }
-        Some(rest)
-    }
-
-    /// What follows the first lines of the text that fit the pattern.
-    fn find<'a>(self, pattern: &[u8], text: &'a [u8]) -> Option<&'a [u8]> {
-        if !self.anywhere {
-            return self.past_here(pattern, text);
-        }
-        let mut is_start = true;
-        for place in 0..text.len() {
-            if is_start {
-                if let Some(rest) = self.past_here(pattern, text.get(place..)?) {
-                    return Some(rest);
-                }
-            }
-            is_start = text.get(place).copied() == Some(b'\n');
-        }
-        self.past_here(pattern, text.get(text.len()..)?)
+/// Whether a word is a number in the range `{LOW..HIGH}`.
+fn is_in_range(range: &str, word: &str) -> bool {
+    let (low, high) = range.split_once("..").unwrap_or(("", ""));
+    let low = low.strip_prefix("{").unwrap_or("");
+    let high = high.strip_suffix("}").unwrap_or("");
+    match word.parse::<u64>() {
+        Ok(found) => low.parse().unwrap_or(u64::MAX) <= found && found <= high.parse().unwrap_or(0),
+        Err(_) => false,
     }
 }
 
-/// Whether these pieces say the text. None for what is no piece, or out of memory.
-fn is_said(alloc: Global, lines: &[&str], pieces: &[&str], text: &[u8]) -> Option<bool> {
+/// Whether a line is as is due, word by word.
+fn fits(due: &str, line: &str) -> bool {
+    let mut words = line.split(' ');
+    for wanted in due.split(' ') {
+        match words.next() {
+            Some(word) if word == wanted || is_in_range(wanted, word) => {}
+            _ => return false,
+        }
+    }
+    words.next().is_none()
+}
+
+/// Whether the lines begin with those that are due.
+fn begin(due: &[&str], lines: &[&str]) -> bool {
+    for (place, wanted) in due.iter().enumerate() {
+        match lines.get(place) {
+            Some(line) if fits(wanted, line) => {}
+            _ => return false,
+        }
+    }
+    true
+}
+
+/// The place after the first lines that are as is due and begin at one of these places.
+fn past(due: &[&str], lines: &[&str], from: usize, to: usize) -> Option<usize> {
+    for place in from..=to {
+        if begin(due, lines.get(place..)?) {
+            return place.checked_add(due.len());
+        }
+    }
+    None
+}
+
+/// Whether the lines are all that is due: the lines before the first `...` stand first, those after the last one stand last,
+/// and the others at the first place after those before them.
+fn are_said(due: &[&str], lines: &[&str]) -> bool {
+    let mut left = due.len();
     let mut from = 0;
-    let mut rest = text;
-    let mut anywhere = false;
-    for _ in 0..pieces.len() {
-        let Some(behind) = place_after(pieces, "...", from) else {
-            break;
+    let mut to = 0;
+    for part in due.split(|line| *line == "...") {
+        left = left.saturating_sub(part.len());
+        if left == 0 {
+            from = from.max(lines.len().saturating_sub(part.len()));
+        }
+        let Some(next) = past(part, lines, from, to) else {
+            return false;
         };
-        let pattern = bytes_of(alloc, lines, pieces.get(from..behind.checked_sub(1)?)?)?;
-        let place = Place {
-            anywhere,
-            ends: false,
-        };
-        let Some(left) = place.find(pattern.as_slice(), rest) else {
-            return Some(false);
-        };
-        rest = left;
-        from = behind;
-        anywhere = true;
+        left = left.saturating_sub(1);
+        from = next;
+        to = lines.len();
     }
-    let pattern = bytes_of(alloc, lines, pieces.get(from..)?)?;
-    let place = Place {
-        anywhere,
-        ends: true,
-    };
-    Some(place.find(pattern.as_slice(), rest).is_some())
+    from == lines.len()
 }
 
-/// Whether the text is one of those that the step's sections `output` say; any text is where there is no such
-/// section. None for what is no piece, or out of memory.
-pub(crate) fn is_due<'a>(
-    alloc: Global,
-    lines: &'a [&'a str],
-    step: &'a [&'a str],
-    text: &[u8],
-) -> Option<bool> {
-    let mut from = 0;
-    for _ in 0..step.len() {
-        let Some(behind) = place_after(step, "output", from) else {
-            break;
-        };
-        if is_said(alloc, lines, pieces_from(step, behind), text)? {
-            return Some(true);
-        }
-        from = behind;
+/// The lines of a text. None where it is no text, or out of memory.
+pub(crate) fn lines_of<'a>(alloc: Global, text: &'a [u8]) -> Option<Vec<&'a str>> {
+    match str::from_utf8(text) {
+        Ok(text) => text.split('\n').collect(alloc).ok(),
+        Err(_) => None,
     }
-    Some(from == 0)
+}
+
+/// Whether a text that has these lines is as is due.
+pub(crate) fn is_said(alloc: Global, due: &Text, lines: &[&str]) -> bool {
+    match lines_of(alloc, &due.bytes) {
+        Some(wanted) => due.is_whole && are_said(&wanted, lines),
+        None => false,
+    }
 }

@@ -1,9 +1,8 @@
-//! `command_tests FILE..` runs the cases of these files through the program, with sources and sinks in
-//! memory. It prints a line for each case that differs, with what came, and last how many cases there were.
-//! `docs/cases.md` says how a case is written.
+//! `command_tests FILE..` runs the cases of these files through the program, with sources and sinks in memory. It prints a
+//! line for each case that differs, with what came, and last how many cases there were. `docs/cases.md` says how a case is
+//! written.
 #![tactic(auto)]
 
-mod blocks;
 mod bounds;
 mod cases;
 mod damage;
@@ -15,80 +14,58 @@ mod runs;
 mod steps;
 mod tables;
 
-use blocks::{block_from, lines_of};
-use cases::run_case;
-use report::Report;
-use std::alloc::Global;
+use runs::Bench;
+use std::alloc::AllocError;
 use std::marker::Sync;
 use std::process::ExitCode;
 use std::thread::Threads;
 use std::{env, fs, io};
-use tables::run_table;
 
-/// Runs the cases of a file, of which these are the lines.
-fn run_blocks<'a>(
-    rt: &(impl Threads + Sync),
-    alloc: Global,
-    lines: &'a [&'a str],
-    report: &mut Report,
-) {
-    let mut from = 0;
-    for _ in 0..lines.len() {
-        let Some(block) = block_from(lines, from) else {
-            break;
-        };
-        match block.kind {
-            "case" => run_case(rt, alloc, lines, block, report),
-            "table" => run_table(rt, alloc, lines, block, report),
-            _ => {}
+/// Whether a block begins with this line.
+fn is_head(line: &str) -> bool {
+    line.starts_with("text ") || line.starts_with("case ") || line.starts_with("table ")
+}
+
+impl<R: Threads + Sync> Bench<'_, R> {
+    /// Runs a block, if it is a case or a table.
+    fn run_block<'a>(&mut self, file: &'a [&'a str], block: &'a [&'a str]) {
+        let head = block.first().copied().unwrap_or("");
+        if let Some(name) = head.strip_prefix("case ") {
+            self.run_case(file, name, block);
+        } else if let Some(name) = head.strip_prefix("table ") {
+            self.run_table(file, name, block);
         }
-        from = block.end;
+    }
+
+    /// Runs the cases of the text of a file.
+    fn run_text(&mut self, text: &str) -> Result<(), AllocError> {
+        let file: Vec<&str> = text.split('\n').collect(self.alloc)?;
+        for block in file.chunk_by(|_, line| !is_head(line)) {
+            self.run_block(&file, block);
+        }
+        Ok(())
     }
 }
 
-/// Runs the cases of the text of a file.
-fn run_text(
-    rt: &(impl Threads + Sync),
-    alloc: Global,
-    text: &str,
-    report: &mut Report,
-) -> io::Result<()> {
-    let lines = lines_of(alloc, text)?;
-    run_blocks(rt, alloc, lines.as_slice(), report);
-    Ok(())
-}
-
-/// The texts of the files that the words name.
-fn texts_of(rt: &HostRuntime) -> io::Result<Vec<String>> {
-    let mut texts = Vec::new(rt.alloc());
+/// Runs the cases of the files that the words name, prints what differs, and how many cases there were. Says whether all are
+/// as is due.
+fn run_files<R: Threads + Sync>(rt: &HostRuntime, bench: &mut Bench<'_, R>) -> io::Result<bool> {
     for name in env::args(rt)?.skip(1) {
-        texts.push(fs::read_to_string(rt, name)?)?;
+        bench.run_text(&fs::read_to_string(rt, name)?)?;
     }
-    Ok(texts)
-}
-
-/// Prints what differs, and how many cases there were.
-fn print_report(rt: &HostRuntime, report: &Report) -> io::Result<()> {
-    print!(rt; "{}", report.text())?;
-    println!(rt; "{} cases, {} differ", report.cases(), report.differing())
+    let report = &bench.report;
+    println!(rt;
+        "{}{} cases, {} differ",
+        report.text, report.cases, report.differing
+    )?;
+    Ok(report.differing == 0)
 }
 
 fn main(rt: HostRuntime) -> ExitCode {
-    let Ok(texts) = texts_of(&rt) else {
-        return ExitCode::from(2);
-    };
-    let mut report = Report::new(rt.alloc());
-    for text in texts.iter() {
-        if run_text(&rt, rt.alloc(), text.as_str(), &mut report).is_err() {
-            return ExitCode::from(2);
-        }
-    }
-    if print_report(&rt, &report).is_err() {
-        return ExitCode::from(2);
-    }
-    if report.differing() == 0 {
-        ExitCode::SUCCESS
-    } else {
-        ExitCode::FAILURE
+    let mut bench = Bench::new(&rt, rt.alloc());
+    match run_files(&rt, &mut bench) {
+        Ok(true) => ExitCode::SUCCESS,
+        Ok(false) => ExitCode::FAILURE,
+        Err(_) => ExitCode::from(2),
     }
 }

@@ -1,24 +1,27 @@
 //! Runs of the program over inputs in memory.
 
+use crate::pieces::Text;
+use crate::report::Report;
 use byte_streams::{MemorySink, MemorySource, OpenGate};
 use lift_commands::run;
 use std::alloc::Global;
 use std::marker::Sync;
+use std::mem;
 use std::thread::Threads;
 
-/// How the input comes and the output goes: the most bytes of a read and of a write, the number of the read
-/// and of the write that fails (0 where none does), and the bytes that the output has room for.
+/// How the input comes and the output goes: the most bytes of a read and of a write, the number of the read and of the write
+/// that fails (0 where none does), and the bytes that the output has room for.
 #[derive(Clone, Copy)]
 pub(crate) struct Streams {
     pub reads: usize,
     pub writes: usize,
-    pub failing_read: u64,
-    pub failing_write: u64,
+    pub failing_read: usize,
+    pub failing_write: usize,
     pub room: usize,
 }
 
 impl Streams {
-    /// Streams that do not fail, with reads of this many bytes.
+    /// Streams that do not fail, with reads of so many bytes.
     pub(crate) fn of_reads(reads: usize) -> Streams {
         Streams {
             reads,
@@ -28,57 +31,132 @@ impl Streams {
             room: 1 << 22,
         }
     }
+
+    /// The source of an input.
+    fn source(self, alloc: Global, input: &[u8]) -> Option<MemorySource> {
+        let failing = Vec::from_slice(alloc, &[self.failing_read as u64]).ok()?;
+        let bytes = Vec::from_slice(alloc, input).ok()?;
+        Some(MemorySource::new(bytes, self.reads.max(1), failing))
+    }
+
+    /// The sink of an output.
+    fn sink(self, alloc: Global) -> Option<MemorySink> {
+        let failing = Vec::from_slice(alloc, &[self.failing_write as u64]).ok()?;
+        MemorySink::new(alloc, self.room, self.writes.max(1), failing).ok()
+    }
 }
 
 /// How a run ended, and what it wrote.
 #[derive(Drop)]
 pub(crate) struct Ran {
     pub status: u8,
-    pub text: Vec<u8>,
+    pub text: Text,
 }
 
-/// The words of a line, between single spaces; the word `''` is the empty one. Workers that are not 0 are one
-/// word more.
-fn words_of(alloc: Global, line: &str, workers: u32) -> Option<Vec<String>> {
-    let mut words = Vec::new(alloc);
+impl Ran {
+    /// Whether the run ended with this status and wrote as many bytes of this text, or all where it has fewer.
+    pub(crate) fn is(&self, status: u8, text: &[u8], length: usize) -> bool {
+        self.status == status && self.text.bytes.as_slice() == text.get(..length).unwrap_or(text)
+    }
+}
+
+/// Appends a word of the command line, in two parts. False out of memory.
+fn push_word(alloc: Global, words: &mut Vec<String>, first: &str, second: &str) -> bool {
+    match String::from_str(alloc, first) {
+        Ok(mut word) => word.push_str(second).is_ok() && words.push(word).is_ok(),
+        Err(_) => false,
+    }
+}
+
+/// Appends the words of a line, between single spaces; the word `''` is the empty one. Workers that are not 0 are one word
+/// more. False out of memory.
+fn push_line(alloc: Global, words: &mut Vec<String>, line: &str, workers: &str) -> bool {
+    let mut is_whole = true;
     for word in line.split(' ') {
         let word = if word == "''" { "" } else { word };
-        words.push(String::from_str(alloc, word).ok()?).ok()?;
+        is_whole &= push_word(alloc, words, word, "");
     }
-    if workers != 0 {
-        words
-            .push(format!(in alloc; "--workers={workers}").ok()?)
-            .ok()?;
+    if workers != "0" {
+        is_whole &= push_word(alloc, words, "--workers=", workers);
     }
-    Some(words)
+    is_whole
 }
 
-/// Runs the program with the words of a line over the input. None where there is no memory for it.
-pub(crate) fn run_over(
-    rt: &(impl Threads + Sync),
-    alloc: Global,
-    line: &str,
-    workers: u32,
-    input: &[u8],
-    streams: Streams,
-) -> Option<Ran> {
-    let words = words_of(alloc, line, workers)?;
-    let bytes = Vec::from_slice(alloc, input).ok()?;
-    let failing = Vec::from_slice(alloc, &[streams.failing_write]).ok()?;
-    let mut sink = MemorySink::new(alloc, streams.room, streams.writes.max(1), failing).ok()?;
-    let failing = Vec::from_slice(alloc, &[streams.failing_read]).ok()?;
-    let mut source = MemorySource::new(bytes, streams.reads.max(1), failing);
-    let ended = run(
-        rt,
-        alloc,
-        words.as_slice(),
-        &mut source,
-        &mut sink,
-        &OpenGate,
-    );
-    let text = Vec::from_slice(alloc, sink.taken()).ok()?;
-    Some(Ran {
-        status: ended as u8,
-        text,
-    })
+/// What runs the program: its input, what its last two runs came to, what is due, and what is told of the cases.
+#[derive(Drop)]
+pub(crate) struct Bench<'r, R> {
+    runtime: &'r R,
+    pub alloc: Global,
+    pub input: Text,
+    pub due: Text,
+    pub ran: Ran,
+    pub before: Ran,
+    pub report: Report,
+    /// Whether the next run is the first with its words, so that no other has to be like it.
+    pub is_first: bool,
+}
+
+impl<'r, R: Threads + Sync> Bench<'r, R> {
+    pub(crate) fn new(runtime: &'r R, alloc: Global) -> Bench<'r, R> {
+        Bench {
+            runtime,
+            alloc,
+            input: Text::new(alloc),
+            due: Text::new(alloc),
+            ran: Ran {
+                status: 0,
+                text: Text::new(alloc),
+            },
+            before: Ran {
+                status: 0,
+                text: Text::new(alloc),
+            },
+            report: Report::new(alloc),
+            is_first: true,
+        }
+    }
+
+    /// Runs the program from this source, and keeps what came.
+    fn run_from(&mut self, words: &[String], source: &mut MemorySource, streams: Streams) -> bool {
+        match streams.sink(self.alloc) {
+            Some(mut sink) => {
+                let ended = run(
+                    self.runtime,
+                    self.alloc,
+                    words,
+                    source,
+                    &mut sink,
+                    &OpenGate,
+                );
+                self.ran.status = ended as u8;
+                self.ran.text.put(sink.taken());
+                self.ran.text.is_whole
+            }
+            None => false,
+        }
+    }
+
+    /// Runs the program with these words over the input.
+    fn run_words(&mut self, words: &[String], streams: Streams) -> bool {
+        match streams.source(self.alloc, &self.input.bytes) {
+            Some(mut source) => self.run_from(words, &mut source, streams),
+            None => false,
+        }
+    }
+
+    /// Runs the program with the words of a line and these workers over the input. False where there is no memory for it, or
+    /// the input is not whole.
+    pub(crate) fn run(&mut self, line: &str, workers: &str, streams: Streams) -> bool {
+        mem::swap(&mut self.ran, &mut self.before);
+        self.ran.text.clear();
+        let mut words = Vec::new(self.alloc);
+        push_line(self.alloc, &mut words, line, workers)
+            && self.input.is_whole
+            && self.run_words(&words, streams)
+    }
+
+    /// Runs the program with the words of a line. Whether it ends with this status and writes as many bytes of what is due.
+    pub(crate) fn ends(&mut self, line: &str, streams: Streams, status: u8, length: usize) -> bool {
+        self.run(line, "0", streams) && self.ran.is(status, &self.due.bytes, length)
+    }
 }

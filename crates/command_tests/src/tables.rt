@@ -1,222 +1,155 @@
-//! Tables of inputs that are refused: each row has the line and the code that are due, and what is put into a
-//! text.
+//! Tables of inputs that are refused: each row has the line and the code that are due, and what is put into a text.
 
-use crate::blocks::{Block, said, text_named};
-use crate::pieces::{bytes_of, put_escaped};
-use crate::report::Report;
-use crate::runs::{Streams, run_over};
-use std::alloc::Global;
+use crate::pieces::{Text, section};
+use crate::runs::{Bench, Streams};
+use crate::steps::said;
+use memchr::memchr_iter;
 use std::marker::Sync;
 use std::thread::Threads;
 
-/// Where a row's lines are put: in place of those of the text from the row's line on, or after the text.
-#[derive(Clone, Copy, PartialEq, Eq)]
+/// Where a row's lines are put: in place of those of the text from the row's line on, or after the text; or nothing is put,
+/// and the text ends before that line.
+#[derive(Clone, Copy)]
 enum Way {
     Within,
     After,
+    Front,
 }
 
-/// The words of a table, the text that its rows change, and how they do.
+/// The words of a table, the pieces of the text that its rows change, and how they do.
 #[derive(Clone, Copy)]
 struct Table<'a> {
     name: &'a str,
     words: &'a str,
-    text: &'a [u8],
+    text: &'a [&'a str],
     way: Way,
 }
 
-/// The line of a refusal, and its code.
+/// A row: the line at which its input is refused, counted from 1, the code, and the lines that are put into the text.
 #[derive(Clone, Copy)]
-struct Refusal {
+struct Row<'a> {
     line: usize,
-    code: u8,
+    code: &'a str,
+    put: &'a str,
 }
 
-/// Where the line with this number begins, from 1; the text's end where there is no such line.
-fn start_of_line(text: &[u8], line: usize) -> usize {
-    let mut left = line;
-    for (place, byte) in text.iter().enumerate() {
-        if left <= 1 {
-            return place;
-        }
-        if *byte == b'\n' {
-            left = left.saturating_sub(1);
-        }
+impl<'a> Row<'a> {
+    /// The row `LINE CODE TEXT`, or `LINE CODE` where nothing is put into the text. None for another line.
+    fn of_line(line: &'a str) -> Option<Row<'a>> {
+        let (line, rest) = line.split_once(" ")?;
+        let (code, put) = rest.split_once(" ").unwrap_or((rest, ""));
+        let line = line.parse().ok()?;
+        Some(Row { line, code, put })
     }
-    text.len()
 }
 
-/// Where the line with this number ends, before its LF; the text's end where there is no such LF.
-fn end_of_line(text: &[u8], line: usize) -> usize {
-    let mut left = line;
-    for (place, byte) in text.iter().enumerate() {
-        if *byte == b'\n' {
-            if left <= 1 {
-                return place;
-            }
-            left = left.saturating_sub(1);
+impl Text {
+    /// Takes away what stands after this line, counted from 1, and the line's end.
+    fn cut_after(&mut self, line: usize) {
+        if let Some(end) = memchr_iter(b'\n', &self.bytes).nth(line.saturating_sub(1)) {
+            self.bytes.truncate(end);
         }
     }
-    text.len()
+
+    /// Takes the text of a table as a row changes it.
+    fn set_changed(&mut self, table: Table<'_>, row: Row<'_>) {
+        self.clear();
+        self.is_whole = !table.text.is_empty();
+        if let Way::After = table.way {
+            self.put_text(table.text);
+            self.put_escaped(row.put);
+            return;
+        }
+        let before = row.line.saturating_sub(1);
+        self.put_text(table.text.get(..before).unwrap_or(table.text));
+        if let Way::Within = table.way {
+            self.put_escaped(row.put);
+            self.put(b"\n");
+            let after = before.saturating_add(row.put.split("\\n").count());
+            self.put_text(table.text.get(after..).unwrap_or(&[]));
+        }
+    }
+
+    /// Takes the line of a refusal.
+    fn set_refusal(&mut self, row: Row<'_>) {
+        self.clear();
+        self.put(b"refused line ");
+        self.put(itoa::Buffer::new().format(row.line).as_bytes());
+        self.put(b" code ");
+        self.put(row.code.as_bytes());
+        self.put(b"\n");
+    }
 }
 
-/// How many lines these bytes are, of which the last has no end.
-fn count_lines(bytes: &[u8]) -> usize {
-    let ends = bytes.iter().filter(|byte| **byte == b'\n').count();
-    ends.saturating_add(1)
-}
-
-impl Table<'_> {
-    /// The text with the row's lines put into it.
-    fn changed(self, alloc: Global, line: usize, lines: &[u8]) -> Option<Vec<u8>> {
-        let (start, end) = match self.way {
-            Way::Within => {
-                let behind = line.checked_add(count_lines(lines))?;
-                (
-                    start_of_line(self.text, line),
-                    start_of_line(self.text, behind),
-                )
-            }
-            Way::After => (self.text.len(), self.text.len()),
-        };
-        let mut all = Vec::from_slice(alloc, self.text.get(..start)?).ok()?;
-        all.extend_from_slice(lines).ok()?;
-        if self.way == Way::Within {
-            all.push(b'\n').ok()?;
-        }
-        all.extend_from_slice(self.text.get(end..)?).ok()?;
-        Some(all)
+impl<R: Threads + Sync> Bench<'_, R> {
+    /// Whether the input is refused as is due, in reads of so many bytes.
+    fn is_refused(&mut self, table: Table<'_>, reads: usize) -> bool {
+        self.ends(table.words, Streams::of_reads(reads), 5, usize::MAX)
     }
 
-    /// Runs over an input that comes in reads of this many bytes, and says whether it is refused so.
-    fn is_refused(
-        self,
-        rt: &(impl Threads + Sync),
-        alloc: Global,
-        input: &[u8],
-        reads: usize,
-        due: Refusal,
-        report: &mut Report,
-    ) -> Option<bool> {
-        let one = run_over(rt, alloc, self.words, 0, input, Streams::of_reads(reads))?;
-        let Refusal { line, code } = due;
-        let text = format!(in alloc; "refused line {line} code {code}\n").ok()?;
-        if one.status == 5 && one.text.as_slice() == text.as_bytes() {
-            return Some(true);
+    /// Runs over the input of a row as it stands, in pieces of one byte, and where the line that is refused is the last one and
+    /// has no end. Tells an input that is not refused at this line with this code.
+    fn run_row(&mut self, table: Table<'_>, row: Row<'_>) {
+        self.report.count();
+        self.due.set_refusal(row);
+        self.input.set_changed(table, row);
+        let is_refused = self.is_refused(table, 4096) && self.is_refused(table, 1);
+        self.input.cut_after(row.line);
+        if !is_refused || !self.is_refused(table, 4096) {
+            self.report.differs(table.name, table.words, &self.ran);
         }
-        let place = format!(in alloc; "{} line {line} code {code}", self.words).ok()?;
-        report.differs(self.name, place.as_str(), &one);
-        Some(false)
-    }
-
-    /// Runs over an input as it stands, in pieces of one byte, and where the line that is refused is the last
-    /// one and has no end.
-    fn run_refused(
-        self,
-        rt: &(impl Threads + Sync),
-        alloc: Global,
-        input: &[u8],
-        due: Refusal,
-        report: &mut Report,
-    ) -> Option<()> {
-        report.count();
-        let cut = input.get(..end_of_line(input, due.line))?;
-        for (text, reads) in [(input, 4096), (input, 1), (cut, 4096)] {
-            if !self.is_refused(rt, alloc, text, reads, due, report)? {
-                break;
-            }
-        }
-        Some(())
-    }
-
-    /// Runs a row `LINE CODE TEXT`, or `LINE CODE` where nothing is put into the text.
-    fn run_row(
-        self,
-        rt: &(impl Threads + Sync),
-        alloc: Global,
-        row: &str,
-        report: &mut Report,
-    ) -> Option<()> {
-        let (line, rest) = row.split_once(" ")?;
-        let (code, text) = rest.split_once(" ").unwrap_or((rest, ""));
-        let due = Refusal {
-            line: line.parse().ok()?,
-            code: code.parse().ok()?,
-        };
-        let mut lines = Vec::new(alloc);
-        put_escaped(text, &mut lines)?;
-        let input = self.changed(alloc, due.line, lines.as_slice())?;
-        self.run_refused(rt, alloc, input.as_slice(), due, report)
     }
 
     /// Runs over each front of the text's lines, which ends too early and is refused with this code.
-    fn run_fronts(
-        self,
-        rt: &(impl Threads + Sync),
-        alloc: Global,
-        code: &str,
-        report: &mut Report,
-    ) -> Option<()> {
-        let code: u8 = code.parse().ok()?;
-        for line in 1..count_lines(self.text) {
-            let front = self.text.get(..start_of_line(self.text, line))?;
-            self.run_refused(rt, alloc, front, Refusal { line, code }, report)?;
-        }
-        Some(())
-    }
-
-    /// Runs a line of the table: `fronts CODE`, or a row. Other lines are passed over.
-    fn run_line(
-        self,
-        rt: &(impl Threads + Sync),
-        alloc: Global,
-        line: &str,
-        report: &mut Report,
-    ) -> Option<()> {
-        if let Some(code) = line.strip_prefix("fronts ") {
-            self.run_fronts(rt, alloc, code, report)
-        } else if line.starts_with(|first: char| first.is_ascii_digit()) {
-            self.run_row(rt, alloc, line, report)
-        } else {
-            Some(())
+    fn run_fronts(&mut self, table: Table<'_>, code: &str) {
+        self.input.clear();
+        self.input.put_text(table.text);
+        for line in 1..=memchr_iter(b'\n', &self.input.bytes).count() {
+            self.run_row(
+                table,
+                Row {
+                    line,
+                    code,
+                    put: "",
+                },
+            );
         }
     }
-}
 
-/// Runs a table. None where it is not written as it has to be, or there is no memory for it.
-fn run_rows(
-    rt: &(impl Threads + Sync),
-    alloc: Global,
-    file: &[&str],
-    block: Block<'_>,
-    report: &mut Report,
-) -> Option<()> {
-    let (way, text) = match said(block.body, "within ") {
-        Some(text) => (Way::Within, text),
-        None => (Way::After, said(block.body, "after ")?),
-    };
-    let text = bytes_of(alloc, file, text_named(file, text)?)?;
-    let table = Table {
-        name: block.name,
-        words: said(block.body, "words ")?,
-        text: text.as_slice(),
-        way,
-    };
-    for line in block.body {
-        table.run_line(rt, alloc, line, report)?;
+    /// Runs the rows of a table. Each is counted as a case, and other lines are passed over.
+    fn run_rows(&mut self, table: Table<'_>, lines: &[&str]) {
+        for line in lines {
+            if let Some(code) = line.strip_prefix("fronts ") {
+                self.run_fronts(
+                    Table {
+                        way: Way::Front,
+                        ..table
+                    },
+                    code,
+                );
+            } else if let Some(row) = Row::of_line(line) {
+                self.run_row(table, row);
+            }
+        }
     }
-    Some(())
-}
 
-/// Runs a table. Each row is counted as a case.
-pub(crate) fn run_table(
-    rt: &(impl Threads + Sync),
-    alloc: Global,
-    file: &[&str],
-    block: Block<'_>,
-    report: &mut Report,
-) {
-    if run_rows(rt, alloc, file, block, report).is_none() {
-        report.is_broken(block.name);
+    /// Runs a table.
+    pub(crate) fn run_table<'a>(
+        &mut self,
+        file: &'a [&'a str],
+        name: &'a str,
+        lines: &'a [&'a str],
+    ) {
+        let (way, text) = match said(lines, "within ") {
+            Some(text) => (Way::Within, text),
+            None => (Way::After, said(lines, "after ").unwrap_or("")),
+        };
+        let table = Table {
+            name,
+            words: said(lines, "words ").unwrap_or(""),
+            text: section(file, "text ", text),
+            way,
+        };
+        self.run_rows(table, lines);
     }
 }
