@@ -2,40 +2,74 @@
 
 ghost use Rattle.std.specs.Prelude.{◌≤◌};
 
-use crate::makers::{noon, source_of};
-use answer_text::{read_answer, write_answer, write_body, write_stops};
+use crate::makers::{OfLines, OfNoon, is_so_at_noon, is_so_of};
+use answer_text::{Stated, read_answer, write_answer, write_body, write_stops};
+use byte_streams::MemorySource;
 use call_state::Snapshot;
 use lift_text::LineReader;
 use std::alloc::Global;
-use std::test::Fail;
 
-/// The text of the answer that is read of this one, which comes in pieces, and a `+` where a line follows.
-fn written(alloc: Global, snapshot: &Snapshot, bytes: &[u8], each: usize) -> Option<Vec<u8>>
-    requires { 1 ≤ each }
-{
-    let mut source = source_of(alloc, bytes, each)?;
-    let mut lines = LineReader::new(alloc, &mut source).ok()?;
-    let stated = read_answer(alloc, &mut lines, snapshot).ok()?;
-    let mut out = Vec::new(alloc);
-    write_answer(snapshot, &stated, &mut out).ok()?;
-    if lines.next_line() == Ok(true) {
-        out.push(b'+').ok()?;
-    }
-    Some(out)
+/// The text of the answer that is read is this one, with a `+` where a line follows.
+#[derive(Clone, Copy)]
+struct Written<'a> {
+    snapshot: &'a Snapshot,
+    due: &'a [u8],
 }
 
-/// The body of the answer that is read of a text, with another cost and another bound, and then the stops of
-/// each tour.
-fn parts(alloc: Global, snapshot: &Snapshot, bytes: &[u8]) -> Option<Vec<u8>> {
-    let mut source = source_of(alloc, bytes, 4096)?;
-    let mut lines = LineReader::new(alloc, &mut source).ok()?;
-    let stated = read_answer(alloc, &mut lines, snapshot).ok()?;
-    let mut out = Vec::new(alloc);
-    write_body(snapshot, &stated.plan, 31, 17, &mut out).ok()?;
-    for tour in stated.plan.tours() {
-        write_stops(snapshot, tour, &mut out).ok()?;
+/// Appends the text of the answer that is read. Says whether it could.
+fn puts_answer(
+    alloc: Global,
+    lines: &mut LineReader<MemorySource>,
+    snapshot: &Snapshot,
+    out: &mut Vec<u8>,
+) -> bool {
+    match read_answer(alloc, lines, snapshot) {
+        Ok(stated) => write_answer(snapshot, &stated, out).is_ok(),
+        Err(_) => false,
     }
-    Some(out)
+}
+
+impl OfLines for Written<'_> {
+    fn is_so(&self, alloc: Global, lines: &mut LineReader<MemorySource>) -> bool {
+        let mut out = Vec::new(alloc);
+        puts_answer(alloc, lines, self.snapshot, &mut out)
+            && (lines.next_line() != Ok(true) || out.push(b'+').is_ok())
+            && out.as_slice() == self.due
+    }
+}
+
+/// This is the body of the answer that is read, with another cost and another bound, and then the stops of
+/// each tour.
+#[derive(Clone, Copy)]
+struct HasParts<'a> {
+    snapshot: &'a Snapshot,
+    due: &'a [u8],
+}
+
+fn puts_parts(snapshot: &Snapshot, stated: &Stated, out: &mut Vec<u8>) -> bool {
+    if write_body(snapshot, &stated.plan, 31, 17, out).is_err() {
+        return false;
+    }
+    for tour in stated.plan.tours() {
+        if write_stops(snapshot, tour, out).is_err() {
+            return false;
+        }
+    }
+    true
+}
+
+fn has_parts(alloc: Global, snapshot: &Snapshot, stated: &Stated, due: &[u8]) -> bool {
+    let mut out = Vec::new(alloc);
+    puts_parts(snapshot, stated, &mut out) && out.as_slice() == due
+}
+
+impl OfLines for HasParts<'_> {
+    fn is_so(&self, alloc: Global, lines: &mut LineReader<MemorySource>) -> bool {
+        match read_answer(alloc, lines, self.snapshot) {
+            Ok(stated) => has_parts(alloc, self.snapshot, &stated, self.due),
+            Err(_) => false,
+        }
+    }
 }
 
 const LOOSE: &[u8] =
@@ -70,29 +104,28 @@ stop 3
 stop 4294967295 7
 ";
 
-/// Whether this is what a text was written as.
-fn is_text(written: Option<Vec<u8>>, due: &[u8]) -> bool {
-    match written {
-        Some(text) => text.as_slice() == due,
-        None => false,
-    }
+fn is_written(alloc: Global, snapshot: &Snapshot, text: &[u8], each: usize, due: &[u8]) -> bool
+    requires { 1 ≤ each }
+{
+    is_so_of(alloc, text, each, &Written { snapshot, due })
 }
 
-fn are_written(alloc: Global, snapshot: &Snapshot) -> bool {
-    is_text(written(alloc, snapshot, LOOSE, 1), WRITTEN)
-        && is_text(written(alloc, snapshot, GREATEST, 100), GREATEST_WRITTEN)
-        && is_text(parts(alloc, snapshot, LOOSE), PARTS)
+fn is_in_parts(alloc: Global, snapshot: &Snapshot, text: &[u8], due: &[u8]) -> bool {
+    is_so_of(alloc, text, 4096, &HasParts { snapshot, due })
 }
 
-fn are_written_at_noon(alloc: Global) -> bool {
-    match noon(alloc) {
-        Some(snapshot) => are_written(alloc, &snapshot),
-        None => false,
+/// Answers are read and written.
+struct AreAnswers;
+
+impl OfNoon for AreAnswers {
+    fn is_so(&self, alloc: Global, snapshot: &Snapshot) -> bool {
+        is_written(alloc, snapshot, LOOSE, 1, WRITTEN)
+            && is_written(alloc, snapshot, GREATEST, 100, GREATEST_WRITTEN)
+            && is_in_parts(alloc, snapshot, LOOSE, PARTS)
     }
 }
 
 #[test]
-fn answers_are_read_and_written(rt: HostRuntime) -> Result<(), Fail> {
-    assert!(rt; are_written_at_noon(rt.alloc()));
-    Ok(())
+fn answers_are_read_and_written(rt: HostRuntime) {
+    assert!(rt; is_so_at_noon(rt.alloc(), &AreAnswers));
 }

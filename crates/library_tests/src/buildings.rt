@@ -1,19 +1,41 @@
 //! Buildings: canonical texts that are written back.
 
-use crate::makers::source_of;
+use crate::makers::{OfLines, is_so_of};
 use building_text::{read_building, write_building};
+use byte_streams::MemorySource;
+use call_state::Building;
 use lift_text::{LineReader, put_word, put_words};
 use std::alloc::Global;
-use std::test::Fail;
 
-/// Whether a text is read and written as the same bytes, after what was written before.
-fn is_canonical(alloc: Global, text: &[u8]) -> Option<bool> {
-    let mut source = source_of(alloc, text, 7)?;
-    let mut lines = LineReader::new(alloc, &mut source).ok()?;
-    let building = read_building(alloc, &mut lines).ok()?;
-    let mut out = Vec::from_slice(alloc, b"# ").ok()?;
-    write_building(alloc, &building, &mut out).ok()?;
-    Some(out.as_slice().strip_prefix(b"# ") == Some(text))
+/// The building that is read is written as this text, after what was written before.
+#[derive(Clone, Copy)]
+struct Canonical<'a> {
+    text: &'a [u8],
+}
+
+fn is_written_behind(alloc: Global, building: &Building, out: &mut Vec<u8>, text: &[u8]) -> bool {
+    write_building(alloc, building, out).is_ok() && out.as_slice().strip_prefix(b"# ") == Some(text)
+}
+
+fn is_written(alloc: Global, building: &Building, text: &[u8]) -> bool {
+    match Vec::from_slice(alloc, b"# ") {
+        Ok(mut out) => is_written_behind(alloc, building, &mut out, text),
+        Err(_) => false,
+    }
+}
+
+impl OfLines for Canonical<'_> {
+    fn is_so(&self, alloc: Global, lines: &mut LineReader<MemorySource>) -> bool {
+        match read_building(alloc, lines) {
+            Ok(building) => is_written(alloc, &building, self.text),
+            Err(_) => false,
+        }
+    }
+}
+
+/// Whether a text is read and written as the same bytes.
+fn is_canonical(alloc: Global, text: &[u8]) -> bool {
+    is_so_of(alloc, text, 7, &Canonical { text })
 }
 
 const FIRST: &[u8] = b"building 1
@@ -66,32 +88,30 @@ fn put_car(car: u64, out: &mut Vec<u8>) -> Option<()> {
     Some(())
 }
 
-/// The text of the largest building: 64 floors, 64 lines of times, 16 cars.
-fn largest(alloc: Global) -> Option<Vec<u8>> {
-    let mut out = Vec::from_slice(alloc, GREATEST).ok()?;
+/// Appends what stands behind the head of the largest building: 64 floors, 64 lines of times, 16 cars.
+fn put_largest(out: &mut Vec<u8>) -> Option<()> {
     for floor in 0..64u64 {
-        put_word(&mut out, floor * 15_873).ok()?;
+        put_word(out, floor * 15_873).ok()?;
     }
     for from in 0..64u64 {
-        put_times(from, &mut out)?;
+        put_times(from, out)?;
     }
     for car in 0..16u64 {
-        put_car(car, &mut out)?;
+        put_car(car, out)?;
     }
-    out.extend_from_slice(b"\nend\n").ok()?;
-    Some(out)
+    out.extend_from_slice(b"\nend\n").ok()
 }
 
-fn largest_is_canonical(alloc: Global) -> Option<bool> {
-    let text = largest(alloc)?;
-    is_canonical(alloc, text.as_slice())
+fn largest_is_canonical(alloc: Global) -> bool {
+    match Vec::from_slice(alloc, GREATEST) {
+        Ok(mut out) => put_largest(&mut out).is_some() && is_canonical(alloc, out.as_slice()),
+        Err(_) => false,
+    }
 }
 
 #[test]
-fn canonical_texts_are_written_back(rt: HostRuntime) -> Result<(), Fail> {
-    let alloc = rt.alloc();
-    assert!(rt; is_canonical(alloc, FIRST) == Some(true));
-    assert!(rt; is_canonical(alloc, THIRD) == Some(true));
-    assert!(rt; largest_is_canonical(alloc) == Some(true));
-    Ok(())
+fn canonical_texts_are_written_back(rt: HostRuntime) {
+    assert!(rt; is_canonical(rt.alloc(), FIRST));
+    assert!(rt; is_canonical(rt.alloc(), THIRD));
+    assert!(rt; largest_is_canonical(rt.alloc()));
 }

@@ -1,30 +1,41 @@
-//! Certificates: what is read of a text and written again, and what comes twig by twig, also after a bad
-//! line.
+//! Certificates: what is read of a text and written again, and what comes twig by twig.
 
 ghost use Rattle.std.specs.Prelude.{◌≤◌};
 
-use crate::makers::{noon, source_of};
-use byte_streams::{MemorySource, Source};
+use crate::makers::{OfLines, OfNoon, is_so_at_noon, is_so_of, is_so_over};
+use byte_streams::MemorySource;
 use call_state::Snapshot;
 use cert_text::{TreeReader, read_cert, write_cert};
 use lift_text::{LineReader, TextFault};
 use std::alloc::Global;
-use std::test::Fail;
 
-/// The text of the certificate that is read of this one, which comes in pieces, and a `+` where a line
-/// follows.
-fn written(alloc: Global, snapshot: &Snapshot, bytes: &[u8], each: usize) -> Option<Vec<u8>>
-    requires { 1 ≤ each }
-{
-    let mut source = source_of(alloc, bytes, each)?;
-    let mut lines = LineReader::new(alloc, &mut source).ok()?;
-    let tree = read_cert(alloc, &mut lines, snapshot).ok()?;
-    let mut out = Vec::new(alloc);
-    write_cert(snapshot, tree.as_slice(), &mut out).ok()?;
-    if lines.next_line() == Ok(true) {
-        out.push(b'+').ok()?;
+/// The text of the certificate that is read is this one, with a `+` where a line follows.
+#[derive(Clone, Copy)]
+struct Written<'a> {
+    snapshot: &'a Snapshot,
+    due: &'a [u8],
+}
+
+/// Appends the text of the certificate that is read. Says whether it could.
+fn puts_tree(
+    alloc: Global,
+    lines: &mut LineReader<MemorySource>,
+    snapshot: &Snapshot,
+    out: &mut Vec<u8>,
+) -> bool {
+    match read_cert(alloc, lines, snapshot) {
+        Ok(tree) => write_cert(snapshot, tree.as_slice(), out).is_ok(),
+        Err(_) => false,
     }
-    Some(out)
+}
+
+impl OfLines for Written<'_> {
+    fn is_so(&self, alloc: Global, lines: &mut LineReader<MemorySource>) -> bool {
+        let mut out = Vec::new(alloc);
+        puts_tree(alloc, lines, self.snapshot, &mut out)
+            && (lines.next_line() != Ok(true) || out.push(b'+').is_ok())
+            && out.as_slice() == self.due
+    }
 }
 
 /// What a reader says where it hands out no twig.
@@ -33,52 +44,72 @@ enum Last {
     Twig,
     End,
     Bad { line: u64, code: u8 },
+    Failed,
     Other,
 }
 
-fn next<S: Source>(
+fn next(
     reader: &mut TreeReader,
-    lines: &mut LineReader<S>,
+    lines: &mut LineReader<MemorySource>,
     snapshot: &Snapshot,
 ) -> Last {
     match reader.next(lines, snapshot) {
         Ok(Some(_)) => Last::Twig,
         Ok(None) => Last::End,
         Err(TextFault::Bad { line, code }) => Last::Bad { line, code },
+        Err(TextFault::Read) => Last::Failed,
         Err(_) => Last::Other,
     }
 }
 
-/// How many twigs are handed out, and what is said then, where the call after it says the same.
-fn handed_out(alloc: Global, snapshot: &Snapshot, bytes: &[u8]) -> Option<(u64, Last)> {
-    let mut source = source_of(alloc, bytes, 1)?;
-    let mut lines = LineReader::new(alloc, &mut source).ok()?;
-    let mut reader = TreeReader::begin(alloc, &mut lines).ok()?;
-    for twigs in 0..100 {
-        let last = next(&mut reader, &mut lines, snapshot);
-        if last != Last::Twig {
-            let again = next(&mut reader, &mut lines, snapshot);
-            return if again == last {
-                Some((twigs, last))
-            } else {
-                None
-            };
-        }
-    }
-    None
+/// So many twigs are handed out, and then this is said, and said again by the call after it.
+#[derive(Clone, Copy)]
+struct HandsOut<'a> {
+    snapshot: &'a Snapshot,
+    twigs: u64,
+    last: Last,
 }
 
-/// Whether a certificate whose 28th read fails, in its third line, hands out its split, and fails from then
-/// on.
-fn fails_for_good(alloc: Global, snapshot: &Snapshot) -> Option<bool> {
+impl HandsOut<'_> {
+    fn is_by(&self, reader: &mut TreeReader, lines: &mut LineReader<MemorySource>) -> bool {
+        for _ in 0..self.twigs {
+            if next(reader, lines, self.snapshot) != Last::Twig {
+                return false;
+            }
+        }
+        next(reader, lines, self.snapshot) == self.last
+            && next(reader, lines, self.snapshot) == self.last
+    }
+}
+
+impl OfLines for HandsOut<'_> {
+    fn is_so(&self, alloc: Global, lines: &mut LineReader<MemorySource>) -> bool {
+        match TreeReader::begin(alloc, lines) {
+            Ok(mut reader) => self.is_by(&mut reader, lines),
+            Err(_) => false,
+        }
+    }
+}
+
+/// A source whose 28th read fails, in the third line of a certificate.
+fn failing_source(alloc: Global) -> Option<MemorySource> {
     let bytes = Vec::from_slice(alloc, b"certificate 1\nsplit 22 7\nleaf\nleaf\nend\n").ok()?;
-    let mut source = MemorySource::new(bytes, 1, Vec::from_slice(alloc, &[28]).ok()?);
-    let mut lines = LineReader::new(alloc, &mut source).ok()?;
-    let mut reader = TreeReader::begin(alloc, &mut lines).ok()?;
-    let first = matches!(reader.next(&mut lines, snapshot), Ok(Some(_)));
-    let second = matches!(reader.next(&mut lines, snapshot), Err(TextFault::Read));
-    let third = matches!(reader.next(&mut lines, snapshot), Err(TextFault::Read));
-    Some(first && second && third)
+    let failing = Vec::from_slice(alloc, &[28]).ok()?;
+    Some(MemorySource::new(bytes, 1, failing))
+}
+
+/// Whether this certificate hands out its split, and fails from then on.
+fn fails_for_good(alloc: Global, snapshot: &Snapshot) -> bool {
+    let (twigs, last) = (1, Last::Failed);
+    let split = HandsOut {
+        snapshot,
+        twigs,
+        last,
+    };
+    match failing_source(alloc) {
+        Some(mut source) => is_so_over(alloc, &mut source, &split),
+        None => false,
+    }
 }
 
 const LOOSE: &[u8] = b"# a\ncertificate 01\n\nsplit 22 3 07 3\nleaf # b\nworth 3 -0 1\nprice 4 -0007
@@ -116,25 +147,23 @@ const LONE: &[u8] = b"certificate 1\nleaf\nprice 22 -1000000000000000000000000\n
 
 const LONE_WRITTEN: &[u8] = b"certificate 1\nleaf\nprice 22 -1000000000000000000000000\nend\n";
 
-/// Whether this is what a text was written as.
-fn is_text(written: Option<Vec<u8>>, due: &[u8]) -> bool {
-    match written {
-        Some(text) => text.as_slice() == due,
-        None => false,
-    }
+fn is_written(alloc: Global, snapshot: &Snapshot, text: &[u8], each: usize, due: &[u8]) -> bool
+    requires { 1 ≤ each }
+{
+    is_so_of(alloc, text, each, &Written { snapshot, due })
 }
 
 fn are_written(alloc: Global, snapshot: &Snapshot) -> bool {
-    is_text(written(alloc, snapshot, LOOSE, 1), WRITTEN)
-        && is_text(written(alloc, snapshot, DEEP, 7), DEEP)
-        && is_text(written(alloc, snapshot, LONE, 100), LONE_WRITTEN)
+    is_written(alloc, snapshot, LOOSE, 1, WRITTEN)
+        && is_written(alloc, snapshot, DEEP, 7, DEEP)
+        && is_written(alloc, snapshot, LONE, 100, LONE_WRITTEN)
 }
 
 fn bad(line: u64, code: u8) -> Last {
     Last::Bad { line, code }
 }
 
-/// Whether each text gives this many twigs, and then this.
+/// Whether each text gives so many twigs, and then this.
 fn come_one_by_one(alloc: Global, snapshot: &Snapshot) -> bool {
     let deep: &[u8] = b"certificate 1\nsplit 22\nsplit 7 3\nleaf\nprice 4 1\nleaf\nleaf\nend";
     let table: [(&[u8], u64, Last); 6] = [
@@ -146,27 +175,30 @@ fn come_one_by_one(alloc: Global, snapshot: &Snapshot) -> bool {
         (b"certificate 1\nsplit 22\nleaf\nleaf\nleaf", 2, bad(5, 8)),
     ];
     for (bytes, twigs, last) in table {
-        if handed_out(alloc, snapshot, bytes) != Some((twigs, last)) {
+        let asked = HandsOut {
+            snapshot,
+            twigs,
+            last,
+        };
+        if !is_so_of(alloc, bytes, 1, &asked) {
             return false;
         }
     }
     true
 }
 
-/// Whether all of this is so of the snapshot with the three calls.
-fn are_so(alloc: Global) -> bool {
-    match noon(alloc) {
-        Some(snapshot) => {
-            are_written(alloc, &snapshot)
-                && come_one_by_one(alloc, &snapshot)
-                && fails_for_good(alloc, &snapshot) == Some(true)
-        }
-        None => false,
+/// Certificates are written, come twig by twig, and fail for good.
+struct AreCertificates;
+
+impl OfNoon for AreCertificates {
+    fn is_so(&self, alloc: Global, snapshot: &Snapshot) -> bool {
+        are_written(alloc, snapshot)
+            && come_one_by_one(alloc, snapshot)
+            && fails_for_good(alloc, snapshot)
     }
 }
 
 #[test]
-fn certificates_are_written_and_come_twig_by_twig(rt: HostRuntime) -> Result<(), Fail> {
-    assert!(rt; are_so(rt.alloc()));
-    Ok(())
+fn certificates_are_written_and_come_twig_by_twig(rt: HostRuntime) {
+    assert!(rt; is_so_at_noon(rt.alloc(), &AreCertificates));
 }

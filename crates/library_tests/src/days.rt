@@ -5,6 +5,7 @@ ghost use Rattle.std.specs.Prelude.{IfOk};
 ghost use Rattle.day_simulator.specs.Planning.{IsRightPlan};
 ghost use Rattle.day_simulator.specs.Rows.{stated_of};
 
+use crate::makers::{OfLines, is_so_of};
 use byte_streams::{MemorySink, MemorySource};
 use call_state::Snapshot;
 use day_runner::{Ended, run_day_text};
@@ -13,31 +14,32 @@ use lift_text::LineReader;
 use plain_solver::cheapest_plan;
 use search_model::Served;
 use std::alloc::{AllocError, Global};
-use std::test::Fail;
 
 /// A right plan of the snapshot.
 fn planned(alloc: Global, snapshot: &Snapshot) -> Result<Planned, AllocError>
     ensures { IfOk result (λ planned. IsRightPlan snapshot.now (stated_of planned)) }
 {
+    let proof = Vec::from_slice(alloc, b"as proved\n")?;
     let cheapest = cheapest_plan(alloc, snapshot)?;
     let bound = cheapest.cost.saturating_sub(1);
     Ok(Planned {
         plan: cheapest.plan,
         cost: cheapest.cost,
         bound,
-        proof: Vec::from_slice(alloc, b"as proved\n")?,
+        proof,
     })
 }
 
-/// How the day ends, where a read gives 11 bytes.
-fn ended(alloc: Global, text: &[u8], sink: &mut MemorySink) -> Option<Ended> {
-    let bytes = Vec::from_slice(alloc, text).ok()?;
-    let mut source = MemorySource::new(bytes, 11, Vec::new(alloc));
-    let mut lines = LineReader::new(alloc, &mut source).ok()?;
+/// How the day of these lines ends.
+fn ended(
+    alloc: Global,
+    lines: &mut LineReader<MemorySource>,
+    sink: &mut MemorySink,
+) -> Option<Ended> {
     let plan = |snapshot: &Snapshot|
         ensures { IfOk result (λ planned. IsRightPlan snapshot.now (stated_of planned)) }
     { planned(alloc, snapshot) };
-    run_day_text(alloc, &plan, &mut lines, sink).ok()
+    run_day_text(alloc, &plan, lines, sink).ok()
 }
 
 const DAY: &[u8] = b"building 1
@@ -66,35 +68,40 @@ end
 # stopped 1
 ";
 
-/// The one call that is served.
-const SERVED: Served = Served {
-    call: 1,
-    released: 0,
-    boarded: 1000,
-    delivered: 7500,
-};
+/// Whether this is the one call that is served.
+fn is_served(served: &Served) -> bool {
+    served.call == 1 && served.released == 0 && served.boarded == 1000 && served.delivered == 7500
+}
 
 /// Whether the one call was served so, and the row has a bound below its cost.
 fn is_due(end: &Ended) -> bool {
-    end.unsolved == 1 && end.served.as_slice() == [SERVED].as_slice()
+    match end.served.as_slice() {
+        [served] => end.unsolved == 1 && is_served(served),
+        _ => false,
+    }
 }
 
 /// Whether the day ends so.
-fn ends(alloc: Global, sink: &mut MemorySink) -> bool {
-    match ended(alloc, DAY, sink) {
+fn ends(alloc: Global, lines: &mut LineReader<MemorySource>, sink: &mut MemorySink) -> bool {
+    match ended(alloc, lines, sink) {
         Some(end) => is_due(&end),
         None => false,
     }
 }
 
-fn is_written(alloc: Global) -> Option<bool> {
-    let mut sink = MemorySink::new(alloc, 4096, 5, Vec::new(alloc)).ok()?;
-    let is_served = ends(alloc, &mut sink);
-    Some(is_served && sink.taken() == LOG)
+/// The day ends so, and its log is written.
+struct IsWritten;
+
+impl OfLines for IsWritten {
+    fn is_so(&self, alloc: Global, lines: &mut LineReader<MemorySource>) -> bool {
+        match MemorySink::new(alloc, 4096, 5, Vec::new(alloc)) {
+            Ok(mut sink) => ends(alloc, lines, &mut sink) && sink.taken() == LOG,
+            Err(_) => false,
+        }
+    }
 }
 
 #[test]
-fn a_proof_in_place_of_the_plan(rt: HostRuntime) -> Result<(), Fail> {
-    assert!(rt; is_written(rt.alloc()) == Some(true));
-    Ok(())
+fn a_proof_in_place_of_the_plan(rt: HostRuntime) {
+    assert!(rt; is_so_of(rt.alloc(), DAY, 11, &IsWritten));
 }

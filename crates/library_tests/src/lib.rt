@@ -1,9 +1,9 @@
 //! Tests of what no whole command shows: texts that are written again, what stays unread, certificates twig
-//! by twig and at once, a day with another planner, and workers side by side. They are apart from the crates
-//! that they test, since a crate with tests is proved twice.
+//! by twig and at once, a day with another planner, and workers side by side. They stand apart from what they
+//! test, since a crate with tests is proved twice.
 //!
-//! A helper that answers an `Option` has none when out of memory, or where a text is refused, so that its
-//! test fails.
+//! A helper that answers a `bool` says no, and one that answers an `Option` has none, where there is no
+//! memory or a text is refused, so that its test fails.
 #![tactic(auto)]
 
 #[cfg(test)]

@@ -1,9 +1,10 @@
-//! What several of the tests read from.
+//! What several of the tests read from. Sources, readers and the snapshot are made, lent and let go here, so
+//! that no test owns one: each exit of a function repeats the drops of what it owns.
 
 ghost use Rattle.std.specs.Prelude.{◌≤◌};
 
 use building_text::read_building;
-use byte_streams::{MemorySource, SureSource};
+use byte_streams::{MemorySource, Source, SureSource};
 use call_state::{Building, Snapshot};
 use case_kit::snapshot_in;
 use lift_text::LineReader;
@@ -40,21 +41,68 @@ end
 ";
 
 /// A source that gives these bytes in pieces.
-pub(crate) fn source_of(alloc: Global, bytes: &[u8], each: usize) -> Option<MemorySource>
+fn source_of(alloc: Global, bytes: &[u8], each: usize) -> Option<MemorySource>
     requires { 1 ≤ each }
 {
     let bytes = Vec::from_slice(alloc, bytes).ok()?;
     Some(MemorySource::new(bytes, each, Vec::new(alloc)))
 }
 
-/// The building.
-pub(crate) fn house(alloc: Global) -> Option<Building> {
-    let mut source = SureSource::new(Vec::from_slice(alloc, HOUSE).ok()?);
-    let mut lines = LineReader::new(alloc, &mut source).ok()?;
-    read_building(alloc, &mut lines).ok()
+/// What is asked of the lines of a text.
+pub(crate) trait OfLines {
+    fn is_so(&self, alloc: Global, lines: &mut LineReader<MemorySource>) -> bool;
 }
 
-/// The snapshot with the three calls.
-pub(crate) fn noon(alloc: Global) -> Option<Snapshot> {
-    snapshot_in(alloc, NOON)
+/// Whether it is so of the lines of the source.
+pub(crate) fn is_so_over<A: OfLines>(alloc: Global, source: &mut MemorySource, asked: &A) -> bool {
+    match LineReader::new(alloc, source) {
+        Ok(mut lines) => asked.is_so(alloc, &mut lines),
+        Err(_) => false,
+    }
+}
+
+/// Whether it is so of the lines of these bytes, which come in pieces.
+pub(crate) fn is_so_of<A: OfLines>(alloc: Global, bytes: &[u8], each: usize, asked: &A) -> bool
+    requires { 1 ≤ each }
+{
+    match source_of(alloc, bytes, each) {
+        Some(mut source) => is_so_over(alloc, &mut source, asked),
+        None => false,
+    }
+}
+
+/// The words of the next line, and none where there is no line.
+pub(crate) fn words_behind<S: Source>(lines: &mut LineReader<S>) -> u32 {
+    match lines.next_line() {
+        Ok(true) => lines.words(),
+        _ => 0,
+    }
+}
+
+fn house_in(alloc: Global, source: &mut SureSource) -> Option<Building> {
+    match LineReader::new(alloc, source) {
+        Ok(mut lines) => read_building(alloc, &mut lines).ok(),
+        Err(_) => None,
+    }
+}
+
+/// The building.
+pub(crate) fn house(alloc: Global) -> Option<Building> {
+    match Vec::from_slice(alloc, HOUSE) {
+        Ok(bytes) => house_in(alloc, &mut SureSource::new(bytes)),
+        Err(_) => None,
+    }
+}
+
+/// What is asked of the snapshot with the three calls.
+pub(crate) trait OfNoon {
+    fn is_so(&self, alloc: Global, snapshot: &Snapshot) -> bool;
+}
+
+/// Whether it is so of the snapshot with the three calls.
+pub(crate) fn is_so_at_noon<A: OfNoon>(alloc: Global, asked: &A) -> bool {
+    match snapshot_in(alloc, NOON) {
+        Some(snapshot) => asked.is_so(alloc, &snapshot),
+        None => false,
+    }
 }

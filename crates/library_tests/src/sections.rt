@@ -1,11 +1,10 @@
 //! A small section, read in pieces, and the lists of numbers of a line.
 
-use crate::makers::source_of;
-use byte_streams::{Source, SureSource};
+use crate::makers::{OfLines, is_so_of, words_behind};
+use byte_streams::{MemorySource, Source};
 use lift_text::{LineReader, TextFault};
 use std::alloc::Global;
 use std::marker::Model;
-use std::test::Fail;
 use text_sections::{
     LineFault, Section, TextCode, Turn, exactly, is_word, number, numbers, read_section,
 };
@@ -77,24 +76,35 @@ fn times<S: Source>(lines: &LineReader<S>) -> Result<u64, TextCode>
     }
 }
 
-/// What is read of the section, and the words of the line after it.
-fn read<S: Source>(alloc: Global, source: &mut S) -> Result<(Result<u64, TextFault>, u32), Fail> {
-    let mut lines = LineReader::new(alloc, source)?;
+/// What is read of the section.
+fn read(lines: &mut LineReader<MemorySource>) -> Result<u64, TextFault> {
     let mut sample = Sample { state: 0 };
-    let answer = read_section(&mut lines, &mut sample);
-    let behind = match lines.next_line() {
-        Ok(true) => lines.words(),
-        _ => 0,
-    };
-    match answer {
-        Ok(()) => Ok((Ok(sample.state), behind)),
-        Err(fault) => Ok((Err(fault), behind)),
+    match read_section(lines, &mut sample) {
+        Ok(()) => Ok(sample.state),
+        Err(fault) => Err(fault),
     }
 }
 
+/// This is read of the section, and so many words stand in the line behind it.
+#[derive(Clone, Copy)]
+struct IsRead {
+    want: Result<u64, TextFault>,
+    behind: u32,
+}
+
+impl OfLines for IsRead {
+    fn is_so(&self, _alloc: Global, lines: &mut LineReader<MemorySource>) -> bool {
+        read(lines) == self.want && words_behind(lines) == self.behind
+    }
+}
+
+/// Whether it is so of this text in pieces of any size.
+fn is_read(alloc: Global, bytes: &[u8], asked: &IsRead) -> bool {
+    is_so_of(alloc, bytes, 1, asked) && is_so_of(alloc, bytes, 100, asked)
+}
+
 #[test]
-fn sections_are_read_in_any_pieces(rt: HostRuntime) -> Result<(), Fail> {
-    let alloc = rt.alloc();
+fn sections_are_read_in_any_pieces(rt: HostRuntime) {
     let bad = |line, code| Err(TextFault::Bad { line, code });
     let table: [(&[u8], Result<u64, TextFault>, u32); 11] = [
         (
@@ -114,26 +124,30 @@ fn sections_are_read_in_any_pieces(rt: HostRuntime) -> Result<(), Fail> {
         (b"set 1 once\n\x01\n", bad(2, 1), 0),
     ];
     for (bytes, want, behind) in table {
-        for each in [1usize, 100] {
-            assert!(rt; each >= 1);
-            let mut source = source_of(alloc, bytes, each).ok_or("memory")?;
-            let (answer, words) = read(alloc, &mut source)?;
-            assert!(rt; answer == want);
-            assert!(rt; words == behind);
+        assert!(rt; is_read(rt.alloc(), bytes, &IsRead { want, behind }));
+    }
+}
+
+/// Whether three numbers of the line are appended behind one, and with a lower limit refused.
+fn appends(lines: &LineReader<MemorySource>, out: &mut Vec<u64>) -> bool {
+    numbers(lines, 1, 3, 7, out) == Ok(())
+        && out.as_slice() == [2, 7, 5, 3].as_slice()
+        && numbers(lines, 1, 3, 6, out) == Err(LineFault::Bad(7))
+}
+
+/// This is so of the next line.
+struct HasThreeNumbers;
+
+impl OfLines for HasThreeNumbers {
+    fn is_so(&self, alloc: Global, lines: &mut LineReader<MemorySource>) -> bool {
+        match Vec::from_slice(alloc, &[2]) {
+            Ok(mut out) => lines.next_line() == Ok(true) && appends(lines, &mut out),
+            Err(_) => false,
         }
     }
-    Ok(())
 }
 
 #[test]
-fn several_numbers_are_appended(rt: HostRuntime) -> Result<(), Fail> {
-    let alloc = rt.alloc();
-    let mut source = SureSource::new(Vec::from_slice(alloc, b"x 7 005 3")?);
-    let mut lines = LineReader::new(alloc, &mut source)?;
-    assert!(rt; lines.next_line() == Ok(true));
-    let mut out = Vec::from_slice(alloc, &[2])?;
-    assert!(rt; numbers(&lines, 1, 3, 7, &mut out) == Ok(()));
-    assert!(rt; out.as_slice() == [2, 7, 5, 3].as_slice());
-    assert!(rt; numbers(&lines, 1, 3, 6, &mut out) == Err(LineFault::Bad(7)));
-    Ok(())
+fn several_numbers_are_appended(rt: HostRuntime) {
+    assert!(rt; is_so_of(rt.alloc(), b"x 7 005 3", 4096, &HasThreeNumbers));
 }

@@ -1,26 +1,27 @@
 //! Snapshots: what is read of a text and written again, and what stays unread.
 
-ghost use Rattle.std.specs.Prelude.{◌≤◌};
-
-use crate::makers::{house, source_of};
-use byte_streams::Source;
-use call_state::Snapshot;
+use crate::makers::{OfLines, house, is_so_of, words_behind};
+use byte_streams::MemorySource;
+use call_state::{Building, Snapshot};
 use lift_text::LineReader;
 use snapshot_text::{read_opening, read_snapshot, write_snapshot};
 use std::alloc::Global;
-use std::test::Fail;
 
-/// The words of the next line, and none where there is no line.
-fn words_behind<S: Source>(lines: &mut LineReader<S>) -> u32 {
-    match lines.next_line() {
-        Ok(true) => lines.words(),
-        _ => 0,
-    }
+/// The text of the snapshot that is read is this one, and so many words stand in the line behind it.
+#[derive(Clone, Copy)]
+struct Written {
+    is_opening: bool,
+    due: &'static [u8],
+    behind: u32,
 }
 
 /// What is read of the lines of a snapshot, or of an opening one.
-fn read<S: Source>(alloc: Global, lines: &mut LineReader<S>, is_opening: bool) -> Option<Snapshot> {
-    let building = house(alloc)?;
+fn read(
+    alloc: Global,
+    lines: &mut LineReader<MemorySource>,
+    building: Building,
+    is_opening: bool,
+) -> Option<Snapshot> {
     if is_opening {
         read_opening(alloc, lines, building).ok()
     } else {
@@ -28,50 +29,38 @@ fn read<S: Source>(alloc: Global, lines: &mut LineReader<S>, is_opening: bool) -
     }
 }
 
-/// The text of a snapshot.
-fn text_of(alloc: Global, snapshot: &Snapshot) -> Option<Vec<u8>> {
-    let mut out = Vec::new(alloc);
-    write_snapshot(snapshot, &mut out).ok()?;
-    Some(out)
+/// The same in the building of the tests.
+fn read_in_house(
+    alloc: Global,
+    lines: &mut LineReader<MemorySource>,
+    is_opening: bool,
+) -> Option<Snapshot> {
+    match house(alloc) {
+        Some(building) => read(alloc, lines, building, is_opening),
+        None => None,
+    }
 }
 
 /// Whether this is the text of the snapshot.
 fn has_text(alloc: Global, snapshot: &Snapshot, due: &[u8]) -> bool {
-    match text_of(alloc, snapshot) {
-        Some(text) => text.as_slice() == due,
-        None => false,
+    let mut out = Vec::new(alloc);
+    write_snapshot(snapshot, &mut out).is_ok() && out.as_slice() == due
+}
+
+impl Written {
+    /// Whether a snapshot is read that has this text.
+    fn is_read(&self, alloc: Global, lines: &mut LineReader<MemorySource>) -> bool {
+        match read_in_house(alloc, lines, self.is_opening) {
+            Some(snapshot) => has_text(alloc, &snapshot, self.due),
+            None => false,
+        }
     }
 }
 
-/// Whether a snapshot is read that has this text.
-fn reads_text<S: Source>(
-    alloc: Global,
-    lines: &mut LineReader<S>,
-    is_opening: bool,
-    due: &[u8],
-) -> bool {
-    match read(alloc, lines, is_opening) {
-        Some(snapshot) => has_text(alloc, &snapshot, due),
-        None => false,
+impl OfLines for Written {
+    fn is_so(&self, alloc: Global, lines: &mut LineReader<MemorySource>) -> bool {
+        self.is_read(alloc, lines) && words_behind(lines) == self.behind
     }
-}
-
-/// Whether the snapshot that is read of a text, which comes in pieces, is written so, and whether this many
-/// words stand in the line after it.
-fn is_written(
-    alloc: Global,
-    bytes: &[u8],
-    each: usize,
-    is_opening: bool,
-    due: &[u8],
-    behind: u32,
-) -> Option<bool>
-    requires { 1 ≤ each }
-{
-    let mut source = source_of(alloc, bytes, each)?;
-    let mut lines = LineReader::new(alloc, &mut source).ok()?;
-    let is_text = reads_text(alloc, &mut lines, is_opening, due);
-    Some(is_text && words_behind(&mut lines) == behind)
 }
 
 const LOOSE: &[u8] = b"# a\nsnapshot 01\n\nnow 5000\ncar 3 coming 2 7000\ncar 7 idle 1 5000 # b
@@ -93,10 +82,19 @@ const MOVING_WRITTEN: &[u8] =
     b"snapshot 2\nnow 5000\ncar 7 moving 3 down 4700\ncar 3 idle 0 5001\nend\n";
 
 #[test]
-fn snapshots_are_read_and_written(rt: HostRuntime) -> Result<(), Fail> {
-    let alloc = rt.alloc();
-    assert!(rt; is_written(alloc, LOOSE, 1, false, WRITTEN, 2) == Some(true));
-    assert!(rt; is_written(alloc, WRITTEN, 100, false, WRITTEN, 0) == Some(true));
-    assert!(rt; is_written(alloc, MOVING, 3, true, MOVING_WRITTEN, 0) == Some(true));
-    Ok(())
+fn snapshots_are_read_and_written(rt: HostRuntime) {
+    let loose = Written {
+        is_opening: false,
+        due: WRITTEN,
+        behind: 2,
+    };
+    let canonical = Written { behind: 0, ..loose };
+    let moving = Written {
+        is_opening: true,
+        due: MOVING_WRITTEN,
+        behind: 0,
+    };
+    assert!(rt; is_so_of(rt.alloc(), LOOSE, 1, &loose));
+    assert!(rt; is_so_of(rt.alloc(), WRITTEN, 100, &canonical));
+    assert!(rt; is_so_of(rt.alloc(), MOVING, 3, &moving));
 }

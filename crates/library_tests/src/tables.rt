@@ -1,26 +1,38 @@
 //! Tables of travel times: what is read of the lines, and the first three floors that break the triangle
 //! inequality.
 
-use crate::makers::source_of;
+use crate::makers::{OfLines, is_so_of};
+use byte_streams::MemorySource;
 use lift_text::LineReader;
 use motion_table::{Triple, judge_table, read_times};
 use std::alloc::Global;
-use std::test::Fail;
 
-/// Whether these are the times of the table, after which a line with one word stands.
-fn has_times(alloc: Global, text: &[u8], due: &[u64]) -> Option<bool> {
-    let mut source = source_of(alloc, text, 1)?;
-    let mut lines = LineReader::new(alloc, &mut source).ok()?;
-    let times = read_times(alloc, &mut lines, None).ok()?;
-    let is_unread = lines.next_line() == Ok(true) && lines.words() == 1;
-    Some(is_unread && times.as_slice() == due)
+/// These are the times of the table, and a line with one word stands behind it.
+#[derive(Clone, Copy)]
+struct HasTimes {
+    due: [u64; 4],
+}
+
+impl HasTimes {
+    fn is_read(&self, alloc: Global, lines: &mut LineReader<MemorySource>) -> bool {
+        match read_times(alloc, lines, None) {
+            Ok(times) => times.as_slice() == self.due.as_slice(),
+            Err(_) => false,
+        }
+    }
+}
+
+impl OfLines for HasTimes {
+    fn is_so(&self, alloc: Global, lines: &mut LineReader<MemorySource>) -> bool {
+        self.is_read(alloc, lines) && lines.next_line() == Ok(true) && lines.words() == 1
+    }
 }
 
 #[test]
-fn a_table_is_read(rt: HostRuntime) -> Result<(), Fail> {
+fn a_table_is_read(rt: HostRuntime) {
     let text = b"times 0 5000\n#\ntimes 4999 0\nend";
-    assert!(rt; has_times(rt.alloc(), text, &[0, 5000, 4999, 0]) == Some(true));
-    Ok(())
+    let due = [0, 5000, 4999, 0];
+    assert!(rt; is_so_of(rt.alloc(), text, 1, &HasTimes { due }));
 }
 
 /// Whether the first three floors that break the inequality are 0, 1 and 2.

@@ -1,5 +1,6 @@
 //! Certificates that are read whole and checked at once, not piece by piece as the program does.
 
+use crate::makers::{OfLines, is_so_of};
 use answer_text::read_answer;
 use byte_streams::{MemorySource, OpenGate};
 use call_state::Snapshot;
@@ -7,52 +8,31 @@ use case_text::read_case;
 use cert_checker::{check, have_sized_worths};
 use cert_text::read_cert;
 use lift_text::LineReader;
-use search_model::{Items, Reason, Stated, Twig, Verdict};
+use search_model::{Reason, Stated, Twig, Verdict};
 use std::alloc::Global;
-use std::test::Fail;
+use std::marker::Sync;
 use std::thread::Threads;
 
 /// A case, an answer and a certificate, as they were read.
-#[derive(Drop)]
-struct Certified {
-    snapshot: Snapshot,
-    stated: Stated,
-    tree: Items<Twig>,
+#[derive(Clone, Copy)]
+struct Certified<'a> {
+    snapshot: &'a Snapshot,
+    stated: &'a Stated,
+    twigs: &'a [Twig],
 }
 
-fn read(alloc: Global, text: &[u8]) -> Option<Certified> {
-    let bytes = Vec::from_slice(alloc, text).ok()?;
-    let mut source = MemorySource::new(bytes, 4096, Vec::new(alloc));
-    let mut lines = LineReader::new(alloc, &mut source).ok()?;
-    let snapshot = read_case(alloc, &mut lines).ok()?;
-    let answer = read_answer(alloc, &mut lines, &snapshot).ok()?;
-    let tree = read_cert(alloc, &mut lines, &snapshot).ok()?;
-    lines.into_source();
-    let stated = Stated {
-        plan: answer.plan,
-        cost: answer.cost,
-        bound: answer.bound,
-    };
-    Some(Certified {
-        snapshot,
-        stated,
-        tree,
-    })
-}
-
-/// The verdict of this many workers.
+/// The verdict of so many workers.
 fn verdict(
     rt: &(impl Threads + Sync),
     alloc: Global,
-    certified: &Certified,
+    certified: Certified,
     workers: u32,
 ) -> Option<Verdict> {
     let Certified {
         snapshot,
         stated,
-        tree,
+        twigs,
     } = certified;
-    let twigs = tree.as_slice();
     let cars = snapshot.building().cars().len();
     let fits = twigs.len() < 1000 && have_sized_worths(twigs) && stated.plan.tours().len() == cars;
     if !fits || workers < 1 || workers > 16 {
@@ -127,11 +107,11 @@ fn is_under_in_the_second_leaf(said: &Option<Verdict>) -> bool {
     )
 }
 
-/// Whether this many workers have this verdict.
+/// Whether so many workers have this verdict.
 fn is_checked(
     rt: &(impl Threads + Sync),
     alloc: Global,
-    certified: &Certified,
+    certified: Certified,
     workers: u32,
     wanted: Wanted,
 ) -> bool {
@@ -139,11 +119,11 @@ fn is_checked(
     wanted.is(&said)
 }
 
-/// Whether each number of workers has this verdict on the text.
+/// Whether each number of workers has this verdict.
 fn are_checked(
     rt: &(impl Threads + Sync),
     alloc: Global,
-    certified: &Certified,
+    certified: Certified,
     wanted: Wanted,
 ) -> bool {
     for workers in [1, 2, 3, 16] {
@@ -154,17 +134,68 @@ fn are_checked(
     true
 }
 
-fn text_is_checked(rt: &(impl Threads + Sync), alloc: Global, text: &[u8], wanted: Wanted) -> bool {
-    match read(alloc, text) {
-        Some(certified) => are_checked(rt, alloc, &certified, wanted),
-        None => false,
+/// Whether each has it on a case, an answer and the certificate that comes next.
+fn tree_is_checked(
+    rt: &(impl Threads + Sync),
+    alloc: Global,
+    lines: &mut LineReader<MemorySource>,
+    snapshot: &Snapshot,
+    stated: &Stated,
+    wanted: Wanted,
+) -> bool {
+    let Ok(tree) = read_cert(alloc, lines, snapshot) else {
+        return false;
+    };
+    let certified = Certified {
+        snapshot,
+        stated,
+        twigs: tree.as_slice(),
+    };
+    are_checked(rt, alloc, certified, wanted)
+}
+
+/// Whether each has it on a case and the answer and the certificate that come next.
+fn answer_is_checked(
+    rt: &(impl Threads + Sync),
+    alloc: Global,
+    lines: &mut LineReader<MemorySource>,
+    snapshot: &Snapshot,
+    wanted: Wanted,
+) -> bool {
+    let Ok(answer) = read_answer(alloc, lines, snapshot) else {
+        return false;
+    };
+    let stated = Stated {
+        plan: answer.plan,
+        cost: answer.cost,
+        bound: answer.bound,
+    };
+    tree_is_checked(rt, alloc, lines, snapshot, &stated, wanted)
+}
+
+/// Each number of workers has this verdict on the case, the answer and the certificate that come next.
+#[derive(Drop)]
+struct IsChecked<'a, R: Threads + Sync> {
+    rt: &'a R,
+    wanted: Wanted,
+}
+
+impl<R: Threads + Sync> OfLines for IsChecked<'_, R> {
+    fn is_so(&self, alloc: Global, lines: &mut LineReader<MemorySource>) -> bool {
+        match read_case(alloc, lines) {
+            Ok(snapshot) => answer_is_checked(self.rt, alloc, lines, &snapshot, self.wanted),
+            Err(_) => false,
+        }
     }
 }
 
+fn text_is_checked(rt: &(impl Threads + Sync), alloc: Global, text: &[u8], wanted: Wanted) -> bool {
+    is_so_of(alloc, text, 4096, &IsChecked { rt, wanted })
+}
+
 #[test]
-fn a_tree_is_checked_at_once(rt: HostRuntime) -> Result<(), Fail> {
+fn a_tree_is_checked_at_once(rt: HostRuntime) {
     assert!(rt; text_is_checked(&rt, rt.alloc(), TWO_LEAVES, Wanted::Yes));
-    Ok(())
 }
 
 /// The same, in which the second leaf states too much of the first call.
@@ -178,10 +209,14 @@ fn with_too_much(alloc: Global) -> Option<Vec<u8>> {
     Some(text)
 }
 
+fn too_much_is_refused(rt: &(impl Threads + Sync), alloc: Global) -> bool {
+    match with_too_much(alloc) {
+        Some(text) => text_is_checked(rt, alloc, &text, Wanted::UnderInTheSecondLeaf),
+        None => false,
+    }
+}
+
 #[test]
-fn a_reason_names_its_leaf_and_car(rt: HostRuntime) -> Result<(), Fail> {
-    let text = with_too_much(rt.alloc()).ok_or("memory")?;
-    let wanted = Wanted::UnderInTheSecondLeaf;
-    assert!(rt; text_is_checked(&rt, rt.alloc(), &text, wanted));
-    Ok(())
+fn a_reason_names_its_leaf_and_car(rt: HostRuntime) {
+    assert!(rt; too_much_is_refused(&rt, rt.alloc()));
 }

@@ -2,32 +2,37 @@
 
 use lift_words::{Request, SolveOptions, WordsFault, read_words};
 use std::alloc::Global;
-use std::test::Fail;
 
-/// What the words are read as, and none when out of memory.
-fn read(alloc: Global, words: &[&str]) -> Option<Result<Request, WordsFault>> {
-    let mut all = Vec::new(alloc);
+/// Appends the words, as a command line has them.
+pub(crate) fn put_words(alloc: Global, words: &[&str], all: &mut Vec<String>) -> Option<()> {
     for word in words {
         all.push(String::from_str(alloc, word).ok()?).ok()?;
     }
-    Some(read_words(alloc, all.as_slice()))
+    Some(())
 }
 
-/// Whether it is the request with these options.
-fn is_solve(read: Option<Result<Request, WordsFault>>, due: SolveOptions) -> bool {
-    match read {
-        Some(Ok(Request::Solve(options))) => {
-            options.rounds == due.rounds
-                && options.moves == due.moves
-                && options.workers == due.workers
-                && options.brief == due.brief
-        }
+fn are_same(options: SolveOptions, due: SolveOptions) -> bool {
+    options.rounds == due.rounds
+        && options.moves == due.moves
+        && options.workers == due.workers
+        && options.brief == due.brief
+}
+
+/// Whether the words are the request with these options.
+fn is_solve(alloc: Global, words: &[String], due: SolveOptions) -> bool {
+    match read_words(alloc, words) {
+        Ok(Request::Solve(options)) => are_same(options, due),
         _ => false,
     }
 }
 
+fn are_words_of(alloc: Global, words: &[&str], due: SolveOptions) -> bool {
+    let mut all = Vec::new(alloc);
+    put_words(alloc, words, &mut all).is_some() && is_solve(alloc, all.as_slice(), due)
+}
+
 #[test]
-fn a_request_has_its_numbers(rt: HostRuntime) -> Result<(), Fail> {
+fn a_request_has_its_numbers(rt: HostRuntime) {
     let options = SolveOptions {
         rounds: 11,
         moves: 7,
@@ -43,16 +48,18 @@ fn a_request_has_its_numbers(rt: HostRuntime) -> Result<(), Fail> {
         "3",
         "--rounds=011",
     ];
-    assert!(rt; is_solve(read(rt.alloc(), &words), options));
-    Ok(())
+    assert!(rt; are_words_of(rt.alloc(), &words, options));
+}
+
+fn has_text(alloc: Global, fault: WordsFault, due: &str) -> bool {
+    match format!(in alloc; "{fault}") {
+        Ok(text) => text.as_str() == due,
+        Err(_) => false,
+    }
 }
 
 #[test]
-fn faults_have_a_text(rt: HostRuntime) -> Result<(), Fail> {
-    let alloc = rt.alloc();
-    let not_taken = format!(in alloc; "{}", WordsFault::NotTaken)?;
-    assert!(rt; not_taken.as_str() == "the words are not taken");
-    let no_memory = format!(in alloc; "{}", WordsFault::NoMemory)?;
-    assert!(rt; no_memory.as_str() == "out of memory");
-    Ok(())
+fn faults_have_a_text(rt: HostRuntime) {
+    assert!(rt; has_text(rt.alloc(), WordsFault::NotTaken, "the words are not taken"));
+    assert!(rt; has_text(rt.alloc(), WordsFault::NoMemory, "out of memory"));
 }

@@ -61,6 +61,11 @@ pub(crate) fn selections(pool: &Pool<'_>) -> u64 {
     sum
 }
 
+fn push_copy(alloc: Global, plan: &mut Plan, tour: &Tour) -> Result<(), AllocError> {
+    plan.push(tour.copy(alloc)?)?;
+    Ok(())
+}
+
 /// The plan of one of these ways, which are numbered from 0.
 fn plan_of(alloc: Global, pool: &Pool<'_>, way: u64) -> Result<Plan, AllocError> {
     let mut plan = Plan::new(alloc);
@@ -68,18 +73,24 @@ fn plan_of(alloc: Global, pool: &Pool<'_>, way: u64) -> Result<Plan, AllocError>
     for car in 0..cars_of(pool) {
         let count = count_of(pool, car).max(1);
         if let Some(tour) = pool.tour(car, (left % count) as usize) {
-            plan.push(tour.copy(alloc)?)?;
+            push_copy(alloc, &mut plan, tour)?;
         }
         left /= count;
     }
     Ok(plan)
 }
 
+/// What the plan of a way costs. None where it is not feasible.
+fn cost_of(alloc: Global, pool: &Pool<'_>, way: u64) -> Result<Option<u64>, AllocError> {
+    let plan = plan_of(alloc, pool, way)?;
+    Ok(plan_price(pool.snapshot(), &plan))
+}
+
 /// The least cost of a feasible plan that is made of tours of the pool. None where there is no such plan.
 pub(crate) fn least_cost(alloc: Global, pool: &Pool<'_>) -> Result<Option<u64>, AllocError> {
     let mut least: Option<u64> = None;
     for way in 0..ways(pool) {
-        if let Some(cost) = plan_price(pool.snapshot(), &plan_of(alloc, pool, way)?) {
+        if let Some(cost) = cost_of(alloc, pool, way)? {
             least = Some(least.unwrap_or(cost).min(cost));
         }
     }

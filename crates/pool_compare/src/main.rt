@@ -1,6 +1,6 @@
-//! `pool_compare` puts drawn tours of small snapshots into pools, and compares each plan that is selected with
-//! a list of all plans that are made of these tours. It prints for each kind of check how many were made and
-//! how many failed, and ends with status 1 if one failed.
+//! `pool_compare` puts drawn tours of small snapshots into pools, and compares each plan that is selected
+//! with a list of all plans that are made of these tours. It prints for each kind of check how many were made
+//! and how many failed, and ends with status 1 if one failed.
 #![tactic(auto)]
 
 mod fills;

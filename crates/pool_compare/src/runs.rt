@@ -1,6 +1,6 @@
 //! A case: a snapshot, pools of its tours, and what is selected at some prices and limits.
 
-ghost use Rattle.std.specs.Prelude.{◌≡◌, ◌≤◌, length};
+ghost use Rattle.std.specs.Prelude.{◌≡◌, ◌<◌, ◌≤◌, length};
 ghost use Rattle.elevator_model.specs.Snapshot.{call_count};
 
 use crate::fills::{fill, prices_of};
@@ -66,6 +66,42 @@ fn note_below(pool: &Pool<'_>, known: Known, below: u64, choice: &Choice, tally:
     tally.below.note(is_right && (choice.spent || found == due));
 }
 
+/// Selects any plan with this limit, and compares the choice.
+fn compare_any(
+    alloc: Global,
+    pool: &Pool<'_>,
+    prices: &[Price],
+    target: u64,
+    limit: u64,
+    known: Known,
+    tally: &mut Tally,
+) -> Result<(), AllocError>
+    requires prices { length prices.now ≡ call_count pool.now.snapshot }
+    requires limit { 0 < limit }
+{
+    let choice = pool.select(alloc, prices, target, limit)?;
+    note_choice(pool, known, limit, &choice, tally);
+    Ok(())
+}
+
+/// Selects a plan below the target with this limit, and compares the choice.
+fn compare_below(
+    alloc: Global,
+    pool: &Pool<'_>,
+    prices: &[Price],
+    target: u64,
+    limit: u64,
+    known: Known,
+    tally: &mut Tally,
+) -> Result<(), AllocError>
+    requires prices { length prices.now ≡ call_count pool.now.snapshot }
+    requires limit { 0 < limit }
+{
+    let choice = pool.select_below(alloc, prices, target, limit)?;
+    note_below(pool, known, target, &choice, tally);
+    Ok(())
+}
+
 /// Selects with this limit, any plan and one below the target, and compares the choices.
 fn compare_limit(
     alloc: Global,
@@ -81,25 +117,20 @@ fn compare_limit(
     if limit == 0 {
         return Ok(());
     }
-    let choice = pool.select(alloc, prices, target, limit)?;
-    note_choice(pool, known, limit, &choice, tally);
-    let choice = pool.select_below(alloc, prices, target, limit)?;
-    note_below(pool, known, target, &choice, tally);
-    Ok(())
+    compare_any(alloc, pool, prices, target, limit, known, tally)?;
+    compare_below(alloc, pool, prices, target, limit, known, tally)
 }
 
-/// Selects at drawn prices with several limits, and compares the choices.
-fn compare_pool(
+/// Selects at these prices with several limits, and compares the choices.
+fn compare_limits(
     alloc: Global,
     pool: &Pool<'_>,
+    prices: &[Price],
     draws: &mut Draws,
     tally: &mut Tally,
-) -> Result<(), AllocError> {
-    let calls = pool.snapshot().calls().len();
-    let prices = prices_of(alloc, calls, draws)?;
-    if prices.len() != calls {
-        return Ok(());
-    }
+) -> Result<(), AllocError>
+    requires { length prices.now ≡ call_count pool.now.snapshot }
+{
     let known = Known {
         least: least_cost(alloc, pool)?,
         selections: selections(pool),
@@ -113,13 +144,46 @@ fn compare_pool(
         u64::from(draws.below(30)),
         u64::from(draws.below(400)),
     ] {
-        compare_limit(alloc, pool, &prices, target, limit, known, tally)?;
+        compare_limit(alloc, pool, prices, target, limit, known, tally)?;
     }
     Ok(())
 }
 
-/// Selects from a pool with too many plans to list: once with a limit that is not reached, and then with what
-/// was found as the target and a limit of 20, which is to give the same unless it is spent.
+/// Selects at drawn prices, and compares the choices.
+fn compare_pool(
+    alloc: Global,
+    pool: &Pool<'_>,
+    draws: &mut Draws,
+    tally: &mut Tally,
+) -> Result<(), AllocError> {
+    let calls = pool.snapshot().calls().len();
+    let prices = prices_of(alloc, calls, draws)?;
+    if prices.len() != calls {
+        return Ok(());
+    }
+    compare_limits(alloc, pool, &prices, draws, tally)
+}
+
+/// Selects with what was found as the target and a limit of 20, which is to give the same unless it is spent.
+fn compare_short(
+    alloc: Global,
+    pool: &Pool<'_>,
+    prices: &[Price],
+    whole: &Choice,
+    tally: &mut Tally,
+) -> Result<(), AllocError>
+    requires { length prices.now ≡ call_count pool.now.snapshot }
+{
+    let short = pool.select(alloc, prices, whole.cost, 20)?;
+    tally
+        .large
+        .note(!whole.spent && (short.spent || short.cost == whole.cost));
+    tally.quick = tally.quick.wrapping_add(u64::from(!short.spent));
+    Ok(())
+}
+
+/// Selects from a pool with too many plans to list: once with a limit that is not reached, and then with a
+/// low one.
 fn compare_large(alloc: Global, pool: &Pool<'_>, tally: &mut Tally) -> Result<(), AllocError> {
     let calls = pool.snapshot().calls().len();
     let Some(price) = Price::new(0) else {
@@ -130,40 +194,45 @@ fn compare_large(alloc: Global, pool: &Pool<'_>, tally: &mut Tally) -> Result<()
         return Ok(());
     };
     let whole = pool.select(alloc, prices, 0, FAR)?;
-    let short = pool.select(alloc, prices, whole.cost, 20)?;
-    tally
-        .large
-        .note(!whole.spent && (short.spent || short.cost == whole.cost));
-    tally.quick = tally.quick.wrapping_add(u64::from(!short.spent));
-    Ok(())
+    compare_short(alloc, pool, prices, &whole, tally)
 }
 
-/// Draws a pool of the snapshot's tours and compares what is selected.
+/// Puts drawn tours into the pool and compares what is selected.
+fn compare_filled(
+    alloc: Global,
+    pool: &mut Pool<'_>,
+    draws: &mut Draws,
+    tally: &mut Tally,
+) -> Result<(), AllocError> {
+    fill(alloc, pool, draws)?;
+    note_columns(pool, &mut tally.columns);
+    if ways(pool) > MOST_WAYS {
+        return compare_large(alloc, pool, tally);
+    }
+    tally.pools = tally.pools.wrapping_add(1);
+    compare_pool(alloc, pool, draws, tally)
+}
+
+/// Draws three pools of the snapshot's tours, and compares what is selected.
 fn compare_snapshot(
     alloc: Global,
     snapshot: &Snapshot,
     draws: &mut Draws,
     tally: &mut Tally,
 ) -> Result<(), AllocError> {
-    let mut pool = Pool::new(alloc, snapshot)?;
-    fill(alloc, &mut pool, draws)?;
-    note_columns(&pool, &mut tally.columns);
-    if ways(&pool) > MOST_WAYS {
-        return compare_large(alloc, &pool, tally);
+    for _ in 0..3 {
+        let mut pool = Pool::new(alloc, snapshot)?;
+        compare_filled(alloc, &mut pool, draws, tally)?;
     }
-    tally.pools = tally.pools.wrapping_add(1);
-    compare_pool(alloc, &pool, draws, tally)
+    Ok(())
 }
 
-/// Draws a snapshot and three pools of its tours, and compares what is selected.
+/// Draws a snapshot, and compares what is selected from pools of its tours.
 pub(crate) fn compare_case(alloc: Global, case: u64, tally: &mut Tally) -> Result<(), AllocError> {
     let mut draws = Draws::of_case(case);
     let floors = 3 + draws.below(4);
     let cars = 1 + draws.below(3);
     let calls = draws.below(5);
     let snapshot = make(alloc, case, floors, cars, calls)?;
-    for _ in 0..3 {
-        compare_snapshot(alloc, &snapshot, &mut draws, tally)?;
-    }
-    Ok(())
+    compare_snapshot(alloc, &snapshot, &mut draws, tally)
 }

@@ -23,7 +23,7 @@ fn offer_text(alloc: Global, pool: &mut Pool<'_>, car: u32, text: &str) -> bool 
     }
 }
 
-/// What is selected at prices of 0. None where the snapshot is another one, or memory runs out.
+/// What is selected at prices of 0. None where the snapshot is another one, or memory is wanting.
 fn selected(alloc: Global, pool: &Pool<'_>, limit: u64) -> Option<Choice> {
     match Price::new(0) {
         Some(price) if pool.snapshot().calls().len() == 4 && limit > 0 => {

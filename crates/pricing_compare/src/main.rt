@@ -1,6 +1,6 @@
 //! `pricing_compare` prices the cars of small snapshots and compares each answer with a list of all tours of
-//! the car. It prints for each kind of check how many were made and how many failed, and ends with status 1 if
-//! one failed.
+//! the car. It prints for each kind of check how many were made and how many failed, and ends with status 1
+//! if one failed.
 #![tactic(auto)]
 
 mod aims;

@@ -48,7 +48,7 @@ impl Pricing {
         }
     }
 
-    /// A price for each of this many calls. A list that is shorter has a price that is none.
+    /// A price for each of so many calls. A list that is shorter has a price that is none.
     pub(crate) fn list(
         self,
         alloc: Global,

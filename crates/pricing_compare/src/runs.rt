@@ -46,6 +46,27 @@ fn compare_pricing<P: Pricer>(
 }
 
 /// Prices a car in a node at all lists of prices, and compares the answers.
+fn compare_pricings<P: Pricer>(
+    alloc: Global,
+    pricer: &P,
+    aim: Aim,
+    draws: &mut Draws,
+    desk: &mut P::Desk,
+    tally: &mut Tally,
+) -> Result<(), AllocError>
+    requires same { P.snapshot pricer.now ≡ aim.snapshot.now }
+    requires car { aim.car < car_count aim.snapshot.now }
+    requires node { IsNodeOf aim.snapshot.now aim.node.now }
+    requires own { P.owns pricer.now desk.old }
+    ensures own { P.owns pricer.now desk.new }
+{
+    for pricing in Pricing::ALL {
+        compare_pricing(alloc, pricer, aim, pricing, draws, desk, tally)?;
+    }
+    Ok(())
+}
+
+/// Lists the tours of a car, and compares what is priced in a node with them.
 fn compare_car<P: Pricer>(
     alloc: Global,
     pricer: &P,
@@ -63,17 +84,14 @@ fn compare_car<P: Pricer>(
     ensures own { P.owns pricer.now desk.new }
 {
     let tours = tours_of(alloc, snapshot, car, &mut tally.listed)?;
-    for pricing in Pricing::ALL {
-        let aim = Aim {
-            snapshot,
-            node,
-            car,
-            prices: &[],
-            tours: &tours,
-        };
-        compare_pricing(alloc, pricer, aim, pricing, draws, desk, tally)?;
-    }
-    Ok(())
+    let aim = Aim {
+        snapshot,
+        node,
+        car,
+        prices: &[],
+        tours: &tours,
+    };
+    compare_pricings(alloc, pricer, aim, draws, desk, tally)
 }
 
 /// Prices all cars in a node, and compares the answers.
@@ -142,6 +160,65 @@ fn half_of(
     }
 }
 
+/// Prices the cars in a node and in one of its parts, and compares the answers.
+fn compare_split<P: Pricer>(
+    alloc: Global,
+    pricer: &P,
+    snapshot: &Snapshot,
+    node: &Node,
+    draws: &mut Draws,
+    desk: &mut P::Desk,
+    tally: &mut Tally,
+) -> Result<(), AllocError>
+    requires same { P.snapshot pricer.now ≡ snapshot.now }
+    requires node { IsNodeOf snapshot.now node.now }
+    requires own { P.owns pricer.now desk.old }
+    ensures own { P.owns pricer.now desk.new }
+{
+    compare_node(alloc, pricer, snapshot, node, draws, desk, tally)?;
+    match half_of(alloc, snapshot, node, draws)? {
+        Some(half) => compare_node(alloc, pricer, snapshot, &half, draws, desk, tally),
+        None => Ok(()),
+    }
+}
+
+/// Prices the cars in the root, and after one and after two splits.
+fn compare_root<P: Pricer>(
+    alloc: Global,
+    pricer: &P,
+    snapshot: &Snapshot,
+    root: &Node,
+    draws: &mut Draws,
+    desk: &mut P::Desk,
+    tally: &mut Tally,
+) -> Result<(), AllocError>
+    requires same { P.snapshot pricer.now ≡ snapshot.now }
+    requires node { IsNodeOf snapshot.now root.now }
+    requires own { P.owns pricer.now desk.old }
+    ensures own { P.owns pricer.now desk.new }
+{
+    compare_node(alloc, pricer, snapshot, root, draws, desk, tally)?;
+    match half_of(alloc, snapshot, root, draws)? {
+        Some(once) => compare_split(alloc, pricer, snapshot, &once, draws, desk, tally),
+        None => Ok(()),
+    }
+}
+
+/// The same at a new desk.
+fn compare_at_desk(
+    alloc: Global,
+    snapshot: &Snapshot,
+    root: &Node,
+    draws: &mut Draws,
+    tally: &mut Tally,
+) -> Result<(), AllocError>
+    requires { IsNodeOf snapshot.now root.now }
+{
+    let searcher = Searcher::new(snapshot);
+    let mut desk = searcher.desk(alloc)?;
+    compare_root(alloc, &searcher, snapshot, root, draws, &mut desk, tally)
+}
+
 /// Prices the cars of a snapshot at its root and at a node after one and after two splits.
 fn compare_snapshot(
     alloc: Global,
@@ -149,18 +226,8 @@ fn compare_snapshot(
     draws: &mut Draws,
     tally: &mut Tally,
 ) -> Result<(), AllocError> {
-    let searcher = Searcher::new(snapshot);
-    let mut desk = searcher.desk(alloc)?;
     let root = root(alloc, snapshot)?;
-    compare_node(alloc, &searcher, snapshot, &root, draws, &mut desk, tally)?;
-    let Some(once) = half_of(alloc, snapshot, &root, draws)? else {
-        return Ok(());
-    };
-    compare_node(alloc, &searcher, snapshot, &once, draws, &mut desk, tally)?;
-    let Some(twice) = half_of(alloc, snapshot, &once, draws)? else {
-        return Ok(());
-    };
-    compare_node(alloc, &searcher, snapshot, &twice, draws, &mut desk, tally)
+    compare_at_desk(alloc, snapshot, &root, draws, tally)
 }
 
 /// Draws a snapshot and compares what is asked of it. One that is refused is counted.

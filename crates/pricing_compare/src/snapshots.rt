@@ -118,7 +118,7 @@ fn put_case(text: &mut Vec<u8>, rest: &mut Vec<u8>, draws: &mut Draws) -> Result
     text.extend_from_slice(b"end\n")
 }
 
-/// The next snapshot. None where what was drawn breaks a rule, or memory runs out.
+/// The next snapshot. None where what was drawn breaks a rule, or memory is wanting.
 pub(crate) fn drawn(alloc: Global, draws: &mut Draws) -> Option<Snapshot> {
     let (mut text, mut rest) = (Vec::new(alloc), Vec::new(alloc));
     match put_case(&mut text, &mut rest, draws) {

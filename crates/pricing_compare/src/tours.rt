@@ -29,13 +29,51 @@ fn add_moves(moves: &mut Vec<Move>, stop: &Stop) -> Result<(), AllocError> {
     Ok(())
 }
 
-fn moves_of(alloc: Global, tour: &Tour) -> Result<Vec<Move>, AllocError> {
-    let mut moves = Vec::new(alloc);
+fn put_moves(moves: &mut Vec<Move>, tour: &Tour) -> Result<(), AllocError> {
     for stop in tour.stops() {
-        add_moves(&mut moves, stop)?;
+        add_moves(moves, stop)?;
     }
     moves.push(Move::End)?;
+    Ok(())
+}
+
+fn moves_of(alloc: Global, tour: &Tour) -> Result<Vec<Move>, AllocError> {
+    let mut moves = Vec::new(alloc);
+    put_moves(&mut moves, tour)?;
     Ok(moves)
+}
+
+/// Appends a tour of the car, and notes whether it is feasible.
+fn put_tour(
+    alloc: Global,
+    snapshot: &Snapshot,
+    car: u32,
+    tour: &Tour,
+    lawful: &mut Checks,
+    listed: &mut Vec<Listed>,
+) -> Result<(), AllocError> {
+    let cost = lawful_cost(snapshot, car, tour);
+    lawful.note(cost.is_some());
+    listed.push(Listed {
+        moves: moves_of(alloc, tour)?,
+        boards: boards_of(tour),
+        cost: cost.unwrap_or(0),
+    })?;
+    Ok(())
+}
+
+fn list_tours(
+    alloc: Global,
+    snapshot: &Snapshot,
+    car: u32,
+    tours: &[Tour],
+    lawful: &mut Checks,
+) -> Result<Vec<Listed>, AllocError> {
+    let mut listed = Vec::new(alloc);
+    for tour in tours {
+        put_tour(alloc, snapshot, car, tour, lawful, &mut listed)?;
+    }
+    Ok(listed)
 }
 
 /// All feasible tours of a car.
@@ -47,18 +85,8 @@ pub(crate) fn tours_of(
 ) -> Result<Vec<Listed>, AllocError>
     requires { car < car_count snapshot.now }
 {
-    let mut listed = Vec::new(alloc);
-    for tour in &feasible_tours(alloc, snapshot, car)? {
-        let cost = lawful_cost(snapshot, car, tour);
-        lawful.note(cost.is_some());
-        let (moves, boards) = (moves_of(alloc, tour)?, boards_of(tour));
-        listed.push(Listed {
-            moves,
-            boards,
-            cost: cost.unwrap_or(0),
-        })?;
-    }
-    Ok(listed)
+    let tours = feasible_tours(alloc, snapshot, car)?;
+    list_tours(alloc, snapshot, car, &tours, lawful)
 }
 
 /// What one of these tours costs for each call that it serves, on average. 0 where none serves a call.

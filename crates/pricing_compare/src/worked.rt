@@ -128,6 +128,21 @@ fn compare_all<P: Pricer>(
     Ok(())
 }
 
+fn compare_root(
+    alloc: Global,
+    snapshot: &Snapshot,
+    root: &Node,
+    tally: &mut Tally,
+) -> Result<(), AllocError>
+    requires cars { car_count snapshot.now ≡ 2 }
+    requires node { IsNodeOf snapshot.now root.now }
+    requires calls { call_count snapshot.now ≡ 4 }
+{
+    let searcher = Searcher::new(snapshot);
+    let mut desk = searcher.desk(alloc)?;
+    compare_all(alloc, &searcher, root, &mut desk, tally)
+}
+
 fn compare_snapshot(
     alloc: Global,
     snapshot: &Snapshot,
@@ -137,10 +152,8 @@ fn compare_snapshot(
         tally.worked.note(false);
         return Ok(());
     }
-    let searcher = Searcher::new(snapshot);
-    let mut desk = searcher.desk(alloc)?;
     let root = root(alloc, snapshot)?;
-    compare_all(alloc, &searcher, &root, &mut desk, tally)
+    compare_root(alloc, snapshot, &root, tally)
 }
 
 /// Compares the answers in the case that was worked out by hand.

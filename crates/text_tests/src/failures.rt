@@ -48,13 +48,24 @@ fn fails_at_raw(lines: &mut LineReader<MemorySource>, failure: Failure) -> bool 
 }
 
 /// Whether the failure is answered so by a reader of words, or of lines as they stand.
+fn fails(lines: &mut LineReader<MemorySource>, failure: Failure, raw: bool) -> bool {
+    if raw {
+        fails_at_raw(lines, failure)
+    } else {
+        fails_at_words(lines, failure)
+    }
+}
+
+fn fails_over(alloc: Global, source: &mut MemorySource, failure: Failure, raw: bool) -> bool {
+    match LineReader::new(alloc, source) {
+        Ok(mut lines) => fails(&mut lines, failure, raw),
+        Err(_) => false,
+    }
+}
+
 fn is_answered(alloc: Global, failure: Failure, raw: bool) -> bool {
-    let Ok(mut source) = source_of(alloc, failure.read) else {
-        return false;
-    };
-    match LineReader::new(alloc, &mut source) {
-        Ok(mut lines) if raw => fails_at_raw(&mut lines, failure),
-        Ok(mut lines) => fails_at_words(&mut lines, failure),
+    match source_of(alloc, failure.read) {
+        Ok(mut source) => fails_over(alloc, &mut source, failure, raw),
         Err(_) => false,
     }
 }

@@ -5,7 +5,6 @@ ghost use Rattle.std.specs.Prelude.{◌≤◌};
 use byte_streams::MemorySource;
 use lift_text::{LineReader, RawLine, TextFault};
 use std::alloc::{AllocError, Global};
-use std::test::Fail;
 
 /// What a word is as a number of -5 to 99.
 #[derive(Clone, Copy, PartialEq)]
@@ -65,49 +64,48 @@ fn reads_raw(lines: &mut LineReader<MemorySource>, due: RawLines) -> bool {
     true
 }
 
-/// A source that gives these bytes, this many in a read.
+/// A source that gives these bytes, so many in a read.
 fn source_of(alloc: Global, bytes: &[u8], each: usize) -> Result<MemorySource, AllocError>
     requires { 1 ≤ each }
 {
     Ok(MemorySource::new(Vec::from_slice(alloc, bytes)?, each, Vec::new(alloc)))
 }
 
-fn has_words_by(alloc: Global, bytes: &[u8], each: usize, due: Words) -> bool
-    requires { 1 ≤ each }
-{
-    let Ok(mut source) = source_of(alloc, bytes, each) else {
-        return false;
-    };
-    match LineReader::new(alloc, &mut source) {
-        Ok(mut lines) => reads_words(&mut lines, due),
+/// What is read of a text.
+#[derive(Clone, Copy)]
+enum Due<'a> {
+    Words(Words<'a>),
+    Raw(RawLines<'a>),
+}
+
+fn reads(lines: &mut LineReader<MemorySource>, due: Due) -> bool {
+    match due {
+        Due::Words(words) => reads_words(lines, words),
+        Due::Raw(raw) => reads_raw(lines, raw),
+    }
+}
+
+fn reads_over(alloc: Global, source: &mut MemorySource, due: Due) -> bool {
+    match LineReader::new(alloc, source) {
+        Ok(mut lines) => reads(&mut lines, due),
         Err(_) => false,
     }
 }
 
-fn has_raw_by(alloc: Global, bytes: &[u8], each: usize, due: RawLines) -> bool
+fn is_read_by(alloc: Global, bytes: &[u8], each: usize, due: Due) -> bool
     requires { 1 ≤ each }
 {
-    let Ok(mut source) = source_of(alloc, bytes, each) else {
-        return false;
-    };
-    match LineReader::new(alloc, &mut source) {
-        Ok(mut lines) => reads_raw(&mut lines, due),
+    match source_of(alloc, bytes, each) {
+        Ok(mut source) => reads_over(alloc, &mut source, due),
         Err(_) => false,
     }
 }
 
-/// Whether the text is read as these words, in pieces of any size.
-fn has_words(alloc: Global, bytes: &[u8], due: Words) -> bool {
-    has_words_by(alloc, bytes, 1, due)
-        && has_words_by(alloc, bytes, 3, due)
-        && has_words_by(alloc, bytes, 100_000, due)
-}
-
-/// Whether the text is read as these lines, in pieces of any size.
-fn has_raw(alloc: Global, bytes: &[u8], due: RawLines) -> bool {
-    has_raw_by(alloc, bytes, 1, due)
-        && has_raw_by(alloc, bytes, 3, due)
-        && has_raw_by(alloc, bytes, 100_000, due)
+/// Whether the text is read so, in pieces of any size.
+fn is_read(alloc: Global, bytes: &[u8], due: Due) -> bool {
+    is_read_by(alloc, bytes, 1, due)
+        && is_read_by(alloc, bytes, 3, due)
+        && is_read_by(alloc, bytes, 100_000, due)
 }
 
 /// CR LF, blank lines, comments with any bytes, and no LF at the end. The last numbers have 39 and 40 digits.
@@ -146,8 +144,8 @@ fn lines_are_the_same_in_any_pieces(rt: HostRuntime) {
         last: 6,
         end: Ok(false),
     };
-    assert!(rt; has_words(rt.alloc(), MIXED, mixed));
-    assert!(rt; has_raw(rt.alloc(), MIXED, &MIXED_LINES));
+    assert!(rt; is_read(rt.alloc(), MIXED, Due::Words(mixed)));
+    assert!(rt; is_read(rt.alloc(), MIXED, Due::Raw(&MIXED_LINES)));
 }
 
 /// Whether the text has one word of one byte, which is no number, in this line, and the words end so.
@@ -164,7 +162,7 @@ fn has_letter(
         last,
         end,
     };
-    has_words(alloc, bytes, due)
+    is_read(alloc, bytes, Due::Words(due))
 }
 
 #[test]
@@ -178,12 +176,12 @@ fn bytes_that_no_line_has(rt: HostRuntime) {
         last: 2,
         end: bad,
     };
-    assert!(rt; has_words(alloc, b"\na\r", none));
+    assert!(rt; is_read(alloc, b"\na\r", Due::Words(none)));
     let raw = [(1, RawLine::Line, 2), (1, RawLine::End, 0)];
-    assert!(rt; has_raw(alloc, b"a\r\r\n", &raw));
+    assert!(rt; is_read(alloc, b"a\r\r\n", Due::Raw(&raw)));
 }
 
-/// A text whose fourth line has this many bytes.
+/// A text whose fourth line has so many bytes.
 fn wide(alloc: Global, size: usize) -> Result<Vec<u8>, AllocError>
     requires { size ≤ 200000 }
 {
@@ -208,20 +206,29 @@ const OVER_WIDE: [(u64, RawLine, usize); 6] = [
     (5, RawLine::End, 0),
 ];
 
+/// Whether the text whose fourth line has so many bytes is read so.
+fn is_wide_read(alloc: Global, size: usize, due: Due) -> bool
+    requires { size ≤ 200000 }
+{
+    match wide(alloc, size) {
+        Ok(text) => is_read(alloc, &text, due),
+        Err(_) => false,
+    }
+}
+
 #[test]
-fn longest_lines_are_taken(rt: HostRuntime) -> Result<(), Fail> {
+fn longest_lines_are_taken(rt: HostRuntime) {
     let widest = Words {
         words: &WIDEST,
         last: 5,
         end: Ok(false),
     };
-    assert!(rt; has_words(rt.alloc(), &wide(rt.alloc(), 4096)?, widest));
+    assert!(rt; is_wide_read(rt.alloc(), 4096, Due::Words(widest)));
     let refused = Words {
         words: &WIDEST[..1],
         last: 4,
         end: Err(TextFault::Bad { line: 4, code: 2 }),
     };
-    assert!(rt; has_words(rt.alloc(), &wide(rt.alloc(), 4097)?, refused));
-    assert!(rt; has_raw(rt.alloc(), &wide(rt.alloc(), 200_000)?, &OVER_WIDE));
-    Ok(())
+    assert!(rt; is_wide_read(rt.alloc(), 4097, Due::Words(refused)));
+    assert!(rt; is_wide_read(rt.alloc(), 200_000, Due::Raw(&OVER_WIDE)));
 }

@@ -2,7 +2,7 @@
 
 use byte_streams::SureSource;
 use lift_text::{LineReader, TextFault, put_line, put_number};
-use std::test::Fail;
+use std::alloc::{AllocError, Global};
 
 const NUMBERS: &[u8] =
     b"170141183460469231731687303715884105727 170141183460469231731687303715884105728 \
@@ -38,29 +38,58 @@ fn first_wrong(lines: &LineReader<SureSource>) -> Option<u32> {
     None
 }
 
-#[test]
-fn numbers_have_up_to_128_bits(rt: HostRuntime) -> Result<(), Fail> {
-    let alloc = rt.alloc();
-    let mut source = SureSource::new(Vec::from_slice(alloc, NUMBERS)?);
-    let mut lines = LineReader::new(alloc, &mut source)?;
-    assert!(rt; lines.next_line() == Ok(true));
-    assert!(rt; lines.words() == 9);
-    assert!(rt; first_wrong(&lines).is_none());
-    Ok(())
+/// Whether a line has nine words, and each row of the table is so.
+fn reads_numbers(lines: &mut LineReader<SureSource>) -> bool {
+    lines.next_line() == Ok(true) && lines.words() == 9 && first_wrong(lines).is_none()
+}
+
+fn are_numbers(alloc: Global, source: &mut SureSource) -> bool {
+    match LineReader::new(alloc, source) {
+        Ok(mut lines) => reads_numbers(&mut lines),
+        Err(_) => false,
+    }
+}
+
+fn are_read(alloc: Global) -> bool {
+    match Vec::from_slice(alloc, NUMBERS) {
+        Ok(bytes) => are_numbers(alloc, &mut SureSource::new(bytes)),
+        Err(_) => false,
+    }
 }
 
 #[test]
-fn numbers_are_appended(rt: HostRuntime) -> Result<(), Fail> {
-    let mut out = Vec::from_slice(rt.alloc(), b"x ")?;
+fn numbers_have_up_to_128_bits(rt: HostRuntime) {
+    assert!(rt; are_read(rt.alloc()));
+}
+
+/// The least number behind two bytes.
+fn with_number(alloc: Global) -> Result<Vec<u8>, AllocError> {
+    let mut out = Vec::from_slice(alloc, b"x ")?;
     put_number(&mut out, i128::MIN)?;
-    assert!(rt; out.as_slice() == b"x -170141183460469231731687303715884105728".as_slice());
-    Ok(())
+    Ok(out)
+}
+
+/// A line with the greatest number of 64 bits behind another line.
+fn with_line(alloc: Global) -> Result<Vec<u8>, AllocError> {
+    let mut out = Vec::from_slice(alloc, b"x\n")?;
+    put_line(&mut out, b"floors", &[0, 18_446_744_073_709_551_615])?;
+    Ok(out)
+}
+
+fn is_text(made: Result<Vec<u8>, AllocError>, due: &[u8]) -> bool {
+    match made {
+        Ok(text) => text.as_slice() == due,
+        Err(_) => false,
+    }
 }
 
 #[test]
-fn lines_are_appended(rt: HostRuntime) -> Result<(), Fail> {
-    let mut out = Vec::from_slice(rt.alloc(), b"x\n")?;
-    put_line(&mut out, b"floors", &[0, 18_446_744_073_709_551_615])?;
-    assert!(rt; out.as_slice() == b"x\nfloors 0 18446744073709551615\n".as_slice());
-    Ok(())
+fn numbers_are_appended(rt: HostRuntime) {
+    let due = b"x -170141183460469231731687303715884105728";
+    assert!(rt; is_text(with_number(rt.alloc()), due));
+}
+
+#[test]
+fn lines_are_appended(rt: HostRuntime) {
+    assert!(rt; is_text(with_line(rt.alloc()), b"x\nfloors 0 18446744073709551615\n"));
 }

@@ -5,13 +5,12 @@ use call_state::Snapshot;
 use lift_text::{LineReader, RawLine, TextFault};
 use opening_text::read_day_opening;
 use std::alloc::{AllocError, Global};
-use std::test::Fail;
 
 /// A building and an opening snapshot: twelve lines, 155 bytes.
 const FRONT: &[u8] = b"building 1\nspeed 2000\naccel 1000\nweights 2 1\nfloors 0 4000 9000\n\
     car 7 5 1000 1100 500 400 all\nend\n# the car stands\nsnapshot 1\nnow 650\ncar 7 idle 2 700\nend\n";
 
-/// The front with these bytes after it.
+/// The front with these bytes behind it.
 fn text(alloc: Global, behind: &[u8]) -> Result<Vec<u8>, AllocError> {
     let mut bytes = Vec::from_slice(alloc, FRONT)?;
     bytes.extend_from_slice(behind)?;
@@ -28,23 +27,30 @@ fn fault_of<T: Drop>(answer: Result<T, TextFault>) -> (u64, u8) {
     }
 }
 
-/// What is wrong with the text of the source. None when out of memory.
-fn fault_in(alloc: Global, mut source: MemorySource) -> Option<(u64, u8)> {
-    match LineReader::new(alloc, &mut source) {
+/// What is wrong with the text of the source. None where memory is wanting.
+fn fault_in(alloc: Global, source: &mut MemorySource) -> Option<(u64, u8)> {
+    match LineReader::new(alloc, source) {
         Ok(mut lines) => Some(fault_of(read_day_opening(alloc, &mut lines))),
         Err(_) => None,
     }
 }
 
-/// What is wrong with the text that has these bytes after the front, a byte in each piece, where the reads
-/// with the listed numbers fail.
-fn fault(alloc: Global, behind: &[u8], failing: &[u64]) -> Option<(u64, u8)> {
-    let failing = Vec::from_slice(alloc, failing).ok()?;
-    let bytes = text(alloc, behind).ok()?;
-    fault_in(alloc, MemorySource::new(bytes, 1, failing))
+/// A source of the front with these bytes behind it, a byte in each piece, where the reads with the listed
+/// numbers fail.
+fn source_of(alloc: Global, behind: &[u8], failing: &[u64]) -> Result<MemorySource, AllocError> {
+    let failing = Vec::from_slice(alloc, failing)?;
+    Ok(MemorySource::new(text(alloc, behind)?, 1, failing))
 }
 
-/// What follows the front, whose next line is line 13, and the line and the code of its fault.
+/// What is wrong with the text of this source.
+fn fault(alloc: Global, behind: &[u8], failing: &[u64]) -> Option<(u64, u8)> {
+    match source_of(alloc, behind, failing) {
+        Ok(mut source) => fault_in(alloc, &mut source),
+        Err(_) => None,
+    }
+}
+
+/// What stands behind the front, whose next line is line 13, and the line and the code of its fault.
 const HEADERS: [(&[u8], u64, u8); 16] = [
     (b"time,origin,destination,persons\n9,2,0,4\n", 0, 0),
     (b"time,origin,destination,persons", 0, 0),
@@ -71,7 +77,7 @@ fn headers_behind_the_snapshot(rt: HostRuntime) {
     }
 }
 
-/// A header of this many bytes.
+/// A header of so many bytes.
 fn wide_header(alloc: Global, size: usize) -> Result<Vec<u8>, AllocError> {
     let mut line = Vec::from_slice(alloc, b"time,origin,destination,persons")?;
     for _ in 31..size {
@@ -81,13 +87,18 @@ fn wide_header(alloc: Global, size: usize) -> Result<Vec<u8>, AllocError> {
     Ok(line)
 }
 
+/// What is wrong with an opening whose header has so many bytes.
+fn fault_of_width(alloc: Global, size: usize) -> Option<(u64, u8)> {
+    match wide_header(alloc, size) {
+        Ok(line) => fault(alloc, &line, &[]),
+        Err(_) => None,
+    }
+}
+
 #[test]
-fn header_over_long(rt: HostRuntime) -> Result<(), Fail> {
-    let longest = wide_header(rt.alloc(), 4096)?;
-    assert!(rt; fault(rt.alloc(), &longest, &[]) == Some((0, 0)));
-    let longer = wide_header(rt.alloc(), 4097)?;
-    assert!(rt; fault(rt.alloc(), &longer, &[]) == Some((13, 27)));
-    Ok(())
+fn header_over_long(rt: HostRuntime) {
+    assert!(rt; fault_of_width(rt.alloc(), 4096) == Some((0, 0)));
+    assert!(rt; fault_of_width(rt.alloc(), 4097) == Some((13, 27)));
 }
 
 /// Texts with a fault before the header.
@@ -116,14 +127,19 @@ const OTHERS: [(&[u8], u64, u8); 5] = [
     ),
 ];
 
-#[test]
-fn faults_before_the_header(rt: HostRuntime) -> Result<(), Fail> {
-    for (whole, line, code) in OTHERS {
-        let bytes = Vec::from_slice(rt.alloc(), whole)?;
-        let source = MemorySource::new(bytes, 3, Vec::new(rt.alloc()));
-        assert!(rt; fault_in(rt.alloc(), source) == Some((line, code)));
+/// What is wrong with this text, which comes in pieces of three bytes.
+fn fault_of_whole(alloc: Global, whole: &[u8]) -> Option<(u64, u8)> {
+    match Vec::from_slice(alloc, whole) {
+        Ok(bytes) => fault_in(alloc, &mut MemorySource::new(bytes, 3, Vec::new(alloc))),
+        Err(_) => None,
     }
-    Ok(())
+}
+
+#[test]
+fn faults_before_the_header(rt: HostRuntime) {
+    for (whole, line, code) in OTHERS {
+        assert!(rt; fault_of_whole(rt.alloc(), whole) == Some((line, code)));
+    }
 }
 
 /// Whether the moment of the snapshot is 650 and its car stands at floor 2.
@@ -138,21 +154,34 @@ fn goes_on(lines: &mut LineReader<MemorySource>, first: &[u8], second: &[u8]) ->
     has_first && has_second
 }
 
-/// Whether these bytes after the front are an opening, and the lines after it these two.
-fn has_lines(alloc: Global, behind: &[u8], first: &[u8], second: &[u8]) -> Option<bool> {
-    let mut source = MemorySource::new(text(alloc, behind).ok()?, 1, Vec::new(alloc));
-    let mut lines = LineReader::new(alloc, &mut source).ok()?;
-    let is_opening = match read_day_opening(alloc, &mut lines) {
+/// Whether an opening is read that is as was said.
+fn opens(alloc: Global, lines: &mut LineReader<MemorySource>) -> bool {
+    match read_day_opening(alloc, lines) {
         Ok(snapshot) => is_as_said(&snapshot),
         Err(_) => false,
-    };
-    Some(is_opening && goes_on(&mut lines, first, second))
+    }
+}
+
+/// Whether the source gives an opening, and then these two lines.
+fn gives_lines(alloc: Global, source: &mut MemorySource, first: &[u8], second: &[u8]) -> bool {
+    match LineReader::new(alloc, source) {
+        Ok(mut lines) => opens(alloc, &mut lines) && goes_on(&mut lines, first, second),
+        Err(_) => false,
+    }
+}
+
+/// Whether these bytes behind the front are an opening, and the lines behind it these two.
+fn has_lines(alloc: Global, behind: &[u8], first: &[u8], second: &[u8]) -> bool {
+    match source_of(alloc, behind, &[]) {
+        Ok(mut source) => gives_lines(alloc, &mut source, first, second),
+        Err(_) => false,
+    }
 }
 
 #[test]
 fn rows_come_next(rt: HostRuntime) {
     let behind = b"\ntime,origin,destination,persons\r\n 7,2 ,0,3# x\r\n\n";
-    assert!(rt; has_lines(rt.alloc(), behind, b" 7,2 ,0,3# x", b"") == Some(true));
+    assert!(rt; has_lines(rt.alloc(), behind, b" 7,2 ,0,3# x", b""));
 }
 
 /// What is wrong with the text of an opening and a row where the read with this number fails.
