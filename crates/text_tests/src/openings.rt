@@ -1,5 +1,8 @@
 //! What stands before the rows of a day.
 
+ghost use Rattle.std.specs.Prelude.{◌≡◌, None};
+ghost use Rattle.lift_text.specs.LineReader.{failure};
+
 use byte_streams::MemorySource;
 use call_state::Snapshot;
 use lift_text::{LineReader, RawLine, TextFault};
@@ -155,7 +158,9 @@ fn goes_on(lines: &mut LineReader<MemorySource>, first: &[u8], second: &[u8]) ->
 }
 
 /// Whether an opening is read that is as was said.
-fn opens(alloc: Global, lines: &mut LineReader<MemorySource>) -> bool {
+fn opens(alloc: Global, lines: &mut LineReader<MemorySource>) -> bool
+    requires { failure lines.old ≡ None }
+{
     match read_day_opening(alloc, lines) {
         Ok(snapshot) => is_as_said(&snapshot),
         Err(_) => false,
