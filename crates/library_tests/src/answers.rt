@@ -1,6 +1,7 @@
 //! Answers: what is read of a text and written again.
 
 ghost use Rattle.std.specs.Prelude.{◌≤◌};
+ghost use Rattle.answer_text.specs.Answers.{IsWithin};
 
 use crate::makers::{OfLines, OfNoon, is_so_at_noon, is_so_of};
 use answer_text::{Stated, read_answer, write_answer, write_body, write_stops};
@@ -46,7 +47,9 @@ struct HasParts<'a> {
     due: &'a [u8],
 }
 
-fn puts_parts(snapshot: &Snapshot, stated: &Stated, out: &mut Vec<u8>) -> bool {
+fn puts_parts(snapshot: &Snapshot, stated: &Stated, out: &mut Vec<u8>) -> bool
+    requires { IsWithin snapshot.now stated.now }
+{
     if write_body(snapshot, &stated.plan, 31, 17, out).is_err() {
         return false;
     }
@@ -58,7 +61,9 @@ fn puts_parts(snapshot: &Snapshot, stated: &Stated, out: &mut Vec<u8>) -> bool {
     true
 }
 
-fn has_parts(alloc: Global, snapshot: &Snapshot, stated: &Stated, due: &[u8]) -> bool {
+fn has_parts(alloc: Global, snapshot: &Snapshot, stated: &Stated, due: &[u8]) -> bool
+    requires { IsWithin snapshot.now stated.now }
+{
     let mut out = Vec::new(alloc);
     puts_parts(snapshot, stated, &mut out) && out.as_slice() == due
 }

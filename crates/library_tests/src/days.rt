@@ -1,7 +1,8 @@
 //! A day with a planner of the test's own: it gives the cheapest plan with a bound that is less, and a text
 //! in place of the plan's lines.
 
-ghost use Rattle.std.specs.Prelude.{IfOk};
+ghost use Rattle.std.specs.Prelude.{◌≡◌, None, IfOk};
+ghost use Rattle.lift_text.specs.LineReader.{failure};
 ghost use Rattle.day_simulator.specs.Planning.{IsRightPlan};
 ghost use Rattle.day_simulator.specs.Rows.{stated_of};
 
@@ -35,7 +36,9 @@ fn ended(
     alloc: Global,
     lines: &mut LineReader<MemorySource>,
     sink: &mut MemorySink,
-) -> Option<Ended> {
+) -> Option<Ended>
+    requires { failure lines.old ≡ None }
+{
     let plan = |snapshot: &Snapshot|
         ensures { IfOk result (λ planned. IsRightPlan snapshot.now (stated_of planned)) }
     { planned(alloc, snapshot) };
@@ -82,7 +85,9 @@ fn is_due(end: &Ended) -> bool {
 }
 
 /// Whether the day ends so.
-fn ends(alloc: Global, lines: &mut LineReader<MemorySource>, sink: &mut MemorySink) -> bool {
+fn ends(alloc: Global, lines: &mut LineReader<MemorySource>, sink: &mut MemorySink) -> bool
+    requires { failure lines.old ≡ None }
+{
     match ended(alloc, lines, sink) {
         Some(end) => is_due(&end),
         None => false,

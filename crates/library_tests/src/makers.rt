@@ -1,7 +1,8 @@
 //! What several of the tests read from. Sources, readers and the snapshot are made, lent and let go here, so
 //! that no test owns one: each exit of a function repeats the drops of what it owns.
 
-ghost use Rattle.std.specs.Prelude.{◌≤◌};
+ghost use Rattle.std.specs.Prelude.{◌≡◌, ◌≤◌, None};
+ghost use Rattle.lift_text.specs.LineReader.{failure};
 
 use building_text::read_building;
 use byte_streams::{MemorySource, Source, SureSource};
@@ -50,7 +51,8 @@ fn source_of(alloc: Global, bytes: &[u8], each: usize) -> Option<MemorySource>
 
 /// What is asked of the lines of a text.
 pub(crate) trait OfLines {
-    fn is_so(&self, alloc: Global, lines: &mut LineReader<MemorySource>) -> bool;
+    fn is_so(&self, alloc: Global, lines: &mut LineReader<MemorySource>) -> bool
+        requires { failure lines.old ≡ None };
 }
 
 /// Whether it is so of the lines of the source.
