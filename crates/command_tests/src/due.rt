@@ -1,6 +1,7 @@
 //! Whether what came is what is due.
 //!
-//! In what is due a word `{LOW..HIGH}` is any number in this range, and a line `...` any lines, also none.
+//! In what is due a word `{LOW..HIGH}` is any number in this range, a word `...` at the end of a line the rest of that line, and
+//! a line `...` any lines, also none.
 
 use crate::pieces::Text;
 use std::alloc::Global;
@@ -20,6 +21,9 @@ fn is_in_range(range: &str, word: &str) -> bool {
 fn fits(due: &str, line: &str) -> bool {
     let mut words = line.split(' ');
     for wanted in due.split(' ') {
+        if wanted == "..." {
+            return true;
+        }
         match words.next() {
             Some(word) if word == wanted || is_in_range(wanted, word) => {}
             _ => return false,

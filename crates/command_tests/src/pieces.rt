@@ -68,6 +68,14 @@ impl Text {
         }
     }
 
+    /// Appends a line that stands for any lines, and after a piece without an end for the rest of that line, too.
+    fn put_any_lines(&mut self) {
+        if self.bytes.last().copied().unwrap_or(b'\n') != b'\n' {
+            self.put(b"...\n");
+        }
+        self.put(b"...\n");
+    }
+
     /// Appends a piece that is no text's name. False for a line that is no such piece.
     fn put_plain(&mut self, line: &str) -> bool {
         let (mark, text) = line.split_at_checked(1).unwrap_or(("", line));
@@ -79,7 +87,7 @@ impl Text {
             "~" => self.put_escaped(text),
             "*" => self.put_many(text, b"\n"),
             "^" => self.put_many(text, b""),
-            "." => self.put(b"...\n"),
+            "." => self.put_any_lines(),
             _ => return false,
         }
         true
