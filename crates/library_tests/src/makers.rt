@@ -42,7 +42,7 @@ end
 ";
 
 /// A source that gives these bytes in pieces.
-fn source_of(alloc: Global, bytes: &[u8], each: usize) -> Option<MemorySource>
+pub(crate) fn source_of(alloc: Global, bytes: &[u8], each: usize) -> Option<MemorySource>
     requires { 1 ≤ each }
 {
     let bytes = Vec::from_slice(alloc, bytes).ok()?;

@@ -1,6 +1,9 @@
 //! Certificates that are read whole and checked at once, not piece by piece as the program does.
 
-use crate::makers::{OfLines, is_so_of};
+ghost use Rattle.std.specs.Prelude.{◌≡◌, None};
+ghost use Rattle.lift_text.specs.LineReader.{failure};
+
+use crate::makers::source_of;
 use answer_text::read_answer;
 use byte_streams::{MemorySource, OpenGate};
 use call_state::Snapshot;
@@ -173,24 +176,38 @@ fn answer_is_checked(
     tree_is_checked(rt, alloc, lines, snapshot, &stated, wanted)
 }
 
-/// Each number of workers has this verdict on the case, the answer and the certificate that come next.
-#[derive(Drop)]
-struct IsChecked<'a, R: Threads + Sync> {
-    rt: &'a R,
+/// Whether each has it on the case, the answer and the certificate of the lines.
+fn lines_are_checked(
+    rt: &(impl Threads + Sync),
+    alloc: Global,
+    lines: &mut LineReader<MemorySource>,
     wanted: Wanted,
+) -> bool
+    requires { failure lines.old ≡ None }
+{
+    match read_case(alloc, lines) {
+        Ok(snapshot) => answer_is_checked(rt, alloc, lines, &snapshot, wanted),
+        Err(_) => false,
+    }
 }
 
-impl<R: Threads + Sync> OfLines for IsChecked<'_, R> {
-    fn is_so(&self, alloc: Global, lines: &mut LineReader<MemorySource>) -> bool {
-        match read_case(alloc, lines) {
-            Ok(snapshot) => answer_is_checked(self.rt, alloc, lines, &snapshot, self.wanted),
-            Err(_) => false,
-        }
+fn source_is_checked(
+    rt: &(impl Threads + Sync),
+    alloc: Global,
+    source: &mut MemorySource,
+    wanted: Wanted,
+) -> bool {
+    match LineReader::new(alloc, source) {
+        Ok(mut lines) => lines_are_checked(rt, alloc, &mut lines, wanted),
+        Err(_) => false,
     }
 }
 
 fn text_is_checked(rt: &(impl Threads + Sync), alloc: Global, text: &[u8], wanted: Wanted) -> bool {
-    is_so_of(alloc, text, 4096, &IsChecked { rt, wanted })
+    match source_of(alloc, text, 4096) {
+        Some(mut source) => source_is_checked(rt, alloc, &mut source, wanted),
+        None => false,
+    }
 }
 
 #[test]
