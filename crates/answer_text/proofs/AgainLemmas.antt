@@ -7,18 +7,15 @@ use Rattle.elevator_model.specs.Snapshot.{Snapshot, car_count}
 use Rattle.lift_text.specs.Reading.{TextState, Reading, reading}
 use Rattle.lift_text.specs.declared.faults.TextFault.{TextFault}
 use Rattle.lift_text.specs.declared.faults.TextFault.TheVariants.{Read, TooLong, Bad, NoMemory}
-use Rattle.text_sections.specs.declared.codes.TextCode.TheVariants.{NoLineWord}
-use Rattle.text_sections.specs.declared.sections.Turn.TheVariants.{Whole}
-use Rattle.text_sections.specs.Codes.{◌>>=◌}
-use Rattle.text_sections.specs.Words.{is_word, exactly}
+use Rattle.lift_text.specs.declared.codes.TextCode.TheVariants.{NoLineWord}
+use Rattle.text_sections.specs.declared.sections.AfterLine.TheVariants.{Whole}
+use Rattle.text_sections.specs.Judging.{◌>>=◌, in_order}
+use Rattle.text_sections.specs.Words.{is_word, exactly, named, says_end}
 use Rattle.text_sections.specs.Sections.{Line, Step, goes_on, is_whole, step_of, accepted, refused, too_long, outcome, ReadAs}
 use Rattle.text_sections.specs.Canonical.{BeginsWith, Goes, Makes, IsMade}
-use Rattle.text_sections.proofs.CanonicalLemmas.{goes-append, made}
-use Rattle.snapshot_text.specs.Drafts.{in_order}
-use Rattle.snapshot_text.specs.Snapshots.{named, says_end}
-use Rattle.snapshot_text.proofs.Steps.{then-inv, then-ok, in_order-ok, named-inv}
-use Rattle.snapshot_text.proofs.Again.{accepted_made}
-use Rattle.answer_text.specs.declared.answers.Stated.{Stated}
+use Rattle.text_sections.proofs.CanonicalLemmas.{goes-append, made, accepted_made}
+use Rattle.text_sections.proofs.StepLemmas.{then-inv, then-ok, in_order-ok, named-inv}
+use Rattle.search_model.specs.declared.Stated.{Stated}
 use Rattle.answer_text.specs.declared.kinds.LineWord.{LineWord}
 use Rattle.answer_text.specs.declared.kinds.LineWord.TheVariants.{Answer, Cost as CostWord, Bound as BoundWord, Tour as TourWord, Stop as StopWord, End}
 use Rattle.answer_text.specs.Words.{head_said, amount_said, tour_said, stop_said}

@@ -1,53 +1,27 @@
 -- The call with an id, and the calls with several ids.
-use Rattle.std.proofs.Common.{◌≡◌, ℕ, zero, suc, ◌+◌, ◌<◌, ◌≤◌, ◌==◌, Bool, true, false, cond, ltb, List, [], ◌∷◌, ◌++◌, length, drop, get_or, None, Some, Result, Ok, Err, refl, sym, ap, ◌∙◌, subst, arith, add-one, append_assoc, append-nil, drop-cons}
-use Rattle.std.specs.Prelude.{All}
-use Rattle.std.specs.List.{position, position_or_len}
-use Rattle.std.proofs.lemmas.Bool.{ne_eqb, eq-eqb, lt-ltb, le-ltb}
+use Rattle.std.proofs.Common.{◌≡◌, ℕ, ◌+◌, ◌<◌, ◌≤◌, ◌==◌, List, [], ◌∷◌, ◌++◌, length, drop, get_or, Ok, Err, refl, sym, ap, ◌∙◌, add-one, append_assoc, append-nil, drop-cons}
+use Rattle.std.proofs.lemmas.Bool.{ne_eqb, eq-eqb}
 use Rattle.std.proofs.lemmas.List.{drop_all}
-use Rattle.std.proofs.lemmas.List.Sums.{position_or_len_is}
 use Rattle.elevator_model.specs.declared.Call.{Call}
 use Rattle.elevator_model.specs.Snapshot.{Snapshot, IsAccepted, call_count, call_of, no_call}
-use Rattle.lift_text.specs.Numbers.{digits_number}
-use Rattle.text_sections.specs.declared.codes.TextCode.{TextCode}
-use Rattle.text_sections.specs.declared.codes.TextCode.TheVariants.{UnknownId}
-use Rattle.text_sections.specs.declared.codes.LineFault.{LineFault}
-use Rattle.text_sections.specs.declared.codes.LineFault.TheVariants.{Bad}
-use Rattle.text_sections.specs.Codes.{Judged, ◌>>=◌, code_of}
-use Rattle.text_sections.specs.Words.{within}
-use Rattle.text_sections.specs.NumberLists.{numbers_of}
-use Rattle.text_sections.proofs.NumberLemmas.{within_high}
+use Rattle.lift_text.specs.declared.codes.TextCode.{TextCode}
+use Rattle.lift_text.specs.declared.codes.TextCode.TheVariants.{UnknownId}
+use Rattle.text_sections.specs.Judging.{Judged, ◌>>=◌}
 use Rattle.text_sections.proofs.NumberListLemmas.{with_front}
-use Rattle.snapshot_text.specs.Words.{known}
-use Rattle.snapshot_text.proofs.Steps.{then-inv}
-use Rattle.answer_text.specs.Words.{call_named, calls_named, Gives}
+use Rattle.text_sections.proofs.StepLemmas.{known-at, known-none}
+use Rattle.answer_text.specs.Words.{call_named, calls_named}
 
 -- ---- one call
 
-found_at : (p : Call → Bool) (calls : List Call) (j : ℕ) → position_or_len p calls ≡ j → j < length calls → position p calls ≡ Some j
-found_at p calls j at below =
-    let within : ltb (position_or_len p calls) (length calls) ≡ true = lt-ltb _ _ (omega arith) in
-    ap (λ is. cond is (Some (position_or_len p calls)) None) within ∙ ap Some at
-
-found_none : (p : Call → Bool) (calls : List Call) → position_or_len p calls ≡ length calls → position p calls ≡ None
-found_none p calls at =
-    let past : ltb (position_or_len p calls) (length calls) ≡ false = le-ltb _ _ (omega arith) in
-    ap (λ is. cond is (Some (position_or_len p calls)) None) past
-
 pub named_call : (s : Snapshot) (id j : ℕ) → IsAccepted s → j < call_count s → (call_of s j).id ≡ id → Ok j ≡ call_named s id
 named_call s id j good below same =
-    let p : Call → Bool = λ x. x.id == id in
-    let first = position_or_len_is p s.calls j no_call (omega arith)
+    known-at (λ (x : Call). x.id == id) s.calls j no_call below
     (λ k before. ne_eqb (call_of s k).id id (λ is. good.ids k j before below (is ∙ sym same)))
-    (λ _. eq-eqb (call_of s j).id id same) in
-    ap known (sym (found_at p s.calls j first below))
+    (eq-eqb (call_of s j).id id same)
 
 pub named_none : (s : Snapshot) (id : ℕ) → ((j : ℕ) → j < call_count s → (call_of s j).id ≡ id → ⊥) → Err UnknownId ≡ call_named s id
 named_none s id none =
-    let p : Call → Bool = λ x. x.id == id in
-    let last = position_or_len_is p s.calls (length s.calls) no_call (omega arith)
-    (λ k below. ne_eqb (call_of s k).id id (none k below))
-    (λ past. absurd (omega arith)) in
-    ap known (sym (found_none p s.calls last))
+    known-none (λ (x : Call). x.id == id) s.calls no_call (λ k below. ne_eqb (call_of s k).id id (none k below))
 
 -- ---- several calls
 
@@ -83,23 +57,3 @@ module _ (s : Snapshot) where
 
   pub named_all : (ids now : List ℕ) (k : ℕ) → length ids ≤ k → calls_named s ids ≡ with_front now (calls_named s (drop k ids)) → calls_named s ids ≡ Ok now
   named_all ids now k past so_far = so_far ∙ ap (λ rest. with_front now (calls_named s rest)) (drop_all k ids past) ∙ ap Ok (append-nil now)
-
--- ---- the numbers that were read
-
-pub all_more : {X : Type 0} (P : X → Type 0) (x : X) (xs : List X) → P x → All P xs → All P (x ∷ xs)
-all_more P x xs here rest zero d below = here
-all_more P x xs here rest (suc k) d below = rest k d (omega arith)
-
-pub numbers_high : (words : List (List ℕ)) (low high : ℕ) (items : List ℕ) → numbers_of low high words ≡ Ok items → All (λ n. n ≤ high) items
-numbers_high [] low high [] is = λ k d below. absurd (omega arith)
-numbers_high [] low high (n ∷ items) is = absurd cc
-numbers_high (word ∷ words) low high items is =
-    let first = then-inv (within low high (digits_number word)) (λ n. numbers_of low high words >>= λ ns. Ok (n ∷ ns)) items is in
-    let later = then-inv (numbers_of low high words) (λ ns. Ok (first.0 ∷ ns)) items first.2 in
-    let same : first.0 ∷ later.0 ≡ items = cc in
-    subst (All (λ n. n ≤ high)) same (all_more (λ n. n ≤ high) first.0 later.0 (within_high low high first.0 (digits_number word) first.1) (numbers_high words low high later.0 later.1))
-
--- ---- answers
-
-pub gives_bad : {X : Type 0} (judged : Judged X) (answer : Result X LineFault) (fault : LineFault) (code : TextCode) → answer ≡ Err fault → fault ≡ Bad (code_of code) → judged ≡ Err code → Gives judged answer
-gives_bad {X} judged answer fault code failed is bad = subst (λ (a : Result X LineFault). Gives judged a) (sym (failed ∙ ap Err is)) (code, bad, refl)

@@ -12,7 +12,7 @@ use Rattle.elevator_model.specs.Tours.{Progress, start_of, make_stop, is_call_fo
 use Rattle.elevator_model.specs.Plans.{tour_of, IsFeasiblePlan}
 use Rattle.call_state.proofs.ListTests.{list_any_at_false}
 use Rattle.answer_text.specs.Plans.{AreCalls, BoardsCalls, FitsSnapshot}
-use Rattle.answer_text.proofs.CallLemmas.{all_more}
+use Rattle.text_sections.proofs.EachLemmas.{all_more}
 
 no_rule : (broken : Rule → Bool) (rule : Rule) (rules : List Rule) → first_rule broken (rule ∷ rules) ≡ None → (broken rule ≡ false) × (first_rule broken rules ≡ None)
 no_rule broken rule rules e = by_case (broken rule) (first_rule broken rules) e

@@ -10,7 +10,7 @@ use Rattle.elevator_model.specs.Plans.{tour_of}
 use Rattle.lift_text.specs.Text.{word, words, line}
 use Rattle.text_sections.specs.Canonical.{line_text, lines_text}
 use Rattle.text_sections.proofs.CanonicalLemmas.{line_of_numbers}
-use Rattle.answer_text.specs.declared.answers.Stated.{Stated}
+use Rattle.search_model.specs.declared.Stated.{Stated}
 use Rattle.answer_text.specs.Plans.{by_index}
 use Rattle.answer_text.specs.Texts.{head_words, cost_words, bound_words, tour_words, stop_words, end_words, stop_lines, tour_lines, body_lines, answer_lines, stops_text, body_text, answer_text, solved_line, solved_text}
 use Rattle.answer_text.proofs.Boards.{flat_map-flat_map}

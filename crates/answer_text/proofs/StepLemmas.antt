@@ -1,15 +1,15 @@
 -- What is known of a line where a step is known.
-use Rattle.std.proofs.Common.{◌≡◌, ℕ, zero, suc, ◌+◌, Bool, true, false, List, [], ◌∷◌, ◌++◌, length, get_or, set, Ok, Err, refl, ap, ◌∙◌, subst, arith}
+use Rattle.std.proofs.Common.{◌≡◌, ℕ, zero, suc, ◌+◌, Bool, true, false, List, [], ◌∷◌, ◌++◌, length, get_or, set, Ok, Err, refl, ap, ◌∙◌, arith}
 use Rattle.std.specs.Prelude.{codes, if◌then◌else◌}
 use Rattle.std.specs.Str.{bytes_eq}
 use Rattle.std.proofs.lemmas.Slice.Eq.{bytes_eq-Decides}
 use Rattle.elevator_model.specs.declared.Stop.{Stop}
-use Rattle.text_sections.specs.declared.codes.TextCode.TheVariants.{NoLineWord}
-use Rattle.text_sections.specs.declared.sections.Turn.{Turn}
-use Rattle.text_sections.specs.Codes.{Judged, ◌>>=◌}
+use Rattle.lift_text.specs.declared.codes.TextCode.TheVariants.{NoLineWord}
+use Rattle.text_sections.specs.declared.sections.AfterLine.{AfterLine}
+use Rattle.text_sections.specs.Judging.{Judged, ◌>>=◌}
 use Rattle.text_sections.specs.Words.{is_word, word_at}
 use Rattle.text_sections.specs.Sections.{Line, Step, goes_on, is_whole, step_of}
-use Rattle.snapshot_text.specs.Snapshots.{named}
+use Rattle.text_sections.proofs.StepLemmas.{picked}
 use Rattle.answer_text.specs.declared.kinds.LineWord.{LineWord}
 use Rattle.answer_text.specs.declared.kinds.LineWord.TheVariants.{Answer, Cost as CostWord, Bound as BoundWord, Tour as TourWord, Stop as StopWord, End}
 use Rattle.answer_text.specs.Drafts.{Draft, any_word, line_word, judged_word, after, add_stop}
@@ -52,11 +52,11 @@ pub item_not_whole : {X : Type 0} (judged : Judged X) (with_one : X → Draft) (
 item_not_whole (Ok x) with_one end e = cc
 item_not_whole (Err code) with_one end e = cc
 
-pub end_whole : (judged : Judged Turn) (d end : Draft) → (judged >>= λ _. Ok (is_whole d)) ≡ Ok (is_whole end) → (turn : Turn) × (judged ≡ Ok turn) × (d ≡ end)
+pub end_whole : (judged : Judged AfterLine) (d end : Draft) → (judged >>= λ _. Ok (is_whole d)) ≡ Ok (is_whole end) → (turn : AfterLine) × (judged ≡ Ok turn) × (d ≡ end)
 end_whole (Ok turn) d end e = (turn, refl, cc)
 end_whole (Err code) d end e = absurd cc
 
-pub end_not_on : (judged : Judged Turn) (d next : Draft) → (judged >>= λ _. Ok (is_whole d)) ≡ Ok (goes_on next) → ⊥
+pub end_not_on : (judged : Judged AfterLine) (d next : Draft) → (judged >>= λ _. Ok (is_whole d)) ≡ Ok (goes_on next) → ⊥
 end_not_on (Ok turn) d next e = cc
 end_not_on (Err code) d next e = cc
 
@@ -70,28 +70,18 @@ text_of TourWord = codes "tour"
 text_of StopWord = codes "stop"
 text_of End = codes "end"
 
-abbrev Is : Line → LineWord → Type 0
-Is words word = is_word words 0 (text_of word) ≡ true
-
-picked : (words : Line) (b : Bool) (this word : LineWord) (rest : Judged LineWord) → (b ≡ true → Is words this) → (rest ≡ Ok word → Is words word) → (if b then Ok this else rest) ≡ Ok word → Is words word
-picked words true this word rest here later e = let same : this ≡ word = cc in subst (Is words) same (here refl)
-picked words false this word rest here later e = later e
-
 pub any_word_is : (words : Line) (word : LineWord) → any_word words ≡ Ok word → is_word words 0 (text_of word) ≡ true
 any_word_is words word e =
-    picked words _ Answer word _ (λ is. is)
-    (picked words _ CostWord word _ (λ is. is)
-    (picked words _ BoundWord word _ (λ is. is)
-    (picked words _ TourWord word _ (λ is. is)
-    (picked words _ StopWord word _ (λ is. is)
-    (picked words _ End word _ (λ is. is) (λ none. absurd cc)))))) e
+    picked text_of words _ Answer word _ (λ is. is)
+    (picked text_of words _ CostWord word _ (λ is. is)
+    (picked text_of words _ BoundWord word _ (λ is. is)
+    (picked text_of words _ TourWord word _ (λ is. is)
+    (picked text_of words _ StopWord word _ (λ is. is)
+    (picked text_of words _ End word _ (λ is. is) (λ none. absurd cc)))))) e
 
 pub only_word : (is : Bool) (word : LineWord) → (if is then Ok Answer else Err NoLineWord) ≡ Ok word → (is ≡ true) × (Answer ≡ word)
 only_word true word e = (refl, cc)
 only_word false word e = absurd cc
-
-pub is_named : (words : Line) (word : LineWord) → is_word words 0 (text_of word) ≡ true → named (text_of word) words ≡ Ok tt
-is_named words word is = ap (λ (e : Bool). if e then Ok tt else Err NoLineWord) is
 
 -- the line word that this text is
 abbrev word_of : List ℕ → Judged LineWord

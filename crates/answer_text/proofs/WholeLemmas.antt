@@ -1,27 +1,24 @@
 -- What lines that make a section say.
-use Rattle.std.proofs.Common.{◌≡◌, ℕ, zero, suc, ◌+◌, ◌<◌, ◌≤◌, ◌==◌, not, true, List, [], ◌∷◌, ◌++◌, length, map, refl, sym, ap, ◌∙◌, subst, arith, Ok, append_assoc, append-nil}
-use Rattle.std.specs.Prelude.{codes, IfOk}
+use Rattle.std.proofs.Common.{◌≡◌, ℕ, zero, suc, ◌+◌, ◌<◌, ◌==◌, not, true, List, [], ◌∷◌, ◌++◌, length, map, refl, sym, ap, ◌∙◌, subst, arith, Ok, append_assoc, append-nil}
+use Rattle.std.specs.Prelude.{codes}
 use Rattle.std.proofs.lemmas.Bool.{eqb-true}
 use Rattle.std.proofs.lemmas.List.{map_push}
 use Rattle.elevator_model.specs.declared.Stop.{Stop}
 use Rattle.elevator_model.specs.Snapshot.{Snapshot, car_count}
-use Rattle.lift_text.specs.Numbers.{digits_number}
-use Rattle.text_sections.specs.declared.sections.Turn.TheVariants.{Whole}
-use Rattle.text_sections.specs.Codes.{Judged, ◌>>=◌}
-use Rattle.text_sections.specs.Words.{is_word, exactly, number, word_at}
+use Rattle.text_sections.specs.declared.sections.AfterLine.TheVariants.{Whole}
+use Rattle.text_sections.specs.Judging.{Judged, ◌>>=◌, in_order}
+use Rattle.text_sections.specs.Words.{is_word, exactly, number, named, says_end}
 use Rattle.text_sections.specs.Sections.{Line, goes_on, is_whole}
 use Rattle.text_sections.specs.Canonical.{Goes, Makes}
-use Rattle.text_sections.proofs.NumberLemmas.{is_within}
-use Rattle.snapshot_text.specs.Drafts.{in_order}
-use Rattle.snapshot_text.specs.Snapshots.{named, says_end}
-use Rattle.snapshot_text.proofs.Steps.{then-inv, then-ok, in_order-inv}
+use Rattle.text_sections.proofs.StepLemmas.{then-inv, then-ok, in_order-inv, named-ok}
+use Rattle.text_sections.proofs.NumberLemmas.{number_one}
 use Rattle.answer_text.specs.declared.kinds.Due.TheVariants.{Cost, Bound, Tours}
 use Rattle.answer_text.specs.declared.kinds.LineWord.{LineWord}
 use Rattle.answer_text.specs.declared.kinds.LineWord.TheVariants.{Answer, Cost as CostWord, Bound as BoundWord, Tour as TourWord, Stop as StopWord, End}
 use Rattle.answer_text.specs.Words.{head_said, amount_said, tour_said, stop_said}
 use Rattle.answer_text.specs.Drafts.{Draft, blank, stated_read, add_stop, has_tour, tour_in, stop_in, end_in, judged_word, after}
 use Rattle.answer_text.specs.Answers.{says_head, says_cost, says_bound, says_tour, says_stop, SaysTour, SayTours, StandsFor}
-use Rattle.answer_text.proofs.StepLemmas.{after_goes, after_whole, item_goes, item_not_whole, end_whole, end_not_on, text_of, any_word_is, only_word, is_named}
+use Rattle.answer_text.proofs.StepLemmas.{after_goes, after_whole, item_goes, item_not_whole, end_whole, end_not_on, text_of, any_word_is, only_word}
 
 -- ---- one more line of the tours
 
@@ -65,9 +62,6 @@ module _ (s : Snapshot) where
 
   -- ---- the first three lines
 
-  number_one : (words : Line) (v : ℕ) → number words 1 1 1 ≡ Ok v → 1 ≡ v
-  number_one words v e = let both = subst (λ (r : Judged ℕ). IfOk r (λ n. (1 ≤ n) × (n ≤ 1))) e (is_within 1 1 (digits_number (word_at words 1))) in omega (arith, both)
-
   head_line : (words : Line) (next : Draft) → after (blank s) words ≡ goes_on next → (begun ≡ next) × (says_head words ≡ Ok 1)
   head_line words next e =
       let inv = after_goes (blank s) next words e in
@@ -76,13 +70,13 @@ module _ (s : Snapshot) where
       let one = item_goes (head_said words) (λ _. begun) next here in
       let two = then-inv (exactly words 2) (λ _. number words 1 1 1) one.0 one.1 in
       let first : head_said words ≡ Ok 1 = one.1 ∙ ap (λ (n : ℕ). Ok n) (sym (number_one words one.0 two.2)) in
-      (one.2, then-ok (named (codes "answer") words) (λ _. head_said words) tt 1 (is_named words Answer word.0) first)
+      (one.2, then-ok (named (codes "answer") words) (λ _. head_said words) tt 1 (named-ok words (text_of Answer) word.0) first)
 
   cost_by_word : (word : LineWord) (words : Line) (next : Draft) → is_word words 0 (text_of word) ≡ true → judged_word word begun words ≡ Ok (goes_on next) → (cost : ℕ) × (priced cost ≡ next) × (says_cost words ≡ Ok cost)
   cost_by_word Answer words next is e = absurd cc
   cost_by_word CostWord words next is e =
       let one = item_goes (amount_said words) priced next e in
-      (one.0, one.2, then-ok (named (codes "cost") words) (λ _. amount_said words) tt one.0 (is_named words CostWord is) one.1)
+      (one.0, one.2, then-ok (named (codes "cost") words) (λ _. amount_said words) tt one.0 (named-ok words (text_of CostWord) is) one.1)
   cost_by_word BoundWord words next is e = absurd cc
   cost_by_word TourWord words next is e = absurd cc
   cost_by_word StopWord words next is e = absurd cc
@@ -97,7 +91,7 @@ module _ (s : Snapshot) where
   bound_by_word cost CostWord words next is e = absurd cc
   bound_by_word cost BoundWord words next is e =
       let one = item_goes (amount_said words) (λ bound. touring cost bound []) next e in
-      (one.0, one.2, then-ok (named (codes "bound") words) (λ _. amount_said words) tt one.0 (is_named words BoundWord is) one.1)
+      (one.0, one.2, then-ok (named (codes "bound") words) (λ _. amount_said words) tt one.0 (named-ok words (text_of BoundWord) is) one.1)
   bound_by_word cost TourWord words next is e = absurd cc
   bound_by_word cost StopWord words next is e = absurd cc
   bound_by_word cost End words next is e = absurd cc
@@ -160,13 +154,13 @@ module _ (s : Snapshot) where
         let car = then-inv (tour_said s words) (λ c. in_order (c == length tours) >>= λ _. Ok c) one.0 one.1 in
         let due = then-inv (in_order (car.0 == length tours)) (λ _. Ok car.0) one.0 car.2 in
         let place : car.0 ≡ length tours = eqb-true car.0 (length tours) (in_order-inv (car.0 == length tours) due.0 due.1) in
-        let says : says_tour s words ≡ Ok (0 + length tours) = then-ok (named (codes "tour") words) (λ _. tour_said s words) tt (0 + length tours) (is_named words TourWord is) (car.1 ∙ ap (λ (n : ℕ). Ok n) (place ∙ omega arith)) in
+        let says : says_tour s words ≡ Ok (0 + length tours) = then-ok (named (codes "tour") words) (λ _. tour_said s words) tt (0 + length tours) (named-ok words (text_of TourWord) is) (car.1 ∙ ap (λ (n : ℕ). Ok n) (place ∙ omega arith)) in
         (tours ++ [] ∷ [], one.2, tour_begins 0 lines tours words said says)
     took_by_word StopWord lines tours next words said is e =
         let one = item_goes (stop_in (draft tours) words) (λ stop. draft (add_stop tours stop)) next e in
         let order = then-inv (in_order (has_tour (draft tours))) (λ _. stop_said s words) one.0 one.1 in
         let some = some_of (length tours) (in_order-inv (not (length tours == 0)) order.0 order.1) in
-        let says : says_stop s words ≡ Ok one.0 = then-ok (named (codes "stop") words) (λ _. stop_said s words) tt one.0 (is_named words StopWord is) order.2 in
+        let says : says_stop s words ≡ Ok one.0 = then-ok (named (codes "stop") words) (λ _. stop_said s words) tt one.0 (named-ok words (text_of StopWord) is) order.2 in
         (add_stop tours one.0, one.2, stop_added 0 lines tours words one.0 some said says)
     took_by_word End lines tours next words said is e = absurd (end_not_on (end_in (draft tours) words) (draft tours) next e)
 
@@ -193,7 +187,7 @@ module _ (s : Snapshot) where
         let inv = end_whole (end_in (draft tours) words) (draft tours) end e in
         let order = then-inv (in_order (length tours == car_count s)) (λ _. exactly words 1 >>= λ _. Ok Whole) inv.0 inv.1 in
         let one = then-inv (exactly words 1) (λ _. Ok Whole) inv.0 order.2 in
-        (inv.2, then-ok (named (codes "end") words) (λ _. exactly words 1) tt tt (is_named words End is) one.1, eqb-true (length tours) (car_count s) (in_order-inv (length tours == car_count s) order.0 order.1))
+        (inv.2, then-ok (named (codes "end") words) (λ _. exactly words 1) tt tt (named-ok words (text_of End) is) one.1, eqb-true (length tours) (car_count s) (in_order-inv (length tours == car_count s) order.0 order.1))
 
     ends : (tours : List (List Stop)) (end : Draft) (words : Line) → after (draft tours) words ≡ is_whole end → Ends tours words end
     ends tours end words e = let inv = after_whole (draft tours) end words e in whole_by_word inv.0 tours end words (any_word_is words inv.0 inv.1) inv.2

@@ -1,48 +1,31 @@
 -- An answer that lines stand for fits the snapshot.
-use Rattle.std.proofs.Common.{◌≡◌, ℕ, suc, ◌^◌, ◌<◌, ◌≤◌, ◌==◌, Bool, true, false, List, [], ◌∷◌, length, map, refl, subst, arith, None, Some, Ok}
-use Rattle.std.specs.Prelude.{codes, nat_lt, All, IfOk, if◌then◌else◌}
-use Rattle.std.specs.List.{position_or_len}
-use Rattle.std.proofs.lemmas.Bool.{ltb-true}
+use Rattle.std.proofs.Common.{◌≡◌, ℕ, suc, ◌^◌, ◌<◌, ◌≤◌, ◌==◌, List, [], ◌∷◌, map, subst, arith, Ok}
+use Rattle.std.specs.Prelude.{codes, All}
 use Rattle.elevator_model.specs.declared.Call.{Call}
 use Rattle.elevator_model.specs.declared.Stop.{Stop}
 use Rattle.elevator_model.specs.Snapshot.{Snapshot, call_count}
-use Rattle.lift_text.specs.Numbers.{digits_number}
-use Rattle.text_sections.specs.Codes.{Judged, ◌>>=◌}
-use Rattle.text_sections.specs.Words.{exactly, at_least, number, word_at}
+use Rattle.text_sections.specs.Judging.{◌>>=◌}
+use Rattle.text_sections.specs.Words.{exactly, at_least, number, short, named}
 use Rattle.text_sections.specs.NumberLists.{numbers}
 use Rattle.text_sections.specs.Sections.{Line}
-use Rattle.text_sections.proofs.NumberLemmas.{is_within}
-use Rattle.snapshot_text.specs.Words.{short, known}
-use Rattle.snapshot_text.specs.Snapshots.{named}
-use Rattle.snapshot_text.proofs.Steps.{then-inv}
-use Rattle.answer_text.specs.declared.answers.Stated.{Stated}
+use Rattle.text_sections.proofs.StepLemmas.{then-inv, known-below}
+use Rattle.text_sections.proofs.EachLemmas.{all_more}
+use Rattle.text_sections.proofs.NumberLemmas.{number_in}
+use Rattle.search_model.specs.declared.Stated.{Stated}
 use Rattle.answer_text.specs.Plans.{AreCalls}
 use Rattle.answer_text.specs.Words.{amount_said, call_named, calls_named, stop_said}
 use Rattle.answer_text.specs.Answers.{says_stop, SayTours, StandsFor, IsWithin}
-use Rattle.answer_text.proofs.CallLemmas.{all_more}
-
-number_high : (words : Line) (k low high n : ℕ) → number words k low high ≡ Ok n → n ≤ high
-number_high words k low high n e = (subst (λ (r : Judged ℕ). IfOk r (λ m. (low ≤ m) × (m ≤ high))) e (is_within low high (digits_number (word_at words k)))).1
 
 amount_high : (words : Line) (name : List ℕ) (n : ℕ) → (named name words >>= λ _. amount_said words) ≡ Ok n → n ≤ 1000000000000000000
 amount_high words name n e =
     let named_so = then-inv (named name words) (λ _. amount_said words) n e in
     let two = then-inv (exactly words 2) (λ _. number words 1 0 1000000000000000000) n named_so.2 in
-    number_high words 1 0 1000000000000000000 n two.2
+    (number_in words 1 0 1000000000000000000 n two.2).1
 
 -- ---- calls
 
 call_below : (s : Snapshot) (id j : ℕ) → call_named s id ≡ Ok j → j < call_count s
-call_below s id j e =
-    let p : Call → Bool = λ x. x.id == id in
-    below (position_or_len p s.calls) (length s.calls) j e
-  where
-    cases : (is : Bool) (at count c : ℕ) → (is ≡ true → at < count) → known (if is then Some at else None) ≡ Ok c → c < count
-    cases true at count c small same = let equal : at ≡ c = cc in omega (arith, small refl)
-    cases false at count c small same = absurd cc
-
-    below : (at count c : ℕ) → known (if nat_lt at count then Some at else None) ≡ Ok c → c < count
-    below at count c same = cases (nat_lt at count) at count c (ltb-true at count) same
+call_below s id j e = known-below (λ (x : Call). x.id == id) s.calls j e
 
 calls_below : (s : Snapshot) (ids boards : List ℕ) → calls_named s ids ≡ Ok boards → AreCalls s boards
 calls_below s [] [] e = λ k d below. absurd (omega arith)
@@ -67,7 +50,7 @@ stop_fits s words stop e =
     let boards = then-inv (calls_named s ids.0) (λ boards. Ok (record { floor = floor.0; boards = boards })) stop ids.2 in
     let found : Stop = record { floor = floor.0; boards = boards.0 } in
     let same : found ≡ stop = cc in
-    let low = number_high words 1 0 4294967295 floor.0 floor.1 in
+    let low = (number_in words 1 0 4294967295 floor.0 floor.1).1 in
     subst (Fits s) {x = found} same (calls_below s ids.0 boards.0 boards.1, omega (arith, low))
 
 all_none : {X : Type 0} (P : X → Type 0) → All P []

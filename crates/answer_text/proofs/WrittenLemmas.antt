@@ -1,8 +1,8 @@
 -- The lines of an answer's text stand for it.
-use Rattle.std.proofs.Common.{◌≡◌, ℕ, zero, suc, ◌+◌, ◌^◌, ◌<◌, ◌≤◌, ◌==◌, ◌&&◌, not, Bool, true, false, List, [], ◌∷◌, ◌++◌, length, map, filter, get_or, refl, sym, ap, ◌∙◌, subst, arith, add-one, Option, None, Some, Result, Ok, Err, length-append, append_assoc, lit<}
-use Rattle.std.specs.Prelude.{codes, decimal, nat_le, nat_lt, All, if◌then◌else◌}
-use Rattle.std.specs.List.{flat_map, range_with_len, list_all, AllByRecursion}
-use Rattle.std.proofs.lemmas.Bool.{eqb-false, eqb-true, false≢true, and_parts, leb-true, ltb-true, le-ltb}
+use Rattle.std.proofs.Common.{◌≡◌, ℕ, zero, suc, ◌+◌, ◌^◌, ◌<◌, ◌≤◌, ◌==◌, Bool, List, [], ◌∷◌, ◌++◌, length, map, filter, get_or, refl, sym, ap, ◌∙◌, subst, arith, add-one, Option, None, Some, Result, Ok, Err, length-append, append_assoc, lit<}
+use Rattle.std.specs.Prelude.{codes, decimal, All, if◌then◌else◌}
+use Rattle.std.specs.List.{flat_map, range_with_len, AllByRecursion}
+use Rattle.std.proofs.lemmas.Bool.{eqb-true, le-ltb}
 use Rattle.std.proofs.lemmas.List.{length-map}
 use Rattle.std.proofs.lemmas.Fmt.{length-decimal-le}
 use Rattle.elevator_model.specs.declared.Stop.{Stop}
@@ -11,17 +11,18 @@ use Rattle.elevator_model.specs.Plans.{tour_of}
 use Rattle.lift_text.specs.Numbers.{digits_number}
 use Rattle.lift_text.specs.Reading.{TextState, reading, line_limit}
 use Rattle.lift_text.specs.declared.faults.TextFault.{TextFault}
-use Rattle.text_sections.specs.declared.codes.TextCode.TheVariants.{Missing}
-use Rattle.text_sections.specs.Codes.{Judged, ◌>>=◌}
-use Rattle.text_sections.specs.Words.{at_least, within}
+use Rattle.lift_text.specs.declared.codes.TextCode.TheVariants.{Missing}
+use Rattle.text_sections.specs.Judging.{Judged, ◌>>=◌}
+use Rattle.text_sections.specs.Words.{at_least, within, short}
 use Rattle.text_sections.specs.NumberLists.{numbers, numbers_of}
-use Rattle.text_sections.specs.Canonical.{IsWordByte, IsWord, IsLineOfWords, BeginsWith, joined}
+use Rattle.text_sections.specs.Canonical.{IsWord, IsLineOfWords, BeginsWith, joined}
 use Rattle.text_sections.proofs.NumberLemmas.{number_again, written_number}
-use Rattle.text_sections.proofs.CanonicalLemmas.{decimal_word, lines_again}
-use Rattle.snapshot_text.specs.Words.{short, car_named}
+use Rattle.text_sections.proofs.CanonicalLemmas.{decimal_word, lines_again, name_word}
+use Rattle.text_sections.proofs.StepLemmas.{then-ok}
+use Rattle.text_sections.proofs.EachLemmas.{each_of, each-append}
+use Rattle.snapshot_text.specs.Words.{car_named}
 use Rattle.snapshot_text.proofs.CarLemmas.{named_car}
-use Rattle.snapshot_text.proofs.Steps.{then-ok}
-use Rattle.answer_text.specs.declared.answers.Stated.{Stated}
+use Rattle.search_model.specs.declared.Stated.{Stated}
 use Rattle.answer_text.specs.Plans.{by_index, stop_by_index, plan_by_index, stated_by_index}
 use Rattle.answer_text.specs.Texts.{head_words, cost_words, bound_words, tour_words, stop_words, end_words, stop_lines, tour_lines, answer_lines, answer_text}
 use Rattle.answer_text.specs.Words.{call_named, calls_named}
@@ -31,14 +32,6 @@ use Rattle.answer_text.proofs.Boards.{each_kept}
 use Rattle.answer_text.proofs.CallLemmas.{named_call}
 
 -- ---- lists
-
-each-append : {X : Type 0} (P : X → Type 0) (xs ys : List X) → AllByRecursion P xs → AllByRecursion P ys → AllByRecursion P (xs ++ ys)
-each-append P [] ys all more = more
-each-append P (x ∷ xs) ys all more = (all.0, each-append P xs ys all.1 more)
-
-each_of : {X : Type 0} (P : X → Type 0) (xs : List X) → All P xs → AllByRecursion P xs
-each_of P [] all = tt
-each_of P (x ∷ xs) all = (all 0 x (omega arith), each_of P xs (λ k d below. all (suc k) d (omega arith)))
 
 both_each : {X : Type 0} (P Q : X → Type 0) (xs : List X) → AllByRecursion P xs → AllByRecursion Q xs → AllByRecursion (λ x. P x × Q x) xs
 both_each P Q [] one other = tt
@@ -54,24 +47,6 @@ mid [] xs x d = refl
 mid (y ∷ front) xs x d = mid front xs x d
 
 -- ---- words and lines
-
-abbrev is_byte : ℕ → Bool
-is_byte b = nat_le 33 b && (nat_le b 126 && not (b == 35))
-
-not-true : (is : Bool) → not is ≡ true → is ≡ false
-not-true true e = absurd (false≢true e)
-not-true false e = refl
-
-bytes_from : (bs : List ℕ) → list_all is_byte bs ≡ true → AllByRecursion IsWordByte bs
-bytes_from [] all = tt
-bytes_from (b ∷ bs) all =
-    let parts = and_parts (is_byte b) (list_all is_byte bs) all in
-    let low = and_parts (nat_le 33 b) (nat_le b 126 && not (b == 35)) parts.0 in
-    let high = and_parts (nat_le b 126) (not (b == 35)) low.1 in
-    ((leb-true 33 b low.0, leb-true b 126 high.0, eqb-false b 35 (not-true (b == 35) high.1)), bytes_from bs parts.1)
-
-name_word : (name : List ℕ) → list_all is_byte name ≡ true → nat_lt 0 (length name) ≡ true → IsWord name
-name_word name all some = record { some = ltb-true 0 (length name) some; bytes = bytes_from name all }
 
 number_line : (name : List ℕ) (n : ℕ) → IsWord name → length name ≤ 20 → n < 2 ^ 64 → IsLineOfWords (name ∷ decimal n ∷ [])
 number_line name n is few small =

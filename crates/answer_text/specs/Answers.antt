@@ -5,11 +5,11 @@ use Rattle.elevator_model.specs.Snapshot.{Snapshot, car_count}
 use Rattle.lift_text.specs.Reading.{TextState, Reading, reading}
 use Rattle.lift_text.specs.declared.faults.TextFault.{TextFault}
 use Rattle.lift_text.specs.declared.faults.TextFault.TheVariants.{Read, TooLong, Bad, NoMemory}
-use Rattle.text_sections.specs.Codes.{Judged, ◌>>=◌}
+use Rattle.text_sections.specs.Judging.{Judged, ◌>>=◌}
 use Rattle.text_sections.specs.Sections.{Line, ReadAs}
 use Rattle.text_sections.specs.Canonical.{BeginsWith}
-use Rattle.snapshot_text.specs.Snapshots.{named, says_end}
-use Rattle.answer_text.specs.declared.answers.Stated.{Stated}
+use Rattle.text_sections.specs.Words.{named, says_end}
+use Rattle.search_model.specs.declared.Stated.{Stated}
 use Rattle.answer_text.specs.Plans.{FitsSnapshot}
 use Rattle.answer_text.specs.Words.{head_said, amount_said, tour_said, stop_said}
 use Rattle.answer_text.specs.Drafts.{Draft, blank, stated_read, after}

@@ -2,14 +2,13 @@
 use Rattle.std.specs.Prelude.{ℕ, ◌==◌, ◌&&◌, not, Bool, true, false, List, [], ◌∷◌, ◌++◌, length, Ok, Err, codes, if◌then◌else◌}
 use Rattle.elevator_model.specs.declared.Stop.{Stop}
 use Rattle.elevator_model.specs.Snapshot.{Snapshot, car_count}
-use Rattle.text_sections.specs.declared.codes.TextCode.TheVariants.{NoLineWord}
-use Rattle.text_sections.specs.declared.sections.Turn.{Turn}
-use Rattle.text_sections.specs.declared.sections.Turn.TheVariants.{Whole}
-use Rattle.text_sections.specs.Codes.{Judged, ◌>>=◌}
+use Rattle.lift_text.specs.declared.codes.TextCode.TheVariants.{NoLineWord}
+use Rattle.text_sections.specs.declared.sections.AfterLine.{AfterLine}
+use Rattle.text_sections.specs.declared.sections.AfterLine.TheVariants.{Whole}
+use Rattle.text_sections.specs.Judging.{Judged, ◌>>=◌, in_order}
 use Rattle.text_sections.specs.Words.{is_word, exactly}
 use Rattle.text_sections.specs.Sections.{Line, Step, goes_on, is_whole, step_of}
-use Rattle.snapshot_text.specs.Drafts.{in_order}
-use Rattle.answer_text.specs.declared.answers.Stated.{Stated}
+use Rattle.search_model.specs.declared.Stated.{Stated}
 use Rattle.answer_text.specs.declared.kinds.Due.{Due}
 use Rattle.answer_text.specs.declared.kinds.Due.TheVariants.{Head, Cost, Bound, Tours}
 use Rattle.answer_text.specs.declared.kinds.LineWord.{LineWord}
@@ -112,7 +111,7 @@ tour_in d words =
 abbrev pub stop_in : Draft → Line → Judged Stop
 stop_in d words = in_order (has_tour d) >>= λ _. stop_said d.snapshot words
 
-abbrev pub end_in : Draft → Line → Judged Turn
+abbrev pub end_in : Draft → Line → Judged AfterLine
 end_in d words = in_order (has_all_tours d) >>= λ _. (exactly words 1 >>= λ _. Ok Whole)
 
 -- ---- what a line does

@@ -4,6 +4,7 @@ use Rattle.elevator_model.specs.declared.CarState.TheVariants.{Idle}
 use Rattle.elevator_model.specs.Building.{Building}
 use Rattle.elevator_model.specs.Snapshot.{Snapshot}
 use Rattle.lift_text.specs.Reading.{Reading, line_with, finished}
+use Rattle.lift_text.specs.declared.codes.TextCode.TheVariants.{UnknownId, OutOfOrder, TooMany, NoNumber}
 use Rattle.text_sections.specs.Sections.{Line, Outcome, accepted, refused, outcome}
 use Rattle.answer_text.specs.declared.kinds.Due.TheVariants.{Tours}
 use Rattle.answer_text.specs.Plans.{by_index}
@@ -79,27 +80,27 @@ whole_row : read_behind (tour (codes "7") ∷ (codes "stop" ∷ codes "2" ∷ co
 whole_row = refl
 
 -- an unknown car comes before one that is not due, and a word too many before both
-unknown_row : read_behind (tour (codes "22") ∷ []) ≡ refused 4 25
+unknown_row : read_behind (tour (codes "22") ∷ []) ≡ refused 4 UnknownId
 unknown_row = refl
 
-late_row : read_behind (tour (codes "3") ∷ []) ≡ refused 4 8
+late_row : read_behind (tour (codes "3") ∷ []) ≡ refused 4 OutOfOrder
 late_row = refl
 
-many_row : read_behind ((codes "tour" ∷ codes "8" ∷ codes "1" ∷ []) ∷ []) ≡ refused 4 5
+many_row : read_behind ((codes "tour" ∷ codes "8" ∷ codes "1" ∷ []) ∷ []) ≡ refused 4 TooMany
 many_row = refl
 
-third_row : read_behind (tour (codes "7") ∷ tour (codes "3") ∷ tour (codes "3") ∷ []) ≡ refused 6 8
+third_row : read_behind (tour (codes "7") ∷ tour (codes "3") ∷ tour (codes "3") ∷ []) ≡ refused 6 OutOfOrder
 third_row = refl
 
 -- a tour is missing, before the word too many
-missing_row : read_behind (tour (codes "7") ∷ (codes "end" ∷ codes "x" ∷ []) ∷ []) ≡ refused 5 8
+missing_row : read_behind (tour (codes "7") ∷ (codes "end" ∷ codes "x" ∷ []) ∷ []) ≡ refused 5 OutOfOrder
 missing_row = refl
 
-no_tour_row : read_behind ((codes "stop" ∷ []) ∷ []) ≡ refused 4 8
+no_tour_row : read_behind ((codes "stop" ∷ []) ∷ []) ≡ refused 4 OutOfOrder
 no_tour_row = refl
 
 -- each word is a number before any id is looked up
-id_row : read_behind (tour (codes "7") ∷ (codes "stop" ∷ codes "1" ∷ codes "3" ∷ codes "x" ∷ []) ∷ []) ≡ refused 5 6
+id_row : read_behind (tour (codes "7") ∷ (codes "stop" ∷ codes "1" ∷ codes "3" ∷ codes "x" ∷ []) ∷ []) ≡ refused 5 NoNumber
 id_row = refl
 
 -- ---- the line of a stop

@@ -6,7 +6,7 @@ use Rattle.elevator_model.specs.Snapshot.{Snapshot, car_count, spec_of, call_of}
 use Rattle.elevator_model.specs.Plans.{tour_of}
 use Rattle.text_sections.specs.Sections.{Line}
 use Rattle.text_sections.specs.Canonical.{lines_text}
-use Rattle.answer_text.specs.declared.answers.Stated.{Stated}
+use Rattle.search_model.specs.declared.Stated.{Stated}
 use Rattle.answer_text.specs.Plans.{by_index}
 
 -- ---- the words of each line

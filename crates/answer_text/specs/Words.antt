@@ -1,17 +1,14 @@
 -- What the words of each line of an answer section say.
-use Rattle.std.specs.Prelude.{◌≡◌, ℕ, ◌==◌, List, [], ◌∷◌, Result, Ok, Err}
+use Rattle.std.specs.Prelude.{ℕ, ◌==◌, List, [], ◌∷◌, Ok}
 use Rattle.std.specs.List.{position}
 use Rattle.elevator_model.specs.declared.Call.{Call}
 use Rattle.elevator_model.specs.declared.Stop.{Stop}
 use Rattle.elevator_model.specs.Snapshot.{Snapshot}
-use Rattle.text_sections.specs.declared.codes.TextCode.{TextCode}
-use Rattle.text_sections.specs.declared.codes.LineFault.{LineFault}
-use Rattle.text_sections.specs.declared.codes.LineFault.TheVariants.{Bad, NoMemory}
-use Rattle.text_sections.specs.Codes.{Judged, ◌>>=◌, code_of}
-use Rattle.text_sections.specs.Words.{exactly, at_least, number}
+use Rattle.text_sections.specs.Judging.{Judged, ◌>>=◌, known}
+use Rattle.text_sections.specs.Words.{exactly, at_least, number, short}
 use Rattle.text_sections.specs.NumberLists.{numbers}
 use Rattle.text_sections.specs.Sections.{Line}
-use Rattle.snapshot_text.specs.Words.{short, known, car_named}
+use Rattle.snapshot_text.specs.Words.{car_named}
 
 -- `answer 1`
 abbrev pub head_said : Line → Judged ℕ
@@ -38,9 +35,3 @@ calls_named s (id ∷ ids) = call_named s id >>= λ j. (calls_named s ids >>= λ
 abbrev pub stop_said : Snapshot → Line → Judged Stop
 stop_said s words =
     at_least words 2 >>= λ _. (short words 1 >>= λ floor. (numbers words 2 0 4294967295 >>= λ ids. (calls_named s ids >>= λ boards. Ok (record { floor = floor; boards = boards }))))
-
--- what was judged is the answer; nothing is said where memory ran out
-abbrev pub Gives : {X : Type 0} → Judged X → Result X LineFault → Type 0
-Gives judged (Ok x) = judged ≡ Ok x
-Gives judged (Err (Bad code)) = (text_code : TextCode) × (judged ≡ Err text_code) × (code ≡ code_of text_code)
-Gives judged (Err NoMemory) = Unit {0}

@@ -5,7 +5,7 @@ use Rattle.elevator_model.specs.Snapshot.{Snapshot, car_count, call_count, spec_
 use Rattle.lift_text.specs.Reading.{TextState, reading, line_limit}
 use Rattle.lift_text.specs.declared.faults.TextFault.{TextFault}
 use Rattle.text_sections.specs.Canonical.{joined}
-use Rattle.answer_text.specs.declared.answers.Stated.{Stated}
+use Rattle.search_model.specs.declared.Stated.{Stated}
 use Rattle.answer_text.specs.Plans.{stated_by_index}
 use Rattle.answer_text.specs.Texts.{stop_words, answer_lines, answer_text}
 use Rattle.answer_text.specs.Answers.{IsWithin, IsAnswered}

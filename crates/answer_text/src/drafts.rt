@@ -2,19 +2,18 @@
 ghost use Rattle.std.specs.Prelude.{◌≡◌, ◌<◌, length, Ok, OnOk};
 ghost use Rattle.lift_text.specs.LineReader.{words};
 ghost use Rattle.text_sections.specs.Sections.{Did};
-ghost use Rattle.snapshot_text.specs.Drafts.{in_order};
-ghost use Rattle.answer_text.specs.Words.{Gives};
+ghost use Rattle.text_sections.specs.Judging.{in_order, Gives};
 ghost use Rattle.answer_text.specs.Drafts.{add_stop};
 
-use crate::answers::Stated;
 use crate::kinds::{Due, LineWord};
 use crate::said::{amount_said, head_said, stop_said, tour_said};
 use call_state::Snapshot;
 use elevator_model::{Plan, Stop, Tour};
-use lift_text::{LineReader, Source};
+use lift_text::{LineReader, Source, TextCode};
+use search_model::Stated;
 use std::alloc::{AllocFailed, Global};
 use std::marker::Model;
-use text_sections::{LineFault, Section, TextCode, Turn, exactly, is_word};
+use text_sections::{AfterLine, LineFault, Section, exactly, is_word};
 
 /// Adds a stop to the last tour.
 fn push_stop(tours: &mut Vec<Tour>, stop: Stop) -> Result<(), AllocFailed<Stop>>
@@ -143,58 +142,58 @@ impl<'a> Draft<'a> {
     }
 
     /// Whether the section may end here.
-    fn end_in<S: Source>(&self, lines: &LineReader<S>) -> Result<Turn, TextCode>
+    fn end_in<S: Source>(&self, lines: &LineReader<S>) -> Result<AfterLine, TextCode>
         ensures { result ≡ end_in self.now (words lines.now) }
     {
         if !self.has_all_tours() {
             return Err(TextCode::OutOfOrder);
         }
         exactly(lines, 1)?;
-        Ok(Turn::Whole)
+        Ok(AfterLine::Whole)
     }
 
-    fn take_head<S: Source>(&mut self, lines: &LineReader<S>) -> Result<Turn, LineFault>
+    fn take_head<S: Source>(&mut self, lines: &LineReader<S>) -> Result<AfterLine, LineFault>
         ensures { Did (after_word Answer self.old (words lines.now)) result self.new }
     {
         let _version = self.head_in(lines)?;
         self.due = Due::Cost;
-        Ok(Turn::More)
+        Ok(AfterLine::More)
     }
 
-    fn take_cost<S: Source>(&mut self, lines: &LineReader<S>) -> Result<Turn, LineFault>
+    fn take_cost<S: Source>(&mut self, lines: &LineReader<S>) -> Result<AfterLine, LineFault>
         ensures { Did (after_word Cost self.old (words lines.now)) result self.new }
     {
         self.cost = self.cost_in(lines)?;
         self.due = Due::Bound;
-        Ok(Turn::More)
+        Ok(AfterLine::More)
     }
 
-    fn take_bound<S: Source>(&mut self, lines: &LineReader<S>) -> Result<Turn, LineFault>
+    fn take_bound<S: Source>(&mut self, lines: &LineReader<S>) -> Result<AfterLine, LineFault>
         ensures { Did (after_word Bound self.old (words lines.now)) result self.new }
     {
         self.bound = self.bound_in(lines)?;
         self.due = Due::Tours;
-        Ok(Turn::More)
+        Ok(AfterLine::More)
     }
 
-    fn take_tour<S: Source>(&mut self, lines: &LineReader<S>) -> Result<Turn, LineFault>
+    fn take_tour<S: Source>(&mut self, lines: &LineReader<S>) -> Result<AfterLine, LineFault>
         ensures { Did (after_word TourWord self.old (words lines.now)) result self.new }
     {
         let _car = self.tour_in(lines)?;
         let tour = Tour::new(*self.tours.allocator());
         self.tours.push(tour)?;
-        Ok(Turn::More)
+        Ok(AfterLine::More)
     }
 
-    fn take_stop<S: Source>(&mut self, lines: &LineReader<S>) -> Result<Turn, LineFault>
+    fn take_stop<S: Source>(&mut self, lines: &LineReader<S>) -> Result<AfterLine, LineFault>
         ensures { Did (after_word StopWord self.old (words lines.now)) result self.new }
     {
         let stop = self.stop_in(lines)?;
         push_stop(&mut self.tours, stop)?;
-        Ok(Turn::More)
+        Ok(AfterLine::More)
     }
 
-    fn take_end<S: Source>(&mut self, lines: &LineReader<S>) -> Result<Turn, LineFault>
+    fn take_end<S: Source>(&mut self, lines: &LineReader<S>) -> Result<AfterLine, LineFault>
         ensures { Did (after_word End self.old (words lines.now)) result self.new }
     {
         Ok(self.end_in(lines)?)
@@ -249,7 +248,7 @@ impl<'a> Section for Draft<'a> {
 
     ghost after = { after };
 
-    fn take_line<S: Source>(&mut self, lines: &LineReader<S>) -> Result<Turn, LineFault> {
+    fn take_line<S: Source>(&mut self, lines: &LineReader<S>) -> Result<AfterLine, LineFault> {
         match self.line_word(lines)? {
             LineWord::Answer => self.take_head(lines),
             LineWord::Cost => self.take_cost(lines),

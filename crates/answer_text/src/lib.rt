@@ -17,14 +17,12 @@
 //! after it, for the program.
 #![tactic(auto)]
 
-mod answers;
 mod drafts;
 mod kinds;
 mod reading;
 mod said;
 mod writing;
 
-pub use answers::Stated;
 pub use reading::read_answer;
-pub use said::{call_named, car_named, short};
+pub use said::call_named;
 pub use writing::{write_answer, write_body, write_stops};

@@ -5,10 +5,10 @@ ghost use Rattle.lift_text.specs.LineReader.{text, failure};
 ghost use Rattle.answer_text.specs.Answers.{IsReadAnswer, IsRefusedAnswer, IsSaid, IsWithin, ReadsLines};
 ghost use Rattle.answer_text.specs.Written.{ReadsText};
 
-use crate::answers::Stated;
 use crate::drafts::Draft;
 use call_state::Snapshot;
 use lift_text::{LineReader, Source, TextFault};
+use search_model::Stated;
 use std::alloc::Global;
 use text_sections::read_section;
 
@@ -51,11 +51,10 @@ fn read<S: Source>(
 /// order `tour CAR` and any number of lines `stop FLOOR CALL ..`, and `end`. The plan that is read has one
 /// tour per car, and each board is the index of a call of the snapshot. It need not be feasible.
 ///
-/// The first bad line decides, with one code, of which the first of these comes: 3 for an unknown first word,
-/// 8 for a line out of order and for `end` where a tour is missing, 4 for a missing word, 5 for a word too
-/// many, 6 and 7 for a word that is no number in its range, 25 for the id of an unknown car or call, and then
-/// 8 for a car that is not the next one due. Code 9 comes where the input ends first. `Read` comes only where
-/// a read of the source failed.
+/// The first bad line decides, with one code, of which the first of these comes: `NoLineWord`, `OutOfOrder`, also
+/// for `end` where a tour is missing, `Missing`, `TooMany`, `NoNumber` and `OutOfRange`, `UnknownId`, and then
+/// `OutOfOrder` for a car that is not the next one due. `CutShort` comes where the input ends first. `Read` comes
+/// only where a read of the source failed.
 pub fn read_answer<S: Source>(
     alloc: Global,
     lines: &mut LineReader<S>,
@@ -80,7 +79,7 @@ pub fn read_answer<S: Source>(
         → Rose (S.faults lines.old.source.now) (S.faults lines.new.source.now) }
     ensures counted { S.faults lines.old.source.now ≤ S.faults lines.new.source.now }
 {
-    // So no two calls have the same id.
+    // For the proof: no two calls have the same id.
     let _calls = snapshot.calls();
     read(alloc, lines, snapshot)
 }

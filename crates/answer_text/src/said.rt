@@ -1,26 +1,15 @@
 //! What the words of each line say.
-ghost use Rattle.std.specs.Prelude.{◌≡◌, ◌<◌, ◌≤◌, All, IfOk, length};
+ghost use Rattle.std.specs.Prelude.{◌≡◌, ◌≤◌, All};
 ghost use Rattle.lift_text.specs.LineReader.{words};
-ghost use Rattle.snapshot_text.specs.Words.{short, car_named};
-ghost use Rattle.answer_text.specs.Words.{head_said, amount_said, tour_said, call_named, calls_named, stop_said, Gives};
+ghost use Rattle.text_sections.specs.Judging.{Gives};
+ghost use Rattle.answer_text.specs.Words.{head_said, amount_said, tour_said, call_named, calls_named, stop_said};
 
-use call_state::{Building, Snapshot};
-use elevator_model::{Boards, Stop};
-use lift_text::{LineReader, Source};
+use call_state::Snapshot;
+use elevator_model::{Boards, MOST_COST, Stop};
+use lift_text::{LineReader, Source, TextCode};
+use snapshot_text::car_named;
 use std::alloc::Global;
-use text_sections::{LineFault, TextCode, at_least, exactly, number, numbers};
-
-/// The greatest cost and the greatest bound, in cost units.
-const MOST_COST: u64 = 1_000_000_000_000_000_000;
-
-/// Word `k` as an id or a floor: a number from 0 to 4294967295.
-pub fn short<S: Source>(lines: &LineReader<S>, k: u32) -> Result<u32, TextCode>
-    requires { k < length (words lines.now) }
-    ensures { result ≡ short (words lines.now) k }
-{
-    let value = number(lines, k, 0, u64::from(u32::MAX))?;
-    Ok(value as u32)
-}
+use text_sections::{LineFault, at_least, exactly, number, numbers, short};
 
 /// The version of an `answer` line.
 pub(crate) fn head_said<S: Source>(lines: &LineReader<S>) -> Result<u64, TextCode>
@@ -36,16 +25,6 @@ pub(crate) fn amount_said<S: Source>(lines: &LineReader<S>) -> Result<u64, TextC
 {
     exactly(lines, 2)?;
     number(lines, 1, 0, MOST_COST)
-}
-
-/// The index of the car with this id.
-pub fn car_named(building: &Building, id: u32) -> Result<u32, TextCode>
-    ensures { result ≡ car_named building.now id }
-{
-    match building.car_of(id) {
-        Some(car) => Ok(car),
-        None => Err(TextCode::UnknownId),
-    }
 }
 
 /// The index of the car of a `tour` line.

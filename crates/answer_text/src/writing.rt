@@ -7,11 +7,11 @@ ghost use Rattle.text_sections.specs.Canonical.{line_text, lines_text};
 ghost use Rattle.answer_text.specs.Plans.{AreCalls, BoardsCalls, FitsSnapshot, by_index};
 ghost use Rattle.answer_text.specs.Texts.{stop_words, tour_lines, stops_text, body_text, answer_text};
 
-use crate::answers::Stated;
 use call_sets::CallSet;
 use call_state::Snapshot;
 use elevator_model::{Plan, Stop, Tour};
 use lift_text::{put_line, put_word, put_words};
+use search_model::Stated;
 use std::alloc::AllocError;
 
 /// Writes the id of a call as often as the call stands among the boards.

@@ -33,5 +33,5 @@ pub use call_sets::{CallSet, CarSet};
 pub use nodes::{Node, root};
 pub use pricers::Pricer;
 pub use search_model::{Items, Leaf, PriceOf, Priced, Twig, WorthOf};
-pub use splits::{BadSplit, split};
+pub use splits::{BadSplit, is_part, split};
 pub use trees::Tree;

@@ -7,6 +7,7 @@ ghost use Rattle.search_model.specs.Nodes.{IsNodeOf, allows, requires_of, root_o
 use crate::demands::{if_single, place};
 use call_sets::{CallSet, CarSet};
 use call_state::Snapshot;
+use elevator_model::MOST_CALLS;
 use std::alloc::{AllocError, Global};
 use std::marker::Model;
 
@@ -36,7 +37,7 @@ impl Model for Node {
 impl Node {
     /// The node with these sets.
     fn of_sets(sets: Vec<CarSet>) -> Self
-        requires calls { length sets.items ≤ 128 }
+        requires calls { length sets.items ≤ MOST_CALLS }
         requires cars { (j : ℕ) → slice_index sets.items j < 2 ^ 16 }
         ensures { result ≡ sets.items }
     {

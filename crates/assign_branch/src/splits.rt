@@ -36,7 +36,7 @@ fn rest(set: CarSet, part: CarSet) -> CarSet
 }
 
 /// Whether the part is not empty, not the whole set, and has no car outside it.
-fn is_part(set: CarSet, part: CarSet) -> bool
+pub fn is_part(set: CarSet, part: CarSet) -> bool
     ensures { result ≡ is_part_lem set part }
 {
     has_any(part) && has_outside(set, part) && !has_outside(part, set)

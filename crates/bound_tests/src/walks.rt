@@ -118,7 +118,7 @@ pub(crate) fn walk_all(prefix: &mut Prefix, rides: &StraightRides, asked: &Asked
     requires prices { length asked.now.prices.now ≡ call_count prefix.old.snapshot }
     requires allowed { rides.now.allowed ≡ asked.now.allowed }
 {
-    // The moves are lawful.
+    // For the proof: the moves are lawful.
     let _lawful = prefix.moves();
     let sums = rides.start(prefix);
     let mut seen = Seen {

@@ -20,7 +20,7 @@ use Rattle.elevator_model.specs.Building.{Building, IsCarSpec, floor_count, no_c
 use Rattle.elevator_model.specs.Faults.{fault_of_spec, fault_of_frame, first_in, is_rising}
 use Rattle.elevator_model.specs.Travel.{Square, IsTravelSquare, time_between}
 use Rattle.motion_table.specs.Tables.{rests_at}
-use Rattle.text_sections.specs.Codes.{◌>>=◌}
+use Rattle.text_sections.specs.Judging.{◌>>=◌}
 use Rattle.text_sections.specs.Words.{number, within, exactly}
 use Rattle.text_sections.specs.NumberLists.{numbers_of, numbers}
 use Rattle.text_sections.specs.Sections.{Line}

@@ -12,17 +12,17 @@ use Rattle.text_sections.specs.Words.{is_word, word_at, exactly}
 use Rattle.text_sections.specs.Sections.{Line}
 use Rattle.building_text.specs.declared.order.Due.TheVariants.{Speed, Accel, Weights, Patience, Floors, Times, FirstCar, NextCar}
 use Rattle.building_text.specs.Order.{name_of, may_end, after_weights, after_floors}
-use Rattle.building_text.specs.Said.{Said, coded, ◌then_say◌}
+use Rattle.text_sections.specs.Judging.{Judged, ◌>>=◌}
 use Rattle.building_text.specs.Words.{one_number, two_numbers, heights_of, car_of_line}
 use Rattle.building_text.specs.Drafts.{Draft, no_draft, has_triple, with_times, with_car, taken}
 use Rattle.building_text.specs.BuildingText.{Begins, IsRowLine, AreRowLines, ArePatienceLines, AreTimesLines, AreCarLines, AreBuildingLines}
 use Rattle.building_text.proofs.ReadLemmas.{Reads, due_taken}
 use Rattle.building_text.proofs.LineLemmas.{row_length, exactly_ok, at_floor, heights_size}
 
-saying_given : {X : Type 0} (d : Draft) (words : Line) (rest : List Line) (end : Draft) (said : Said X) (next : X → Draft) (x : X) → taken d.due d words ≡ (said then_say λ y. Ok (next y)) → may_end d.due ≡ false → is_word words 0 (name_of d.due) ≡ true → said ≡ Ok x → Reads (next x) rest end
+saying_given : {X : Type 0} (d : Draft) (words : Line) (rest : List Line) (end : Draft) (said : Judged X) (next : X → Draft) (x : X) → taken d.due d words ≡ (said >>= λ y. Ok (next y)) → may_end d.due ≡ false → is_word words 0 (name_of d.due) ≡ true → said ≡ Ok x → Reads (next x) rest end
     → Reads d (words ∷ rest) end
 saying_given d words rest end said next x same early named is reads =
-    due_taken d words rest end (next x) early named (same ∙ ap (λ s. s then_say λ y. Ok (next y)) is) reads
+    due_taken d words rest end (next x) early named (same ∙ ap (λ s. s >>= λ y. Ok (next y)) is) reads
 
 -- ---- cars
 
@@ -76,7 +76,7 @@ more_times d times few =
 taken_row : (d : Draft) (floor : ℕ) (words : Line) (row : List ℕ) (new : Draft) → 0 < length d.heights → length d.times ≡ floor * length d.heights → IsRowLine (length d.heights) floor words row → with_times (record d { due = Times }) (d.times ++ row) ≡ Ok new
     → taken Times (record d { due = Times }) words ≡ Ok new
 taken_row d floor words row new some size is whole =
-    ap (λ judged. coded judged then_say λ read. with_times (record d { due = Times }) (d.times ++ read.1)) (row_given (length d.heights) floor d.times words row (at_floor floor (length d.heights) d.times size some) is) ∙ whole
+    ap (λ judged. judged >>= λ read. with_times (record d { due = Times }) (d.times ++ read.1)) (row_given (length d.heights) floor d.times words row (at_floor floor (length d.heights) d.times size some) is) ∙ whole
 
 grown : (f n x r y : ℕ) → x ≡ f * n → r ≡ n → y ≡ x + r → y ≡ (f + 1) * n
 grown f n x r y a b c = omega arith
@@ -133,7 +133,7 @@ patience_given true d lines patience weight rest end blank are reads =
     (subst (λ e. Reads e rest end) blank (subst (λ w. Reads (record d { patience = 0; patience_weight = w; due = Floors }) rest end) are.2 (subst (λ p. Reads (record d { patience = p; patience_weight = weight; due = Floors }) rest end) are.1 reads)))
 patience_given false d lines patience weight rest end blank are reads =
     subst (λ ls. Reads (record d { due = Patience }) (ls ++ rest) end) (sym are.1)
-    (saying_given (record d { due = Patience }) are.0 rest end (coded (two_numbers are.0 1000000000 1000)) (λ p. record d { patience = p.0; patience_weight = p.1; due = Floors }) (patience, weight) refl refl are.2.name_is (ap coded are.2.numbers) reads)
+    (saying_given (record d { due = Patience }) are.0 rest end (two_numbers are.0 1000000000 1000) (λ p. record d { patience = p.0; patience_weight = p.1; due = Floors }) (patience, weight) refl refl are.2.name_is are.2.numbers reads)
 
 -- what is read of a building
 abbrev pub draft_of : Building → List ℕ → Draft
@@ -157,8 +157,8 @@ reads_of_lines lines b times is =
     let from_times = times_given (b.version == 3) d6 is.times_lines times cars end (heights_size is.heights_line b.heights is.heights) refl is.stated from_cars in
     let from_heights = saying_given d5 is.heights_line stated end (heights_of is.heights_line) (λ hs. record d5 { heights = hs; due = after_floors b.version }) b.heights refl refl is.floors is.heights from_times in
     let from_patience = patience_given (b.version == 1) d4 is.patience_lines b.patience b.patience_weight heights end refl is.patience from_heights in
-    let from_weights = saying_given d3 is.weights_line patience end (coded (two_numbers is.weights_line 1000 1000)) (λ p. record d3 { wait_weight = p.0; travel_weight = p.1; due = after_weights b.version }) (b.wait_weight, b.travel_weight) refl refl is.weights.name_is (ap coded is.weights.numbers) from_patience in
-    let from_accel = saying_given d2 is.accel_line (is.weights_line ∷ patience) end (coded (one_number is.accel_line 100 5000)) (λ n. record d2 { accel = n; due = Weights }) b.accel refl refl is.accel.name_is (ap coded is.accel.number) from_weights in
-    let from_speed = saying_given d1 is.speed_line (is.accel_line ∷ is.weights_line ∷ patience) end (coded (one_number is.speed_line 100 20000)) (λ n. record d1 { speed = n; due = Accel }) b.speed refl refl is.speed.name_is (ap coded is.speed.number) from_accel in
-    let from_version = saying_given no_draft is.version_line (is.speed_line ∷ is.accel_line ∷ is.weights_line ∷ patience) end (coded (one_number is.version_line 1 3)) (λ n. record no_draft { version = n; due = Speed }) b.version refl refl is.version.name_is (ap coded is.version.number) from_speed in
+    let from_weights = saying_given d3 is.weights_line patience end (two_numbers is.weights_line 1000 1000) (λ p. record d3 { wait_weight = p.0; travel_weight = p.1; due = after_weights b.version }) (b.wait_weight, b.travel_weight) refl refl is.weights.name_is is.weights.numbers from_patience in
+    let from_accel = saying_given d2 is.accel_line (is.weights_line ∷ patience) end (one_number is.accel_line 100 5000) (λ n. record d2 { accel = n; due = Weights }) b.accel refl refl is.accel.name_is is.accel.number from_weights in
+    let from_speed = saying_given d1 is.speed_line (is.accel_line ∷ is.weights_line ∷ patience) end (one_number is.speed_line 100 20000) (λ n. record d1 { speed = n; due = Accel }) b.speed refl refl is.speed.name_is is.speed.number from_accel in
+    let from_version = saying_given no_draft is.version_line (is.speed_line ∷ is.accel_line ∷ is.weights_line ∷ patience) end (one_number is.version_line 1 3) (λ n. record no_draft { version = n; due = Speed }) b.version refl refl is.version.name_is is.version.number from_speed in
     subst (λ ls. Reads no_draft ls end) (sym is.lines_are) from_version

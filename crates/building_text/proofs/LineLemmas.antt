@@ -9,25 +9,26 @@ use Rattle.elevator_model.specs.declared.CarSpec.{CarSpec}
 use Rattle.elevator_model.specs.Building.{most_cars}
 use Rattle.elevator_model.specs.Travel.{Square}
 use Rattle.motion_table.specs.Tables.{rests_at, columns, row_of, row_judged}
-use Rattle.text_sections.specs.declared.codes.TextCode.{TextCode}
-use Rattle.text_sections.specs.declared.codes.TextCode.TheVariants.{NoTime, Missing, TooMany}
-use Rattle.text_sections.specs.Codes.{Judged, ◌>>=◌, code_of}
+use Rattle.lift_text.specs.declared.codes.TextCode.{TextCode}
+use Rattle.lift_text.specs.declared.codes.TextCode.TheVariants.{NoTime, Missing, TooMany, ShorterWay, Item}
+use Rattle.text_sections.specs.Judging.{Judged, ◌>>=◌}
 use Rattle.text_sections.specs.Words.{is_word, exactly, at_least, at_most}
 use Rattle.text_sections.specs.NumberLists.{numbers}
-use Rattle.text_sections.specs.Sections.{Line, goes_on, is_whole}
+use Rattle.text_sections.specs.Sections.{Line, goes_on, is_whole, step_of}
+use Rattle.text_sections.proofs.StepLemmas.{then-inv}
 use Rattle.building_text.specs.declared.order.Due.{Due}
 use Rattle.building_text.specs.declared.order.Due.TheVariants.{Version, Speed, Accel, Weights, Patience, Floors, Times, FirstCar, NextCar}
 use Rattle.building_text.specs.Order.{name_of, may_end, after_weights, after_floors, misplaced}
-use Rattle.building_text.specs.Said.{Said, coded, ◌then_say◌}
+use Rattle.elevator_model.specs.declared.Fault.TheVariants.{NotRising}
 use Rattle.elevator_model.specs.Faults.{is_rising}
 use Rattle.building_text.specs.Words.{one_number, two_numbers, heights_of, rising, car_of_line}
-use Rattle.building_text.specs.Drafts.{Draft, no_draft, has_triple, with_times, with_car, taken, step_said}
+use Rattle.building_text.specs.Drafts.{Draft, no_draft, has_triple, with_times, with_car, taken}
 use Rattle.building_text.specs.BuildingText.{Begins, ArePatienceLines, AreRowLines, AreTimesLines, AreCarLines, AreBuildingLines, building_from}
-use Rattle.building_text.proofs.SaidLemmas.{bind_ok, then_ok, coded_ok, numbers-length}
+use Rattle.building_text.proofs.SaidLemmas.{numbers-length}
 use Rattle.building_text.proofs.ReadLemmas.{Then, Reads, due_first}
 
 -- a line was taken, which says a value
-pub record Saying {X : Type 0} (said : Line → Said X) (next : X → Draft) (name : List ℕ) (lines : List Line) (end : Draft) : Type 0 where
+pub record Saying {X : Type 0} (said : Line → Judged X) (next : X → Draft) (name : List ℕ) (lines : List Line) (end : Draft) : Type 0 where
   pub line : Line
   pub rest : List Line
   pub value : X
@@ -36,11 +37,11 @@ pub record Saying {X : Type 0} (said : Line → Said X) (next : X → Draft) (na
   pub was : said line ≡ Ok value
   pub reads : Reads (next value) rest end
 
-took_saying : {X : Type 0} (d : Draft) (lines : List Line) (end : Draft) (said : Line → Said X) (next : X → Draft) → ((words : Line) → taken d.due d words ≡ (said words then_say λ x. Ok (next x))) → may_end d.due ≡ false → Reads d lines end
+took_saying : {X : Type 0} (d : Draft) (lines : List Line) (end : Draft) (said : Line → Judged X) (next : X → Draft) → ((words : Line) → taken d.due d words ≡ (said words >>= λ x. Ok (next x))) → may_end d.due ≡ false → Reads d lines end
     → Saying said next (name_of d.due) lines end
 took_saying d lines end said next same early reads =
     let t = due_first d lines end early reads in
-    let v = then_ok (said t.line) (λ x. Ok (next x)) t.new (sym (same t.line) ∙ t.was) in
+    let v = then-inv (said t.line) (λ x. Ok (next x)) t.new (sym (same t.line) ∙ t.was) in
     let is : Ok (next v.0) ≡ Ok t.new = v.2 in
     let new : t.new ≡ next v.0 = cc in
     record { line = t.line; rest = t.rest; value = v.0; lines_are = t.lines_are; name_is = t.name_is; was = v.1; reads = subst (λ e. Reads e t.rest end) new t.reads }
@@ -60,8 +61,8 @@ patience_read : (version_one : Bool) (d : Draft) (lines : List Line) (end : Draf
     → PatienceRead version_one d lines end
 patience_read true d lines end blank reads = record { front = []; rest = lines; patience = 0; weight = 0; lines_are = refl; are = (refl, refl, refl); reads = subst (λ e. Reads e lines end) (sym blank) reads }
 patience_read false d lines end blank reads =
-    let t = took_saying (record d { due = Patience }) lines end (λ words. coded (two_numbers words 1000000000 1000)) (λ p. record d { patience = p.0; patience_weight = p.1; due = Floors }) (λ words. refl) refl reads in
-    record { front = t.line ∷ []; rest = t.rest; patience = t.value.0; weight = t.value.1; lines_are = t.lines_are; are = (t.line, refl, record { name_is = t.name_is; numbers = coded_ok _ _ t.was }); reads = t.reads }
+    let t = took_saying (record d { due = Patience }) lines end (λ words. two_numbers words 1000000000 1000) (λ p. record d { patience = p.0; patience_weight = p.1; due = Floors }) (λ words. refl) refl reads in
+    record { front = t.line ∷ []; rest = t.rest; patience = t.value.0; weight = t.value.1; lines_are = t.lines_are; are = (t.line, refl, record { name_is = t.name_is; numbers = t.was }); reads = t.reads }
 
 -- ---- stated times
 
@@ -82,7 +83,7 @@ if_ok false x y code is = absurd cc
 
 pub row_length : (floor floors : ℕ) (words : Line) (row : List ℕ) → length words ≡ floors + 1 → row_of floor words ≡ Ok row → length row ≡ floors
 row_length floor floors words row size is =
-    let r = bind_ok (numbers words 1 0 20000000) (λ times. cond (rests_at floor 0 times) (Ok times) (Err NoTime)) row is in
+    let r = then-inv (numbers words 1 0 20000000) (λ times. cond (rests_at floor 0 times) (Ok times) (Err NoTime)) row is in
     let same : r.0 ≡ row = if_ok (rests_at floor 0 r.0) r.0 row NoTime r.2 in
     let long = numbers-length words 1 0 20000000 r.0 r.1 in
     let e = ap length same in
@@ -96,12 +97,12 @@ pub record RowJudged (floors floor : ℕ) (words : Line) (read : ℕ × List ℕ
 
 row_judged_ok : (floors floor : ℕ) (before : List ℕ) (words : Line) (read : ℕ × List ℕ) → length before / floors ≡ floor → row_judged (Some floors) before words ≡ Ok read → RowJudged floors floor words read
 row_judged_ok floors floor before words read at is =
-    let c = bind_ok (columns (Some floors) words) (λ n. row_of (length before / n) words >>= λ row. Ok (n, row)) read is in
-    let e = bind_ok (exactly words (floors + 1)) (λ _. Ok floors) c.0 c.1 in
+    let c = then-inv (columns (Some floors) words) (λ n. row_of (length before / n) words >>= λ row. Ok (n, row)) read is in
+    let e = then-inv (exactly words (floors + 1)) (λ _. Ok floors) c.0 c.1 in
     let count : exactly words (floors + 1) ≡ Ok e.0 = e.1 in
     let same_count : Ok floors ≡ Ok c.0 = e.2 in
     let n_is : c.0 ≡ floors = cc in
-    let r = bind_ok (row_of (length before / c.0) words) (λ row. Ok (c.0, row)) read c.2 in
+    let r = then-inv (row_of (length before / c.0) words) (λ row. Ok (c.0, row)) read c.2 in
     let pair : Ok (c.0, r.0) ≡ Ok read = r.2 in
     let second : (c.0, r.0) ≡ read = cc in
     let row_is : r.0 ≡ read.1 = ap (λ (p : ℕ × List ℕ). p.1) second in
@@ -125,7 +126,7 @@ last_row : (d new : Draft) (times : List ℕ) → length times ≡ length d.heig
 last_row d new times full is = by_test (length times == length d.heights * length d.heights) (has_triple (square_of (length d.heights) times)) refl refl is
   where
     by_test : (whole triple : Bool) → (length times == length d.heights * length d.heights) ≡ whole → has_triple (square_of (length d.heights) times) ≡ triple
-        → cond {A = Said Draft} whole (cond {A = Said Draft} triple (Err 52) (Ok (record d { times = times; due = FirstCar }))) (Ok (record d { times = times; due = Times })) ≡ Ok new
+        → cond {A = Judged Draft} whole (cond {A = Judged Draft} triple (Err ShorterWay) (Ok (record d { times = times; due = FirstCar }))) (Ok (record d { times = times; due = Times })) ≡ Ok new
         → (has_triple (square_of (length d.heights) times) ≡ false) × (new ≡ record d { times = times; due = FirstCar })
     by_test true true w t same = absurd cc
     by_test true false w t same = (t, cc)
@@ -135,7 +136,7 @@ more_rows : (d new : Draft) (times : List ℕ) → length times < length d.heigh
 more_rows d new times few is = by_test (length times == length d.heights * length d.heights) refl is
   where
     by_test : (whole : Bool) → (length times == length d.heights * length d.heights) ≡ whole
-        → cond {A = Said Draft} whole (cond {A = Said Draft} (has_triple (square_of (length d.heights) times)) (Err 52) (Ok (record d { times = times; due = FirstCar }))) (Ok (record d { times = times; due = Times })) ≡ Ok new
+        → cond {A = Judged Draft} whole (cond {A = Judged Draft} (has_triple (square_of (length d.heights) times)) (Err ShorterWay) (Ok (record d { times = times; due = FirstCar }))) (Ok (record d { times = times; due = Times })) ≡ Ok new
         → new ≡ record d { times = times; due = Times }
     by_test true w same = let all = eqb-true _ _ w in absurd (omega arith)
     by_test false w same = cc
@@ -149,8 +150,8 @@ rows_read : (left floor : ℕ) (d : Draft) (lines : List Line) (end : Draft) →
 rows_read zero floor d lines end some floors size reads =
     let n = length d.heights in
     let t = due_first (record d { due = Times }) lines end refl reads in
-    let r = then_ok (coded (row_judged (Some n) d.times t.line)) (λ read. with_times (record d { due = Times }) (d.times ++ read.1)) t.new t.was in
-    let row = row_judged_ok n floor d.times t.line r.0 (at_floor floor n d.times size some) (coded_ok (row_judged (Some n) d.times t.line) r.0 r.1) in
+    let r = then-inv (row_judged (Some n) d.times t.line) (λ read. with_times (record d { due = Times }) (d.times ++ read.1)) t.new t.was in
+    let row = row_judged_ok n floor d.times t.line r.0 (at_floor floor n d.times size some) r.1 in
     let row_size = row.size in
     let long = length-append d.times r.0.1 in
     let full : length (d.times ++ r.0.1) ≡ n * n = grow_last floor n (length d.times) (length r.0.1) (length (d.times ++ r.0.1)) floors size row_size long in
@@ -170,8 +171,8 @@ rows_read zero floor d lines end some floors size reads =
 rows_read (suc left) floor d lines end some floors size reads =
     let n = length d.heights in
     let t = due_first (record d { due = Times }) lines end refl reads in
-    let r = then_ok (coded (row_judged (Some n) d.times t.line)) (λ read. with_times (record d { due = Times }) (d.times ++ read.1)) t.new t.was in
-    let row = row_judged_ok n floor d.times t.line r.0 (at_floor floor n d.times size some) (coded_ok (row_judged (Some n) d.times t.line) r.0 r.1) in
+    let r = then-inv (row_judged (Some n) d.times t.line) (λ read. with_times (record d { due = Times }) (d.times ++ read.1)) t.new t.was in
+    let row = row_judged_ok n floor d.times t.line r.0 (at_floor floor n d.times size some) r.1 in
     let row_size = row.size in
     let long = length-append d.times r.0.1 in
     let grown : length (d.times ++ r.0.1) ≡ (floor + 1) * n = grow floor n (length d.times) (length r.0.1) (length (d.times ++ r.0.1)) size row_size long in
@@ -224,10 +225,10 @@ car_before d words lines end car named was further = record {
   end_is = further.end_is ∙ ap (λ cars. record d { cars = cars; due = NextCar }) (append_assoc d.cars (car ∷ []) further.later);
 }
 
-cars_step : (d : Draft) (words : Line) (lines : List Line) (end : Draft) (ends due : Bool) (alone : Judged Unit) (said : Said CarSpec) (bad : ℕ)
+cars_step : (d : Draft) (words : Line) (lines : List Line) (end : Draft) (ends due : Bool) (alone : Judged Unit) (said : Judged CarSpec) (bad : TextCode)
     → is_word words 0 (codes "end") ≡ ends → is_word words 0 (codes "car") ≡ due → exactly words 1 ≡ alone → car_of_line (length d.heights) (most_cars d.version) d.cars words ≡ said
     → CarsFurther d lines end
-    → Then (step_said (cond ends (coded alone then_say λ _. Ok (is_whole (record d { due = NextCar }))) (cond due ((said then_say λ car. Ok (with_car d car)) then_say λ new. Ok (goes_on new)) (Err bad)))) lines end (λ new. Reads new lines end)
+    → Then (step_of (cond ends (alone >>= λ _. Ok (is_whole (record d { due = NextCar }))) (cond due ((said >>= λ car. Ok (with_car d car)) >>= λ new. Ok (goes_on new)) (Err bad)))) lines end (λ new. Reads new lines end)
     → CarsRead d (words ∷ lines) end
 cars_step d words lines end true due (Ok done) said bad e f a s further whole = record {
   front = [];
@@ -247,7 +248,7 @@ cars_step d words lines end false false alone said bad e f a s further reads = a
 cars_read : (d : Draft) (lines : List Line) (end : Draft) → Reads (record d { due = NextCar }) lines end → CarsRead d lines end
 cars_read d [] end reads = absurd reads
 cars_read d (words ∷ lines) end reads =
-    cars_step d words lines end (is_word words 0 (codes "end")) (is_word words 0 (codes "car")) (exactly words 1) (car_of_line (length d.heights) (most_cars d.version) d.cars words) (code_of (misplaced NextCar d.version words)) refl refl refl refl
+    cars_step d words lines end (is_word words 0 (codes "end")) (is_word words 0 (codes "car")) (exactly words 1) (car_of_line (length d.heights) (most_cars d.version) d.cars words) (misplaced NextCar d.version words) refl refl refl refl
     (λ car more. cars_read (record d { cars = d.cars ++ car ∷ [] }) lines end more)
     reads
 
@@ -300,15 +301,15 @@ at_least_ok words count done is = by_test (nat_lt (length words) count) refl is
 pub rising_ok : (ns hs : List ℕ) → rising ns ≡ Ok hs → ns ≡ hs
 rising_ok ns hs is = by_test (is_rising ns) is
   where
-    by_test : (rises : Bool) → cond {A = Said (List ℕ)} rises (Ok ns) (Err 10) ≡ Ok hs → ns ≡ hs
+    by_test : (rises : Bool) → cond {A = Judged (List ℕ)} rises (Ok ns) (Err (Item NotRising)) ≡ Ok hs → ns ≡ hs
     by_test true same = cc
     by_test false same = absurd cc
 
 pub heights_size : (words : Line) (hs : List ℕ) → heights_of words ≡ Ok hs → 0 < length hs
 heights_size words hs is =
-    let r = then_ok (coded (at_least words 3 >>= λ _. (at_most words 65 >>= λ _. numbers words 1 0 1000000))) rising hs is in
-    let read = bind_ok (at_least words 3) (λ _. at_most words 65 >>= λ _. numbers words 1 0 1000000) r.0 (coded_ok _ _ r.1) in
-    let more = bind_ok (at_most words 65) (λ _. numbers words 1 0 1000000) r.0 read.2 in
+    let r = then-inv (at_least words 3 >>= λ _. (at_most words 65 >>= λ _. numbers words 1 0 1000000)) rising hs is in
+    let read = then-inv (at_least words 3) (λ _. at_most words 65 >>= λ _. numbers words 1 0 1000000) r.0 r.1 in
+    let more = then-inv (at_most words 65) (λ _. numbers words 1 0 1000000) r.0 read.2 in
     let size = numbers-length words 1 0 1000000 r.0 more.2 in
     let enough = at_least_ok words 3 read.0 read.1 in
     let same = ap length (rising_ok r.0 hs r.2) in
@@ -317,7 +318,7 @@ heights_size words hs is =
 -- ---- line by line
 
 -- a line that says a value, and what comes of those behind it
-pub record Line_then {X : Type 0} (said : Line → Said X) (name : List ℕ) (lines : List Line) (Rest : X → List Line → Type 0) : Type 0 where
+pub record Line_then {X : Type 0} (said : Line → Judged X) (name : List ℕ) (lines : List Line) (Rest : X → List Line → Type 0) : Type 0 where
   pub line : Line
   pub rest : List Line
   pub value : X
@@ -326,7 +327,7 @@ pub record Line_then {X : Type 0} (said : Line → Said X) (name : List ℕ) (li
   pub was : said line ≡ Ok value
   pub further : Rest value rest
 
-line_then : {X : Type 0} (d : Draft) (lines : List Line) (end : Draft) (said : Line → Said X) (next : X → Draft) (Rest : X → List Line → Type 0) → ((words : Line) → taken d.due d words ≡ (said words then_say λ x. Ok (next x))) → may_end d.due ≡ false
+line_then : {X : Type 0} (d : Draft) (lines : List Line) (end : Draft) (said : Line → Judged X) (next : X → Draft) (Rest : X → List Line → Type 0) → ((words : Line) → taken d.due d words ≡ (said words >>= λ x. Ok (next x))) → may_end d.due ≡ false
     → ((x : X) (rest : List Line) → Reads (next x) rest end → Rest x rest) → Reads d lines end → Line_then said (name_of d.due) lines Rest
 line_then d lines end said next Rest same early further reads =
     let t = took_saying d lines end said next same early reads in
@@ -380,33 +381,33 @@ abbrev pub numbered : (version speed accel wait travel : ℕ) → Due → Draft
 numbered version speed accel wait travel due = record no_draft { due = due; version = version; speed = speed; accel = accel; wait_weight = wait; travel_weight = travel }
 
 abbrev pub FromWeights : (version speed accel : ℕ) → List Line → Draft → Type 0
-FromWeights v s a lines end = Line_then (λ words. coded (two_numbers words 1000 1000)) (codes "weights") lines (λ p rest. FromPatience (numbered v s a p.0 p.1 Version) rest end)
+FromWeights v s a lines end = Line_then (λ words. two_numbers words 1000 1000) (codes "weights") lines (λ p rest. FromPatience (numbered v s a p.0 p.1 Version) rest end)
 
 from_weights : (v s a : ℕ) (lines : List Line) (end : Draft) → Reads (numbered v s a 0 0 Weights) lines end → FromWeights v s a lines end
 from_weights v s a lines end reads =
-    line_then (numbered v s a 0 0 Weights) lines end (λ words. coded (two_numbers words 1000 1000)) (λ p. numbered v s a p.0 p.1 (after_weights v)) (λ p rest. FromPatience (numbered v s a p.0 p.1 Version) rest end) (λ words. refl) refl
+    line_then (numbered v s a 0 0 Weights) lines end (λ words. two_numbers words 1000 1000) (λ p. numbered v s a p.0 p.1 (after_weights v)) (λ p rest. FromPatience (numbered v s a p.0 p.1 Version) rest end) (λ words. refl) refl
     (λ p rest further. from_patience (numbered v s a p.0 p.1 Version) rest end refl refl further) reads
 
 abbrev pub FromAccel : (version speed : ℕ) → List Line → Draft → Type 0
-FromAccel v s lines end = Line_then (λ words. coded (one_number words 100 5000)) (codes "accel") lines (λ a rest. FromWeights v s a rest end)
+FromAccel v s lines end = Line_then (λ words. one_number words 100 5000) (codes "accel") lines (λ a rest. FromWeights v s a rest end)
 
 from_accel : (v s : ℕ) (lines : List Line) (end : Draft) → Reads (numbered v s 0 0 0 Accel) lines end → FromAccel v s lines end
 from_accel v s lines end reads =
-    line_then (numbered v s 0 0 0 Accel) lines end (λ words. coded (one_number words 100 5000)) (λ a. numbered v s a 0 0 Weights) (λ a rest. FromWeights v s a rest end) (λ words. refl) refl (λ a rest further. from_weights v s a rest end further) reads
+    line_then (numbered v s 0 0 0 Accel) lines end (λ words. one_number words 100 5000) (λ a. numbered v s a 0 0 Weights) (λ a rest. FromWeights v s a rest end) (λ words. refl) refl (λ a rest further. from_weights v s a rest end further) reads
 
 abbrev pub FromSpeed : ℕ → List Line → Draft → Type 0
-FromSpeed v lines end = Line_then (λ words. coded (one_number words 100 20000)) (codes "speed") lines (λ s rest. FromAccel v s rest end)
+FromSpeed v lines end = Line_then (λ words. one_number words 100 20000) (codes "speed") lines (λ s rest. FromAccel v s rest end)
 
 from_speed : (v : ℕ) (lines : List Line) (end : Draft) → Reads (numbered v 0 0 0 0 Speed) lines end → FromSpeed v lines end
 from_speed v lines end reads =
-    line_then (numbered v 0 0 0 0 Speed) lines end (λ words. coded (one_number words 100 20000)) (λ s. numbered v s 0 0 0 Accel) (λ s rest. FromAccel v s rest end) (λ words. refl) refl (λ s rest further. from_accel v s rest end further) reads
+    line_then (numbered v 0 0 0 0 Speed) lines end (λ words. one_number words 100 20000) (λ s. numbered v s 0 0 0 Accel) (λ s rest. FromAccel v s rest end) (λ words. refl) refl (λ s rest further. from_accel v s rest end further) reads
 
 abbrev pub FromVersion : List Line → Draft → Type 0
-FromVersion lines end = Line_then (λ words. coded (one_number words 1 3)) (codes "building") lines (λ v rest. FromSpeed v rest end)
+FromVersion lines end = Line_then (λ words. one_number words 1 3) (codes "building") lines (λ v rest. FromSpeed v rest end)
 
 from_version : (lines : List Line) (end : Draft) → Reads no_draft lines end → FromVersion lines end
 from_version lines end reads =
-    line_then no_draft lines end (λ words. coded (one_number words 1 3)) (λ v. numbered v 0 0 0 0 Speed) (λ v rest. FromSpeed v rest end) (λ words. refl) refl (λ v rest further. from_speed v rest end further) reads
+    line_then no_draft lines end (λ words. one_number words 1 3) (λ v. numbered v 0 0 0 0 Speed) (λ v rest. FromSpeed v rest end) (λ words. refl) refl (λ v rest further. from_speed v rest end further) reads
 
 -- what was read in the end
 abbrev drafted : (lines : List Line) (end : Draft) → FromVersion lines end → Draft
@@ -440,10 +441,10 @@ shown lines end travel v =
       car_lines = cars.front;
       end_line = cars.last;
       lines_are = in_order v.line s.line a.line w.line p.front t.front cars.front lines v.rest s.rest a.rest w.rest p.rest h.rest t.rest h.line cars.last v.lines_are s.lines_are a.lines_are w.lines_are p.lines_are h.lines_are t.lines_are cars.lines_are;
-      version = record { name_is = v.name_is; number = coded_ok (one_number v.line 1 3) v.value v.was };
-      speed = record { name_is = s.name_is; number = coded_ok (one_number s.line 100 20000) s.value s.was };
-      accel = record { name_is = a.name_is; number = coded_ok (one_number a.line 100 5000) a.value a.was };
-      weights = record { name_is = w.name_is; numbers = coded_ok (two_numbers w.line 1000 1000) w.value w.was };
+      version = record { name_is = v.name_is; number = v.was };
+      speed = record { name_is = s.name_is; number = s.was };
+      accel = record { name_is = a.name_is; number = a.was };
+      weights = record { name_is = w.name_is; numbers = w.was };
       patience = p.are;
       floors = h.name_is;
       heights = h.was;

@@ -1,13 +1,13 @@
 -- Lines that are read one after another, and what is read of a text.
 use Rattle.std.proofs.Common.{◌≡◌, ℕ, Bool, true, false, cond, List, [], ◌∷◌, Ok, Err, ap, refl, ◌∙◌, sym, subst}
 use Rattle.lift_text.specs.Reading.{Reading, line_with, finished, bad_line, past_limit}
+use Rattle.lift_text.specs.declared.codes.TextCode.{TextCode}
 use Rattle.text_sections.specs.Words.{is_word}
-use Rattle.text_sections.specs.Sections.{Line, Step, goes_on, is_whole, is_bad, accepted, continued, outcome}
+use Rattle.text_sections.specs.Sections.{Line, Step, goes_on, is_whole, is_bad, step_of, accepted, continued, outcome}
 use Rattle.text_sections.specs.Canonical.{BeginsWith}
 use Rattle.building_text.specs.Order.{name_of, may_end, misplaced}
-use Rattle.building_text.specs.Said.{Said, ◌then_say◌}
-use Rattle.building_text.specs.Drafts.{Draft, taken, step_said, after}
-use Rattle.text_sections.specs.Codes.{code_of}
+use Rattle.text_sections.specs.Judging.{Judged, ◌>>=◌}
+use Rattle.building_text.specs.Drafts.{Draft, taken, after}
 
 -- what follows a line: the section goes on over these lines, or there are none and it is whole
 abbrev pub Then : Step Draft → List Line → Draft → (Draft → Type 0) → Type 0
@@ -66,8 +66,8 @@ pub record Took (d : Draft) (lines : List Line) (end : Draft) : Type 0 where
   pub was : taken d.due d line ≡ Ok new
   pub reads : Reads new rest end
 
-took : (d : Draft) (words : Line) (lines : List Line) (end : Draft) (due : Bool) (said : Said Draft) (bad : ℕ) → is_word words 0 (name_of d.due) ≡ due → taken d.due d words ≡ said
-    → Then (step_said (cond due (said then_say λ new. Ok (goes_on new)) (Err bad))) lines end (λ new. Reads new lines end) → Took d (words ∷ lines) end
+took : (d : Draft) (words : Line) (lines : List Line) (end : Draft) (due : Bool) (said : Judged Draft) (bad : TextCode) → is_word words 0 (name_of d.due) ≡ due → taken d.due d words ≡ said
+    → Then (step_of (cond due (said >>= λ new. Ok (goes_on new)) (Err bad))) lines end (λ new. Reads new lines end) → Took d (words ∷ lines) end
 took d words lines end true (Ok new) bad named was reads = record { line = words; rest = lines; new = new; lines_are = refl; name_is = named; was = was; reads = reads }
 took d words lines end true (Err code) bad named was reads = absurd reads
 took d words lines end false said bad named was reads = absurd reads
@@ -76,7 +76,7 @@ took d words lines end false said bad named was reads = absurd reads
 pub due_first : (d : Draft) (lines : List Line) (end : Draft) → may_end d.due ≡ false → Reads d lines end → Took d lines end
 due_first d [] end early reads = absurd reads
 due_first d (words ∷ lines) end early reads =
-    took d words lines end (is_word words 0 (name_of d.due)) (taken d.due d words) (code_of (misplaced d.due d.version words)) refl refl (rw early at reads)
+    took d words lines end (is_word words 0 (name_of d.due)) (taken d.due d words) (misplaced d.due d.version words) refl refl (rw early at reads)
 
 -- and where it comes, it is taken
 pub due_taken : (d : Draft) (words : Line) (lines : List Line) (end new : Draft) → may_end d.due ≡ false → is_word words 0 (name_of d.due) ≡ true → taken d.due d words ≡ Ok new → Reads new lines end → Reads d (words ∷ lines) end

@@ -9,11 +9,12 @@ use Rattle.call_sets.proofs.BelowTests.{any_below-false}
 use Rattle.call_state.specs.Squares.{square_of}
 use Rattle.elevator_model.specs.Travel.{IsTravelSquare, time_between}
 use Rattle.motion_table.specs.Tables.{rests_at, row_of}
-use Rattle.text_sections.specs.declared.codes.TextCode.TheVariants.{NoTime}
+use Rattle.lift_text.specs.declared.codes.TextCode.TheVariants.{NoTime}
 use Rattle.text_sections.specs.NumberLists.{numbers}
 use Rattle.text_sections.specs.Sections.{Line}
+use Rattle.text_sections.proofs.StepLemmas.{then-inv}
 use Rattle.building_text.specs.BuildingText.{IsRowLine, AreRowLines, AreTimesLines}
-use Rattle.building_text.proofs.SaidLemmas.{bind_ok, IsFrom, numbers_of-within}
+use Rattle.building_text.proofs.SaidLemmas.{IsFrom, numbers_of-within}
 use Rattle.building_text.proofs.LineLemmas.{row_length, exactly_ok}
 
 -- a time from floor i to floor k is in its range
@@ -38,7 +39,7 @@ rests i k (time ∷ times) (suc g) rest below all =
 
 row_times : (floor floors : ℕ) (words : Line) (row : List ℕ) (g : ℕ) → row_of floor words ≡ Ok row → g < length row → IsTime floor g (get_or row g 0)
 row_times floor floors words row g is below =
-    let r = bind_ok (numbers words 1 0 20000000) (λ times. cond (rests_at floor 0 times) (Ok times) (Err NoTime)) row is in
+    let r = then-inv (numbers words 1 0 20000000) (λ times. cond (rests_at floor 0 times) (Ok times) (Err NoTime)) row is in
     by_test r.0 r.1 (rests_at floor 0 r.0) refl r.2
   where
     by_test : (times : List ℕ) → numbers words 1 0 20000000 ≡ Ok times → (rest : Bool) → rests_at floor 0 times ≡ rest → cond rest (Ok times) (Err NoTime) ≡ Ok row → IsTime floor g (get_or row g 0)

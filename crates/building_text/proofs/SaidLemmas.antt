@@ -2,31 +2,19 @@
 use Rattle.std.proofs.Common.{◌≡◌, ℕ, suc, ◌-◌, ◌≤◌, List, [], ◌∷◌, length, drop, Ok, Err, ap, refl, ◌∙◌, length-drop, IfOk, subst}
 use Rattle.std.specs.List.{AllByRecursion}
 use Rattle.lift_text.specs.Numbers.{digits_number}
-use Rattle.text_sections.specs.Codes.{Judged, ◌>>=◌}
+use Rattle.text_sections.specs.Judging.{Judged, ◌>>=◌}
 use Rattle.text_sections.specs.Words.{within}
 use Rattle.text_sections.specs.NumberLists.{numbers_of, numbers}
 use Rattle.text_sections.proofs.NumberLemmas.{is_within}
-use Rattle.building_text.specs.Said.{Said, coded, ◌then_say◌}
-
-pub bind_ok : {A B : Type 0} (judged : Judged A) (f : A → Judged B) (b : B) → judged >>= f ≡ Ok b → (a : A) × (judged ≡ Ok a) × (f a ≡ Ok b)
-bind_ok (Ok a) f b is = (a, refl, is)
-bind_ok (Err code) f b is = absurd cc
-
-pub then_ok : {A B : Type 0} (said : Said A) (f : A → Said B) (b : B) → said then_say f ≡ Ok b → (a : A) × (said ≡ Ok a) × (f a ≡ Ok b)
-then_ok (Ok a) f b is = (a, refl, is)
-then_ok (Err code) f b is = absurd cc
-
-pub coded_ok : {A : Type 0} (judged : Judged A) (a : A) → coded judged ≡ Ok a → judged ≡ Ok a
-coded_ok (Ok x) a is = cc
-coded_ok (Err code) a is = absurd cc
+use Rattle.text_sections.proofs.StepLemmas.{then-inv}
 
 -- ---- several numbers
 
 pub numbers_of-length : (low high : ℕ) (words : List (List ℕ)) (ns : List ℕ) → numbers_of low high words ≡ Ok ns → length ns ≡ length words
 numbers_of-length low high [] ns is = let e : ns ≡ [] = cc in ap length e
 numbers_of-length low high (word ∷ words) ns is =
-    let first = bind_ok (within low high (digits_number word)) (λ n. numbers_of low high words >>= λ ms. Ok (n ∷ ms)) ns is in
-    let later = bind_ok (numbers_of low high words) (λ ms. Ok (first.0 ∷ ms)) ns first.2 in
+    let first = then-inv (within low high (digits_number word)) (λ n. numbers_of low high words >>= λ ms. Ok (n ∷ ms)) ns is in
+    let later = then-inv (numbers_of low high words) (λ ms. Ok (first.0 ∷ ms)) ns first.2 in
     let same : Ok (first.0 ∷ later.0) ≡ Ok ns = later.2 in
     let e : ns ≡ first.0 ∷ later.0 = cc in
     ap length e ∙ ap suc (numbers_of-length low high words later.0 later.1)
@@ -44,8 +32,8 @@ in_range low high n (Err code) within is = absurd cc
 pub numbers_of-within : (low high : ℕ) (words : List (List ℕ)) (ns : List ℕ) → numbers_of low high words ≡ Ok ns → AllByRecursion (IsFrom low high) ns
 numbers_of-within low high [] ns is = let e : [] ≡ ns = cc in subst (AllByRecursion (IsFrom low high)) e tt
 numbers_of-within low high (word ∷ words) ns is =
-    let first = bind_ok (within low high (digits_number word)) (λ n. numbers_of low high words >>= λ ms. Ok (n ∷ ms)) ns is in
-    let later = bind_ok (numbers_of low high words) (λ ms. Ok (first.0 ∷ ms)) ns first.2 in
+    let first = then-inv (within low high (digits_number word)) (λ n. numbers_of low high words >>= λ ms. Ok (n ∷ ms)) ns is in
+    let later = then-inv (numbers_of low high words) (λ ms. Ok (first.0 ∷ ms)) ns first.2 in
     let same : Ok (first.0 ∷ later.0) ≡ Ok ns = later.2 in
     let e : first.0 ∷ later.0 ≡ ns = cc in
     subst (AllByRecursion (IsFrom low high)) e (in_range low high first.0 (within low high (digits_number word)) (is_within low high (digits_number word)) first.1, numbers_of-within low high words later.0 later.1)

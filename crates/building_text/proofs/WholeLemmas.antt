@@ -9,17 +9,18 @@ use Rattle.lift_text.specs.Numbers.{digits_number}
 use Rattle.elevator_model.specs.declared.CarSpec.{CarSpec}
 use Rattle.elevator_model.specs.declared.Fault.{Fault}
 use Rattle.elevator_model.specs.Building.{Building, floor_count, most_cars}
+use Rattle.elevator_model.specs.declared.Fault.TheVariants.{NotRising, IdUsedBefore, NoSuchFloor}
 use Rattle.elevator_model.specs.Faults.{fault_of_spec, first_in, is_rising, first_fault_of_building}
-use Rattle.text_sections.specs.declared.codes.TextCode.TheVariants.{TooMany}
-use Rattle.text_sections.specs.Codes.{◌>>=◌}
+use Rattle.lift_text.specs.declared.codes.TextCode.TheVariants.{TooMany, Item}
+use Rattle.text_sections.specs.Judging.{◌>>=◌, Judged}
 use Rattle.text_sections.specs.Words.{number, word_at, within, exactly, at_least, at_most}
 use Rattle.text_sections.specs.NumberLists.{numbers}
 use Rattle.text_sections.specs.Sections.{Line}
 use Rattle.text_sections.proofs.NumberLemmas.{is_within}
-use Rattle.building_text.specs.Said.{Said, coded, ◌then_say◌}
+use Rattle.text_sections.proofs.StepLemmas.{then-inv}
 use Rattle.building_text.specs.Words.{one_number, two_numbers, rising, heights_of, has_car_words, car_numbers, served_of, faultless, with_floors, judged_car, car_of_line}
 use Rattle.building_text.specs.BuildingText.{ArePatienceLines, AreCarLines, AreBuildingLines}
-use Rattle.building_text.proofs.SaidLemmas.{bind_ok, then_ok, coded_ok, numbers-length, numbers_of-within, IsFrom, in_range}
+use Rattle.building_text.proofs.SaidLemmas.{numbers-length, numbers_of-within, IsFrom, in_range}
 use Rattle.building_text.proofs.LineLemmas.{at_least_ok, rising_ok, nothing}
 
 number_from : (words : Line) (k low high n : ℕ) → number words k low high ≡ Ok n → IsFrom low high n
@@ -27,14 +28,14 @@ number_from words k low high n is = in_range low high n (number words k low high
 
 one_from : (words : Line) (low high n : ℕ) → one_number words low high ≡ Ok n → IsFrom low high n
 one_from words low high n is =
-    let r = bind_ok (exactly words 2) (λ _. number words 1 low high) n is in
+    let r = then-inv (exactly words 2) (λ _. number words 1 low high) n is in
     number_from words 1 low high n r.2
 
 two_from : (words : Line) (high high' a b : ℕ) → two_numbers words high high' ≡ Ok (a, b) → (a ≤ high) × (b ≤ high')
 two_from words high high' a b is =
-    let r = bind_ok (exactly words 3) (λ _. number words 1 0 high >>= λ x. (number words 2 0 high' >>= λ y. Ok (x, y))) (a, b) is in
-    let x = bind_ok (number words 1 0 high) (λ x. number words 2 0 high' >>= λ y. Ok (x, y)) (a, b) r.2 in
-    let y = bind_ok (number words 2 0 high') (λ y. Ok (x.0, y)) (a, b) x.2 in
+    let r = then-inv (exactly words 3) (λ _. number words 1 0 high >>= λ x. (number words 2 0 high' >>= λ y. Ok (x, y))) (a, b) is in
+    let x = then-inv (number words 1 0 high) (λ x. number words 2 0 high' >>= λ y. Ok (x, y)) (a, b) r.2 in
+    let y = then-inv (number words 2 0 high') (λ y. Ok (x.0, y)) (a, b) x.2 in
     let pair : Ok (x.0, y.0) ≡ Ok (a, b) = y.2 in
     let same : (x.0, y.0) ≡ (a, b) = cc in
     let first : x.0 ≡ a = ap (λ (p : ℕ × ℕ). p.0) same in
@@ -64,7 +65,7 @@ at_most_ok words count done is = by_test (nat_lt count (length words)) refl is
 rises : (ns hs : List ℕ) → rising ns ≡ Ok hs → is_rising hs ≡ true
 rises ns hs is = by_test (is_rising ns) refl is
   where
-    by_test : (up : Bool) → is_rising ns ≡ up → cond {A = Said (List ℕ)} up (Ok ns) (Err 10) ≡ Ok hs → is_rising hs ≡ true
+    by_test : (up : Bool) → is_rising ns ≡ up → cond {A = Judged (List ℕ)} up (Ok ns) (Err (Item NotRising)) ≡ Ok hs → is_rising hs ≡ true
     by_test true e same = let is_same : ns ≡ hs = cc in subst (λ l. is_rising l ≡ true) is_same e
     by_test false e same = absurd cc
 
@@ -78,9 +79,9 @@ pub record AreHeights (hs : List ℕ) : Type 0 where
 
 pub heights_are : (words : Line) (hs : List ℕ) → heights_of words ≡ Ok hs → AreHeights hs
 heights_are words hs is =
-    let r = then_ok (coded (at_least words 3 >>= λ _. (at_most words 65 >>= λ _. numbers words 1 0 1000000))) rising hs is in
-    let read = bind_ok (at_least words 3) (λ _. at_most words 65 >>= λ _. numbers words 1 0 1000000) r.0 (coded_ok _ _ r.1) in
-    let more = bind_ok (at_most words 65) (λ _. numbers words 1 0 1000000) r.0 read.2 in
+    let r = then-inv (at_least words 3 >>= λ _. (at_most words 65 >>= λ _. numbers words 1 0 1000000)) rising hs is in
+    let read = then-inv (at_least words 3) (λ _. at_most words 65 >>= λ _. numbers words 1 0 1000000) r.0 r.1 in
+    let more = then-inv (at_most words 65) (λ _. numbers words 1 0 1000000) r.0 read.2 in
     let size = numbers-length words 1 0 1000000 r.0 more.2 in
     let enough = at_least_ok words 3 read.0 read.1 in
     let few = at_most_ok words 65 more.0 more.1 in
@@ -101,14 +102,14 @@ judged_ok floors most before car new (Some set) is =
     subst (λ c. fault_of_spec floors most before c ≡ None) r.1 r.0
 judged_ok floors most before car new None is = by_test (list_any (λ (x : CarSpec). x.id == car.id) before) is
   where
-    by_test : (used : Bool) → cond {A = Said CarSpec} used (Err 11) (Err 12) ≡ Ok new → fault_of_spec floors most before new ≡ None
+    by_test : (used : Bool) → cond {A = Judged CarSpec} used (Err (Item IdUsedBefore)) (Err (Item NoSuchFloor)) ≡ Ok new → fault_of_spec floors most before new ≡ None
     by_test true same = absurd cc
     by_test false same = absurd cc
 
 pub car_faultless : (floors most : ℕ) (before : List CarSpec) (words : Line) (car : CarSpec) → car_of_line floors most before words ≡ Ok car → fault_of_spec floors most before car ≡ None
 car_faultless floors most before words car is =
-    let read = then_ok (coded (has_car_words words >>= λ _. car_numbers words)) (λ c. served_of floors words then_say λ set. judged_car floors most before c set) car is in
-    let set = then_ok (served_of floors words) (λ set. judged_car floors most before read.0 set) car read.2 in
+    let read = then-inv (has_car_words words >>= λ _. car_numbers words) (λ c. served_of floors words >>= λ set. judged_car floors most before c set) car is in
+    let set = then-inv (served_of floors words) (λ set. judged_car floors most before read.0 set) car read.2 in
     judged_ok floors most before read.0 car set.0 set.2
 
 cars_faultless : (floors most : ℕ) (before : List CarSpec) (lines : List Line) (cars : List CarSpec) (k : ℕ) → AreCarLines floors most before lines cars → first_in (fault_of_spec floors most) before cars k ≡ None

@@ -1,7 +1,7 @@
 -- The lines of a building's text in their order, by their line words.
 use Rattle.std.specs.Prelude.{ℕ, Bool, true, false, not, ◌&&◌, ◌||◌, ◌==◌, nat_lt, List, codes, if◌then◌else◌}
-use Rattle.text_sections.specs.declared.codes.TextCode.{TextCode}
-use Rattle.text_sections.specs.declared.codes.TextCode.TheVariants.{NoLineWord, OutOfOrder}
+use Rattle.lift_text.specs.declared.codes.TextCode.{TextCode}
+use Rattle.lift_text.specs.declared.codes.TextCode.TheVariants.{NoLineWord, OutOfOrder}
 use Rattle.text_sections.specs.Sections.{Line}
 use Rattle.text_sections.specs.Words.{is_word}
 use Rattle.building_text.specs.declared.order.Due.{Due}

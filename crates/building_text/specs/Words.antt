@@ -5,12 +5,11 @@ use Rattle.elevator_model.specs.declared.CarSpec.{CarSpec}
 use Rattle.elevator_model.specs.declared.Fault.{Fault}
 use Rattle.elevator_model.specs.declared.Fault.TheVariants.{NotRising, IdUsedBefore, NoSuchFloor}
 use Rattle.elevator_model.specs.Faults.{fault_of_spec, is_rising}
-use Rattle.elevator_model.specs.Printed.{code_of}
-use Rattle.text_sections.specs.Codes.{Judged, ◌>>=◌}
+use Rattle.lift_text.specs.declared.codes.TextCode.TheVariants.{Item}
+use Rattle.text_sections.specs.Judging.{Judged, ◌>>=◌}
 use Rattle.text_sections.specs.Words.{is_word, at_least, at_most, exactly, number}
 use Rattle.text_sections.specs.NumberLists.{numbers}
 use Rattle.text_sections.specs.Sections.{Line}
-use Rattle.building_text.specs.Said.{Said, coded, ◌then_say◌}
 
 -- a line of one number
 abbrev pub one_number : Line → (low high : ℕ) → Judged ℕ
@@ -21,12 +20,12 @@ abbrev pub two_numbers : Line → (high high' : ℕ) → Judged (ℕ × ℕ)
 two_numbers words high high' = exactly words 3 >>= λ _. (number words 1 0 high >>= λ a. (number words 2 0 high' >>= λ b. Ok (a, b)))
 
 -- numbers that rise
-abbrev pub rising : List ℕ → Said (List ℕ)
-rising ns = if is_rising ns then Ok ns else Err (code_of NotRising)
+abbrev pub rising : List ℕ → Judged (List ℕ)
+rising ns = if is_rising ns then Ok ns else Err (Item NotRising)
 
 -- 2 to 64 heights in mm
-abbrev pub heights_of : Line → Said (List ℕ)
-heights_of words = coded (at_least words 3 >>= λ _. (at_most words 65 >>= λ _. numbers words 1 0 1000000)) then_say rising
+abbrev pub heights_of : Line → Judged (List ℕ)
+heights_of words = (at_least words 3 >>= λ _. (at_most words 65 >>= λ _. numbers words 1 0 1000000)) >>= rising
 
 -- ---- cars
 
@@ -46,26 +45,26 @@ set_of set [] = Some set
 set_of set (f ∷ fs) = if nat_lt f 64 && nat_lt (set + 2 ^ f) (2 ^ 64) then set_of (set + 2 ^ f) fs else None
 
 -- the set of served floors of a building with so many floors
-abbrev pub served_of : ℕ → Line → Said (Option ℕ)
+abbrev pub served_of : ℕ → Line → Judged (Option ℕ)
 served_of floors words =
     if is_word words 7 (codes "all") then Ok (Some (2 ^ floors - 1))
-    else (coded (numbers words 7 0 4294967295) then_say λ fs. (rising fs then_say λ fs. Ok (set_of 0 fs)))
+    else (numbers words 7 0 4294967295 >>= λ fs. (rising fs >>= λ fs. Ok (set_of 0 fs)))
 
 -- a car, unless it has a fault
-abbrev pub faultless : CarSpec → Option Fault → Said CarSpec
+abbrev pub faultless : CarSpec → Option Fault → Judged CarSpec
 faultless car None = Ok car
-faultless car (Some fault) = Err (code_of fault)
+faultless car (Some fault) = Err (Item fault)
 
 abbrev pub with_floors : CarSpec → ℕ → CarSpec
 with_floors car set = record car { serves = set }
 
 -- a car after those before it, judged in a building with so many floors and at most so many cars
-abbrev pub judged_car : (floors most : ℕ) → List CarSpec → CarSpec → Option ℕ → Said CarSpec
+abbrev pub judged_car : (floors most : ℕ) → List CarSpec → CarSpec → Option ℕ → Judged CarSpec
 judged_car floors most before car (Some set) = faultless (with_floors car set) (fault_of_spec floors most before (with_floors car set))
 judged_car floors most before car None =
-    if list_any (λ (x : CarSpec). x.id == car.id) before then Err (code_of IdUsedBefore) else Err (code_of NoSuchFloor)
+    if list_any (λ (x : CarSpec). x.id == car.id) before then Err (Item IdUsedBefore) else Err (Item NoSuchFloor)
 
 -- the car of a line, after those of the lines before it
-abbrev pub car_of_line : (floors most : ℕ) → List CarSpec → Line → Said CarSpec
+abbrev pub car_of_line : (floors most : ℕ) → List CarSpec → Line → Judged CarSpec
 car_of_line floors most before words =
-    coded (has_car_words words >>= λ _. car_numbers words) then_say λ car. (served_of floors words then_say λ set. judged_car floors most before car set)
+    (has_car_words words >>= λ _. car_numbers words) >>= λ car. (served_of floors words >>= λ set. judged_car floors most before car set)

@@ -1,7 +1,9 @@
 -- Worked rows of the building section.
 use Rattle.std.specs.Prelude.{◌≡◌, ℕ, List, [], ◌∷◌, refl, codes, decimal}
+use Rattle.elevator_model.specs.declared.Fault.TheVariants.{NotRising, IdUsedBefore}
 use Rattle.elevator_model.specs.Building.{Building}
 use Rattle.lift_text.specs.Reading.{Reading, line_with, finished}
+use Rattle.lift_text.specs.declared.codes.TextCode.TheVariants.{NoLineWord, OutOfOrder, Item, CutShort}
 use Rattle.text_sections.specs.Sections.{Line, outcome, refused, accepted}
 use Rattle.building_text.specs.declared.order.Due.TheVariants.{NextCar}
 use Rattle.building_text.specs.Drafts.{no_draft, after}
@@ -34,26 +36,26 @@ whole_row : outcome after (with_floors (line_with 6 (car_words (codes "all" ∷ 
     }) (finished 12)
 whole_row = refl
 
-unknown_first_row : outcome after (line_with 1 (codes "speed" ∷ codes "2000" ∷ []) (finished 9)) no_draft ≡ refused 1 3
+unknown_first_row : outcome after (line_with 1 (codes "speed" ∷ codes "2000" ∷ []) (finished 9)) no_draft ≡ refused 1 NoLineWord
 unknown_first_row = refl
 
-patience_row : outcome after (first_lines (codes "1") (line_with 5 (codes "patience" ∷ codes "5" ∷ codes "3" ∷ []) (finished 9))) no_draft ≡ refused 5 3
+patience_row : outcome after (first_lines (codes "1") (line_with 5 (codes "patience" ∷ codes "5" ∷ codes "3" ∷ []) (finished 9))) no_draft ≡ refused 5 NoLineWord
 patience_row = refl
 
-no_patience_row : outcome after (first_lines (codes "2") (line_with 5 (codes "floors" ∷ codes "0" ∷ codes "1" ∷ []) (finished 9))) no_draft ≡ refused 5 8
+no_patience_row : outcome after (first_lines (codes "2") (line_with 5 (codes "floors" ∷ codes "0" ∷ codes "1" ∷ []) (finished 9))) no_draft ≡ refused 5 OutOfOrder
 no_patience_row = refl
 
-flat_row : outcome after (first_lines (codes "1") (line_with 5 (codes "floors" ∷ codes "9" ∷ codes "9" ∷ []) (finished 9))) no_draft ≡ refused 5 10
+flat_row : outcome after (first_lines (codes "1") (line_with 5 (codes "floors" ∷ codes "9" ∷ codes "9" ∷ []) (finished 9))) no_draft ≡ refused 5 (Item NotRising)
 flat_row = refl
 
-no_car_row : outcome after (with_floors (line_with 6 (codes "end" ∷ []) (finished 9))) no_draft ≡ refused 6 8
+no_car_row : outcome after (with_floors (line_with 6 (codes "end" ∷ []) (finished 9))) no_draft ≡ refused 6 OutOfOrder
 no_car_row = refl
 
-id_row : outcome after (with_floors (line_with 6 (car_words (codes "all" ∷ [])) (line_with 7 (car_words (codes "0" ∷ codes "64" ∷ [])) (finished 9)))) no_draft ≡ refused 7 11
+id_row : outcome after (with_floors (line_with 6 (car_words (codes "all" ∷ [])) (line_with 7 (car_words (codes "0" ∷ codes "64" ∷ [])) (finished 9)))) no_draft ≡ refused 7 (Item IdUsedBefore)
 unfolding set_of
 id_row = refl
 
-cut_row : outcome after (with_floors (finished 6)) no_draft ≡ refused 7 9
+cut_row : outcome after (with_floors (finished 6)) no_draft ≡ refused 7 CutShort
 cut_row = refl
 
 abbrev shaft : Building

@@ -1,15 +1,15 @@
 //! The line of a car.
 ghost use Rattle.std.specs.Prelude.{◌≡◌, ◌≤◌, length, OnOk};
 ghost use Rattle.lift_text.specs.LineReader.{words};
-ghost use Rattle.building_text.specs.Said.{Says};
+ghost use Rattle.text_sections.specs.Judging.{Gives};
 ghost use Rattle.building_text.specs.Words.{has_car_words, car_numbers, set_of, served_of, judged_car, car_of_line};
 
 use call_sets::FloorSet;
 use call_state::{are_rising, has_car, spec_fault};
 use elevator_model::{CarSpec, Fault};
-use lift_text::{LineReader, Source};
+use lift_text::{LineReader, Source, TextCode};
 use std::alloc::Global;
-use text_sections::{LineFault, TextCode, at_least, at_most, is_word, number, numbers};
+use text_sections::{LineFault, at_least, at_most, is_word, number, numbers};
 
 /// The greatest id, and the greatest floor that is read as one.
 const GREATEST: u64 = 4_294_967_295;
@@ -17,8 +17,8 @@ const GREATEST: u64 = 4_294_967_295;
 /// The longest of a car's four times, in ms.
 const LONGEST: u64 = 60_000;
 
-/// The most persons in a car.
-const MOST_PERSONS: u64 = 64;
+/// The greatest capacity of a car, in persons.
+const MOST_CAPACITY: u64 = 64;
 
 /// Whether there is a word `all` and none after it, or there are two served floors at least.
 fn has_words<S: Source>(lines: &LineReader<S>) -> Result<(), TextCode>
@@ -40,7 +40,7 @@ fn car_numbers<S: Source>(lines: &LineReader<S>) -> Result<CarSpec, TextCode>
 {
     Ok(CarSpec {
         id: number(lines, 1, 0, GREATEST)? as u32,
-        capacity: number(lines, 2, 1, MOST_PERSONS)? as u32,
+        capacity: number(lines, 2, 1, MOST_CAPACITY)? as u32,
         opening: number(lines, 3, 0, LONGEST)?,
         closing: number(lines, 4, 0, LONGEST)?,
         boarding: number(lines, 5, 0, LONGEST)?,
@@ -74,7 +74,7 @@ fn served<S: Source>(
 ) -> Result<Option<FloorSet>, LineFault>
     requires floors { floors ≤ 64 }
     requires count { 8 ≤ length (words lines.now) }
-    ensures { Says (served_of floors (words lines.now)) result }
+    ensures { Gives (served_of floors (words lines.now)) result }
 {
     if is_word(lines, 7, b"all") {
         return Ok(Some(FloorSet::lowest(floors)));
@@ -82,7 +82,7 @@ fn served<S: Source>(
     let mut served = Vec::new(alloc);
     numbers(lines, 7, 0, GREATEST, &mut served)?;
     if !are_rising(&served) {
-        return Err(LineFault::Bad(Fault::NotRising.code()));
+        return Err(LineFault::Bad(TextCode::Item(Fault::NotRising)));
     }
     Ok(set_of(&served))
 }
@@ -96,7 +96,7 @@ fn judged(
     serves: Option<FloorSet>,
 ) -> Result<CarSpec, LineFault>
     requires { floors ≤ 64 }
-    ensures { Says (judged_car floors most before.now car serves) result }
+    ensures { Gives (judged_car floors most before.now car serves) result }
 {
     let Some(serves) = serves else {
         let fault = if has_car(before, car.id) {
@@ -104,11 +104,11 @@ fn judged(
         } else {
             Fault::NoSuchFloor
         };
-        return Err(LineFault::Bad(fault.code()));
+        return Err(LineFault::Bad(TextCode::Item(fault)));
     };
     let car = CarSpec { serves, ..car };
     match spec_fault(floors, most, before, &car) {
-        Some(fault) => Err(LineFault::Bad(fault.code())),
+        Some(fault) => Err(LineFault::Bad(TextCode::Item(fault))),
         None => Ok(car),
     }
 }
@@ -123,7 +123,7 @@ pub(crate) fn car_of_line<S: Source>(
     lines: &LineReader<S>,
 ) -> Result<CarSpec, LineFault>
     requires { floors ≤ 64 }
-    ensures { Says (car_of_line floors most before.now (words lines.now)) result }
+    ensures { Gives (car_of_line floors most before.now (words lines.now)) result }
 {
     has_words(lines)?;
     let car = car_numbers(lines)?;

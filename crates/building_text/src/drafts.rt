@@ -13,14 +13,11 @@ use crate::parts::{heights, one_number, two_numbers};
 use call_state::{Building, BuildingParts, StateFault, Travel};
 use car_motion::travel_of;
 use elevator_model::{CarSpec, most_cars};
-use lift_text::{LineReader, Source, TextFault};
+use lift_text::{LineReader, Source, TextCode, TextFault};
 use motion_table::{judge_table, read_row};
 use std::alloc::{AllocError, Global};
 use std::marker::Model;
-use text_sections::{LineFault, Section, Turn, exactly, is_word};
-
-/// The code of a square of times in which a way over a third floor is shorter.
-const TRIANGLE: u8 = 52;
+use text_sections::{AfterLine, LineFault, Section, exactly, is_word};
 
 /// What was read of a building, and which line is due. What has not been read is 0 or empty.
 #[derive(Drop)]
@@ -150,7 +147,7 @@ impl BuildingDraft {
             return Ok(());
         }
         if has_triple(floors as u32, &self.times) {
-            return Err(LineFault::Bad(TRIANGLE));
+            return Err(LineFault::Bad(TextCode::ShorterWay));
         }
         self.due = Due::FirstCar;
         Ok(())
@@ -272,15 +269,15 @@ impl Section for BuildingDraft {
 
     ghost after = { after };
 
-    fn take_line<S: Source>(&mut self, lines: &LineReader<S>) -> Result<Turn, LineFault> {
+    fn take_line<S: Source>(&mut self, lines: &LineReader<S>) -> Result<AfterLine, LineFault> {
         if self.due.may_end() && is_word(lines, 0, b"end") {
             exactly(lines, 1)?;
-            return Ok(Turn::Whole);
+            return Ok(AfterLine::Whole);
         }
         if !is_word(lines, 0, self.due.name()) {
             return Err(LineFault::from(self.due.misplaced(self.version, lines)));
         }
         self.take_due(lines)?;
-        Ok(Turn::More)
+        Ok(AfterLine::More)
     }
 }

@@ -3,8 +3,8 @@ ghost use Rattle.std.specs.Prelude.{◌≡◌, ◌<◌, length};
 ghost use Rattle.lift_text.specs.LineReader.{words};
 ghost use Rattle.building_text.specs.Order.{name_of, is_first, may_end, after_weights, after_floors, is_plain_word, is_line_word, misplaced};
 
-use lift_text::{LineReader, Source};
-use text_sections::{TextCode, is_word};
+use lift_text::{LineReader, Source, TextCode};
+use text_sections::is_word;
 
 /// The line of a building's text that is due.
 #[derive(Clone, Copy)]

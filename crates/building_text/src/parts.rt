@@ -6,9 +6,9 @@ ghost use Rattle.building_text.specs.Words.{one_number, two_numbers, heights_of}
 
 use call_state::are_rising;
 use elevator_model::{Fault, MOST_FLOORS};
-use lift_text::{LineReader, Source};
+use lift_text::{LineReader, Source, TextCode};
 use std::alloc::Global;
-use text_sections::{LineFault, TextCode, at_least, at_most, exactly, number, numbers};
+use text_sections::{LineFault, at_least, at_most, exactly, number, numbers};
 
 /// The greatest height of a floor, in mm.
 const HIGHEST: u64 = 1_000_000;
@@ -51,7 +51,7 @@ pub(crate) fn heights<S: Source>(
     let mut heights = Vec::new(alloc);
     numbers(lines, 1, 0, HIGHEST, &mut heights)?;
     if !are_rising(&heights) {
-        return Err(LineFault::Bad(Fault::NotRising.code()));
+        return Err(LineFault::Bad(TextCode::Item(Fault::NotRising)));
     }
     Ok(heights)
 }

@@ -16,7 +16,7 @@ use text_sections::read_section;
 ///
 /// It accepts exactly the lines that stand for a building, and gives that building; a building that was
 /// written is read as that building again, whatever follows. The first bad line
-/// decides, with its number and one code. Code 9 comes where the input ends before the section does, at
+/// decides, with its number and one code. `CutShort` comes where the input ends before the section does, at
 /// the line after the last. `Read` comes only where a read of the source failed. After an `Err` of a
 /// line the reader is after that line.
 pub fn read_building<S: Source>(

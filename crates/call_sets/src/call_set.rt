@@ -1,6 +1,6 @@
 //! Sets of calls.
 
-ghost use Rattle.std.specs.Prelude.{true, false, ◌≡◌, ℕ, ◌+◌, ◌<◌, ◌==◌, ◌&&◌, ◌||◌, ◌↔◌, not, nat_lt, IsTrue, MatchOption};
+ghost use Rattle.std.specs.Prelude.{true, false, ◌≡◌, ℕ, ◌+◌, ◌<◌, ◌≤◌, ◌==◌, ◌&&◌, ◌||◌, ◌↔◌, not, nat_lt, IsTrue, MatchOption};
 ghost use Rattle.std.specs.Iterator.{YieldsFirst, item_count};
 ghost use Rattle.call_sets.specs.Counting.{has, is_among, members};
 
@@ -157,6 +157,26 @@ impl CallSet {
         Self {
             bits: self.bits & !other.bits,
         }
+    }
+
+    /// Whether each member of the other set is in this one.
+    pub fn contains_all(self, other: Self) -> bool
+        ensures { IsTrue result ↔ ((k : ℕ) → has other k ≡ true → has self k ≡ true) }
+    {
+        other.minus(self).least().is_none()
+    }
+
+    /// Whether this many first indexes are all in the set.
+    pub fn has_first(self, count: usize) -> bool
+        requires { count ≤ 128 }
+        ensures { IsTrue result ↔ ((k : ℕ) → k < count → has self k ≡ true) }
+    {
+        for index in 0..count {
+            if !self.contains(index as u32) {
+                return false;
+            }
+        }
+        true
     }
 
     /// The members above this index.

@@ -12,7 +12,7 @@ use crate::car_faults::spec_fault;
 use crate::id_index::IdIndex;
 use crate::squares::Travel;
 use crate::{Fault, StateFault};
-use elevator_model::{CarSpec, most_cars};
+use elevator_model::{CarSpec, MOST_CARS, most_cars};
 use std::alloc::{AllocError, Global};
 use std::marker::Model;
 
@@ -215,7 +215,7 @@ pub fn are_rising(numbers: &[u64]) -> bool
 /// and the place of the car with it, from 1.
 fn first_spec_fault(floors: u32, greatest: u32, cars: &[CarSpec]) -> Option<(Fault, u32)>
     requires floors { floors ≤ 64 }
-    requires cars { greatest ≤ 16 }
+    requires cars { greatest ≤ MOST_CARS }
     ensures { result ≡ first_in (fault_of_spec floors greatest) [] cars.now 1 }
 {
     for car in 0..cars.len() {

@@ -12,7 +12,7 @@ use crate::aboard_faults::has_group;
 use crate::buildings::Building;
 use crate::id_index::IdIndex;
 use crate::state_faults::serves_floor;
-use elevator_model::{Aboard, Call, Fault, most_calls};
+use elevator_model::{Aboard, Call, Fault, MOST_PERSONS, most_calls};
 
 /// Whether the car's size and floors allow the call.
 pub(crate) fn can_car_take(building: &Building, car: u32, call: &Call) -> bool
@@ -32,7 +32,7 @@ fn has_call(calls: &[Call], id: u32) -> bool
 }
 
 /// Whether some car of the building can take the call.
-fn any_can_take(building: &Building, call: &Call) -> bool
+pub fn any_can_take(building: &Building, call: &Call) -> bool
     ensures { result ≡ any_below (length building.now.cars)
         (λ c. can_take building.now c call.now) }
 {
@@ -81,7 +81,7 @@ fn fault_of_new(building: &Building, now: u64, before: &[Call], item: &Call) -> 
     if most_calls(building.version()) as usize <= before.len() {
         return Some(Fault::TooManyCalls);
     }
-    if item.persons < 1 || 8 < item.persons {
+    if item.persons < 1 || MOST_PERSONS < item.persons {
         return Some(Fault::PersonsOutOfRange);
     }
     None

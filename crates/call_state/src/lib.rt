@@ -19,6 +19,8 @@
 //!   same where the ids before it are in an `IdIndex`, which tells whether it has an id.
 //! - `Building::car_of` and `Snapshot::call_of` give the index of exactly the car, the call, with an id, from
 //!   an index of the ids. Copies are equal values.
+//! - `any_can_take` tells whether some car's size and floors allow a call. `time_at` is the time between two
+//!   floors in a list that need not be a travel square, and 0 where it has none.
 //! - `SnapshotParts::flaw` tells whether the parts fit together, and a condition of `Snapshot::build` that
 //!   fails where they do not. `Snapshot::possible` and `may_take` are exactly the cars that may take a call;
 //!   they are worked out once, when the snapshot is built.
@@ -36,7 +38,6 @@ mod call_faults;
 mod car_faults;
 mod id_index;
 mod possible_cars;
-mod small_snapshots;
 mod snapshots;
 mod squares;
 mod state_faults;
@@ -44,14 +45,13 @@ mod whole_parts;
 
 pub use aboard_faults::{aboard_fault, indexed_aboard_fault};
 pub use buildings::{Building, BuildingParts, are_rising};
-pub use call_faults::{call_fault, indexed_call_fault};
+pub use call_faults::{any_can_take, call_fault, indexed_call_fault};
 pub use call_sets::{CarSet, FloorSet};
 pub use car_faults::{has_car, spec_fault};
 pub use elevator_model::{Aboard, Call, CarSpec, CarState, Fault};
 pub use id_index::IdIndex;
-pub use small_snapshots::is_small;
 pub use snapshots::{PartsFlaw, Snapshot, SnapshotParts};
-pub use squares::{Travel, are_rows_direct};
+pub use squares::{Travel, are_rows_direct, time_at};
 pub use state_faults::{can_stop, is_open, serves_floor, state_fault};
 use std::alloc::AllocError;
 use std::error::Error;

@@ -19,7 +19,7 @@ use crate::state_faults::state_fault;
 use crate::whole_parts::{are_pinned_to_cars, are_unmoving, ride_in_cars};
 use crate::{Fault, StateFault};
 use call_sets::CarSet;
-use elevator_model::{Aboard, Call, CarSpec, CarState};
+use elevator_model::{Aboard, Call, CarSpec, CarState, LATEST_SNAPSHOT};
 use std::alloc::{AllocError, Global};
 use std::marker::Model;
 
@@ -75,7 +75,7 @@ impl SnapshotParts {
         if self.version < 1 || 2 < self.version {
             return Some(PartsFlaw::Version);
         }
-        if 1_000_000_000 < self.now {
+        if LATEST_SNAPSHOT < self.now {
             return Some(PartsFlaw::Moment);
         }
         if self.cars.len() != cars {
@@ -216,7 +216,8 @@ impl Snapshot {
         if let Some((fault, item)) = parts.first_fault() {
             return Err(StateFault::Bad { fault, item });
         }
-        // A reader of the building tells that it keeps its rules, which the snapshot's rules are to hold.
+        // For the proof: a reader of the building tells that it keeps its rules, which the snapshot's rules
+        // are to hold.
         let _version = parts.building.version();
         Ok(Snapshot::of_accepted(alloc, parts)?)
     }

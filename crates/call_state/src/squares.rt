@@ -6,11 +6,9 @@ ghost use Rattle.elevator_model.specs.declared.Fault.TheVariants.{NoTravelSquare
 ghost use Rattle.call_state.specs.Squares.{square_of, IsEntry, IsRow, AreRows, IsNowhereShorter, IsRowDirect, AreRowsDirect};
 
 use crate::{Fault, StateFault};
+use elevator_model::LONGEST_WAY;
 use std::alloc::{AllocError, Global};
 use std::marker::Model;
-
-/// The greatest travel time between two floors, in ms.
-const LONGEST: u64 = 20_000_000;
 
 /// A square of travel times: from each floor to each floor.
 ///
@@ -98,8 +96,8 @@ impl Travel {
     }
 }
 
-/// The time from one floor to another, and 0 where the times lack it.
-fn time_at(floors: u32, times: &[u64], from: u32, to: u32) -> u64
+/// The time in ms from one floor to another, and 0 where the times lack it.
+pub fn time_at(floors: u32, times: &[u64], from: u32, to: u32) -> u64
     ensures { result ≡ time_between (square_of floors times.now) from to }
 {
     let place = from as usize * floors as usize + to as usize;
@@ -114,7 +112,7 @@ fn is_entry(floors: u32, times: &[u64], from: u32, to: u32) -> bool
     if from == to {
         time == 0
     } else {
-        1 <= time && time <= LONGEST
+        1 <= time && time <= LONGEST_WAY
     }
 }
 

@@ -6,7 +6,7 @@ ghost use Rattle.elevator_model.specs.Snapshot.{IsAccepted, car_count, call_coun
 ghost use Rattle.elevator_model.specs.Tours.{is_call_for};
 ghost use Rattle.car_layout.specs.Layouts.{starts_at, ends_at as ends_at_lem, is_earlier, fits_in, any_group_to, persons_to as persons_to_lem, moments_to as moments_to_lem};
 
-use crate::floors::{first_floors, floors_served};
+use crate::floors::floors_served;
 use crate::groups::{destinations, lay_out_moments, lay_out_persons};
 use crate::scans::{calls_for, earlier_table, ending_table, fitting_table, starting_table};
 use call_sets::{CallSet, FloorSet};
@@ -57,7 +57,7 @@ impl<'a> Layout<'a> {
         requires { car < car_count snapshot.now }
         ensures { IfOk result (λ layout. layout ≡ record { snapshot = snapshot.now; car = car }) }
     {
-        // So the layout is of an accepted snapshot.
+        // For the proof: the layout is of an accepted snapshot.
         let _calls = snapshot.calls();
         let starting = starting_table(alloc, snapshot)?;
         let ending = ending_table(alloc, snapshot)?;

@@ -9,14 +9,12 @@ ghost use Rattle.car_layout.specs.Tables.{IsTable};
 
 use call_sets::CallSet;
 use call_state::{Call, Snapshot};
+use elevator_model::{MOST_CALLS, MOST_PERSONS};
 use std::alloc::{AllocError, Global};
-
-/// The most persons of a call.
-const MOST_PERSONS: u32 = 8;
 
 /// The set, and the call in it where it passes.
 fn with_if(set: CallSet, call: u32, passes: bool) -> CallSet
-    requires { call < 128 }
+    requires { call < MOST_CALLS }
     ensures { (k : ℕ) → has result k ≡ (has set k || ((k == call) && passes)) }
 {
     if passes { set.with(call) } else { set }
@@ -24,7 +22,7 @@ fn with_if(set: CallSet, call: u32, passes: bool) -> CallSet
 
 /// The calls that start at a floor.
 fn calls_from(calls: &[Call], floor: u32) -> CallSet
-    requires { length calls.now ≤ 128 }
+    requires { length calls.now ≤ MOST_CALLS }
     ensures { (j : ℕ) → has result j ≡ (nat_lt j (length calls.now)
         && ((slice_index_or calls.now j no_call).origin == floor)) }
 {
@@ -37,7 +35,7 @@ fn calls_from(calls: &[Call], floor: u32) -> CallSet
 
 /// The calls that end at a floor.
 fn calls_to(calls: &[Call], floor: u32) -> CallSet
-    requires { length calls.now ≤ 128 }
+    requires { length calls.now ≤ MOST_CALLS }
     ensures { (j : ℕ) → has result j ≡ (nat_lt j (length calls.now)
         && ((slice_index_or calls.now j no_call).destination == floor)) }
 {
@@ -50,7 +48,7 @@ fn calls_to(calls: &[Call], floor: u32) -> CallSet
 
 /// The calls of at most this many persons.
 fn calls_of_at_most(calls: &[Call], persons: u32) -> CallSet
-    requires { length calls.now ≤ 128 }
+    requires { length calls.now ≤ MOST_CALLS }
     ensures { (j : ℕ) → has result j ≡ (nat_lt j (length calls.now)
         && nat_le (slice_index_or calls.now j no_call).persons persons) }
 {
@@ -63,7 +61,7 @@ fn calls_of_at_most(calls: &[Call], persons: u32) -> CallSet
 
 /// The calls of a queue that are earlier than one of it.
 fn calls_before(calls: &[Call], later: &Call) -> CallSet
-    requires { length calls.now ≤ 128 }
+    requires { length calls.now ≤ MOST_CALLS }
     ensures { (j : ℕ) → has result j ≡ (nat_lt j (length calls.now)
         && is_later_in_queue_lem later.now (slice_index_or calls.now j no_call)) }
 {

@@ -1,12 +1,9 @@
 //! What tours and plans cost that may break a rule.
 
-ghost use Rattle.std.specs.Prelude.{IsTrue};
-ghost use Rattle.elevator_model.specs.Plans.{IsFeasiblePlan};
-
 use call_sets::CallSet;
 use call_state::Snapshot;
 use elevator_model::{Plan, Tour};
-use tour_cost::{cost, judge_plan, plan_cost};
+use tour_cost::{cost, is_feasible, plan_cost};
 use tour_rules::judge;
 
 /// What a feasible tour of the car costs. None for another tour, and where there is no such car.
@@ -24,13 +21,6 @@ pub fn boards_of(tour: &Tour) -> CallSet {
         boards = boards.union(CallSet::of_list(stop.boards.as_slice()));
     }
     boards
-}
-
-/// Whether the plan is feasible.
-pub fn is_feasible(snapshot: &Snapshot, plan: &Plan) -> bool
-    ensures { IsTrue result → IsFeasiblePlan snapshot.now plan.now }
-{
-    plan.tours().len() == snapshot.building().cars().len() && judge_plan(snapshot, plan).is_ok()
 }
 
 /// What a feasible plan costs, and None for another one.

@@ -15,8 +15,8 @@ mod reading;
 mod written;
 
 pub use checks::{Checks, are_right, print_kinds};
-pub use costs::{boards_of, is_feasible, lawful_cost, plan_price};
-pub use draws::Draws;
+pub use costs::{boards_of, lawful_cost, plan_price};
+pub use draws::draws_of_case;
 pub use lending::is_so_of;
 pub use lines::{put_call, put_group, put_lines, put_state};
 pub use reading::{WORKED_CASE, snapshot_in};

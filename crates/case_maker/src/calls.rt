@@ -6,8 +6,8 @@ ghost use Rattle.search_model.specs.Cases.{other_floor as other_floor_lem, state
 ghost use Rattle.case_maker.specs.NextCall.{next_call};
 
 use crate::NOW;
-use crate::draws::Draws;
 use elevator_model::Call;
+use search_model::Draws;
 use std::alloc::{AllocError, Global};
 
 /// Another floor than the origin, where one floor fewer was picked from.

@@ -18,13 +18,12 @@ ghost use Rattle.search_model.specs.Cases.{IsCase};
 
 mod buildings;
 mod calls;
-mod draws;
 mod states;
 
 use buildings::building_of;
 use call_state::{Snapshot, SnapshotParts, StateFault};
 use calls::calls_of;
-use draws::Draws;
+use search_model::Draws;
 use states::states_of;
 use std::alloc::{AllocError, Global};
 

@@ -5,8 +5,8 @@ ghost use Rattle.std.specs.List.{range_with_len};
 ghost use Rattle.search_model.specs.Cases.{state_of_draw, case_state};
 
 use crate::NOW;
-use crate::draws::Draws;
 use elevator_model::CarState;
+use search_model::Draws;
 use std::alloc::{AllocError, Global};
 
 /// One state per car: idle at a drawn floor.

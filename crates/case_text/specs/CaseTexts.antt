@@ -5,6 +5,7 @@ use Rattle.elevator_model.specs.Snapshot.{Snapshot}
 use Rattle.lift_text.specs.Reading.{TextState, Reading, reading, whole_text, line_with, finished, bad_line, past_limit}
 use Rattle.lift_text.specs.declared.faults.TextFault.{TextFault}
 use Rattle.lift_text.specs.declared.faults.TextFault.TheVariants.{Read, TooLong, Bad, NoMemory}
+use Rattle.lift_text.specs.declared.codes.TextCode.TheVariants.{OutOfOrder}
 use Rattle.text_sections.specs.Sections.{Line, Outcome, refused, too_long, outcome}
 use Rattle.text_sections.specs.Canonical.{BeginsWith}
 use Rattle.building_text.specs.BuildingText.{IsBuildingText}
@@ -71,7 +72,7 @@ pub record IsSnapshotFault (read : Reading) (fault : TextFault) : Type 0 where
 
 -- where nothing more is due: another line with a word is out of order
 abbrev pub IsFaultBehind : Reading → TextFault → Type 0
-IsFaultBehind (line_with line words rest) fault = fault ≡ Bad line 8
+IsFaultBehind (line_with line words rest) fault = fault ≡ Bad line OutOfOrder
 IsFaultBehind (bad_line line code) fault = fault ≡ Bad line code
 IsFaultBehind past_limit fault = fault ≡ TooLong
 IsFaultBehind (finished lines) fault = ⊥

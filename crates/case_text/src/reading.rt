@@ -8,10 +8,9 @@ ghost use Rattle.case_text.specs.CaseTexts.{IsReadCase, IsRefusedCase, TakesCase
 
 use building_text::read_building;
 use call_state::Snapshot;
-use lift_text::{LineReader, Source, TextFault};
+use lift_text::{LineReader, Source, TextCode, TextFault};
 use snapshot_text::read_snapshot;
 use std::alloc::Global;
-use text_sections::TextCode;
 
 /// Reads a building and a snapshot of it, up to the snapshot's `end`: what follows it stays unread.
 ///
@@ -37,7 +36,7 @@ pub fn read_case<S: Source>(alloc: Global, lines: &mut LineReader<S>) -> Result<
 }
 
 /// Reads on to the end of the text, where no other line has a word. A line that has one is out of order,
-/// which is code 8.
+/// which is `OutOfOrder`.
 pub fn read_end<S: Source>(lines: &mut LineReader<S>) -> Result<(), TextFault>
     requires { failure lines.old ≡ None }
     ensures same_source { lines.new.source.ghost_name ≡ lines.old.source.ghost_name }
@@ -52,7 +51,7 @@ pub fn read_end<S: Source>(lines: &mut LineReader<S>) -> Result<(), TextFault>
         Ok(false) => Ok(()),
         Ok(true) => Err(TextFault::Bad {
             line: lines.line(),
-            code: TextCode::OutOfOrder.code(),
+            code: TextCode::OutOfOrder,
         }),
         Err(fault) => Err(fault),
     }

@@ -19,6 +19,7 @@ use search_model::{Reason, Stated, Twig, Verdict};
 use std::alloc::{AllocError, Global};
 use std::marker::Sync;
 use std::thread::Threads;
+use work_fan::MOST_WORKERS;
 
 /// What a checker has seen.
 #[derive(Drop)]
@@ -79,7 +80,7 @@ impl Checker {
         requires own { IsCheckerOf snapshot.now self.old }
         requires few { length twigs.now < 2 ^ 32 }
         requires sizes { All HasWorthSizes twigs.now }
-        requires workers { (1 ≤ workers) × (workers ≤ 16) }
+        requires workers { (1 ≤ workers) × (workers ≤ MOST_WORKERS) }
         ensures own { IsCheckerOf snapshot.now self.new }
         ensures seen { OnOk result ((stated : StatedValue) (fed : List TwigValue)
             → length fed + length twigs.now < 2 ^ 32 → HasSeen snapshot.now stated fed self.old
@@ -132,11 +133,11 @@ fn goes_on<G: Gate + Sync>(
     requires own { All (IsNodeOf snapshot.now) places.now }
     requires few { length twigs.now < 2 ^ 32 }
     requires sizes { All HasWorthSizes twigs.now }
-    requires workers { (1 ≤ workers) × (workers ≤ 16) }
+    requires workers { (1 ≤ workers) × (workers ≤ MOST_WORKERS) }
     ensures own { IfOk result (IsStateOf snapshot.now) }
     ensures on { IfOk result (GoesOnTo snapshot.now bound places.now seen twigs.now) }
 {
-    // Its readers say that the snapshot is accepted.
+    // For the proof: its readers say that the snapshot is accepted.
     let _calls = snapshot.calls();
     let mut places = places.copy(alloc)?;
     let piece = Piece::of_twigs(alloc, &mut places, seen, twigs)?;
@@ -166,7 +167,7 @@ pub fn check<G: Gate + Sync>(
     requires cars { length stated.now.plan ≡ car_count snapshot.now }
     requires few { length tree.now < 2 ^ 32 }
     requires sizes { All HasWorthSizes tree.now }
-    requires workers { (1 ≤ workers) × (workers ≤ 16) }
+    requires workers { (1 ≤ workers) × (workers ≤ MOST_WORKERS) }
     ensures { IfOk result (λ verdict. verdict
         ≡ verdict_of snapshot.now stated.now.plan stated.now.cost stated.now.bound tree.now) }
 {

@@ -79,7 +79,7 @@ impl<'a> Desk<'a> {
             → Holds leaf self.old.rates self.old.stakes.items
             → reason ≡ reason_of_car self.old.snapshot.now number node.now leaf car) }
     {
-        // Its readers say that the snapshot is accepted.
+        // For the proof: its readers say that the snapshot is accepted.
         let _calls = self.snapshot.calls();
         let stake = self.stakes[car as usize];
         let demand = Demand {

@@ -1,13 +1,13 @@
 //! What a leaf states, entry by entry.
 
 ghost use Rattle.std.specs.Prelude.{◌≡◌, ℕ, ◌*◌, ◌<◌, ◌≤◌, ◌^◌, ◌≤ℤ◌, neg_ℤ, pos, true, All, length, map};
-ghost use Rattle.call_sets.specs.Counting.{has};
 ghost use Rattle.search_model.specs.Certificates.{are_each_once as are_each_once_lem};
 ghost use Rattle.search_model.specs.Prices.{price_at};
 ghost use Rattle.search_model.specs.Sums.{int_sum_by};
 ghost use Rattle.cert_checker.specs.Leaves.{HasWorthSize, claim_among, claim_at, price_among, worth_among, worth_at};
 
 use call_sets::CallSet;
+use elevator_model::{MOST_CALLS, MOST_CARS};
 use price_scale::Price;
 use search_model::{PriceOf, WorthOf};
 
@@ -44,23 +44,9 @@ pub(crate) struct Stake {
     pub(crate) claim: u64,
 }
 
-/// Whether the set has all numbers below the count.
-fn has_all(set: CallSet, count: usize) -> bool
-    requires { count ≤ 128 }
-    ensures yes { result ≡ true → (k : ℕ) → k < count → has set k ≡ true }
-    ensures no { ((k : ℕ) → k < count → has set k ≡ true) → result ≡ true }
-{
-    for k in 0..count {
-        if !set.contains(k as u32) {
-            return false;
-        }
-    }
-    true
-}
-
 /// Whether there is one entry for each of this many calls or cars, and no other.
 pub(crate) fn are_each_once<E: Entry>(entries: &[E], count: usize) -> bool
-    requires { count ≤ 128 }
+    requires { count ≤ MOST_CALLS }
     ensures { result ≡ are_each_once_lem count (map E.key entries.now) }
 {
     if entries.len() != count {
@@ -74,7 +60,7 @@ pub(crate) fn are_each_once<E: Entry>(entries: &[E], count: usize) -> bool
         }
         seen = seen.with(key);
     }
-    has_all(seen, count)
+    seen.has_first(count)
 }
 
 /// Puts each price into the place of its call. There has to be one for each.
@@ -103,7 +89,7 @@ pub(crate) fn write_stakes(entries: &[WorthOf], stakes: &mut [Stake])
 
 /// The sum of at most 128 prices, in thousandths of a cost unit.
 pub(crate) fn sum_of_prices(entries: &[PriceOf]) -> i128
-    requires { length entries.now ≤ 128 }
+    requires { length entries.now ≤ MOST_CALLS }
     ensures sum { result ≡ int_sum_by (λ p. p.price) entries.now }
     ensures low { neg_ℤ (pos (128 * 10 ^ 24)) ≤ℤ result }
     ensures high { result ≤ℤ pos (128 * 10 ^ 24) }
@@ -117,7 +103,7 @@ pub(crate) fn sum_of_prices(entries: &[PriceOf]) -> i128
 
 /// The sum of at most 16 worths of absolute value at most 10^27, in thousandths of a cost unit.
 pub(crate) fn sum_of_worths(entries: &[WorthOf]) -> i128
-    requires few { length entries.now ≤ 16 }
+    requires few { length entries.now ≤ MOST_CARS }
     requires sizes { All HasWorthSize entries.now }
     ensures sum { result ≡ int_sum_by (λ w. w.worth) entries.now }
     ensures low { neg_ℤ (pos (16 * 10 ^ 27)) ≤ℤ result }

@@ -13,7 +13,7 @@ use search_model::Reason;
 use std::alloc::{AllocError, Global};
 use std::marker::Sync;
 use std::thread::Threads;
-use work_fan::{Jobs, fan};
+use work_fan::{Jobs, MOST_WORKERS, fan};
 
 /// The leaves of a piece: job `k` is to judge that of task `k`.
 #[derive(Drop)]
@@ -100,7 +100,7 @@ pub(crate) fn judge_tasks<G: Gate + Sync>(
 ) -> Result<Option<Reason>, AllocError>
     requires few { length tasks.now < 2 ^ 32 }
     requires tasks { All (IsTask snapshot.now) tasks.now }
-    requires workers { (1 ≤ workers) × (workers ≤ 16) }
+    requires workers { (1 ≤ workers) × (workers ≤ MOST_WORKERS) }
     ensures { IfOk result (λ reason. reason ≡ reason_of_tasks snapshot.now bound tasks.now) }
 {
     if tasks.is_empty() {

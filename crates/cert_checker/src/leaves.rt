@@ -1,70 +1,24 @@
 //! Leaves, judged.
 
-ghost use Rattle.std.specs.Prelude.{◌≡◌, ◌<◌, true, All, IfOk};
+ghost use Rattle.std.specs.Prelude.{◌≡◌, ◌<◌, All, IfOk};
 ghost use Rattle.search_model.specs.Certificates.{sum_needed as sum_needed_lem, has_whole_lists};
 ghost use Rattle.search_model.specs.Nodes.{IsNodeOf};
 ghost use Rattle.elevator_model.specs.Snapshot.{car_count};
 ghost use Rattle.search_model.specs.Verdicts.{reason_of_cars, reason_of_leaf};
-ghost use Rattle.assign_branch.specs.Pricings.{IsWorthSize};
 ghost use Rattle.cert_checker.specs.Leaves.{HasWorthSize, Holds};
-ghost use Rattle.cert_checker.specs.Judging.{HasWorthSizes};
 
 use crate::desks::Desk;
 use crate::entries::{are_each_once, sum_of_prices, sum_of_worths};
 use assign_branch::Node;
 use call_state::Snapshot;
-use search_model::{Leaf, Reason, Twig, WorthOf};
+use search_model::{Leaf, Reason};
 use std::alloc::{AllocError, Global};
-
-/// The greatest absolute value of a worth, in thousandths of a cost unit.
-const MOST_WORTH: i128 = 1_000_000_000_000_000_000_000_000_000;
 
 /// The least sum of prices and worths, in thousandths of a cost unit, that is the bound when rounded up.
 fn sum_needed(bound: u64) -> i128
     ensures { result ≡ sum_needed_lem bound }
 {
     1000 * (i128::from(bound) - 1) + 1
-}
-
-/// Whether the worth is of absolute value at most 10^27.
-fn is_sized(worth: i128) -> bool
-    ensures { result ≡ true → IsWorthSize worth }
-{
-    -MOST_WORTH <= worth && worth <= MOST_WORTH
-}
-
-/// Whether each worth is of absolute value at most 10^27.
-fn are_sized(worths: &[WorthOf]) -> bool
-    ensures { result ≡ true → All HasWorthSize worths.now }
-{
-    for entry in worths {
-        if !is_sized(entry.worth) {
-            return false;
-        }
-    }
-    true
-}
-
-/// Whether each worth of the twig's leaf is of absolute value at most 10^27.
-fn has_sized_worths(twig: &Twig) -> bool
-    ensures { result ≡ true → HasWorthSizes twig.now }
-{
-    match twig {
-        Twig::Split { call: _, part: _ } => true,
-        Twig::Leaf(leaf) => are_sized(leaf.worths.as_slice()),
-    }
-}
-
-/// Whether each worth of the twigs is of absolute value at most 10^27, as a checker needs them.
-pub fn have_sized_worths(twigs: &[Twig]) -> bool
-    ensures { result ≡ true → All HasWorthSizes twigs.now }
-{
-    for twig in twigs {
-        if !has_sized_worths(twig) {
-            return false;
-        }
-    }
-    true
 }
 
 /// Whether the leaf states one price for each call and one worth for each car.
@@ -96,7 +50,7 @@ pub(crate) fn judge_leaf(
     if !is_whole(desk.snapshot, leaf) {
         return Ok(Some(Reason::Lists { node: number }));
     }
-    // Its readers say that the snapshot is accepted, so it has at most 128 calls and 16 cars.
+    // For the proof: its readers say that the snapshot is accepted, so it has at most 128 calls and 16 cars.
     let _calls = desk.snapshot.calls();
     let need = sum_needed(bound);
     let got = sum_of_prices(leaf.prices.as_slice()) + sum_of_worths(leaf.worths.as_slice());

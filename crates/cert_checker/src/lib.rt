@@ -44,5 +44,4 @@ mod walk;
 
 pub use checker::{Checker, check};
 pub use laws::verdict_laws;
-pub use leaves::have_sized_worths;
 pub use search_model::{Leaf, Reason, Stated, Twig, Verdict};

@@ -12,7 +12,7 @@ use Rattle.lift_text.specs.declared.faults.TextFault.TheVariants.{Read, TooLong,
 use Rattle.text_sections.specs.Sections.{Line, goes_on, step_of, accepted, refused, too_long, outcome}
 use Rattle.text_sections.specs.Canonical.{BeginsWith, Goes, Makes}
 use Rattle.text_sections.proofs.CanonicalLemmas.{goes-append, made}
-use Rattle.snapshot_text.proofs.Steps.{then-ok}
+use Rattle.text_sections.proofs.StepLemmas.{then-ok}
 use Rattle.cert_text.specs.declared.kinds.Entry.{Entry}
 use Rattle.cert_text.specs.declared.kinds.Entry.TheVariants.{Split as SplitEntry, Leaf as LeafEntry, Price as PriceEntry, Worth as WorthEntry, End as EndEntry}
 use Rattle.cert_text.specs.Entries.{entry_in}

@@ -6,15 +6,13 @@ use Rattle.std.proofs.lemmas.Bool.{eqb-true, eq-eqb, ne_eqb, le-ltb}
 use Rattle.std.proofs.lemmas.Slice.Eq.{bytes_eq-Decides}
 use Rattle.elevator_model.specs.Snapshot.{Snapshot}
 use Rattle.search_model.specs.declared.WorthOf.{WorthOf}
-use Rattle.text_sections.specs.declared.codes.TextCode.TheVariants.{NoLineWord, ClaimsPast}
-use Rattle.text_sections.specs.Codes.{Judged, ◌>>=◌, code_of}
-use Rattle.text_sections.specs.Words.{is_word, word_at, exactly, at_least}
+use Rattle.lift_text.specs.declared.codes.TextCode.{TextCode}
+use Rattle.lift_text.specs.declared.codes.TextCode.TheVariants.{NoLineWord, ClaimsPast}
+use Rattle.text_sections.specs.Judging.{Judged, ◌>>=◌, in_order}
+use Rattle.text_sections.specs.Words.{is_word, word_at, exactly, at_least, short, named, says_end}
 use Rattle.text_sections.specs.NumberLists.{numbers}
 use Rattle.text_sections.specs.Sections.{Line, Step, goes_on, is_whole, is_bad, step_of}
-use Rattle.snapshot_text.specs.Words.{short}
-use Rattle.snapshot_text.specs.Drafts.{in_order}
-use Rattle.snapshot_text.specs.Snapshots.{named, says_end}
-use Rattle.snapshot_text.proofs.Steps.{then-inv, then-ok, in_order-inv, in_order-ok, named-inv}
+use Rattle.text_sections.proofs.StepLemmas.{then-inv, then-ok, in_order-inv, in_order-ok, named-inv, named-ok, picked}
 use Rattle.answer_text.specs.Words.{call_named}
 use Rattle.cert_text.specs.declared.kinds.LineWord.{LineWord}
 use Rattle.cert_text.specs.declared.kinds.LineWord.TheVariants.{Certificate, Split as SplitWord, Leaf as LeafWord, Price as PriceWord, Worth as WorthWord, End as EndWord}
@@ -34,9 +32,9 @@ pub step_whole : {A : Type 0} (judged : Judged Entry) (f : Entry → Step A) (en
 step_whole (Ok e) f end h = (e, refl, h)
 step_whole (Err code) f end h = absurd cc
 
-pub step_bad : {A B : Type 0} (judged : Judged Entry) (f : Entry → Step A) (g : Entry → Step B) (code : ℕ) → ((e : Entry) → f e ≡ is_bad code → ⊥) → step_of (judged >>= λ e. Ok (f e)) ≡ is_bad code → step_of (judged >>= λ e. Ok (g e)) ≡ is_bad code
+pub step_bad : {A B : Type 0} (judged : Judged Entry) (f : Entry → Step A) (g : Entry → Step B) (code : TextCode) → ((e : Entry) → f e ≡ is_bad code → ⊥) → step_of (judged >>= λ e. Ok (f e)) ≡ is_bad code → step_of (judged >>= λ e. Ok (g e)) ≡ is_bad code
 step_bad (Ok e) f g code never h = absurd (never e h)
-step_bad {A} {B} (Err found) f g code never h = let same : code_of found ≡ code = cc in ap (λ (n : ℕ). is_bad n) same
+step_bad {A} {B} (Err found) f g code never h = let same : found ≡ code = cc in ap is_bad same
 
 -- ---- line words
 
@@ -48,24 +46,14 @@ text_of PriceWord = codes "price"
 text_of WorthWord = codes "worth"
 text_of EndWord = codes "end"
 
-abbrev Is : Line → LineWord → Type 0
-Is words word = is_word words 0 (text_of word) ≡ true
-
-picked : (words : Line) (b : Bool) (this word : LineWord) (rest : Judged LineWord) → (b ≡ true → Is words this) → (rest ≡ Ok word → Is words word) → (if b then Ok this else rest) ≡ Ok word → Is words word
-picked words true this word rest here later e = let same : this ≡ word = cc in subst (Is words) same (here refl)
-picked words false this word rest here later e = later e
-
 any_word_is : (words : Line) (word : LineWord) → any_word words ≡ Ok word → is_word words 0 (text_of word) ≡ true
 any_word_is words word e =
-    picked words _ Certificate word _ (λ is. is)
-    (picked words _ SplitWord word _ (λ is. is)
-    (picked words _ LeafWord word _ (λ is. is)
-    (picked words _ PriceWord word _ (λ is. is)
-    (picked words _ WorthWord word _ (λ is. is)
-    (picked words _ EndWord word _ (λ is. is) (λ none. absurd cc)))))) e
-
-is_named : (words : Line) (word : LineWord) → is_word words 0 (text_of word) ≡ true → named (text_of word) words ≡ Ok tt
-is_named words word is = ap (λ (e : Bool). if e then Ok tt else Err NoLineWord) is
+    picked text_of words _ Certificate word _ (λ is. is)
+    (picked text_of words _ SplitWord word _ (λ is. is)
+    (picked text_of words _ LeafWord word _ (λ is. is)
+    (picked text_of words _ PriceWord word _ (λ is. is)
+    (picked text_of words _ WorthWord word _ (λ is. is)
+    (picked text_of words _ EndWord word _ (λ is. is) (λ none. absurd cc)))))) e
 
 -- the line word that this text is
 abbrev word_of : List ℕ → Judged LineWord
@@ -135,7 +123,7 @@ entry_by_word at words Certificate e is h = absurd cc
 entry_by_word at words SplitWord e is h =
     let place = then-inv (in_place at) (λ _. split_said at.snapshot words) e h in
     let form = split_form at.snapshot words e place.2 in
-    let said : says_split at.snapshot words ≡ Ok e = then-ok (named (codes "split") words) (λ _. split_said at.snapshot words) tt e (is_named words SplitWord is) place.2 in
+    let said : says_split at.snapshot words ≡ Ok e = then-ok (named (codes "split") words) (λ _. split_said at.snapshot words) tt e (named-ok words (text_of SplitWord) is) place.2 in
     let this = subst (λ (x : Entry). says_split at.snapshot words ≡ Ok x) (sym form.2) said in
     subst (λ (x : Entry). Says at words x) form.2 (this, some_of at.places (in_order-inv (not (at.places == 0)) place.0 place.1))
 entry_by_word at words LeafWord e is h =
@@ -143,13 +131,13 @@ entry_by_word at words LeafWord e is h =
     let one = then-inv (exactly words 1) (λ _. Ok LeafEntry) e place.2 in
     let same : LeafEntry ≡ e = ok_is LeafEntry e one.2 in
     subst (λ (x : Entry). Says at words x) same
-    (then-ok (named (codes "leaf") words) (λ _. exactly words 1) tt tt (is_named words LeafWord is) one.1, some_of at.places (in_order-inv (not (at.places == 0)) place.0 place.1))
+    (then-ok (named (codes "leaf") words) (λ _. exactly words 1) tt tt (named-ok words (text_of LeafWord) is) one.1, some_of at.places (in_order-inv (not (at.places == 0)) place.0 place.1))
 entry_by_word at words PriceWord e is h =
     let place = then-inv (in_order at.in_leaf) (λ _. price_said at.snapshot words >>= λ price. Ok (PriceEntry price)) e h in
     let one = then-inv (price_said at.snapshot words) (λ price. Ok (PriceEntry price)) e place.2 in
     let same : PriceEntry one.0 ≡ e = ok_is (PriceEntry one.0) e one.2 in
     subst (λ (x : Entry). Says at words x) same
-    (then-ok (named (codes "price") words) (λ _. price_said at.snapshot words) tt one.0 (is_named words PriceWord is) one.1, in_order-inv at.in_leaf place.0 place.1)
+    (then-ok (named (codes "price") words) (λ _. price_said at.snapshot words) tt one.0 (named-ok words (text_of PriceWord) is) one.1, in_order-inv at.in_leaf place.0 place.1)
 entry_by_word at words WorthWord e is h =
     let place = then-inv (in_order at.in_leaf) (λ _. worth_said at.snapshot words >>= λ worth. (claimed at worth >>= λ taken. Ok (WorthEntry taken))) e h in
     let one = then-inv (worth_said at.snapshot words) (λ worth. claimed at worth >>= λ taken. Ok (WorthEntry taken)) e place.2 in
@@ -157,13 +145,13 @@ entry_by_word at words WorthWord e is h =
     let room = claimed_by (nat_lt 10000000000 (at.claims + one.0.claim)) one.0 two.0 two.1 in
     let same : WorthEntry one.0 ≡ e = ap (λ (w : WorthOf). WorthEntry w) room.1 ∙ ok_is (WorthEntry two.0) e two.2 in
     subst (λ (x : Entry). Says at words x) same
-    (then-ok (named (codes "worth") words) (λ _. worth_said at.snapshot words) tt one.0 (is_named words WorthWord is) one.1, in_order-inv at.in_leaf place.0 place.1, not_past 10000000000 (at.claims + one.0.claim) room.0)
+    (then-ok (named (codes "worth") words) (λ _. worth_said at.snapshot words) tt one.0 (named-ok words (text_of WorthWord) is) one.1, in_order-inv at.in_leaf place.0 place.1, not_past 10000000000 (at.claims + one.0.claim) room.0)
 entry_by_word at words EndWord e is h =
     let place = then-inv (in_order (at.places == 0)) (λ _. exactly words 1 >>= λ _. Ok EndEntry) e h in
     let one = then-inv (exactly words 1) (λ _. Ok EndEntry) e place.2 in
     let same : EndEntry ≡ e = ok_is EndEntry e one.2 in
     subst (λ (x : Entry). Says at words x) same
-    (then-ok (named (codes "end") words) (λ _. exactly words 1) tt tt (is_named words EndWord is) one.1, eqb-true at.places 0 (in_order-inv (at.places == 0) place.0 place.1))
+    (then-ok (named (codes "end") words) (λ _. exactly words 1) tt tt (named-ok words (text_of EndWord) is) one.1, eqb-true at.places 0 (in_order-inv (at.places == 0) place.0 place.1))
 
 -- what a line says that is taken
 pub entry_says : (at : Standing) (words : Line) (e : Entry) → entry_in at words ≡ Ok e → Says at words e

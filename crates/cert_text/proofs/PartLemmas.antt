@@ -6,8 +6,8 @@ use Rattle.call_sets.specs.Counting.{has, is_among}
 use Rattle.call_sets.proofs.Bits.{has_zero}
 use Rattle.call_sets.proofs.ListTests.{list_any-append}
 use Rattle.elevator_model.specs.Building.{Building, IsBuilding}
-use Rattle.text_sections.specs.declared.codes.TextCode.{TextCode}
-use Rattle.text_sections.specs.Codes.{Judged, ◌>>=◌}
+use Rattle.lift_text.specs.declared.codes.TextCode.{TextCode}
+use Rattle.text_sections.specs.Judging.{Judged, ◌>>=◌}
 use Rattle.text_sections.proofs.NumberListLemmas.{with_front}
 use Rattle.snapshot_text.specs.Words.{car_named}
 use Rattle.snapshot_text.proofs.Steps.{car_named-below}

@@ -8,17 +8,18 @@ use Rattle.search_model.specs.declared.Twig.TheVariants.{Split}
 use Rattle.lift_text.specs.Reading.{TextState, Reading, reading, line_with, finished, bad_line, past_limit}
 use Rattle.lift_text.specs.declared.faults.TextFault.{TextFault}
 use Rattle.lift_text.specs.declared.faults.TextFault.TheVariants.{Read, TooLong, Bad, NoMemory}
-use Rattle.text_sections.specs.Codes.{Judged, ◌>>=◌, code_of}
+use Rattle.lift_text.specs.declared.codes.TextCode.{TextCode}
+use Rattle.lift_text.specs.declared.codes.TextCode.TheVariants.{CutShort}
+use Rattle.text_sections.specs.Judging.{Judged, ◌>>=◌}
 use Rattle.text_sections.specs.Sections.{Line, Step, goes_on, is_whole, is_bad, step_of, refused, too_long, continued, outcome, ReadAs}
 use Rattle.text_sections.specs.Canonical.{BeginsWith, Goes, Makes, IsMade}
-use Rattle.text_sections.proofs.CanonicalLemmas.{goes-append}
-use Rattle.snapshot_text.proofs.Steps.{then-ok}
-use Rattle.snapshot_text.proofs.Again.{accepted_made}
+use Rattle.text_sections.proofs.CanonicalLemmas.{goes-append, accepted_made}
+use Rattle.text_sections.proofs.StepLemmas.{then-ok}
 use Rattle.cert_text.specs.declared.kinds.Begun.{Begun}
 use Rattle.cert_text.specs.declared.kinds.Begun.TheVariants.{Nothing, Split as SplitBegun, Leaf as LeafBegun, End as Ended, Failed}
 use Rattle.cert_text.specs.Trees.{places_left, sum_of_claims, IsTwigWithin}
 use Rattle.cert_text.specs.Drafts.{Draft, blank, rooted, judged_head, after}
-use Rattle.cert_text.specs.Pieces.{Reader, Piece, leaf_begun, after_piece, after_first}
+use Rattle.cert_text.specs.Pieces.{Reader, TwigDraft, leaf_begun, after_piece, after_first}
 use Rattle.cert_text.specs.Certs.{StandsFor, IsSaid, IsReadCert, IsRefusedCert}
 use Rattle.cert_text.specs.Readers.{twigs_begun, Reaches, drafted, HasRead, IsFront, IsRefused, HandsOut, HandsOutFor, IsBegunFor, IsRefusedFor}
 use Rattle.cert_text.proofs.TreeLemmas.{leaf_at_end, places_front, sum_of_front}
@@ -86,8 +87,8 @@ module _ (s : Snapshot) where
   reached Ended front last d end goes step = record { front = front; last = last; before = d; lines_are = refl; goes = goes; whole = step }
   reached (Failed fault) front last d end goes step = absurd step
 
-  module _ (p : Piece) (same : p.snapshot ≡ s) where
-    between : (first before now : Option TextState) (end : Piece) (lines : List Line) → IsMade after_piece p end → ReadAs after_piece before p (Ok tt) end now → Between lines first before
+  module _ (p : TwigDraft) (same : p.snapshot ≡ s) where
+    between : (first before now : Option TextState) (end : TwigDraft) (lines : List Line) → IsMade after_piece p end → ReadAs after_piece before p (Ok tt) end now → Between lines first before
         → (more : List Line) × Makes after_piece more p end × Between (lines ++ more) first now
     between None before now end lines is_made read begins = (is_made.0, is_made.1, tt)
     between (Some text) None now end lines is_made read begins = absurd begins
@@ -96,7 +97,7 @@ module _ (s : Snapshot) where
         let found = accepted_made after_piece (reading b) p end (reading behind) read in
         (found.0, found.2, begins-append lines found.0 (reading text) (reading b) (reading behind) begins found.1)
 
-    pub hands_ok : (before now : Option TextState) (end : Piece) → IsMade after_piece p end → ReadAs after_piece before p (Ok tt) end now → HandsOutFor s (midway s p) before (Ok end.ready) (at_end s end) now
+    pub hands_ok : (before now : Option TextState) (end : TwigDraft) → IsMade after_piece p end → ReadAs after_piece before p (Ok tt) end now → HandsOutFor s (midway s p) before (Ok end.ready) (at_end s end) now
     hands_ok before now end is_made read = λ first handed h.
         (let is : IsPiece s p handed = record { snapshot = same; fits = h.fits } in
         let between_them = between first before now end h.lines is_made read h.begins in
@@ -115,7 +116,7 @@ module _ (s : Snapshot) where
         let front_is = front_handed first (at_end s end) (handed ++ twig ∷ []) now read_on in
         subst (λ (o : Option Twig). HandsOut s first handed (Ok o) (at_end s end) now) (sym whole.1) (read_on, all_last (IsTwigWithin s) handed twig front_is.1.twigs, front_is))
 
-    refuses : (first before now : Option TextState) (fault : TextFault) (end : Piece) (handed : List Twig) → ReadAs after_piece before p (Err fault) end now → HasRead s first (midway s p) handed before → IsRefused s first fault
+    refuses : (first before now : Option TextState) (fault : TextFault) (end : TwigDraft) (handed : List Twig) → ReadAs after_piece before p (Err fault) end now → HasRead s first (midway s p) handed before → IsRefused s first fault
     refuses first before now Read end handed read h = tt
     refuses first before now NoMemory end handed read h = tt
     refuses None before now (Bad line code) end handed read h = tt
@@ -131,7 +132,7 @@ module _ (s : Snapshot) where
         let is : IsPiece s p handed = record { snapshot = same; fits = h.fits } in
         goes_outcome h.lines (blank s) d (reading text) (reading b) h.begins (goes_of p.leaf h.lines (blank s) d h.reaches) ∙ long_same s handed (reading b) p is read
 
-    pub hands_err : (before now : Option TextState) (fault : TextFault) (end : Piece) (reader : Reader) → ReadAs after_piece before p (Err fault) end now → HandsOutFor s (midway s p) before (Err fault) reader now
+    pub hands_err : (before now : Option TextState) (fault : TextFault) (end : TwigDraft) (reader : Reader) → ReadAs after_piece before p (Err fault) end now → HandsOutFor s (midway s p) before (Err fault) reader now
     hands_err before now fault end reader read = λ first handed h. refuses first before now fault end handed read h
 
   -- ---- a call that does not read
@@ -178,9 +179,9 @@ module _ (s : Snapshot) where
   first_not_on (Ok n) next e = cc
   first_not_on (Err code) next e = cc
 
-  first_bad : (judged : Judged ℕ) (code : ℕ) → step_of (judged >>= λ _. Ok (is_whole true)) ≡ is_bad code → step_of (judged >>= λ _. Ok (goes_on (rooted s))) ≡ is_bad code
+  first_bad : (judged : Judged ℕ) (code : TextCode) → step_of (judged >>= λ _. Ok (is_whole true)) ≡ is_bad code → step_of (judged >>= λ _. Ok (goes_on (rooted s))) ≡ is_bad code
   first_bad (Ok n) code e = absurd cc
-  first_bad (Err found) code e = let same : code_of found ≡ code = cc in ap (λ (n : ℕ). is_bad n) same
+  first_bad (Err found) code e = let same : found ≡ code = cc in ap is_bad same
 
   begun_after : (words : Line) (n : ℕ) → judged_head words ≡ Ok n → after (blank s) words ≡ goes_on (rooted s)
   begun_after words n e = ap step_of (then-ok (judged_head words) (λ _. Ok (goes_on (rooted s))) n (goes_on (rooted s)) e refl)
@@ -204,7 +205,7 @@ module _ (s : Snapshot) where
       let found = accepted_made after_first (reading text) start end (reading behind) read in
       record { lines = found.0; fits = (omega arith, refl); reaches = makes_first found.0 start end found.2; begins = found.1 }
 
-  first_refused : (read : Reading) (start : Bool) (line code : ℕ) → outcome after_first read start ≡ refused line code → outcome after read (blank s) ≡ refused line code
+  first_refused : (read : Reading) (start : Bool) (line : ℕ) (code : TextCode) → outcome after_first read start ≡ refused line code → outcome after read (blank s) ≡ refused line code
   first_refused (line_with n words more) start line code e = by_step (after_first start words) refl e
     where
       by_step : (one : Step Bool) → after_first start words ≡ one → continued one n more (outcome after_first more) ≡ refused line code → continued (after (blank s) words) n more (outcome after more) ≡ refused line code
@@ -213,9 +214,9 @@ module _ (s : Snapshot) where
       by_step (is_bad found) is h =
           let numbers : n ≡ line = cc in
           let codes : found ≡ code = cc in
-          ap (λ (x : Step Draft). continued x n more (outcome after more)) (first_bad (judged_head words) found is) ∙ ap (λ (k : ℕ). refused k found) numbers ∙ ap (λ (k : ℕ). refused line k) codes
-  first_refused (finished lines) start line code e = (let l : lines + 1 ≡ line = cc in let c : 9 ≡ code = cc in ap (λ (k : ℕ). refused k 9) l ∙ ap (λ (k : ℕ). refused line k) c)
-  first_refused (bad_line n found) start line code e = (let l : n ≡ line = cc in let c : found ≡ code = cc in ap (λ (k : ℕ). refused k found) l ∙ ap (λ (k : ℕ). refused line k) c)
+          ap (λ (x : Step Draft). continued x n more (outcome after more)) (first_bad (judged_head words) found is) ∙ ap (λ (k : ℕ). refused k found) numbers ∙ ap (λ (k : TextCode). refused line k) codes
+  first_refused (finished lines) start line code e = (let l : lines + 1 ≡ line = cc in let c : CutShort ≡ code = cc in ap (λ (k : ℕ). refused k CutShort) l ∙ ap (λ (k : TextCode). refused line k) c)
+  first_refused (bad_line n found) start line code e = (let l : n ≡ line = cc in let c : found ≡ code = cc in ap (λ (k : ℕ). refused k found) l ∙ ap (λ (k : TextCode). refused line k) c)
   first_refused past_limit start line code e = absurd cc
 
   first_long : (read : Reading) (start : Bool) → outcome after_first read start ≡ too_long → outcome after read (blank s) ≡ too_long

@@ -1,20 +1,18 @@
 -- What lines say that make a section.
 use Rattle.std.proofs.Common.{◌≡◌, ℕ, ◌+◌, ◌-◌, ◌<◌, ◌≤◌, true, List, [], ◌∷◌, ◌++◌, Some, Ok, Err, refl, sym, ap, ◌∙◌, subst, arith, inl, inr, append_assoc, append-nil}
-use Rattle.std.specs.Prelude.{codes, IfOk}
+use Rattle.std.specs.Prelude.{codes}
 use Rattle.elevator_model.specs.Snapshot.{Snapshot}
 use Rattle.search_model.specs.declared.PriceOf.{PriceOf}
 use Rattle.search_model.specs.declared.WorthOf.{WorthOf}
 use Rattle.search_model.specs.declared.Leaf.{Leaf}
 use Rattle.search_model.specs.declared.Twig.{Twig}
 use Rattle.search_model.specs.declared.Twig.TheVariants.{Split, Leaf as Tip}
-use Rattle.lift_text.specs.Numbers.{digits_number}
-use Rattle.text_sections.specs.Codes.{Judged, ◌>>=◌}
-use Rattle.text_sections.specs.Words.{exactly, number, word_at}
+use Rattle.text_sections.specs.Judging.{Judged, ◌>>=◌}
+use Rattle.text_sections.specs.Words.{exactly, number, named, says_end}
 use Rattle.text_sections.specs.Sections.{Line, goes_on, is_whole, step_of}
 use Rattle.text_sections.specs.Canonical.{Goes, Makes}
-use Rattle.text_sections.proofs.NumberLemmas.{is_within}
-use Rattle.snapshot_text.specs.Snapshots.{named, says_end}
-use Rattle.snapshot_text.proofs.Steps.{then-inv}
+use Rattle.text_sections.proofs.StepLemmas.{then-inv}
+use Rattle.text_sections.proofs.NumberLemmas.{number_one}
 use Rattle.cert_text.specs.declared.kinds.Entry.{Entry}
 use Rattle.cert_text.specs.declared.kinds.Entry.TheVariants.{Split as SplitEntry, Leaf as LeafEntry, Price as PriceEntry, Worth as WorthEntry, End as EndEntry}
 use Rattle.cert_text.specs.Words.{head_said}
@@ -173,9 +171,6 @@ module _ (s : Snapshot) where
       (rest.0, rest.1, rest.2, rest.3, subst (λ (ls : List Line). Told ls rest.0 rest.1 rest.2) (append_assoc lines (words ∷ []) more) rest.4)
 
   -- ---- the first line and the last
-
-  number_one : (words : Line) (v : ℕ) → number words 1 1 1 ≡ Ok v → 1 ≡ v
-  number_one words v e = let both = subst (λ (r : Judged ℕ). IfOk r (λ n. (1 ≤ n) × (n ≤ 1))) e (is_within 1 1 (digits_number (word_at words 1))) in omega (arith, both)
 
   head_is : (judged : Judged ℕ) (next : Draft) → step_of (judged >>= λ _. Ok (goes_on (rooted s))) ≡ goes_on next → (n : ℕ) × (judged ≡ Ok n) × (rooted s ≡ next)
   head_is (Ok n) next e = (n, refl, cc)

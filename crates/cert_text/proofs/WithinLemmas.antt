@@ -1,8 +1,7 @@
 -- Twigs that lines say lie in their ranges.
 use Rattle.std.proofs.Common.{◌≡◌, ℕ, suc, ◌^◌, ◌<◌, ◌≤◌, ◌==◌, Bool, true, false, List, [], ◌∷◌, ◌++◌, length, Option, None, Some, Ok, Err, refl, sym, ap, ◌∙◌, subst, arith, inl, inr}
-use Rattle.std.specs.Prelude.{ℤ, pos, neg_ℤ, ◌≤ℤ◌, int_lt, ◌||◌, codes, nat_lt, All, IfOk, IsTrue, if◌then◌else◌}
-use Rattle.std.specs.List.{position_or_len}
-use Rattle.std.proofs.lemmas.Bool.{ltb-true, eqb-true, both_ways, cases_lt}
+use Rattle.std.specs.Prelude.{ℤ, pos, neg_ℤ, ◌≤ℤ◌, int_lt, ◌||◌, codes, All, IsTrue, if◌then◌else◌}
+use Rattle.std.proofs.lemmas.Bool.{eqb-true, both_ways, cases_lt}
 use Rattle.std.proofs.lemmas.Int.{ints}
 use Rattle.std.proofs.lemmas.List.Elements.{All-nil, All-weaker}
 use Rattle.call_sets.specs.Counting.{has, is_among}
@@ -16,18 +15,18 @@ use Rattle.search_model.specs.declared.Twig.{Twig}
 use Rattle.search_model.specs.declared.Twig.TheVariants.{Split, Leaf as Tip}
 use Rattle.search_model.specs.Certificates.{root_place, is_whole}
 use Rattle.search_model.proofs.SetLemmas.{set_where-below, has-set_where}
-use Rattle.lift_text.specs.Numbers.{digits_number, number_of}
-use Rattle.text_sections.specs.declared.codes.TextCode.TheVariants.{OutOfRange}
-use Rattle.text_sections.specs.Codes.{Judged, ◌>>=◌}
-use Rattle.text_sections.specs.Words.{exactly, at_least, number, signed_within, word_at}
+use Rattle.lift_text.specs.Numbers.{number_of}
+use Rattle.lift_text.specs.declared.codes.TextCode.TheVariants.{OutOfRange}
+use Rattle.text_sections.specs.Judging.{◌>>=◌}
+use Rattle.text_sections.specs.Words.{exactly, at_least, number, signed_within, word_at, short, named}
 use Rattle.text_sections.specs.NumberLists.{numbers}
 use Rattle.text_sections.specs.Sections.{Line}
-use Rattle.text_sections.proofs.NumberLemmas.{is_within}
-use Rattle.snapshot_text.specs.Words.{short, known, car_named}
-use Rattle.snapshot_text.specs.Snapshots.{named}
-use Rattle.snapshot_text.proofs.Steps.{then-inv, car_named-below}
+use Rattle.text_sections.proofs.StepLemmas.{then-inv, known-below}
+use Rattle.text_sections.proofs.EachLemmas.{all_more}
+use Rattle.text_sections.proofs.NumberLemmas.{number_in}
+use Rattle.snapshot_text.specs.Words.{car_named}
+use Rattle.snapshot_text.proofs.Steps.{car_named-below}
 use Rattle.answer_text.specs.Words.{call_named}
-use Rattle.answer_text.proofs.CallLemmas.{all_more}
 use Rattle.cert_text.specs.declared.kinds.Entry.{Entry}
 use Rattle.cert_text.specs.declared.kinds.Entry.TheVariants.{Split as SplitEntry}
 use Rattle.cert_text.specs.Words.{cars_named, part_of, part_named, split_said, price_of_word, price_said, worth_of_word, worth_said}
@@ -53,9 +52,6 @@ all_last P (y ∷ xs) x all = all_last P xs x (all_tail P y (xs ++ x ∷ []) all
 
 -- ---- numbers
 
-number_in : (words : Line) (k low high n : ℕ) → number words k low high ≡ Ok n → (low ≤ n) × (n ≤ high)
-number_in words k low high n e = subst (λ (r : Judged ℕ). IfOk r (λ m. (low ≤ m) × (m ≤ high))) e (is_within low high (digits_number (word_at words k)))
-
 kept_by : (a b : Bool) (x v : ℤ) → (if a || b then Err OutOfRange else Ok x) ≡ Ok v → (a ≡ false) × (b ≡ false) × (x ≡ v)
 kept_by true b x v e = absurd cc
 kept_by false true x v e = absurd cc
@@ -73,16 +69,7 @@ signed_in low high (Some x) v e =
 -- ---- calls and cars
 
 call_below : (s : Snapshot) (id j : ℕ) → call_named s id ≡ Ok j → j < call_count s
-call_below s id j e =
-    let p : Call → Bool = λ x. x.id == id in
-    below (position_or_len p s.calls) (length s.calls) j e
-  where
-    cases : (is : Bool) (at count c : ℕ) → (is ≡ true → at < count) → known (if is then Some at else None) ≡ Ok c → c < count
-    cases true at count c small same = let equal : at ≡ c = cc in omega (arith, small refl)
-    cases false at count c small same = absurd cc
-
-    below : (at count c : ℕ) → known (if nat_lt at count then Some at else None) ≡ Ok c → c < count
-    below at count c same = cases (nat_lt at count) at count c (ltb-true at count) same
+call_below s id j e = known-below (λ (x : Call). x.id == id) s.calls j e
 
 -- each car of the list is one of the building
 pub cars_below : (b : Building) (ids cars : List ℕ) → cars_named b ids ≡ Ok cars → (c : ℕ) → is_among c cars ≡ true → c < length b.cars

@@ -1,10 +1,10 @@
 -- The lines of a certificate's text stand for its tree.
-use Rattle.std.proofs.Common.{◌≡◌, ℕ, zero, suc, ◌+◌, ◌*◌, ◌^◌, ◌<◌, ◌≤◌, ◌==◌, ◌&&◌, ◌||◌, not, eqb, Bool, true, false, List, [], ◌∷◌, ◌++◌, length, map, filter, refl, sym, ap, ◌∙◌, subst, arith, Option, None, Some, Result, Ok, Err, length-append, lit<, inl, inr}
-use Rattle.std.specs.Prelude.{ℤ, pos, negsuc, neg_ℤ, ◌≤ℤ◌, int_lt, codes, decimal, nat_le, nat_lt, All, if◌then◌else◌}
+use Rattle.std.proofs.Common.{◌≡◌, ℕ, zero, suc, ◌+◌, ◌*◌, ◌^◌, ◌<◌, ◌≤◌, ◌==◌, ◌&&◌, ◌||◌, eqb, Bool, true, false, List, [], ◌∷◌, ◌++◌, length, map, filter, refl, sym, ap, ◌∙◌, subst, arith, Option, None, Some, Result, Ok, Err, length-append, lit<, inl, inr}
+use Rattle.std.specs.Prelude.{ℤ, pos, negsuc, neg_ℤ, ◌≤ℤ◌, int_lt, codes, decimal, if◌then◌else◌}
 use Rattle.std.specs.Int.{bit_at}
 use Rattle.std.specs.Fmt.{signed_decimal}
-use Rattle.std.specs.List.{flat_map, range_with_len, list_all, AllByRecursion}
-use Rattle.std.proofs.lemmas.Bool.{eqb-false, eqb-true, false≢true, and_parts, leb-true, ltb-true, le-ltb, cases_lt}
+use Rattle.std.specs.List.{flat_map, range_with_len, AllByRecursion}
+use Rattle.std.proofs.lemmas.Bool.{eqb-false, eqb-true, le-ltb, cases_lt}
 use Rattle.std.proofs.lemmas.Bool.Decides.{nat_tests}
 use Rattle.std.proofs.lemmas.Int.{ints}
 use Rattle.std.proofs.lemmas.Map.Views.{any-filter_same}
@@ -22,17 +22,18 @@ use Rattle.search_model.proofs.SetLemmas.{set_where-below, has-set_where}
 use Rattle.lift_text.specs.Numbers.{digits_number, number_of}
 use Rattle.lift_text.specs.Reading.{TextState, reading}
 use Rattle.lift_text.specs.declared.faults.TextFault.{TextFault}
-use Rattle.text_sections.specs.declared.codes.TextCode.TheVariants.{Missing, OutOfRange}
-use Rattle.text_sections.specs.Codes.{◌>>=◌}
-use Rattle.text_sections.specs.Words.{at_least, number, signed, signed_within, within, word_at}
+use Rattle.lift_text.specs.declared.codes.TextCode.TheVariants.{Missing, OutOfRange}
+use Rattle.text_sections.specs.Judging.{◌>>=◌}
+use Rattle.text_sections.specs.Words.{at_least, number, signed, signed_within, within, word_at, short}
 use Rattle.text_sections.specs.NumberLists.{numbers, numbers_of}
 use Rattle.text_sections.specs.Sections.{Line}
-use Rattle.text_sections.specs.Canonical.{IsWordByte, IsWord, IsLineOfWords, BeginsWith, joined}
+use Rattle.text_sections.specs.Canonical.{IsWord, IsLineOfWords, BeginsWith, joined}
 use Rattle.text_sections.proofs.NumberLemmas.{number_again, written_number}
-use Rattle.text_sections.proofs.CanonicalLemmas.{decimal_word, lines_again}
-use Rattle.snapshot_text.specs.Words.{short, car_named}
+use Rattle.text_sections.proofs.CanonicalLemmas.{decimal_word, lines_again, name_word}
+use Rattle.text_sections.proofs.StepLemmas.{then-ok}
+use Rattle.text_sections.proofs.EachLemmas.{each_of, each-append}
+use Rattle.snapshot_text.specs.Words.{car_named}
 use Rattle.snapshot_text.proofs.CarLemmas.{named_car}
-use Rattle.snapshot_text.proofs.Steps.{then-ok}
 use Rattle.answer_text.specs.Words.{call_named}
 use Rattle.answer_text.proofs.CallLemmas.{named_call}
 use Rattle.cert_text.specs.declared.kinds.Entry.{Entry}
@@ -43,16 +44,6 @@ use Rattle.cert_text.specs.Certs.{says_split, says_price, says_worth, SayItems, 
 use Rattle.cert_text.specs.Texts.{head_words, split_words, leaf_words, price_words, worth_words, end_words, item_lines, twig_lines, cert_lines, cert_text}
 use Rattle.cert_text.specs.Written.{HasText, behind, ReadsText}
 use Rattle.cert_text.proofs.WideLemmas.{writes, signed_again, IsSize}
-
--- ---- lists
-
-each-append : {X : Type 0} (P : X → Type 0) (xs ys : List X) → AllByRecursion P xs → AllByRecursion P ys → AllByRecursion P (xs ++ ys)
-each-append P [] ys all more = more
-each-append P (x ∷ xs) ys all more = (all.0, each-append P xs ys all.1 more)
-
-pub each_of : {X : Type 0} (P : X → Type 0) (xs : List X) → All P xs → AllByRecursion P xs
-each_of P [] all = tt
-each_of P (x ∷ xs) all = (all 0 x (omega arith), each_of P xs (λ k d below. all (suc k) d (omega arith)))
 
 -- ---- the cars of a part
 
@@ -126,24 +117,6 @@ unfolding members
 members_few part = kept_few (has part) (range_with_len 0 16)
 
 -- ---- words and lines
-
-abbrev is_byte : ℕ → Bool
-is_byte b = nat_le 33 b && (nat_le b 126 && not (b == 35))
-
-not-true : (is : Bool) → not is ≡ true → is ≡ false
-not-true true e = absurd (false≢true e)
-not-true false e = refl
-
-bytes_from : (bs : List ℕ) → list_all is_byte bs ≡ true → AllByRecursion IsWordByte bs
-bytes_from [] all = tt
-bytes_from (b ∷ bs) all =
-    let parts = and_parts (is_byte b) (list_all is_byte bs) all in
-    let low = and_parts (nat_le 33 b) (nat_le b 126 && not (b == 35)) parts.0 in
-    let high = and_parts (nat_le b 126) (not (b == 35)) low.1 in
-    ((leb-true 33 b low.0, leb-true b 126 high.0, eqb-false b 35 (not-true (b == 35) high.1)), bytes_from bs parts.1)
-
-name_word : (name : List ℕ) → list_all is_byte name ≡ true → nat_lt 0 (length name) ≡ true → IsWord name
-name_word name all some = record { some = ltb-true 0 (length name) some; bytes = bytes_from name all }
 
 -- how long words with a space before each are
 abbrev pub spread : Line → ℕ

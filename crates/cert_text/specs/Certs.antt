@@ -9,11 +9,10 @@ use Rattle.search_model.specs.declared.Twig.TheVariants.{Split, Leaf as Tip}
 use Rattle.lift_text.specs.Reading.{TextState, Reading, reading}
 use Rattle.lift_text.specs.declared.faults.TextFault.{TextFault}
 use Rattle.lift_text.specs.declared.faults.TextFault.TheVariants.{Read, TooLong, Bad, NoMemory}
-use Rattle.text_sections.specs.Codes.{Judged, ◌>>=◌}
-use Rattle.text_sections.specs.Words.{exactly}
+use Rattle.text_sections.specs.Judging.{Judged, ◌>>=◌}
+use Rattle.text_sections.specs.Words.{exactly, named, says_end}
 use Rattle.text_sections.specs.Sections.{Line, ReadAs}
 use Rattle.text_sections.specs.Canonical.{BeginsWith}
-use Rattle.snapshot_text.specs.Snapshots.{named, says_end}
 use Rattle.cert_text.specs.declared.kinds.Entry.{Entry}
 use Rattle.cert_text.specs.declared.kinds.Entry.TheVariants.{Split as SplitEntry}
 use Rattle.cert_text.specs.Words.{split_said, price_said, worth_said}

@@ -6,9 +6,9 @@ use Rattle.search_model.specs.declared.WorthOf.{WorthOf}
 use Rattle.search_model.specs.declared.Leaf.{Leaf}
 use Rattle.search_model.specs.declared.Twig.{Twig}
 use Rattle.search_model.specs.declared.Twig.TheVariants.{Split, Leaf as Tip}
-use Rattle.text_sections.specs.Codes.{Judged, ◌>>=◌}
+use Rattle.text_sections.specs.Judging.{Judged, ◌>>=◌}
 use Rattle.text_sections.specs.Sections.{Line, Step, goes_on, is_whole, step_of}
-use Rattle.snapshot_text.specs.Snapshots.{named}
+use Rattle.text_sections.specs.Words.{named}
 use Rattle.cert_text.specs.declared.kinds.Entry.{Entry}
 use Rattle.cert_text.specs.declared.kinds.Entry.TheVariants.{Split as SplitEntry, Leaf as LeafEntry, Price as PriceEntry, Worth as WorthEntry, End as EndEntry}
 use Rattle.cert_text.specs.Words.{head_said}

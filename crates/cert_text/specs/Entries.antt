@@ -2,11 +2,10 @@
 use Rattle.std.specs.Prelude.{ℕ, ◌+◌, ◌==◌, not, Bool, nat_lt, Ok, Err, codes, if◌then◌else◌}
 use Rattle.elevator_model.specs.Snapshot.{Snapshot}
 use Rattle.search_model.specs.declared.WorthOf.{WorthOf}
-use Rattle.text_sections.specs.declared.codes.TextCode.TheVariants.{NoLineWord, OutOfOrder, ClaimsPast}
-use Rattle.text_sections.specs.Codes.{Judged, ◌>>=◌}
+use Rattle.lift_text.specs.declared.codes.TextCode.TheVariants.{NoLineWord, OutOfOrder, ClaimsPast}
+use Rattle.text_sections.specs.Judging.{Judged, ◌>>=◌, in_order}
 use Rattle.text_sections.specs.Words.{is_word, exactly}
 use Rattle.text_sections.specs.Sections.{Line}
-use Rattle.snapshot_text.specs.Drafts.{in_order}
 use Rattle.cert_text.specs.declared.kinds.LineWord.{LineWord}
 use Rattle.cert_text.specs.declared.kinds.LineWord.TheVariants.{Certificate, Split as SplitWord, Leaf as LeafWord, Price as PriceWord, Worth as WorthWord, End as EndWord}
 use Rattle.cert_text.specs.declared.kinds.Entry.{Entry}

@@ -2,18 +2,17 @@
 ghost use Rattle.std.specs.Prelude.{◌≡◌, ◌<◌, ◌==◌, Bool, true, false, length, not};
 ghost use Rattle.lift_text.specs.LineReader.{words};
 ghost use Rattle.text_sections.specs.Sections.{Did};
-ghost use Rattle.snapshot_text.specs.Drafts.{in_order};
-ghost use Rattle.answer_text.specs.Words.{Gives};
+ghost use Rattle.text_sections.specs.Judging.{in_order, Gives};
 
 use crate::kinds::{Begun, Entry, LineWord};
 use crate::said::{MOST_CLAIM, head_said, price_said, split_said, worth_said};
 use call_sets::CarSet;
 use call_state::Snapshot;
-use lift_text::{LineReader, Source};
+use lift_text::{LineReader, Source, TextCode};
 use search_model::{Items, Leaf, PriceOf, Twig, WorthOf};
 use std::alloc::Global;
 use std::marker::Model;
-use text_sections::{LineFault, Section, TextCode, Turn, exactly, is_word};
+use text_sections::{AfterLine, LineFault, Section, exactly, is_word};
 
 /// The first line of a certificate, as a section of its own.
 #[derive(Drop)]
@@ -34,20 +33,20 @@ impl Section for FirstLine {
 
     ghost after = { after_first };
 
-    fn take_line<S: Source>(&mut self, lines: &LineReader<S>) -> Result<Turn, LineFault> {
+    fn take_line<S: Source>(&mut self, lines: &LineReader<S>) -> Result<AfterLine, LineFault> {
         if !is_word(lines, 0, b"certificate") {
             return Err(LineFault::from(TextCode::NoLineWord));
         }
         let _version = head_said(lines)?;
         self.is_read = true;
-        Ok(Turn::Whole)
+        Ok(AfterLine::Whole)
     }
 }
 
 /// A twig that is being read. It is whole with the line that ends it: a split with its own, a leaf with the
 /// first line after its prices and worths.
 #[derive(Drop)]
-pub(crate) struct Piece<'a> {
+pub(crate) struct TwigDraft<'a> {
     pub(crate) alloc: Global,
     pub(crate) snapshot: &'a Snapshot,
     /// How many places of the tree are open.
@@ -62,8 +61,8 @@ pub(crate) struct Piece<'a> {
     pub(crate) begun: Begun,
 }
 
-impl<'a> Model for Piece<'a> {
-    ghost use Rattle.cert_text.specs.Pieces.{Piece as Record};
+impl<'a> Model for TwigDraft<'a> {
+    ghost use Rattle.cert_text.specs.Pieces.{TwigDraft as Record};
 
     ghost Value = { Record };
 
@@ -77,7 +76,7 @@ impl<'a> Model for Piece<'a> {
     } };
 }
 
-impl<'a> Piece<'a> {
+impl<'a> TwigDraft<'a> {
     ghost use Rattle.cert_text.specs.declared.kinds.LineWord.TheVariants.{Split as SplitWord};
     ghost use Rattle.cert_text.specs.declared.kinds.Entry.TheVariants.{Split as SplitEntry, Leaf as LeafEntry, Price as PriceEntry, Worth as WorthEntry, End as EndEntry};
     ghost use Rattle.cert_text.specs.Entries.{any_word, in_place, claimed, split_in, leaf_in, price_in, worth_in, end_in, entry_in};
@@ -194,7 +193,7 @@ impl<'a> Piece<'a> {
         requires { 0 < length (words lines.now) }
         ensures { Gives (entry_in (piece_standing self.now) (words lines.now)) result }
     {
-        match Piece::any_word(lines)? {
+        match TwigDraft::any_word(lines)? {
             LineWord::Certificate => Err(LineFault::from(TextCode::OutOfOrder)),
             LineWord::Split => self.split_in(lines),
             LineWord::Leaf => Ok(self.leaf_in(lines)?),
@@ -204,7 +203,7 @@ impl<'a> Piece<'a> {
         }
     }
 
-    fn take_split(&mut self, call: u32, part: CarSet) -> Result<Turn, LineFault>
+    fn take_split(&mut self, call: u32, part: CarSet) -> Result<AfterLine, LineFault>
         ensures { Did (piece_taken self.old (SplitEntry call part)) result self.new }
     {
         // A text has far fewer lines than the count can hold.
@@ -222,10 +221,10 @@ impl<'a> Piece<'a> {
                 self.begun = Begun::Nothing;
             }
         }
-        Ok(Turn::Whole)
+        Ok(AfterLine::Whole)
     }
 
-    fn take_leaf(&mut self) -> Result<Turn, LineFault>
+    fn take_leaf(&mut self) -> Result<AfterLine, LineFault>
         ensures { Did (piece_taken self.old LeafEntry) result self.new }
     {
         self.places = self.places.saturating_sub(1);
@@ -237,25 +236,25 @@ impl<'a> Piece<'a> {
             Some(leaf) => {
                 self.ready = Some(Twig::Leaf(leaf));
                 self.begun = Begun::Leaf(fresh);
-                Ok(Turn::Whole)
+                Ok(AfterLine::Whole)
             }
             None => {
                 self.leaf = Some(fresh);
-                Ok(Turn::More)
+                Ok(AfterLine::More)
             }
         }
     }
 
-    fn take_price(&mut self, price: PriceOf) -> Result<Turn, LineFault>
+    fn take_price(&mut self, price: PriceOf) -> Result<AfterLine, LineFault>
         ensures { Did (piece_taken self.old (PriceEntry price)) result self.new }
     {
         if let Some(leaf) = &mut self.leaf {
             leaf.prices.push(price)?;
         }
-        Ok(Turn::More)
+        Ok(AfterLine::More)
     }
 
-    fn take_worth(&mut self, worth: WorthOf) -> Result<Turn, LineFault>
+    fn take_worth(&mut self, worth: WorthOf) -> Result<AfterLine, LineFault>
         ensures { Did (piece_taken self.old (WorthEntry worth)) result self.new }
     {
         let Some(claims) = self.claims.checked_add(worth.claim) else {
@@ -265,10 +264,10 @@ impl<'a> Piece<'a> {
         if let Some(leaf) = &mut self.leaf {
             leaf.worths.push(worth)?;
         }
-        Ok(Turn::More)
+        Ok(AfterLine::More)
     }
 
-    fn take_end(&mut self) -> Result<Turn, LineFault>
+    fn take_end(&mut self) -> Result<AfterLine, LineFault>
         ensures { Did (piece_taken self.old EndEntry) result self.new }
     {
         self.ready = match self.leaf.take() {
@@ -276,10 +275,10 @@ impl<'a> Piece<'a> {
             None => None,
         };
         self.begun = Begun::End;
-        Ok(Turn::Whole)
+        Ok(AfterLine::Whole)
     }
 
-    fn take(&mut self, entry: Entry) -> Result<Turn, LineFault>
+    fn take(&mut self, entry: Entry) -> Result<AfterLine, LineFault>
         ensures { Did (piece_taken self.old entry) result self.new }
     {
         match entry {
@@ -292,12 +291,12 @@ impl<'a> Piece<'a> {
     }
 }
 
-impl<'a> Section for Piece<'a> {
+impl<'a> Section for TwigDraft<'a> {
     ghost use Rattle.cert_text.specs.Pieces.{after_piece};
 
     ghost after = { after_piece };
 
-    fn take_line<S: Source>(&mut self, lines: &LineReader<S>) -> Result<Turn, LineFault> {
+    fn take_line<S: Source>(&mut self, lines: &LineReader<S>) -> Result<AfterLine, LineFault> {
         let entry = self.entry_in(lines)?;
         self.take(entry)
     }

@@ -7,7 +7,7 @@ ghost use Rattle.cert_text.specs.Pieces.{leaf_begun, reader_behind};
 ghost use Rattle.cert_text.specs.Readers.{HasRead, HandsOut, IsRefusedFor, IsBegunFor, HandsOutFor, IsNoneAtEnd, failure_of};
 
 use crate::kinds::Begun;
-use crate::pieces::{FirstLine, Piece};
+use crate::pieces::{FirstLine, TwigDraft};
 use call_state::Snapshot;
 use lift_text::{LineReader, Source, TextFault};
 use search_model::{Leaf, Twig};
@@ -39,9 +39,9 @@ impl Model for TreeReader {
 impl TreeReader {
     /// Reads the first line of a certificate, `certificate 1`. The allocator comes first.
     ///
-    /// Its first word must be `certificate`, or else the code is 3; then come 4 for a missing word, 5 for a
-    /// word too many, and 6 and 7 for a version that is no number or another one. Code 9 comes where the
-    /// input ends before it. `Read` comes only where a read of the source failed.
+    /// Its first word must be `certificate`, or else the code is `NoLineWord`; then come `Missing`, `TooMany`,
+    /// and `NoNumber` and `OutOfRange` for the version. `CutShort` comes where the input ends before it. `Read`
+    /// comes only where a read of the source failed.
     pub fn begin<S: Source>(
         alloc: Global,
         lines: &mut LineReader<S>,
@@ -72,7 +72,7 @@ impl TreeReader {
     }
 
     /// The reader after a piece that is whole, and its twig.
-    fn behind(piece: Piece) -> (TreeReader, Option<Twig>)
+    fn behind(piece: TwigDraft) -> (TreeReader, Option<Twig>)
         ensures reader { result.0 ≡ reader_behind piece.entry }
         ensures twig { result.1 ≡ piece.entry.ready }
     {
@@ -105,7 +105,7 @@ impl TreeReader {
             → Rose (S.faults lines.old.source.now) (S.faults lines.new.source.now) }
         ensures counted { S.faults lines.old.source.now ≤ S.faults lines.new.source.now }
     {
-        let mut piece = Piece {
+        let mut piece = TwigDraft {
             alloc: self.alloc,
             snapshot,
             places: self.places,
@@ -130,13 +130,12 @@ impl TreeReader {
     /// The next twig in preorder. None exactly where the tree is complete and its line `end` was read, and
     /// from then on. A leaf is handed out once the line after its last price or worth was read.
     ///
-    /// The reader has to be called with the lines that it began with, and always with the same snapshot. The
-    /// first bad line decides, with one code, of which the first of these comes: 3 for an unknown first word,
-    /// 8 for a price or worth without a leaf, for a twig after a complete tree and an `end` before it, 4 for
-    /// a missing word, 5 for a word too many, 6 and 7 for a word that is no number in its range, 25 for the
-    /// id of an unknown car or call, and then 24 for claims that sum past 10^10. Code 9 comes where the input
-    /// ends first. `Read` comes only where a read of the source failed. After an `Err` the same is answered
-    /// from then on.
+    /// The reader has to be called with the lines that it began with, and always with the same snapshot. The first
+    /// bad line decides, with one code, of which the first of these comes: `NoLineWord`, `OutOfOrder` for a price
+    /// or worth without a leaf, for a twig after a complete tree and for an `end` before it, `Missing`, `TooMany`,
+    /// `NoNumber` and `OutOfRange`, `UnknownId`, and then `ClaimsPast` for claims that sum past 10^10. `CutShort`
+    /// comes where the input ends first. `Read` comes only where a read of the source failed. After an `Err` the
+    /// same is answered from then on.
     pub fn next<S: Source>(
         &mut self,
         lines: &mut LineReader<S>,

@@ -121,7 +121,7 @@ pub fn read_cert<S: Source>(
         → Rose (S.faults lines.old.source.now) (S.faults lines.new.source.now) }
     ensures counted { S.faults lines.old.source.now ≤ S.faults lines.new.source.now }
 {
-    // So no two calls have the same id.
+    // For the proof: no two calls have the same id.
     let _calls = snapshot.calls();
     read(alloc, lines, snapshot)
 }

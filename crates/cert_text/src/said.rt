@@ -1,24 +1,19 @@
 //! What the words of each line say.
 ghost use Rattle.std.specs.Prelude.{◌≡◌, ◌<◌, ◌≤◌, All, length};
 ghost use Rattle.lift_text.specs.LineReader.{words};
-ghost use Rattle.answer_text.specs.Words.{Gives};
+ghost use Rattle.text_sections.specs.Judging.{Gives};
 ghost use Rattle.cert_text.specs.Words.{head_said, price_of_word, part_named, split_said, price_said, worth_said};
 
 use crate::kinds::Entry;
-use answer_text::{call_named, car_named, short};
+use answer_text::call_named;
 use call_sets::CarSet;
 use call_state::{Building, Snapshot};
-use lift_text::{LineReader, Source};
-use price_scale::Price;
+use lift_text::{LineReader, Source, TextCode};
+use price_scale::{MOST_PRICE, MOST_WORTH, Price};
 use search_model::{PriceOf, WorthOf};
+use snapshot_text::car_named;
 use std::alloc::Global;
-use text_sections::{LineFault, TextCode, at_least, exactly, number, numbers, signed};
-
-/// The greatest absolute value of a price, in thousandths of a cost unit.
-const MOST_PRICE: i128 = 1_000_000_000_000_000_000_000_000;
-
-/// The greatest absolute value of a worth, in thousandths of a cost unit.
-const MOST_WORTH: i128 = 1_000_000_000_000_000_000_000_000_000;
+use text_sections::{LineFault, at_least, exactly, number, numbers, short, signed};
 
 /// The greatest claim, and the greatest sum of the claims of a certificate.
 pub(crate) const MOST_CLAIM: u64 = 10_000_000_000;
@@ -36,7 +31,7 @@ fn part_named(building: &Building, ids: &[u64]) -> Result<CarSet, TextCode>
     requires { All (λ id. id ≤ 4294967295) ids.now }
     ensures { result ≡ part_named building.now ids.now }
 {
-    // So there are at most 16 cars.
+    // For the proof: there are at most 16 cars.
     let _cars = building.cars();
     let mut part = CarSet::empty();
     for id in ids {

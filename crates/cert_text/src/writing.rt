@@ -1,9 +1,9 @@
 //! Writing certificates.
-ghost use Rattle.std.specs.Prelude.{true, ◌≡◌, ℕ, ◌++◌, ◌∷◌, ◌<◌, All, OnErr, OnOk, map};
+ghost use Rattle.std.specs.Prelude.{◌≡◌, ◌++◌, ◌∷◌, ◌<◌, All, OnErr, OnOk, map};
 ghost use Rattle.std.specs.List.{flat_map};
 ghost use Rattle.std.specs.Fmt.{signed_decimal};
-ghost use Rattle.call_sets.specs.Counting.{has, members};
-ghost use Rattle.elevator_model.specs.Snapshot.{car_count, call_count, spec_of, call_of};
+ghost use Rattle.call_sets.specs.Counting.{members};
+ghost use Rattle.elevator_model.specs.Snapshot.{spec_of};
 ghost use Rattle.lift_text.specs.Text.{word};
 ghost use Rattle.text_sections.specs.Canonical.{line_text, lines_text};
 ghost use Rattle.cert_text.specs.Trees.{IsKnownSplit, IsKnownPrice, IsKnownWorth, IsKnownLeaf, IsKnownTwig, AreTwigsKnown};
@@ -13,23 +13,8 @@ use call_sets::CarSet;
 use call_state::Snapshot;
 use lift_text::{put_line, put_number, put_word, put_words};
 use search_model::{Leaf, PriceOf, Twig, WorthOf};
+use snapshot_text::{id_of_call, id_of_car};
 use std::alloc::AllocError;
-
-/// The id of a call.
-fn id_of_call(snapshot: &Snapshot, call: u32) -> u64
-    requires { call < call_count snapshot.now }
-    ensures { result ≡ (call_of snapshot.now call).id }
-{
-    u64::from(snapshot.calls()[call as usize].id)
-}
-
-/// The id of a car.
-fn id_of_car(snapshot: &Snapshot, car: u32) -> u64
-    requires { car < car_count snapshot.now }
-    ensures { result ≡ (spec_of snapshot.now car).id }
-{
-    u64::from(snapshot.spec(car).id)
-}
 
 /// Writes a space and a number.
 fn put_signed(out: &mut Vec<u8>, value: i128) -> Result<(), AllocError>
@@ -41,7 +26,6 @@ fn put_signed(out: &mut Vec<u8>, value: i128) -> Result<(), AllocError>
 
 /// Writes the ids of the cars of a set, by rising index of the cars.
 fn put_cars(out: &mut Vec<u8>, snapshot: &Snapshot, part: CarSet) -> Result<(), AllocError>
-    requires { (c : ℕ) → has part c ≡ true → c < car_count snapshot.now }
     ensures { OnOk result (out.new.items
         ≡ out.old.items ++ flat_map (λ c. word (spec_of snapshot.now c).id) (members 16 part)) }
 {

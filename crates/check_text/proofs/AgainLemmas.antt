@@ -7,9 +7,10 @@ use Rattle.std.proofs.lemmas.List.{take_at, length-take-le}
 use Rattle.elevator_model.specs.Snapshot.{Snapshot, IsAccepted}
 use Rattle.search_model.specs.declared.Twig.{Twig}
 use Rattle.lift_text.specs.Lines.{pieces_of, line_of}
-use Rattle.lift_text.specs.Found.{NoLineFeed}
+use Rattle.lift_text.specs.Front.{NoLineFeed}
 use Rattle.lift_text.specs.Reading.{TextState, Reading, reading, reading_of, whole_text, finished, bad_line, cut_short, judged, line_limit}
 use Rattle.lift_text.proofs.PieceLemmas.{pieces_of-append, ends_with_byte-push}
+use Rattle.lift_text.specs.declared.codes.TextCode.TheVariants.{OverLong}
 use Rattle.text_sections.specs.Canonical.{BeginsWith}
 use Rattle.text_sections.proofs.CanonicalLemmas.{lines_again}
 use Rattle.answer_text.specs.Texts.{answer_lines, answer_text}
@@ -50,7 +51,7 @@ hashed (b ∷ bytes) = by_end (ends_with_byte 13 (35 ∷ b ∷ bytes))
 comment_judged : (number : ℕ) (text line : List ℕ) (after : Reading) → length text ≤ 100 → Begins 35 text line → judged number line after ≡ after
 comment_judged number text line after few begins =
     ap (λ (l : List ℕ). judged number l after) begins.line_is
-    ∙ ap (λ (long : Bool). cond long (bad_line number 2) after) (false_from_ne_true (nat_lt line_limit (length (35 ∷ begins.rest))) (λ is. (let long = ltb-true line_limit (length (35 ∷ begins.rest)) is in omega (arith, long, few, begins.short))))
+    ∙ ap (λ (long : Bool). cond long (bad_line number OverLong) after) (false_from_ne_true (nat_lt line_limit (length (35 ∷ begins.rest))) (λ is. (let long = ltb-true line_limit (length (35 ∷ begins.rest)) is in omega (arith, long, few, begins.short))))
 
 closing_read : (closing : List ℕ) → IsClosing closing → (line limit : ℕ) → 102 ≤ limit → reading (record { line = line; limit = limit; bytes = closing }) ≡ finished (line + 1)
 closing_read closing is line limit room =

@@ -8,6 +8,7 @@ use Rattle.elevator_model.specs.Snapshot.{Snapshot}
 use Rattle.lift_text.specs.Lines.{pieces_of, line_of, words_of, is_clean}
 use Rattle.lift_text.specs.Reading.{Reading, reading, reading_of, whole_text, line_with, finished, bad_line, past_limit, judged, cut_short, line_limit}
 use Rattle.lift_text.proofs.SkipLemmas.{size_of, size_of-pieces}
+use Rattle.lift_text.specs.declared.codes.TextCode.TheVariants.{OverLong, ForbiddenByte}
 use Rattle.text_sections.specs.Sections.{Line}
 use Rattle.text_sections.specs.Canonical.{BeginsWith}
 use Rattle.case_text.specs.CaseTexts.{CaseInFront}
@@ -25,8 +26,8 @@ followed past_limit more = past_limit
 judged_followed : (line : ℕ) (text : List ℕ) (after more : Reading) → followed (judged line text after) more ≡ judged line text (followed after more)
 judged_followed line text after more = by_tests (nat_lt line_limit (length text)) (is_clean text) (nat_lt 0 (length (words_of text)))
   where
-    by_tests : (long clean some : Bool) → followed (cond long (bad_line line 2) (cond clean (cond some (line_with line (words_of text) after) after) (bad_line line 1))) more
-        ≡ cond long (bad_line line 2) (cond clean (cond some (line_with line (words_of text) (followed after more)) (followed after more)) (bad_line line 1))
+    by_tests : (long clean some : Bool) → followed (cond long (bad_line line OverLong) (cond clean (cond some (line_with line (words_of text) after) after) (bad_line line ForbiddenByte))) more
+        ≡ cond long (bad_line line OverLong) (cond clean (cond some (line_with line (words_of text) (followed after more)) (followed after more)) (bad_line line ForbiddenByte))
     by_tests true clean some = refl
     by_tests false false some = refl
     by_tests false true true = refl
@@ -35,7 +36,7 @@ judged_followed line text after more = by_tests (nat_lt line_limit (length text)
 cut_followed : (line limit : ℕ) (more : Reading) → followed (cut_short line limit) more ≡ cut_short line limit
 cut_followed line limit more = by_test (nat_lt (line_limit + 1) limit)
   where
-    by_test : (long : Bool) → followed (cond long (bad_line line 2) past_limit) more ≡ cond long (bad_line line 2) past_limit
+    by_test : (long : Bool) → followed (cond long (bad_line line OverLong) past_limit) more ≡ cond long (bad_line line OverLong) past_limit
     by_test true = refl
     by_test false = refl
 

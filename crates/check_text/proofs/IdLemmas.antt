@@ -1,6 +1,6 @@
 -- The ids of a case that a text has lie in the range of the text.
-use Rattle.std.proofs.Common.{◌≡◌, ℕ, zero, suc, ◌^◌, ◌<◌, ◌≤◌, ◌==◌, Bool, true, false, cond, List, [], ◌∷◌, ◌++◌, map, length, get_or, refl, sym, ap, subst, arith, Option, None, Some, Ok, Err}
-use Rattle.std.specs.Prelude.{codes, IfOk}
+use Rattle.std.proofs.Common.{◌≡◌, ℕ, zero, suc, ◌^◌, ◌<◌, ◌==◌, Bool, true, false, cond, List, [], ◌∷◌, ◌++◌, map, length, get_or, refl, sym, ap, subst, arith, Option, None, Some, Ok, Err}
+use Rattle.std.specs.Prelude.{codes}
 use Rattle.std.specs.List.{list_any}
 use Rattle.elevator_model.specs.declared.Call.{Call}
 use Rattle.elevator_model.specs.declared.CarSpec.{CarSpec}
@@ -9,24 +9,19 @@ use Rattle.elevator_model.specs.declared.Fault.TheVariants.{IdUsedBefore, NoSuch
 use Rattle.elevator_model.specs.Building.{Building, most_cars, no_car}
 use Rattle.elevator_model.specs.Snapshot.{Snapshot, no_call}
 use Rattle.elevator_model.specs.Faults.{fault_of_spec}
-use Rattle.elevator_model.specs.Printed.{code_of}
-use Rattle.lift_text.specs.Numbers.{digits_number}
 use Rattle.lift_text.specs.Reading.{Reading}
-use Rattle.text_sections.specs.Codes.{Judged, ◌>>=◌}
-use Rattle.text_sections.specs.Words.{number, exactly, word_at}
+use Rattle.lift_text.specs.declared.codes.TextCode.TheVariants.{Item}
+use Rattle.text_sections.specs.Judging.{Judged, ◌>>=◌}
+use Rattle.text_sections.specs.Words.{number, exactly, short, named}
 use Rattle.text_sections.specs.Sections.{Line}
-use Rattle.text_sections.proofs.NumberLemmas.{is_within}
-use Rattle.snapshot_text.specs.Words.{short, pin_said, pin_named, call_of_words, call_said}
-use Rattle.snapshot_text.specs.Snapshots.{named, says_call}
-use Rattle.snapshot_text.proofs.Steps.{then-inv}
-use Rattle.building_text.specs.Said.{Said, coded, ◌then_say◌}
+use Rattle.text_sections.proofs.StepLemmas.{then-inv}
+use Rattle.text_sections.proofs.NumberLemmas.{number_in}
+use Rattle.snapshot_text.specs.Words.{pin_said, pin_named, call_of_words, call_said}
+use Rattle.snapshot_text.specs.Snapshots.{says_call}
 use Rattle.building_text.specs.Words.{car_numbers, has_car_words, served_of, faultless, judged_car, with_floors, car_of_line}
 use Rattle.building_text.specs.BuildingText.{AreCarLines}
 use Rattle.case_text.specs.CaseTexts.{CaseInFront}
 use Rattle.check_text.specs.Laws.{HasLowIds}
-
-number_high : (words : Line) (k low high n : ℕ) → number words k low high ≡ Ok n → n ≤ high
-number_high words k low high n e = (subst (λ (r : Judged ℕ). IfOk r (λ m. (low ≤ m) × (m ≤ high))) e (is_within low high (digits_number (word_at words k)))).1
 
 -- ---- calls
 
@@ -37,7 +32,7 @@ low_call_words : (words : Line) (call : Call) → call_of_words words ≡ Ok cal
 low_call_words words call e =
     let all = then-inv (exactly words 7) (λ _. short words 1 >>= λ id. (short words 2 >>= λ origin. (short words 3 >>= λ destination. (short words 4 >>= λ persons. (number words 5 0 1000000000 >>= λ released. (pin_said words >>= λ pin. Ok (record { id = id; origin = origin; destination = destination; persons = persons; released = released; pin = pin }))))))) call e in
     let id = then-inv (short words 1) (λ id. short words 2 >>= λ origin. (short words 3 >>= λ destination. (short words 4 >>= λ persons. (number words 5 0 1000000000 >>= λ released. (pin_said words >>= λ pin. Ok (record { id = id; origin = origin; destination = destination; persons = persons; released = released; pin = pin })))))) call all.2 in
-    let low = number_high words 1 0 4294967295 id.0 id.1 in
+    let low = (number_in words 1 0 4294967295 id.0 id.1).1 in
     let origin = then-inv (short words 2) (λ origin. short words 3 >>= λ destination. (short words 4 >>= λ persons. (number words 5 0 1000000000 >>= λ released. (pin_said words >>= λ pin. Ok (record { id = id.0; origin = origin; destination = destination; persons = persons; released = released; pin = pin }))))) call id.2 in
     let destination = then-inv (short words 3) (λ destination. short words 4 >>= λ persons. (number words 5 0 1000000000 >>= λ released. (pin_said words >>= λ pin. Ok (record { id = id.0; origin = origin.0; destination = destination; persons = persons; released = released; pin = pin })))) call origin.2 in
     let persons = then-inv (short words 4) (λ persons. number words 5 0 1000000000 >>= λ released. (pin_said words >>= λ pin. Ok (record { id = id.0; origin = origin.0; destination = destination.0; persons = persons; released = released; pin = pin }))) call destination.2 in
@@ -68,18 +63,10 @@ low_calls b (words ∷ lines) (call ∷ calls) e (suc j) below = let later : map
 abbrev HasLowCarId : CarSpec → Type 0
 HasLowCarId car = car.id < 2 ^ 32
 
-say-inv : {A B : Type 0} (a : Said A) (f : A → Said B) (y : B) → (a then_say f) ≡ Ok y → (x : A) × (a ≡ Ok x) × (f x ≡ Ok y)
-say-inv (Ok x) f y e = (x, refl, e)
-say-inv (Err code) f y e = absurd cc
-
-coded-inv : {A : Type 0} (j : Judged A) (x : A) → coded j ≡ Ok x → j ≡ Ok x
-coded-inv (Ok y) x e = cc
-coded-inv (Err code) x e = absurd cc
-
 low_numbers : (words : Line) (car : CarSpec) → car_numbers words ≡ Ok car → HasLowCarId car
 low_numbers words car e =
     let id = then-inv (number words 1 0 4294967295) (λ id. number words 2 1 64 >>= λ capacity. (number words 3 0 60000 >>= λ opening. (number words 4 0 60000 >>= λ closing. (number words 5 0 60000 >>= λ boarding. (number words 6 0 60000 >>= λ alighting. Ok (record { id = id; capacity = capacity; opening = opening; closing = closing; boarding = boarding; alighting = alighting; serves = 0 })))))) car e in
-    let low = number_high words 1 0 4294967295 id.0 id.1 in
+    let low = (number_in words 1 0 4294967295 id.0 id.1).1 in
     let capacity = then-inv (number words 2 1 64) (λ capacity. number words 3 0 60000 >>= λ opening. (number words 4 0 60000 >>= λ closing. (number words 5 0 60000 >>= λ boarding. (number words 6 0 60000 >>= λ alighting. Ok (record { id = id.0; capacity = capacity; opening = opening; closing = closing; boarding = boarding; alighting = alighting; serves = 0 }))))) car id.2 in
     let opening = then-inv (number words 3 0 60000) (λ opening. number words 4 0 60000 >>= λ closing. (number words 5 0 60000 >>= λ boarding. (number words 6 0 60000 >>= λ alighting. Ok (record { id = id.0; capacity = capacity.0; opening = opening; closing = closing; boarding = boarding; alighting = alighting; serves = 0 })))) car capacity.2 in
     let closing = then-inv (number words 4 0 60000) (λ closing. number words 5 0 60000 >>= λ boarding. (number words 6 0 60000 >>= λ alighting. Ok (record { id = id.0; capacity = capacity.0; opening = opening.0; closing = closing; boarding = boarding; alighting = alighting; serves = 0 }))) car opening.2 in
@@ -92,7 +79,7 @@ low_numbers words car e =
 same_id : (floors most : ℕ) (before : List CarSpec) (car made : CarSpec) (set : Option ℕ) → judged_car floors most before car set ≡ Ok made → HasLowCarId car → HasLowCarId made
 same_id floors most before car made None e low = none_made (list_any (λ (x : CarSpec). x.id == car.id) before) e
   where
-    none_made : (is : Bool) → cond {A = Said CarSpec} is (Err (code_of IdUsedBefore)) (Err (code_of NoSuchFloor)) ≡ Ok made → HasLowCarId made
+    none_made : (is : Bool) → cond {A = Judged CarSpec} is (Err (Item IdUsedBefore)) (Err (Item NoSuchFloor)) ≡ Ok made → HasLowCarId made
     none_made true no_car_is = absurd cc
     none_made false no_car_is = absurd cc
 same_id floors most before car made (Some set) e low = by_fault (fault_of_spec floors most before (with_floors car set)) e
@@ -103,9 +90,9 @@ same_id floors most before car made (Some set) e low = by_fault (fault_of_spec f
 
 low_car : (floors most : ℕ) (before : List CarSpec) (words : Line) (car : CarSpec) → car_of_line floors most before words ≡ Ok car → HasLowCarId car
 low_car floors most before words car e =
-    let numbered = say-inv (coded (has_car_words words >>= λ _. car_numbers words)) (λ made. served_of floors words then_say λ set. judged_car floors most before made set) car e in
-    let served = say-inv (served_of floors words) (λ set. judged_car floors most before numbered.0 set) car numbered.2 in
-    let counted = then-inv (has_car_words words) (λ _. car_numbers words) numbered.0 (coded-inv (has_car_words words >>= λ _. car_numbers words) numbered.0 numbered.1) in
+    let numbered = then-inv (has_car_words words >>= λ _. car_numbers words) (λ made. served_of floors words >>= λ set. judged_car floors most before made set) car e in
+    let served = then-inv (served_of floors words) (λ set. judged_car floors most before numbered.0 set) car numbered.2 in
+    let counted = then-inv (has_car_words words) (λ _. car_numbers words) numbered.0 numbered.1 in
     same_id floors most before numbered.0 car served.0 served.2 (low_numbers words numbered.0 counted.2)
 
 low_cars : (floors most : ℕ) (before : List CarSpec) (lines : List Line) (cars : List CarSpec) → AreCarLines floors most before lines cars → (c : ℕ) → c < length cars → HasLowCarId (get_or cars c no_car)

@@ -2,7 +2,6 @@
 use Rattle.std.proofs.Common.{◌≡◌, ℕ, List, Option, None, Some, Ok, Err, inl, inr, sym, ap, ◌∙◌, subst, IfSome}
 use Rattle.std.specs.Prelude.{IsSomeAnd}
 use Rattle.elevator_model.specs.Snapshot.{Snapshot, IsAccepted}
-use Rattle.search_model.specs.declared.Stated.{Stated as Claims}
 use Rattle.search_model.specs.declared.Twig.{Twig}
 use Rattle.search_model.specs.declared.Verdict.{Verdict}
 use Rattle.search_model.specs.Verdicts.{verdict_of}
@@ -11,7 +10,7 @@ use Rattle.lift_text.specs.declared.faults.TextFault.{TextFault}
 use Rattle.lift_text.specs.declared.faults.TextFault.TheVariants.{Read, TooLong, Bad, NoMemory}
 use Rattle.text_sections.specs.Canonical.{BeginsWith}
 use Rattle.case_text.specs.CaseTexts.{CaseInFront, IsReadCase, IsRefusedCase, TakesCases, IsFaultBehind, Tells, IsEnd, IsNoEnd}
-use Rattle.answer_text.specs.declared.answers.Stated.{Stated}
+use Rattle.search_model.specs.declared.Stated.{Stated}
 use Rattle.answer_text.specs.Answers.{IsSaid as IsSaidAnswer, IsRefusedAnswer, ReadsLines as ReadsAnswers}
 use Rattle.cert_text.specs.Certs.{IsSaid, IsAnswered}
 use Rattle.cert_text.specs.Readers.{IsRefused}
@@ -55,7 +54,7 @@ module _ (s : Snapshot) where
   tree_late (Some text) None tree fault said late = absurd said
   tree_late (Some text) (Some behind) tree fault said late = tells fault (λ is. inr (tree, reading behind, (said.0, said.1, said.2), is)) late
 
-  module _ (claims : Claims) where
+  module _ (claims : Stated) where
     pub tree_taken : (before mid : Option TextState) (tree : List Twig) (verdict : Verdict) → IsSaid before s tree mid → verdict ≡ verdict_of s claims.plan claims.cost claims.bound tree → TakesTrees before s claims (Ok verdict)
     tree_taken None mid tree verdict said is other = tt
     tree_taken (Some text) mid tree verdict said is other = λ alone.
@@ -89,9 +88,6 @@ module _ (s : Snapshot) where
 
   -- ---- an answer
 
-  abbrev pub claims_of : Stated → Claims
-  claims_of stated = record { plan = stated.plan; cost = stated.cost; bound = stated.bound }
-
   pub certified_alone : (before mid : Option TextState) (stated : Stated) (tree : List Twig) → IsSaidAnswer before s stated mid → IfSome mid (λ text. TreeAlone (reading text) s tree) → IfSome before (λ text. CertifiedAlone (reading text) s stated tree)
   certified_alone None mid stated tree said alone = tt
   certified_alone (Some text) None stated tree said alone = absurd said
@@ -117,23 +113,23 @@ module _ (s : Snapshot) where
   }
 
   module _ (found : Stated) where
-    pub certified_taken : (before mid : Option TextState) (judged : Judged) → ReadsAnswers before s (Ok found) mid → judged.cost ≡ found.cost → judged.bound ≡ found.bound → TakesTrees mid s (claims_of found) (Ok judged.verdict) → TakesCertified before s (Ok judged)
+    pub certified_taken : (before mid : Option TextState) (judged : Judged) → ReadsAnswers before s (Ok found) mid → judged.cost ≡ found.cost → judged.bound ≡ found.bound → TakesTrees mid s found (Ok judged.verdict) → TakesCertified before s (Ok judged)
     certified_taken None mid judged reads cost bound takes stated tree = tt
     certified_taken (Some text) mid judged reads cost bound takes stated tree = λ alone.
         (let same = reads alone.1.0 stated alone.0 alone.1.2 alone.1.1 in
         judged_so stated found judged tree same.0 cost bound (told mid alone.0 same.1 takes alone.2))
       where
-        told : (now : Option TextState) (between : Reading) → IsSomeAnd now (λ behind. reading behind ≡ between) → TakesTrees now s (claims_of found) (Ok judged.verdict) → TreeAlone between s tree → judged.verdict ≡ verdict_of s found.plan found.cost found.bound tree
+        told : (now : Option TextState) (between : Reading) → IsSomeAnd now (λ behind. reading behind ≡ between) → TakesTrees now s found (Ok judged.verdict) → TreeAlone between s tree → judged.verdict ≡ verdict_of s found.plan found.cost found.bound tree
         told None between end more alone = absurd end
         told (Some behind) between end more alone = more tree (subst (λ (r : Reading). TreeAlone r s tree) (sym end) alone)
 
-    pub behind_taken : (before mid : Option TextState) (fault : TextFault) → ReadsAnswers before s (Ok found) mid → TakesTrees mid s (claims_of found) (Err fault) → TakesCertified before s (Err fault)
+    pub behind_taken : (before mid : Option TextState) (fault : TextFault) → ReadsAnswers before s (Ok found) mid → TakesTrees mid s found (Err fault) → TakesCertified before s (Err fault)
     behind_taken None mid fault reads takes stated tree = tt
     behind_taken (Some text) mid fault reads takes stated tree = λ alone.
         (let same = reads alone.1.0 stated alone.0 alone.1.2 alone.1.1 in
         told mid alone.0 same.1 takes alone.2)
       where
-        told : (now : Option TextState) (between : Reading) → IsSomeAnd now (λ behind. reading behind ≡ between) → TakesTrees now s (claims_of found) (Err fault) → TreeAlone between s tree → Tells fault ⊥
+        told : (now : Option TextState) (between : Reading) → IsSomeAnd now (λ behind. reading behind ≡ between) → TakesTrees now s found (Err fault) → TreeAlone between s tree → Tells fault ⊥
         told None between end more alone = absurd end
         told (Some behind) between end more alone = more tree (subst (λ (r : Reading). TreeAlone r s tree) (sym end) alone)
 

@@ -3,7 +3,7 @@ use Rattle.std.proofs.Common.{◌≡◌, ℕ, ◌+◌, ◌<◌, ◌≤◌, ◌^�
 use Rattle.std.specs.Prelude.{All}
 use Rattle.std.proofs.lemmas.List.Elements.{All-push}
 use Rattle.elevator_model.specs.Snapshot.{Snapshot}
-use Rattle.search_model.specs.declared.Stated.{Stated as Claims}
+use Rattle.search_model.specs.declared.Stated.{Stated}
 use Rattle.search_model.specs.declared.Twig.{Twig}
 use Rattle.search_model.specs.declared.Twig.TheVariants.{Split, Leaf as Tip}
 use Rattle.lift_text.specs.Reading.{TextState}
@@ -81,7 +81,7 @@ module _ (s : Snapshot) where
 
   -- the checker has seen a piece more
   abbrev pub SeesMore : Checker → List Twig → Checker → Type 0
-  SeesMore checker piece checker' = (claims : Claims) (fed : List Twig) → length fed + length piece < 2 ^ 32 → HasSeen s claims fed checker → HasSeen s claims (fed ++ piece) checker'
+  SeesMore checker piece checker' = (claims : Stated) (fed : List Twig) → length fed + length piece < 2 ^ 32 → HasSeen s claims fed checker → HasSeen s claims (fed ++ piece) checker'
 
   pub fed_piece : (reader reader' : Reader) (piece : List Twig) (before now : Option TextState) (is_whole : Bool) (checker checker' : Checker) → ReadsPieceFor s reader [] before (Ok is_whole) reader' piece now → length piece ≤ 256 → SeesMore checker piece checker' → FeedsPieceFor s reader checker before (Ok is_whole) reader' checker' now
   fed_piece reader reader' piece before now true checker checker' reads few sees = λ claims first most room at.
@@ -102,7 +102,7 @@ module _ (s : Snapshot) where
 
   -- whatever is stated, the reader and the checker stand together
   abbrev pub StandTogether : (first : Option TextState) → (start : Checker) → Reader → Checker → (now : Option TextState) → (most : ℕ) → Type 0
-  StandTogether first start reader checker now most = (claims : Claims) → HasSeen s claims [] start → StandsAt s claims first reader checker now most
+  StandTogether first start reader checker now most = (claims : Stated) → HasSeen s claims [] start → StandsAt s claims first reader checker now most
 
   pub tree_none : (first : Option TextState) (reader : Reader) (checker : Checker) (now : Option TextState) → HasRead s first reader [] now → StandTogether first checker reader checker now 0
   tree_none first reader checker now read = λ claims seen. record { fed = []; read = read; seen = seen; few = omega arith }
@@ -111,10 +111,10 @@ module _ (s : Snapshot) where
   tree_more first start reader reader' checker checker' now later most next is room stands feeds = λ claims seen.
       subst (λ (n : ℕ). StandsAt s claims first reader' checker' later n) (sym is) (feeds claims first most room (stands claims seen))
 
-  pub tree_whole : (first : Option TextState) (start : Checker) (reader reader' : Reader) (checker checker' : Checker) (now later : Option TextState) (most : ℕ) → most + 256 < 2 ^ 32 → StandTogether first start reader checker now most → FeedsPieceFor s reader checker now (Ok true) reader' checker' later → (claims : Claims) → HasSeen s claims [] start → FeedsTree s claims first (Ok tt) checker' later
+  pub tree_whole : (first : Option TextState) (start : Checker) (reader reader' : Reader) (checker checker' : Checker) (now later : Option TextState) (most : ℕ) → most + 256 < 2 ^ 32 → StandTogether first start reader checker now most → FeedsPieceFor s reader checker now (Ok true) reader' checker' later → (claims : Stated) → HasSeen s claims [] start → FeedsTree s claims first (Ok tt) checker' later
   tree_whole first start reader reader' checker checker' now later most room stands feeds claims seen = feeds claims first most room (stands claims seen)
 
-  pub tree_broken : (first : Option TextState) (start : Checker) (reader reader' : Reader) (checker checker' : Checker) (fault : TextFault) (now later : Option TextState) (most : ℕ) → most + 256 < 2 ^ 32 → StandTogether first start reader checker now most → FeedsPieceFor s reader checker now (Err fault) reader' checker' later → (claims : Claims) → HasSeen s claims [] start → FeedsTree s claims first (Err fault) checker' later
+  pub tree_broken : (first : Option TextState) (start : Checker) (reader reader' : Reader) (checker checker' : Checker) (fault : TextFault) (now later : Option TextState) (most : ℕ) → most + 256 < 2 ^ 32 → StandTogether first start reader checker now most → FeedsPieceFor s reader checker now (Err fault) reader' checker' later → (claims : Stated) → HasSeen s claims [] start → FeedsTree s claims first (Err fault) checker' later
   tree_broken first start reader reader' checker checker' fault now later most room stands feeds claims seen = feeds claims first most room (stands claims seen)
 
   pub tree_handed : (first : Option TextState) (start : Checker) (reader : Reader) (checker : Checker) (now : Option TextState) (most : ℕ) → HasSeenNone s start → StandTogether first start reader checker now most → HasHandedOut s reader now

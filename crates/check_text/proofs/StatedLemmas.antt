@@ -34,7 +34,7 @@ use Rattle.tour_rules.proofs.Bounds.{AreEarly-start, AreEarly-stop}
 use Rattle.tour_cost.specs.Served.{calls_served}
 use Rattle.tour_cost.proofs.Short.{AllFine-feasible, calls-le}
 use Rattle.tour_cost.proofs.Served.{tour_cost-each, cars-le, plan-small}
-use Rattle.answer_text.specs.declared.answers.Stated.{Stated}
+use Rattle.search_model.specs.declared.Stated.{Stated}
 use Rattle.answer_text.specs.Plans.{AreCalls, BoardsCalls, by_index}
 use Rattle.answer_text.specs.Texts.{stop_words, stop_lines, tour_words, tour_lines, answer_lines, answer_text}
 use Rattle.answer_text.proofs.FitsLemmas.{feasible_fits}

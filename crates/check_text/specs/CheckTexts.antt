@@ -9,7 +9,7 @@ use Rattle.lift_text.specs.declared.faults.TextFault.{TextFault}
 use Rattle.text_sections.specs.Sections.{Line, outcome}
 use Rattle.text_sections.specs.Canonical.{BeginsWith}
 use Rattle.case_text.specs.CaseTexts.{CaseInFront, IsCaseFault, IsRefusedWith, IsFaultBehind, Tells}
-use Rattle.answer_text.specs.declared.answers.Stated.{Stated}
+use Rattle.search_model.specs.declared.Stated.{Stated}
 use Rattle.answer_text.specs.Answers.{StandsFor as StandsForAnswer}
 use Rattle.answer_text.specs.Drafts.{blank as no_answer, after as after_answer_line}
 use Rattle.cert_text.specs.Certs.{StandsFor as StandsForTree}

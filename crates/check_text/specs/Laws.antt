@@ -5,7 +5,7 @@ use Rattle.elevator_model.specs.declared.Stop.{Stop}
 use Rattle.elevator_model.specs.Snapshot.{Snapshot, car_count, call_count, spec_of, call_of}
 use Rattle.elevator_model.specs.Plans.{IsFeasiblePlan, plan_cost_of}
 use Rattle.lift_text.specs.Reading.{reading, whole_text}
-use Rattle.answer_text.specs.declared.answers.Stated.{Stated}
+use Rattle.search_model.specs.declared.Stated.{Stated}
 use Rattle.answer_text.specs.Plans.{plan_by_index, stated_by_index}
 use Rattle.answer_text.specs.Texts.{answer_text}
 use Rattle.answer_text.specs.Written.{HasText}

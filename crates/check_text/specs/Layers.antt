@@ -1,7 +1,6 @@
 -- What is read behind a case: an answer and a certificate, and how the certificate is checked piece by piece.
 use Rattle.std.specs.Prelude.{◌≡◌, ℕ, ◌+◌, ◌≤◌, ◌<◌, ◌^◌, ◌⊎◌, List, [], ◌++◌, length, All, Bool, true, false, Option, IfSome, IsTrue, Result, Ok, Err}
 use Rattle.elevator_model.specs.Snapshot.{Snapshot, car_count}
-use Rattle.search_model.specs.declared.Stated.{Stated as Claims}
 use Rattle.search_model.specs.declared.Twig.{Twig}
 use Rattle.search_model.specs.declared.Verdict.{Verdict}
 use Rattle.search_model.specs.Certificates.{is_whole}
@@ -10,7 +9,7 @@ use Rattle.lift_text.specs.Reading.{TextState, Reading, reading, finished}
 use Rattle.lift_text.specs.declared.faults.TextFault.{TextFault}
 use Rattle.text_sections.specs.Sections.{outcome}
 use Rattle.case_text.specs.CaseTexts.{IsRefusedWith, IsFaultBehind, Tells}
-use Rattle.answer_text.specs.declared.answers.Stated.{Stated}
+use Rattle.search_model.specs.declared.Stated.{Stated}
 use Rattle.answer_text.specs.Drafts.{blank as no_answer, after as after_answer_line}
 use Rattle.cert_text.specs.Certs.{IsSaid}
 use Rattle.cert_text.specs.Drafts.{blank as no_tree, after as after_tree_line}
@@ -43,34 +42,34 @@ HasHandedOut s reader now = (first : Option TextState) × (fed : List Twig) × H
 
 -- the checker of what is stated, whatever that is, has seen no twig
 abbrev pub HasSeenNone : Snapshot → Checker → Type 0
-HasSeenNone s checker = (claims : Claims) × HasSeen s claims [] checker
+HasSeenNone s checker = (claims : Stated) × HasSeen s claims [] checker
 
 -- where a reader and a checker stand together: these twigs were handed out, and the checker has seen them
-pub record StandsAt (s : Snapshot) (claims : Claims) (first : Option TextState) (reader : Reader) (checker : Checker) (now : Option TextState) (most : ℕ) : Type 0 where
+pub record StandsAt (s : Snapshot) (claims : Stated) (first : Option TextState) (reader : Reader) (checker : Checker) (now : Option TextState) (most : ℕ) : Type 0 where
   pub fed : List Twig
   pub read : HasRead s first reader fed now
   pub seen : HasSeen s claims fed checker
   pub few : length fed ≤ most
 
 -- a whole tree was read, and the checker has seen it
-pub record HasSeenTree (s : Snapshot) (claims : Claims) (first : Option TextState) (checker : Checker) (now : Option TextState) : Type 0 where
+pub record HasSeenTree (s : Snapshot) (claims : Stated) (first : Option TextState) (checker : Checker) (now : Option TextState) : Type 0 where
   pub tree : List Twig
   pub said : IsSaid first s tree now
   pub within : IsWithin s tree
   pub seen : HasSeen s claims tree checker
 
 -- what reading a piece and feeding it answers
-abbrev pub FeedsPiece : Snapshot → Claims → (first : Option TextState) → (most : ℕ) → Result Bool TextFault → Reader → Checker → (now : Option TextState) → Type 0
+abbrev pub FeedsPiece : Snapshot → Stated → (first : Option TextState) → (most : ℕ) → Result Bool TextFault → Reader → Checker → (now : Option TextState) → Type 0
 FeedsPiece s claims first most (Ok true) reader checker now = HasSeenTree s claims first checker now
 FeedsPiece s claims first most (Ok false) reader checker now = StandsAt s claims first reader checker now (most + 256)
 FeedsPiece s claims first most (Err fault) reader checker now = IsRefused s first fault
 
 abbrev pub FeedsPieceFor : Snapshot → Reader → Checker → Option TextState → Result Bool TextFault → Reader → Checker → Option TextState → Type 0
 FeedsPieceFor s reader checker before answer reader' checker' now =
-    (claims : Claims) (first : Option TextState) (most : ℕ) → most + 256 < 2 ^ 32 → StandsAt s claims first reader checker before most → FeedsPiece s claims first most answer reader' checker' now
+    (claims : Stated) (first : Option TextState) (most : ℕ) → most + 256 < 2 ^ 32 → StandsAt s claims first reader checker before most → FeedsPiece s claims first most answer reader' checker' now
 
 -- what feeding a whole tree answers
-abbrev pub FeedsTree : Snapshot → Claims → (first : Option TextState) → Result Unit TextFault → Checker → (now : Option TextState) → Type 0
+abbrev pub FeedsTree : Snapshot → Stated → (first : Option TextState) → Result Unit TextFault → Checker → (now : Option TextState) → Type 0
 FeedsTree s claims first (Ok done) checker now = HasSeenTree s claims first checker now
 FeedsTree s claims first (Err fault) checker now = IsRefused s first fault
 
@@ -85,7 +84,7 @@ IsTreeOrLateFault s read fault =
     IsRefusedWith (outcome after_tree_line read (no_tree s)) fault ⊎ ((tree : List Twig) × (behind : Reading) × TreeInFront read s tree behind × IsFaultBehind behind fault)
 
 -- a whole tree was read, and this is the verdict
-pub record IsVerdict (before : Option TextState) (s : Snapshot) (claims : Claims) (verdict : Verdict) : Type 0 where
+pub record IsVerdict (before : Option TextState) (s : Snapshot) (claims : Stated) (verdict : Verdict) : Type 0 where
   pub tree : List Twig
   pub whole : IsTrue (is_whole s tree)
   pub verdict_is : verdict ≡ verdict_of s claims.plan claims.cost claims.bound tree
@@ -94,11 +93,11 @@ pub record IsVerdict (before : Option TextState) (s : Snapshot) (claims : Claims
 abbrev pub IsRefusedTree : Option TextState → Snapshot → TextFault → Type 0
 IsRefusedTree before s fault = IfSome before (λ text. Tells fault (IsTreeOrLateFault s (reading text) fault))
 
-abbrev pub IsVerdictOn : Snapshot → Claims → List Twig → Result Verdict TextFault → Type 0
+abbrev pub IsVerdictOn : Snapshot → Stated → List Twig → Result Verdict TextFault → Type 0
 IsVerdictOn s claims tree (Ok verdict) = verdict ≡ verdict_of s claims.plan claims.cost claims.bound tree
 IsVerdictOn s claims tree (Err fault) = Tells fault ⊥
 
-abbrev pub TakesTrees : Option TextState → Snapshot → Claims → Result Verdict TextFault → Type 0
+abbrev pub TakesTrees : Option TextState → Snapshot → Stated → Result Verdict TextFault → Type 0
 TakesTrees before s claims answer = (tree : List Twig) → IfSome before (λ text. TreeAlone (reading text) s tree → IsVerdictOn s claims tree answer)
 
 -- ---- an answer and a certificate, and nothing behind them

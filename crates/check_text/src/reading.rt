@@ -3,7 +3,7 @@ ghost use Rattle.std.specs.Prelude.{◌≡◌, ◌+◌, ◌≤◌, None, Some, O
 ghost use Rattle.std.specs.Io.KnownBytes.{IsAtEnd};
 ghost use Rattle.byte_streams.specs.Streams.{Rose};
 ghost use Rattle.elevator_model.specs.Snapshot.{car_count};
-ghost use Rattle.search_model.specs.declared.Stated.{Stated as Claims};
+ghost use Rattle.search_model.specs.declared.Stated.{Stated as StatedValue};
 ghost use Rattle.lift_text.specs.LineReader.{text, failure};
 ghost use Rattle.cert_checker.specs.Judging.{HasSeen, IsCheckerOf};
 ghost use Rattle.cert_text.specs.Readers.{failure_of};
@@ -23,6 +23,7 @@ use search_model::{Items, Stated, Twig, Verdict};
 use std::alloc::Global;
 use std::marker::Sync;
 use std::thread::Threads;
+use work_fan::MOST_WORKERS;
 
 /// The most twigs of a piece.
 const MOST_TWIGS: usize = 256;
@@ -101,7 +102,7 @@ fn check_piece<S: Source, G: Gate + Sync>(
     requires sound { failure_of reader.old.begun ≡ None }
     requires begun { HasHandedOut snapshot.now reader.old (text S.left lines.old) }
     requires own { IsCheckerOf snapshot.now checker.old }
-    requires workers { (1 ≤ workers) × (workers ≤ 16) }
+    requires workers { (1 ≤ workers) × (workers ≤ MOST_WORKERS) }
     ensures same_source { lines.new.source.ghost_name ≡ lines.old.source.ghost_name }
     ensures feeds { FeedsPieceFor snapshot.now reader.old checker.old (text S.left lines.old) result reader.new checker.new (text S.left lines.new) }
     ensures own { IsCheckerOf snapshot.now checker.new }
@@ -130,9 +131,9 @@ fn check_tree<S: Source, G: Gate + Sync>(
     requires whole { failure lines.old ≡ None }
     requires own { IsCheckerOf snapshot.now checker.old }
     requires seen { HasSeenNone snapshot.now checker.old }
-    requires workers { (1 ≤ workers) × (workers ≤ 16) }
+    requires workers { (1 ≤ workers) × (workers ≤ MOST_WORKERS) }
     ensures same_source { lines.new.source.ghost_name ≡ lines.old.source.ghost_name }
-    ensures feeds { (claims : Claims) → HasSeen snapshot.now claims [] checker.old
+    ensures feeds { (claims : StatedValue) → HasSeen snapshot.now claims [] checker.old
         → FeedsTree snapshot.now claims (text S.left lines.old) result checker.new (text S.left lines.new) }
     ensures ok { OnOk result (failure lines.new ≡ None) }
     ensures read { IsErrOf result TextFault.Read
@@ -170,7 +171,7 @@ fn judge_tree<S: Source, G: Gate + Sync>(
 ) -> Result<Verdict, TextFault>
     requires whole { failure lines.old ≡ None }
     requires cars { length stated.now.plan ≡ car_count snapshot.now }
-    requires workers { (1 ≤ workers) × (workers ≤ 16) }
+    requires workers { (1 ≤ workers) × (workers ≤ MOST_WORKERS) }
     ensures same_source { lines.new.source.ghost_name ≡ lines.old.source.ghost_name }
     ensures verdict { IfOk result (IsVerdict (text S.left lines.old) snapshot.now stated.now) }
     ensures refused { IfErr result (IsRefusedTree (text S.left lines.old) snapshot.now) }
@@ -212,7 +213,7 @@ fn judge<S: Source, G: Gate + Sync>(
     gate: &G,
 ) -> Result<Judged, TextFault>
     requires whole { failure lines.old ≡ None }
-    requires workers { (1 ≤ workers) × (workers ≤ 16) }
+    requires workers { (1 ≤ workers) × (workers ≤ MOST_WORKERS) }
     ensures same_source { lines.new.source.ghost_name ≡ lines.old.source.ghost_name }
     ensures judged { IfOk result (IsJudged (text S.left lines.old) snapshot.now) }
     ensures refused { IfErr result (IsRefusedCertified (text S.left lines.old) snapshot.now) }
@@ -222,21 +223,14 @@ fn judge<S: Source, G: Gate + Sync>(
         → Rose (S.faults lines.old.source.now) (S.faults lines.new.source.now) }
     ensures counted { S.faults lines.old.source.now ≤ S.faults lines.new.source.now }
 {
-    let answer = match read_answer(alloc, lines, snapshot) {
-        Ok(answer) => answer,
+    let stated = match read_answer(alloc, lines, snapshot) {
+        Ok(stated) => stated,
         Err(fault) => return Err(fault),
-    };
-    let cost = answer.cost;
-    let bound = answer.bound;
-    let stated = Stated {
-        plan: answer.plan,
-        cost,
-        bound,
     };
     match judge_tree(rt, alloc, lines, snapshot, &stated, workers, gate) {
         Ok(verdict) => Ok(Judged {
-            cost,
-            bound,
+            cost: stated.cost,
+            bound: stated.bound,
             verdict,
         }),
         Err(fault) => Err(fault),
@@ -260,7 +254,7 @@ pub fn read_check<S: Source, G: Gate + Sync>(
     gate: &G,
 ) -> Result<Checked, TextFault>
     requires whole { failure lines.old ≡ None }
-    requires workers { (1 ≤ workers) × (workers ≤ 16) }
+    requires workers { (1 ≤ workers) × (workers ≤ MOST_WORKERS) }
     ensures same_source { lines.new.source.ghost_name ≡ lines.old.source.ghost_name }
     ensures checked { IfOk result (IsChecked (text S.left lines.old)) }
     ensures told { IfOk result (λ checked. IsToldOf checked.snapshot checked.verdict) }

@@ -4,7 +4,7 @@ ghost use Rattle.std.specs.Fmt.{signed_decimal};
 ghost use Rattle.lift_text.specs.Text.{line};
 ghost use Rattle.answer_text.specs.Plans.{BoardsCalls};
 ghost use Rattle.answer_text.specs.Texts.{stops_text};
-ghost use Rattle.check_text.specs.VerdictTexts.{IsToldOf, TellsOwnTour, bad_place, call_id, car_id, is_unserved, no_line, reason_text, signed_no_line, verdict_text};
+ghost use Rattle.check_text.specs.VerdictTexts.{IsToldOf, TellsOwnTour, bad_place, is_unserved, no_line, reason_text, signed_no_line, verdict_text};
 
 use crate::checked::Checked;
 use answer_text::write_stops;
@@ -12,27 +12,8 @@ use call_state::Snapshot;
 use elevator_model::{BadPlan, Rule};
 use lift_text::{put_line, put_number, put_words};
 use search_model::{Reason, Verdict};
+use snapshot_text::{id_of_call, id_of_car};
 use std::alloc::AllocError;
-
-/// The id of a car, or 0 where there is no such car.
-fn id_of_car(snapshot: &Snapshot, car: u32) -> u64
-    ensures { result ≡ car_id snapshot.now car }
-{
-    match snapshot.building().cars().get(car as usize) {
-        Some(spec) => u64::from(spec.id),
-        None => 0,
-    }
-}
-
-/// The id of a call, or 0 where there is no such call.
-fn id_of_call(snapshot: &Snapshot, call: u32) -> u64
-    ensures { result ≡ call_id snapshot.now call }
-{
-    match snapshot.calls().get(call as usize) {
-        Some(call) => u64::from(call.id),
-        None => 0,
-    }
-}
 
 /// Whether a call is in no tour.
 fn says_unserved(rule: Rule) -> bool

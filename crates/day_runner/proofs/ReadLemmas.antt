@@ -19,11 +19,11 @@ use Rattle.lift_text.specs.declared.faults.RawLine.{RawLine}
 use Rattle.lift_text.specs.declared.faults.RawLine.TheVariants.{Line, Long, End}
 use Rattle.lift_text.proofs.PieceLemmas.{ends_with_byte-push}
 use Rattle.lift_text.proofs.SkipLemmas.{size_of, size_of-pieces}
-use Rattle.day_runner.specs.Runs.{Right, AreRowsDone, DidNext, IsLineDone, IsLineBetween, StopsAt, fault_of, rows_of_line, turn_after}
+use Rattle.day_runner.specs.Runs.{Right, AreRowsDone, DidNext, IsLineDone, IsLineBetween, StopsAt, fault_of, rows_of_line, next_after}
 use Rattle.day_runner.specs.declared.rows.RunFault.{RunFault}
-use Rattle.day_runner.specs.declared.rows.Turn.{Turn}
+use Rattle.day_runner.specs.declared.rows.NextRow.{NextRow}
 use Rattle.day_runner.specs.declared.rows.RunFault.TheVariants.{TooLong, Read, NoMemory}
-use Rattle.day_runner.specs.declared.rows.Turn.TheVariants.{End as EndOfText}
+use Rattle.day_runner.specs.declared.rows.NextRow.TheVariants.{End as EndOfText}
 use Rattle.day_runner.proofs.RunLemmas.{append-assoc, long-row-done, long-rows}
 
 -- ---- the lines of a text, joined
@@ -130,26 +130,26 @@ long-line-done right old new text line (Ok unit) long day log = subst (λ r. Are
 long-line-done right old new text line (Err error) long day log = tt
 
 pub line-next : (right : Right) (old new : Day) (text : List ℕ) (before after : Option TextState) (line : List ℕ) (left : Option (List ℕ)) {E : Type 0} (done : Result Unit E)
-    → NextRaw before (Ok Line) line after → OnOk done (AreRowsDone right old (rows_of_line line) new text) → OnErr done (new ≡ old) → DidNext right old new (turn_after done) text before after left
+    → NextRaw before (Ok Line) line after → OnOk done (AreRowsDone right old (rows_of_line line) new text) → OnErr done (new ≡ old) → DidNext right old new (next_after done) text before after left
 line-next right old new text before after line left (Ok unit) next ok err = line-read right old new text before after line next ok
 line-next right old new text before after line left (Err error) next ok err = (err, stops-line before after line left next)
 
 -- the same of what a call answered
-pub line-answered : (right : Right) (old new : Day) (text : List ℕ) (before after : Option TextState) (line raw : List ℕ) (left : Option (List ℕ)) {E : Type 0} (done : Result Unit E) (read : Result RawLine TextFault) (turn : Result Turn RunFault)
-    → read ≡ Ok Line → line ≡ raw → turn ≡ turn_after done → NextRaw before read raw after → OnOk done (AreRowsDone right old (rows_of_line line) new text) → OnErr done (new ≡ old) → DidNext right old new turn text before after left
+pub line-answered : (right : Right) (old new : Day) (text : List ℕ) (before after : Option TextState) (line raw : List ℕ) (left : Option (List ℕ)) {E : Type 0} (done : Result Unit E) (read : Result RawLine TextFault) (turn : Result NextRow RunFault)
+    → read ≡ Ok Line → line ≡ raw → turn ≡ next_after done → NextRaw before read raw after → OnOk done (AreRowsDone right old (rows_of_line line) new text) → OnErr done (new ≡ old) → DidNext right old new turn text before after left
 line-answered right old new text before after line raw left done read turn is same turn_is next ok err =
-    subst (λ (t : Result Turn RunFault). DidNext right old new t text before after left) (sym turn_is)
+    subst (λ (t : Result NextRow RunFault). DidNext right old new t text before after left) (sym turn_is)
     (line-next right old new text before after line left done (subst (λ (l : List ℕ). NextRaw before (Ok Line) l after) (sym same) (subst (λ (r : Result RawLine TextFault). NextRaw before r raw after) is next)) ok err)
 
 pub long-line-next : (right : Right) (old new : Day) (text : List ℕ) (before after : Option TextState) (raw : List ℕ) (left : Option (List ℕ)) {E : Type 0} (done : Result Unit E)
-    → NextRaw before (Ok Long) raw after → OnOk done (new ≡ day_after_refused old) → OnOk done (text ≡ refused_text (row_number old) NoRow) → OnErr done (new ≡ old) → DidNext right old new (turn_after done) text before after left
+    → NextRaw before (Ok Long) raw after → OnOk done (new ≡ day_after_refused old) → OnOk done (text ≡ refused_text (row_number old) NoRow) → OnErr done (new ≡ old) → DidNext right old new (next_after done) text before after left
 long-line-next right old new text before after raw left (Ok unit) next day log err = long-line-read right old new text before after raw next (long-row-done right old new text day log)
 long-line-next right old new text before after raw left (Err error) next day log err = (err, stops-long-line before after raw left next)
 
-pub long-line-answered : (right : Right) (old new : Day) (text : List ℕ) (before after : Option TextState) (raw : List ℕ) (left : Option (List ℕ)) {E : Type 0} (done : Result Unit E) (read : Result RawLine TextFault) (turn : Result Turn RunFault)
-    → read ≡ Ok Long → turn ≡ turn_after done → NextRaw before read raw after → OnOk done (new ≡ day_after_refused old) → OnOk done (text ≡ refused_text (row_number old) NoRow) → OnErr done (new ≡ old) → DidNext right old new turn text before after left
+pub long-line-answered : (right : Right) (old new : Day) (text : List ℕ) (before after : Option TextState) (raw : List ℕ) (left : Option (List ℕ)) {E : Type 0} (done : Result Unit E) (read : Result RawLine TextFault) (turn : Result NextRow RunFault)
+    → read ≡ Ok Long → turn ≡ next_after done → NextRaw before read raw after → OnOk done (new ≡ day_after_refused old) → OnOk done (text ≡ refused_text (row_number old) NoRow) → OnErr done (new ≡ old) → DidNext right old new turn text before after left
 long-line-answered right old new text before after raw left done read turn is turn_is next day log err =
-    subst (λ (t : Result Turn RunFault). DidNext right old new t text before after left) (sym turn_is)
+    subst (λ (t : Result NextRow RunFault). DidNext right old new t text before after left) (sym turn_is)
     (long-line-next right old new text before after raw left done (subst (λ (r : Result RawLine TextFault). NextRaw before r raw after) is next) day log err)
 
 pub end-next : (right : Right) (day : Day) (text : List ℕ) (before after : Option TextState) (raw : List ℕ) (left : Option (List ℕ))

@@ -10,10 +10,10 @@ use Rattle.byte_streams.specs.Streams.{Rose}
 use Rattle.search_model.specs.Days.{Day}
 use Rattle.lift_text.specs.Lines.{pieces_of}
 use Rattle.lift_text.specs.Reading.{TextState}
-use Rattle.day_runner.specs.Runs.{Right, AreRowsDone, DidNext, IsLineBetween, IsLineDone, IsStopped, Ran, ReadLines, Reads, StopsAt, Wrote, WroteNext, bytes_of, rows_of, turn_written}
+use Rattle.day_runner.specs.Runs.{Right, AreRowsDone, DidNext, IsLineBetween, IsLineDone, IsStopped, Ran, ReadLines, Reads, StopsAt, Wrote, WroteNext, bytes_of, rows_of, next_written}
 use Rattle.day_runner.specs.declared.rows.RunFault.{RunFault}
 use Rattle.day_runner.specs.declared.rows.RunFault.TheVariants.{TooLong, Read, Write, NoMemory}
-use Rattle.day_runner.specs.declared.rows.Turn.TheVariants.{End}
+use Rattle.day_runner.specs.declared.rows.NextRow.TheVariants.{End}
 use Rattle.day_runner.proofs.RunLemmas.{append-assoc, append-nil, line-more}
 use Rattle.day_runner.proofs.WholeLemmas.{whole-lines}
 use Rattle.day_runner.proofs.ReadLemmas.{first-piece}
@@ -22,7 +22,7 @@ use Rattle.day_runner.proofs.ReadLemmas.{first-piece}
 
 pub line-written : (right : Right) (old new : Day) (text : List ℕ) (before after : Option TextState) (left sink sink' : Option (List ℕ)) (written : Result Unit RunFault)
     → IsLineDone right old new text before after → OnOk written (sink' ≡ append_known sink text) → (count : ℕ) × (count ≤ length text) × (sink' ≡ append_known sink (take count text)) → IfErr written (λ fault. fault ≡ Write)
-    → WroteNext right old new (turn_written written) before after left sink sink'
+    → WroteNext right old new (next_written written) before after left sink sink'
 line-written right old new text before after left sink sink' (Ok unit) done ok front write = (text, done, ok)
 line-written right old new text before after left sink sink' (Err Write) done ok front write = (text, front.0, done, front.1, front.2)
 line-written right old new text before after left sink sink' (Err TooLong) done ok front write = absurd cc

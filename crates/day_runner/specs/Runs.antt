@@ -14,8 +14,8 @@ use Rattle.lift_text.specs.declared.faults.TextFault.{TextFault}
 use Rattle.lift_text.specs.declared.faults.TextFault.TheVariants.{Bad, TooLong as TextTooLong, Read as TextRead, NoMemory as TextNoMemory}
 use Rattle.day_runner.specs.declared.rows.RunFault.{RunFault}
 use Rattle.day_runner.specs.declared.rows.RunFault.TheVariants.{TooLong, Read, Write, NoMemory}
-use Rattle.day_runner.specs.declared.rows.Turn.{Turn}
-use Rattle.day_runner.specs.declared.rows.Turn.TheVariants.{More, End}
+use Rattle.day_runner.specs.declared.rows.NextRow.{NextRow}
+use Rattle.day_runner.specs.declared.rows.NextRow.TheVariants.{More, End}
 
 -- ---- the rows of lines
 
@@ -124,14 +124,14 @@ pub record Ran (right : Right) (old new : Day) (result : Result Unit RunFault) (
 -- ---- how a line ends
 
 -- what comes of a line that was done, or for which memory was wanting
-abbrev pub turn_after : {E : Type 0} → Result Unit E → Result Turn RunFault
-turn_after (Ok done) = Ok More
-turn_after (Err error) = Err NoMemory
+abbrev pub next_after : {E : Type 0} → Result Unit E → Result NextRow RunFault
+next_after (Ok done) = Ok More
+next_after (Err error) = Err NoMemory
 
 -- what comes of a line whose text was written, or not
-abbrev pub turn_written : Result Unit RunFault → Result Turn RunFault
-turn_written (Ok done) = Ok More
-turn_written (Err fault) = Err fault
+abbrev pub next_written : Result Unit RunFault → Result NextRow RunFault
+next_written (Ok done) = Ok More
+next_written (Err fault) = Err fault
 
 -- why rows are not run on where the next line could not be read as it stands
 abbrev pub fault_of : TextFault → RunFault
@@ -145,7 +145,7 @@ abbrev pub StopsAt : Result Unit RunFault → (before : Option TextState) → (l
 StopsAt result before left = IfSome before (λ from. Reads result from [] (pieces_of from.bytes) left)
 
 -- A line was done, or the run stops in front of it.
-abbrev pub DidNext : Right → (old new : Day) → Result Turn RunFault → (text : List ℕ) → (before after : Option TextState) → (left : Option (List ℕ)) → Type 0
+abbrev pub DidNext : Right → (old new : Day) → Result NextRow RunFault → (text : List ℕ) → (before after : Option TextState) → (left : Option (List ℕ)) → Type 0
 DidNext right old new (Ok More) text before after left = IsLineDone right old new text before after
 DidNext right old new (Ok End) text before after left = (new ≡ old) × StopsAt (Ok tt) before left
 DidNext right old new (Err TooLong) text before after left = (new ≡ old) × StopsAt (Err TooLong) before left
@@ -160,7 +160,7 @@ pub record IsStopped (old new : Day) (result : Result Unit RunFault) (before : O
   pub wrote : sink' ≡ sink
 
 -- A line was done, and written, or where the write failed a beginning of it; or the run stops in front of it.
-abbrev pub WroteNext : Right → (old new : Day) → Result Turn RunFault → (before after : Option TextState) → (left sink sink' : Option (List ℕ)) → Type 0
+abbrev pub WroteNext : Right → (old new : Day) → Result NextRow RunFault → (before after : Option TextState) → (left sink sink' : Option (List ℕ)) → Type 0
 WroteNext right old new (Ok More) before after left sink sink' =
     (text : List ℕ) × IsLineDone right old new text before after × (sink' ≡ append_known sink text)
 WroteNext right old new (Ok End) before after left sink sink' = IsStopped old new (Ok tt) before left sink sink'

@@ -14,7 +14,7 @@ ghost use Rattle.day_runner.specs.Days.{EndedAs, RanDay};
 use crate::rows::{RunFault, put, run_rows};
 use byte_streams::{Sink, Source};
 use day_simulator::{Day, Planned, Served, Snapshot};
-use lift_text::LineReader;
+use lift_text::{LineReader, TEXT_LIMIT};
 use std::alloc::{AllocError, Global};
 
 /// The first line of a log.
@@ -74,7 +74,7 @@ where
     ensures ran { RanDay (right_by (FnReturnsAt F.Fn plan.now)) opening result (text S.left lines.old)
         (S.left lines.new.source.now) (K.taken sink.old) (K.taken sink.new) }
     ensures early { IfOk result (λ ended. All IsEarly ended.served.items) }
-    ensures few { IfOk result (λ ended. length ended.served.items ≤ 67108864) }
+    ensures few { IfOk result (λ ended. length ended.served.items ≤ TEXT_LIMIT) }
     ensures read { IsErrOf result RunFault.Read
         → Rose (S.faults lines.old.source.now) (S.faults lines.new.source.now) }
     ensures write { IsErrOf result RunFault.Write → Rose (K.faults sink.old) (K.faults sink.new) }
@@ -90,7 +90,7 @@ where
     };
     match run_rows(alloc, plan, lines, &mut day, sink) {
         Ok(()) => {
-            // A line's number is at most 67,108,864.
+            // For the proof: a line's number is at most 67,108,864.
             let _last = lines.line();
             end_day(alloc, day, sink)
         }

@@ -11,11 +11,11 @@ ghost use Rattle.search_model.specs.Days.{day_after_refused, loses_none};
 ghost use Rattle.search_model.specs.declared.RowFault.TheVariants.{NoRow};
 ghost use Rattle.day_simulator.specs.Standing.{row_number};
 ghost use Rattle.day_simulator.specs.Texts.{refused_text};
-ghost use Rattle.day_runner.specs.Runs.{AreRowsDone, DidNext, Ran, WroteNext, fault_of, rows_of_line, rows_of_short, turn_after, turn_written};
+ghost use Rattle.day_runner.specs.Runs.{AreRowsDone, DidNext, Ran, WroteNext, fault_of, rows_of_line, rows_of_short, next_after, next_written};
 
 use byte_streams::{Sink, Source, put_all};
 use day_simulator::{Day, Planned, Snapshot};
-use lift_text::{LineReader, RawLine, TextFault};
+use lift_text::{LINE_COUNT_BOUND, LINE_LIMIT, LineReader, RawLine, TextFault};
 use std::alloc::{AllocError, Global};
 
 /// Why rows were not run to their end.
@@ -33,18 +33,12 @@ pub enum RunFault {
 
 /// What stood next in the text.
 #[derive(Clone, Copy)]
-pub(crate) enum Turn {
+pub(crate) enum NextRow {
     /// A line.
     More,
     /// The end.
     End,
 }
-
-/// More lines than a text can have.
-const MOST_LINES: u64 = 67_108_865;
-
-/// The most bytes of a line that may be a row.
-const MOST_BYTES: usize = 4096;
 
 /// Writes the text, and says whether the sink took it.
 pub(crate) fn put<K: Sink>(sink: &mut K, text: &[u8]) -> Result<(), RunFault>
@@ -118,7 +112,7 @@ fn do_line<F: Fn(&Snapshot) -> Result<Planned, AllocError>>(
     ensures as_before { OnErr result (day.new ≡ day.old) }
     ensures none_lost { IsTrue (loses_none day.new) }
 {
-    if line.len() > MOST_BYTES {
+    if line.len() > LINE_LIMIT {
         do_long_line(day, out)
     } else {
         do_short_line(alloc, plan, line, day, out)
@@ -126,21 +120,21 @@ fn do_line<F: Fn(&Snapshot) -> Result<Planned, AllocError>>(
 }
 
 /// A line was done, or memory ran out for it.
-fn turn_after(done: Result<(), AllocError>) -> Result<Turn, RunFault>
-    ensures { result ≡ turn_after done }
+fn next_after(done: Result<(), AllocError>) -> Result<NextRow, RunFault>
+    ensures { result ≡ next_after done }
 {
     match done {
-        Ok(()) => Ok(Turn::More),
+        Ok(()) => Ok(NextRow::More),
         Err(AllocError) => Err(RunFault::NoMemory),
     }
 }
 
 /// A line's rows were written, or not.
-fn turn_written(written: Result<(), RunFault>) -> Result<Turn, RunFault>
-    ensures { result ≡ turn_written written }
+fn next_written(written: Result<(), RunFault>) -> Result<NextRow, RunFault>
+    ensures { result ≡ next_written written }
 {
     match written {
-        Ok(()) => Ok(Turn::More),
+        Ok(()) => Ok(NextRow::More),
         Err(fault) => Err(fault),
     }
 }
@@ -163,7 +157,7 @@ fn do_next<F, S: Source>(
     lines: &mut LineReader<S>,
     day: &mut Day,
     out: &mut Vec<u8>,
-) -> Result<Turn, RunFault>
+) -> Result<NextRow, RunFault>
 where
     F: Fn(&Snapshot) -> Result<Planned, AllocError>,
     requires callable { F.IsAlwaysCallable plan.now }
@@ -177,19 +171,19 @@ where
         (text S.left lines.new) (S.left lines.new.source.now) }
     ensures none_lost { IsTrue (loses_none day.new) }
     ensures unfailed { OnOk result (failure lines.new ≡ None) }
-    ensures line { result ≡ Ok Turn.More → line lines.new ≡ line lines.old + 1 }
-    ensures number { result ≡ Ok Turn.More → row_number day.new ≤ line lines.new + 1 }
-    ensures number_at_end { result ≡ Ok Turn.End → row_number day.new ≤ line lines.new + 1 }
+    ensures line { result ≡ Ok NextRow.More → line lines.new ≡ line lines.old + 1 }
+    ensures number { result ≡ Ok NextRow.More → row_number day.new ≤ line lines.new + 1 }
+    ensures number_at_end { result ≡ Ok NextRow.End → row_number day.new ≤ line lines.new + 1 }
     ensures read { IsErrOf result RunFault.Read
         → Rose (S.faults lines.old.source.now) (S.faults lines.new.source.now) }
     ensures counted { S.faults lines.old.source.now ≤ S.faults lines.new.source.now }
 {
-    // A line's number is at most 67,108,864.
+    // For the proof: a line's number is at most 67,108,864.
     let _number = lines.line();
     match lines.raw_line() {
-        Ok(RawLine::Line) => turn_after(do_line(alloc, plan, lines.raw(), day, out)),
-        Ok(RawLine::Long) => turn_after(do_long_line(day, out)),
-        Ok(RawLine::End) => Ok(Turn::End),
+        Ok(RawLine::Line) => next_after(do_line(alloc, plan, lines.raw(), day, out)),
+        Ok(RawLine::Long) => next_after(do_long_line(day, out)),
+        Ok(RawLine::End) => Ok(NextRow::End),
         Err(fault) => Err(fault_of(fault)),
     }
 }
@@ -201,7 +195,7 @@ fn write_next<F, S: Source, K: Sink>(
     lines: &mut LineReader<S>,
     day: &mut Day,
     sink: &mut K,
-) -> Result<Turn, RunFault>
+) -> Result<NextRow, RunFault>
 where
     F: Fn(&Snapshot) -> Result<Planned, AllocError>,
     requires callable { F.IsAlwaysCallable plan.now }
@@ -214,9 +208,9 @@ where
         (text S.left lines.new) (S.left lines.new.source.now) (K.taken sink.old) (K.taken sink.new) }
     ensures none_lost { IsTrue (loses_none day.new) }
     ensures unfailed { OnOk result (failure lines.new ≡ None) }
-    ensures line { result ≡ Ok Turn.More → line lines.new ≡ line lines.old + 1 }
-    ensures number { result ≡ Ok Turn.More → row_number day.new ≤ line lines.new + 1 }
-    ensures number_at_end { result ≡ Ok Turn.End → row_number day.new ≤ line lines.new + 1 }
+    ensures line { result ≡ Ok NextRow.More → line lines.new ≡ line lines.old + 1 }
+    ensures number { result ≡ Ok NextRow.More → row_number day.new ≤ line lines.new + 1 }
+    ensures number_at_end { result ≡ Ok NextRow.End → row_number day.new ≤ line lines.new + 1 }
     ensures read { IsErrOf result RunFault.Read
         → Rose (S.faults lines.old.source.now) (S.faults lines.new.source.now) }
     ensures write { IsErrOf result RunFault.Write → Rose (K.faults sink.old) (K.faults sink.new) }
@@ -225,8 +219,8 @@ where
 {
     let mut out = Vec::new(alloc);
     match do_next(alloc, plan, lines, day, &mut out) {
-        Ok(Turn::More) => turn_written(put(sink, out.as_slice())),
-        Ok(Turn::End) => Ok(Turn::End),
+        Ok(NextRow::More) => next_written(put(sink, out.as_slice())),
+        Ok(NextRow::End) => Ok(NextRow::End),
         Err(fault) => Err(fault),
     }
 }
@@ -260,14 +254,14 @@ where
     ensures counted { S.faults lines.old.source.now ≤ S.faults lines.new.source.now }
     ensures sink_counted { K.faults sink.old ≤ K.faults sink.new }
 {
-    'lines: for _ in 0..MOST_LINES {
+    'lines: for _ in 0..LINE_COUNT_BOUND {
         match write_next(alloc, plan, lines, day, sink) {
-            Ok(Turn::More) => {}
-            Ok(Turn::End) => return Ok(()),
+            Ok(NextRow::More) => {}
+            Ok(NextRow::End) => return Ok(()),
             Err(fault) => return Err(fault),
         }
     }
-    // A line's number is at most 67,108,864, so this is never reached.
+    // For the proof: a line's number is at most 67,108,864, so this is never reached.
     let _last = lines.line();
     Err(RunFault::TooLong)
 }

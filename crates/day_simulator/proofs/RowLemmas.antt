@@ -30,7 +30,7 @@ use Rattle.day_simulator.specs.declared.days.RowAnswer.TheVariants.{Taken}
 use Rattle.row_text.specs.Records.{row_within}
 use Rattle.day_simulator.specs.Standing.{IsStanding, row_number}
 use Rattle.day_simulator.specs.Texts.{row_text, accepted_text}
-use Rattle.day_simulator.specs.Rows.{right_by, stated_of, IsWorldBrought, IsBrought, next_step, answer_of, DoesRow, IsRowDone, IsRefused}
+use Rattle.day_simulator.specs.Rows.{right_by, IsWorldBrought, IsBrought, next_step, answer_of, DoesRow, IsRowDone, IsRefused}
 use Rattle.day_simulator.proofs.NoneLost.{later-calls-known, later-aboard-known, accepted-stands, calls-noted, noted_by}
 
 -- ---- steps
@@ -236,6 +236,6 @@ done-numbered right old said new before after (Ok answer) done = ap row_number d
 done-numbered right old said new before after (Err error) done = tt
 
 -- what a planner answered is right by its answers
-pub answered : {F : Type 0} (g : Shared F (Bor Snapshot × Unit {0}) (Result Planned AllocError)) (f : F) (shown : Bor Snapshot) (r : Result Planned AllocError) (planned : Planned) → r ≡ Ok planned → g.post f (shown, tt) r → right_by (FnReturnsAt g f) shown.now (stated_of planned) planned.proof.items
+pub answered : {F : Type 0} (g : Shared F (Bor Snapshot × Unit {0}) (Result Planned AllocError)) (f : F) (shown : Bor Snapshot) (r : Result Planned AllocError) (planned : Planned) → r ≡ Ok planned → g.post f (shown, tt) r → right_by (FnReturnsAt g f) shown.now planned.stated planned.proof.items
 answered g f shown r planned is met =
     (planned, record { shown = shown; shows = refl; says = record { met = subst (λ (x : Result Planned AllocError). g.post f (shown, tt) x) is met } }, refl, refl)

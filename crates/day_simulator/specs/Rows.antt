@@ -14,12 +14,9 @@ use Rattle.day_simulator.specs.declared.planners.Planned.{Planned}
 use Rattle.day_simulator.specs.Standing.{row_number}
 use Rattle.day_simulator.specs.Texts.{row_text, refused_text}
 
-abbrev pub stated_of : Planned → Stated
-stated_of planned = record { plan = planned.plan; cost = planned.cost; bound = planned.bound }
-
 -- What is right where a planner answers so: what it answers.
 abbrev pub right_by : (Snapshot → Result Planned AllocError → Type 0) → Snapshot → Stated → (proof : List ℕ) → Type 0
-right_by answers s stated proof = (planned : Planned) × answers s (Ok planned) × (stated_of planned ≡ stated) × (planned.proof.items ≡ proof)
+right_by answers s stated proof = (planned : Planned) × answers s (Ok planned) × (planned.stated ≡ stated) × (planned.proof.items ≡ proof)
 
 -- what is answered of a row of which the log says this
 abbrev pub answer_of : RowLog → RowAnswer

@@ -153,7 +153,8 @@ impl Day {
         ensures { IfOk result (λ day. day ≡ opening_day opening) }
     {
         let world = World::opening(alloc, opening)?;
-        // A reader of the snapshot tells that it keeps the rules, which is part of what holds of a day.
+        // For the proof: a reader of the snapshot tells that it keeps the rules, which is part of what holds
+        // of a day.
         let _moment = world.snapshot().now();
         Ok(Day {
             world,
@@ -215,7 +216,8 @@ impl Day {
             (row_as_said row.now) (record { plan = world.old.plan; cost = cost; bound = bound })) }
         ensures as_before { OnErr result (self.new ≡ self.old) }
     {
-        // A reader of the snapshot tells that it keeps the rules, which is part of what holds of a day.
+        // For the proof: a reader of the snapshot tells that it keeps the rules, which is part of what holds
+        // of a day.
         let _moment = world.snapshot().now();
         let call = LoggedCall::new(self.number(), row.time);
         go_on_in(world, events, call, &mut self.world, &mut self.calls)?;
@@ -255,8 +257,8 @@ impl Day {
             &planned,
             out,
         )?;
-        let (cost, bound) = (planned.cost, planned.bound);
-        world.set_plan(planned.plan);
+        let (cost, bound) = (planned.stated.cost, planned.stated.bound);
+        world.set_plan(planned.stated.plan);
         match self.take(world, row, events, cost, bound) {
             Ok(()) => Ok(RowAnswer::Taken { cost, bound }),
             Err(error) => {
@@ -374,7 +376,7 @@ impl Day {
         ensures log_as_before { OnErr result (out.new.items ≡ out.old.items) }
     {
         let answer = self.any_row(alloc, plan, bytes, out);
-        // A reader tells that no call is lost.
+        // For the proof: a reader tells that no call is lost.
         let _unsolved = self.unsolved();
         answer
     }
@@ -392,6 +394,7 @@ impl Day {
         ensures log_as_before { OnErr result (out.new.items ≡ out.old.items) }
     {
         let answer = self.refuse(RowFault::NoRow, out);
+        // For the proof: a reader tells that no call is lost.
         let _unsolved = self.unsolved();
         answer
     }

@@ -4,7 +4,6 @@ ghost use Rattle.std.specs.Prelude.{◌≡◌, ◌++◌, ◌∷◌, [], codes, d
 ghost use Rattle.elevator_model.specs.Plans.{IsFeasiblePlan};
 ghost use Rattle.search_model.specs.Days.{code_of_row};
 ghost use Rattle.text_sections.specs.Canonical.{line_text};
-ghost use Rattle.day_simulator.specs.Rows.{stated_of};
 ghost use Rattle.day_simulator.specs.Texts.{event_words, events_text, accepted_words, plan_text, accepted_text, refused_text, solved_words, total_text};
 
 use crate::planners::Planned;
@@ -57,12 +56,13 @@ fn put_accepted_line(out: &mut Vec<u8>, number: u32) -> Result<(), AllocError>
 
 /// Writes the plan with its cost and its bound, or the proof in their place.
 fn put_plan(out: &mut Vec<u8>, snapshot: &Snapshot, planned: &Planned) -> Result<(), AllocError>
-    requires { IsFeasiblePlan snapshot.now planned.now.plan }
+    requires { IsFeasiblePlan snapshot.now planned.now.stated.plan }
     ensures { OnOk result (out.new.items ≡ out.old.items
-        ++ plan_text snapshot.now (stated_of planned.now) planned.now.proof.items) }
+        ++ plan_text snapshot.now planned.now.stated planned.now.proof.items) }
 {
     if planned.proof.is_empty() {
-        write_body(snapshot, &planned.plan, planned.cost, planned.bound, out)
+        let stated = &planned.stated;
+        write_body(snapshot, &stated.plan, stated.cost, stated.bound, out)
     } else {
         out.extend_from_slice(planned.proof.as_slice())
     }
@@ -77,9 +77,9 @@ fn accepted_lines(
     snapshot: &Snapshot,
     planned: &Planned,
 ) -> Result<Vec<u8>, AllocError>
-    requires { IsFeasiblePlan snapshot.now planned.now.plan }
+    requires { IsFeasiblePlan snapshot.now planned.now.stated.plan }
     ensures { IfOk result (λ text. text.items
-        ≡ accepted_text snapshot.now number events.now (stated_of planned.now) planned.now.proof.items) }
+        ≡ accepted_text snapshot.now number events.now planned.now.stated planned.now.proof.items) }
 {
     let mut text = Vec::new(alloc);
     put_accepted_line(&mut text, number)?;
@@ -98,9 +98,9 @@ pub(crate) fn add_accepted(
     planned: &Planned,
     out: &mut Vec<u8>,
 ) -> Result<(), AllocError>
-    requires { IsFeasiblePlan snapshot.now planned.now.plan }
+    requires { IsFeasiblePlan snapshot.now planned.now.stated.plan }
     ensures lines { OnOk result (out.new.items ≡ out.old.items
-        ++ accepted_text snapshot.now number events.now (stated_of planned.now) planned.now.proof.items) }
+        ++ accepted_text snapshot.now number events.now planned.now.stated planned.now.proof.items) }
     ensures as_before { OnErr result (out.new.items ≡ out.old.items) }
 {
     let text = accepted_lines(alloc, number, events, snapshot, planned)?;

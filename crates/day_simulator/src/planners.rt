@@ -4,16 +4,13 @@
 //! no feasible plan costs less than, and it fails only where there is no memory left. Whoever calls shows
 //! this of the function (`PlannerLaw`).
 
-use elevator_model::Plan;
+use search_model::Stated;
 
 /// A plan for a snapshot, as a planner states it.
 #[derive(Drop)]
 pub struct Planned {
-    pub plan: Plan,
-    /// The cost of the plan, in cost units.
-    pub cost: u64,
-    /// What no feasible plan costs less than, in cost units.
-    pub bound: u64,
+    /// The plan with its cost and a bound.
+    pub stated: Stated,
     /// What a log says in place of cost, bound and plan, or nothing.
     pub proof: Vec<u8>,
 }

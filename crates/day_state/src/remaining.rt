@@ -18,7 +18,7 @@ use crate::states::state_then;
 use crate::worlds::World;
 use call_sets::CallSet;
 use call_state::{Aboard, Call, CarState, Snapshot, SnapshotParts};
-use elevator_model::{Boards, Plan, Stop, Tour};
+use elevator_model::{Boards, MOST_CALLS, Plan, Stop, Tour};
 use std::alloc::{AllocError, Global};
 use tour_rules::places::is_carried;
 
@@ -132,7 +132,7 @@ fn boarded_calls(reached: &[Reached]) -> CallSet
 
 /// The calls that are not in the set.
 fn calls_waiting(alloc: Global, calls: &[Call], boarded: CallSet) -> Result<Vec<Call>, AllocError>
-    requires { length calls.now ≤ 128 }
+    requires { length calls.now ≤ MOST_CALLS }
     ensures { IfOk result (λ waiting. waiting.items ≡ map (call_in calls.now)
         (filter (λ j. not (has boarded j)) (range_with_len 0 (length calls.now)))) }
 {
@@ -147,7 +147,7 @@ fn calls_waiting(alloc: Global, calls: &[Call], boarded: CallSet) -> Result<Vec<
 
 /// For each of the first calls its index among those that are not in the set.
 fn indexes_waiting(alloc: Global, calls: usize, boarded: CallSet) -> Result<Vec<u32>, AllocError>
-    requires { calls ≤ 128 }
+    requires { calls ≤ MOST_CALLS }
     ensures count { IfOk result (λ indexes. length indexes.items ≡ calls) }
     ensures each { IfOk result (λ indexes. (j : ℕ) → j < calls
         → slice_index indexes.items j ≡ sum_where j (λ k. not (has boarded k)) (λ _. 1)) }

@@ -12,7 +12,7 @@ ghost use Rattle.day_state.specs.Riding.{Rides, RidesAfter, stops_by};
 use crate::riders::{board, by_id, deliver, riders_aboard, riders_staying};
 use call_sets::CallSet;
 use call_state::Snapshot;
-use elevator_model::{MOMENT_LIMIT, Stop, Tour};
+use elevator_model::{MOMENT_LIMIT, MOST_CALLS, Stop, Tour};
 use search_model::Event;
 use std::alloc::{AllocError, Global};
 use tour_rules::walking::Walker;
@@ -30,7 +30,7 @@ pub(crate) struct Ride {
 
 /// Notes the moment at which these calls boarded.
 fn note_boarding(boarded_at: &mut [u64], boards: CallSet, moment: u64)
-    requires { length boarded_at.old ≤ 128 }
+    requires { length boarded_at.old ≤ MOST_CALLS }
     ensures count { length boarded_at.new ≡ length boarded_at.old }
     ensures each { (j : ℕ) → j < length boarded_at.old → slice_index boarded_at.new j
         ≡ (if has boards j then moment else slice_index boarded_at.old j) }
@@ -80,7 +80,7 @@ impl Ride {
         requires to { stop.now.floor < floor_count snapshot.now.building }
         requires early { self.walker.leaves ≤ MOMENT_LIMIT }
         requires boards { (j : ℕ) → is_among j stop.now.boards ≡ true → j < call_count snapshot.now }
-        requires calls { length self.boarded_at.items ≤ 128 }
+        requires calls { length self.boarded_at.items ≤ MOST_CALLS }
         ensures rides { IfOk result (λ next. (p : Progress) (riders : List ℕ)
             → Rides snapshot.now car self p riders → Rides snapshot.now car next
             (make_stop snapshot.now car p stop.now) (riders_after snapshot.now riders stop.now)) }

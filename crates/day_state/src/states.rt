@@ -13,7 +13,7 @@ ghost use Rattle.search_model.specs.Advancing.{can_still_choose as can_still_cho
 
 use call_sets::{CallSet, FloorSet};
 use call_state::{Aboard, Building, Call, CarState, Snapshot, is_open};
-use elevator_model::{MOMENT_LIMIT, Stop};
+use elevator_model::{MOMENT_LIMIT, MOST_CALLS, Stop};
 use tour_rules::places::{Place, is_carried};
 use tour_rules::walking::Walker;
 
@@ -26,7 +26,7 @@ fn any_call_passed(
     calls: &[Call],
     carried: CallSet,
 ) -> bool
-    requires { length calls.now ≤ 128 }
+    requires { length calls.now ≤ MOST_CALLS }
     ensures { result ≡ any_below (length calls.now)
         (call_passed calls.now (is_open_lem building.now car t state) carried) }
 {

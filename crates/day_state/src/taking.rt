@@ -7,7 +7,7 @@ ghost use Rattle.search_model.specs.Days.{fault_of_new_call};
 ghost use Rattle.call_state.specs.SnapshotParts.{snapshot_of};
 ghost use Rattle.day_state.specs.Openings.{IsNewCall, taken, Refuses};
 
-use call_state::{Call, CarState, Snapshot, SnapshotParts, serves_floor};
+use call_state::{Call, CarState, Snapshot, SnapshotParts, any_can_take};
 use elevator_model::most_calls;
 use std::alloc::{AllocError, Global};
 
@@ -22,30 +22,6 @@ pub enum NotTaken {
     NoMemory,
 }
 
-/// Whether the car's size and floors allow the call.
-fn can_take(snapshot: &Snapshot, car: u32, call: &Call) -> bool
-    requires { car < car_count snapshot.now }
-    ensures { result ≡ can_take_lem snapshot.now.building car call.now }
-{
-    let building = snapshot.building();
-    call.persons <= snapshot.spec(car).capacity
-        && serves_floor(building, car, call.origin)
-        && serves_floor(building, car, call.destination)
-}
-
-/// Whether some car's size and floors allow the call.
-fn any_can_take(snapshot: &Snapshot, call: &Call) -> bool
-    ensures { result ≡ any_below (car_count snapshot.now)
-        (λ c. can_take_lem snapshot.now.building c call.now) }
-{
-    for car in 0..snapshot.building().cars().len() as u32 {
-        if can_take(snapshot, car, call) {
-            return true;
-        }
-    }
-    false
-}
-
 /// Why the snapshot cannot take the call, if it cannot: there is no room, or else no car for it.
 pub(crate) fn refusal(snapshot: &Snapshot, call: &Call) -> Option<NotTaken>
     ensures fault { IfSome result (Refuses (fault_of_new_call snapshot.now call.now)) }
@@ -54,7 +30,7 @@ pub(crate) fn refusal(snapshot: &Snapshot, call: &Call) -> Option<NotTaken>
     if snapshot.calls().len() >= most_calls(snapshot.building().version()) as usize {
         return Some(NotTaken::Full);
     }
-    if !any_can_take(snapshot, call) {
+    if !any_can_take(snapshot.building(), call) {
         return Some(NotTaken::NoCar);
     }
     None

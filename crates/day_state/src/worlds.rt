@@ -52,7 +52,8 @@ impl World {
     pub fn of_parts(snapshot: Snapshot, plan: Plan) -> World
         ensures { result ≡ record { snapshot = snapshot; plan = plan } }
     {
-        // A reader of the snapshot tells that it keeps the rules, which is part of what holds of a world.
+        // For the proof: a reader of the snapshot tells that it keeps the rules, which is part of what holds
+        // of a world.
         let _moment = snapshot.now();
         World { snapshot, plan }
     }

@@ -166,15 +166,3 @@ pub record IsAccepted (s : Snapshot) : Type 0 where
   pub ids : (j k : ℕ) → j < k → k < call_count s → (call_of s j).id ≡ (call_of s k).id → ⊥
   pub group_ids : (j k : ℕ) → j < k → k < length s.aboard → (group_of s j).id ≡ (group_of s k).id → ⊥
   pub ids_apart : (j k : ℕ) → j < call_count s → k < length s.aboard → (call_of s j).id ≡ (group_of s k).id → ⊥
-
--- A small snapshot: of version 1 in a building of version 1, with one car, idle and empty, and at most
--- three calls, none pinned.
-pub record IsSmall (s : Snapshot) : Type 0 where
-  pub accepted : IsAccepted s
-  pub version : s.version ≡ 1
-  pub building : s.building.version ≡ 1
-  pub one_car : car_count s ≡ 1
-  pub idle : IsTrue (is_idle (state_of s 0))
-  pub empty : length s.aboard ≡ 0
-  pub few : call_count s ≤ 3
-  pub unpinned : (j : ℕ) → j < call_count s → (call_of s j).pin ≡ None

@@ -19,6 +19,15 @@ pub const MOST_MOVES: usize = 450;
 /// The most moves that may follow a partial tour: 128 boards, 64 leaves and the end.
 pub const MOST_NEXT_MOVES: usize = 193;
 
+/// The most persons of one call.
+pub const MOST_PERSONS: u32 = 8;
+
+/// No moment of a snapshot and no row of a day is later, in ms.
+pub const LATEST_SNAPSHOT: u64 = 1_000_000_000;
+
+/// The longest time between two floors, in ms.
+pub const LONGEST_WAY: u64 = 20_000_000;
+
 /// How long after the snapshot's moment a car may become free or arrive, in ms.
 pub const LONGEST_WORK: u64 = 100_000_000;
 

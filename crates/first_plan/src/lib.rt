@@ -19,7 +19,6 @@
 #![tactic(auto)]
 
 mod drafts;
-mod draws;
 mod neighbours;
 mod places;
 mod plans;

@@ -7,20 +7,10 @@ ghost use Rattle.elevator_model.specs.Plans.{IsFeasiblePlan, plan_cost_of};
 
 use crate::proposing::{proposal, with_call_put};
 use call_state::Snapshot;
-use elevator_model::Plan;
+use elevator_model::{MOST_CALLS, Plan};
 use plain_plan::plan_of;
 use std::alloc::{AllocError, Global};
-use tour_cost::{judge_plan, plan_cost};
-
-/// Whether a proposed plan is feasible.
-fn is_feasible(snapshot: &Snapshot, plan: &Plan) -> bool
-    ensures { IsTrue result ↔ IsFeasiblePlan snapshot.now plan.now }
-{
-    if plan.tours().len() != snapshot.building().cars().len() {
-        return false;
-    }
-    judge_plan(snapshot, plan).is_ok()
-}
+use tour_cost::{is_feasible, plan_cost};
 
 /// The proposed plan, if it is feasible and costs less than the plain plan, and else that one.
 fn better_plan(snapshot: &Snapshot, plain: Plan, proposed: Option<Plan>) -> Plan
@@ -58,7 +48,7 @@ pub fn first(alloc: Global, snapshot: &Snapshot) -> Result<Plan, AllocError>
     ensures feasible { IfOk result (λ plan. IsFeasiblePlan snapshot.now plan) }
     ensures exists { (plan : List (List Stop)) × IsFeasiblePlan snapshot.now plan }
 {
-    prove!(snapshot.calls().len() <= 128);
+    prove!(snapshot.calls().len() <= MOST_CALLS);
     feasible_plan(alloc, snapshot)
 }
 

@@ -6,13 +6,13 @@
 ghost use Rattle.std.specs.Prelude.{◌≤◌};
 
 use crate::drafts::Draft;
-use crate::draws::Draws;
 use crate::neighbours::Neighbours;
 use crate::places::best_place;
 use crate::queues::Queues;
 use crate::taken::Taken;
 use call_sets::CarSet;
 use call_state::Snapshot;
+use search_model::Draws;
 use std::alloc::{AllocError, Global};
 
 /// How many rounds there are for each call.
@@ -224,7 +224,7 @@ pub(crate) fn improved(
     drafts: Vec<Draft>,
 ) -> Result<Vec<Draft>, AllocError> {
     let neighbours = Neighbours::of_calls(alloc, snapshot.calls())?;
-    let mut draws = Draws::from_seed(SEED);
+    let mut draws = Draws::from_number(SEED);
     let mut taken = Taken::new(alloc);
     let mut moving = Moving::new(alloc, snapshot, queues, drafts)?;
     let rounds = rounds_for(order.len());

@@ -9,7 +9,8 @@ ghost use Rattle.elevator_model.specs.Snapshot.{car_count};
 use crate::queues::Queues;
 use crate::stops::DraftStop;
 use call_sets::{CallSet, FloorSet};
-use call_state::{Call, CarSpec, CarState, Snapshot, is_open};
+use call_state::{Call, CarSpec, Snapshot};
+use tour_rules::first_floors;
 
 /// How far a car is in its draft tour. Moments are in ms, costs in cost units.
 #[derive(Clone, Copy)]
@@ -80,26 +81,6 @@ fn waiting_rate(snapshot: &Snapshot, call: &Call, opened: u64) -> u64 {
         rate = rate.saturating_add(building.patience_weight());
     }
     (call.persons as u64).saturating_mul(rate)
-}
-
-/// The floors where the car may stop first.
-fn first_floors(snapshot: &Snapshot, car: u32) -> FloorSet
-    requires { car < car_count snapshot.now }
-{
-    let state = snapshot.car(car);
-    match state {
-        CarState::Idle { .. } => FloorSet::lowest(64),
-        CarState::Coming { floor, .. } => FloorSet::empty().with(floor % 64),
-        CarState::Moving { .. } => {
-            let mut open = FloorSet::empty();
-            for floor in 0..snapshot.building().heights().len() as u32 {
-                if is_open(snapshot.building(), car, snapshot.now(), state, floor) {
-                    open = open.with(floor % 64);
-                }
-            }
-            open
-        }
-    }
 }
 
 impl Ride {

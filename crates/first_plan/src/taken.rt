@@ -1,12 +1,18 @@
 //! The calls that one round takes out.
 
-use crate::draws::Draws;
 use crate::neighbours::Neighbours;
 use call_sets::CallSet;
+use search_model::Draws;
 use std::alloc::{AllocError, Global};
 
 /// How many calls are taken out at most.
 const MOST: usize = 8;
+
+/// A place in a list of this many, by the product of two draws: the earlier the likelier.
+fn early_place(draws: &mut Draws, count: usize) -> usize {
+    let product = u64::from(draws.draw()).wrapping_mul(u64::from(draws.draw())) >> 32;
+    (product.wrapping_mul(count as u64) >> 32) as usize
+}
 
 /// The calls that are taken out together, in the order in which they are put back.
 #[derive(Drop)]
@@ -39,7 +45,7 @@ impl Taken {
         if call >= 128 || self.set.contains(call) {
             return Ok(());
         }
-        let place = draws.pick(self.calls.len() + 1);
+        let place = draws.pick_place(self.calls.len() + 1);
         self.calls.insert(place, call)?;
         self.set = self.set.with(call);
         Ok(())
@@ -47,8 +53,8 @@ impl Taken {
 
     /// Adds some of the calls that are most like this one, drawn with a liking for the nearest.
     fn add_near(&mut self, near: &[u32], draws: &mut Draws) -> Result<(), AllocError> {
-        for _ in 0..draws.pick(MOST) {
-            if let Some(call) = near.get(draws.pick_early(near.len())) {
+        for _ in 0..draws.pick_place(MOST) {
+            if let Some(call) = near.get(early_place(draws, near.len())) {
                 self.add(*call, draws)?;
             }
         }
@@ -72,7 +78,7 @@ impl Taken {
         if order.is_empty() {
             return Ok(());
         }
-        if let Some(call) = order.get(draws.pick(order.len())) {
+        if let Some(call) = order.get(draws.pick_place(order.len())) {
             self.add(*call, draws)?;
             self.add_near(neighbours.of(*call), draws)?;
         }

@@ -4,10 +4,11 @@ ghost use Rattle.std.specs.Prelude.{◌≤◌};
 ghost use Rattle.answer_text.specs.Answers.{IsWithin};
 
 use crate::makers::{OfLines, OfNoon, is_so_at_noon, is_so_of};
-use answer_text::{Stated, read_answer, write_answer, write_body, write_stops};
+use answer_text::{read_answer, write_answer, write_body, write_stops};
 use byte_streams::MemorySource;
 use call_state::Snapshot;
 use lift_text::LineReader;
+use search_model::Stated;
 use std::alloc::Global;
 
 /// The text of the answer that is read is this one, with a `+` where a line follows.

@@ -6,7 +6,7 @@ use crate::makers::{OfLines, OfNoon, is_so_at_noon, is_so_of, is_so_over};
 use byte_streams::MemorySource;
 use call_state::Snapshot;
 use cert_text::{TreeReader, read_cert, write_cert};
-use lift_text::{LineReader, TextFault};
+use lift_text::{LineReader, TextCode, TextFault};
 use std::alloc::Global;
 
 /// The text of the certificate that is read is this one, with a `+` where a line follows.
@@ -43,7 +43,7 @@ impl OfLines for Written<'_> {
 enum Last {
     Twig,
     End,
-    Bad { line: u64, code: u8 },
+    Bad { line: u64, code: TextCode },
     Failed,
     Other,
 }
@@ -159,7 +159,7 @@ fn are_written(alloc: Global, snapshot: &Snapshot) -> bool {
         && is_written(alloc, snapshot, LONE, 100, LONE_WRITTEN)
 }
 
-fn bad(line: u64, code: u8) -> Last {
+fn bad(line: u64, code: TextCode) -> Last {
     Last::Bad { line, code }
 }
 
@@ -169,10 +169,22 @@ fn come_one_by_one(alloc: Global, snapshot: &Snapshot) -> bool {
     let table: [(&[u8], u64, Last); 6] = [
         (b"certificate 1\nleaf\nend\nleaf", 1, Last::End),
         (deep, 5, Last::End),
-        (b"certificate 1\nend", 0, bad(2, 8)),
-        (b"certificate 1\nsplit 22\nprice 4 1", 1, bad(3, 8)),
-        (b"certificate 1\nsplit 22\nleaf\nprice 4 x", 1, bad(4, 6)),
-        (b"certificate 1\nsplit 22\nleaf\nleaf\nleaf", 2, bad(5, 8)),
+        (b"certificate 1\nend", 0, bad(2, TextCode::OutOfOrder)),
+        (
+            b"certificate 1\nsplit 22\nprice 4 1",
+            1,
+            bad(3, TextCode::OutOfOrder),
+        ),
+        (
+            b"certificate 1\nsplit 22\nleaf\nprice 4 x",
+            1,
+            bad(4, TextCode::NoNumber),
+        ),
+        (
+            b"certificate 1\nsplit 22\nleaf\nleaf\nleaf",
+            2,
+            bad(5, TextCode::OutOfOrder),
+        ),
     ];
     for (bytes, twigs, last) in table {
         let asked = HandsOut {

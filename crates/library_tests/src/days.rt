@@ -4,7 +4,6 @@
 ghost use Rattle.std.specs.Prelude.{◌≡◌, None, IfOk};
 ghost use Rattle.lift_text.specs.LineReader.{failure};
 ghost use Rattle.day_simulator.specs.Planning.{IsRightPlan};
-ghost use Rattle.day_simulator.specs.Rows.{stated_of};
 
 use crate::makers::{OfLines, is_so_of};
 use byte_streams::{MemorySink, MemorySource};
@@ -13,20 +12,22 @@ use day_runner::{Ended, run_day_text};
 use day_simulator::Planned;
 use lift_text::LineReader;
 use plain_solver::cheapest_plan;
-use search_model::Served;
+use search_model::{Served, Stated};
 use std::alloc::{AllocError, Global};
 
 /// A right plan of the snapshot.
 fn planned(alloc: Global, snapshot: &Snapshot) -> Result<Planned, AllocError>
-    ensures { IfOk result (λ planned. IsRightPlan snapshot.now (stated_of planned)) }
+    ensures { IfOk result (λ planned. IsRightPlan snapshot.now planned.stated) }
 {
     let proof = Vec::from_slice(alloc, b"as proved\n")?;
     let cheapest = cheapest_plan(alloc, snapshot)?;
     let bound = cheapest.cost.saturating_sub(1);
     Ok(Planned {
-        plan: cheapest.plan,
-        cost: cheapest.cost,
-        bound,
+        stated: Stated {
+            plan: cheapest.plan,
+            cost: cheapest.cost,
+            bound,
+        },
         proof,
     })
 }
@@ -40,7 +41,7 @@ fn ended(
     requires { failure lines.old ≡ None }
 {
     let plan = |snapshot: &Snapshot|
-        ensures { IfOk result (λ planned. IsRightPlan snapshot.now (stated_of planned)) }
+        ensures { IfOk result (λ planned. IsRightPlan snapshot.now planned.stated) }
     { planned(alloc, snapshot) };
     run_day_text(alloc, &plan, lines, sink).ok()
 }

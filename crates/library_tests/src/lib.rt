@@ -19,6 +19,8 @@ mod makers;
 #[cfg(test)]
 mod sections;
 #[cfg(test)]
+mod sized;
+#[cfg(test)]
 mod snapshots;
 #[cfg(test)]
 mod tables;

@@ -2,11 +2,11 @@
 
 use crate::makers::{OfLines, is_so_of, words_behind};
 use byte_streams::{MemorySource, Source};
-use lift_text::{LineReader, TextFault};
+use lift_text::{LineReader, TextCode, TextFault};
 use std::alloc::Global;
 use std::marker::Model;
 use text_sections::{
-    LineFault, Section, TextCode, Turn, exactly, is_word, number, numbers, read_section,
+    AfterLine, LineFault, Section, exactly, is_word, number, numbers, read_section,
 };
 
 /// Lines `set N once` or `set N twice` with N from 1 to 9, at least one, and `end`.
@@ -28,7 +28,7 @@ impl Section for Sample {
 
     ghost after = { after };
 
-    fn take_line<S: Source>(&mut self, lines: &LineReader<S>) -> Result<Turn, LineFault> {
+    fn take_line<S: Source>(&mut self, lines: &LineReader<S>) -> Result<AfterLine, LineFault> {
         if is_word(lines, 0, b"end") {
             return Ok(take_end(self.state, lines)?);
         }
@@ -36,7 +36,7 @@ impl Section for Sample {
             return Err(LineFault::from(TextCode::NoLineWord));
         }
         self.state = set_to(lines)?;
-        Ok(Turn::More)
+        Ok(AfterLine::More)
     }
 }
 
@@ -44,14 +44,14 @@ ghost use Rattle.std.specs.Prelude.{◌≡◌, ◌<◌, IfOk, length, Ok};
 ghost use Rattle.lift_text.specs.LineReader.{words};
 ghost use Rattle.library_tests.specs.Sample.{end_of, set_of, times};
 
-fn take_end<S: Source>(state: u64, lines: &LineReader<S>) -> Result<Turn, TextCode>
+fn take_end<S: Source>(state: u64, lines: &LineReader<S>) -> Result<AfterLine, TextCode>
     ensures { result ≡ end_of state (words lines.now) }
 {
     if state == 0 {
         return Err(TextCode::OutOfOrder);
     }
     exactly(lines, 1)?;
-    Ok(Turn::Whole)
+    Ok(AfterLine::Whole)
 }
 
 fn set_to<S: Source>(lines: &LineReader<S>) -> Result<u64, TextCode>
@@ -112,16 +112,16 @@ fn sections_are_read_in_any_pieces(rt: HostRuntime) {
             Ok(14),
             3,
         ),
-        (b"set 7 once\n\nput 7", bad(3, 3), 0),
-        (b"set 7 often\nend", bad(1, 3), 1),
-        (b"\nend x", bad(2, 8), 0),
-        (b"set x\nend", bad(1, 4), 1),
-        (b"set 1 once\nend x\nend", bad(2, 5), 1),
-        (b"set x often", bad(1, 6), 0),
-        (b"set 10 often", bad(1, 7), 0),
-        (b"set 0 once", bad(1, 7), 0),
-        (b"set 1 once\n#\n", bad(3, 9), 0),
-        (b"set 1 once\n\x01\n", bad(2, 1), 0),
+        (b"set 7 once\n\nput 7", bad(3, TextCode::NoLineWord), 0),
+        (b"set 7 often\nend", bad(1, TextCode::NoLineWord), 1),
+        (b"\nend x", bad(2, TextCode::OutOfOrder), 0),
+        (b"set x\nend", bad(1, TextCode::Missing), 1),
+        (b"set 1 once\nend x\nend", bad(2, TextCode::TooMany), 1),
+        (b"set x often", bad(1, TextCode::NoNumber), 0),
+        (b"set 10 often", bad(1, TextCode::OutOfRange), 0),
+        (b"set 0 once", bad(1, TextCode::OutOfRange), 0),
+        (b"set 1 once\n#\n", bad(3, TextCode::CutShort), 0),
+        (b"set 1 once\n\x01\n", bad(2, TextCode::ForbiddenByte), 0),
     ];
     for (bytes, want, behind) in table {
         assert!(rt; is_read(rt.alloc(), bytes, &IsRead { want, behind }));
@@ -132,7 +132,7 @@ fn sections_are_read_in_any_pieces(rt: HostRuntime) {
 fn appends(lines: &LineReader<MemorySource>, out: &mut Vec<u64>) -> bool {
     numbers(lines, 1, 3, 7, out) == Ok(())
         && out.as_slice() == [2, 7, 5, 3].as_slice()
-        && numbers(lines, 1, 3, 6, out) == Err(LineFault::Bad(7))
+        && numbers(lines, 1, 3, 6, out) == Err(LineFault::Bad(TextCode::OutOfRange))
 }
 
 /// This is so of the next line.

@@ -4,11 +4,12 @@ ghost use Rattle.std.specs.Prelude.{◌≡◌, None};
 ghost use Rattle.lift_text.specs.LineReader.{failure};
 
 use crate::makers::source_of;
+use crate::sized::have_sized_worths;
 use answer_text::read_answer;
 use byte_streams::{MemorySource, OpenGate};
 use call_state::Snapshot;
 use case_text::read_case;
-use cert_checker::{check, have_sized_worths};
+use cert_checker::check;
 use cert_text::read_cert;
 use lift_text::LineReader;
 use search_model::{Reason, Stated, Twig, Verdict};
@@ -165,13 +166,8 @@ fn answer_is_checked(
     snapshot: &Snapshot,
     wanted: Wanted,
 ) -> bool {
-    let Ok(answer) = read_answer(alloc, lines, snapshot) else {
+    let Ok(stated) = read_answer(alloc, lines, snapshot) else {
         return false;
-    };
-    let stated = Stated {
-        plan: answer.plan,
-        cost: answer.cost,
-        bound: answer.bound,
     };
     tree_is_checked(rt, alloc, lines, snapshot, &stated, wanted)
 }

@@ -4,10 +4,10 @@ ghost use Rattle.std.specs.Prelude.{◌≤◌};
 
 use crate::kinds::{KINDS, Kind, drawn_snapshot};
 use call_state::Snapshot;
-use case_kit::Draws;
 use case_maker::make;
 use first_plan::first;
 use plain_solver::cheapest_plan;
+use search_model::Draws;
 use std::alloc::{AllocError, Global};
 use std::io;
 use tour_cost::plan_cost;
@@ -137,7 +137,7 @@ fn compare_first(alloc: Global, kind: &Kind, draws: &mut Draws, score: &mut Scor
 
 /// Compares the plans of this many snapshots of this kind. Each is compared or skipped.
 fn score_of(alloc: Global, kind: &Kind, seed: u64, count: u32) -> Score {
-    let mut draws = Draws::from_state(seed);
+    let mut draws = Draws::from_number(seed);
     let mut score = Score::default();
     for _ in 0..count {
         compare_first(alloc, kind, &mut draws, &mut score);

@@ -2,7 +2,8 @@
 //! weights 1 and 1, cars that need 1000 ms for their doors each way and 500 ms a person, and three calls.
 
 use call_state::{Aboard, Call, CarState, Snapshot};
-use case_kit::{Draws, put_call, put_group, put_state, snapshot_in};
+use case_kit::{put_call, put_group, put_state, snapshot_in};
+use search_model::Draws;
 use std::alloc::{AllocError, Global};
 
 /// What the snapshots of a kind have in common.
@@ -150,13 +151,13 @@ const NOW: u64 = 10_000;
 
 /// A floor other than this one.
 fn other_floor(draws: &mut Draws, floor: u32) -> u32 {
-    (floor % FLOORS + 1 + draws.below(FLOORS - 1)) % FLOORS
+    (floor % FLOORS + 1 + draws.pick(FLOORS - 1)) % FLOORS
 }
 
 fn idle_at(draws: &mut Draws, floor: u32) -> CarState {
     CarState::Idle {
         floor,
-        free: NOW + draws.time(3_000),
+        free: NOW + u64::from(draws.pick(3_000)),
     }
 }
 
@@ -164,17 +165,17 @@ fn put_second(text: &mut Vec<u8>, second: Second, draws: &mut Draws) -> Result<(
     let state = match second {
         Second::Missing => return Ok(()),
         Second::Idle => {
-            let floor = draws.below(FLOORS);
+            let floor = draws.pick(FLOORS);
             idle_at(draws, floor)
         }
         Second::Coming => CarState::Coming {
-            floor: draws.below(FLOORS),
-            arrives: NOW + draws.time(5_000),
+            floor: draws.pick(FLOORS),
+            arrives: NOW + u64::from(draws.pick(5_000)),
         },
         Second::Moving => CarState::Moving {
-            from: draws.below(FLOORS),
-            up: draws.below(2) == 1,
-            left: NOW - draws.time(5_000),
+            from: draws.pick(FLOORS),
+            up: draws.pick(2) == 1,
+            left: NOW - u64::from(draws.pick(5_000)),
         },
     };
     put_state(text, 2, state)
@@ -183,13 +184,13 @@ fn put_second(text: &mut Vec<u8>, second: Second, draws: &mut Draws) -> Result<(
 /// One or two groups aboard the first car, which stands at this floor. They may want to go to two sides of
 /// it: then the snapshot is refused.
 fn put_groups(text: &mut Vec<u8>, draws: &mut Draws, floor: u32) -> Result<(), AllocError> {
-    for group in 0..1 + draws.below(2) {
+    for group in 0..1 + draws.pick(2) {
         let group = Aboard {
             id: 11 + group,
             car: 1,
             destination: other_floor(draws, floor),
-            persons: 1 + draws.below(3),
-            boarded: NOW - draws.time(10_001),
+            persons: 1 + draws.pick(3),
+            boarded: NOW - u64::from(draws.pick(10_001)),
         };
         put_group(text, &group)?;
     }
@@ -199,17 +200,17 @@ fn put_groups(text: &mut Vec<u8>, draws: &mut Draws, floor: u32) -> Result<(), A
 fn put_calls(text: &mut Vec<u8>, kind: &Kind, draws: &mut Draws) -> Result<(), AllocError> {
     for id in 1..=3 {
         let pin = if kind.has_pin && id == 1 {
-            Some(1 + draws.below(2))
+            Some(1 + draws.pick(2))
         } else {
             None
         };
-        let origin = draws.below(FLOORS);
+        let origin = draws.pick(FLOORS);
         let call = Call {
             id,
             origin,
             destination: other_floor(draws, origin),
-            persons: 1 + draws.below(kind.most_persons.max(1)),
-            released: NOW - draws.time(10_001),
+            persons: 1 + draws.pick(kind.most_persons.max(1)),
+            released: NOW - u64::from(draws.pick(10_001)),
             pin,
         };
         put_call(text, &call)?;
@@ -219,7 +220,7 @@ fn put_calls(text: &mut Vec<u8>, kind: &Kind, draws: &mut Draws) -> Result<(), A
 
 /// Appends the text of a case of this kind. False where memory is wanting.
 fn put_case(text: &mut Vec<u8>, kind: &Kind, draws: &mut Draws) -> bool {
-    let floor = draws.below(FLOORS);
+    let floor = draws.pick(FLOORS);
     text.extend_from_slice(kind.head.as_bytes()).is_ok()
         && put_state(text, 1, idle_at(draws, floor)).is_ok()
         && put_second(text, kind.second, draws).is_ok()

@@ -24,7 +24,7 @@ use Rattle.node_search.proofs.SearchEnd.{least-cost}
 use Rattle.lift_text.specs.Text.{line, word, words}
 use Rattle.text_sections.specs.Canonical.{IsWordByte}
 use Rattle.text_sections.proofs.CanonicalLemmas.{decimal_word}
-use Rattle.answer_text.specs.declared.answers.Stated.{Stated}
+use Rattle.search_model.specs.declared.Stated.{Stated}
 use Rattle.answer_text.specs.Plans.{plan_by_index, stated_by_index, stop_by_index}
 use Rattle.answer_text.specs.Texts.{answer_text}
 use Rattle.answer_text.proofs.FitsLemmas.{feasible_fits}

@@ -12,7 +12,7 @@ use Rattle.search_model.specs.declared.StopReason.TheVariants.{Solved, Rounds, M
 use Rattle.search_model.specs.Solving.{IsSolveAnswer, IsReason}
 use Rattle.search_model.proofs.TreeLemmas.{proves-bound}
 use Rattle.call_state.proofs.PossibleLemmas.{most_cars-le}
-use Rattle.answer_text.specs.declared.answers.Stated.{Stated}
+use Rattle.search_model.specs.declared.Stated.{Stated}
 use Rattle.answer_text.specs.Texts.{answer_text}
 use Rattle.lift_words.specs.declared.request.SolveOptions.{SolveOptions}
 use Rattle.lift_commands.specs.declared.status.Status.{Status}

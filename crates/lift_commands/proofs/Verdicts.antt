@@ -11,7 +11,7 @@ use Rattle.cert_text.proofs.TreeLemmas.{filled}
 use Rattle.search_model.specs.Verdicts.{verdict_of}
 use Rattle.lift_text.specs.Reading.{reading, whole_text}
 use Rattle.lift_text.specs.declared.faults.TextFault.{TextFault}
-use Rattle.answer_text.specs.declared.answers.Stated.{Stated}
+use Rattle.search_model.specs.declared.Stated.{Stated}
 use Rattle.cert_checker.proofs.VerdictLaws.{verdict_holds, sufficient_holds, yes_holds}
 use Rattle.check_text.specs.declared.checked.Checked.{Checked}
 use Rattle.check_text.specs.CheckTexts.{IsCheckAlone, IsChecked, IsCheckOf, IsCheckText, IsAnsweredCheck, TakesChecks}

@@ -14,7 +14,7 @@ use Rattle.cert_text.specs.Texts.{cert_text}
 use Rattle.check_text.specs.CheckTexts.{IsCheckText, IsCheckFault}
 use Rattle.check_text.specs.VerdictTexts.{verdict_text}
 use Rattle.cert_checker.specs.Laws.{HasEnough}
-use Rattle.answer_text.specs.declared.answers.Stated.{Stated}
+use Rattle.search_model.specs.declared.Stated.{Stated}
 use Rattle.answer_text.specs.Texts.{answer_text, solved_line}
 use Rattle.search_model.specs.declared.Verdict.{Verdict}
 use Rattle.search_model.specs.declared.Verdict.TheVariants.{Yes, No}
@@ -34,6 +34,7 @@ use Rattle.lift_words.specs.declared.request.CheckOptions.{CheckOptions}
 use Rattle.lift_words.specs.declared.request.CaseSizes.{CaseSizes}
 use Rattle.lift_words.specs.declared.request.RunOptions.{RunOptions}
 use Rattle.byte_streams.specs.Streams.{Rose}
+use Rattle.lift_commands.specs.Codes.{number_of}
 use Rattle.lift_commands.specs.declared.status.Status.{Status}
 use Rattle.lift_commands.specs.declared.status.Status.TheVariants.{Done, Words, Stopped, Refused, Input, Read, Write, Memory}
 
@@ -94,7 +95,7 @@ Puts text status result old new before after =
 
 -- the line that tells the first bad line and its code, or that the input is too long
 abbrev pub IsRefusalLine : TextFault → List ℕ → Type 0
-IsRefusalLine (Bad number code) text = text ≡ words (codes "refused line") (number ∷ []) ++ line (codes " code") (code ∷ [])
+IsRefusalLine (Bad number code) text = text ≡ words (codes "refused line") (number ∷ []) ++ line (codes " code") (number_of code ∷ [])
 IsRefusalLine TooLong text = text ≡ codes "refused long" ++ 10 ∷ []
 IsRefusalLine FailedRead text = ⊥
 IsRefusalLine NoMemory text = ⊥

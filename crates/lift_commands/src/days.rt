@@ -6,7 +6,6 @@ ghost use Rattle.lift_text.specs.Reading.{whole_text};
 ghost use Rattle.search_model.specs.Reports.{report_of as report_of_lem};
 ghost use Rattle.service_report.specs.ReportTexts.{report_text as report_text_lem};
 ghost use Rattle.day_runner.specs.Inputs.{DayAnswered, EndsUnlessFailed, IsDayText, IsUnread, IsUnwritten};
-ghost use Rattle.day_simulator.specs.Rows.{stated_of};
 ghost use Rattle.lift_words.specs.Taken.{AreDayOptions};
 ghost use Rattle.lift_commands.specs.Outcome.{Ends, streams};
 ghost use Rattle.lift_commands.specs.DayOutcome.{IsSolvedRow, PutsRowsFault, ReportsDay, RunsDay, status_of_unsolved as status_of_unsolved_lem};
@@ -60,7 +59,7 @@ fn run_input<S: Source, K: Sink, G: Gate + Sync>(
 {
     let plan = |snapshot: &Snapshot|
         requires { AreDayOptions options }
-        ensures { IfOk result (λ planned. IsSolvedRow options snapshot.now (stated_of planned) planned.proof.items) }
+        ensures { IfOk result (λ planned. IsSolvedRow options snapshot.now planned.stated planned.proof.items) }
     { plan_within(rt, alloc, options, snapshot, gate) };
     let mut lines = match LineReader::new(alloc, source) {
         Ok(lines) => lines,

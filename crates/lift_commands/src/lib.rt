@@ -85,6 +85,7 @@
 #![tactic(auto)]
 
 mod checking;
+mod codes;
 mod days;
 mod making;
 mod planning;

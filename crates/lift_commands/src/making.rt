@@ -88,7 +88,7 @@ fn solved_case<G: Gate + Sync>(
         most_tours: options.moves,
     };
     let found = solve(rt, alloc, &snapshot, limits, 1, gate)?;
-    let text = run_lines(alloc, sizes, found.cost, found.bound)?;
+    let text = run_lines(alloc, sizes, found.stated.cost, found.stated.bound)?;
     Ok(Answer {
         status: status_of(found.why),
         text,

@@ -1,7 +1,6 @@
 //! By what a day is planned.
 
 ghost use Rattle.std.specs.Prelude.{IfOk};
-ghost use Rattle.day_simulator.specs.Rows.{stated_of};
 ghost use Rattle.lift_words.specs.Taken.{AreDayOptions};
 ghost use Rattle.lift_commands.specs.DayOutcome.{IsSolvedRow};
 
@@ -23,9 +22,9 @@ pub(crate) fn plan_within<G: Gate + Sync>(
     gate: &G,
 ) -> Result<Planned, AllocError>
     requires { AreDayOptions options }
-    ensures { IfOk result (λ planned. IsSolvedRow options snapshot.now (stated_of planned) planned.proof.items) }
+    ensures { IfOk result (λ planned. IsSolvedRow options snapshot.now planned.stated planned.proof.items) }
 {
-    // A reader tells that the snapshot keeps the rules.
+    // For the proof: a reader tells that the snapshot keeps the rules.
     let _moment = snapshot.now();
     let limits = Limits {
         rounds: options.rounds,
@@ -33,9 +32,7 @@ pub(crate) fn plan_within<G: Gate + Sync>(
     };
     let found = solve(rt, alloc, snapshot, limits, options.workers, gate)?;
     Ok(Planned {
-        plan: found.plan,
-        cost: found.cost,
-        bound: found.bound,
+        stated: found.stated,
         proof: Vec::new(alloc),
     })
 }

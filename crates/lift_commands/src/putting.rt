@@ -1,11 +1,13 @@
 //! Writing what is due.
 ghost use Rattle.std.specs.Prelude.{◌≡◌, ◌∷◌, [], ◌++◌, ◌≤◌, IfOk, codes};
 ghost use Rattle.lift_text.specs.Text.{words, line as line_of};
+ghost use Rattle.lift_commands.specs.Codes.{number_of};
 ghost use Rattle.lift_commands.specs.Outcome.{Puts, PutsFault};
 
+use crate::codes::number_of;
 use crate::status::Status;
 use byte_streams::{Sink, put_all};
-use lift_text::{TextFault, put_line, put_words};
+use lift_text::{TextCode, TextFault, put_line, put_words};
 use std::alloc::{AllocError, Global};
 
 /// What is written where the input is longer than any that is read.
@@ -31,13 +33,13 @@ pub(crate) fn put<K: Sink>(sink: &mut K, text: &[u8], status: Status) -> Status
 }
 
 /// What is written where a line of the input is bad.
-fn refusal_line(alloc: Global, line: u64, code: u8) -> Result<Vec<u8>, AllocError>
+fn refusal_line(alloc: Global, line: u64, code: TextCode) -> Result<Vec<u8>, AllocError>
     ensures { IfOk result (λ text. text.items
-        ≡ words (codes "refused line") (line ∷ []) ++ line_of (codes " code") (code ∷ [])) }
+        ≡ words (codes "refused line") (line ∷ []) ++ line_of (codes " code") (number_of code ∷ [])) }
 {
     let mut text = Vec::new(alloc);
     put_words(&mut text, b"refused line", &[line])?;
-    put_line(&mut text, b" code", &[u64::from(code)])?;
+    put_line(&mut text, b" code", &[u64::from(number_of(code))])?;
     Ok(text)
 }
 

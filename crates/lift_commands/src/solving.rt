@@ -12,11 +12,12 @@ ghost use Rattle.lift_commands.specs.Outcome.{AnswersCases, CanBeChecked, Ends, 
 
 use crate::putting::{Answer, put, put_fault};
 use crate::status::{Status, status_of};
-use answer_text::{Stated, write_answer};
+use answer_text::write_answer;
 use byte_streams::{Gate, Sink, Source};
 use call_state::Snapshot;
 use case_text::read_lone_case;
 use cert_text::write_cert;
+use elevator_model::MOST_CALLS;
 use lift_text::{LineReader, TextFault, put_line};
 use lift_words::SolveOptions;
 use search_model::{StopReason, Twig};
@@ -94,20 +95,15 @@ fn solution_of<G: Gate + Sync>(
     ensures checks { (input : List ℕ) → IsCaseText input snapshot.now → CanBeChecked options input
         → IfOk result (λ answer. IsSaidYes (input ++ answer.text.items) snapshot.now) }
 {
-    prove!(snapshot.calls().len() <= 128);
+    prove!(snapshot.calls().len() <= MOST_CALLS);
     let limits = Limits {
         rounds: options.rounds,
         most_tours: options.moves,
     };
     let found = solve_within(rt, alloc, snapshot, limits, options.workers, gate)?;
     let status = status_of(found.why);
-    let stated = Stated {
-        plan: found.plan,
-        cost: found.cost,
-        bound: found.bound,
-    };
     let mut text = Vec::new(alloc);
-    write_answer(snapshot, &stated, &mut text)?;
+    write_answer(snapshot, &found.stated, &mut text)?;
     put_certificate(options, snapshot, found.tree.twigs.as_slice(), &mut text)?;
     put_closing(snapshot, found.why, &mut text)?;
     Ok(Answer { status, text })

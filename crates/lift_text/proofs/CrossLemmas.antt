@@ -8,7 +8,7 @@ use Rattle.std.proofs.lemmas.List.Elements.{All-nil, All-push}
 use Rattle.std.proofs.lemmas.List.Folds.{concat-append}
 use Rattle.lift_text.specs.Lines.{pieces_of, AreLines}
 use Rattle.byte_streams.specs.Streams.{Took}
-use Rattle.lift_text.specs.Found.{IsWholeLine}
+use Rattle.lift_text.specs.Front.{IsWholeLine}
 use Rattle.lift_text.specs.Reading.{TextState, Passed, NextLine, BadLineShows, EndShows, HasWholeAnswer, IsPassedOver, StoppedBehind, past_quota}
 use Rattle.lift_text.specs.Page.{PageState, PageTook, StepEnds, Crossed, Continues, ReadLine}
 use Rattle.lift_text.specs.declared.page.Step.{Step}

@@ -9,11 +9,11 @@ use Rattle.std.proofs.lemmas.List.Sums.{fails_before_first, passes_at_first}
 use Rattle.std.proofs.lemmas.Bool.{cases_lt, false≢true, eqb-true}
 use Rattle.lift_text.specs.Lines.{pieces_of, AreLines, HasWholeLine}
 use Rattle.byte_streams.specs.Streams.{Took}
-use Rattle.lift_text.specs.Found.{Gathered, FoundShows, IsWholeLine, NoLineFeed}
+use Rattle.lift_text.specs.Front.{Gathered, FoundShows, IsWholeLine, NoLineFeed}
 use Rattle.lift_text.specs.Reading.{EndShows, HasWholeAnswer}
 use Rattle.lift_text.specs.Page.{PageState, LineEnds}
-use Rattle.lift_text.specs.declared.window.Found.{Found}
-use Rattle.lift_text.specs.declared.window.Found.TheVariants.{Line, Long, Cut, End}
+use Rattle.lift_text.specs.declared.window.Front.{Front}
+use Rattle.lift_text.specs.declared.window.Front.TheVariants.{Line, Long, Cut, End}
 use Rattle.lift_text.proofs.PieceLemmas.{pieces_of-append, pieces_of-last, ends_with_byte-push, ends_with_byte-none}
 
 -- what was taken, where the page says the same of the bytes in other words
@@ -24,7 +24,7 @@ gathered_same past quota quota' size held held' taken left left' number bytes is
   kept = λ none. ap (λ l. l ++ taken) helds ∙ is.kept none ∙ sym (take-append-drop size held');
 }
 
-pub line_ends_other : (found : Found) (page : PageState) (left : Option (List ℕ)) → ((line size : ℕ) → found ≢ Line line size) → FoundShows found page.unread left → LineEnds found page left
+pub line_ends_other : (found : Front) (page : PageState) (left : Option (List ℕ)) → ((line size : ℕ) → found ≢ Line line size) → FoundShows found page.unread left → LineEnds found page left
 line_ends_other (Line line size) page left other shows = absurd (other line size refl)
 line_ends_other Long page left other shows = shows
 line_ends_other Cut page left other shows = tt

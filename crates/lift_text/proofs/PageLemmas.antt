@@ -4,13 +4,13 @@ use Rattle.std.specs.Prelude.{option_map}
 use Rattle.std.specs.Io.KnownBytes.{prepend_known, IsAtEnd}
 use Rattle.std.proofs.lemmas.List.{take-append-le, drop-append-le, take-take, length-take-le}
 use Rattle.lift_text.specs.Lines.{pieces_of, line_of}
-use Rattle.lift_text.specs.Found.{BeginsWithLine, NoLineFeed, FoundIn, FoundWhole}
+use Rattle.lift_text.specs.Front.{BeginsWithLine, NoLineFeed, FoundIn, FoundWhole}
 use Rattle.lift_text.specs.Reading.{TextState}
 use Rattle.lift_text.specs.Page.{PageState, IsLine, Advanced, FirstPiece, Forward, CurrentOne}
 use Rattle.lift_text.specs.Words.{parts_of}
 use Rattle.lift_text.specs.declared.words.Span.{Span}
-use Rattle.lift_text.specs.declared.window.Found.{Found}
-use Rattle.lift_text.specs.declared.window.Found.TheVariants.{Line, Long, Cut, End}
+use Rattle.lift_text.specs.declared.window.Front.{Front}
+use Rattle.lift_text.specs.declared.window.Front.TheVariants.{Line, Long, Cut, End}
 use Rattle.lift_text.proofs.PieceLemmas.{pieces_of-last, pieces_of-front, length-line_of, line_of-last}
 
 -- the state of a text of which this is known
@@ -93,7 +93,7 @@ advanced_end number limit limit' known (Some rest) unread quota found same curre
 )
 
 -- where no line was found
-pub advanced_other : (found : Found) (number quota quota' : ℕ) (start unread : List ℕ) (left left' : Option (List ℕ)) → ((line size : ℕ) → found ≢ Line line size)
+pub advanced_other : (found : Front) (number quota quota' : ℕ) (start unread : List ℕ) (left left' : Option (List ℕ)) → ((line size : ℕ) → found ≢ Line line size)
     → FoundIn found (prepend_known start left) unread left' quota' → quota' + length unread ≡ quota + length start
     → (current : List ℕ) → Advanced found (state number (quota + length start) (prepend_known start left)) current (state number (quota' + length unread) (prepend_known unread left'))
 advanced_other (Line line size) number quota quota' start unread left left' other found used current = absurd (other line size refl)
@@ -112,33 +112,33 @@ no_parts bytes [] none = refl
 no_parts bytes (span ∷ spans) none = cc
 
 -- the state before, where nothing of the window is left behind
-pub nothing_behind : (found : Found) (number quota size : ℕ) (unread : List ℕ) (left : Option (List ℕ)) (current : List ℕ) (after : Option TextState) → size ≡ 0
+pub nothing_behind : (found : Front) (number quota size : ℕ) (unread : List ℕ) (left : Option (List ℕ)) (current : List ℕ) (after : Option TextState) → size ≡ 0
     → Advanced found (state number (quota + length unread) (prepend_known unread left)) current after
     → Advanced found (state number (quota + length (drop size unread)) (prepend_known (drop size unread) left)) current after
 nothing_behind found number quota size unread left current after zero known =
     subst (λ n. Advanced found (state number (quota + length (drop n unread)) (prepend_known (drop n unread) left)) current after) (sym zero) known
 
-pub forward_other : (found : Found) (old new : PageState) (known left : Option (List ℕ)) (quota : ℕ) → ((line size : ℕ) → found ≢ Line line size) → new.line ≡ old.line → new.current ≡ []
+pub forward_other : (found : Front) (old new : PageState) (known left : Option (List ℕ)) (quota : ℕ) → ((line size : ℕ) → found ≢ Line line size) → new.line ≡ old.line → new.current ≡ []
     → FoundIn found known new.unread left quota → Forward found old new
 forward_other (Line line size) old new known left quota other same current found = absurd (other line size refl)
 forward_other Long old new known left quota other same current found = (same, current, found.1)
 forward_other Cut old new known left quota other same current found = same
 forward_other End old new known left quota other same current found = same
 
-pub at_end : (found : Found) (known left : Option (List ℕ)) (unread : List ℕ) (quota : ℕ) → FoundIn found known unread left quota → found ≡ End → IsAtEnd left
+pub at_end : (found : Front) (known left : Option (List ℕ)) (unread : List ℕ) (quota : ℕ) → FoundIn found known unread left quota → found ≡ End → IsAtEnd left
 at_end (Line line size) known left unread quota found is = absurd cc
 at_end Long known left unread quota found is = absurd cc
 at_end Cut known left unread quota found is = absurd cc
 at_end End known left unread quota found is = found.2
 
 -- no line was found, so none that is whole
-pub no_other_whole : (found : Found) (unread : List ℕ) → ((line size : ℕ) → found ≢ Line line size) → FoundWhole (Ok found) unread → ⊥
+pub no_other_whole : (found : Front) (unread : List ℕ) → ((line size : ℕ) → found ≢ Line line size) → FoundWhole (Ok found) unread → ⊥
 no_other_whole (Line line size) unread other whole = other line size refl
 no_other_whole Long unread other whole = whole
 no_other_whole Cut unread other whole = whole
 no_other_whole End unread other whole = whole
 
-pub current_one_other : (found : Found) (current : List ℕ) → ((line size : ℕ) → found ≢ Line line size) → CurrentOne found current
+pub current_one_other : (found : Front) (current : List ℕ) → ((line size : ℕ) → found ≢ Line line size) → CurrentOne found current
 current_one_other (Line line size) current other = absurd (other line size refl)
 current_one_other Long current other = tt
 current_one_other Cut current other = tt

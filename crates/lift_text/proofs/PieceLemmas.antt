@@ -11,9 +11,9 @@ use Rattle.std.proofs.lemmas.List.Sums.{fails_before_first, passes_at_first}
 use Rattle.std.proofs.lemmas.Bool.{cases_lt, false≢true, eqb-true}
 use Rattle.std.proofs.Math.Seq.{take-append-add, drop-append-add, take-length, drop-length}
 use Rattle.lift_text.specs.Lines.{pieces_of, line_of, HasWholeLine}
-use Rattle.lift_text.specs.Found.{BeginsWithLine, NoLineFeed, FoundIn, FoundOne, IsOneLine, IsWholeLine}
-use Rattle.lift_text.specs.declared.window.Found.{Found}
-use Rattle.lift_text.specs.declared.window.Found.TheVariants.{Line, End}
+use Rattle.lift_text.specs.Front.{BeginsWithLine, NoLineFeed, FoundIn, FoundOne, IsOneLine, IsWholeLine}
+use Rattle.lift_text.specs.declared.window.Front.{Front}
+use Rattle.lift_text.specs.declared.window.Front.TheVariants.{Line, End}
 
 not_equal : (a b : ℕ) → a ≢ b → eqb a b ≡ false
 not_equal a b differ = grind (arith, nat_tests)
@@ -97,7 +97,7 @@ one_line_last (x ∷ bytes) none some =
     let all = x ∷ bytes in
     subst (λ piece. IsOneLine piece (length all)) (sym (take-length all)) (record { pieces = pieces_of-last x bytes none; content = line_of-last all none ∙ sym (take-length all) })
 
-pub found_one_last : (found : Found) (unread : List ℕ) (size : ℕ) → (size ≡ 0 → found ≡ End) → (0 < size → found ≡ Line size size) → size ≡ length unread → NoLineFeed unread
+pub found_one_last : (found : Front) (unread : List ℕ) (size : ℕ) → (size ≡ 0 → found ≡ End) → (0 < size → found ≡ Line size size) → size ≡ length unread → NoLineFeed unread
     → FoundOne found unread
 found_one_last found unread size is_end is_line whole none = elim (cases_lt 0 size) [
   | inl some ↦ subst (λ f. FoundOne f unread) (sym (is_line some)) (subst (λ n. FoundOne (Line n n) unread) (sym whole) (one_line_last unread none (omega arith)))
@@ -187,7 +187,7 @@ begins_in_window unread rest place line inside none here stripped within =
     (subst (λ n. BeginsWithLine (front ++ 10 ∷ tail) line (n + 1)) size (begins_at front tail line none_in_front (omega arith) stripped))
 
 -- the end of the input: nothing, or a last line
-pub found_last : (found : Found) (before left : Option (List ℕ)) (unread : List ℕ) (size quota : ℕ) → (size ≡ 0 → found ≡ End) → (0 < size → found ≡ Line size size)
+pub found_last : (found : Front) (before left : Option (List ℕ)) (unread : List ℕ) (size quota : ℕ) → (size ≡ 0 → found ≡ End) → (0 < size → found ≡ Line size size)
     → size ≡ length unread → before ≡ prepend_known unread left → IsAtEnd left → NoLineFeed unread → FoundIn found before unread left quota
 found_last found before left unread size quota is_end is_line whole known end none = elim (cases_lt 0 size) [ inl some ↦ with_line some | inr nothing ↦ without nothing ]
   where

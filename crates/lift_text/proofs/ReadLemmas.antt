@@ -14,9 +14,10 @@ use Rattle.lift_text.specs.declared.page.Step.{Step}
 use Rattle.lift_text.specs.declared.page.Step.TheVariants.{WithWords, Blank, AtEnd}
 use Rattle.lift_text.specs.declared.faults.TextFault.{TextFault}
 use Rattle.lift_text.specs.declared.faults.TextFault.TheVariants.{Read, TooLong, Bad, NoMemory}
-use Rattle.lift_text.specs.declared.window.Found.TheVariants.{Line}
+use Rattle.lift_text.specs.declared.window.Front.TheVariants.{Line}
 use Rattle.lift_text.proofs.PageLemmas.{state}
-use Rattle.lift_text.specs.declared.judge.Flaw.TheVariants.{OverLong, ForbiddenByte}
+use Rattle.lift_text.specs.declared.judge.Flaw.TheVariants.{OverLong as IsOverLong, ForbiddenByte as HasForbiddenByte}
+use Rattle.lift_text.specs.declared.codes.TextCode.TheVariants.{ForbiddenByte, OverLong}
 
 not_below : (m n : ℕ) → n ≤ m → nat_lt m n ≡ false
 not_below m n le = grind (arith, nat_tests)
@@ -26,14 +27,14 @@ below m n lt = grind (arith, nat_tests)
 
 -- a line that is not over long
 judged_short : (line : ℕ) (text : List ℕ) (after : Reading) → length text ≤ 4096
-    → judged line text after ≡ cond (is_clean text) (cond (nat_lt 0 (length (words_of text))) (line_with line (words_of text) after) after) (bad_line line 1)
-judged_short line text after short = ap (λ b. cond b (bad_line line 2) (cond (is_clean text) (cond (nat_lt 0 (length (words_of text))) (line_with line (words_of text) after) after) (bad_line line 1))) (not_below 4096 (length text) short)
+    → judged line text after ≡ cond (is_clean text) (cond (nat_lt 0 (length (words_of text))) (line_with line (words_of text) after) after) (bad_line line ForbiddenByte)
+judged_short line text after short = ap (λ b. cond b (bad_line line OverLong) (cond (is_clean text) (cond (nat_lt 0 (length (words_of text))) (line_with line (words_of text) after) after) (bad_line line ForbiddenByte))) (not_below 4096 (length text) short)
 
 judged_clean : (line : ℕ) (text : List ℕ) (after : Reading) (some : Bool) → length text ≤ 4096 → is_clean text ≡ true → some ≡ nat_lt 0 (length (words_of text))
     → judged line text after ≡ cond some (line_with line (words_of text) after) after
 judged_clean line text after some short clean words =
     judged_short line text after short
-    ∙ ap (λ b. cond b (cond (nat_lt 0 (length (words_of text))) (line_with line (words_of text) after) after) (bad_line line 1)) clean
+    ∙ ap (λ b. cond b (cond (nat_lt 0 (length (words_of text))) (line_with line (words_of text) after) after) (bad_line line ForbiddenByte)) clean
     ∙ ap (λ b. cond b (line_with line (words_of text) after) after) (sym words)
 
 pub judged_words : (line : ℕ) (text : List ℕ) (words : List (List ℕ)) → Judged text (Ok true) words → (after : Reading) → judged line text after ≡ line_with line words after
@@ -48,20 +49,20 @@ judged_blank line text words h =
     let none = no_words (words_of text) h.3 in
     ((λ after. judged_clean line text after false h.0 h.1 h.3), h.2 ∙ none, record { short = h.0; clean = h.1; wordless = none })
 
-pub judged_long : (line : ℕ) (text : List ℕ) → 4096 < length text → (after : Reading) → judged line text after ≡ bad_line line 2
-judged_long line text long after = ap (λ b. cond b (bad_line line 2) (cond (is_clean text) (cond (nat_lt 0 (length (words_of text))) (line_with line (words_of text) after) after) (bad_line line 1))) (below 4096 (length text) long)
+pub judged_long : (line : ℕ) (text : List ℕ) → 4096 < length text → (after : Reading) → judged line text after ≡ bad_line line OverLong
+judged_long line text long after = ap (λ b. cond b (bad_line line OverLong) (cond (is_clean text) (cond (nat_lt 0 (length (words_of text))) (line_with line (words_of text) after) after) (bad_line line ForbiddenByte))) (below 4096 (length text) long)
 
-pub judged_forbidden : (line : ℕ) (text : List ℕ) → length text ≤ 4096 → is_clean text ≡ false → (after : Reading) → judged line text after ≡ bad_line line 1
+pub judged_forbidden : (line : ℕ) (text : List ℕ) → length text ≤ 4096 → is_clean text ≡ false → (after : Reading) → judged line text after ≡ bad_line line ForbiddenByte
 judged_forbidden line text short dirty after =
-    judged_short line text after short ∙ ap (λ b. cond b (cond (nat_lt 0 (length (words_of text))) (line_with line (words_of text) after) after) (bad_line line 1)) dirty
+    judged_short line text after short ∙ ap (λ b. cond b (cond (nat_lt 0 (length (words_of text))) (line_with line (words_of text) after) after) (bad_line line ForbiddenByte)) dirty
 
 -- what a judgement of the current line says
 pub judged_as : (line : ℕ) (text : List ℕ) (judgement : Result Bool Flaw) (words : List (List ℕ)) → Judged text judgement words → OnErr judgement (words ≡ [])
     → JudgedAs line text (step_of line judgement) words
 judged_as line text (Ok true) words h none = judged_words line text words h
 judged_as line text (Ok false) words h none = judged_blank line text words h
-judged_as line text (Err OverLong) words h none = (judged_long line text h, none)
-judged_as line text (Err ForbiddenByte) words h none = (judged_forbidden line text h.0 h.1, none)
+judged_as line text (Err IsOverLong) words h none = (judged_long line text h, none)
+judged_as line text (Err HasForbiddenByte) words h none = (judged_forbidden line text h.0 h.1, none)
 
 pub on_err_more : {A B : Type 0} (r : Result A B) (P Q : Type 0) → OnErr r P → (P → Q) → OnErr r Q
 on_err_more (Ok value) P Q h more = tt

@@ -6,7 +6,7 @@ use Rattle.std.specs.Io.KnownBytes.{prepend_known, IsAtEnd}
 use Rattle.std.proofs.lemmas.List.{take-append-drop, length-take-le, get_or-take, get_or-append_right, get_or_append_left}
 use Rattle.std.proofs.lemmas.Bool.{cases_lt}
 use Rattle.lift_text.specs.Lines.{pieces_of}
-use Rattle.lift_text.specs.Found.{NoLineFeed, NoLineFeedBelow, SkippedIn}
+use Rattle.lift_text.specs.Front.{NoLineFeed, NoLineFeedBelow, SkippedIn}
 use Rattle.lift_text.specs.Reading.{TextState}
 use Rattle.lift_text.specs.Page.{SkippedLine}
 use Rattle.lift_text.specs.declared.faults.TextFault.TheVariants.{TooLong}

@@ -2,7 +2,7 @@
 use Rattle.std.proofs.Common.{◌≡◌, ℕ, ◌+◌, List, [], ◌∷◌, ◌++◌, Option, length, arith, ap, length-append}
 use Rattle.std.specs.Io.KnownBytes.{prepend_known}
 use Rattle.byte_streams.specs.Streams.{Took}
-use Rattle.lift_text.specs.Found.{Gathered}
+use Rattle.lift_text.specs.Front.{Gathered}
 use Rattle.byte_streams.proofs.KnownBytes.{given_more, prepend_known-nil}
 
 pub took_nothing : (quota : ℕ) (left : Option (List ℕ)) → Took 0 quota quota [] left left

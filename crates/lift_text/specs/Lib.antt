@@ -3,7 +3,7 @@ pub mod Numbers
 pub mod Lines
 pub mod Words
 pub mod Window
-pub mod Found
+pub mod Front
 pub mod Reading
 pub mod Page
 pub mod Judge

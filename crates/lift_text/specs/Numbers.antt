@@ -3,8 +3,8 @@ use Rattle.std.specs.Prelude.{ℕ, Bool, ◌&&◌, ◌||◌, ◌==◌, List, [],
 use Rattle.std.specs.List.{list_all}
 use Rattle.std.specs.Char.{is_ascii_digit}
 use Rattle.std.specs.Str.Parse.{digits_value}
-use Rattle.lift_text.specs.declared.faults.TextFault.{TextFault}
-use Rattle.lift_text.specs.declared.faults.TextFault.TheVariants.{Bad}
+use Rattle.lift_text.specs.declared.codes.TextCode.{TextCode}
+use Rattle.lift_text.specs.declared.codes.TextCode.TheVariants.{NoNumber as WordNoNumber, OutOfRange as NumberOutOfRange}
 use Rattle.lift_text.specs.declared.numbers.NumberFault.{NumberFault}
 use Rattle.lift_text.specs.declared.numbers.NumberFault.TheVariants.{NoNumber, OutOfRange}
 
@@ -32,8 +32,7 @@ in_range low high (Some value) = if int_lt value low || int_lt high value then E
 abbrev pub read_number : ℤ → ℤ → List ℕ → Result ℤ NumberFault
 read_number low high word = in_range low high (number_of (int_lt low (pos 0)) word)
 
--- what is answered of a word of the line with this number
-abbrev pub number_answer : ℕ → Result ℤ NumberFault → Result ℤ TextFault
-number_answer line (Ok value) = Ok value
-number_answer line (Err NoNumber) = Err (Bad line 6)
-number_answer line (Err OutOfRange) = Err (Bad line 7)
+-- what is wrong with a line of which a word is not read as a number
+abbrev pub code_of : NumberFault → TextCode
+code_of NoNumber = WordNoNumber
+code_of OutOfRange = NumberOutOfRange

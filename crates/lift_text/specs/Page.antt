@@ -6,11 +6,12 @@ use Rattle.std.specs.Io.KnownBytes.{prepend_known, IsAtEnd}
 use Rattle.lift_text.specs.Lines.{pieces_of, line_of, AreLines, HasWholeLine}
 use Rattle.lift_text.specs.Window.{WindowState}
 use Rattle.byte_streams.specs.Streams.{Took}
-use Rattle.lift_text.specs.Found.{Gathered, IsOneLine, IsWholeLine, NoLineFeed}
+use Rattle.lift_text.specs.Front.{Gathered, IsOneLine, IsWholeLine, NoLineFeed}
 use Rattle.byte_streams.specs.declared.sources.SourceFault.{SourceFault}
 use Rattle.lift_text.specs.declared.words.Span.{Span}
 use Rattle.lift_text.specs.declared.judge.Flaw.{Flaw}
-use Rattle.lift_text.specs.declared.judge.Flaw.TheVariants.{OverLong, ForbiddenByte}
+use Rattle.lift_text.specs.declared.judge.Flaw.TheVariants.{OverLong as IsOverLong, ForbiddenByte as HasForbiddenByte}
+use Rattle.lift_text.specs.declared.codes.TextCode.TheVariants.{ForbiddenByte, OverLong}
 use Rattle.lift_text.specs.declared.page.Step.{Step}
 use Rattle.lift_text.specs.declared.page.Step.TheVariants.{WithWords, Blank, AtEnd}
 use Rattle.lift_text.specs.Reading.{TextState, Reading, reading, judged, line_with, bad_line, past_limit, Passed, IsBlankLine, IsPassedOver}
@@ -18,8 +19,8 @@ use Rattle.lift_text.specs.declared.faults.TextFault.{TextFault}
 use Rattle.lift_text.specs.declared.faults.TextFault.TheVariants.{Read, TooLong, Bad, NoMemory}
 use Rattle.lift_text.specs.declared.faults.RawLine.{RawLine}
 use Rattle.lift_text.specs.declared.faults.RawLine.TheVariants.{Line as LineRaw, Long as LongRaw, End as EndRaw}
-use Rattle.lift_text.specs.declared.window.Found.{Found}
-use Rattle.lift_text.specs.declared.window.Found.TheVariants.{Line, Long, Cut, End}
+use Rattle.lift_text.specs.declared.window.Front.{Front}
+use Rattle.lift_text.specs.declared.window.Front.TheVariants.{Line, Long, Cut, End}
 
 -- the bytes of the current line with its end, the bytes behind it, how many more may be taken, the number of
 -- lines read, the words and the raw text of the current line, and the fault that is answered from now on
@@ -64,14 +65,14 @@ abbrev pub FirstPiece : TextState → (List ℕ → Type 0) → Type 0
 FirstPiece text holds = (piece : List ℕ) × (pieces : List (List ℕ)) × (pieces_of text.bytes ≡ piece ∷ pieces) × holds piece
 
 -- what was found of the next line, by the state before, the line and the state after
-abbrev pub Advanced : Found → Option TextState → List ℕ → Option TextState → Type 0
+abbrev pub Advanced : Front → Option TextState → List ℕ → Option TextState → Type 0
 Advanced (Line line size) before current after = IfSome before (λ text. IsSomeAnd after (λ rest. IsLine text rest current line))
 Advanced Long before current after = IfSome before (λ text. FirstPiece text (λ piece. (4097 < text.limit) × (4096 < length (line_of piece)))) × (after ≡ before)
 Advanced Cut before current after = IfSome before (λ text. FirstPiece text (λ piece. (text.limit ≤ 4097) × (text.limit < length piece)))
 Advanced End before current after = IfSome before (λ text. text.bytes ≡ []) × (after ≡ before)
 
 -- the line is counted, and there is less to read
-abbrev pub Forward : Found → PageState → PageState → Type 0
+abbrev pub Forward : Front → PageState → PageState → Type 0
 Forward (Line line size) old new = (line ≤ length new.current) × (new.line ≡ old.line + 1) × (limit_of new < limit_of old)
 Forward Long old new = (new.line ≡ old.line) × (new.current ≡ []) × (4097 < length new.unread)
 Forward Cut old new = new.line ≡ old.line
@@ -82,14 +83,14 @@ abbrev pub PageTook : ℕ → PageState → PageState → List ℕ → Option (L
 PageTook past old new taken left left' = Gathered past old.quota new.quota old.unread (new.current ++ new.unread) taken left left'
 
 -- how the end of the line that was found shows, by the state after it
-abbrev pub LineEnds : Found → PageState → Option (List ℕ) → Type 0
+abbrev pub LineEnds : Front → PageState → Option (List ℕ) → Type 0
 LineEnds (Line line size) page left = IsWholeLine page.current ⊎ IsAtEnd left
 LineEnds Long page left = NoLineFeed page.unread × (4097 < length page.unread)
 LineEnds Cut page left = Unit {0}
 LineEnds End page left = Unit {0}
 
 -- a line was found that has its LF, and it is the current one
-abbrev pub CurrentWhole : Result Found SourceFault → List ℕ → Type 0
+abbrev pub CurrentWhole : Result Front SourceFault → List ℕ → Type 0
 CurrentWhole (Ok (Line line size)) current = IsWholeLine current
 CurrentWhole (Ok Long) current = ⊥
 CurrentWhole (Ok Cut) current = ⊥
@@ -97,7 +98,7 @@ CurrentWhole (Ok End) current = ⊥
 CurrentWhole (Err fault) current = ⊥
 
 -- the line that was found is the current one
-abbrev pub CurrentOne : Found → List ℕ → Type 0
+abbrev pub CurrentOne : Front → List ℕ → Type 0
 CurrentOne (Line line size) current = IsOneLine current line
 CurrentOne Long current = Unit {0}
 CurrentOne Cut current = Unit {0}
@@ -107,8 +108,8 @@ CurrentOne End current = Unit {0}
 abbrev pub step_of : ℕ → Result Bool Flaw → Result Step TextFault
 step_of line (Ok true) = Ok WithWords
 step_of line (Ok false) = Ok Blank
-step_of line (Err OverLong) = Err (Bad line 2)
-step_of line (Err ForbiddenByte) = Err (Bad line 1)
+step_of line (Err IsOverLong) = Err (Bad line OverLong)
+step_of line (Err HasForbiddenByte) = Err (Bad line ForbiddenByte)
 
 -- what the current line was judged to be
 abbrev pub JudgedAs : ℕ → List ℕ → Result Step TextFault → List (List ℕ) → Type 0

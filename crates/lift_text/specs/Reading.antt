@@ -4,6 +4,8 @@ use Rattle.std.specs.List.{concat}
 use Rattle.std.specs.Io.KnownBytes.{IsAtEnd}
 use Rattle.std.specs.Io.BufRead.{ends_with_byte}
 use Rattle.lift_text.specs.Lines.{pieces_of, line_of, words_of, is_clean, AreLines, HasWholeLine}
+use Rattle.lift_text.specs.declared.codes.TextCode.{TextCode}
+use Rattle.lift_text.specs.declared.codes.TextCode.TheVariants.{ForbiddenByte, OverLong}
 use Rattle.lift_text.specs.declared.faults.TextFault.{TextFault}
 use Rattle.lift_text.specs.declared.faults.TextFault.TheVariants.{Read, TooLong, Bad, NoMemory}
 use Rattle.lift_text.specs.declared.faults.RawLine.{RawLine}
@@ -19,20 +21,20 @@ line_limit = 4096
 pub data Reading : Type 0 where
   line_with : ℕ → List (List ℕ) → Reading → Reading
   finished : ℕ → Reading
-  bad_line : ℕ → ℕ → Reading
+  bad_line : ℕ → TextCode → Reading
   past_limit : Reading
 
 -- a line with this number and text, and what comes after it
 abbrev pub judged : ℕ → List ℕ → Reading → Reading
 judged line text after =
-    if nat_lt line_limit (length text) then bad_line line 2
+    if nat_lt line_limit (length text) then bad_line line OverLong
     else (if is_clean text then (if nat_lt 0 (length (words_of text)) then line_with line (words_of text) after else after)
-    else bad_line line 1)
+    else bad_line line ForbiddenByte)
 
 -- a line that goes past the most bytes that may be read, of which `limit` are left: it is over long where
 -- that many bytes show it
 abbrev pub cut_short : ℕ → ℕ → Reading
-cut_short line limit = if nat_lt (line_limit + 1) limit then bad_line line 2 else past_limit
+cut_short line limit = if nat_lt (line_limit + 1) limit then bad_line line OverLong else past_limit
 
 -- what is read of lines with their ends, after so many lines, where at most `limit` bytes may be read
 abbrev pub reading_of : ℕ → ℕ → List (List ℕ) → Reading

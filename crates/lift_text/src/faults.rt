@@ -2,6 +2,7 @@
 ghost use Rattle.lift_text.specs.declared.faults.TextFault.TheVariants.{NoMemory};
 ghost use Rattle.std.specs.Prelude.{◌≡◌};
 
+use crate::codes::TextCode;
 use std::alloc::{AllocError, AllocFailed};
 use std::error::Error;
 use std::fmt;
@@ -14,7 +15,7 @@ pub enum TextFault {
     /// The text has more than 67,108,864 bytes, and no bad line ends among the first of them.
     TooLong,
     /// The line with this number, counted from 1, is the first bad one, and the code says why.
-    Bad { line: u64, code: u8 },
+    Bad { line: u64, code: TextCode },
     /// Out of memory.
     NoMemory,
 }
@@ -24,7 +25,7 @@ impl fmt::Display for TextFault {
         match self {
             TextFault::Read => write!(f, "the input could not be read"),
             TextFault::TooLong => write!(f, "the input is too long"),
-            TextFault::Bad { line, code } => write!(f, "line {line} has fault {code}"),
+            TextFault::Bad { line, code } => write!(f, "line {line}: {code}"),
             TextFault::NoMemory => write!(f, "out of memory"),
         }
     }

@@ -3,10 +3,11 @@ ghost use Rattle.std.specs.Prelude.{◌≡◌, ◌*◌, ◌<◌, ◌≤◌, [], 
 ghost use Rattle.lift_text.specs.Words.{parts_of};
 ghost use Rattle.lift_text.specs.Judge.{Judged};
 
+use crate::codes::TextCode;
 use crate::words::{Span, are_allowed, before_comment, find_words};
 
 /// The most bytes of a line without its end.
-pub(crate) const LINE_LIMIT: usize = 4_096;
+pub const LINE_LIMIT: usize = 4_096;
 
 /// Why a line is bad whatever it says.
 #[derive(Clone, Copy)]
@@ -16,14 +17,14 @@ pub(crate) enum Flaw {
 }
 
 impl Flaw {
-    /// The code that is printed.
-    pub(crate) fn code(self) -> u8
-        ensures over_long { self ≡ Flaw.OverLong → result ≡ 2 }
-        ensures forbidden { self ≡ Flaw.ForbiddenByte → result ≡ 1 }
+    /// What is wrong with the line.
+    pub(crate) fn code(self) -> TextCode
+        ensures over_long { self ≡ Flaw.OverLong → result ≡ TextCode.OverLong }
+        ensures forbidden { self ≡ Flaw.ForbiddenByte → result ≡ TextCode.ForbiddenByte }
     {
         match self {
-            Flaw::OverLong => 2,
-            Flaw::ForbiddenByte => 1,
+            Flaw::OverLong => TextCode::OverLong,
+            Flaw::ForbiddenByte => TextCode::ForbiddenByte,
         }
     }
 }

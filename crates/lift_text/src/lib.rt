@@ -11,6 +11,7 @@
 //!   text.
 #![tactic(auto)]
 
+mod codes;
 mod faults;
 mod judge;
 mod numbers;
@@ -22,7 +23,10 @@ mod words;
 mod writers;
 
 pub use byte_streams::{Source, SourceFault};
+pub use codes::TextCode;
 pub use faults::{RawLine, TextFault};
+pub use judge::LINE_LIMIT;
 pub use numbers::{NumberFault, number_in};
+pub use page::{LINE_COUNT_BOUND, TEXT_LIMIT};
 pub use reader::LineReader;
 pub use writers::{put_line, put_number, put_word, put_words};

@@ -8,25 +8,12 @@ ghost use Rattle.std.specs.Int.{w128};
 ghost use Rattle.lift_text.specs.Numbers.{read_number, starts_with_minus};
 
 /// Why a word is not read as a number.
-#[derive(Clone, Copy)]
+#[derive(Clone, Copy, PartialEq, Eq)]
 pub enum NumberFault {
     /// The word is not one or more decimal digits, with a `-` in front where that is allowed.
     NoNumber,
     /// The number is outside the range.
     OutOfRange,
-}
-
-impl NumberFault {
-    /// The code that is printed.
-    pub(crate) fn code(self) -> u8
-        ensures none { self ≡ NumberFault.NoNumber → result ≡ 6 }
-        ensures outside { self ≡ NumberFault.OutOfRange → result ≡ 7 }
-    {
-        match self {
-            NumberFault::NoNumber => 6,
-            NumberFault::OutOfRange => 7,
-        }
-    }
 }
 
 /// Reads a word as a number from `low` to `high`: one or more decimal digits, of which leading zeros

@@ -3,16 +3,20 @@ ghost use Rattle.std.specs.Prelude.{◌≡◌, ◌≢◌, ℕ, ◌+◌, ◌<◌,
 ghost use Rattle.byte_streams.specs.Streams.{Rose};
 ghost use Rattle.lift_text.specs.Page.{IfBad, step_of};
 
+use crate::codes::TextCode;
 use crate::faults::{RawLine, TextFault};
 use crate::judge::{Flaw, LINE_LIMIT, judge};
-use crate::window::{Found, LONGEST, Skipped, Window};
+use crate::window::{Front, LONGEST, Skipped, Window};
 use crate::words::Span;
 use byte_streams::{Source, SourceFault};
 use std::alloc::{AllocError, Global};
 use std::marker::Model;
 
 /// The most bytes that are read of a text.
-const TEXT_LIMIT: usize = 67_108_864;
+pub const TEXT_LIMIT: usize = 67_108_864;
+
+/// More lines than a text can have: each has a byte at least.
+pub const LINE_COUNT_BOUND: u64 = 67_108_865;
 
 /// More than half as many words as a longest line has bytes.
 const MOST_WORDS: usize = 2_049;
@@ -61,14 +65,14 @@ impl Page {
     ghost use Rattle.std.specs.Io.KnownBytes.{IsAtEnd};
     ghost use Rattle.byte_streams.specs.Streams.{Rose, Took};
     ghost use Rattle.lift_text.specs.Lines.{pieces_of, HasWholeLine};
-    ghost use Rattle.lift_text.specs.Found.{IsWholeLine, past_found};
+    ghost use Rattle.lift_text.specs.Front.{IsWholeLine, past_found};
     ghost use Rattle.lift_text.specs.Reading.{NextLine, NextRaw, BadLineShows, HasWholeAnswer, StoppedBehind, lines_counted, past_quota};
     ghost use Rattle.lift_text.specs.Page.{text_at, limit_of, Advanced, CurrentOne, CurrentWhole, Forward, IfBad, JudgedAs, LineEnds, PageTook, ReadLine, SkippedLine, StepEnds};
 
     /// A page before the first line.
     pub(crate) fn new(alloc: Global) -> Result<Page, AllocError>
         ensures unread { IfOk result (λ page. page.unread ≡ []) }
-        ensures quota { IfOk result (λ page. page.quota ≡ 67108864) }
+        ensures quota { IfOk result (λ page. page.quota ≡ TEXT_LIMIT) }
         ensures line { IfOk result (λ page. page.line ≡ 0) }
         ensures words { IfOk result (λ page. page.words ≡ []) }
         ensures raw { IfOk result (λ page. page.raw ≡ []) }
@@ -97,7 +101,7 @@ impl Page {
     }
 
     /// Goes on to the next line, where the line before was passed over.
-    fn advance<S: Source>(&mut self, source: &mut S) -> Result<Found, SourceFault>
+    fn advance<S: Source>(&mut self, source: &mut S) -> Result<Front, SourceFault>
         requires current { self.old.current ≡ [] }
         requires words { self.old.words ≡ [] }
         requires raw { self.old.raw ≡ [] }
@@ -115,12 +119,12 @@ impl Page {
         ensures one { IfOk result (λ found. CurrentOne found self.new.current) }
         ensures none { OnErr result ((self.new.line ≡ self.old.line)
             × (¬ HasWholeLine (self.new.current ++ self.new.unread))) }
-        ensures end { result ≡ Ok Found.End → IsAtEnd (S.left source.new) }
+        ensures end { result ≡ Ok Front.End → IsAtEnd (S.left source.new) }
         ensures counted { S.faults source.old ≤ S.faults source.new }
         ensures fault { OnErr result (Rose (S.faults source.old) (S.faults source.new)) }
     {
         let found = self.window.find(source)?;
-        if let Found::Line { size, .. } = found {
+        if let Front::Line { size, .. } = found {
             self.size = size;
             self.line += 1;
         }
@@ -166,17 +170,17 @@ impl Page {
         ensures counted { S.faults source.old ≤ S.faults source.new }
     {
         match self.advance(source) {
-            Ok(Found::Line { line, .. }) => self.judge_line(line),
-            Ok(Found::Long) => {
+            Ok(Front::Line { line, .. }) => self.judge_line(line),
+            Ok(Front::Long) => {
                 self.size += LONGEST;
                 self.line += 1;
                 Err(TextFault::Bad {
                     line: self.line,
-                    code: Flaw::OverLong.code(),
+                    code: TextCode::OverLong,
                 })
             }
-            Ok(Found::Cut) => Err(TextFault::TooLong),
-            Ok(Found::End) => Ok(Step::AtEnd),
+            Ok(Front::Cut) => Err(TextFault::TooLong),
+            Ok(Front::End) => Ok(Step::AtEnd),
             Err(SourceFault) => Err(TextFault::Read),
         }
     }
@@ -315,10 +319,10 @@ impl Page {
         ensures counted { S.faults source.old ≤ S.faults source.new }
     {
         match self.advance(source) {
-            Ok(Found::Line { line, .. }) => Ok(self.keep_raw(line)),
-            Ok(Found::Long) => self.skip_long(source),
-            Ok(Found::Cut) => Err(TextFault::TooLong),
-            Ok(Found::End) => Ok(RawLine::End),
+            Ok(Front::Line { line, .. }) => Ok(self.keep_raw(line)),
+            Ok(Front::Long) => self.skip_long(source),
+            Ok(Front::Cut) => Err(TextFault::TooLong),
+            Ok(Front::End) => Ok(RawLine::End),
             Err(SourceFault) => Err(TextFault::Read),
         }
     }
@@ -359,7 +363,7 @@ impl Page {
     /// The number of lines read so far.
     pub(crate) fn line(&self) -> u64
         ensures value { result ≡ self.now.line }
-        ensures bound { result ≤ 67108864 }
+        ensures bound { result ≤ TEXT_LIMIT }
     {
         self.line
     }

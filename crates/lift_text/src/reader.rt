@@ -3,12 +3,12 @@ ghost use Rattle.std.specs.Prelude.{◌≡◌, ◌≢◌, ℕ, ◌+◌, ◌<◌,
 ghost use Rattle.std.specs.Io.KnownBytes.{IsAtEnd};
 ghost use Rattle.byte_streams.specs.Streams.{Rose, Took};
 ghost use Rattle.lift_text.specs.Lines.{pieces_of, HasWholeLine};
-ghost use Rattle.lift_text.specs.Numbers.{number_answer, read_number};
+ghost use Rattle.lift_text.specs.Numbers.{read_number};
 ghost use Rattle.lift_text.specs.Reading.{NextLine, NextRaw, BadLineShows, HasWholeAnswer, StoppedBehind, lines_counted, past_quota, whole_text};
 
 use crate::faults::{RawLine, TextFault};
-use crate::numbers::number_in;
-use crate::page::Page;
+use crate::numbers::{NumberFault, number_in};
+use crate::page::{Page, TEXT_LIMIT};
 use byte_streams::Source;
 use std::alloc::{AllocError, Global};
 
@@ -37,7 +37,7 @@ impl<'a, S: Source> LineReader<'a, S> {
         ensures source { IfOk result (λ reader. reader.source.now ≡ source.old) }
         ensures text { IfOk result
             (λ reader. text S.left reader ≡ option_map whole_text (S.left source.old)) }
-        ensures quota { IfOk result (λ reader. quota reader ≡ 67108864) }
+        ensures quota { IfOk result (λ reader. quota reader ≡ TEXT_LIMIT) }
         ensures unread { IfOk result (λ reader. unread reader ≡ []) }
         ensures line { IfOk result (λ reader. line reader ≡ 0) }
         ensures words { IfOk result (λ reader. words reader ≡ []) }
@@ -50,8 +50,8 @@ impl<'a, S: Source> LineReader<'a, S> {
 
     /// Reads the next line that has a word, and answers false at the end of the text.
     ///
-    /// A line is bad with code 2 where it is over 4,096 bytes, and else with code 1 where a byte
-    /// outside its comment is not allowed; this is answered only when its LF, the end of the source or
+    /// A line is bad with `OverLong` where it is over 4,096 bytes, and else with `ForbiddenByte` where a
+    /// byte outside its comment is not allowed; this is answered only when its LF, the end of the source or
     /// more than 4,097 of its bytes were seen. `Read` comes only where a read of the source failed, which
     /// is asked only where the line is not whole among the bytes that were read. An `Err` is answered
     /// from then on, and nothing more is taken from the source.
@@ -94,7 +94,7 @@ impl<'a, S: Source> LineReader<'a, S> {
     /// The number of lines read so far, skipped ones too.
     pub fn line(&self) -> u64
         ensures value { result ≡ line self.now }
-        ensures bound { result ≤ 67108864 }
+        ensures bound { result ≤ TEXT_LIMIT }
     {
         self.page.line()
     }
@@ -116,20 +116,12 @@ impl<'a, S: Source> LineReader<'a, S> {
     }
 
     /// A word of the line that `next_line` read, as a number from `low` to `high`. It is one or more
-    /// decimal digits, and a `-` may begin it where `low` is below 0. The line is bad with code 6
-    /// where the word is no number, and else with code 7 where it is outside the range.
-    pub fn number(&self, k: u32, low: i128, high: i128) -> Result<i128, TextFault>
+    /// decimal digits, and a `-` may begin it where `low` is below 0.
+    pub fn number(&self, k: u32, low: i128, high: i128) -> Result<i128, NumberFault>
         requires { k < length (words self.now) }
-        ensures { result ≡ number_answer (line self.now)
-            (read_number low high (slice_index_or (words self.now) k [])) }
+        ensures { result ≡ read_number low high (slice_index_or (words self.now) k []) }
     {
-        match number_in(self.word(k), low, high) {
-            Ok(value) => Ok(value),
-            Err(fault) => Err(TextFault::Bad {
-                line: self.line(),
-                code: fault.code(),
-            }),
-        }
+        number_in(self.word(k), low, high)
     }
 
     /// Reads the next line as it stands. `Read` comes only where a read of the source failed, which is

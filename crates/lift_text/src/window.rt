@@ -4,15 +4,16 @@ ghost use Rattle.std.specs.Io.KnownBytes.{prepend_known, IsAtEnd};
 ghost use Rattle.std.specs.Io.BufRead.{strip_last};
 ghost use Rattle.byte_streams.specs.Streams.{Rose, Took};
 ghost use Rattle.lift_text.specs.Lines.{HasWholeLine};
-ghost use Rattle.lift_text.specs.Found.{Filled, FoundIn, FoundOne, FoundWhole, Gathered, FoundShows, NoLineFeedBelow, SkippedIn, past_found, past_skipped};
+ghost use Rattle.lift_text.specs.Front.{Filled, FoundIn, FoundOne, FoundWhole, Gathered, FoundShows, NoLineFeedBelow, SkippedIn, past_found, past_skipped};
 
+use crate::judge::LINE_LIMIT;
 use crate::places::place_of;
 use byte_streams::{Source, SourceFault};
 use std::alloc::{AllocError, Global};
 use std::marker::Model;
 
 /// The most bytes of a line with its end, CR LF.
-pub(crate) const LONGEST: usize = 4_098;
+pub(crate) const LONGEST: usize = LINE_LIMIT + 2;
 
 /// The most bytes that are asked of a source at once.
 const LARGEST_READ: usize = 65_536;
@@ -33,7 +34,7 @@ pub(crate) enum Fill {
 /// What stands at the front of what is left: a line of some length, which takes `size` bytes with its
 /// end; a line that is over long; a line that goes past the most bytes that may be taken; or nothing.
 #[derive(Clone, Copy)]
-pub(crate) enum Found {
+pub(crate) enum Front {
     Line { line: usize, size: usize },
     Long,
     Cut,
@@ -163,7 +164,7 @@ impl Window {
     }
 
     /// Finds what stands at the front of what is left.
-    pub(crate) fn find<S: Source>(&mut self, source: &mut S) -> Result<Found, SourceFault>
+    pub(crate) fn find<S: Source>(&mut self, source: &mut S) -> Result<Front, SourceFault>
         ensures ok { IfOk result (λ found. FoundIn found (prepend_known self.old.unread (S.left source.old))
             self.new.unread (S.left source.new) self.new.quota) }
         ensures quota { self.new.quota + length self.new.unread
@@ -183,19 +184,19 @@ impl Window {
         'search: loop {
             let place = self.line_feed_from(searched);
             if place < self.len() {
-                return Ok(Found::Line {
+                return Ok(Front::Line {
                     line: self.line_before(place),
                     size: place + 1,
                 });
             }
             searched = place;
             if searched >= LONGEST {
-                return Ok(Found::Long);
+                return Ok(Front::Long);
             }
             match self.fill(source)? {
                 Fill::More => {}
                 Fill::End => return Ok(last_found(searched)),
-                Fill::Limit => return Ok(Found::Cut),
+                Fill::Limit => return Ok(Front::Cut),
             }
         }
     }
@@ -261,14 +262,14 @@ impl Window {
 }
 
 /// What comes before the end of the input, if it has no LF.
-fn last_found(length: usize) -> Found
-    ensures none { length ≡ 0 → result ≡ Found.End }
-    ensures line { 0 < length → result ≡ Found.Line length length }
+fn last_found(length: usize) -> Front
+    ensures none { length ≡ 0 → result ≡ Front.End }
+    ensures line { 0 < length → result ≡ Front.Line length length }
 {
     if length == 0 {
-        Found::End
+        Front::End
     } else {
-        Found::Line {
+        Front::Line {
             line: length,
             size: length,
         }

@@ -2,11 +2,10 @@
 use Rattle.std.specs.Prelude.{◌≡◌, ℕ, ◌+◌, ◌-◌, ◌*◌, ◌/◌, ◌==◌, ◌&&◌, Bool, true, nat_lt, List, [], ◌∷◌, ◌++◌, length, Option, IfSome, ◌≤◌, None, Some, Result, Ok, Err, codes, refl, if◌then◌else◌}
 use Rattle.lift_text.specs.Reading.{TextState, line_with, finished}
 use Rattle.lift_text.specs.declared.faults.TextFault.{TextFault}
-use Rattle.text_sections.specs.declared.codes.TextCode.{TextCode}
-use Rattle.text_sections.specs.declared.codes.TextCode.TheVariants.{NoLineWord, NoTime}
-use Rattle.text_sections.specs.declared.codes.LineFault.{LineFault}
-use Rattle.text_sections.specs.declared.codes.LineFault.TheVariants.{Bad, NoMemory}
-use Rattle.text_sections.specs.Codes.{Judged, ◌>>=◌, code_of}
+use Rattle.lift_text.specs.declared.codes.TextCode.TheVariants.{NoLineWord, Missing, TooMany, OutOfRange, CutShort, NoTime}
+use Rattle.text_sections.specs.declared.faults.LineFault.{LineFault}
+use Rattle.text_sections.specs.declared.faults.LineFault.TheVariants.{Bad, NoMemory}
+use Rattle.text_sections.specs.Judging.{Judged, ◌>>=◌}
 use Rattle.text_sections.specs.Words.{is_word, at_least, at_most, exactly}
 use Rattle.text_sections.specs.NumberLists.{numbers}
 use Rattle.text_sections.specs.Sections.{Line, Step, goes_on, is_whole, step_of, ReadAs, accepted, refused, outcome}
@@ -41,7 +40,7 @@ row_judged floors times words = columns floors words >>= λ n. (row_of (length t
 -- ran out
 abbrev pub RowRead : Judged (ℕ × List ℕ) → List ℕ → Result ℕ LineFault → List ℕ → Type 0
 RowRead judged old (Ok floors) new = (row : List ℕ) × (judged ≡ Ok (floors, row)) × (new ≡ old ++ row)
-RowRead judged old (Err (Bad code)) new = (text_code : TextCode) × (judged ≡ Err text_code) × (code ≡ code_of text_code)
+RowRead judged old (Err (Bad code)) new = judged ≡ Err code
 RowRead judged old (Err NoMemory) new = Unit {0}
 
 -- a table with one more line, which is whole once each floor has one
@@ -80,20 +79,20 @@ table_row : outcome after (line_with 2 (times_line (codes "0" ∷ codes "5000" �
     ≡ accepted (record { floors = Some 2; times = 0 ∷ 5000 ∷ 4999 ∷ 0 ∷ [] }) (finished 7)
 table_row = refl
 
-zero_row : outcome after (line_with 7 (times_line (codes "1" ∷ codes "5000" ∷ [])) (finished 7)) (no_rows (Some 2)) ≡ refused 7 53
+zero_row : outcome after (line_with 7 (times_line (codes "1" ∷ codes "5000" ∷ [])) (finished 7)) (no_rows (Some 2)) ≡ refused 7 NoTime
 zero_row = refl
 
-between_row : outcome after (line_with 7 (times_line (codes "0" ∷ codes "0" ∷ [])) (finished 7)) (no_rows None) ≡ refused 7 53
+between_row : outcome after (line_with 7 (times_line (codes "0" ∷ codes "0" ∷ [])) (finished 7)) (no_rows None) ≡ refused 7 NoTime
 between_row = refl
 
-short_row : outcome after (line_with 2 (times_line (codes "0" ∷ codes "5000" ∷ [])) (line_with 3 (times_line (codes "4999" ∷ [])) (finished 7))) (no_rows None) ≡ refused 3 4
+short_row : outcome after (line_with 2 (times_line (codes "0" ∷ codes "5000" ∷ [])) (line_with 3 (times_line (codes "4999" ∷ [])) (finished 7))) (no_rows None) ≡ refused 3 Missing
 short_row = refl
 
-long_row : outcome after (line_with 2 (times_line (codes "0" ∷ codes "5000" ∷ codes "1" ∷ [])) (finished 7)) (no_rows (Some 2)) ≡ refused 2 5
+long_row : outcome after (line_with 2 (times_line (codes "0" ∷ codes "5000" ∷ codes "1" ∷ [])) (finished 7)) (no_rows (Some 2)) ≡ refused 2 TooMany
 long_row = refl
 
-range_row : outcome after (line_with 2 (times_line (codes "1" ∷ codes "20000001" ∷ [])) (finished 7)) (no_rows None) ≡ refused 2 7
+range_row : outcome after (line_with 2 (times_line (codes "1" ∷ codes "20000001" ∷ [])) (finished 7)) (no_rows None) ≡ refused 2 OutOfRange
 range_row = refl
 
-cut_row : outcome after (line_with 2 (times_line (codes "0" ∷ codes "5000" ∷ [])) (finished 7)) (no_rows None) ≡ refused 8 9
+cut_row : outcome after (line_with 2 (times_line (codes "0" ∷ codes "5000" ∷ [])) (finished 7)) (no_rows None) ≡ refused 8 CutShort
 cut_row = refl

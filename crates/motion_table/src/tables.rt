@@ -4,18 +4,13 @@ ghost use Rattle.byte_streams.specs.Streams.{Rose};
 ghost use Rattle.lift_text.specs.LineReader.{text, words, failure};
 ghost use Rattle.motion_table.specs.Tables.{AreFloors, columns, rests_at, row_judged, IsReadTable, IsRefusedTable, RowRead};
 
-use lift_text::{LineReader, Source, TextFault};
+use elevator_model::{LONGEST_WAY, MOST_FLOORS};
+use lift_text::{LineReader, Source, TextCode, TextFault};
 use std::alloc::Global;
 use std::marker::Model;
 use text_sections::{
-    LineFault, Section, TextCode, Turn, at_least, at_most, exactly, is_word, numbers, read_section,
+    AfterLine, LineFault, Section, at_least, at_most, exactly, is_word, numbers, read_section,
 };
-
-/// The greatest travel time between two floors, in ms.
-const LONGEST: u64 = 20_000_000;
-
-/// The most floors of a table.
-const MOST_FLOORS: u32 = 64;
 
 /// The rows of a table, as far as they were read.
 #[derive(Drop)]
@@ -62,16 +57,16 @@ impl Section for TableRows {
 
     ghost after = { after };
 
-    fn take_line<S: Source>(&mut self, lines: &LineReader<S>) -> Result<Turn, LineFault> {
+    fn take_line<S: Source>(&mut self, lines: &LineReader<S>) -> Result<AfterLine, LineFault> {
         if !is_word(lines, 0, b"times") {
             return Err(LineFault::from(TextCode::NoLineWord));
         }
         let floors = read_row(lines, self.floors, &mut self.times)?;
         self.floors = Some(floors);
         if self.times.len() == floors as usize * floors as usize {
-            Ok(Turn::Whole)
+            Ok(AfterLine::Whole)
         } else {
-            Ok(Turn::More)
+            Ok(AfterLine::More)
         }
     }
 }
@@ -79,8 +74,8 @@ impl Section for TableRows {
 /// Reads the times of a line, whose first word is judged already, and appends them to those of the lines
 /// before it. The answer is the number of floors, which the first line decides where it is not given.
 ///
-/// The codes are 4 and 5 where a word is missing or too many, 6 and 7 where a word is no number from 0 to
-/// 20,000,000, and then 53 where a time is not 0 from a floor to itself or is 0 between two floors.
+/// The codes are `Missing` and `TooMany`, `NoNumber` and `OutOfRange` where a word is no number from 0 to
+/// 20,000,000, and then `NoTime` where a time is not 0 from a floor to itself or is 0 between two floors.
 pub fn read_row<S: Source>(
     lines: &LineReader<S>,
     floors: Option<u32>,
@@ -92,7 +87,7 @@ pub fn read_row<S: Source>(
 {
     let count = columns(floors, lines)?;
     let start = times.len();
-    numbers(lines, 1, 0, LONGEST, times)?;
+    numbers(lines, 1, 0, LONGEST_WAY, times)?;
     if !rests_at(start / count as usize, &times[start..]) {
         return Err(LineFault::from(TextCode::NoTime));
     }
@@ -134,10 +129,10 @@ fn rests_at(floor: usize, times: &[u64]) -> bool
 /// what follows the last stays unread. The first line decides the number of floors, 2 to 64, where it
 /// is not given. The allocator comes first.
 ///
-/// The first bad line decides, with one code: 3 where its first word is not `times`, 4 and 5 where a word is
-/// missing or too many, 6 and 7 where a word is no number from 0 to 20,000,000, and then 53 where a time is
-/// not 0 from a floor to itself or is 0 between two floors. Code 9 comes where the input ends first. Whether
-/// a way over a third floor is shorter is not judged here.
+/// The first bad line decides, with one code: `NoLineWord` where its first word is not `times`, `Missing` and
+/// `TooMany`, `NoNumber` and `OutOfRange` where a word is no number from 0 to 20,000,000, and then `NoTime`
+/// where a time is not 0 from a floor to itself or is 0 between two floors. `CutShort` comes where the input
+/// ends first. Whether a way over a third floor is shorter is not judged here.
 pub fn read_times<S: Source>(
     alloc: Global,
     lines: &mut LineReader<S>,

@@ -4,7 +4,7 @@ ghost use Rattle.elevator_model.specs.Travel.{IsTravelSquare, time_between};
 ghost use Rattle.call_state.specs.Squares.{square_of, IsDirect, IsLegDirect, IsRowDirect, AreRowsDirect};
 ghost use Rattle.motion_table.specs.Triples.{IsFirstThird, IsFirstFrom, IsFirstTriple, IsTable};
 
-use call_state::are_rows_direct;
+use call_state::{are_rows_direct, time_at};
 
 /// Three floors: the way from `f` to `h` over `g` is shorter than the time from `f` to `h`.
 #[derive(Clone, Copy)]
@@ -77,12 +77,4 @@ fn is_direct(floors: u32, times: &[u64], f: u32, g: u32, h: u32) -> bool
 {
     let rest = time_at(floors, times, f, h).saturating_sub(time_at(floors, times, f, g));
     rest <= time_at(floors, times, g, h)
-}
-
-/// The time from one floor to another, and 0 where the times lack it.
-fn time_at(floors: u32, times: &[u64], from: u32, to: u32) -> u64
-    ensures { result ≡ time_between (square_of floors times.now) from to }
-{
-    let place = from as usize * floors as usize + to as usize;
-    times.get(place).copied().unwrap_or(0)
 }

@@ -202,13 +202,13 @@ natural_cast z cost few low high =
 
 -- ---- the answer
 
-pub answer_found : (fits : Fits) (start : List ℤ) (least : ℤ) (s : Snapshot) (rounds most_tours : ℕ) (tree : List Branch) (best : Best) (turns : List Turn) (why : StopReason) (f : Found) → IsAnswerOf tree best turns why f → IsFound fits start least s rounds most_tours best.plan best.cost f.bound (map twig_of tree) turns why → IsFound fits start least s rounds most_tours f.plan f.cost f.bound f.tree.twigs f.turns f.why
+pub answer_found : (fits : Fits) (start : List ℤ) (least : ℤ) (s : Snapshot) (rounds most_tours : ℕ) (tree : List Branch) (best : Best) (turns : List Turn) (why : StopReason) (f : Found) → IsAnswerOf tree best turns why f → IsFound fits start least s rounds most_tours best.plan best.cost f.stated.bound (map twig_of tree) turns why → IsFound fits start least s rounds most_tours f.stated.plan f.stated.cost f.stated.bound f.tree.twigs f.turns f.why
 answer_found fits start least s rounds most_tours tree best turns why f is h =
-    let a = subst (λ (p : List (List Stop)). IsFound fits start least s rounds most_tours p best.cost f.bound (map twig_of tree) turns why) (sym is.plan) h in
-    let b = subst (λ (n : ℕ). IsFound fits start least s rounds most_tours f.plan n f.bound (map twig_of tree) turns why) (sym is.cost) a in
-    let c = subst (λ (ts : List Twig). IsFound fits start least s rounds most_tours f.plan f.cost f.bound ts turns why) (sym is.twigs) b in
-    let d = subst (λ (ts : List Turn). IsFound fits start least s rounds most_tours f.plan f.cost f.bound f.tree.twigs ts why) (sym is.turns_are) c in
-    subst (λ (w : StopReason). IsFound fits start least s rounds most_tours f.plan f.cost f.bound f.tree.twigs f.turns w) (sym is.why_is) d
+    let a = subst (λ (p : List (List Stop)). IsFound fits start least s rounds most_tours p best.cost f.stated.bound (map twig_of tree) turns why) (sym is.plan) h in
+    let b = subst (λ (n : ℕ). IsFound fits start least s rounds most_tours f.stated.plan n f.stated.bound (map twig_of tree) turns why) (sym is.cost) a in
+    let c = subst (λ (ts : List Twig). IsFound fits start least s rounds most_tours f.stated.plan f.stated.cost f.stated.bound ts turns why) (sym is.twigs) b in
+    let d = subst (λ (ts : List Turn). IsFound fits start least s rounds most_tours f.stated.plan f.stated.cost f.stated.bound f.tree.twigs ts why) (sym is.turns_are) c in
+    subst (λ (w : StopReason). IsFound fits start least s rounds most_tours f.stated.plan f.stated.cost f.stated.bound f.tree.twigs f.turns w) (sym is.why_is) d
 
 pub if_ok : {X E : Type 0} (r : Result X E) (P Q : X → Type 0) → ((x : X) → P x → Q x) → IfOk r P → IfOk r Q
 if_ok (Ok x) P Q f h = f x h

@@ -10,7 +10,8 @@ use Rattle.search_model.specs.declared.Turn.{Turn}
 use Rattle.search_model.specs.Nodes.{root_of}
 use Rattle.search_model.specs.Prices.{price_at}
 use Rattle.search_model.specs.Sums.{int_sum_by}
-use Rattle.search_model.specs.Solving.{Fits, AreRootTurns, FollowTurn, IsRootTurn, IsPricing, prices_after, greatest_price, sum_of_turn, no_turn, boards_of_turn, cut}
+use Rattle.price_scale.specs.Scale.{cut}
+use Rattle.search_model.specs.Solving.{Fits, AreRootTurns, FollowTurn, IsRootTurn, IsPricing, prices_after, greatest_price, sum_of_turn, no_turn, boards_of_turn}
 use Rattle.search_tree.specs.Sheets.{sum_of_sheet, sheet_of_turn, sum_of_worths, turn_worth}
 use Rattle.search_tree.specs.Answers.{IsAnswerIn, AreAnswersIn}
 use Rattle.node_search.specs.Turns.{moved_price}

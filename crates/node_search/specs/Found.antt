@@ -106,9 +106,9 @@ IsReasonOf s most_tours x (Moves car count) = IsCarSpent s most_tours x car coun
 
 -- the answer of a search that ended with this tree, this plan and these turns
 pub record IsAnswerOf (tree : List Branch) (best : Best) (turns : List Turn) (why : StopReason) (f : Found) : Type 0 where
-  pub plan : f.plan ≡ best.plan
-  pub cost : f.cost ≡ best.cost
-  pub bound : pos f.bound ≡ least_of best.cost tree
+  pub plan : f.stated.plan ≡ best.plan
+  pub cost : f.stated.cost ≡ best.cost
+  pub bound : pos f.stated.bound ≡ least_of best.cost tree
   pub twigs : f.tree.twigs ≡ map twig_of tree
   pub turns_are : f.turns ≡ turns
   pub why_is : f.why ≡ why

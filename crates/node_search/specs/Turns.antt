@@ -4,7 +4,8 @@ use Rattle.elevator_model.specs.declared.Stop.{Stop}
 use Rattle.elevator_model.specs.Plans.{is_boarded_in}
 use Rattle.search_model.specs.declared.TurnOf.{TurnOf}
 use Rattle.search_model.specs.Prices.{price_at}
-use Rattle.search_model.specs.Solving.{boards_in, cut, no_turn}
+use Rattle.price_scale.specs.Scale.{cut}
+use Rattle.search_model.specs.Solving.{boards_in, no_turn}
 
 -- calls below 128 board alone
 abbrev pub BoardsBelow : List Stop → Type 0

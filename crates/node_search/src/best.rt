@@ -10,7 +10,7 @@ ghost use Rattle.restricted_master.specs.Pools.{IsMadeOf, tours_of_car};
 ghost use Rattle.node_search.specs.Best.{IsBest, AreToursOf, with_given, with_turn};
 
 use call_state::Snapshot;
-use elevator_model::{Plan, Tour};
+use elevator_model::{MOST_CALLS, Plan, Tour};
 use price_scale::Price;
 use restricted_master::{Choice, Pool};
 use search_model::TurnOf;
@@ -39,7 +39,7 @@ fn put_plan(
     ensures snapshot { OnOk result (pool.new.snapshot ≡ snapshot.now) }
     ensures few { OnOk result ((c : ℕ) → length (tours_of_car pool.new c) ≤ 1) }
 {
-    prove!(snapshot.calls().len() <= 128);
+    prove!(snapshot.calls().len() <= MOST_CALLS);
     for car in 0..plan.tours().len() {
         pool.put(car as u32, plan.tours()[car].copy(alloc)?);
     }
@@ -115,7 +115,7 @@ impl<'a> Best<'a> {
         ensures pool { OnOk result (self.new.pool ≡ with_turn self.old.pool 0 cars.now) }
         ensures cars { length self.old.pool.tours ≡ car_count self.old.pool.snapshot }
     {
-        prove!(self.pool.snapshot().calls().len() <= 128);
+        prove!(self.pool.snapshot().calls().len() <= MOST_CALLS);
         for car in 0..cars.len() {
             put_given(&mut self.pool, alloc, car as u32, &cars[car].tour)?;
         }

@@ -5,6 +5,7 @@ ghost use Rattle.elevator_model.specs.Snapshot.{Snapshot, call_count};
 ghost use Rattle.search_tree.specs.Branches.{at_place};
 ghost use Rattle.node_search.specs.Searches.{AreChosen, AreSome, IsLeft, IsWanted};
 
+use elevator_model::MOST_CALLS;
 use search_tree::{Branch, first_choice};
 use std::alloc::{AllocError, Global};
 
@@ -14,7 +15,7 @@ const MOST_NODES: usize = 4;
 /// Whether a round may price the node: it is a leaf whose bound is below the cost, and it was not priced yet
 /// or some call has two cars or more.
 fn is_wanted(branch: &Branch, cost: u64, calls: usize) -> bool
-    requires { calls ≤ 128 }
+    requires { calls ≤ MOST_CALLS }
     ensures wanted { (s : Snapshot) → call_count s ≡ calls → result ≡ true → IsWanted s cost branch.now }
     ensures left { (s : Snapshot) → call_count s ≡ calls → result ≡ false → IsLeft s cost branch.now }
 {
@@ -34,7 +35,7 @@ fn comes_first(first: &Branch, second: &Branch) -> bool {
 /// The node that comes first of those that a round may price and that are not marked, the older one of two
 /// like ones.
 fn best_place(branches: &[Branch], marks: &[bool], cost: u64, calls: usize) -> Option<usize>
-    requires { calls ≤ 128 }
+    requires { calls ≤ MOST_CALLS }
 {
     let mut best: Option<usize> = None;
     for place in 0..branches.len() {
@@ -65,7 +66,7 @@ fn marks_of(
     cost: u64,
     calls: usize,
 ) -> Result<Vec<bool>, AllocError>
-    requires { calls ≤ 128 }
+    requires { calls ≤ MOST_CALLS }
 {
     let mut marks = vec![in alloc; false; branches.len()]?;
     for _ in 0..MOST_NODES {
@@ -81,7 +82,7 @@ fn marks_of(
 
 /// The first node that a round may price.
 pub(crate) fn first_wanted(branches: &[Branch], cost: u64, calls: usize) -> Option<usize>
-    requires { calls ≤ 128 }
+    requires { calls ≤ MOST_CALLS }
     ensures { (s : Snapshot) → call_count s ≡ calls → MatchOption result
         ((k : ℕ) → k < length branches.now → IsLeft s cost (at_place branches.now k))
         (λ place. (place < length branches.now) × IsWanted s cost (at_place branches.now place)) }
@@ -102,7 +103,7 @@ fn marked(
     cost: u64,
     calls: usize,
 ) -> Result<Vec<usize>, AllocError>
-    requires { calls ≤ 128 }
+    requires { calls ≤ MOST_CALLS }
     ensures { IfOk result (λ places. (s : Snapshot) → call_count s ≡ calls → AreSome s cost branches.now places.items) }
 {
     let mut places = Vec::new(alloc);
@@ -124,7 +125,7 @@ pub(crate) fn chosen(
     cost: u64,
     calls: usize,
 ) -> Result<Vec<usize>, AllocError>
-    requires { calls ≤ 128 }
+    requires { calls ≤ MOST_CALLS }
     ensures { IfOk result (λ places. (s : Snapshot) → call_count s ≡ calls → AreChosen s cost branches.now places.items) }
 {
     let marks = marks_of(alloc, branches, cost, calls)?;

@@ -23,14 +23,15 @@ use crate::steps::{note_turns, split};
 use assign_branch::{Pricer, Tree};
 use byte_streams::Gate;
 use call_state::Snapshot;
-use elevator_model::Plan;
+use elevator_model::{MOST_CALLS, Plan};
 use price_steps::Steps;
 use pricing_rounds::desks_for;
-use search_model::{Items, StopReason, Turn};
+use search_model::{Items, Stated, StopReason, Turn};
 use search_tree::{Branch, SearchTree, Sheet, first_choice};
 use std::alloc::{AllocError, Global};
 use std::marker::Sync;
 use std::thread::Threads;
+use work_fan::MOST_WORKERS;
 
 /// How long a search may go on.
 #[derive(Clone, Copy)]
@@ -44,12 +45,8 @@ pub struct Limits {
 /// What a search answers.
 #[derive(Drop)]
 pub struct Found {
-    /// The cheapest plan that was found.
-    pub plan: Plan,
-    /// What it costs, in cost units.
-    pub cost: u64,
-    /// No feasible plan costs less, in cost units.
-    pub bound: u64,
+    /// The cheapest plan that was found, with its cost and the bound.
+    pub stated: Stated,
     /// It proves the bound.
     pub tree: Tree,
     /// The turns at the root.
@@ -83,7 +80,7 @@ fn spent_car(branches: &[Branch], cost: u64) -> Option<u32>
 impl<'a> Search<'a> {
     /// Why it ended, where each pricing may try so many partial tours.
     fn reason(&self, calls: usize, most_tours: u64) -> StopReason
-        requires { calls ≤ 128 }
+        requires { calls ≤ MOST_CALLS }
         ensures { (s : SnapshotOf) → call_count s ≡ calls → IsReasonOf s most_tours self.now result }
     {
         let (branches, cost) = (self.tree.branches(), self.best.cost);
@@ -120,9 +117,11 @@ fn answer(
     let bound = tree.bound(best.cost) as u64;
     Ok(Found {
         tree: tree.to_tree(alloc)?,
-        plan: best.plan,
-        cost: best.cost,
-        bound,
+        stated: Stated {
+            plan: best.plan,
+            cost: best.cost,
+            bound,
+        },
         turns: Items::from_vec(turns),
         why,
     })
@@ -137,7 +136,7 @@ fn split_where_due(
     calls: usize,
 ) -> Result<(), AllocError>
     requires some { 0 < length tree.old.branches }
-    requires calls { calls ≤ 128 }
+    requires calls { calls ≤ MOST_CALLS }
     ensures { OnOk result
         (IsSplit 0 tree.old.branches tree.new.branches
         ⊎ IsKeptRoot calls turns tree.old.branches tree.new.branches) }
@@ -230,7 +229,7 @@ fn end<P: Pricer>(
         → IsEnded (P.fits pricer.now) (P.snapshot pricer.now) limits.rounds limits.most_tours start
         begun.entry.turns.items begun.entry.search
         → IsFound (P.fits pricer.now) start.prices (rounded_up (sum_of_sheet start)) (P.snapshot pricer.now)
-        limits.rounds limits.most_tours f.plan f.cost f.bound f.tree.twigs f.turns f.why) }
+        limits.rounds limits.most_tours f.stated.plan f.stated.cost f.stated.bound f.tree.twigs f.turns f.why) }
     ensures sized { IfOk result (λ f. All IsSizedTwig f.tree.twigs) }
 {
     let Begun { search, turns } = begun;
@@ -254,7 +253,7 @@ fn close<P: Pricer>(
     ensures found { IfOk result (λ f. (start : PriceSheet)
         → IsTurned (P.fits pricer.now) (P.snapshot pricer.now) limits.rounds limits.most_tours start
         root.entry → IsFound (P.fits pricer.now) start.prices (rounded_up (sum_of_sheet start)) (P.snapshot pricer.now)
-        limits.rounds limits.most_tours f.plan f.cost f.bound f.tree.twigs f.turns f.why) }
+        limits.rounds limits.most_tours f.stated.plan f.stated.cost f.stated.bound f.tree.twigs f.turns f.why) }
     ensures sized { IfOk result (λ f. All IsSizedTwig f.tree.twigs) }
 {
     let Root {
@@ -290,7 +289,7 @@ fn turned<'a, P: Pricer, G: Gate + Sync>(
     ensures accepted { IsAccepted (P.snapshot pricer.now) }
     ensures desks { IfOk result (λ _. Serving (P.owns pricer.now) desks.new) }
 {
-    prove!(snapshot.calls().len() <= 128);
+    prove!(snapshot.calls().len() <= MOST_CALLS);
     let mut root = Root::new(alloc, snapshot, start, sheet)?;
     root.turn_as_due(
         rt,
@@ -325,7 +324,7 @@ fn find_at<P: Pricer, G: Gate + Sync>(
     requires most_tours { (1 ≤ limits.most_tours) × (limits.most_tours ≤ 10 ^ 18) }
     requires desks { Serving (P.owns pricer.now) desks.old }
     ensures found { IfOk result (λ f. IsFound (P.fits pricer.now) sheet.prices (rounded_up (sum_of_sheet sheet)) snapshot.now
-        limits.rounds limits.most_tours f.plan f.cost f.bound f.tree.twigs f.turns f.why) }
+        limits.rounds limits.most_tours f.stated.plan f.stated.cost f.stated.bound f.tree.twigs f.turns f.why) }
     ensures sized { IfOk result (λ f. All IsSizedTwig f.tree.twigs) }
 {
     let root = turned(
@@ -365,9 +364,9 @@ pub fn find_plan<P: Pricer, G: Gate + Sync>(
     requires sum { pos 0 ≤ℤ sum_of_sheet sheet }
     requires rounds { (1 ≤ limits.rounds) × (limits.rounds ≤ 10 ^ 18) }
     requires most_tours { (1 ≤ limits.most_tours) × (limits.most_tours ≤ 10 ^ 18) }
-    requires workers { (1 ≤ workers) × (workers ≤ 16) }
+    requires workers { (1 ≤ workers) × (workers ≤ MOST_WORKERS) }
     ensures found { IfOk result (λ f. IsFound (P.fits pricer.now) sheet.prices (rounded_up (sum_of_sheet sheet)) snapshot.now
-        limits.rounds limits.most_tours f.plan f.cost f.bound f.tree.twigs f.turns f.why) }
+        limits.rounds limits.most_tours f.stated.plan f.stated.cost f.stated.bound f.tree.twigs f.turns f.why) }
     ensures sized { IfOk result (λ f. All IsSizedTwig f.tree.twigs) }
 {
     let mut desks = desks_for(alloc, pricer, workers)?;

@@ -15,7 +15,7 @@ ghost use Rattle.node_search.specs.Searches.{HasSettled, IsPlanOf, IsPricingOf, 
 use crate::best::Best;
 use crate::steps::{note, split};
 use assign_branch::{Node, Pricer};
-use elevator_model::Plan;
+use elevator_model::{MOST_CALLS, Plan};
 use price_scale::{Price, SCALE};
 use price_steps::Steps;
 use search_model::TurnOf;
@@ -205,7 +205,7 @@ impl<'a> Search<'a> {
             (IsUnderWay (P.fits pricer.now) (P.snapshot pricer.now) most_tours self.new) }
         ensures settled { OnOk result (HasSettled (P.snapshot pricer.now) self.old self.new place) }
     {
-        prove!(self.best.pool.snapshot().calls().len() <= 128);
+        prove!(self.best.pool.snapshot().calls().len() <= MOST_CALLS);
         self.best.put_tours(alloc, cars)?;
         match first_choice(&self.tree.branches()[place].node, prices.len()) {
             Some(first) => self.settle_open(alloc, pricer, most_tours, place, prices, cars, first),

@@ -9,6 +9,7 @@ ghost use Rattle.search_tree.specs.Answers.{BeginsAt};
 ghost use Rattle.node_search.specs.Searches.{IsSplit};
 
 use assign_branch::Node;
+use elevator_model::MOST_CALLS;
 use price_scale::Price;
 use price_steps::Steps;
 use restricted_master::Pool;
@@ -81,7 +82,7 @@ pub(crate) fn next_prices(
 
 /// Which call is split and how: where nothing else is proposed, as `first` says.
 fn choice(steps: &Steps, node: &Node, calls: usize, first: SplitAt) -> SplitAt
-    requires calls { calls ≤ 128 }
+    requires calls { calls ≤ MOST_CALLS }
     requires part { is_part (set_of node.now first.call) first.part ≡ true }
     ensures { is_part (set_of node.now result.call) result.part ≡ true }
 {
@@ -101,7 +102,7 @@ pub(crate) fn split(
     first: SplitAt,
 ) -> Result<(), AllocError>
     requires place { place < length tree.old.branches }
-    requires calls { calls ≤ 128 }
+    requires calls { calls ≤ MOST_CALLS }
     requires part { is_part (set_of (at_place tree.old.branches place).node first.call) first.part ≡ true }
     ensures { OnOk result (IsSplit place tree.old.branches tree.new.branches) }
 {

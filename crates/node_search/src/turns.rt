@@ -3,9 +3,11 @@
 ghost use Rattle.std.specs.Prelude.{◌≡◌, ◌<◌, ◌≤◌, ◌^◌, ℕ, ℤ, pos, ◌+ℤ◌, ◌-ℤ◌, ◌*ℤ◌, ◌≤ℤ◌, ◌+◌, ◌/◌, IfOk, IfSome, length, slice_index, count_by};
 ghost use Rattle.search_model.specs.declared.TurnOf.{TurnOf};
 ghost use Rattle.search_model.specs.Prices.{price_at};
-ghost use Rattle.search_model.specs.Solving.{boards_in, cut, greatest_price};
+ghost use Rattle.price_scale.specs.Scale.{cut};
+ghost use Rattle.search_model.specs.Solving.{boards_in, greatest_price};
 ghost use Rattle.node_search.specs.Turns.{BoardBelow, BoardsBelow, boards_of_cars, moved_price};
 
+use elevator_model::{MOST_CALLS, MOST_CARS};
 use price_scale::Price;
 use restricted_master::adjust;
 use search_model::TurnOf;
@@ -50,10 +52,10 @@ fn boards(turn: &TurnOf, call: u32) -> bool
 
 /// In how many of the tours the call boards.
 fn boards_count(cars: &[TurnOf], call: u32) -> u32
-    requires cars { length cars.now ≤ 16 }
+    requires cars { length cars.now ≤ MOST_CARS }
     requires tours { BoardBelow cars.now }
     ensures count { result ≡ boards_of_cars cars.now call }
-    ensures few { result ≤ 16 }
+    ensures few { result ≤ MOST_CARS }
 {
     let mut count = 0;
     for car in 0..cars.len() {
@@ -66,13 +68,13 @@ fn boards_count(cars: &[TurnOf], call: u32) -> u32
 
 /// In how many of the tours each call boards. It fails only where there is no memory left.
 fn boards_counts(alloc: Global, cars: &[TurnOf], calls: usize) -> Result<Vec<u32>, AllocError>
-    requires cars { length cars.now ≤ 16 }
+    requires cars { length cars.now ≤ MOST_CARS }
     requires tours { BoardBelow cars.now }
-    requires calls { calls ≤ 128 }
+    requires calls { calls ≤ MOST_CALLS }
     ensures count { IfOk result (λ counts. length counts.items ≡ calls) }
     ensures each { IfOk result (λ counts. (j : ℕ) → j < calls
         → slice_index counts.items j ≡ boards_of_cars cars.now j) }
-    ensures few { IfOk result (λ counts. (j : ℕ) → slice_index counts.items j ≤ 16) }
+    ensures few { IfOk result (λ counts. (j : ℕ) → slice_index counts.items j ≤ MOST_CARS) }
 {
     let mut counts = Vec::with_capacity(alloc, calls)?;
     for call in 0..calls {
@@ -89,9 +91,9 @@ pub(crate) fn prices_after(
     cars: &[TurnOf],
     step: i128,
 ) -> Result<Vec<Price>, AllocError>
-    requires cars { length cars.now ≤ 16 }
+    requires cars { length cars.now ≤ MOST_CARS }
     requires tours { BoardBelow cars.now }
-    requires calls { length prices.now ≤ 128 }
+    requires calls { length prices.now ≤ MOST_CALLS }
     requires low { pos 0 ≤ℤ step }
     requires high { step ≤ℤ pos (10 ^ 24) }
     ensures count { IfOk result (λ next. length next.items ≡ length prices.now) }

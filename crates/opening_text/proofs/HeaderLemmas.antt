@@ -10,6 +10,7 @@ use Rattle.lift_text.specs.Lines.{pieces_of}
 use Rattle.lift_text.specs.Reading.{TextState, Passed, NextRaw, line_limit}
 use Rattle.lift_text.specs.declared.faults.TextFault.{TextFault}
 use Rattle.lift_text.specs.declared.faults.TextFault.TheVariants.{Read, TooLong, Bad, NoMemory}
+use Rattle.lift_text.specs.declared.codes.TextCode.TheVariants.{NoHeader, CutShort}
 use Rattle.opening_text.specs.Headers.{IsEmptyLine, IsHeaderLine, IsNoHeader, HeaderFirst, NoHeaderFirst, HeaderInFront, IsHeaderFault, IsHeaderRead, IsPassed, IsLineRead}
 
 -- ---- one line
@@ -32,11 +33,11 @@ header_line (Some before) (Some now) raw next names =
     (record { short = subst (λ (xs : List ℕ). length xs ≤ line_limit) (sym next.3) next.4; names = ap texts_of_line next.3 ∙ names })
 
 -- the first line is neither
-other_line : (before : TextState) (piece : List ℕ) (pieces : List (List ℕ)) (n : ℕ) → pieces_of before.bytes ≡ piece ∷ pieces → length piece ≤ before.limit → IsNoHeader piece → n ≡ before.line + 1 → IsHeaderFault before (Bad n 27)
+other_line : (before : TextState) (piece : List ℕ) (pieces : List (List ℕ)) (n : ℕ) → pieces_of before.bytes ≡ piece ∷ pieces → length piece ≤ before.limit → IsNoHeader piece → n ≡ before.line + 1 → IsHeaderFault before (Bad n NoHeader)
 other_line before piece pieces n first within other number =
-    subst (λ (xs : List (List ℕ)). NoHeaderFirst before.line before.limit xs (Bad n 27)) (sym first) (inr (within, inr (other, ap (λ (k : ℕ). Bad k 27) number)))
+    subst (λ (xs : List (List ℕ)). NoHeaderFirst before.line before.limit xs (Bad n NoHeader)) (sym first) (inr (within, inr (other, ap (λ (k : ℕ). Bad k NoHeader) number)))
 
-pub no_header : (before now : Option TextState) (raw : List ℕ) (old n : ℕ) → NextRaw before (Ok Line) raw now → (raw ≡ [] → ⊥) → (texts_of_line raw ≡ Some header_fields → ⊥) → IfSome before (λ text. text.line ≡ old) → n ≡ old + 1 → IsLineRead before (Err (Bad n 27)) now
+pub no_header : (before now : Option TextState) (raw : List ℕ) (old n : ℕ) → NextRaw before (Ok Line) raw now → (raw ≡ [] → ⊥) → (texts_of_line raw ≡ Some header_fields → ⊥) → IfSome before (λ text. text.line ≡ old) → n ≡ old + 1 → IsLineRead before (Err (Bad n NoHeader)) now
 no_header None now raw old n next some other number counted = tt
 no_header (Some before) None raw old n next some other number counted = absurd next
 no_header (Some before) (Some now) raw old n next some other number counted =
@@ -44,7 +45,7 @@ no_header (Some before) (Some now) raw old n next some other number counted =
     (record { some = λ none. some (sym next.3 ∙ none); other = λ is. other (ap texts_of_line (sym next.3) ∙ is.names) })
     (omega (arith, number, counted))
 
-pub long_line : (before now : Option TextState) (raw : List ℕ) (old n : ℕ) → NextRaw before (Ok Long) raw now → IfSome before (λ text. text.line ≡ old) → n ≡ old + 1 → IsLineRead before (Err (Bad n 27)) now
+pub long_line : (before now : Option TextState) (raw : List ℕ) (old n : ℕ) → NextRaw before (Ok Long) raw now → IfSome before (λ text. text.line ≡ old) → n ≡ old + 1 → IsLineRead before (Err (Bad n NoHeader)) now
 long_line None now raw old n next number counted = tt
 long_line (Some before) None raw old n next number counted = absurd next
 long_line (Some before) (Some now) raw old n next number counted =
@@ -53,10 +54,10 @@ long_line (Some before) (Some now) raw old n next number counted =
     (record { some = λ none. (let size = ap length none in omega (arith, long, size)); other = λ is. (let short = is.short in omega (arith, long, short)) })
     (omega (arith, number, counted))
 
-pub no_line : (before now : Option TextState) (raw : List ℕ) (old n : ℕ) → NextRaw before (Ok End) raw now → IfSome before (λ text. text.line ≡ old) → n ≡ old + 1 → IsLineRead before (Err (Bad n 9)) now
+pub no_line : (before now : Option TextState) (raw : List ℕ) (old n : ℕ) → NextRaw before (Ok End) raw now → IfSome before (λ text. text.line ≡ old) → n ≡ old + 1 → IsLineRead before (Err (Bad n CutShort)) now
 no_line None now raw old n next number counted = tt
 no_line (Some before) now raw old n next number counted =
-    subst (λ (xs : List (List ℕ)). NoHeaderFirst before.line before.limit xs (Bad n 9)) (sym (ap pieces_of next.0)) (ap (λ (k : ℕ). Bad k 9) (omega (arith, number, counted)))
+    subst (λ (xs : List (List ℕ)). NoHeaderFirst before.line before.limit xs (Bad n CutShort)) (sym (ap pieces_of next.0)) (ap (λ (k : ℕ). Bad k CutShort) (omega (arith, number, counted)))
 
 pub failed_line : (before now : Option TextState) (raw : List ℕ) (fault : TextFault) → NextRaw before (Err fault) raw now → IsLineRead before (Err fault) now
 failed_line None now raw fault next = tt

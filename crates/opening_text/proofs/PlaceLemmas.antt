@@ -9,6 +9,7 @@ use Rattle.csv.specs.Machine.{next_record}
 use Rattle.csv.specs.Reading.{strip_bom}
 use Rattle.lift_text.specs.declared.faults.TextFault.{TextFault}
 use Rattle.lift_text.specs.declared.faults.TextFault.TheVariants.{Bad}
+use Rattle.lift_text.specs.declared.codes.TextCode.TheVariants.{NoHeader}
 use Rattle.row_text.specs.Records.{texts_of_line, header_fields}
 use Rattle.opening_text.specs.Headers.{IsEmptyLine, IsHeaderLine, IsNoHeader, IsBehindPiece, HeaderFirst, NoHeaderFirst}
 use Rattle.opening_text.proofs.PieceLemmas.{same_bytes}
@@ -106,7 +107,7 @@ no_fault line limit (piece ∷ pieces) x fault a b = by_kind (no_fault (line + 1
   where
     by_line : (HeaderFirst (line + 1) (limit - length piece) pieces x → NoHeaderFirst (line + 1) (limit - length piece) pieces fault → ⊥)
         → ((IsEmptyLine piece × HeaderFirst (line + 1) (limit - length piece) pieces x) ⊎ (IsHeaderLine piece × IsBehindPiece line limit piece pieces x))
-        → ((IsEmptyLine piece × NoHeaderFirst (line + 1) (limit - length piece) pieces fault) ⊎ (IsNoHeader piece × (fault ≡ Bad (line + 1) 27))) → ⊥
+        → ((IsEmptyLine piece × NoHeaderFirst (line + 1) (limit - length piece) pieces fault) ⊎ (IsNoHeader piece × (fault ≡ Bad (line + 1) NoHeader))) → ⊥
     by_line later (inl c) (inl d) = later c.1 d.1
     by_line later (inl c) (inr d) = d.0.some c.0
     by_line later (inr c) (inl d) = empty_or_header piece d.0 c.0

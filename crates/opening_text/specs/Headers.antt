@@ -4,6 +4,7 @@ use Rattle.lift_text.specs.Lines.{pieces_of, line_of}
 use Rattle.lift_text.specs.Reading.{TextState, line_limit}
 use Rattle.lift_text.specs.declared.faults.TextFault.{TextFault}
 use Rattle.lift_text.specs.declared.faults.TextFault.TheVariants.{TooLong, Bad}
+use Rattle.lift_text.specs.declared.codes.TextCode.TheVariants.{CutShort, NoHeader}
 use Rattle.case_text.specs.CaseTexts.{Tells}
 use Rattle.row_text.specs.Records.{texts_of_line, header_fields}
 
@@ -38,11 +39,11 @@ HeaderFirst line limit (piece ∷ pieces) behind =
 -- The fault of the first line that is not empty: it is not the header, or goes past the most bytes that may be read,
 -- or there is none.
 abbrev pub NoHeaderFirst : (line limit : ℕ) → List (List ℕ) → TextFault → Type 0
-NoHeaderFirst line limit [] fault = fault ≡ Bad (line + 1) 9
+NoHeaderFirst line limit [] fault = fault ≡ Bad (line + 1) CutShort
 NoHeaderFirst line limit (piece ∷ pieces) fault =
     ((limit < length piece) × (fault ≡ TooLong))
     ⊎ ((length piece ≤ limit)
-    × ((IsEmptyLine piece × NoHeaderFirst (line + 1) (limit - length piece) pieces fault) ⊎ (IsNoHeader piece × (fault ≡ Bad (line + 1) 27))))
+    × ((IsEmptyLine piece × NoHeaderFirst (line + 1) (limit - length piece) pieces fault) ⊎ (IsNoHeader piece × (fault ≡ Bad (line + 1) NoHeader))))
 
 abbrev pub HeaderInFront : TextState → TextState → Type 0
 HeaderInFront text behind = HeaderFirst text.line text.limit (pieces_of text.bytes) behind

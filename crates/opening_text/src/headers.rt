@@ -3,25 +3,17 @@ ghost use Rattle.std.specs.Prelude.{◌≡◌, ◌≤◌, ◌+◌, None, IfErr, 
 ghost use Rattle.byte_streams.specs.Streams.{Rose};
 ghost use Rattle.lift_text.specs.LineReader.{text, line, failure};
 ghost use Rattle.lift_text.specs.declared.faults.TextFault.TheVariants.{Bad};
-ghost use Rattle.text_sections.specs.Codes.{code_of};
 ghost use Rattle.opening_text.specs.Headers.{IsHeaderRead, IsLineRead};
 
-use lift_text::{LineReader, RawLine, Source, TextFault};
+use lift_text::{LINE_COUNT_BOUND, LineReader, RawLine, Source, TEXT_LIMIT, TextCode, TextFault};
 use row_text::is_header;
 use std::alloc::Global;
-use text_sections::TextCode;
-
-/// More lines than a text can have.
-const MOST_LINES: u64 = 67_108_865;
 
 /// The fault of the line with this number.
 fn bad_line(line: u64, code: TextCode) -> TextFault
-    ensures { result ≡ Bad line (code_of code) }
+    ensures { result ≡ Bad line code }
 {
-    TextFault::Bad {
-        line,
-        code: code.code(),
-    }
+    TextFault::Bad { line, code }
 }
 
 /// Reads one line: true is the header, false an empty line.
@@ -30,7 +22,7 @@ fn read_line<S: Source>(alloc: Global, lines: &mut LineReader<S>) -> Result<bool
     ensures same_source { lines.new.source.ghost_name ≡ lines.old.source.ghost_name }
     ensures line { IsLineRead (text S.left lines.old) result (text S.left lines.new) }
     ensures number { OnOk result (line lines.new ≡ line lines.old + 1) }
-    ensures bound { OnOk result (line lines.new ≤ 67108864) }
+    ensures bound { OnOk result (line lines.new ≤ TEXT_LIMIT) }
     ensures ok { OnOk result (failure lines.new ≡ None) }
     ensures read { IsErrOf result TextFault.Read
         → Rose (S.faults lines.old.source.now) (S.faults lines.new.source.now) }
@@ -55,10 +47,9 @@ fn read_line<S: Source>(alloc: Global, lines: &mut LineReader<S>) -> Result<bool
 
 /// Reads the header of the rows of a day: the first line that is not empty. What follows it stays unread.
 ///
-/// The line is bad with code 27 where it is not the four names, as `row_text::is_header` has it, or is over
-/// 4,096 bytes. Code 9 comes where the input ends before it, at the line after the last. `TooLong` comes
-/// where it does not end within the bytes that may be read, and `Read` only where a read of the source
-/// failed.
+/// The line is bad with `NoHeader` where it is not the four names, as `row_text::is_header` has it, or is over 4,096
+/// bytes. `CutShort` comes where the input ends before it, at the line after the last. `TooLong` comes where it does
+/// not end within the bytes that may be read, and `Read` only where a read of the source failed.
 pub fn read_header<S: Source>(alloc: Global, lines: &mut LineReader<S>) -> Result<(), TextFault>
     requires { failure lines.old ≡ None }
     ensures same_source { lines.new.source.ghost_name ≡ lines.old.source.ghost_name }
@@ -68,9 +59,9 @@ pub fn read_header<S: Source>(alloc: Global, lines: &mut LineReader<S>) -> Resul
         → Rose (S.faults lines.old.source.now) (S.faults lines.new.source.now) }
     ensures counted { S.faults lines.old.source.now ≤ S.faults lines.new.source.now }
 {
-    // A line's number is at most 67,108,864.
+    // For the proof: a line's number is at most 67,108,864.
     let _start = lines.line();
-    'lines: for _ in 0..MOST_LINES {
+    'lines: for _ in 0..LINE_COUNT_BOUND {
         let is_found = read_line(alloc, lines)?;
         if is_found {
             return Ok(());

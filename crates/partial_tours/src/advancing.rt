@@ -13,6 +13,7 @@ ghost use Rattle.partial_tours.specs.Courses.{TracksCourse, LeadsOn, reached, em
 use crate::points::Point;
 use call_sets::CallSet;
 use car_layout::Layout;
+use elevator_model::MOST_CALLS;
 use tour_rules::places::{Heading, Place, at_start, persons_carried};
 
 impl Point {
@@ -78,7 +79,7 @@ impl Point {
             → move_on layout.now.snapshot layout.now.car x (Move.Leave floor) ≡ Some y
             → TracksCourse layout.now.snapshot layout.now.car result y }
     {
-        // So a floor of the building is below 64, and a car carries at most 64 persons.
+        // For the proof: a floor of the building is below 64, and a car carries at most 64 persons.
         let _accepted = layout.snapshot();
         let _car = layout.car();
         let ending = layout.ending(floor);
@@ -114,7 +115,7 @@ impl Point {
 
 /// The car with one call more at its stop.
 fn with_board(place: &Place, call: u32) -> Place
-    requires { call < 128 }
+    requires { call < MOST_CALLS }
     ensures boarded { (j : ℕ) → has result.boarded j ≡ (has place.now.boarded j || (j == call)) }
     ensures carried { (j : ℕ) → has result.carried j ≡ (has place.now.carried j || (j == call)) }
     ensures begun { result.begun ≡ place.now.begun }

@@ -31,7 +31,7 @@ pub fn calls_with_room(layout: &Layout, room: u32) -> CallSet
     ensures { (j : ℕ) → has result j
         ≡ (nat_lt j (call_count layout.now.snapshot) && nat_le (call_of layout.now.snapshot j).persons room) }
 {
-    // So no call has more than 8 persons.
+    // For the proof: no call has more than 8 persons.
     let _accepted = layout.snapshot();
     if room > 8 {
         layout.fitting(8)
@@ -104,7 +104,7 @@ fn first_floors_next(layout: &Layout, point: &Point) -> FloorSet
         → (g : ℕ) → has result g ≡ may_stand layout.now.snapshot layout.now.car
         (reached layout.now.snapshot layout.now.car x) (empty_stop g) }
 {
-    // So each floor that is served is below 64.
+    // For the proof: each floor that is served is below 64.
     let _accepted = layout.snapshot();
     let floors = layout.served().intersection(layout.first_floors());
     if is_coming(layout) {
@@ -121,7 +121,7 @@ fn later_floors_next(layout: &Layout, point: &Point) -> FloorSet
         → (g : ℕ) → has result g ≡ may_stand layout.now.snapshot layout.now.car
         (reached layout.now.snapshot layout.now.car x) (empty_stop g) }
 {
-    // So each floor that is served is below 64.
+    // For the proof: each floor that is served is below 64.
     let _accepted = layout.snapshot();
     floors_on_way(point.bound_for, point.place.floor)
         .intersection(layout.served())
@@ -306,7 +306,7 @@ pub(crate) fn fill(layout: &Layout, point: &Point, allowed: CallSet, out: &mut V
         → out.new.items ≡ lawful_moves layout.now.snapshot layout.now.car x (has allowed) }
     ensures capacity { vec_capacity out.new ≡ vec_capacity out.old }
 {
-    // So there are at most 128 calls and 64 floors.
+    // For the proof: there are at most 128 calls and 64 floors.
     let _accepted = layout.snapshot();
     out.clear();
     push_boards(boards_next(layout, point, allowed), out);

@@ -14,6 +14,12 @@ use elevator_model::MOMENT_LIMIT;
 use tour_rules::places::Place;
 use tour_rules::riding;
 
+/// The most persons who get off at a stop: 128 calls of 8 and 64 who were aboard.
+pub(crate) const MOST_LEAVING: u64 = 1_088;
+
+/// They cost at most this, in cost units: 128 times `MOST_CALL_COST` and `MOST_GROUPS_COST` are less.
+pub(crate) const MOST_LEAVING_COST: u64 = 400_000_000_000_000_000;
+
 /// Those who get off at a stop: how many persons, and what they cost, in cost units.
 #[derive(Clone, Copy)]
 pub(crate) struct Leaving {
@@ -100,8 +106,8 @@ pub(crate) fn leaving_at(
     ensures cost { (p : Progress) → Tracks layout.now.snapshot layout.now.car place.now p
         → IsKept layout.now.snapshot layout.now.car p → AreBoarded layout.now.snapshot p moments.now
         → result.cost ≡ leaving_cost layout.now.snapshot p floor opened }
-    ensures few { result.persons ≤ 1088 }
-    ensures small { result.cost ≤ 400000000000000000 }
+    ensures few { result.persons ≤ MOST_LEAVING }
+    ensures small { result.cost ≤ MOST_LEAVING_COST }
 {
     let off = place.carried.intersection(layout.ending(floor));
     let calls = calls_leaving(layout.snapshot(), off, opened, moments);

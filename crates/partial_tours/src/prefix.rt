@@ -9,7 +9,7 @@ ghost use Rattle.partial_tours.specs.Orders.{first_of, next_after};
 use crate::following::{Followers, fill, followers_at};
 use crate::points::Point;
 use crate::steps::{Step, opened_at};
-use crate::tally::note;
+use crate::tally::{MOST_SETTLED, note};
 use call_sets::CallSet;
 use call_state::Snapshot;
 use car_layout::Layout;
@@ -326,7 +326,7 @@ impl<'a> Prefix<'a> {
             → StandsAt self.now.snapshot self.now.car result.now x }
         ensures course { (x : Course) × (course self.now ≡ Some x) }
         ensures leaves { result.now.tally.leaves ≤ 90000000000 }
-        ensures small { result.now.tally.settled ≤ 460800000000000000 }
+        ensures small { result.now.tally.settled ≤ MOST_SETTLED }
         ensures early { result.now.tally.opened < 10000000000 }
         ensures floor { result.now.point.place.floor < floor_count self.now.snapshot.building }
     {

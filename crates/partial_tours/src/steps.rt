@@ -61,7 +61,7 @@ impl Step {
         ensures { IsStepAfter layout.now.snapshot layout.now.car self.now moments.now
             (Move.Leave floor) result }
     {
-        // So the floor is below 64 and no moment is too late.
+        // For the proof: the floor is below 64 and no moment is too late.
         let _accepted = layout.snapshot();
         let _car = layout.car();
         let place = &self.point.place;

@@ -10,11 +10,14 @@ ghost use Rattle.tour_rules.specs.Leaving.{IsKept};
 ghost use Rattle.partial_tours.specs.Courses.{with_call_on};
 ghost use Rattle.partial_tours.specs.Tallies.{Counts, IsTally, with_moment};
 
-use crate::leaving::Leaving;
+use crate::leaving::{Leaving, MOST_LEAVING, MOST_LEAVING_COST};
 use call_state::Snapshot;
 use car_layout::Layout;
 use elevator_model::{MOMENT_LIMIT, Move};
 use tour_rules::riding;
+
+/// Those who got off cost at most this, in cost units: 128 calls and 64 groups, `MOST_CALL_COST` each.
+pub(crate) const MOST_SETTLED: u64 = 460_800_000_000_000_000;
 
 /// The moments of the last stop, and the cost of those who got off.
 #[derive(Clone, Copy)]
@@ -70,10 +73,10 @@ impl Tally {
 
     /// The car goes on to a stop whose doors are open at this moment, where these get off.
     pub(crate) fn after_leave(&self, layout: &Layout, opened: u64, leaving: Leaving) -> Self
-        requires few { leaving.persons ≤ 1088 }
-        requires cheap { leaving.cost ≤ 400000000000000000 }
+        requires few { leaving.persons ≤ MOST_LEAVING }
+        requires cheap { leaving.cost ≤ MOST_LEAVING_COST }
         requires early { opened ≤ MOMENT_LIMIT }
-        requires small { self.now.settled ≤ 460800000000000000 }
+        requires small { self.now.settled ≤ MOST_SETTLED }
         ensures opened { result.opened ≡ opened }
         ensures leaves { result.leaves ≡ opened
             + ((spec_of layout.now.snapshot layout.now.car).alighting * leaving.persons

@@ -11,7 +11,7 @@ ghost use Rattle.plain_solver.specs.Rests.{AreChoices, AreChoicesFrom, IsCheapes
 use crate::tours::feasible_tours;
 use call_sets::CallSet;
 use call_state::Snapshot;
-use elevator_model::{MOST_CALLS, MOST_COST, Tour};
+use elevator_model::{MOST_CALLS, MOST_CARS, MOST_COST, Tour};
 use std::alloc::{AllocError, Global};
 use std::marker::Model;
 use tour_cost::{calls_of, cost};
@@ -37,7 +37,7 @@ impl Choices {
         ensures { IfOk result
             (λ choices. AreChoices snapshot.now car choices.tours.items choices.sums.items) }
     {
-        prove!(snapshot.calls().len() <= 128);
+        prove!(snapshot.calls().len() <= MOST_CALLS);
         let tours = feasible_tours(alloc, snapshot, car)?;
         let mut sums = Vec::new(alloc);
         for tour in &tours {
@@ -55,7 +55,7 @@ fn sums_of(snapshot: &Snapshot, car: u32, tour: &Tour) -> Sums
     ensures small { result.cost ≤ MOST_COST }
     ensures calls { (j : ℕ) → has result.calls j ≡ is_boarded_in tour.now j }
 {
-    prove!(snapshot.calls().len() <= 128);
+    prove!(snapshot.calls().len() <= MOST_CALLS);
     Sums {
         cost: cost(snapshot, car, tour),
         calls: calls_of(tour),
@@ -124,23 +124,10 @@ impl Rest {
 
 /// Whether no call is in both sets.
 fn are_apart(left: CallSet, right: CallSet) -> bool
-    ensures { IsTrue result ↔ ((k : ℕ) → k < 128 → has left k ≡ true → has right k ≡ false) }
+    ensures { IsTrue result ↔ ((k : ℕ) → k < MOST_CALLS → has left k ≡ true → has right k ≡ false) }
 {
     for call in 0..MOST_CALLS as u32 {
         if left.contains(call) && right.contains(call) {
-            return false;
-        }
-    }
-    true
-}
-
-/// Whether each of the first calls is in the set.
-fn has_all(set: CallSet, calls: usize) -> bool
-    requires { calls ≤ 128 }
-    ensures { IsTrue result ↔ ((k : ℕ) → k < calls → has set k ≡ true) }
-{
-    for call in 0..calls {
-        if !set.contains(call as u32) {
             return false;
         }
     }
@@ -171,8 +158,8 @@ fn end_of(alloc: Global, snapshot: &Snapshot, taken: CallSet) -> Option<Rest>
         → IsCheapest snapshot.now (has taken) c result }
     ensures small { IsSmallCost 0 result }
 {
-    prove!(snapshot.calls().len() <= 128);
-    if has_all(taken, snapshot.calls().len()) {
+    prove!(snapshot.calls().len() <= MOST_CALLS);
+    if taken.has_first(snapshot.calls().len()) {
         Some(Rest::new(alloc))
     } else {
         None
@@ -189,7 +176,7 @@ pub(crate) fn cheapest_rest(
     taken: CallSet,
 ) -> Result<Option<Rest>, AllocError>
     requires choices { AreChoicesFrom snapshot.now car choices.now }
-    requires few { car + length choices.now ≤ 16 }
+    requires few { car + length choices.now ≤ MOST_CARS }
     ensures cheapest { IfOk result (λ rest. IsCheapest snapshot.now (has taken) car rest) }
     ensures small { IfOk result (λ rest. IsSmallCost (length choices.now) rest) }
 {

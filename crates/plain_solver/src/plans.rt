@@ -8,7 +8,7 @@ ghost use Rattle.plain_solver.specs.Rests.{AreChoicesFrom};
 use crate::choices::{Choices, cheapest_rest};
 use call_sets::CallSet;
 use call_state::Snapshot;
-use elevator_model::Plan;
+use elevator_model::{MOST_CARS, Plan};
 use std::alloc::{AllocError, Global};
 
 /// An optimal plan and its cost.
@@ -42,7 +42,7 @@ pub fn cheapest_plan(alloc: Global, snapshot: &Snapshot) -> Result<Cheapest, All
 /// The choices of each car.
 fn all_choices(alloc: Global, snapshot: &Snapshot) -> Result<Vec<Choices>, AllocError>
     ensures choices { IfOk result (λ choices. AreChoicesFrom snapshot.now 0 choices.items) }
-    ensures few { IfOk result (λ choices. length choices.items ≤ 16) }
+    ensures few { IfOk result (λ choices. length choices.items ≤ MOST_CARS) }
     ensures accepted { IsAccepted snapshot.now }
 {
     let mut choices = Vec::new(alloc);

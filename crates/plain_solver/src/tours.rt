@@ -8,7 +8,7 @@ ghost use Rattle.partial_tours.specs.Listed.{AreAllTours, AddsTours, ends_tour};
 
 use call_sets::CallSet;
 use call_state::Snapshot;
-use elevator_model::{Move, Tour};
+use elevator_model::{MOST_CALLS, Move, Tour};
 use partial_tours::Prefix;
 use std::alloc::{AllocError, Global};
 
@@ -22,7 +22,7 @@ pub fn feasible_tours(alloc: Global, snapshot: &Snapshot, car: u32) -> Result<Ve
     ensures { IfOk result (λ tours. AreAllTours snapshot.now car tours.items) }
 {
     // So the set of all ones has each call.
-    prove!(snapshot.calls().len() <= 128);
+    prove!(snapshot.calls().len() <= MOST_CALLS);
     let mut prefix = Prefix::new(alloc, snapshot, car)?;
     let mut found = Vec::new(alloc);
     add_tours(alloc, &mut prefix, &mut found)?;
@@ -59,7 +59,7 @@ fn add_tour(alloc: Global, prefix: &Prefix, found: &mut Vec<Tour>) -> Result<(),
 /// Adds the tours to which the partial tour can lead.
 #[cycle(search)]
 fn add_tours(alloc: Global, prefix: &mut Prefix, found: &mut Vec<Tour>) -> Result<(), AllocError>
-    requires { call_count prefix.old.snapshot ≤ 128 }
+    requires { call_count prefix.old.snapshot ≤ MOST_CALLS }
     ensures prefix { OnOk result (prefix.new ≡ prefix.old) }
     ensures found { OnOk result (AddsTours prefix.old found.old.items found.new.items) }
 {
@@ -83,7 +83,7 @@ fn add_tours_after(
     next: Move,
     found: &mut Vec<Tour>,
 ) -> Result<(), AllocError>
-    requires few { call_count prefix.old.snapshot ≤ 128 }
+    requires few { call_count prefix.old.snapshot ≤ MOST_CALLS }
     requires lawful { IsLawful prefix.old.snapshot prefix.old.car (prefix.old.moves ++ next ∷ []) }
     ensures prefix { OnOk result (prefix.new ≡ prefix.old) }
     ensures found { OnOk result

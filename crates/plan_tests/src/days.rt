@@ -8,10 +8,11 @@ ghost use Rattle.day_state.specs.Openings.{IsNewCall, IsOpeningSnapshot};
 use crate::cases::{FOUR_FLOORS, UNEVEN_PAIR, snapshot_of};
 use crate::same::{Numbered, are_same};
 use call_state::{Aboard, Call, CarState, Snapshot};
-use case_kit::{is_feasible, is_so_of, plan_in, snapshot_in};
+use case_kit::{is_so_of, plan_in, snapshot_in};
 use day_state::{Event, NotTaken, World};
 use elevator_model::Plan;
 use std::alloc::Global;
+use tour_cost::is_feasible;
 
 fn boards(call: u32, car: u32, moment: u64) -> Event {
     Event::Board { call, car, moment }

@@ -1,10 +1,10 @@
 //! Pools of drawn tours, and prices that are drawn.
 
-use case_kit::Draws;
 use elevator_model::Tour;
 use plain_solver::feasible_tours;
 use price_scale::Price;
 use restricted_master::Pool;
+use search_model::Draws;
 use std::alloc::{AllocError, Global};
 use tour_rules::judge;
 
@@ -41,7 +41,7 @@ fn fill_car(
     draws: &mut Draws,
 ) -> Result<(), AllocError> {
     for tour in tours_of(alloc, pool, car)?.unwrap_or(Vec::new(alloc)) {
-        if draws.below(part.max(1)) == 0 {
+        if draws.pick(part.max(1)) == 0 {
             offer(pool, car, tour);
         }
     }
@@ -55,7 +55,7 @@ pub(crate) fn fill(
     draws: &mut Draws,
 ) -> Result<(), AllocError> {
     for car in 0..8 {
-        let part = 1 + draws.below(9) * draws.below(4);
+        let part = 1 + draws.pick(9) * draws.pick(4);
         fill_car(alloc, pool, car, part, draws)?;
     }
     Ok(())
@@ -69,8 +69,8 @@ pub(crate) fn prices_of(
 ) -> Result<Vec<Price>, AllocError> {
     let mut prices = Vec::new(alloc);
     for _ in 0..calls {
-        let most = i128::from(draws.below(40_000_001));
-        let value = if draws.below(4) == 0 { -most } else { most };
+        let most = i128::from(draws.pick(40_000_001));
+        let value = if draws.pick(4) == 0 { -most } else { most };
         if let Some(price) = Price::new(value) {
             prices.push(price)?;
         }

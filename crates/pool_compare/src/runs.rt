@@ -7,10 +7,11 @@ use crate::fills::{fill, prices_of};
 use crate::listing::{is_pooled, least_cost, note_columns, selections, ways};
 use crate::tally::Tally;
 use call_state::Snapshot;
-use case_kit::{Draws, plan_price};
+use case_kit::{draws_of_case, plan_price};
 use case_maker::make;
 use price_scale::Price;
 use restricted_master::{Choice, Pool};
+use search_model::Draws;
 use std::alloc::{AllocError, Global};
 
 /// A limit that no pool of three cars comes to.
@@ -136,13 +137,13 @@ fn compare_limits(
         selections: selections(pool),
     };
     let half = known.least.unwrap_or(70_000) / 2;
-    let target = half.wrapping_mul(u64::from(draws.below(5)));
+    let target = half.wrapping_mul(u64::from(draws.pick(5)));
     for limit in [
         FAR,
         1,
         2,
-        u64::from(draws.below(30)),
-        u64::from(draws.below(400)),
+        u64::from(draws.pick(30)),
+        u64::from(draws.pick(400)),
     ] {
         compare_limit(alloc, pool, prices, target, limit, known, tally)?;
     }
@@ -229,10 +230,10 @@ fn compare_snapshot(
 
 /// Draws a snapshot, and compares what is selected from pools of its tours.
 pub(crate) fn compare_case(alloc: Global, case: u64, tally: &mut Tally) -> Result<(), AllocError> {
-    let mut draws = Draws::of_case(case);
-    let floors = 3 + draws.below(4);
-    let cars = 1 + draws.below(3);
-    let calls = draws.below(5);
+    let mut draws = draws_of_case(case);
+    let floors = 3 + draws.pick(4);
+    let cars = 1 + draws.pick(3);
+    let calls = draws.pick(5);
     let snapshot = make(alloc, case, floors, cars, calls)?;
     compare_snapshot(alloc, &snapshot, &mut draws, tally)
 }

@@ -9,7 +9,7 @@
 #![tactic(auto)]
 
 ghost use Rattle.std.specs.Prelude.{◌≡◌, ◌≤◌, ◌^◌, ◌*ℤ◌, ◌≤ℤ◌, pos, neg_ℤ, length, SomeIff};
-ghost use Rattle.price_scale.specs.Scale.{IsPrice, IsPriceSum, price_sum, RoundsUp};
+ghost use Rattle.price_scale.specs.Scale.{IsPrice, IsPriceSum, cut, price_sum, RoundsUp};
 
 use std::marker::Model;
 
@@ -17,7 +17,10 @@ use std::marker::Model;
 pub const SCALE: i128 = 1000;
 
 /// The greatest absolute value of a price, in thousandths of a cost unit.
-const MOST: i128 = 1_000_000_000_000_000_000_000_000;
+pub const MOST_PRICE: i128 = 1_000_000_000_000_000_000_000_000;
+
+/// The greatest absolute value of a worth, in thousandths of a cost unit.
+pub const MOST_WORTH: i128 = 1_000_000_000_000_000_000_000_000_000;
 
 /// A price in thousandths of a cost unit, of absolute value at most 10^24.
 ///
@@ -45,10 +48,20 @@ impl Price {
     pub fn new(value: i128) -> Option<Price>
         ensures { SomeIff result (IsPrice value) value }
     {
-        if -MOST <= value && value <= MOST {
+        if -MOST_PRICE <= value && value <= MOST_PRICE {
             Some(Price { value })
         } else {
             None
+        }
+    }
+
+    /// The price that is nearest to this many thousandths: they are cut at plus and minus 10^24.
+    pub fn nearest(value: i128) -> Price
+        ensures { result ≡ cut value }
+    {
+        match Price::new(value.min(MOST_PRICE).max(-MOST_PRICE)) {
+            Some(price) => price,
+            None => unreachable!(),
         }
     }
 

@@ -2,26 +2,10 @@
 
 ghost use Rattle.std.specs.Prelude.{◌≤◌, length};
 
-use crate::lacks::Lacks;
 use assign_branch::{CallSet, Node};
-use price_scale::{Price, SCALE, sum_prices};
+use price_ascent::{Reading, Tours};
+use price_scale::{Price, SCALE};
 use restricted_master::{Column, Pool};
-
-/// What the cheapest of these tours say at some prices.
-#[derive(Clone, Copy)]
-pub(crate) struct Estimate {
-    /// The prices and the least values of the cars together, in thousandths of a cost unit.
-    pub(crate) sum: i128,
-    pub(crate) lacks: Lacks,
-}
-
-impl Estimate {
-    /// Notes the cheapest tour of a car.
-    fn note(&mut self, cheapest: Cheapest) {
-        self.sum = self.sum.saturating_add(cheapest.value);
-        self.lacks.note(cheapest.calls);
-    }
-}
 
 /// The tour of the least value.
 #[derive(Clone, Copy)]
@@ -65,20 +49,23 @@ fn cheapest_in(columns: &[Column], node: &Node, car: u32, prices: &[Price]) -> O
     cheapest
 }
 
-/// What the pool's tours in the node say at these prices. A car that has none there says nothing.
-pub(crate) fn estimate_at(pool: &Pool, node: &Node, prices: &[Price]) -> Estimate
-    requires { length prices.now ≤ 128 }
-{
-    let mut estimate = Estimate {
-        sum: sum_prices(prices),
-        lacks: Lacks::new(prices.len()),
-    };
-    let cars = pool.snapshot().building().cars().len();
-    for car in 0..cars {
-        let columns = pool.columns(car as u32);
-        if let Some(cheapest) = cheapest_in(columns, node, car as u32, prices) {
-            estimate.note(cheapest);
+/// The pool's tours that lie in the node.
+#[derive(Clone, Copy)]
+pub(crate) struct NodeTours<'a> {
+    pub(crate) pool: &'a Pool<'a>,
+    pub(crate) node: &'a Node,
+}
+
+impl<'a> Tours for NodeTours<'a> {
+    fn read(&self, prices: &[Price]) -> Reading {
+        let mut reading = Reading::new(prices);
+        let cars = self.pool.snapshot().building().cars().len();
+        for car in 0..cars {
+            let columns = self.pool.columns(car as u32);
+            if let Some(cheapest) = cheapest_in(columns, self.node, car as u32, prices) {
+                reading.note(cheapest.value, cheapest.calls);
+            }
         }
+        reading
     }
-    estimate
 }

@@ -19,9 +19,9 @@
 #![tactic(auto)]
 
 mod ascent;
+mod boards;
 mod columns;
 mod fixed;
-mod lacks;
 mod moves;
 mod parts;
 mod shares;

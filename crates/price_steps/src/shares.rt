@@ -68,7 +68,7 @@ impl Shares {
 
     /// The car of the set that has the greatest share in a call, the first of equal ones.
     pub(crate) fn greatest(&self, call: usize, set: CarSet) -> Option<u32>
-        ensures { IfSome result (λ car. car < 16) }
+        ensures { IfSome result (λ car. car < MOST_CARS) }
     {
         let mut greatest = None;
         let mut most = -1;

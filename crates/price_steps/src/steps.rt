@@ -4,12 +4,15 @@ ghost use Rattle.std.specs.Prelude.{◌≡◌, ◌<◌, ◌≤◌, true, IfOk, I
 ghost use Rattle.search_model.specs.Nodes.{is_part, set_of};
 ghost use Rattle.search_tree.specs.Branches.{AreSingle};
 
-use crate::ascent::raise;
-use crate::fixed::{ONE, percent_of};
-use crate::lacks::{Lacks, calls_in};
-use crate::moves::{step, take_back};
+use crate::ascent::PACE;
+use crate::boards::calls_in;
+use crate::columns::NodeTours;
+use crate::fixed::ONE;
+use crate::moves::take_back;
 use crate::shares::Shares;
 use assign_branch::Node;
+use elevator_model::MOST_CALLS;
+use price_ascent::{Lacks, percent_of, raise};
 use price_scale::{Price, SCALE};
 use restricted_master::Pool;
 use search_model::TurnOf;
@@ -88,8 +91,9 @@ impl Steps {
             lacks.note(calls);
             self.shares.note(car, calls);
         }
-        for (part, lack) in self.violation.iter_mut().zip(&lacks.per_call) {
-            *part = part.saturating_add(lack.saturating_sub(*part) / 6);
+        for (part, lack) in self.violation.iter_mut().zip(lacks.as_slice()) {
+            let newest = lack.saturating_mul(ONE);
+            *part = part.saturating_add(newest.saturating_sub(*part) / 6);
         }
     }
 
@@ -133,8 +137,8 @@ impl Steps {
         let mut prices = from.to_vec(alloc)?;
         let mut room = from.to_vec(alloc)?;
         let sum = raise(
-            pool,
-            node,
+            &NodeTours { pool, node },
+            PACE,
             target,
             prices.as_mut_slice(),
             room.as_mut_slice(),
@@ -143,7 +147,7 @@ impl Steps {
             take_back(prices.as_mut_slice(), from, self.back);
         } else {
             let gap = target.saturating_sub(leaf.sum());
-            step(
+            PACE.step(
                 from,
                 self.violation.as_slice(),
                 gap,
@@ -169,7 +173,7 @@ impl Steps {
     /// At which call the node is split, of this many, and how: such that the pricings' tours are divided as
     /// evenly as may be. None exactly where each call has one car.
     pub fn choice(&self, node: &Node, calls: usize) -> Option<SplitAt>
-        requires { calls ≤ 128 }
+        requires { calls ≤ MOST_CALLS }
         ensures call { MatchOption result (AreSingle calls node.now) (λ at. at.call < calls) }
         ensures part { IfSome result (λ at. is_part (set_of node.now at.call) at.part ≡ true) }
     {

@@ -31,7 +31,7 @@ fn calls_part(
     requires car { prefix.now.car < car_count snapshot.now }
     requires leads { (x : Course) × (course prefix.now ≡ Some x) }
     requires prices { length prices.now ≡ call_count snapshot.now }
-    requires few { length prices.now ≤ 128 }
+    requires few { length prices.now ≤ MOST_CALLS }
     ensures sum { (x : Course) → course prefix.now ≡ Some x → result ≡ int_sum_below (length prices.now)
         (call_part_lem prefix.now.snapshot (price_at prices.now) (has allowed) (has required)
         (reached prefix.now.snapshot prefix.now.car x)) }
@@ -74,7 +74,7 @@ fn all_parts(
     requires car { prefix.now.car < car_count snapshot.now }
     requires leads { (x : Course) × (course prefix.now ≡ Some x) }
     requires prices { length prices.now ≡ call_count snapshot.now }
-    requires few { length prices.now ≤ 128 }
+    requires few { length prices.now ≤ MOST_CALLS }
     ensures value { (x : Course) → course prefix.now ≡ Some x → result ≡ completion_bound prefix.now.snapshot
         prefix.now.car (price_at prices.now) (has allowed) (has required) x }
     ensures low { neg_ℤ (pos (10 ^ 27)) ≤ℤ result }

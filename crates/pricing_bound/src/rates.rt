@@ -211,7 +211,7 @@ pub(crate) struct End {
 
 /// The end of these early calls: until a call that is not early may cost no less than its price.
 fn next_end(rates: &[Rate], early: CallSet) -> End
-    requires few { length rates.now ≤ 128 }
+    requires few { length rates.now ≤ MOST_CALLS }
     ensures end { IsEnd rates.now result }
     ensures early { result.early ≡ early }
 {
@@ -226,7 +226,7 @@ fn next_end(rates: &[Rate], early: CallSet) -> End
 
 /// The calls that may cost no less than their prices at this moment.
 fn ended_by(rates: &[Rate], moment: u64) -> CallSet
-    requires few { length rates.now ≤ 128 }
+    requires few { length rates.now ≤ MOST_CALLS }
     ensures within { (j : ℕ) → has result j ≡ true → j < length rates.now }
     ensures ended { (j : ℕ) (d : Rate) → j < length rates.now
         → has result j ≡ not (nat_lt moment (slice_index_or rates.now j d).below) }
@@ -243,7 +243,7 @@ fn ended_by(rates: &[Rate], moment: u64) -> CallSet
 /// Puts the ends of calls at these rates in place of those that are there, the first one first: at each of
 /// them some more calls are early. It takes no memory.
 fn lay_out_ends(rates: &[Rate], ends: &mut Vec<End>)
-    requires few { length rates.now ≤ 128 }
+    requires few { length rates.now ≤ MOST_CALLS }
     requires room { 129 ≤ vec_capacity ends.old }
     ensures ends { AreEnds rates.now ends.new.items }
     ensures room { vec_capacity ends.new ≡ vec_capacity ends.old }
@@ -275,7 +275,7 @@ fn place_past(ends: &[End], from: usize, moment: u64) -> usize
 
 /// The calls that may cost no less than their prices at a moment, with the place of the end that tells them.
 #[derive(Clone, Copy)]
-pub(crate) struct Due {
+pub(crate) struct DueEnds {
     pub(crate) place: usize,
     pub(crate) calls: CallSet,
 }
@@ -339,7 +339,7 @@ impl<'a> Rates<'a> {
         ensures snapshot { IfOk result (λ rates. rates.snapshot ≡ snapshot.now) }
         ensures prices { IfOk result (λ rates. rates.prices ≡ map (λ _. pos 0) snapshot.now.calls) }
     {
-        // So they are of an accepted snapshot.
+        // For the proof: they are of an accepted snapshot.
         let _calls = snapshot.calls();
         Ok(Rates {
             snapshot,
@@ -426,7 +426,7 @@ impl<'a> Rates<'a> {
 
     /// The calls that may cost no less than their prices where they board at this moment and ride straight to
     /// their destinations. Their end is looked for from this place on: 0, or that of an earlier moment.
-    pub(crate) fn due(&self, place: usize, moment: u64) -> Due
+    pub(crate) fn due(&self, place: usize, moment: u64) -> DueEnds
         ensures { (j : ℕ) → j < call_count self.now.snapshot → has result.calls j ≡ false
             → int_lt (scaled_lem (cost_if_alone self.now.snapshot j moment)
             -ℤ price_at self.now.prices j) (pos 0) ≡ true }
@@ -436,7 +436,7 @@ impl<'a> Rates<'a> {
             Some(end) => end.early,
             None => self.calls,
         };
-        Due { place, calls }
+        DueEnds { place, calls }
     }
 
     /// How what a call costs that rides straight to its destination grows from this moment of its board on.

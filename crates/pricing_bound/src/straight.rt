@@ -135,7 +135,7 @@ impl<'a> StraightRides<'a> {
         ensures low { neg_ℤ (pos (256 * 10 ^ 24)) ≤ℤ result }
         ensures high { result ≤ℤ pos (256 * 10 ^ 24) }
     {
-        // The snapshot is accepted, so it has at most 128 calls.
+        // For the proof: the snapshot is accepted, so it has at most 128 calls.
         let _accepted = self.rates.snapshot();
         let mut sum = 0;
         for call in calls.iter() {
@@ -155,7 +155,7 @@ impl<'a> StraightRides<'a> {
             (aim_at self.now.rates.now self.now.car self.now.allowed
             self.now.required) moment result.until j }
     {
-        // The snapshot is accepted, so it has at most 128 calls.
+        // For the proof: the snapshot is accepted, so it has at most 128 calls.
         let _accepted = self.rates.snapshot();
         let mut growth = Growth {
             slope: 0,
@@ -181,7 +181,7 @@ impl<'a> StraightRides<'a> {
             self.now.required) waiting.new }
         ensures moment { waiting.new.moment ≡ waiting.old.moment }
     {
-        // The snapshot is accepted, and no term is great.
+        // For the proof: the snapshot is accepted, and no term is great.
         let _accepted = self.rates.snapshot();
         let term = self.rates.term(call, waiting.moment);
         if term >= 0 {
@@ -204,7 +204,7 @@ impl<'a> StraightRides<'a> {
             self.now.required) waiting.new }
         ensures moment { waiting.new.moment ≡ waiting.old.moment }
     {
-        // The snapshot is accepted, so it has at most 128 calls.
+        // For the proof: the snapshot is accepted, so it has at most 128 calls.
         let _accepted = self.rates.snapshot();
         for call in due.iter() {
             self.sift_one(waiting, call);
@@ -271,7 +271,7 @@ impl<'a> StraightRides<'a> {
             self.now.required) result }
         ensures moment { result.moment ≡ moment }
     {
-        // The snapshot is accepted, and no term is great.
+        // For the proof: the snapshot is accepted, and no term is great.
         let _accepted = self.rates.snapshot();
         if moment < waiting.growth.until {
             self.sifted(waiting.later(moment))
@@ -292,7 +292,7 @@ impl<'a> StraightRides<'a> {
             self.now.required) result }
         ensures moment { result.moment ≡ waiting.now.moment }
     {
-        // The snapshot is accepted, and no term is great.
+        // For the proof: the snapshot is accepted, and no term is great.
         let _accepted = self.rates.snapshot();
         if !waiting.counted.contains(call) {
             return *waiting;
@@ -331,7 +331,7 @@ impl<'a> StraightRides<'a> {
             → StandFor (aim_at self.now.rates.now
             self.now.car self.now.allowed self.now.required) result y }
     {
-        // The snapshot is accepted, the car one of its cars, and what is settled small.
+        // For the proof: the snapshot is accepted, the car one of its cars, and what is settled small.
         let _accepted = self.rates.snapshot();
         let _car = prefix.car();
         prove!(prefix.settled() < MOST_COST);
@@ -382,7 +382,7 @@ impl<'a> StraightRides<'a> {
             → StandFor (aim_at self.now.rates.now
             self.now.car self.now.allowed self.now.required) result y }
     {
-        // The snapshot is accepted and the car one of its cars.
+        // For the proof: the snapshot is accepted and the car one of its cars.
         let _accepted = self.rates.snapshot();
         let _car = prefix.car();
         self.after_departure(prefix, sums, floor)
@@ -400,7 +400,7 @@ impl<'a> StraightRides<'a> {
             → StandFor (aim_at self.now.rates.now
             self.now.car self.now.allowed self.now.required) result y }
     {
-        // The snapshot is accepted, the car one of its cars and what is settled small.
+        // For the proof: the snapshot is accepted, the car one of its cars and what is settled small.
         let _accepted = self.rates.snapshot();
         let _car = prefix.car();
         let opened = prefix.opened_after(floor);
@@ -425,7 +425,7 @@ impl<'a> CompletionBound for StraightRides<'a> {
     ghost departs = { λ it departing x. AreDeparting (aim_at it.rates.now it.car it.allowed it.required) departing x };
 
     fn start(&self, prefix: &Prefix) -> Sums {
-        // The car is one of the snapshot's, and the moves are lawful.
+        // For the proof: the car is one of the snapshot's, and the moves are lawful.
         let _car = prefix.car();
         let _lawful = prefix.moves();
         let groups = groups_part(self.rates.snapshot(), prefix);

@@ -1,8 +1,8 @@
 //! Texts of buildings that are drawn by chance.
 
 use car_motion::least_time;
-use case_kit::Draws;
 use lift_text::{put_line, put_words};
+use search_model::Draws;
 use std::alloc::AllocError;
 
 /// mm/s.
@@ -31,8 +31,8 @@ pub(crate) struct Sizes {
 impl Sizes {
     pub(crate) fn drawn(draws: &mut Draws) -> Self {
         Sizes {
-            floors: 4 + draws.below(2),
-            cars: 1 + draws.below(3),
+            floors: 4 + draws.pick(2),
+            cars: 1 + draws.pick(3),
         }
     }
 }
@@ -44,7 +44,7 @@ fn heights_of(draws: &mut Draws, floors: u32) -> [u64; MOST_FLOORS] {
     for (place, each) in heights.iter_mut().enumerate() {
         *each = height;
         if place < floors as usize {
-            height = height.wrapping_add(3100 + draws.time(1700));
+            height = height.wrapping_add(3100 + u64::from(draws.pick(1700)));
         }
     }
     heights
@@ -57,7 +57,11 @@ fn put_times(text: &mut Vec<u8>, draws: &mut Draws, heights: &[u64]) -> Result<(
         for to in heights {
             let distance = from.abs_diff(*to).min(1_000_000);
             let least = least_time(SPEED, ACCEL, distance);
-            let delay = if distance > 0 { draws.time(700) } else { 0 };
+            let delay = if distance > 0 {
+                u64::from(draws.pick(700))
+            } else {
+                0
+            };
             put_words(text, b"", &[least + delay])?;
         }
         put_line(text, b"", &[])?;
@@ -67,10 +71,10 @@ fn put_times(text: &mut Vec<u8>, draws: &mut Draws, heights: &[u64]) -> Result<(
 
 /// Appends the floors that a car serves: mostly all.
 fn put_served(text: &mut Vec<u8>, draws: &mut Draws, floors: u32) -> Result<(), AllocError> {
-    if !draws.once_in(5) {
+    if draws.pick(5) != 0 {
         return text.extend_from_slice(b" all\n");
     }
-    let lacking = draws.below(5);
+    let lacking = draws.pick(5);
     for floor in 0..floors {
         if floor != lacking {
             put_words(text, b"", &[u64::from(floor)])?;
@@ -81,9 +85,15 @@ fn put_served(text: &mut Vec<u8>, draws: &mut Draws, floors: u32) -> Result<(), 
 
 fn put_cars(text: &mut Vec<u8>, draws: &mut Draws, sizes: Sizes) -> Result<(), AllocError> {
     for place in 0..sizes.cars {
-        let capacity = 2 + draws.time(5);
-        let [opening, closing] = [800 + draws.time(700), 900 + draws.time(800)];
-        let [boarding, alighting] = [300 + draws.time(400), 350 + draws.time(300)];
+        let capacity = 2 + u64::from(draws.pick(5));
+        let [opening, closing] = [
+            800 + u64::from(draws.pick(700)),
+            900 + u64::from(draws.pick(800)),
+        ];
+        let [boarding, alighting] = [
+            300 + u64::from(draws.pick(400)),
+            350 + u64::from(draws.pick(300)),
+        ];
         put_words(text, b"car", &[u64::from(car_id(place)), capacity])?;
         put_words(text, b"", &[opening, closing, boarding, alighting])?;
         put_served(text, draws, sizes.floors)?;
@@ -98,8 +108,11 @@ fn put_head(
     version: u64,
     heights: &[u64],
 ) -> Result<(), AllocError> {
-    let patience = [9000 + draws.time(9000), 1 + draws.time(6)];
-    let weights = [1 + draws.time(5), 1 + draws.time(4)];
+    let patience = [
+        9000 + u64::from(draws.pick(9000)),
+        1 + u64::from(draws.pick(6)),
+    ];
+    let weights = [1 + u64::from(draws.pick(5)), 1 + u64::from(draws.pick(4))];
     put_line(text, b"building", &[version])?;
     put_line(text, b"speed", &[SPEED])?;
     put_line(text, b"accel", &[ACCEL])?;
@@ -118,7 +131,7 @@ pub(crate) fn put_building(
     draws: &mut Draws,
     sizes: Sizes,
 ) -> Result<(), AllocError> {
-    let version = 1 + draws.time(3);
+    let version = 1 + u64::from(draws.pick(3));
     let heights = heights_of(draws, sizes.floors);
     let heights = heights.get(..sizes.floors as usize).unwrap_or(&heights);
     if version == 3 {

@@ -1,7 +1,7 @@
 //! Lists of prices.
 
-use case_kit::Draws;
 use price_scale::Price;
+use search_model::Draws;
 use std::alloc::{AllocError, Global};
 
 /// The greatest absolute value of a price, in thousandths of a cost unit.
@@ -34,14 +34,14 @@ impl Pricing {
     /// The next price in thousandths, where a call costs so much. `is_chosen` is true of one call of a list.
     fn next(self, draws: &mut Draws, mean: u64, is_chosen: bool) -> i128 {
         // About as many thousandths as the mean has, and no two alike.
-        let about = i128::from(mean) * i128::from(850 + draws.below(301));
-        let is_negative = draws.once_in(2);
+        let about = i128::from(mean) * i128::from(850 + draws.pick(301));
+        let is_negative = draws.pick(2) == 0;
         match self {
             Pricing::Zero => 0,
             Pricing::Twice => 2 * about,
             Pricing::FourTimes => 4 * about,
-            Pricing::AnySign if is_negative => (about * i128::from(draws.below(4))).wrapping_neg(),
-            Pricing::AnySign => about * i128::from(draws.below(5)),
+            Pricing::AnySign if is_negative => (about * i128::from(draws.pick(4))).wrapping_neg(),
+            Pricing::AnySign => about * i128::from(draws.pick(5)),
             Pricing::Extreme if !is_chosen => about,
             Pricing::Extreme if is_negative => -MOST,
             Pricing::Extreme => MOST,
@@ -57,7 +57,7 @@ impl Pricing {
         calls: usize,
     ) -> Result<Vec<Price>, AllocError> {
         let mut prices = Vec::new(alloc);
-        let chosen = draws.below(4) as usize;
+        let chosen = draws.pick(4) as usize;
         for call in 0..calls {
             let is_chosen = call == chosen.min(calls - 1);
             if let Some(price) = Price::new(self.next(draws, mean, is_chosen)) {

@@ -12,8 +12,9 @@ use crate::tally::Tally;
 use crate::tours::{Listed, mean_cost, tours_of};
 use assign_branch::{CarSet, Node, Pricer, root, split};
 use call_state::Snapshot;
-use case_kit::Draws;
+use case_kit::draws_of_case;
 use pricing_search::Searcher;
+use search_model::Draws;
 use std::alloc::{AllocError, Global};
 
 /// Prices a car in a node at prices that are drawn, and compares the answers.
@@ -119,7 +120,7 @@ fn compare_node<P: Pricer>(
 
 /// The first call, from a drawn one on, that more than one car may serve.
 fn call_to_split(node: &Node, calls: u32, draws: &mut Draws) -> Option<u32> {
-    let start = draws.below(4);
+    let start = draws.pick(4);
     for place in 0..calls {
         let call = start.wrapping_add(place) % calls.max(1);
         if node.set(call).bits().count_ones() > 1 {
@@ -155,7 +156,7 @@ fn half_of(
         &mut first,
         &mut second,
     ) {
-        Ok(()) => Ok(Some(if draws.once_in(2) { first } else { second })),
+        Ok(()) => Ok(Some(if draws.pick(2) == 0 { first } else { second })),
         Err(_) => Ok(None),
     }
 }
@@ -232,7 +233,7 @@ fn compare_snapshot(
 
 /// Draws a snapshot and compares what is asked of it. One that is refused is counted.
 pub(crate) fn compare_case(alloc: Global, case: u64, tally: &mut Tally) -> Result<(), AllocError> {
-    let mut draws = Draws::of_case(case);
+    let mut draws = draws_of_case(case);
     match drawn(alloc, &mut draws) {
         Some(snapshot) => {
             tally.snapshots = tally.snapshots.wrapping_add(1);

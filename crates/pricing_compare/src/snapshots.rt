@@ -2,8 +2,9 @@
 
 use crate::buildings::{Sizes, car_id, put_building};
 use call_state::{Aboard, Call, CarState, Snapshot};
-use case_kit::{Draws, put_call, put_group, put_state, snapshot_in};
+use case_kit::{put_call, put_group, put_state, snapshot_in};
 use lift_text::put_line;
+use search_model::Draws;
 use std::alloc::{AllocError, Global};
 
 /// The moment of every snapshot, in ms.
@@ -11,27 +12,27 @@ const NOW: u64 = 60_000;
 
 /// A floor, and another one.
 fn two_floors(draws: &mut Draws, floors: u32) -> (u32, u32) {
-    let from = draws.below(floors.max(1));
-    let step = 1 + draws.below(floors.max(3) - 1);
+    let from = draws.pick(floors.max(1));
+    let step = 1 + draws.pick(floors.max(3) - 1);
     (from, from.wrapping_add(step) % floors.max(1))
 }
 
 /// Half of the cars stand; the others come to a floor, or move past some.
 fn state(draws: &mut Draws, floors: u32) -> CarState {
-    let floor = draws.below(floors.max(1));
-    match draws.below(6) {
+    let floor = draws.pick(floors.max(1));
+    match draws.pick(6) {
         0 | 1 => CarState::Coming {
             floor,
-            arrives: NOW + draws.time(4000),
+            arrives: NOW + u64::from(draws.pick(4000)),
         },
         2 => CarState::Moving {
             from: floor,
-            up: draws.once_in(2),
-            left: NOW - draws.time(2500),
+            up: draws.pick(2) == 0,
+            left: NOW - u64::from(draws.pick(2500)),
         },
         _ => CarState::Idle {
             floor,
-            free: NOW + draws.time(3000),
+            free: NOW + u64::from(draws.pick(3000)),
         },
     }
 }
@@ -46,13 +47,13 @@ fn put_states(text: &mut Vec<u8>, draws: &mut Draws, sizes: Sizes) -> Result<(),
 /// Appends the groups aboard: one in every third car.
 fn put_groups(text: &mut Vec<u8>, draws: &mut Draws, sizes: Sizes) -> Result<(), AllocError> {
     for place in 0..sizes.cars {
-        if draws.once_in(3) {
+        if draws.pick(3) == 0 {
             let group = Aboard {
                 id: place.wrapping_add(40),
                 car: car_id(place),
-                destination: draws.below(sizes.floors.max(1)),
-                persons: 1 + draws.below(3),
-                boarded: NOW - draws.time(12_000),
+                destination: draws.pick(sizes.floors.max(1)),
+                persons: 1 + draws.pick(3),
+                boarded: NOW - u64::from(draws.pick(12_000)),
             };
             put_group(text, &group)?;
         }
@@ -62,8 +63,8 @@ fn put_groups(text: &mut Vec<u8>, draws: &mut Draws, sizes: Sizes) -> Result<(),
 
 /// The id of a car in one call of six, which is pinned to it.
 fn pin(draws: &mut Draws, cars: u32) -> Option<u32> {
-    if draws.once_in(6) {
-        Some(car_id(draws.below(cars.max(1))))
+    if draws.pick(6) == 0 {
+        Some(car_id(draws.pick(cars.max(1))))
     } else {
         None
     }
@@ -75,8 +76,8 @@ fn call(draws: &mut Draws, sizes: Sizes, id: u32) -> Call {
         id,
         origin,
         destination,
-        persons: 1 + draws.below(3),
-        released: NOW - draws.time(30_000),
+        persons: 1 + draws.pick(3),
+        released: NOW - u64::from(draws.pick(30_000)),
         pin: pin(draws, sizes.cars),
     }
 }
@@ -84,7 +85,7 @@ fn call(draws: &mut Draws, sizes: Sizes, id: u32) -> Call {
 /// One call in three goes the way of the one before it, and was released with it.
 fn joined(draws: &mut Draws, call: Call, before: Option<Call>) -> Call {
     match before {
-        Some(before) if draws.once_in(3) => Call {
+        Some(before) if draws.pick(3) == 0 => Call {
             origin: before.origin,
             destination: before.destination,
             released: before.released,
@@ -97,7 +98,7 @@ fn joined(draws: &mut Draws, call: Call, before: Option<Call>) -> Call {
 /// Appends one to four calls. Their ids do not rise.
 fn put_calls(text: &mut Vec<u8>, draws: &mut Draws, sizes: Sizes) -> Result<(), AllocError> {
     let mut before = None;
-    for place in 0..1 + draws.below(4) {
+    for place in 0..1 + draws.pick(4) {
         let drawn = call(draws, sizes, 90 - 7 * place);
         let next = joined(draws, drawn, before);
         put_call(text, &next)?;

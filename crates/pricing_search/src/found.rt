@@ -9,11 +9,11 @@ use std::marker::Model;
 
 /// The moves of a tour that was found, with room for the longest.
 #[derive(Drop)]
-pub(crate) struct Found {
+pub(crate) struct BestMoves {
     moves: Vec<Move>,
 }
 
-impl Model for Found {
+impl Model for BestMoves {
     ghost use Rattle.std.specs.Prelude.{List, ◌≤◌, vec_capacity};
     ghost use Rattle.elevator_model.specs.declared.Move.{Move};
 
@@ -24,12 +24,12 @@ impl Model for Found {
     ghost invariant = { λ f. 450 ≤ vec_capacity f.moves };
 }
 
-impl Found {
+impl BestMoves {
     /// No moves yet.
     pub(crate) fn new(alloc: Global) -> Result<Self, AllocError>
         ensures { IfOk result (λ found. found ≡ []) }
     {
-        Ok(Found {
+        Ok(BestMoves {
             moves: Vec::with_capacity(alloc, MOST_MOVES)?,
         })
     }
@@ -45,8 +45,8 @@ impl Found {
     pub(crate) fn take(&mut self, prefix: &Prefix)
         ensures { self.new ≡ prefix.now.moves }
     {
-        // Their readers say that the snapshot is accepted and the car one of its cars, so there are at most
-        // 450 moves.
+        // For the proof: their readers say that the snapshot is accepted and the car one of its cars, so
+        // there are at most 450 moves.
         let _accepted = prefix.layout().snapshot();
         let _car = prefix.car();
         self.moves.clear();

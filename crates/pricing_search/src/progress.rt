@@ -2,7 +2,7 @@
 
 ghost use Rattle.std.specs.Prelude.{◌≡◌, ◌<◌, ◌+◌, ◌-◌, ◌^◌, not, if◌then◌else◌, int_lt, nat_eq};
 
-use crate::found::Found;
+use crate::found::BestMoves;
 use partial_tours::Prefix;
 use std::alloc::{AllocError, Global};
 
@@ -16,7 +16,7 @@ pub(crate) struct Progress {
     /// At most the bound of each partial tour that was left out for the limit.
     pub(crate) untried: i128,
     /// The moves of a tour that has the least value.
-    pub(crate) found: Found,
+    pub(crate) found: BestMoves,
 }
 
 impl Progress {
@@ -96,7 +96,7 @@ impl Progress {
             visits: 0,
             best: 0,
             untried: 0,
-            found: Found::new(alloc)?,
+            found: BestMoves::new(alloc)?,
         })
     }
 

@@ -36,7 +36,7 @@ pub(crate) fn search<B: CompletionBound>(
         (B.bound bound.now) limit progress.new.found result }
 {
     let sums = bound.start(prefix);
-    // So the bound of the empty partial tour, which the worth is at least, is of a bound's size.
+    // For the proof: the bound of the empty partial tour, which the worth is at least, is of a bound's size.
     let _least = bound.value(&sums);
     dive(bound, demand, prefix, &sums, progress);
     visit(bound, demand, limit, prefix, &sums, progress);

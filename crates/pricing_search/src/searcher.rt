@@ -92,7 +92,7 @@ impl<'a> Pricer for Searcher<'a> {
     ghost fits = { λ it. fits_kept it.snapshot.now };
 
     fn desk(&self, alloc: Global) -> Result<Desk<'a>, AllocError> {
-        // Their readers say that the snapshot is accepted, so there is a first car.
+        // For the proof: their readers say that the snapshot is accepted, so there is a first car.
         let _calls = self.snapshot.calls();
         Ok(Desk {
             prefix: Prefix::new(alloc, self.snapshot, 0)?,

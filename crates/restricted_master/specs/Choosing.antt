@@ -5,7 +5,7 @@ use Rattle.search_model.specs.Prices.{scaled}
 use Rattle.restricted_master.specs.declared.choosing.Candidate.{Candidate}
 use Rattle.restricted_master.specs.declared.choosing.CarChoice.{CarChoice}
 use Rattle.restricted_master.specs.declared.choosing.Selection.{Selection}
-use Rattle.restricted_master.specs.declared.demands.Demand.{Demand}
+use Rattle.restricted_master.specs.declared.demands.Cover.{Cover}
 
 abbrev pub no_candidate : Candidate
 no_candidate = record { place = 0; cost = 0; calls = 0; excess = pos 0 }
@@ -110,7 +110,7 @@ Reaches reach c (x ∷ cars) = TakesAll x.candidates.items (reach c) × ((j : �
 abbrev pub AreDue : (all taken due : ℕ → Bool) → (later : ℕ) → Type 0
 AreDue all taken due later = (j : ℕ) → due j ≡ true → (all j ≡ true) × (taken j ≡ false) × (has later j ≡ false)
 
-abbrev pub reach_of : Demand → ℕ → ℕ
+abbrev pub reach_of : Cover → ℕ → ℕ
 reach_of demand c = slice_index demand.reach c
 
 -- the bound for the later cars once the candidate is taken

@@ -10,7 +10,7 @@ use crate::choosing::Candidate;
 use crate::prices::prices_of;
 use call_sets::CallSet;
 use call_state::Snapshot;
-use elevator_model::Tour;
+use elevator_model::{MOST_CALLS, Tour};
 use price_scale::{Price, scaled};
 use std::alloc::{AllocError, Global};
 use std::marker::Model;
@@ -45,7 +45,7 @@ impl Column {
         ensures tour { result.tour ≡ tour }
         ensures column { IsColumn snapshot.now car result }
     {
-        prove!(snapshot.calls().len() <= 128);
+        prove!(snapshot.calls().len() <= MOST_CALLS);
         Column {
             cost: cost(snapshot, car, &tour),
             calls: calls_of(&tour),
@@ -56,7 +56,7 @@ impl Column {
     /// The reduced cost at these prices: what the tour costs without the prices of its calls, in thousandths
     /// of a cost unit.
     pub(crate) fn reduced_cost(&self, prices: &[Price]) -> i128
-        requires few { length prices.now ≤ 128 }
+        requires few { length prices.now ≤ MOST_CALLS }
         requires small { self.now.cost ≤ 10 ^ 18 }
         ensures value { result ≡ reduced_cost_of prices.now self.now.cost self.now.calls }
         ensures low { neg_ℤ (pos (2 * 10 ^ 26)) ≤ℤ result }
@@ -67,7 +67,7 @@ impl Column {
 
     /// The column as a candidate, which stands at a place. `least` is the least reduced cost of the car.
     pub(crate) fn candidate(&self, place: usize, prices: &[Price], least: i128) -> Candidate
-        requires few { length prices.now ≤ 128 }
+        requires few { length prices.now ≤ MOST_CALLS }
         requires small { self.now.cost ≤ 10 ^ 18 }
         requires low { neg_ℤ (pos (2 * 10 ^ 26)) ≤ℤ least }
         requires least { least ≤ℤ reduced_cost_of prices.now self.now.cost self.now.calls }
@@ -142,7 +142,7 @@ impl Columns {
 
 /// The least reduced cost of the columns at these prices, in thousandths of a cost unit.
 pub(crate) fn least_reduced_cost(columns: &[Column], prices: &[Price]) -> i128
-    requires few { length prices.now ≤ 128 }
+    requires few { length prices.now ≤ MOST_CALLS }
     requires small { (k : ℕ) (d : Column) → k < length columns.now
         → (slice_index_or columns.now k d).cost ≤ 10 ^ 18 }
     ensures least { (k : ℕ) (d : Column) → k < length columns.now
@@ -162,7 +162,7 @@ pub(crate) fn cheapest_column<'a>(
     columns: &'a [Column],
     prices: &[Price],
 ) -> Option<(&'a Column, i128)>
-    requires few { length prices.now ≤ 128 }
+    requires few { length prices.now ≤ MOST_CALLS }
     requires small { (k : ℕ) (d : Column) → k < length columns.now
         → (slice_index_or columns.now k d).cost ≤ 10 ^ 18 }
 {

@@ -10,22 +10,22 @@ use elevator_model::MOST_CARS;
 
 /// The calls that picks have to take, and those that the candidates of the cars from each one on can take.
 #[derive(Clone, Copy)]
-pub(crate) struct Demand {
+pub(crate) struct Cover {
     pub(crate) all: CallSet,
     /// By car. It has an entry more, for no car.
     reach: [CallSet; MOST_CARS as usize + 1],
 }
 
-impl Demand {
+impl Cover {
     /// The demand of all these calls on these cars, of which `car` is the first.
     pub(crate) fn new(all: CallSet, cars: &[CarChoice], car: usize) -> Self
-        requires { car + length cars.now ≤ 16 }
+        requires { car + length cars.now ≤ MOST_CARS }
         ensures all { result.all ≡ all }
         ensures reach { Reaches (reach_of result) car cars.now }
     {
         match cars.split_first() {
-            Some((first, later)) => Demand::new(all, later, car + 1).with_car(car, first),
-            None => Demand {
+            Some((first, later)) => Cover::new(all, later, car + 1).with_car(car, first),
+            None => Cover {
                 all,
                 reach: [CallSet::empty(); MOST_CARS as usize + 1],
             },
@@ -34,7 +34,7 @@ impl Demand {
 
     /// The demand with the car that comes before those that it has.
     fn with_car(self, car: usize, choice: &CarChoice) -> Self
-        requires { car < 16 }
+        requires { car < MOST_CARS }
         ensures all { result.all ≡ self.all }
         ensures takes { TakesAll choice.now.candidates.items (reach_of result car) }
         ensures later { (j : ℕ) → has (reach_of result (car + 1)) j ≡ true
@@ -43,7 +43,7 @@ impl Demand {
     {
         let mut reach = self.reach;
         reach[car] = choice.calls().union(reach[car + 1]);
-        Demand {
+        Cover {
             all: self.all,
             reach,
         }
@@ -51,7 +51,7 @@ impl Demand {
 
     /// The calls that a car has to take now: they are not taken, and no later car can take them.
     pub(crate) fn due(&self, taken: CallSet, car: usize) -> CallSet
-        requires { car < 16 }
+        requires { car < MOST_CARS }
         ensures { AreDue (has self.now.all) (has taken) (has result) (reach_of self.now (car + 1)) }
     {
         self.all.minus(taken).minus(self.reach[car + 1])

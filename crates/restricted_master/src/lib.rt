@@ -29,7 +29,7 @@
 //! bound reaches the cost to beat, the rest of the list is left: the bound is the prices that are not paid
 //! yet, the least reduced costs of the cars and the excess of the picks (`proofs/PricedLemmas.antt`: each
 //! call is taken once, so at any prices these three make the cost). A candidate is passed by that takes a
-//! call twice, or leaves one that no later car's candidates have (`Demand`). Plans that cost no more than the
+//! call twice, or leaves one that no later car's candidates have (`Cover`). Plans that cost no more than the
 //! target are looked for first (`picks_below`). `proofs/PlanLemmas.antt` goes from picks to plans and back,
 //! over `Completes` of `tour_cost`. The prices come from the given ones by a subgradient ascent of 60 steps
 //! over the pool's tours (`ascent`), of which only safety is proved: the selection is right at any prices.
@@ -46,5 +46,5 @@ mod selecting;
 pub use columns::{Column, MOST_TOURS};
 pub use elevator_model::{Plan, Tour};
 pub use pools::Pool;
-pub use prices::adjust;
+pub use price_ascent::adjust;
 pub use selecting::Choice;

@@ -7,7 +7,7 @@ ghost use Rattle.elevator_model.specs.Tours.{IsFeasible};
 use crate::choosing::{CarChoice, sort_by_excess};
 use crate::columns::{Column, Columns, least_reduced_cost};
 use call_state::Snapshot;
-use elevator_model::Tour;
+use elevator_model::{MOST_CALLS, Tour};
 use price_scale::Price;
 use std::alloc::{AllocError, Global};
 use std::marker::Model;
@@ -60,7 +60,7 @@ impl<'a> Pool<'a> {
         ensures value { result.now ≡ self.now.snapshot }
         ensures pool { IsPool self.now }
     {
-        prove!(self.snapshot.calls().len() <= 128);
+        prove!(self.snapshot.calls().len() <= MOST_CALLS);
         self.snapshot
     }
 
@@ -99,7 +99,7 @@ impl<'a> Pool<'a> {
         prices: &[Price],
     ) -> Result<CarChoice, AllocError>
         requires car { car < car_count self.now.snapshot }
-        requires few { length prices.now ≤ 128 }
+        requires few { length prices.now ≤ MOST_CALLS }
         ensures candidates { IfOk result
             (λ x. AreCandidates self.now.snapshot car (tours_of_car self.now car) x.candidates.items) }
         ensures priced { IfOk result (IsPriced prices.now) }
@@ -118,7 +118,7 @@ impl<'a> Pool<'a> {
         prices: &[Price],
     ) -> Result<CarChoice, AllocError>
         requires car { car < car_count self.now.snapshot }
-        requires few { length prices.now ≤ 128 }
+        requires few { length prices.now ≤ MOST_CALLS }
         ensures candidates { IfOk result
             (λ x. AreCandidates self.now.snapshot car (tours_of_car self.now car) x.candidates.items) }
         ensures priced { IfOk result (IsPriced prices.now) }

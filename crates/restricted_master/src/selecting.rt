@@ -6,11 +6,11 @@ ghost use Rattle.elevator_model.specs.Snapshot.{call_count, car_count};
 ghost use Rattle.restricted_master.specs.Priced.{least_sum};
 
 use crate::choosing::{CarChoice, Selection, cheapest};
-use crate::demands::Demand;
+use crate::demands::Cover;
 use crate::pools::Pool;
 use crate::prices::prices_of;
 use call_sets::CallSet;
-use elevator_model::Plan;
+use elevator_model::{MOST_CALLS, MOST_CARS, Plan};
 use price_scale::Price;
 use std::alloc::{AllocError, Global};
 
@@ -40,12 +40,12 @@ impl Choice {
 
 /// The cheapest picks that were found, if any, and whether all tries were made.
 #[derive(Clone, Copy)]
-struct Found {
+struct Outcome {
     picked: Option<Selection>,
     spent: bool,
 }
 
-impl Found {
+impl Outcome {
     /// Whether there is nothing more to look for: picks were found, or no try is left.
     fn is_decided(&self) -> bool
         ensures { result ≡ (self.now.spent || is_some self.now.picked) }
@@ -88,7 +88,7 @@ impl<'a> Pool<'a> {
         ensures ample { IfOk result
             (λ choice. 34 ^ car_count self.now.snapshot ≤ limit → choice.spent ≡ false) }
     {
-        prove!(self.snapshot().calls().len() <= 128);
+        prove!(self.snapshot().calls().len() <= MOST_CALLS);
         let raised = self.raised(alloc, prices, target)?;
         let prices = raised.as_slice();
         let choices = self.choices(alloc, prices)?;
@@ -120,7 +120,7 @@ impl<'a> Pool<'a> {
         ensures ample { IfOk result
             (λ choice. 34 ^ car_count self.now.snapshot ≤ limit → choice.spent ≡ false) }
     {
-        prove!(self.snapshot().calls().len() <= 128);
+        prove!(self.snapshot().calls().len() <= MOST_CALLS);
         if below == 0 {
             return Ok(Choice::none(false));
         }
@@ -136,9 +136,9 @@ impl<'a> Pool<'a> {
         &self,
         alloc: Global,
         choices: &[CarChoice],
-        found: Found,
+        found: Outcome,
     ) -> Result<Choice, AllocError>
-        requires few { length choices.now ≤ 16 }
+        requires few { length choices.now ≤ MOST_CARS }
         requires picked { IfSome found.picked (IsPlanPick self.now choices.now) }
         ensures plan { IfOk result (λ choice. IfSome choice.plan (IsMadeOf self.now)) }
         ensures cost { IfOk result
@@ -159,12 +159,18 @@ impl<'a> Pool<'a> {
 
     /// The picks of a cheapest plan. Those that cost no more than the target are looked for first: a cheapest
     /// plan is mostly among them, and few others are tried on the way.
-    fn best_picks(&self, choices: &[CarChoice], prices: &[Price], target: u64, limit: u64) -> Found
+    fn best_picks(
+        &self,
+        choices: &[CarChoice],
+        prices: &[Price],
+        target: u64,
+        limit: u64,
+    ) -> Outcome
         requires choices { AreChoices self.now choices.now }
         requires prices { length prices.now ≡ call_count self.now.snapshot }
         requires priced { All (IsPriced prices.now) choices.now }
         requires rising { All (λ x. IsRising x.candidates.items) choices.now }
-        ensures few { length choices.now ≤ 16 }
+        ensures few { length choices.now ≤ MOST_CARS }
         ensures picked { IfSome result.picked (IsPlanPick self.now choices.now) }
         ensures cheapest { result.spent ≡ false → IsCheapestPick self.now result.picked }
         ensures spent { result.spent ≡ true → limit ≤ selection_count self.now.tours }
@@ -178,13 +184,13 @@ impl<'a> Pool<'a> {
     }
 
     /// The picks of a cheapest plan among those that cost less than this.
-    fn picks_below(&self, choices: &[CarChoice], prices: &[Price], beat: u64, limit: u64) -> Found
+    fn picks_below(&self, choices: &[CarChoice], prices: &[Price], beat: u64, limit: u64) -> Outcome
         requires choices { AreChoices self.now choices.now }
         requires prices { length prices.now ≡ call_count self.now.snapshot }
         requires priced { All (IsPriced prices.now) choices.now }
         requires rising { All (λ x. IsRising x.candidates.items) choices.now }
         requires beat { 0 < beat }
-        ensures few { length choices.now ≤ 16 }
+        ensures few { length choices.now ≤ MOST_CARS }
         ensures picked { IfSome result.picked (IsPlanPick self.now choices.now) }
         ensures below { IfSome result.picked (λ x. x.cost < beat) }
         ensures least { result.spent ≡ false → IsLeastBelow self.now beat result.picked }
@@ -194,7 +200,7 @@ impl<'a> Pool<'a> {
         ensures ample { 34 ^ car_count self.now.snapshot ≤ limit → result.spent ≡ false }
     {
         let all = first_calls(self.snapshot().calls().len());
-        let demand = Demand::new(all, choices, 0);
+        let demand = Cover::new(all, choices, 0);
         let mut left = limit;
         let bound = prices_of(prices, all) + sum_of_least(choices);
         let picked = cheapest(
@@ -206,7 +212,7 @@ impl<'a> Pool<'a> {
             beat,
             &mut left,
         );
-        Found {
+        Outcome {
             picked,
             spent: left == 0,
         }
@@ -214,7 +220,7 @@ impl<'a> Pool<'a> {
 
     /// The candidates of each car at these prices.
     fn choices(&self, alloc: Global, prices: &[Price]) -> Result<Vec<CarChoice>, AllocError>
-        requires { length prices.now ≤ 128 }
+        requires { length prices.now ≤ MOST_CALLS }
         ensures choices { IfOk result (λ choices. AreChoices self.now choices.items) }
         ensures priced { IfOk result (λ choices. All (IsPriced prices.now) choices.items) }
         ensures rising { IfOk result
@@ -235,7 +241,7 @@ impl<'a> Pool<'a> {
         choices: &[CarChoice],
         picked: &Selection,
     ) -> Result<Plan, AllocError>
-        requires few { length choices.now ≤ 16 }
+        requires few { length choices.now ≤ MOST_CARS }
         requires picked { CanPick self.now choices.now (picks picked.now) }
         ensures { IfOk result (IsPicked self.now choices.now (picks picked.now)) }
     {
@@ -253,7 +259,7 @@ impl<'a> Pool<'a> {
 
 /// The first calls, this many.
 fn first_calls(count: usize) -> CallSet
-    requires { count ≤ 128 }
+    requires { count ≤ MOST_CALLS }
     ensures { (k : ℕ) → has result k ≡ nat_lt k count }
 {
     let mut calls = CallSet::empty();
@@ -265,7 +271,7 @@ fn first_calls(count: usize) -> CallSet
 
 /// The least reduced costs of the cars together.
 fn sum_of_least(choices: &[CarChoice]) -> i128
-    requires few { length choices.now ≤ 16 }
+    requires few { length choices.now ≤ MOST_CARS }
     requires low { All (λ x. neg_ℤ (pos (2 * 10 ^ 26)) ≤ℤ x.least) choices.now }
     requires high { All (λ x. x.least ≤ℤ pos (2 * 10 ^ 26)) choices.now }
     ensures sum { result ≡ least_sum choices.now }

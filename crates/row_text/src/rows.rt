@@ -10,14 +10,9 @@ ghost use Rattle.row_text.specs.Records.{without_spaces, number_said, row_of_fie
 use crate::records::{record_of, without_spaces};
 use call_state::{Building, Call};
 use csv::ByteRecord;
+use elevator_model::{LATEST_SNAPSHOT, MOST_PERSONS};
 use lift_text::number_in;
 use std::alloc::{AllocError, Global};
-
-/// The latest moment that a row may have, in ms.
-const LATEST_ROW: u64 = 1_000_000_000;
-
-/// The most persons of one call.
-const MOST_PERSONS: u64 = 8;
 
 /// A row whose numbers lie in their ranges.
 #[derive(Clone, Copy)]
@@ -85,10 +80,10 @@ fn floor_at(building: &Building, fields: &ByteRecord, place: usize) -> Option<u3
 fn numbers_in(building: &Building, fields: &ByteRecord) -> Option<GoodRow>
     ensures { option_map row_as_said result ≡ numbers_within building.now (fields_of fields.now) }
 {
-    let time = number_at(fields, 0, LATEST_ROW)?;
+    let time = number_at(fields, 0, LATEST_SNAPSHOT)?;
     let origin = floor_at(building, fields, 1)?;
     let destination = floor_at(building, fields, 2)?;
-    let persons = number_at(fields, 3, MOST_PERSONS)? as u32;
+    let persons = number_at(fields, 3, u64::from(MOST_PERSONS))? as u32;
     Some(GoodRow {
         time,
         origin,

@@ -1,7 +1,7 @@
 -- The report of a day: waits, rides and their sums over the served calls.
 use Rattle.std.specs.Prelude.{ℕ, zero, suc, ◌+◌, ◌-◌, ◌*◌, ◌/◌, ◌%◌, ◌==◌, ◌&&◌, nat_lt, List, [], ◌∷◌, length, map, sum, max, slice_index, if◌then◌else◌}
 use Rattle.search_model.specs.declared.Served.{Served}
-use Rattle.search_model.specs.declared.Column.{Column}
+use Rattle.search_model.specs.declared.ReportColumn.{ReportColumn}
 use Rattle.search_model.specs.declared.Report.{Report}
 
 -- an item put into items that rise
@@ -33,7 +33,7 @@ mean_over sum count = sum / common_up_to count sum count
 abbrev pub mean_under : (sum count : ℕ) → ℕ
 mean_under sum count = if (count == 0) then 1 else count / common_up_to count sum count
 
-abbrev pub column_of : List ℕ → Column
+abbrev pub column_of : List ℕ → ReportColumn
 column_of items =
     record {
       count = length items;

@@ -2,9 +2,10 @@
 -- the search ended.
 use Rattle.std.specs.Prelude.{◌≡◌, ℕ, ◌+◌, ◌*◌, ◌/◌, ◌^◌, ◌≤◌, ◌<◌, ◌⊎◌, min, max, ℤ, pos, negsuc, neg_ℤ, ◌+ℤ◌, ◌-ℤ◌, ◌*ℤ◌, ◌≤ℤ◌, ◌<ℤ◌, List, [], ◌∷◌, length, map, count_by, slice_index_or, All, Any, Bool, true, false, IsTrue, IfSome, unwrap_or, Option, Some, None}
 use Rattle.std.specs.List.{list_any, range_with_len}
-use Rattle.std.specs.Int.{int_min, int_max}
+use Rattle.std.specs.Int.{int_min}
 use Rattle.elevator_model.specs.declared.Stop.{Stop}
 use Rattle.call_sets.specs.Counting.{sum_below, sum_where}
+use Rattle.price_scale.specs.Scale.{cut}
 use Rattle.elevator_model.specs.Snapshot.{Snapshot, car_count, call_count, call_of, group_of, state_of, moment_of, is_possible}
 use Rattle.elevator_model.specs.Tours.{start_of}
 use Rattle.elevator_model.specs.Plans.{IsFeasiblePlan, plan_cost_of, tour_of, is_boarded_in}
@@ -69,10 +70,6 @@ or_zero (negsuc n) = 0
 abbrev pub greatest_price : List ℤ → ℕ
 greatest_price [] = 0
 greatest_price (x ∷ xs) = max (or_zero x) (greatest_price xs)
-
--- a price has at most this absolute value
-abbrev pub cut : ℤ → ℤ
-cut z = int_max (neg_ℤ (pos (10 ^ 24))) (int_min (pos (10 ^ 24)) z)
 
 abbrev pub boards_in : Option (List Stop) → ℕ → Bool
 boards_in None j = false

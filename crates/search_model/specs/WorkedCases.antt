@@ -2,12 +2,12 @@
 use Rattle.std.specs.Prelude.{◌≡◌, ℕ, [], ◌∷◌, None}
 use Rattle.elevator_model.specs.declared.CarState.TheVariants.{Idle}
 use Rattle.elevator_model.specs.Worked.{four_floors, shown}
-use Rattle.search_model.specs.declared.Column.{Column}
+use Rattle.search_model.specs.declared.ReportColumn.{ReportColumn}
 use Rattle.search_model.specs.Reports.{column_of, report_of}
 use Rattle.search_model.specs.Cases.{draw, case_snapshot}
 use Rattle.search_model.specs.WorkedDays.{served}
 
-abbrev pub column : (count sum greatest p50 p90 p99 mean_over mean_under : ℕ) → Column
+abbrev pub column : (count sum greatest p50 p90 p99 mean_over mean_under : ℕ) → ReportColumn
 column count sum greatest p50 p90 p99 mean_over mean_under = record { count = count; sum = sum; greatest = greatest; p50 = p50; p90 = p90; p99 = p99; mean_over = mean_over; mean_under = mean_under }
 
 pub record AreReports : Type 0 where

@@ -10,7 +10,8 @@ use Rattle.search_model.specs.declared.Reason.TheVariants.{Sum, Under}
 use Rattle.search_model.specs.declared.Verdict.TheVariants.{Yes, No}
 use Rattle.search_model.specs.Sums.{rounded_up}
 use Rattle.search_model.specs.Verdicts.{verdict_of}
-use Rattle.search_model.specs.Solving.{least_lone_cost, floor_of_bound, start_prices, prices_after, sum_of_turn, cut, least_bound, bound_of_leaf}
+use Rattle.price_scale.specs.Scale.{cut}
+use Rattle.search_model.specs.Solving.{least_lone_cost, floor_of_bound, start_prices, prices_after, sum_of_turn, least_bound, bound_of_leaf}
 use Rattle.search_model.specs.Uneven.{uneven_pair}
 use Rattle.search_model.specs.WorkedVerdicts.{one_leaf, price_of, worth_of, leaf_of}
 

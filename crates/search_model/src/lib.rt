@@ -28,9 +28,11 @@
 //! in `day_state`.
 #![tactic(auto)]
 
+mod draws;
 mod items;
 
 use call_sets::CarSet;
+pub use draws::Draws;
 use elevator_model::{BadPlan, Plan, Tour};
 pub use items::Items;
 use price_scale::Price;
@@ -191,7 +193,7 @@ pub struct Served {
 /// A column of a report, in ms: number, sum and greatest of the items, those of three ranks, and the mean
 /// as a fraction in lowest terms.
 #[derive(Clone, Copy)]
-pub struct Column {
+pub struct ReportColumn {
     pub count: u64,
     pub sum: u64,
     pub greatest: u64,
@@ -206,9 +208,9 @@ pub struct Column {
 #[derive(Clone, Copy)]
 pub struct Report {
     /// From coming to boarding.
-    pub wait: Column,
+    pub wait: ReportColumn,
     /// From boarding to delivery.
-    pub ride: Column,
+    pub ride: ReportColumn,
     /// From coming to delivery.
-    pub total: Column,
+    pub total: ReportColumn,
 }

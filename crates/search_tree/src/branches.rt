@@ -11,6 +11,7 @@ ghost use Rattle.search_tree.specs.Branches.{depth_below, first_spent, leaf_at, 
 
 use crate::sheets::Sheet;
 use assign_branch::{CarSet, Node, Twig, split};
+use elevator_model::MOST_CARS;
 use price_scale::Price;
 use search_model::TurnOf;
 use std::alloc::{AllocError, Global};
@@ -63,7 +64,7 @@ pub(crate) struct Parts {
 
 /// The first car whose pricing reached the limit of partial tours.
 fn first_spent_of(cars: &[TurnOf]) -> Option<u32>
-    requires { length cars.now ≤ 16 }
+    requires { length cars.now ≤ MOST_CARS }
     ensures { result ≡ first_spent 0 cars.now }
 {
     for (car, turn) in cars.iter().enumerate() {

@@ -7,6 +7,7 @@ ghost use Rattle.search_tree.specs.Branches.{AreSingle, IsLeastAlone};
 
 use crate::branches::SplitAt;
 use assign_branch::{CarSet, Node};
+use elevator_model::MOST_CALLS;
 
 /// A split of the set into its least car and the others, where it has two cars or more.
 fn least_alone(set: CarSet) -> Option<CarSet>
@@ -21,7 +22,7 @@ fn least_alone(set: CarSet) -> Option<CarSet>
 
 /// The first call that two or more cars may serve, with its least car as the first part.
 pub fn first_choice(node: &Node, calls: usize) -> Option<SplitAt>
-    requires { calls ≤ 128 }
+    requires { calls ≤ MOST_CALLS }
     ensures call { MatchOption result (AreSingle calls node.now)
         (λ at. (at.call < calls) × AreSingle at.call node.now) }
     ensures part { IfSome result (λ at. is_part (set_of node.now at.call) at.part ≡ true) }

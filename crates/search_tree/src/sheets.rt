@@ -7,7 +7,8 @@ ghost use Rattle.search_model.specs.Sums.{rounded_up};
 ghost use Rattle.search_tree.specs.Kept.{KeepsSum, of_lists};
 ghost use Rattle.search_tree.specs.Sheets.{AreTurnSizes, AreWorthSizes, IsSized, IsSizedLeaf, IsWorthSum, greater_of, leaf_of, prices_from, raised, sum_of_sheet, sum_of_worths, turn_worth, worths_from};
 
-use price_scale::{Price, sum_prices, unscale_up};
+use elevator_model::{MOST_CALLS, MOST_CARS};
+use price_scale::{MOST_PRICE, Price, sum_prices, unscale_up};
 use search_model::{Items, Leaf, PriceOf, TurnOf, WorthOf};
 use std::alloc::{AllocError, Global};
 use std::marker::Model;
@@ -45,7 +46,7 @@ impl Worth {
 
 /// The sum of the worths, in thousandths of a cost unit.
 fn sum_worths(worths: &[Worth]) -> i128
-    requires cars { length worths.now ≤ 16 }
+    requires cars { length worths.now ≤ MOST_CARS }
     requires sizes { AreWorthSizes worths.now }
     ensures sum { result ≡ sum_of_worths worths.now }
     ensures range { IsWorthSum 16 result }
@@ -110,8 +111,8 @@ impl Sheet {
 
     /// These prices and worths.
     pub fn new(prices: Vec<Price>, worths: Vec<Worth>) -> Self
-        requires calls { length prices.items ≤ 128 }
-        requires cars { length worths.items ≤ 16 }
+        requires calls { length prices.items ≤ MOST_CALLS }
+        requires cars { length worths.items ≤ MOST_CARS }
         requires sizes { AreWorthSizes worths.items }
         ensures { result ≡ record { prices = prices.items; worths = worths.items } }
     {
@@ -212,14 +213,14 @@ impl Sheet {
 
 /// The prices, each with its call. It fails only where there is no memory left.
 fn list_prices(alloc: Global, prices: &[Price]) -> Result<Items<PriceOf>, AllocError>
-    requires { length prices.now ≤ 128 }
+    requires { length prices.now ≤ MOST_CALLS }
     ensures list { IfOk result (λ list. list ≡ prices_from 0 prices.now) }
     ensures sized { IfOk result (All (λ p. IsPrice p.price)) }
 {
     let mut list = Items::new(alloc);
     for call in 0..prices.len() {
         let price = prices[call];
-        prove!(price.value() <= 1_000_000_000_000_000_000_000_000);
+        prove!(price.value() <= MOST_PRICE);
         list.push(PriceOf {
             call: call as u32,
             price,
@@ -230,7 +231,7 @@ fn list_prices(alloc: Global, prices: &[Price]) -> Result<Items<PriceOf>, AllocE
 
 /// The worths, each with its car. It fails only where there is no memory left.
 fn list_worths(alloc: Global, worths: &[Worth]) -> Result<Items<WorthOf>, AllocError>
-    requires few { length worths.now ≤ 16 }
+    requires few { length worths.now ≤ MOST_CARS }
     requires sizes { AreWorthSizes worths.now }
     ensures list { IfOk result (λ list. list ≡ worths_from 0 worths.now) }
     ensures sized { IfOk result (All (λ w. IsWorthSize w.worth)) }
@@ -248,7 +249,7 @@ fn list_worths(alloc: Global, worths: &[Worth]) -> Result<Items<WorthOf>, AllocE
 
 /// The sum of the worths that the cars' pricings answered, in thousandths of a cost unit.
 fn sum_turn(cars: &[TurnOf]) -> i128
-    requires cars { length cars.now ≤ 16 }
+    requires cars { length cars.now ≤ MOST_CARS }
     requires sizes { AreTurnSizes cars.now }
     ensures sum { result ≡ sum_of_worths (map turn_worth cars.now) }
     ensures range { IsWorthSum 16 result }

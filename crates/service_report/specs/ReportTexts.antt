@@ -1,6 +1,6 @@
 -- The text of a report.
 use Rattle.std.specs.Prelude.{ℕ, List, [], ◌∷◌, ◌++◌, decimal, codes}
-use Rattle.search_model.specs.declared.Column.{Column}
+use Rattle.search_model.specs.declared.ReportColumn.{ReportColumn}
 use Rattle.search_model.specs.declared.Report.{Report}
 
 -- four fields with commas between them, and a line feed
@@ -11,7 +11,7 @@ abbrev pub number_line : (measure : List ℕ) → (wait ride total : ℕ) → Li
 number_line measure wait ride total = line_of measure (decimal wait) (decimal ride) (decimal total)
 
 -- the mean with a slash between its two numbers
-abbrev pub mean_text : Column → List ℕ
+abbrev pub mean_text : ReportColumn → List ℕ
 mean_text column = decimal column.mean_over ++ 47 ∷ decimal column.mean_under
 
 unfoldable pub report_text : Report → List ℕ

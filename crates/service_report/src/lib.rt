@@ -20,6 +20,6 @@ mod means;
 mod spans;
 mod writing;
 
-pub use search_model::{Column, Report, Served};
+pub use search_model::{Report, ReportColumn, Served};
 pub use spans::report_of;
 pub use writing::write_report;

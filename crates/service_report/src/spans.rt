@@ -4,7 +4,7 @@ ghost use Rattle.search_model.specs.Reports.{column_of, report_of};
 ghost use Rattle.service_report.specs.Spans.{time_of};
 
 use crate::columns::column_of;
-use search_model::{Column, Report, Served};
+use search_model::{Report, ReportColumn, Served};
 use std::alloc::{AllocError, Global};
 
 /// A part of the time of a served call.
@@ -40,7 +40,7 @@ impl Span {
     }
 
     /// The column of this time.
-    fn column(self, alloc: Global, served: &[Served]) -> Result<Column, AllocError>
+    fn column(self, alloc: Global, served: &[Served]) -> Result<ReportColumn, AllocError>
         requires { sum (map (time_of self) served.now) < 2 ^ 64 }
         ensures { IfOk result (λ column. column ≡ column_of (map (time_of self) served.now)) }
     {

@@ -5,7 +5,7 @@ ghost use Rattle.service_report.specs.Writers.{HasWritten, IsPlain};
 
 use csv::{Writer, WriterBuilder};
 use lift_text::put_number;
-use search_model::{Column, Report};
+use search_model::{Report, ReportColumn};
 use std::alloc::{AllocError, Global};
 
 /// Appends the text of a report: a line of the columns' names, and then one of each measure. The only
@@ -87,9 +87,9 @@ fn put_numbers(
 fn put_means(
     alloc: Global,
     writer: &mut Writer<Vec<u8>>,
-    wait: &Column,
-    ride: &Column,
-    total: &Column,
+    wait: &ReportColumn,
+    ride: &ReportColumn,
+    total: &ReportColumn,
 ) -> Result<(), AllocError>
     ensures { OnOk result ((text : List ℕ) → HasWritten (λ v. Some v.items) writer.old text
         → HasWritten (λ v. Some v.items) writer.new (text ++ line_of (codes "mean")

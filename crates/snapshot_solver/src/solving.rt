@@ -9,12 +9,14 @@ ghost use Rattle.search_tree.specs.Sheets.{IsSizedTwig};
 use crate::starts::start_leaf;
 use byte_streams::Gate;
 use call_state::Snapshot;
+use elevator_model::MOST_CALLS;
 use first_plan::first;
 use node_search::{Found, Limits, find_plan};
 use pricing_search::Searcher;
 use std::alloc::{AllocError, Global};
 use std::marker::Sync;
 use std::thread::Threads;
+use work_fan::MOST_WORKERS;
 
 /// Searches for the cheapest plan of the snapshot within the limits, with 1 to 16 workers.
 ///
@@ -32,15 +34,15 @@ pub fn solve<G: Gate + Sync>(
 ) -> Result<Found, AllocError>
     requires rounds { (1 ≤ limits.rounds) × (limits.rounds ≤ 10 ^ 18) }
     requires most_tours { (1 ≤ limits.most_tours) × (limits.most_tours ≤ 10 ^ 18) }
-    requires workers { (1 ≤ workers) × (workers ≤ 16) }
+    requires workers { (1 ≤ workers) × (workers ≤ MOST_WORKERS) }
     ensures answer { IfOk result (λ f. IsSolveAnswer snapshot.now limits.rounds limits.most_tours
-        f.plan f.cost f.bound f.tree.twigs f.turns f.why) }
+        f.stated.plan f.stated.cost f.stated.bound f.tree.twigs f.turns f.why) }
     ensures sized { IfOk result (λ f. All IsSizedTwig f.tree.twigs) }
     ensures enough { rounds_enough snapshot.now ≤ limits.rounds
         → moves_enough snapshot.now ≤ limits.most_tours
         → IfOk result (λ f. f.why ≡ Solved) }
 {
-    prove!(snapshot.calls().len() <= 128);
+    prove!(snapshot.calls().len() <= MOST_CALLS);
     let start = first(alloc, snapshot)?;
     let sheet = start_leaf(alloc, snapshot)?;
     let searcher = Searcher::new(snapshot);

@@ -73,7 +73,8 @@ pub fn start_leaf(alloc: Global, snapshot: &Snapshot) -> Result<Sheet, AllocErro
         (λ sheet. sum_of_sheet sheet ≡ scaled_lem (floor_of_bound snapshot.now)) }
     ensures root { IfOk result (λ sheet. IsRootSheet snapshot.now sheet) }
 {
-    // The reader says that the snapshot is accepted, so there are at most 128 calls and 16 cars.
+    // For the proof: the reader says that the snapshot is accepted, so there are at most 128 calls and 16
+    // cars.
     let _calls = snapshot.calls();
     let prices = start_prices(alloc, snapshot)?;
     let worths = start_worths(alloc, snapshot)?;

@@ -17,50 +17,27 @@ use Rattle.elevator_model.specs.Building.{Building, IsBuilding, no_car}
 use Rattle.elevator_model.specs.Snapshot.{Snapshot, no_state, no_group, no_call, state_of}
 use Rattle.elevator_model.specs.Faults.{fault_of_state, fault_of_group, fault_of_call}
 use Rattle.call_state.proofs.Accepted.{IsClear, IsAccepted-to}
-use Rattle.lift_text.specs.Reading.{TextState, Reading, reading, line_with, finished, bad_line, past_limit}
+use Rattle.lift_text.specs.Reading.{TextState, Reading, reading}
 use Rattle.lift_text.specs.declared.faults.TextFault.{TextFault}
 use Rattle.lift_text.specs.declared.faults.TextFault.TheVariants.{Read, TooLong, Bad, NoMemory}
-use Rattle.text_sections.specs.declared.codes.TextCode.TheVariants.{NoLineWord, NoState, NotInOpening}
-use Rattle.text_sections.specs.declared.sections.Turn.{Turn}
-use Rattle.text_sections.specs.declared.sections.Turn.TheVariants.{Whole}
-use Rattle.text_sections.specs.Codes.{Judged, ◌>>=◌}
-use Rattle.text_sections.specs.Words.{is_word, word_at, exactly, number}
-use Rattle.text_sections.specs.Sections.{Line, Step, goes_on, is_whole, is_bad, accepted, refused, too_long, continued, outcome, ReadAs}
+use Rattle.lift_text.specs.declared.codes.TextCode.TheVariants.{NoLineWord, NoState, NotInOpening}
+use Rattle.text_sections.specs.declared.sections.AfterLine.{AfterLine}
+use Rattle.text_sections.specs.declared.sections.AfterLine.TheVariants.{Whole}
+use Rattle.text_sections.specs.Judging.{Judged, ◌>>=◌, in_order}
+use Rattle.text_sections.specs.Words.{is_word, word_at, exactly, named, says_end}
+use Rattle.text_sections.specs.Sections.{Line, goes_on, is_whole, accepted, refused, too_long, outcome, ReadAs}
 use Rattle.text_sections.specs.Canonical.{BeginsWith, Goes, Makes, IsMade}
-use Rattle.text_sections.proofs.CanonicalLemmas.{goes-append, made}
+use Rattle.text_sections.proofs.CanonicalLemmas.{goes-append, made, accepted_made}
+use Rattle.text_sections.proofs.StepLemmas.{then-inv, then-ok, named-inv}
 use Rattle.snapshot_text.specs.declared.kinds.Due.TheVariants.{Version}
 use Rattle.snapshot_text.specs.declared.kinds.LineWord.{LineWord}
 use Rattle.snapshot_text.specs.declared.kinds.LineWord.TheVariants.{Snapshot as SnapshotWord, Now, Car, Aboard as AboardWord, Call as CallWord, End}
 use Rattle.snapshot_text.specs.Words.{version_said, moment_said, form_of, car_said, group_said, call_said}
-use Rattle.snapshot_text.specs.Drafts.{Draft, blank, snapshot_read, any_word, line_word, has_car, has_all_cars, in_order, cars_in_order, groups_in_order, calls_in_order, outside_opening, with_all_cars, version_in, moment_in, car_in, group_in, call_in, end_in, fault_in_car, fault_in_group, fault_in_call, with_version, with_moment, with_car, with_group, with_call, after_judged, after, ended}
-use Rattle.snapshot_text.specs.Snapshots.{named, says_version, says_moment, says_car, says_group, says_call, says_end, StandsFor, IsAnswered, IsSaid, FailsAs}
-use Rattle.snapshot_text.proofs.Steps.{then-inv, then-ok, named-inv, with_item-ok, text_of, car_said-below}
+use Rattle.snapshot_text.specs.Drafts.{Draft, blank, snapshot_read, any_word, line_word, has_car, has_all_cars, cars_in_order, groups_in_order, calls_in_order, outside_opening, with_all_cars, version_in, moment_in, car_in, group_in, call_in, end_in, fault_in_car, fault_in_group, fault_in_call, with_version, with_moment, with_car, with_group, with_call, after_judged, after, ended}
+use Rattle.snapshot_text.specs.Snapshots.{says_version, says_moment, says_car, says_group, says_call, StandsFor, IsAnswered, IsSaid, FailsAs}
+use Rattle.snapshot_text.proofs.Steps.{with_item-ok, text_of, car_said-below}
 use Rattle.snapshot_text.proofs.Lists.{times_in, times-first, at_each, AreClear}
 use Rattle.snapshot_text.proofs.Whole.{draft, nothing, sound}
-
--- ---- what was accepted was made of lines that stand in front
-
-module _ {A : Type 0} (step : A → Line → Step A) where
-  abbrev pub Made : Reading → A → A → Reading → Type 0
-  Made read state end rest = (lines : List Line) × BeginsWith lines read rest × Makes step lines state end
-
-  by_step : (one : Step A) (number : ℕ) (words : Line) (more : Reading) (state end : A) (rest : Reading) → step state words ≡ one → ((next : A) → outcome step more next ≡ accepted end rest → Made more next end rest)
-      → continued one number more (outcome step more) ≡ accepted end rest → Made (line_with number words more) state end rest
-  by_step (goes_on next) number words more state end rest is later e =
-      let made_of = later next e in
-      let makes = made_of.2 in
-      (words ∷ made_of.0, (number, more, refl, made_of.1), record { front = words ∷ makes.front; last = makes.last; before = makes.before; lines_are = ap (λ (ls : List Line). words ∷ ls) makes.lines_are; goes = (next, is, makes.goes); whole = makes.whole })
-  by_step (is_whole next) number words more state end rest is later e =
-      let same : next ≡ end = cc in
-      let left : more ≡ rest = cc in
-      (words ∷ [], (number, more, refl, left), record { front = []; last = words; before = state; lines_are = refl; goes = refl; whole = is ∙ ap is_whole same })
-  by_step (is_bad code) number words more state end rest is later e = absurd cc
-
-  pub accepted_made : (read : Reading) (state end : A) (rest : Reading) → outcome step read state ≡ accepted end rest → Made read state end rest
-  accepted_made (line_with number words more) state end rest e = by_step (step state words) number words more state end rest refl (λ next. accepted_made more next end rest) e
-  accepted_made (finished lines) state end rest e = absurd cc
-  accepted_made (bad_line line code) state end rest e = absurd cc
-  accepted_made past_limit state end rest e = absurd cc
 
 -- ---- lines of a first word
 
@@ -249,7 +226,7 @@ module _ (s : Snapshot) (o : Bool) (clear : IsClear s) (good : IsBuilding s.buil
         then-ok (calls_in_order d) (λ _. exactly words 1 >>= λ _. (with_all_cars d >>= λ _. Ok Whole)) tt Whole order
         (then-ok (exactly words 1) (λ _. with_all_cars d >>= λ _. Ok Whole) tt Whole name.2
         (then-ok (with_all_cars d) (λ _. Ok Whole) tt Whole all refl)) in
-        ap (λ (j : Judged LineWord). after_judged j d words) (any_word-ok words End (named-inv _ _ name.1)) ∙ ap (λ (j : Judged Turn). ended j d) here
+        ap (λ (j : Judged LineWord). after_judged j d words) (any_word-ok words End (named-inv _ _ name.1)) ∙ ap (λ (j : Judged AfterLine). ended j d) here
 
   head_goes : (words : Line) → says_version words ≡ Ok s.version → after (blank b o) words ≡ goes_on (with_version (blank b o) s.version)
   head_goes words says =

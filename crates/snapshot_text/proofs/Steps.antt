@@ -1,8 +1,7 @@
 -- What is known of a line where a step is known.
 use Rattle.std.proofs.Common.{◌≡◌, ℕ, ◌<◌, ◌==◌, ◌&&◌, Bool, true, false, List, length, Option, None, Some, Ok, Err, refl, ap, ◌∙◌, subst, arith, IfSome}
 use Rattle.std.specs.Prelude.{codes, nat_lt, if◌then◌else◌}
-use Rattle.std.specs.List.{position_or_len}
-use Rattle.std.proofs.lemmas.Bool.{and_parts, ltb-true, eqb-true}
+use Rattle.std.proofs.lemmas.Bool.{and_parts, eqb-true}
 use Rattle.elevator_model.specs.declared.CarSpec.{CarSpec}
 use Rattle.elevator_model.specs.declared.CarState.{CarState}
 use Rattle.elevator_model.specs.declared.CarState.TheVariants.{Idle, Coming}
@@ -11,37 +10,20 @@ use Rattle.elevator_model.specs.declared.Call.{Call}
 use Rattle.elevator_model.specs.declared.Fault.{Fault}
 use Rattle.elevator_model.specs.Building.{Building}
 use Rattle.elevator_model.specs.Snapshot.{IsUnmoving}
-use Rattle.text_sections.specs.declared.codes.TextCode.TheVariants.{NoLineWord, NoState, NotInOpening}
-use Rattle.text_sections.specs.declared.sections.Turn.{Turn}
-use Rattle.text_sections.specs.Codes.{Judged, ◌>>=◌}
-use Rattle.text_sections.specs.Words.{is_word, exactly, number}
+use Rattle.lift_text.specs.declared.codes.TextCode.TheVariants.{NoLineWord, NoState, NotInOpening}
+use Rattle.text_sections.specs.declared.sections.AfterLine.{AfterLine}
+use Rattle.text_sections.specs.Judging.{Judged, ◌>>=◌}
+use Rattle.text_sections.specs.Words.{is_word, exactly, number, short}
 use Rattle.text_sections.specs.Sections.{Line, goes_on, is_whole}
+use Rattle.text_sections.proofs.StepLemmas.{then-inv, picked, known-below}
 use Rattle.snapshot_text.specs.declared.kinds.Form.{Form}
 use Rattle.snapshot_text.specs.declared.kinds.Form.TheVariants.{Unsaid, SaidIdle, SaidComing, SaidMoving}
 use Rattle.snapshot_text.specs.declared.kinds.LineWord.{LineWord}
 use Rattle.snapshot_text.specs.declared.kinds.LineWord.TheVariants.{Snapshot as SnapshotWord, Now, Car, Aboard as AboardWord, Call as CallWord, End}
-use Rattle.snapshot_text.specs.Words.{short, has_direction, form_of, known, car_named, state_said, car_said, group_of_words, group_said, pin_named, call_of_words, call_said}
-use Rattle.snapshot_text.specs.Drafts.{Draft, any_word, in_order, with_item, unless_faulty, ended, after_word, after_judged}
+use Rattle.snapshot_text.specs.Words.{has_direction, form_of, car_named, state_said, car_said, call_at, group_in, group_of_words, group_said, pin_named, call_of_words, call_said}
+use Rattle.snapshot_text.specs.Drafts.{Draft, any_word, with_item, unless_faulty, ended, after_word, after_judged}
 
 -- ---- steps of a chain
-
-pub then-inv : {A B : Type 0} (j : Judged A) (f : A → Judged B) (y : B) → (j >>= f) ≡ Ok y → (x : A) × (j ≡ Ok x) × (f x ≡ Ok y)
-then-inv (Ok x) f y e = (x, refl, e)
-then-inv (Err code) f y e = absurd cc
-
-pub then-ok : {A B : Type 0} (j : Judged A) (f : A → Judged B) (x : A) (y : B) → j ≡ Ok x → f x ≡ Ok y → (j >>= f) ≡ Ok y
-then-ok j f x y e more = ap (λ judged. judged >>= f) e ∙ more
-
-pub in_order-inv : (b : Bool) (u : Unit {0}) → in_order b ≡ Ok u → b ≡ true
-in_order-inv true u e = refl
-in_order-inv false u e = absurd cc
-
-pub in_order-ok : (b : Bool) → b ≡ true → in_order b ≡ Ok tt
-in_order-ok b e = ap in_order e
-
-pub named-inv : (b : Bool) (u : Unit {0}) → (if b then Ok tt else Err NoLineWord) ≡ Ok u → b ≡ true
-named-inv true u e = refl
-named-inv false u e = absurd cc
 
 pub outside-inv : (b : Bool) (u : Unit {0}) → (if b then Err NotInOpening else Ok tt) ≡ Ok u → b ≡ false
 outside-inv true u e = absurd cc
@@ -72,11 +54,11 @@ with_item-whole (Err code) fault_of with_one next e = cc
 pub with_item-ok : {X : Type 0} (j : Judged X) (fault_of : X → Option Fault) (with_one : X → Draft) (x : X) → j ≡ Ok x → fault_of x ≡ None → with_item j fault_of with_one ≡ goes_on (with_one x)
 with_item-ok j fault_of with_one x e clear = ap (λ judged. with_item judged fault_of with_one) e ∙ ap (λ fault. unless_faulty fault (with_one x)) clear
 
-pub ended-inv : (j : Judged Turn) (d next : Draft) → ended j d ≡ is_whole next → (turn : Turn) × (j ≡ Ok turn) × (d ≡ next)
+pub ended-inv : (j : Judged AfterLine) (d next : Draft) → ended j d ≡ is_whole next → (turn : AfterLine) × (j ≡ Ok turn) × (d ≡ next)
 ended-inv (Ok turn) d next e = (turn, refl, cc)
 ended-inv (Err code) d next e = absurd cc
 
-pub ended-more : (j : Judged Turn) (d next : Draft) → ended j d ≡ goes_on next → ⊥
+pub ended-more : (j : Judged AfterLine) (d next : Draft) → ended j d ≡ goes_on next → ⊥
 ended-more (Ok turn) d next e = cc
 ended-more (Err code) d next e = cc
 
@@ -98,35 +80,19 @@ text_of AboardWord = codes "aboard"
 text_of CallWord = codes "call"
 text_of End = codes "end"
 
-abbrev Is : Line → LineWord → Type 0
-Is words word = is_word words 0 (text_of word) ≡ true
-
-picked : (words : Line) (b : Bool) (this word : LineWord) (rest : Judged LineWord) → (b ≡ true → Is words this) → (rest ≡ Ok word → Is words word) → (if b then Ok this else rest) ≡ Ok word → Is words word
-picked words true this word rest here later e = let same : this ≡ word = cc in subst (Is words) same (here refl)
-picked words false this word rest here later e = later e
-
 pub any_word-inv : (words : Line) (word : LineWord) → any_word words ≡ Ok word → is_word words 0 (text_of word) ≡ true
 any_word-inv words word e =
-    picked words _ SnapshotWord word _ (λ is. is)
-    (picked words _ Now word _ (λ is. is)
-    (picked words _ Car word _ (λ is. is)
-    (picked words _ AboardWord word _ (λ is. is)
-    (picked words _ CallWord word _ (λ is. is)
-    (picked words _ End word _ (λ is. is) (λ none. absurd cc)))))) e
+    picked text_of words _ SnapshotWord word _ (λ is. is)
+    (picked text_of words _ Now word _ (λ is. is)
+    (picked text_of words _ Car word _ (λ is. is)
+    (picked text_of words _ AboardWord word _ (λ is. is)
+    (picked text_of words _ CallWord word _ (λ is. is)
+    (picked text_of words _ End word _ (λ is. is) (λ none. absurd cc)))))) e
 
 -- ---- cars
 
 pub car_named-below : (b : Building) (id c : ℕ) → car_named b id ≡ Ok c → c < length b.cars
-car_named-below b id c e =
-    let p : CarSpec → Bool = λ x. x.id == id in
-    below (position_or_len p b.cars) (length b.cars) c e
-  where
-    cases : (is : Bool) (at count c : ℕ) → (is ≡ true → at < count) → known (if is then Some at else None) ≡ Ok c → c < count
-    cases true at count c small same = let equal : at ≡ c = cc in omega (arith, small refl)
-    cases false at count c small same = absurd cc
-
-    below : (at count c : ℕ) → known (if nat_lt at count then Some at else None) ≡ Ok c → c < count
-    below at count c same = cases (nat_lt at count) at count c (ltb-true at count) same
+car_named-below b id c e = known-below (λ (x : CarSpec). x.id == id) b.cars c e
 
 pub car_said-below : (b : Building) (form : Form) (words : Line) (said : ℕ × CarState) → car_said b form words ≡ Ok said → said.0 < length b.cars
 car_said-below b form words said e =
@@ -137,10 +103,10 @@ car_said-below b form words said e =
 
 pub group_said-below : (b : Building) (words : Line) (group : Aboard) → group_said b words ≡ Ok group → group.car < length b.cars
 group_said-below b words group e =
-    let first = then-inv (group_of_words words) (λ s. car_named b s.0 >>= λ c. Ok (record s.1 { car = c })) group e in
-    let second = then-inv (car_named b first.0.0) (λ c. Ok (record first.0.1 { car = c })) group first.2 in
-    let same : record first.0.1 { car = second.0 } ≡ group = cc in
-    subst (λ (g : Aboard). g.car < length b.cars) same (car_named-below b first.0.0 second.0 second.1)
+    let first = then-inv (group_of_words words) (λ s. car_named b s.car_id >>= λ c. Ok (group_in s c)) group e in
+    let second = then-inv (car_named b first.0.car_id) (λ c. Ok (group_in first.0 c)) group first.2 in
+    let same : group_in first.0 second.0 ≡ group = cc in
+    subst (λ (g : Aboard). g.car < length b.cars) same (car_named-below b first.0.car_id second.0 second.1)
 
 pin_named-below : (b : Building) (ids pin : Option ℕ) → pin_named b ids ≡ Ok pin → IfSome pin (λ c. c < length b.cars)
 pin_named-below b None pin e = let same : None ≡ pin = cc in subst (λ (p : Option ℕ). IfSome p (λ c. c < length b.cars)) same tt
@@ -151,10 +117,10 @@ pin_named-below b (Some id) pin e =
 
 pub call_said-below : (b : Building) (words : Line) (call : Call) → call_said b words ≡ Ok call → IfSome call.pin (λ c. c < length b.cars)
 call_said-below b words call e =
-    let first = then-inv (call_of_words words) (λ s. pin_named b s.pin >>= λ pin. Ok (record s { pin = pin })) call e in
-    let second = then-inv (pin_named b first.0.pin) (λ pin. Ok (record first.0 { pin = pin })) call first.2 in
-    let same : record first.0 { pin = second.0 } ≡ call = cc in
-    subst (λ (s : Call). IfSome s.pin (λ c. c < length b.cars)) same (pin_named-below b first.0.pin second.0 second.1)
+    let first = then-inv (call_of_words words) (λ s. pin_named b s.pin_id >>= λ pin. Ok (call_at s pin)) call e in
+    let second = then-inv (pin_named b first.0.pin_id) (λ pin. Ok (call_at first.0 pin)) call first.2 in
+    let same : call_at first.0 second.0 ≡ call = cc in
+    subst (λ (s : Call). IfSome s.pin (λ c. c < length b.cars)) same (pin_named-below b first.0.pin_id second.0 second.1)
 
 -- ---- moving cars
 

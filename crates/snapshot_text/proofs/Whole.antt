@@ -1,5 +1,5 @@
 -- What lines that make a section say.
-use Rattle.std.proofs.Common.{◌≡◌, ◌≢◌, ℕ, ◌+◌, ◌<◌, ◌≤◌, ◌==◌, Bool, true, false, List, [], ◌∷◌, ◌++◌, length, map, get_or, set, refl, sym, ap, ◌∙◌, subst, arith, Option, None, Some, Ok, Err, append_assoc, append-nil, IfSome, IfOk, add-zero, inl, inr}
+use Rattle.std.proofs.Common.{◌≡◌, ◌≢◌, ℕ, ◌+◌, ◌<◌, ◌≤◌, ◌==◌, Bool, true, false, List, [], ◌∷◌, ◌++◌, length, map, get_or, set, refl, sym, ap, ◌∙◌, subst, arith, Option, None, Some, Ok, Err, append_assoc, append-nil, IfSome, add-zero, inl, inr}
 use Rattle.std.specs.Prelude.{codes, if◌then◌else◌}
 use Rattle.std.specs.List.{list_all}
 use Rattle.std.proofs.lemmas.Bool.{eqb-true, ne_eqb, eq-eqb, false≢true, and_parts, cases_Bool}
@@ -17,22 +17,21 @@ use Rattle.elevator_model.specs.Snapshot.{IsAccepted, IsUnmoving, no_state, no_g
 use Rattle.elevator_model.specs.Faults.{fault_of_state, fault_of_group, fault_of_call}
 use Rattle.call_state.specs.SnapshotParts.{AreSnapshotParts}
 use Rattle.call_state.proofs.Accepted.{IsClear, IsAccepted-from}
-use Rattle.text_sections.specs.declared.codes.TextCode.TheVariants.{NoLineWord}
-use Rattle.text_sections.specs.declared.sections.Turn.TheVariants.{Whole}
-use Rattle.text_sections.specs.Codes.{Judged, ◌>>=◌}
-use Rattle.text_sections.specs.Words.{is_word, exactly, number}
+use Rattle.lift_text.specs.declared.codes.TextCode.TheVariants.{NoLineWord}
+use Rattle.text_sections.specs.declared.sections.AfterLine.TheVariants.{Whole}
+use Rattle.text_sections.specs.Judging.{Judged, ◌>>=◌, in_order}
+use Rattle.text_sections.specs.Words.{is_word, exactly, number, named, says_end}
 use Rattle.text_sections.specs.Sections.{Line, goes_on, is_whole}
 use Rattle.text_sections.specs.Canonical.{Goes, Makes}
-use Rattle.text_sections.proofs.NumberLemmas.{is_within}
-use Rattle.lift_text.specs.Numbers.{digits_number}
-use Rattle.text_sections.specs.Words.{word_at}
+use Rattle.text_sections.proofs.StepLemmas.{then-inv, then-ok, in_order-inv, named-ok}
+use Rattle.text_sections.proofs.NumberLemmas.{number_in}
 use Rattle.snapshot_text.specs.declared.kinds.Due.TheVariants.{Version, Items}
 use Rattle.snapshot_text.specs.declared.kinds.LineWord.{LineWord}
 use Rattle.snapshot_text.specs.declared.kinds.LineWord.TheVariants.{Snapshot as SnapshotWord, Now, Car, Aboard as AboardWord, Call as CallWord, End}
 use Rattle.snapshot_text.specs.Words.{version_said, moment_said, form_of, car_said, group_said, call_said}
-use Rattle.snapshot_text.specs.Drafts.{Draft, blank, snapshot_read, any_word, line_word, has_car, has_all_cars, in_order, cars_in_order, groups_in_order, calls_in_order, outside_opening, with_all_cars, version_in, moment_in, car_in, group_in, call_in, end_in, fault_in_car, fault_in_group, fault_in_call, with_version, with_moment, with_car, with_group, with_call, after_word, after}
-use Rattle.snapshot_text.specs.Snapshots.{named, says_version, says_moment, says_car, says_group, says_call, says_end, StandsFor}
-use Rattle.snapshot_text.proofs.Steps.{then-inv, then-ok, in_order-inv, outside-inv, all_cars-inv, with_item-inv, with_item-whole, ended-inv, ended-more, after_judged-inv, after_judged-whole, text_of, any_word-inv, car_said-below, group_said-below, call_said-below, unmoving_in}
+use Rattle.snapshot_text.specs.Drafts.{Draft, blank, snapshot_read, any_word, line_word, has_car, has_all_cars, cars_in_order, groups_in_order, calls_in_order, outside_opening, with_all_cars, version_in, moment_in, car_in, group_in, call_in, end_in, fault_in_car, fault_in_group, fault_in_call, with_version, with_moment, with_car, with_group, with_call, after_word, after}
+use Rattle.snapshot_text.specs.Snapshots.{says_version, says_moment, says_car, says_group, says_call, StandsFor}
+use Rattle.snapshot_text.proofs.Steps.{outside-inv, all_cars-inv, with_item-inv, with_item-whole, ended-inv, ended-more, after_judged-inv, after_judged-whole, text_of, any_word-inv, car_said-below, group_said-below, call_said-below, unmoving_in}
 use Rattle.snapshot_text.proofs.Lists.{times_in, times-push, map-without, at_each, nil_of, said_long, AreClear, clear-push, each-push, line_of_car, line_of_group, line_of_call}
 
 -- the states, groups and calls that were read
@@ -45,9 +44,6 @@ pub record Held : Type 0 where
 fresh-clear : (stated : Bool) (fault : Option Fault) → (if stated then Some IdUsedBefore else fault) ≡ None → (stated ≡ false) × (fault ≡ None)
 fresh-clear true fault e = absurd cc
 fresh-clear false fault e = (refl, e)
-
-is_named : (words : Line) (word : LineWord) → is_word words 0 (text_of word) ≡ true → named (text_of word) words ≡ Ok tt
-is_named words word is = ap (λ (e : Bool). if e then Ok tt else Err NoLineWord) is
 
 module _ (b : Building) (o : Bool) (v t : ℕ) where
   abbrev pub draft : Held → Draft
@@ -134,7 +130,7 @@ module _ (b : Building) (o : Bool) (v t : ℕ) where
       let free = and_parts (length i.aboard == 0) (length i.calls == 0) (in_order-inv _ order.0 order.1) in
       let alone = empty_of (length i.aboard) free.0 in
       let uncalled = empty_of (length i.calls) free.1 in
-      let says : says_car b v words ≡ Ok one = then-ok (named (codes "car") words) (λ _. form_of v words >>= λ form. car_said b form words) tt one (is_named words Car is) (then-ok (form_of v words) (λ form. car_said b form words) form.0 one form.1 order.2) in
+      let says : says_car b v words ≡ Ok one = then-ok (named (codes "car") words) (λ _. form_of v words >>= λ form. car_said b form words) tt one (named-ok words (text_of Car) is) (then-ok (form_of v words) (λ form. car_said b form words) form.0 one form.1 order.2) in
       let fresh = fresh-clear (get_or i.stated one.0 false) (fault_of_state b t one.0 one.1) inv.2 in
       let below = car_said-below b form.0 words one order.2 in
       let old = read.groups in (
@@ -165,7 +161,7 @@ module _ (b : Building) (o : Bool) (v t : ℕ) where
       let shut = outside-inv o outside.0 outside.1 in
       let free = and_parts (has_car (draft i)) (length i.calls == 0) (in_order-inv _ order.0 order.1) in
       let uncalled = empty_of (length i.calls) free.1 in
-      let says : says_group b words ≡ Ok one = then-ok (named (codes "aboard") words) (λ _. group_said b words) tt one (is_named words AboardWord is) said in
+      let says : says_group b words ≡ Ok one = then-ok (named (codes "aboard") words) (λ _. group_said b words) tt one (named-ok words (text_of AboardWord) is) said in
       let below = group_said-below b words one said in
       let old = read.groups in (
         record { states = i.states; stated = i.stated; aboard = i.aboard ++ one ∷ []; calls = i.calls },
@@ -197,7 +193,7 @@ module _ (b : Building) (o : Bool) (v t : ℕ) where
       let same : call.0 ≡ one = cc in
       let said : call_said b words ≡ Ok one = call.1 ∙ ap Ok same in
       let shut = outside-inv o outside.0 outside.1 in
-      let says : says_call b words ≡ Ok one = then-ok (named (codes "call") words) (λ _. call_said b words) tt one (is_named words CallWord is) said in
+      let says : says_call b words ≡ Ok one = then-ok (named (codes "call") words) (λ _. call_said b words) tt one (named-ok words (text_of CallWord) is) said in
       let below = call_said-below b words one said in
       let old = read.calls in (
         record { states = i.states; stated = i.stated; aboard = i.aboard; calls = i.calls ++ one ∷ [] },
@@ -253,7 +249,7 @@ module _ (b : Building) (o : Bool) (v t : ℕ) where
       let order = then-inv (calls_in_order (draft i)) (λ _. exactly words 1 >>= λ _. (with_all_cars (draft i) >>= λ _. Ok Whole)) inv.0 inv.1 in
       let one = then-inv (exactly words 1) (λ _. with_all_cars (draft i) >>= λ _. Ok Whole) inv.0 order.2 in
       let all = then-inv (with_all_cars (draft i)) (λ _. Ok Whole) inv.0 one.2 in
-      (inv.2, then-ok (named (codes "end") words) (λ _. exactly words 1) tt tt (is_named words End is) one.1, all_cars-inv (has_all_cars (draft i)) all.0 all.1)
+      (inv.2, then-ok (named (codes "end") words) (λ _. exactly words 1) tt tt (named-ok words (text_of End) is) one.1, all_cars-inv (has_all_cars (draft i)) all.0 all.1)
 
   made_whole : (i : Held) (end : Draft) (words : Line) → after (draft i) words ≡ is_whole end → (draft i ≡ end) × (says_end words ≡ Ok tt) × (has_all_cars (draft i) ≡ true)
   made_whole i end words e =
@@ -307,7 +303,7 @@ module _ (b : Building) (o : Bool) where
       let here : after_word SnapshotWord d words ≡ goes_on next = subst (λ (w : LineWord). after_word w d words ≡ goes_on next) (sym word.1) inv.2 in
       let one = with_item-inv (version_in d words) (λ version. None) (with_version d) next here in
       let order = then-inv (in_order true) (λ _. version_said words) one.0 one.1 in
-      (one.0, one.3, then-ok (named (codes "snapshot") words) (λ _. version_said words) tt one.0 (is_named words SnapshotWord word.0) order.2)
+      (one.0, one.3, then-ok (named (codes "snapshot") words) (λ _. version_said words) tt one.0 (named-ok words (text_of SnapshotWord) word.0) order.2)
 
   not_whole : (words : Line) (end : Draft) → after (blank b o) words ≡ is_whole end → ⊥
   not_whole words end e =
@@ -331,7 +327,7 @@ module _ (b : Building) (o : Bool) where
     second_by_word Now words next is e =
         let inv = with_item-inv (moment_in started words) (λ moment. None) (with_moment started) next e in
         let order = then-inv (in_order true) (λ _. moment_said words) inv.0 inv.1 in
-        (inv.0, inv.3, then-ok (named (codes "now") words) (λ _. moment_said words) tt inv.0 (is_named words Now is) order.2)
+        (inv.0, inv.3, then-ok (named (codes "now") words) (λ _. moment_said words) tt inv.0 (named-ok words (text_of Now) is) order.2)
     second_by_word Car words next is e =
         let inv = with_item-inv (car_in started words) (fault_in_car started) (with_car started) next e in
         let form = then-inv (form_of v words) (λ form. in_order false >>= λ _. car_said b form words) inv.0 inv.1 in
@@ -366,20 +362,17 @@ module _ (b : Building) (o : Bool) where
 
   -- ---- the law
 
-  number_within : (words : Line) (k low high n : ℕ) → number words k low high ≡ Ok n → (low ≤ n) × (n ≤ high)
-  number_within words k low high n e = subst (λ (r : Judged ℕ). IfOk r (λ n. (low ≤ n) × (n ≤ high))) e (is_within low high (digits_number (word_at words k)))
-
   version_within : (words : Line) (v : ℕ) → says_version words ≡ Ok v → (1 ≤ v) × (v ≤ 2)
   version_within words v e =
       let named_so = then-inv (named (codes "snapshot") words) (λ _. version_said words) v e in
       let two = then-inv (exactly words 2) (λ _. number words 1 1 2) v named_so.2 in
-      number_within words 1 1 2 v two.2
+      number_in words 1 1 2 v two.2
 
   moment_within : (words : Line) (t : ℕ) → says_moment words ≡ Ok t → t ≤ 1000000000
   moment_within words t e =
       let named_so = then-inv (named (codes "now") words) (λ _. moment_said words) t e in
       let two = then-inv (exactly words 2) (λ _. number words 1 0 1000000000) t named_so.2 in
-      (number_within words 1 0 1000000000 t two.2).1
+      (number_in words 1 0 1000000000 t two.2).1
 
   -- what a section that was made gives: parts that may be tested, without a fault, and lines that stand for them
   pub record IsSound (lines : List Line) (end : Draft) : Type 0 where

@@ -1,9 +1,9 @@
 -- The lines of a snapshot's text stand for it.
-use Rattle.std.proofs.Common.{◌≡◌, ℕ, zero, suc, ◌+◌, ◌*◌, ◌^◌, ◌<◌, ◌≤◌, ◌==◌, ◌&&◌, not, Bool, true, false, List, [], ◌∷◌, ◌++◌, length, map, get_or, refl, sym, ap, ◌∙◌, subst, arith, Option, None, Some, Result, Ok, Err, length-append, add-one, IfSome, lit<, inl, inr}
+use Rattle.std.proofs.Common.{◌≡◌, ℕ, zero, suc, ◌+◌, ◌*◌, ◌^◌, ◌<◌, ◌≤◌, ◌&&◌, Bool, true, false, List, [], ◌∷◌, ◌++◌, length, map, get_or, refl, sym, ap, ◌∙◌, subst, arith, Option, None, Some, Result, Ok, Err, length-append, add-one, IfSome, lit<, inl, inr}
 use Rattle.std.specs.Prelude.{codes, decimal, if◌then◌else◌, nat_le, nat_lt, IsTrue}
 use Rattle.std.specs.Str.{bytes_eq}
 use Rattle.std.specs.List.{flat_map, range_with_len, list_all, AllByRecursion}
-use Rattle.std.proofs.lemmas.Bool.{eqb-false, ne_eqb, eq-eqb, false≢true, and_parts, cases_Bool, cases_eq, leb-true, ltb-true}
+use Rattle.std.proofs.lemmas.Bool.{ne_eqb, eq-eqb, false≢true, and_parts, cases_Bool, cases_eq, leb-true, ltb-true}
 use Rattle.std.proofs.lemmas.List.{map_push}
 use Rattle.std.proofs.lemmas.Fmt.{length-decimal-le}
 use Rattle.std.proofs.lemmas.Slice.Eq.{bytes_eq-Decides}
@@ -17,20 +17,23 @@ use Rattle.elevator_model.specs.Snapshot.{Snapshot, IsUnmoving, IsTimely, car_co
 use Rattle.lift_text.specs.Numbers.{digits_number}
 use Rattle.lift_text.specs.Reading.{TextState, reading}
 use Rattle.lift_text.specs.declared.faults.TextFault.{TextFault}
-use Rattle.text_sections.specs.declared.codes.TextCode.TheVariants.{NoLineWord, Missing, TooMany, NoNumber}
-use Rattle.text_sections.specs.Codes.{◌>>=◌}
-use Rattle.text_sections.specs.Words.{is_word, exactly, number, within, word_at}
+use Rattle.lift_text.specs.declared.codes.TextCode.TheVariants.{NoLineWord, Missing, TooMany, NoNumber}
+use Rattle.text_sections.specs.Judging.{◌>>=◌}
+use Rattle.text_sections.specs.Words.{is_word, exactly, number, within, word_at, short}
 use Rattle.text_sections.specs.Sections.{Line}
-use Rattle.text_sections.specs.Canonical.{IsWordByte, IsWord, IsLineOfWords, BeginsWith}
+use Rattle.text_sections.specs.Canonical.{IsWord, IsLineOfWords, BeginsWith}
 use Rattle.text_sections.proofs.NumberLemmas.{number_again, written_number}
-use Rattle.text_sections.proofs.CanonicalLemmas.{decimal_word, lines_again}
+use Rattle.text_sections.proofs.CanonicalLemmas.{decimal_word, lines_again, bytes_from, is_byte}
+use Rattle.text_sections.proofs.StepLemmas.{then-ok}
+use Rattle.text_sections.proofs.EachLemmas.{each-append}
 use Rattle.snapshot_text.specs.declared.kinds.Form.{Form}
 use Rattle.snapshot_text.specs.declared.kinds.Form.TheVariants.{SaidIdle, SaidComing, SaidMoving}
-use Rattle.snapshot_text.specs.Words.{short, form_of, car_named, state_said, car_said, group_of_words, pin_said, pin_named, call_of_words, moving_said}
+use Rattle.snapshot_text.specs.declared.said.CallWords.{CallWords}
+use Rattle.snapshot_text.specs.declared.said.GroupWords.{GroupWords}
+use Rattle.snapshot_text.specs.Words.{form_of, car_named, state_said, car_said, call_at, group_in, group_of_words, pin_said, pin_named, call_of_words, moving_said}
 use Rattle.snapshot_text.specs.Snapshots.{says_car, says_group, says_call, StandsFor, ReadsLines}
 use Rattle.snapshot_text.specs.Texts.{head_words, moment_words, state_words, car_words, group_words, pin_word, call_words, end_words, car_lines, group_lines, call_lines, snapshot_lines, snapshot_text, HasText, behind, ReadsText}
 use Rattle.snapshot_text.proofs.CarLemmas.{named_car}
-use Rattle.snapshot_text.proofs.Steps.{then-ok}
 use Rattle.snapshot_text.proofs.Lists.{times_in, times-push}
 use Rattle.snapshot_text.proofs.Texts.{range_more, pin_is_car}
 
@@ -40,21 +43,6 @@ use Rattle.snapshot_text.proofs.Texts.{range_more, pin_is_car}
 pub record IsGood (word : List ℕ) : Type 0 where
   is : IsWord word
   few : length word ≤ 20
-
-abbrev is_byte : ℕ → Bool
-is_byte b = nat_le 33 b && (nat_le b 126 && not (b == 35))
-
-not-true : (is : Bool) → not is ≡ true → is ≡ false
-not-true true e = absurd (false≢true e)
-not-true false e = refl
-
-bytes_from : (bs : List ℕ) → list_all is_byte bs ≡ true → AllByRecursion IsWordByte bs
-bytes_from [] all = tt
-bytes_from (b ∷ bs) all =
-    let parts = and_parts (is_byte b) (list_all is_byte bs) all in
-    let low = and_parts (nat_le 33 b) (nat_le b 126 && not (b == 35)) parts.0 in
-    let high = and_parts (nat_le b 126) (not (b == 35)) low.1 in
-    ((leb-true 33 b low.0, leb-true b 126 high.0, eqb-false b 35 (not-true (b == 35) high.1)), bytes_from bs parts.1)
 
 text_good : (text : List ℕ) → list_all is_byte text ≡ true → nat_lt 0 (length text) ≡ true → nat_le (length text) 20 ≡ true → IsGood text
 text_good text all some few = record { is = record { some = ltb-true 0 (length text) some; bytes = bytes_from text all }; few = leb-true (length text) 20 few }
@@ -151,19 +139,19 @@ group_says : (b : Building) (group : Aboard) (id : ℕ) → id ≡ (car_of b gro
     → says_group b (codes "aboard" ∷ decimal id ∷ decimal group.id ∷ decimal group.destination ∷ decimal group.persons ∷ decimal group.boarded ∷ []) ≡ Ok group
 group_says b group id same small is own low few early =
     let words : Line = codes "aboard" ∷ decimal id ∷ decimal group.id ∷ decimal group.destination ∷ decimal group.persons ∷ decimal group.boarded ∷ [] in
-    let group' : Aboard = record { id = group.id; car = 0; destination = group.destination; persons = group.persons; boarded = group.boarded } in
-    let said : group_of_words words ≡ Ok (id, group') =
-    then-ok (short words 1) (λ car. short words 2 >>= λ i. (short words 3 >>= λ destination. (short words 4 >>= λ persons. (number words 5 0 2000000000 >>= λ boarded. Ok (car, record { id = i; car = 0; destination = destination; persons = persons; boarded = boarded })))))
-    id (id, group') (written_number words 1 id 0 4294967295 (omega arith) refl (omega arith) (omega arith))
-    (then-ok (short words 2) (λ i. short words 3 >>= λ destination. (short words 4 >>= λ persons. (number words 5 0 2000000000 >>= λ boarded. Ok (id, record { id = i; car = 0; destination = destination; persons = persons; boarded = boarded }))))
-    group.id (id, group') (written_number words 2 group.id 0 4294967295 (omega arith) refl (omega arith) (omega arith))
-    (then-ok (short words 3) (λ destination. short words 4 >>= λ persons. (number words 5 0 2000000000 >>= λ boarded. Ok (id, record { id = group.id; car = 0; destination = destination; persons = persons; boarded = boarded })))
-    group.destination (id, group') (written_number words 3 group.destination 0 4294967295 (omega arith) refl (omega arith) (omega arith))
-    (then-ok (short words 4) (λ persons. number words 5 0 2000000000 >>= λ boarded. Ok (id, record { id = group.id; car = 0; destination = group.destination; persons = persons; boarded = boarded }))
-    group.persons (id, group') (written_number words 4 group.persons 0 4294967295 (omega arith) refl (omega arith) (omega arith))
-    (then-ok (number words 5 0 2000000000) (λ boarded. Ok (id, record { id = group.id; car = 0; destination = group.destination; persons = group.persons; boarded = boarded }))
-    group.boarded (id, group') (written_number words 5 group.boarded 0 2000000000 (omega arith) refl (omega arith) early) refl)))) in
-    then-ok (group_of_words words) (λ s. car_named b s.0 >>= λ c. Ok (record s.1 { car = c })) (id, group') group said (then-ok (car_named b id) (λ c. Ok (record group' { car = c })) group.car group is refl)
+    let group' : GroupWords = record { car_id = id; id = group.id; destination = group.destination; persons = group.persons; boarded = group.boarded } in
+    let said : group_of_words words ≡ Ok group' =
+    then-ok (short words 1) (λ car. short words 2 >>= λ i. (short words 3 >>= λ destination. (short words 4 >>= λ persons. (number words 5 0 2000000000 >>= λ boarded. Ok (record { car_id = car; id = i; destination = destination; persons = persons; boarded = boarded })))))
+    id group' (written_number words 1 id 0 4294967295 (omega arith) refl (omega arith) (omega arith))
+    (then-ok (short words 2) (λ i. short words 3 >>= λ destination. (short words 4 >>= λ persons. (number words 5 0 2000000000 >>= λ boarded. Ok (record { car_id = id; id = i; destination = destination; persons = persons; boarded = boarded }))))
+    group.id group' (written_number words 2 group.id 0 4294967295 (omega arith) refl (omega arith) (omega arith))
+    (then-ok (short words 3) (λ destination. short words 4 >>= λ persons. (number words 5 0 2000000000 >>= λ boarded. Ok (record { car_id = id; id = group.id; destination = destination; persons = persons; boarded = boarded })))
+    group.destination group' (written_number words 3 group.destination 0 4294967295 (omega arith) refl (omega arith) (omega arith))
+    (then-ok (short words 4) (λ persons. number words 5 0 2000000000 >>= λ boarded. Ok (record { car_id = id; id = group.id; destination = group.destination; persons = persons; boarded = boarded }))
+    group.persons group' (written_number words 4 group.persons 0 4294967295 (omega arith) refl (omega arith) (omega arith))
+    (then-ok (number words 5 0 2000000000) (λ boarded. Ok (record { car_id = id; id = group.id; destination = group.destination; persons = group.persons; boarded = boarded }))
+    group.boarded group' (written_number words 5 group.boarded 0 2000000000 (omega arith) refl (omega arith) early) refl)))) in
+    then-ok (group_of_words words) (λ s. car_named b s.car_id >>= λ c. Ok (group_in s c)) group' group said (then-ok (car_named b id) (λ c. Ok (group_in group' c)) group.car group is refl)
 
 group_good : (group : Aboard) (id : ℕ) → id < 2 ^ 32 → group.id < 2 ^ 32 → group.destination < 64 → group.persons ≤ 8 → group.boarded ≤ 2000000000
     → IsLineOfWords (codes "aboard" ∷ decimal id ∷ decimal group.id ∷ decimal group.destination ∷ decimal group.persons ∷ decimal group.boarded ∷ [])
@@ -214,21 +202,21 @@ pin_good b (Some c) told = number_good (car_of b c).id (omega (arith, told.0))
 call_says : (b : Building) (call : Call) → HasPin b call.pin → call.id < 2 ^ 32 → call.origin < 64 → call.destination < 64 → call.persons ≤ 8 → call.released ≤ 1000000000 → says_call b (call_words b call) ≡ Ok call
 call_says b call told own low far few early =
     let words = call_words b call in
-    let call' : Call = record { id = call.id; origin = call.origin; destination = call.destination; persons = call.persons; released = call.released; pin = pin_id b call.pin } in
+    let call' : CallWords = record { id = call.id; origin = call.origin; destination = call.destination; persons = call.persons; released = call.released; pin_id = pin_id b call.pin } in
     let said : call_of_words words ≡ Ok call' =
-    then-ok (short words 1) (λ i. short words 2 >>= λ origin. (short words 3 >>= λ destination. (short words 4 >>= λ persons. (number words 5 0 1000000000 >>= λ released. (pin_said words >>= λ pin. Ok (record { id = i; origin = origin; destination = destination; persons = persons; released = released; pin = pin }))))))
+    then-ok (short words 1) (λ i. short words 2 >>= λ origin. (short words 3 >>= λ destination. (short words 4 >>= λ persons. (number words 5 0 1000000000 >>= λ released. (pin_said words >>= λ pin. Ok (record { id = i; origin = origin; destination = destination; persons = persons; released = released; pin_id = pin }))))))
     call.id call' (written_number words 1 call.id 0 4294967295 (omega arith) refl (omega arith) (omega arith))
-    (then-ok (short words 2) (λ origin. short words 3 >>= λ destination. (short words 4 >>= λ persons. (number words 5 0 1000000000 >>= λ released. (pin_said words >>= λ pin. Ok (record { id = call.id; origin = origin; destination = destination; persons = persons; released = released; pin = pin })))))
+    (then-ok (short words 2) (λ origin. short words 3 >>= λ destination. (short words 4 >>= λ persons. (number words 5 0 1000000000 >>= λ released. (pin_said words >>= λ pin. Ok (record { id = call.id; origin = origin; destination = destination; persons = persons; released = released; pin_id = pin })))))
     call.origin call' (written_number words 2 call.origin 0 4294967295 (omega arith) refl (omega arith) (omega arith))
-    (then-ok (short words 3) (λ destination. short words 4 >>= λ persons. (number words 5 0 1000000000 >>= λ released. (pin_said words >>= λ pin. Ok (record { id = call.id; origin = call.origin; destination = destination; persons = persons; released = released; pin = pin }))))
+    (then-ok (short words 3) (λ destination. short words 4 >>= λ persons. (number words 5 0 1000000000 >>= λ released. (pin_said words >>= λ pin. Ok (record { id = call.id; origin = call.origin; destination = destination; persons = persons; released = released; pin_id = pin }))))
     call.destination call' (written_number words 3 call.destination 0 4294967295 (omega arith) refl (omega arith) (omega arith))
-    (then-ok (short words 4) (λ persons. number words 5 0 1000000000 >>= λ released. (pin_said words >>= λ pin. Ok (record { id = call.id; origin = call.origin; destination = call.destination; persons = persons; released = released; pin = pin })))
+    (then-ok (short words 4) (λ persons. number words 5 0 1000000000 >>= λ released. (pin_said words >>= λ pin. Ok (record { id = call.id; origin = call.origin; destination = call.destination; persons = persons; released = released; pin_id = pin })))
     call.persons call' (written_number words 4 call.persons 0 4294967295 (omega arith) refl (omega arith) (omega arith))
-    (then-ok (number words 5 0 1000000000) (λ released. pin_said words >>= λ pin. Ok (record { id = call.id; origin = call.origin; destination = call.destination; persons = call.persons; released = released; pin = pin }))
+    (then-ok (number words 5 0 1000000000) (λ released. pin_said words >>= λ pin. Ok (record { id = call.id; origin = call.origin; destination = call.destination; persons = call.persons; released = released; pin_id = pin }))
     call.released call' (written_number words 5 call.released 0 1000000000 (omega arith) refl (omega arith) early)
-    (then-ok (pin_said words) (λ pin. Ok (record { id = call.id; origin = call.origin; destination = call.destination; persons = call.persons; released = call.released; pin = pin }))
+    (then-ok (pin_said words) (λ pin. Ok (record { id = call.id; origin = call.origin; destination = call.destination; persons = call.persons; released = call.released; pin_id = pin }))
     (pin_id b call.pin) call' (pin_reads b call.pin words told refl) refl))))) in
-    then-ok (call_of_words words) (λ s. pin_named b s.pin >>= λ pin. Ok (record s { pin = pin })) call' call said (then-ok (pin_named b (pin_id b call.pin)) (λ pin. Ok (record call' { pin = pin })) call.pin call (pin_known b call.pin told) refl)
+    then-ok (call_of_words words) (λ s. pin_named b s.pin_id >>= λ pin. Ok (call_at s pin)) call' call said (then-ok (pin_named b (pin_id b call.pin)) (λ pin. Ok (call_at call' pin)) call.pin call (pin_known b call.pin told) refl)
 
 call_good : (b : Building) (call : Call) → HasPin b call.pin → call.id < 2 ^ 32 → call.origin < 64 → call.destination < 64 → call.persons ≤ 8 → call.released ≤ 1000000000 → IsLineOfWords (call_words b call)
 call_good b call told own low far few early =
@@ -266,10 +254,6 @@ map_map {X} {Y} {Z} f g (x ∷ xs) = ap (λ (zs : List Z). f (g x) ∷ zs) (map_
 map_each : {X Z : Type 0} (f g : X → Z) (d : X) (xs : List X) → ((k : ℕ) → k < length xs → f (get_or xs k d) ≡ g (get_or xs k d)) → map f xs ≡ map g xs
 map_each f g d [] same = refl
 map_each {X} {Z} f g d (x ∷ xs) same = ap (λ (z : Z). z ∷ map f xs) (same 0 (omega arith)) ∙ ap (λ (zs : List Z). g x ∷ zs) (map_each f g d xs (λ k below. same (suc k) (omega arith)))
-
-each-append : {X : Type 0} (P : X → Type 0) (xs ys : List X) → AllByRecursion P xs → AllByRecursion P ys → AllByRecursion P (xs ++ ys)
-each-append P [] ys all more = more
-each-append P (x ∷ xs) ys all more = (all.0, each-append P xs ys all.1 more)
 
 each_map : {X Y : Type 0} (P : Y → Type 0) (f : X → Y) (d : X) (xs : List X) → ((k : ℕ) → k < length xs → P (f (get_or xs k d))) → AllByRecursion P (map f xs)
 each_map P f d [] each = tt

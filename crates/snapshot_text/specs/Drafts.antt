@@ -7,14 +7,13 @@ use Rattle.elevator_model.specs.declared.Aboard.{Aboard}
 use Rattle.elevator_model.specs.declared.Call.{Call}
 use Rattle.elevator_model.specs.declared.Fault.{Fault}
 use Rattle.elevator_model.specs.declared.Fault.TheVariants.{IdUsedBefore}
-use Rattle.elevator_model.specs.Printed as printed
 use Rattle.elevator_model.specs.Building.{Building}
 use Rattle.elevator_model.specs.Snapshot.{Snapshot, no_state}
 use Rattle.elevator_model.specs.Faults.{fault_of_state, fault_of_group, fault_of_call}
-use Rattle.text_sections.specs.declared.codes.TextCode.TheVariants.{NoLineWord, OutOfOrder, NoState, NotInOpening}
-use Rattle.text_sections.specs.declared.sections.Turn.{Turn}
-use Rattle.text_sections.specs.declared.sections.Turn.TheVariants.{Whole}
-use Rattle.text_sections.specs.Codes.{Judged, ◌>>=◌, code_of}
+use Rattle.lift_text.specs.declared.codes.TextCode.TheVariants.{NoLineWord, NoState, NotInOpening, Item}
+use Rattle.text_sections.specs.declared.sections.AfterLine.{AfterLine}
+use Rattle.text_sections.specs.declared.sections.AfterLine.TheVariants.{Whole}
+use Rattle.text_sections.specs.Judging.{Judged, ◌>>=◌, in_order}
 use Rattle.text_sections.specs.Words.{is_word, exactly}
 use Rattle.text_sections.specs.Sections.{Line, Step, goes_on, is_whole, is_bad}
 use Rattle.snapshot_text.specs.declared.kinds.Due.{Due}
@@ -107,9 +106,6 @@ has_car d = list_any (λ (is : Bool). is) d.stated
 abbrev pub has_all_cars : Draft → Bool
 has_all_cars d = list_all (λ (is : Bool). is) d.stated
 
-abbrev pub in_order : Bool → Judged Unit
-in_order is = if is then Ok tt else Err OutOfOrder
-
 abbrev pub cars_in_order : Draft → Judged Unit
 cars_in_order d = in_order (are_items_due d.due && ((length d.aboard == 0) && (length d.calls == 0)))
 
@@ -145,7 +141,7 @@ abbrev pub call_in : Draft → Line → Judged Call
 call_in d words =
     calls_in_order d >>= λ _. (outside_opening d >>= λ _. (call_said d.building words >>= λ call. (with_all_cars d >>= λ _. Ok call)))
 
-abbrev pub end_in : Draft → Line → Judged Turn
+abbrev pub end_in : Draft → Line → Judged AfterLine
 end_in d words = calls_in_order d >>= λ _. (exactly words 1 >>= λ _. (with_all_cars d >>= λ _. Ok Whole))
 
 -- ---- what is wrong with the item of a line
@@ -182,17 +178,17 @@ with_call d call = record d { calls = d.calls ++ call ∷ [] }
 -- a line whose item has this fault, or none
 abbrev pub unless_faulty : Option Fault → Draft → Step Draft
 unless_faulty None d = goes_on d
-unless_faulty (Some fault) d = is_bad (printed.code_of fault)
+unless_faulty (Some fault) d = is_bad (Item fault)
 
 -- a line that says an item: it is judged by its words, then by the item
 abbrev pub with_item : {X : Type 0} → Judged X → (X → Option Fault) → (X → Draft) → Step Draft
 with_item (Ok x) fault_of with_one = unless_faulty (fault_of x) (with_one x)
-with_item (Err code) fault_of with_one = is_bad (code_of code)
+with_item (Err code) fault_of with_one = is_bad code
 
 -- the last line
-abbrev pub ended : Judged Turn → Draft → Step Draft
+abbrev pub ended : Judged AfterLine → Draft → Step Draft
 ended (Ok turn) d = is_whole d
-ended (Err code) d = is_bad (code_of code)
+ended (Err code) d = is_bad code
 
 abbrev pub after_word : LineWord → Draft → Line → Step Draft
 after_word SnapshotWord d words = with_item (version_in d words) (λ version. None) (with_version d)
@@ -204,7 +200,7 @@ after_word End d words = ended (end_in d words) d
 
 abbrev pub after_judged : Judged LineWord → Draft → Line → Step Draft
 after_judged (Ok word) d words = after_word word d words
-after_judged (Err code) d words = is_bad (code_of code)
+after_judged (Err code) d words = is_bad code
 
 -- what a line of these words does
 abbrev pub after : Draft → Line → Step Draft

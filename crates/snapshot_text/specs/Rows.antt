@@ -1,9 +1,11 @@
 -- Worked rows of snapshot sections: four floors 4 m apart, car 7 for 8 persons that serves all, and car 3 for
 -- 2 persons that serves the lower three.
 use Rattle.std.specs.Prelude.{◌≡◌, ℕ, ◌+◌, Bool, true, false, List, [], ◌∷◌, None, Some, codes, refl}
+use Rattle.elevator_model.specs.declared.Fault.TheVariants.{IdUsedBefore, WrongSide, NoOpenFloor}
 use Rattle.elevator_model.specs.declared.CarState.TheVariants.{Idle, Coming}
 use Rattle.elevator_model.specs.Building.{Building}
 use Rattle.lift_text.specs.Reading.{Reading, line_with, finished}
+use Rattle.lift_text.specs.declared.codes.TextCode.TheVariants.{NoLineWord, OutOfOrder, NoState, NotInOpening, Item}
 use Rattle.text_sections.specs.Sections.{Line, Outcome, accepted, refused, outcome}
 use Rattle.snapshot_text.specs.declared.kinds.Due.TheVariants.{Items}
 use Rattle.snapshot_text.specs.Drafts.{Draft, blank, after}
@@ -79,27 +81,27 @@ whole_row : read_of false (head ∷ moment ∷ coming ∷ standing ∷ group ∷
 whole_row = refl
 
 -- a word of the car's state comes before the order of the lines, and version 1 knows no moving car
-form_row : read_of false (head ∷ moving ∷ []) ≡ refused 2 3
+form_row : read_of false (head ∷ moving ∷ []) ≡ refused 2 NoLineWord
 form_row = refl
 
-order_row : read_of false (head_two ∷ moving ∷ []) ≡ refused 2 8
+order_row : read_of false (head_two ∷ moving ∷ []) ≡ refused 2 OutOfOrder
 order_row = refl
 
-no_car_row : read_of false (head ∷ moment ∷ end ∷ []) ≡ refused 3 8
+no_car_row : read_of false (head ∷ moment ∷ end ∷ []) ≡ refused 3 OutOfOrder
 no_car_row = refl
 
-car_missing_row : read_of false (head ∷ moment ∷ standing ∷ end ∷ []) ≡ refused 4 23
+car_missing_row : read_of false (head ∷ moment ∷ standing ∷ end ∷ []) ≡ refused 4 NoState
 car_missing_row = refl
 
-opening_row : read_of true (head ∷ moment ∷ standing ∷ (codes "aboard" ∷ []) ∷ []) ≡ refused 4 26
+opening_row : read_of true (head ∷ moment ∷ standing ∷ (codes "aboard" ∷ []) ∷ []) ≡ refused 4 NotInOpening
 opening_row = refl
 
-twice_row : read_of false (head ∷ moment ∷ standing ∷ standing ∷ []) ≡ refused 4 11
+twice_row : read_of false (head ∷ moment ∷ standing ∷ standing ∷ []) ≡ refused 4 (Item IdUsedBefore)
 twice_row = refl
 
-sides_row : read_of false (head ∷ moment ∷ coming ∷ standing ∷ (codes "aboard" ∷ codes "7" ∷ codes "8" ∷ codes "3" ∷ codes "1" ∷ codes "0" ∷ []) ∷ (codes "aboard" ∷ codes "7" ∷ codes "9" ∷ codes "0" ∷ codes "1" ∷ codes "0" ∷ []) ∷ []) ≡ refused 6 16
+sides_row : read_of false (head ∷ moment ∷ coming ∷ standing ∷ (codes "aboard" ∷ codes "7" ∷ codes "8" ∷ codes "3" ∷ codes "1" ∷ codes "0" ∷ []) ∷ (codes "aboard" ∷ codes "7" ∷ codes "9" ∷ codes "0" ∷ codes "1" ∷ codes "0" ∷ []) ∷ []) ≡ refused 6 (Item WrongSide)
 sides_row = refl
 
 -- 6001 ms after it left the lowest floor, the car can no longer stop at the highest
-late_row : read_of false (head_two ∷ (codes "now" ∷ codes "10001" ∷ []) ∷ moving ∷ []) ≡ refused 3 51
+late_row : read_of false (head_two ∷ (codes "now" ∷ codes "10001" ∷ []) ∷ moving ∷ []) ≡ refused 3 (Item NoOpenFloor)
 late_row = refl

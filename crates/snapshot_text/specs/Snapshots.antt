@@ -1,5 +1,5 @@
 -- The lines that stand for a snapshot of a building.
-use Rattle.std.specs.Prelude.{◌≡◌, ℕ, ◌==◌, ◌<◌, Bool, true, List, [], ◌∷◌, ◌++◌, map, count_by, Option, None, Some, IfSome, IsSomeAnd, Result, Ok, Err, codes, if◌then◌else◌}
+use Rattle.std.specs.Prelude.{◌≡◌, ℕ, ◌==◌, ◌<◌, Bool, true, List, [], ◌∷◌, ◌++◌, map, count_by, Option, None, Some, IfSome, IsSomeAnd, Result, Ok, Err, codes}
 use Rattle.elevator_model.specs.declared.CarState.{CarState}
 use Rattle.elevator_model.specs.declared.Aboard.{Aboard}
 use Rattle.elevator_model.specs.declared.Call.{Call}
@@ -8,17 +8,12 @@ use Rattle.elevator_model.specs.Snapshot.{Snapshot, IsAccepted, car_count, state
 use Rattle.lift_text.specs.Reading.{TextState, Reading, reading}
 use Rattle.lift_text.specs.declared.faults.TextFault.{TextFault}
 use Rattle.lift_text.specs.declared.faults.TextFault.TheVariants.{Read, TooLong, Bad, NoMemory}
-use Rattle.text_sections.specs.declared.codes.TextCode.TheVariants.{NoLineWord}
-use Rattle.text_sections.specs.Codes.{Judged, ◌>>=◌}
-use Rattle.text_sections.specs.Words.{is_word, exactly}
+use Rattle.text_sections.specs.Judging.{Judged, ◌>>=◌}
+use Rattle.text_sections.specs.Words.{named, says_end}
 use Rattle.text_sections.specs.Sections.{Line, ReadAs}
 use Rattle.text_sections.specs.Canonical.{BeginsWith}
 use Rattle.snapshot_text.specs.Words.{version_said, moment_said, form_of, car_said, group_said, call_said}
 use Rattle.snapshot_text.specs.Drafts.{Draft, blank, snapshot_read, after}
-
--- the first word is this one
-abbrev pub named : List ℕ → Line → Judged Unit
-named name words = if is_word words 0 name then Ok tt else Err NoLineWord
 
 -- ---- what a line of each kind says
 
@@ -37,9 +32,6 @@ says_group b words = named (codes "aboard") words >>= λ _. group_said b words
 
 abbrev pub says_call : Building → Line → Judged Call
 says_call b words = named (codes "call") words >>= λ _. call_said b words
-
-abbrev pub says_end : Line → Judged Unit
-says_end words = named (codes "end") words >>= λ _. exactly words 1
 
 -- ---- a whole section
 

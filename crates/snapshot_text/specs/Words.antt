@@ -7,16 +7,14 @@ use Rattle.elevator_model.specs.declared.CarState.TheVariants.{Idle, Coming, Mov
 use Rattle.elevator_model.specs.declared.Aboard.{Aboard}
 use Rattle.elevator_model.specs.declared.Call.{Call}
 use Rattle.elevator_model.specs.Building.{Building}
-use Rattle.text_sections.specs.declared.codes.TextCode.TheVariants.{NoLineWord, Missing, UnknownId}
-use Rattle.text_sections.specs.Codes.{Judged, ◌>>=◌}
-use Rattle.text_sections.specs.Words.{is_word, exactly, number}
+use Rattle.lift_text.specs.declared.codes.TextCode.TheVariants.{NoLineWord, Missing}
+use Rattle.text_sections.specs.Judging.{Judged, ◌>>=◌, known}
+use Rattle.text_sections.specs.Words.{is_word, exactly, number, short}
 use Rattle.text_sections.specs.Sections.{Line}
 use Rattle.snapshot_text.specs.declared.kinds.Form.{Form}
+use Rattle.snapshot_text.specs.declared.said.CallWords.{CallWords}
+use Rattle.snapshot_text.specs.declared.said.GroupWords.{GroupWords}
 use Rattle.snapshot_text.specs.declared.kinds.Form.TheVariants.{Unsaid, SaidIdle, SaidComing, SaidMoving}
-
--- word k as an id, a floor or a number of persons
-abbrev pub short : Line → ℕ → Judged ℕ
-short words k = number words k 0 4294967295
 
 -- `snapshot V`
 abbrev pub version_said : Line → Judged ℕ
@@ -61,10 +59,6 @@ state_said SaidIdle words = idle_said words
 state_said SaidComing words = coming_said words
 state_said SaidMoving words = moving_said words
 
-abbrev pub known : Option ℕ → Judged ℕ
-known None = Err UnknownId
-known (Some c) = Ok c
-
 -- the index of the car with this id
 abbrev pub car_named : Building → ℕ → Judged ℕ
 car_named b id = known (position (λ (x : CarSpec). x.id == id) b.cars)
@@ -73,15 +67,19 @@ car_named b id = known (position (λ (x : CarSpec). x.id == id) b.cars)
 abbrev pub car_said : Building → Form → Line → Judged (ℕ × CarState)
 car_said b form words = state_said form words >>= λ said. (car_named b said.0 >>= λ c. Ok (c, said.1))
 
--- the id of the group's car, and the group but for its car
-abbrev pub group_of_words : Line → Judged (ℕ × Aboard)
+-- what a line says of a group
+abbrev pub group_of_words : Line → Judged GroupWords
 group_of_words words =
     exactly words 6 >>= λ _. (short words 1 >>= λ car. (short words 2 >>= λ id. (short words 3 >>= λ destination. (short words 4 >>= λ persons. (number words 5 0 2000000000 >>= λ boarded.
-    Ok (car, record { id = id; car = 0; destination = destination; persons = persons; boarded = boarded }))))))
+    Ok (record { car_id = car; id = id; destination = destination; persons = persons; boarded = boarded }))))))
+
+-- the group, with its car by index
+abbrev pub group_in : GroupWords → ℕ → Aboard
+group_in said c = record { id = said.id; car = c; destination = said.destination; persons = said.persons; boarded = said.boarded }
 
 -- `aboard CAR ID DESTINATION PERSONS BOARDED`
 abbrev pub group_said : Building → Line → Judged Aboard
-group_said b words = group_of_words words >>= λ said. (car_named b said.0 >>= λ c. Ok (record said.1 { car = c }))
+group_said b words = group_of_words words >>= λ said. (car_named b said.car_id >>= λ c. Ok (group_in said c))
 
 -- the id of the car that a call is pinned to, or `any`
 abbrev pub pin_said : Line → Judged (Option ℕ)
@@ -92,12 +90,16 @@ abbrev pub pin_named : Building → Option ℕ → Judged (Option ℕ)
 pin_named b None = Ok None
 pin_named b (Some id) = car_named b id >>= λ c. Ok (Some c)
 
--- a call, with the id of its pin in place of the index
-abbrev pub call_of_words : Line → Judged Call
+-- what a line says of a call
+abbrev pub call_of_words : Line → Judged CallWords
 call_of_words words =
     exactly words 7 >>= λ _. (short words 1 >>= λ id. (short words 2 >>= λ origin. (short words 3 >>= λ destination. (short words 4 >>= λ persons. (number words 5 0 1000000000 >>= λ released. (pin_said words >>= λ pin.
-    Ok (record { id = id; origin = origin; destination = destination; persons = persons; released = released; pin = pin })))))))
+    Ok (record { id = id; origin = origin; destination = destination; persons = persons; released = released; pin_id = pin })))))))
+
+-- the call, with the car that it is pinned to by index
+abbrev pub call_at : CallWords → Option ℕ → Call
+call_at said pin = record { id = said.id; origin = said.origin; destination = said.destination; persons = said.persons; released = said.released; pin = pin }
 
 -- `call ID ORIGIN DESTINATION PERSONS RELEASED CAR`
 abbrev pub call_said : Building → Line → Judged Call
-call_said b words = call_of_words words >>= λ said. (pin_named b said.pin >>= λ pin. Ok (record said { pin = pin }))
+call_said b words = call_of_words words >>= λ said. (pin_named b said.pin_id >>= λ pin. Ok (call_at said pin))

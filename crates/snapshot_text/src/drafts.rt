@@ -12,10 +12,10 @@ use call_state::{
     Aboard, Building, Call, CarSpec, CarState, Fault, IdIndex, SnapshotParts, indexed_aboard_fault,
     indexed_call_fault, state_fault,
 };
-use lift_text::{LineReader, Source};
+use lift_text::{LineReader, Source, TextCode};
 use std::alloc::{AllocError, Global};
 use std::marker::Model;
-use text_sections::{LineFault, Section, TextCode, Turn, exactly, is_word};
+use text_sections::{AfterLine, LineFault, Section, exactly, is_word};
 
 /// A state for each car, which counts for nothing yet.
 fn unknown_states(alloc: Global, cars: &[CarSpec]) -> Result<Vec<CarState>, AllocError>
@@ -247,13 +247,13 @@ impl Draft {
     }
 
     /// Whether the section may end here.
-    fn end_in<S: Source>(&self, lines: &LineReader<S>) -> Result<Turn, TextCode>
+    fn end_in<S: Source>(&self, lines: &LineReader<S>) -> Result<AfterLine, TextCode>
         ensures { result ≡ end_in self.now (words lines.now) }
     {
         self.calls_in_order()?;
         exactly(lines, 1)?;
         self.with_all_cars()?;
-        Ok(Turn::Whole)
+        Ok(AfterLine::Whole)
     }
 
     /// What is wrong with the state of a car that a line says.
@@ -267,35 +267,35 @@ impl Draft {
         state_fault(&self.building, self.moment, car, state)
     }
 
-    fn take_version<S: Source>(&mut self, lines: &LineReader<S>) -> Result<Turn, LineFault>
+    fn take_version<S: Source>(&mut self, lines: &LineReader<S>) -> Result<AfterLine, LineFault>
         ensures { Did (after_word Snapshot self.old (words lines.now)) result self.new }
     {
         self.version = self.version_in(lines)?;
         self.due = Due::Moment;
-        Ok(Turn::More)
+        Ok(AfterLine::More)
     }
 
-    fn take_moment<S: Source>(&mut self, lines: &LineReader<S>) -> Result<Turn, LineFault>
+    fn take_moment<S: Source>(&mut self, lines: &LineReader<S>) -> Result<AfterLine, LineFault>
         ensures { Did (after_word Now self.old (words lines.now)) result self.new }
     {
         self.moment = self.moment_in(lines)?;
         self.due = Due::Items;
-        Ok(Turn::More)
+        Ok(AfterLine::More)
     }
 
-    fn take_car<S: Source>(&mut self, lines: &LineReader<S>) -> Result<Turn, LineFault>
+    fn take_car<S: Source>(&mut self, lines: &LineReader<S>) -> Result<AfterLine, LineFault>
         ensures { Did (after_word Car self.old (words lines.now)) result self.new }
     {
         let (car, state) = self.car_in(lines)?;
         if let Some(fault) = self.car_fault(car, state) {
-            return Err(LineFault::Bad(fault.code()));
+            return Err(LineFault::Bad(TextCode::Item(fault)));
         }
         self.states[car as usize] = state;
         self.stated[car as usize] = true;
-        Ok(Turn::More)
+        Ok(AfterLine::More)
     }
 
-    fn take_group<S: Source>(&mut self, lines: &LineReader<S>) -> Result<Turn, LineFault>
+    fn take_group<S: Source>(&mut self, lines: &LineReader<S>) -> Result<AfterLine, LineFault>
         ensures { Did (after_word AboardWord self.old (words lines.now)) result self.new }
     {
         let group = self.group_in(lines)?;
@@ -308,13 +308,13 @@ impl Draft {
             &group,
         );
         if let Some(fault) = fault {
-            return Err(LineFault::Bad(fault.code()));
+            return Err(LineFault::Bad(TextCode::Item(fault)));
         }
         add_indexed(&mut self.aboard, &mut self.group_ids, group, group.id)?;
-        Ok(Turn::More)
+        Ok(AfterLine::More)
     }
 
-    fn take_call<S: Source>(&mut self, lines: &LineReader<S>) -> Result<Turn, LineFault>
+    fn take_call<S: Source>(&mut self, lines: &LineReader<S>) -> Result<AfterLine, LineFault>
         ensures { Did (after_word CallWord self.old (words lines.now)) result self.new }
     {
         let call = self.call_in(lines)?;
@@ -328,13 +328,13 @@ impl Draft {
             &call,
         );
         if let Some(fault) = fault {
-            return Err(LineFault::Bad(fault.code()));
+            return Err(LineFault::Bad(TextCode::Item(fault)));
         }
         add_indexed(&mut self.calls, &mut self.call_ids, call, call.id)?;
-        Ok(Turn::More)
+        Ok(AfterLine::More)
     }
 
-    fn take_end<S: Source>(&mut self, lines: &LineReader<S>) -> Result<Turn, LineFault>
+    fn take_end<S: Source>(&mut self, lines: &LineReader<S>) -> Result<AfterLine, LineFault>
         ensures { Did (after_word End self.old (words lines.now)) result self.new }
     {
         Ok(self.end_in(lines)?)
@@ -389,7 +389,7 @@ impl Section for Draft {
 
     ghost after = { after };
 
-    fn take_line<S: Source>(&mut self, lines: &LineReader<S>) -> Result<Turn, LineFault> {
+    fn take_line<S: Source>(&mut self, lines: &LineReader<S>) -> Result<AfterLine, LineFault> {
         match self.line_word(lines)? {
             LineWord::Snapshot => self.take_version(lines),
             LineWord::Now => self.take_moment(lines),

@@ -18,10 +18,13 @@
 #![tactic(auto)]
 
 mod drafts;
+mod ids;
 mod kinds;
 mod reading;
 mod said;
 mod writing;
 
+pub use ids::{id_of_call, id_of_car};
 pub use reading::{read_opening, read_snapshot};
+pub use said::car_named;
 pub use writing::write_snapshot;

@@ -73,11 +73,10 @@ fn read<S: Source>(
 /// DESTINATION PERSONS BOARDED`, then the lines `call ID ORIGIN DESTINATION PERSONS RELEASED CAR` with a
 /// car's id or `any` at their end, and `end`.
 ///
-/// The first bad line decides, with one code, of which the first of these comes: 3 for an unknown first,
-/// third or fifth word, 8 for a line out of order, 4 for a missing word, 5 for a word too many, 6 and 7 for
-/// a word that is no number in its range, 25 for the id of an unknown car, 23 where a car has no line, and
-/// then the code of what is wrong with the car, the group or the call. Code 9 comes where the input ends
-/// first. `Read` comes only where a read of the source failed.
+/// The first bad line decides, with one code, of which the first of these comes: `NoLineWord` for an unknown
+/// first, third or fifth word, `OutOfOrder`, `Missing`, `TooMany`, `NoNumber` and `OutOfRange`, `UnknownId`,
+/// `NoState` where a car has no line, and then `Item` for what is wrong with the car, the group or the call.
+/// `CutShort` comes where the input ends first. `Read` comes only where a read of the source failed.
 pub fn read_snapshot<S: Source>(
     alloc: Global,
     lines: &mut LineReader<S>,
@@ -108,7 +107,7 @@ pub fn read_snapshot<S: Source>(
 }
 
 /// Reads the opening snapshot of a day: as `read_snapshot` does, but a line `aboard` or `call` that is in
-/// order is code 26.
+/// order is `NotInOpening`.
 pub fn read_opening<S: Source>(
     alloc: Global,
     lines: &mut LineReader<S>,

@@ -1,27 +1,16 @@
 //! What the words of each line say.
-ghost use Rattle.std.specs.Prelude.{◌≡◌, ◌<◌, ◌≤◌, IfOk, IfSome, Some, Ok, length};
+ghost use Rattle.std.specs.Prelude.{◌≡◌, ◌<◌, IfOk, IfSome, Some, Ok, length};
 ghost use Rattle.lift_text.specs.LineReader.{words};
-ghost use Rattle.snapshot_text.specs.Words.{short, version_said, moment_said, has_direction, form_of, idle_said, coming_said, moving_said, state_said, car_named, car_said, group_of_words, group_said, pin_said, pin_named, call_of_words, call_said};
+ghost use Rattle.snapshot_text.specs.Words.{version_said, moment_said, has_direction, form_of, idle_said, coming_said, moving_said, state_said, car_named, car_said, group_of_words, group_said, pin_said, pin_named, call_of_words, call_said};
 
 use crate::kinds::Form;
 use call_state::{Aboard, Building, Call, CarState};
-use lift_text::{LineReader, Source};
-use text_sections::{TextCode, exactly, is_word, number};
-
-/// The latest moment of a snapshot, of a release and of a leaving, in ms.
-const LATEST_NOW: u64 = 1_000_000_000;
+use elevator_model::LATEST_SNAPSHOT;
+use lift_text::{LineReader, Source, TextCode};
+use text_sections::{exactly, is_word, number, short};
 
 /// The latest moment of a state and of a boarding, in ms.
-const LATEST_MOMENT: u64 = 2_000_000_000;
-
-/// Word `k` as an id, a floor or a number of persons.
-fn short<S: Source>(lines: &LineReader<S>, k: u32) -> Result<u32, TextCode>
-    requires { k < length (words lines.now) }
-    ensures { result ≡ short (words lines.now) k }
-{
-    let value = number(lines, k, 0, u64::from(u32::MAX))?;
-    Ok(value as u32)
-}
+const LATEST_STATE: u64 = 2_000_000_000;
 
 /// The version of a `snapshot` line.
 pub(crate) fn version_said<S: Source>(lines: &LineReader<S>) -> Result<u8, TextCode>
@@ -37,7 +26,7 @@ pub(crate) fn moment_said<S: Source>(lines: &LineReader<S>) -> Result<u64, TextC
     ensures { result ≡ moment_said (words lines.now) }
 {
     exactly(lines, 2)?;
-    number(lines, 1, 0, LATEST_NOW)
+    number(lines, 1, 0, LATEST_SNAPSHOT)
 }
 
 /// Whether the fifth word is a direction, where it is there.
@@ -73,7 +62,7 @@ fn idle_said<S: Source>(lines: &LineReader<S>) -> Result<(u32, CarState), TextCo
     exactly(lines, 5)?;
     let id = short(lines, 1)?;
     let floor = short(lines, 3)?;
-    let free = number(lines, 4, 0, LATEST_MOMENT)?;
+    let free = number(lines, 4, 0, LATEST_STATE)?;
     Ok((id, CarState::Idle { floor, free }))
 }
 
@@ -84,7 +73,7 @@ fn coming_said<S: Source>(lines: &LineReader<S>) -> Result<(u32, CarState), Text
     exactly(lines, 5)?;
     let id = short(lines, 1)?;
     let floor = short(lines, 3)?;
-    let arrives = number(lines, 4, 0, LATEST_MOMENT)?;
+    let arrives = number(lines, 4, 0, LATEST_STATE)?;
     Ok((id, CarState::Coming { floor, arrives }))
 }
 
@@ -95,7 +84,7 @@ fn moving_said<S: Source>(lines: &LineReader<S>) -> Result<(u32, CarState), Text
     exactly(lines, 6)?;
     let id = short(lines, 1)?;
     let from = short(lines, 3)?;
-    let left = number(lines, 5, 0, LATEST_NOW)?;
+    let left = number(lines, 5, 0, LATEST_SNAPSHOT)?;
     let up = is_word(lines, 4, b"up");
     Ok((id, CarState::Moving { from, up, left }))
 }
@@ -113,7 +102,7 @@ fn state_said<S: Source>(form: Form, lines: &LineReader<S>) -> Result<(u32, CarS
 }
 
 /// The index of the car with this id.
-fn car_named(building: &Building, id: u32) -> Result<u32, TextCode>
+pub fn car_named(building: &Building, id: u32) -> Result<u32, TextCode>
     ensures value { result ≡ car_named building.now id }
     ensures car { IfOk result (λ c. c < length building.now.cars) }
 {
@@ -137,20 +126,29 @@ pub(crate) fn car_said<S: Source>(
     Ok((car, state))
 }
 
-/// The id of a group's car, and the group with no car yet.
-fn group_of_words<S: Source>(lines: &LineReader<S>) -> Result<(u32, Aboard), TextCode>
+/// What an `aboard` line says of a group, which names its car by its id.
+#[derive(Clone, Copy)]
+pub(crate) struct GroupWords {
+    pub(crate) car_id: u32,
+    pub(crate) id: u32,
+    pub(crate) destination: u32,
+    pub(crate) persons: u32,
+    /// In ms.
+    pub(crate) boarded: u64,
+}
+
+/// What a line says of a group.
+fn group_of_words<S: Source>(lines: &LineReader<S>) -> Result<GroupWords, TextCode>
     ensures { result ≡ group_of_words (words lines.now) }
 {
     exactly(lines, 6)?;
-    let car_id = short(lines, 1)?;
-    let group = Aboard {
+    Ok(GroupWords {
+        car_id: short(lines, 1)?,
         id: short(lines, 2)?,
-        car: 0,
         destination: short(lines, 3)?,
         persons: short(lines, 4)?,
-        boarded: number(lines, 5, 0, LATEST_MOMENT)?,
-    };
-    Ok((car_id, group))
+        boarded: number(lines, 5, 0, LATEST_STATE)?,
+    })
 }
 
 /// The group of an `aboard` line.
@@ -161,14 +159,14 @@ pub(crate) fn group_said<S: Source>(
     ensures value { result ≡ group_said building.now (words lines.now) }
     ensures car { IfOk result (λ group. group.car < length building.now.cars) }
 {
-    let (car_id, group) = group_of_words(lines)?;
-    let car = car_named(building, car_id)?;
+    let said = group_of_words(lines)?;
+    let car = car_named(building, said.car_id)?;
     Ok(Aboard {
-        id: group.id,
+        id: said.id,
         car,
-        destination: group.destination,
-        persons: group.persons,
-        boarded: group.boarded,
+        destination: said.destination,
+        persons: said.persons,
+        boarded: said.boarded,
     })
 }
 
@@ -198,18 +196,30 @@ fn pin_named(building: &Building, pin: Option<u32>) -> Result<Option<u32>, TextC
     }
 }
 
-/// The call of a line, with the id of its car in place of the index.
-fn call_of_words<S: Source>(lines: &LineReader<S>) -> Result<Call, TextCode>
+/// What a `call` line says of a call, which names the car that it is pinned to by its id.
+#[derive(Clone, Copy)]
+pub(crate) struct CallWords {
+    pub(crate) id: u32,
+    pub(crate) origin: u32,
+    pub(crate) destination: u32,
+    pub(crate) persons: u32,
+    /// In ms.
+    pub(crate) released: u64,
+    pub(crate) pin_id: Option<u32>,
+}
+
+/// What a line says of a call.
+fn call_of_words<S: Source>(lines: &LineReader<S>) -> Result<CallWords, TextCode>
     ensures { result ≡ call_of_words (words lines.now) }
 {
     exactly(lines, 7)?;
-    Ok(Call {
+    Ok(CallWords {
         id: short(lines, 1)?,
         origin: short(lines, 2)?,
         destination: short(lines, 3)?,
         persons: short(lines, 4)?,
-        released: number(lines, 5, 0, LATEST_NOW)?,
-        pin: pin_said(lines)?,
+        released: number(lines, 5, 0, LATEST_SNAPSHOT)?,
+        pin_id: pin_said(lines)?,
     })
 }
 
@@ -222,7 +232,7 @@ pub(crate) fn call_said<S: Source>(
     ensures car { IfOk result (λ call. IfSome call.pin (λ c. c < length building.now.cars)) }
 {
     let said = call_of_words(lines)?;
-    let pin = pin_named(building, said.pin)?;
+    let pin = pin_named(building, said.pin_id)?;
     Ok(Call {
         id: said.id,
         origin: said.origin,

@@ -1,8 +1,9 @@
 -- Written lines are read as their words, and a section's lines as the section.
 use Rattle.std.proofs.Common.{◌≡◌, ◌≢◌, ℕ, zero, suc, ◌+◌, ◌-◌, ◌%◌, ◌^◌, ◌<◌, ◌≤◌, true, false, cond, List, [], ◌∷◌, ◌++◌, length, take, get_or, Option, None, Some, Result, Ok, Err, ap, refl, arith, ◌∙◌, sym, subst, append_assoc, append-nil, length-append}
-use Rattle.std.specs.Prelude.{nat_lt, ◌==◌, ◌&&◌, map, decimal, filter, All}
+use Rattle.std.specs.Prelude.{nat_le, nat_lt, ◌==◌, ◌&&◌, not, Bool, map, decimal, filter, All}
 use Rattle.std.specs.List.{flat_map, list_all, AllByRecursion}
 use Rattle.std.specs.Io.BufRead.{ends_with_byte, strip_last}
+use Rattle.std.proofs.lemmas.Bool.{and_parts, eqb-false, leb-true, ltb-true, not-true}
 use Rattle.std.proofs.lemmas.Bool.Decides.{nat_tests}
 use Rattle.std.proofs.lemmas.List.Splits.{slice_split_at, slice_split_none}
 use Rattle.std.proofs.lemmas.List.{take_at}
@@ -11,13 +12,14 @@ use Rattle.lift_text.specs.Text.{newline, word, words, line}
 use Rattle.std.proofs.Math.Seq.{take-length}
 use Rattle.std.proofs.Math.Numerals.{one-add}
 use Rattle.lift_text.specs.Lines.{pieces_of, line_of, words_of, words_in, is_clean, is_allowed, is_blank, before_comment}
-use Rattle.lift_text.specs.Found.{NoLineFeed}
+use Rattle.lift_text.specs.Front.{NoLineFeed}
 use Rattle.lift_text.proofs.PieceLemmas.{pieces_of-append, begins_at}
-use Rattle.lift_text.specs.Reading.{TextState, Reading, reading, reading_of, judged, cut_short, line_limit, line_with, bad_line}
+use Rattle.lift_text.specs.Reading.{TextState, Reading, reading, reading_of, judged, cut_short, line_limit, line_with, finished, bad_line, past_limit}
+use Rattle.lift_text.specs.declared.codes.TextCode.TheVariants.{ForbiddenByte, OverLong}
 use Rattle.lift_text.specs.declared.faults.TextFault.{TextFault}
 use Rattle.lift_text.specs.declared.faults.TextFault.TheVariants.{Read, TooLong, Bad, NoMemory}
-use Rattle.text_sections.specs.Sections.{Line, Step, is_whole, accepted, continued, outcome, Did, ReadAs}
-use Rattle.text_sections.specs.declared.sections.Turn.TheVariants.{More, Whole}
+use Rattle.text_sections.specs.Sections.{Line, Step, goes_on, is_whole, is_bad, accepted, continued, outcome, Did, ReadAs}
+use Rattle.text_sections.specs.declared.sections.AfterLine.TheVariants.{More, Whole}
 use Rattle.text_sections.specs.Canonical.{IsWordByte, IsWord, IsLineOfWords, joined, line_text, lines_text, BeginsWith, Goes, Makes, IsMade, ReadBack, ReadsWritten}
 
 -- ---- bytes of a line
@@ -135,8 +137,8 @@ module _ (words : Line) (is : IsLineOfWords words) (number limit : ℕ) (tail : 
       ap (reading_of number limit) pieces
       ∙ ap (λ past. cond past (cut_short (number + 1) limit) (judged (number + 1) (line_of (line_text words)) after)) fits
       ∙ ap (λ text_of. judged (number + 1) text_of after) (content bytes all)
-      ∙ ap (λ over. cond over (bad_line (number + 1) 2) (cond (is_clean bytes) (cond (nat_lt 0 (length (words_of bytes))) (line_with (number + 1) (words_of bytes) after) after) (bad_line (number + 1) 1))) not_over
-      ∙ ap (λ e. cond e (cond (nat_lt 0 (length (words_of bytes))) (line_with (number + 1) (words_of bytes) after) after) (bad_line (number + 1) 1)) allowed
+      ∙ ap (λ over. cond over (bad_line (number + 1) OverLong) (cond (is_clean bytes) (cond (nat_lt 0 (length (words_of bytes))) (line_with (number + 1) (words_of bytes) after) after) (bad_line (number + 1) ForbiddenByte))) not_over
+      ∙ ap (λ e. cond e (cond (nat_lt 0 (length (words_of bytes))) (line_with (number + 1) (words_of bytes) after) after) (bad_line (number + 1) ForbiddenByte)) allowed
       ∙ ap (λ ws. cond (nat_lt 0 (length ws)) (line_with (number + 1) ws after) after) found
       ∙ ap (λ e. cond e (line_with (number + 1) words after) after) some
 
@@ -182,6 +184,22 @@ line_of_numbers name numbers = ap (λ later. (name ++ later) ++ newline) (in_wor
     in_words : (ns : List ℕ) → flat_map word ns ≡ flat_map (λ later. 32 ∷ later) (map decimal ns)
     in_words [] = refl
     in_words (n ∷ ns) = ap (λ rest. (32 ∷ decimal n) ++ rest) (in_words ns)
+
+-- ---- words that are fixed
+
+abbrev pub is_byte : ℕ → Bool
+is_byte b = nat_le 33 b && (nat_le b 126 && not (b == 35))
+
+pub bytes_from : (bs : List ℕ) → list_all is_byte bs ≡ true → AllByRecursion IsWordByte bs
+bytes_from [] all = tt
+bytes_from (b ∷ bs) all =
+    let parts = and_parts (is_byte b) (list_all is_byte bs) all in
+    let low = and_parts (nat_le 33 b) (nat_le b 126 && not (b == 35)) parts.0 in
+    let high = and_parts (nat_le b 126) (not (b == 35)) low.1 in
+    ((leb-true 33 b low.0, leb-true b 126 high.0, eqb-false b 35 (not-true (b == 35) high.1)), bytes_from bs parts.1)
+
+pub name_word : (name : List ℕ) → list_all is_byte name ≡ true → nat_lt 0 (length name) ≡ true → IsWord name
+name_word name all some = record { some = ltb-true 0 (length name) some; bytes = bytes_from name all }
 
 -- ---- the lines of a section
 
@@ -236,3 +254,27 @@ module _ {A : Type 0} (after : A → Line → Step A) where
       (let rest = reading (record { line = text.line + length lines; limit = text.limit - length (lines_text lines); bytes = tail }) in
       let front = subst (λ bytes. BeginsWith lines (reading (record { line = text.line; limit = text.limit; bytes = bytes })) rest) (sym begins) (lines_again lines text.line text.limit tail all room) in
       read_back text state end new rest answer now read (made lines state end (reading text) rest front makes))
+
+-- ---- what was accepted was made of lines that stand in front
+
+module _ {A : Type 0} (step : A → Line → Step A) where
+  abbrev pub Made : Reading → A → A → Reading → Type 0
+  Made read state end rest = (lines : List Line) × BeginsWith lines read rest × Makes step lines state end
+
+  by_step : (one : Step A) (number : ℕ) (words : Line) (more : Reading) (state end : A) (rest : Reading) → step state words ≡ one → ((next : A) → outcome step more next ≡ accepted end rest → Made more next end rest)
+      → continued one number more (outcome step more) ≡ accepted end rest → Made (line_with number words more) state end rest
+  by_step (goes_on next) number words more state end rest is later e =
+      let made_of = later next e in
+      let makes = made_of.2 in
+      (words ∷ made_of.0, (number, more, refl, made_of.1), record { front = words ∷ makes.front; last = makes.last; before = makes.before; lines_are = ap (λ (ls : List Line). words ∷ ls) makes.lines_are; goes = (next, is, makes.goes); whole = makes.whole })
+  by_step (is_whole next) number words more state end rest is later e =
+      let same : next ≡ end = cc in
+      let left : more ≡ rest = cc in
+      (words ∷ [], (number, more, refl, left), record { front = []; last = words; before = state; lines_are = refl; goes = refl; whole = is ∙ ap is_whole same })
+  by_step (is_bad code) number words more state end rest is later e = absurd cc
+
+  pub accepted_made : (read : Reading) (state end : A) (rest : Reading) → outcome step read state ≡ accepted end rest → Made read state end rest
+  accepted_made (line_with number words more) state end rest e = by_step (step state words) number words more state end rest refl (λ next. accepted_made more next end rest) e
+  accepted_made (finished lines) state end rest e = absurd cc
+  accepted_made (bad_line line code) state end rest e = absurd cc
+  accepted_made past_limit state end rest e = absurd cc

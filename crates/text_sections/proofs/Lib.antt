@@ -3,3 +3,5 @@ pub mod NumberLemmas
 pub mod CanonicalLemmas
 pub mod NumberListLemmas
 pub mod BetweenLemmas
+pub mod StepLemmas
+pub mod EachLemmas

@@ -10,19 +10,19 @@ use Rattle.std.specs.Str.Parse.{digits_value}
 use Rattle.std.proofs.lemmas.Str.Parse.{IsDigitsTest, IsNumeralModel, numerals_by_value}
 use Rattle.std.proofs.lemmas.Fmt.{digits_decimal, digits_value-decimal, decimal_nonempty}
 use Rattle.std.proofs.lemmas.Bool.Decides.{nat_tests}
-use Rattle.lift_text.specs.Numbers.{digits_number, number_of, in_range, read_number, number_answer}
-use Rattle.lift_text.specs.declared.faults.TextFault.{TextFault}
-use Rattle.text_sections.specs.declared.codes.TextCode.{TextCode}
-use Rattle.text_sections.specs.declared.codes.TextCode.TheVariants.{OutOfRange}
-use Rattle.text_sections.specs.Codes.{Judged}
+use Rattle.lift_text.specs.Numbers.{digits_number, number_of, in_range, read_number}
+use Rattle.lift_text.specs.declared.numbers.NumberFault.{NumberFault}
+use Rattle.lift_text.specs.declared.codes.TextCode.{TextCode}
+use Rattle.lift_text.specs.declared.codes.TextCode.TheVariants.{OutOfRange}
+use Rattle.text_sections.specs.Judging.{Judged}
 use Rattle.text_sections.specs.Words.{within, signed_within, number_judged, number, word_at}
 
 -- what the reader answers, with its code
-pub judged_in_range : (line : ℕ) (low high : ℤ) (value : Option ℤ) → number_judged (number_answer line (in_range low high value)) ≡ signed_within low high value
-judged_in_range line low high None = refl
-judged_in_range line low high (Some value) = by_case (int_lt value low || int_lt high value) refl
+pub judged_in_range : (low high : ℤ) (value : Option ℤ) → number_judged (in_range low high value) ≡ signed_within low high value
+judged_in_range low high None = refl
+judged_in_range low high (Some value) = by_case (int_lt value low || int_lt high value) refl
   where
-    by_case : (outside : Bool) → (int_lt value low || int_lt high value) ≡ outside → number_judged (number_answer line (in_range low high (Some value))) ≡ signed_within low high (Some value)
+    by_case : (outside : Bool) → (int_lt value low || int_lt high value) ≡ outside → number_judged (in_range low high (Some value)) ≡ signed_within low high (Some value)
     by_case true is = rw is refl
     by_case false is = rw is refl
 
@@ -55,11 +55,11 @@ within_high low high n (Some m) is = by_test (nat_lt m low) (nat_lt high m) refl
     by_test false false b a same = let same_number : m ≡ n = cc in grind (arith, nat_tests)
 
 -- what the reader answers of a number, with its code
-pub signed_answer : (line : ℕ) (low high low' high' : ℤ) (word : List ℕ) (answer : Result ℤ TextFault) → low' ≡ low → high' ≡ high → answer ≡ number_answer line (read_number low' high' word)
+pub signed_answer : (low high low' high' : ℤ) (word : List ℕ) (answer : Result ℤ NumberFault) → low' ≡ low → high' ≡ high → answer ≡ read_number low' high' word
     → number_judged answer ≡ signed_within low high (number_of (int_lt low (pos 0)) word)
-signed_answer line low high low' high' word answer same_low same_high is =
-    ap number_judged (is ∙ ap (λ z. number_answer line (read_number z high' word)) same_low ∙ ap (λ z. number_answer line (read_number low z word)) same_high)
-    ∙ judged_in_range line low high (number_of (int_lt low (pos 0)) word)
+signed_answer low high low' high' word answer same_low same_high is =
+    ap number_judged (is ∙ ap (λ z. read_number z high' word) same_low ∙ ap (λ z. read_number low z word) same_high)
+    ∙ judged_in_range low high (number_of (int_lt low (pos 0)) word)
 
 pub is_within : (low high : ℕ) (value : Option ℕ) → IfOk (within low high value) (λ n. (low ≤ n) × (n ≤ high))
 is_within low high None = tt
@@ -124,3 +124,9 @@ number_again n low high small above below =
 
 pub written_number : (line : List (List ℕ)) (k n low high : ℕ) → n < 2 ^ 64 → word_at line k ≡ decimal n → low ≤ n → n ≤ high → number line k low high ≡ Ok n
 written_number line k n low high small is above below = ap (λ word. within low high (digits_number word)) is ∙ number_again n low high small above below
+
+pub number_in : (line : List (List ℕ)) (k low high n : ℕ) → number line k low high ≡ Ok n → (low ≤ n) × (n ≤ high)
+number_in line k low high n is = subst (λ (r : Judged ℕ). IfOk r (λ m. (low ≤ m) × (m ≤ high))) is (is_within low high (digits_number (word_at line k)))
+
+pub number_one : (line : List (List ℕ)) (n : ℕ) → number line 1 1 1 ≡ Ok n → 1 ≡ n
+number_one line n is = let both = number_in line 1 1 1 n is in omega (arith, both)

@@ -1,13 +1,17 @@
 -- Several numbers of a line.
-use Rattle.std.proofs.Common.{◌≡◌, ℕ, ◌+◌, ◌<◌, ◌≤◌, List, [], ◌∷◌, ◌++◌, length, drop, get_or, Result, Ok, Err, ap, refl, ◌∙◌, sym, subst, append_assoc, append-nil, drop-cons, add-one}
+use Rattle.std.proofs.Common.{◌≡◌, ℕ, ◌+◌, ◌<◌, ◌≤◌, List, [], ◌∷◌, ◌++◌, length, drop, get_or, Result, Ok, Err, ap, refl, arith, ◌∙◌, sym, subst, append_assoc, append-nil, drop-cons, add-one}
+use Rattle.std.specs.Prelude.{All}
 use Rattle.std.proofs.lemmas.List.{drop_all}
 use Rattle.lift_text.specs.Numbers.{digits_number}
-use Rattle.text_sections.specs.declared.codes.TextCode.{TextCode}
-use Rattle.text_sections.specs.declared.codes.LineFault.{LineFault}
-use Rattle.text_sections.specs.declared.codes.LineFault.TheVariants.{Bad}
-use Rattle.text_sections.specs.Codes.{Judged, ◌>>=◌, code_of}
+use Rattle.lift_text.specs.declared.codes.TextCode.{TextCode}
+use Rattle.text_sections.specs.declared.faults.LineFault.{LineFault}
+use Rattle.text_sections.specs.declared.faults.LineFault.TheVariants.{Bad}
+use Rattle.text_sections.specs.Judging.{Judged, ◌>>=◌}
 use Rattle.text_sections.specs.Words.{within, number}
 use Rattle.text_sections.specs.NumberLists.{numbers_of, numbers, Appends}
+use Rattle.text_sections.proofs.NumberLemmas.{within_high}
+use Rattle.text_sections.proofs.StepLemmas.{then-inv}
+use Rattle.text_sections.proofs.EachLemmas.{all_more}
 
 -- items in front of others
 abbrev pub with_front : List ℕ → Judged (List ℕ) → Judged (List ℕ)
@@ -63,6 +67,15 @@ read_all words from low high k old now past so_far = (
   so_far.behind,
 )
 
-pub appends_bad : (judged : Judged (List ℕ)) (old new : List ℕ) (answer : Result Unit LineFault) (fault : LineFault) (code : TextCode) → answer ≡ Err fault → fault ≡ Bad (code_of code) → judged ≡ Err code
+pub appends_bad : (judged : Judged (List ℕ)) (old new : List ℕ) (answer : Result Unit LineFault) (fault : LineFault) (code : TextCode) → answer ≡ Err fault → fault ≡ Bad code → judged ≡ Err code
     → Appends judged old answer new
-appends_bad judged old new answer fault code failed is bad = subst (λ (a : Result Unit LineFault). Appends judged old a new) (sym (failed ∙ ap Err is)) (code, bad, refl)
+appends_bad judged old new answer fault code failed is bad = subst (λ (a : Result Unit LineFault). Appends judged old a new) (sym (failed ∙ ap Err is)) bad
+
+pub numbers_high : (words : List (List ℕ)) (low high : ℕ) (items : List ℕ) → numbers_of low high words ≡ Ok items → All (λ n. n ≤ high) items
+numbers_high [] low high [] is = λ k d below. absurd (omega arith)
+numbers_high [] low high (n ∷ items) is = absurd cc
+numbers_high (word ∷ words) low high items is =
+    let first = then-inv (within low high (digits_number word)) (λ n. numbers_of low high words >>= λ ns. Ok (n ∷ ns)) items is in
+    let later = then-inv (numbers_of low high words) (λ ns. Ok (first.0 ∷ ns)) items first.2 in
+    let same : first.0 ∷ later.0 ≡ items = cc in
+    subst (All (λ n. n ≤ high)) same (all_more (λ n. n ≤ high) first.0 later.0 (within_high low high first.0 (digits_number word) first.1) (numbers_high words low high later.0 later.1))

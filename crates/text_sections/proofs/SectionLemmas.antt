@@ -3,23 +3,25 @@ use Rattle.std.proofs.Common.{◌≡◌, ℕ, ◌+◌, ◌-◌, ◌<◌, ◌≤�
 use Rattle.std.specs.Prelude.{nat_lt, IsSomeAnd, IfSome}
 use Rattle.lift_text.specs.Lines.{line_of, words_of, is_clean}
 use Rattle.lift_text.specs.Reading.{TextState, Reading, reading, reading_of, judged, cut_short, line_limit, line_with, bad_line, past_limit, NextLine}
+use Rattle.lift_text.specs.declared.codes.TextCode.{TextCode}
+use Rattle.lift_text.specs.declared.codes.TextCode.TheVariants.{ForbiddenByte, OverLong, CutShort}
 use Rattle.lift_text.specs.declared.faults.TextFault.{TextFault}
 use Rattle.lift_text.specs.declared.faults.TextFault.TheVariants.{Read, TooLong, Bad, NoMemory}
-use Rattle.text_sections.specs.declared.codes.LineFault.TheVariants.{Bad as BadLine}
-use Rattle.text_sections.specs.declared.sections.Turn.TheVariants.{More, Whole}
+use Rattle.text_sections.specs.declared.faults.LineFault.TheVariants.{Bad as BadLine}
+use Rattle.text_sections.specs.declared.sections.AfterLine.TheVariants.{More, Whole}
 use Rattle.text_sections.specs.Sections.{Line, Step, continued, outcome, Did, ReadAs}
 
 -- ---- line numbers rise
 
 judged_rises : (n m : ℕ) (over clean some : Bool) (found words : Line) (behind rest : Reading)
-    → cond over (bad_line n 2) (cond clean (cond some (line_with n found behind) behind) (bad_line n 1)) ≡ line_with m words rest
+    → cond over (bad_line n OverLong) (cond clean (cond some (line_with n found behind) behind) (bad_line n ForbiddenByte)) ≡ line_with m words rest
     → (behind ≡ line_with m words rest → n ≤ m) → n ≤ m
 judged_rises n m true clean some found words behind rest is later = absurd cc
 judged_rises n m false false some found words behind rest is later = absurd cc
 judged_rises n m false true true found words behind rest is later = let same : n ≡ m = cc in omega arith
 judged_rises n m false true false found words behind rest is later = later is
 
-cut_rises : (n m : ℕ) (over : Bool) (words : Line) (rest : Reading) → cond over (bad_line n 2) past_limit ≡ line_with m words rest → n ≤ m
+cut_rises : (n m : ℕ) (over : Bool) (words : Line) (rest : Reading) → cond over (bad_line n OverLong) past_limit ≡ line_with m words rest → n ≤ m
 cut_rises n m true words rest is = absurd cc
 cut_rises n m false words rest is = absurd cc
 
@@ -72,7 +74,7 @@ module _ {A : Type 0} (after : A → Line → Step A) where
   leads_whole (Some text) (Some at) (Some behind) state state' new words line leads next did =
       leads ∙ ap (λ r. outcome after r state') next.0 ∙ ap (λ s. continued s line (reading behind) (outcome after (reading behind))) did
 
-  pub leads_bad : (text here now : Option TextState) (state state' new : A) (words : Line) (line code : ℕ) → Leads text state state' here → NextLine here (Ok true) words line now
+  pub leads_bad : (text here now : Option TextState) (state state' new : A) (words : Line) (line : ℕ) (code : TextCode) → Leads text state state' here → NextLine here (Ok true) words line now
       → Did (after state' words) (Err (BadLine code)) new → ReadAs after text state (Err (Bad line code)) new now
   leads_bad None here now state state' new words line code leads next did = tt
   leads_bad (Some text) None now state state' new words line code leads next did = absurd leads
@@ -81,7 +83,7 @@ module _ {A : Type 0} (after : A → Line → Step A) where
       leads ∙ ap (λ r. outcome after r state') next.0 ∙ ap (λ s. continued s line (reading behind) (outcome after (reading behind))) did
 
   pub leads_cut : (text here now : Option TextState) (state state' new : A) (words : Line) (line : ℕ) → Leads text state state' here → NextLine here (Ok false) words line now
-      → ReadAs after text state (Err (Bad (line + 1) 9)) new now
+      → ReadAs after text state (Err (Bad (line + 1) CutShort)) new now
   leads_cut None here now state state' new words line leads next = tt
   leads_cut (Some text) None now state state' new words line leads next = absurd leads
   leads_cut (Some text) (Some at) now state state' new words line leads next = leads ∙ ap (λ r. outcome after r state') next.0

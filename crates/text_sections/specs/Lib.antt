@@ -1,4 +1,4 @@
-pub mod Codes
+pub mod Judging
 pub mod Sections
 pub mod Words
 pub mod Canonical

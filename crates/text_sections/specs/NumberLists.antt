@@ -1,10 +1,9 @@
 -- Several numbers of a line.
 use Rattle.std.specs.Prelude.{◌≡◌, ℕ, List, [], ◌∷◌, ◌++◌, drop, Result, Ok, Err}
 use Rattle.lift_text.specs.Numbers.{digits_number}
-use Rattle.text_sections.specs.declared.codes.TextCode.{TextCode}
-use Rattle.text_sections.specs.declared.codes.LineFault.{LineFault}
-use Rattle.text_sections.specs.declared.codes.LineFault.TheVariants.{Bad, NoMemory}
-use Rattle.text_sections.specs.Codes.{Judged, ◌>>=◌, code_of}
+use Rattle.text_sections.specs.declared.faults.LineFault.{LineFault}
+use Rattle.text_sections.specs.declared.faults.LineFault.TheVariants.{Bad, NoMemory}
+use Rattle.text_sections.specs.Judging.{Judged, ◌>>=◌}
 use Rattle.text_sections.specs.Words.{within}
 
 -- these words read as numbers from low to high, from left to right
@@ -20,5 +19,5 @@ numbers words from low high = numbers_of low high (drop from words)
 -- memory ran out
 abbrev pub Appends : Judged (List ℕ) → List ℕ → Result Unit LineFault → List ℕ → Type 0
 Appends judged old (Ok done) new = (items : List ℕ) × (judged ≡ Ok items) × (new ≡ old ++ items)
-Appends judged old (Err (Bad code)) new = (text_code : TextCode) × (judged ≡ Err text_code) × (code ≡ code_of text_code)
+Appends judged old (Err (Bad code)) new = judged ≡ Err code
 Appends judged old (Err NoMemory) new = Unit {0}

@@ -14,12 +14,12 @@
 //! of these. `TextCode` has the codes.
 #![tactic(auto)]
 
-mod codes;
+mod faults;
 mod number_lists;
 mod sections;
 mod words;
 
-pub use codes::{LineFault, TextCode};
+pub use faults::LineFault;
 pub use number_lists::numbers;
-pub use sections::{Section, Turn, read_section};
-pub use words::{at_least, at_most, exactly, is_word, number, signed};
+pub use sections::{AfterLine, Section, read_section};
+pub use words::{at_least, at_most, exactly, is_word, number, short, signed};

@@ -2,7 +2,7 @@
 ghost use Rattle.lift_text.specs.LineReader.{words};
 ghost use Rattle.text_sections.specs.NumberLists.{numbers, Appends};
 
-use crate::codes::LineFault;
+use crate::faults::LineFault;
 use crate::words::number;
 use lift_text::{LineReader, Source};
 

@@ -6,15 +6,12 @@ ghost use Rattle.text_sections.specs.Sections.{Line, Step, Did, ReadAs, IsCutAtE
 ghost use Rattle.text_sections.specs.Canonical.{IsMade, ReadsWritten};
 ghost use Rattle.text_sections.specs.Between.{StandsBehind};
 
-use crate::codes::{LineFault, TextCode};
-use lift_text::{LineReader, Source, TextFault};
-
-/// More lines than a text can have.
-const MOST_LINES: u64 = 67_108_865;
+use crate::faults::LineFault;
+use lift_text::{LINE_COUNT_BOUND, LineReader, Source, TextCode, TextFault};
 
 /// What a line that is taken does to its section.
 #[derive(Clone, Copy)]
-pub enum Turn {
+pub enum AfterLine {
     /// The section goes on.
     More,
     /// The section is whole: this was its last line.
@@ -27,7 +24,7 @@ pub trait Section {
     ghost after: { Self → Line → Step Self };
 
     /// Takes the line that was read. After an `Err` nothing is known of the section.
-    fn take_line<S: Source>(&mut self, lines: &LineReader<S>) -> Result<Turn, LineFault>
+    fn take_line<S: Source>(&mut self, lines: &LineReader<S>) -> Result<AfterLine, LineFault>
         requires { 0 < length (words lines.now) }
         ensures { Did (after self.old (words lines.now)) result self.new };
 }
@@ -36,8 +33,8 @@ pub trait Section {
 /// after that line.
 ///
 /// If a text begins with the written lines of a section, that section is read, whatever follows.
-/// The first bad line decides, with its number and one code. Code 9 comes where the input ends before
-/// the section is whole, at the line after the last. `Read` comes only where a read of the source
+/// The first bad line decides, with its number and one code. `CutShort` comes where the input ends
+/// before the section is whole, at the line after the last. `Read` comes only where a read of the source
 /// failed. After an `Err` nothing is known of the section.
 pub fn read_section<S: Source, T: Section>(
     lines: &mut LineReader<S>,
@@ -80,20 +77,20 @@ fn read_lines<S: Source, T: Section>(
         → Rose (S.faults lines.old.source.now) (S.faults lines.new.source.now) }
     ensures counted { S.faults lines.old.source.now ≤ S.faults lines.new.source.now }
 {
-    // A line's number is at most 67,108,864.
+    // For the proof: a line's number is at most 67,108,864.
     let _start = lines.line();
-    'lines: for _ in 0..MOST_LINES {
+    'lines: for _ in 0..LINE_COUNT_BOUND {
         let found = lines.next_line()?;
         let line = lines.line();
         if !found {
             return Err(TextFault::Bad {
                 line: line + 1,
-                code: TextCode::CutShort.code(),
+                code: TextCode::CutShort,
             });
         }
         match section.take_line(lines) {
-            Ok(Turn::More) => {}
-            Ok(Turn::Whole) => return Ok(()),
+            Ok(AfterLine::More) => {}
+            Ok(AfterLine::Whole) => return Ok(()),
             Err(LineFault::Bad(code)) => return Err(TextFault::Bad { line, code }),
             Err(LineFault::NoMemory) => return Err(TextFault::NoMemory),
         }

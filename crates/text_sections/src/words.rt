@@ -1,13 +1,9 @@
 //! What the words of a line say.
 ghost use Rattle.std.specs.Prelude.{◌≡◌, ℕ, ◌<◌, ◌≤◌, ◌^◌, Ok, IfOk, OnOk, length, decimal};
 ghost use Rattle.lift_text.specs.LineReader.{words};
-ghost use Rattle.text_sections.specs.Words.{at_least, at_most, exactly, is_word, number, number_code, signed, word_at};
+ghost use Rattle.text_sections.specs.Words.{at_least, at_most, exactly, is_word, number, short, signed, word_at};
 
-use crate::codes::TextCode;
-use lift_text::{LineReader, Source, TextFault};
-
-/// The code with which a line is rejected if a word is no number.
-const NO_NUMBER: u8 = 6;
+use lift_text::{LineReader, Source, TextCode};
 
 /// There are at least this many words on the line.
 pub fn at_least<S: Source>(lines: &LineReader<S>, count: u32) -> Result<(), TextCode>
@@ -65,6 +61,15 @@ pub fn number<S: Source>(
     Ok(value as u64)
 }
 
+/// Word `k` as an id, a floor or a number of persons: a number from 0 to 4294967295.
+pub fn short<S: Source>(lines: &LineReader<S>, k: u32) -> Result<u32, TextCode>
+    requires { k < length (words lines.now) }
+    ensures { result ≡ short (words lines.now) k }
+{
+    let value = number(lines, k, 0, u64::from(u32::MAX))?;
+    Ok(value as u32)
+}
+
 /// Word `k` as a number from `low` to `high`, which a `-` may begin where `low` is below 0.
 pub fn signed<S: Source>(
     lines: &LineReader<S>,
@@ -77,16 +82,6 @@ pub fn signed<S: Source>(
 {
     match lines.number(k, low, high) {
         Ok(value) => Ok(value),
-        Err(fault) => Err(number_code(fault)),
-    }
-}
-
-/// What is wrong with a word that is not read as a number.
-fn number_code(fault: TextFault) -> TextCode
-    ensures { result ≡ number_code fault }
-{
-    match fault {
-        TextFault::Bad { code, .. } if code == NO_NUMBER => TextCode::NoNumber,
-        _ => TextCode::OutOfRange,
+        Err(fault) => Err(TextCode::from(fault)),
     }
 }

@@ -3,15 +3,15 @@
 ghost use Rattle.std.specs.Prelude.{◌≤◌};
 
 use byte_streams::MemorySource;
-use lift_text::{LineReader, RawLine, TextFault};
+use lift_text::{LineReader, NumberFault, RawLine, TextCode, TextFault};
 use std::alloc::{AllocError, Global};
 
 /// What a word is as a number of -5 to 99.
 #[derive(Clone, Copy, PartialEq)]
 enum Word {
     Number(i128),
-    /// None, with its size in bytes and the code of the fault.
-    Other(usize, u8),
+    /// None, with its size in bytes and its fault.
+    Other(usize, NumberFault),
 }
 
 /// The words of a text, each with the number of its line, and the line and the answer at which they end.
@@ -31,8 +31,7 @@ fn word_at(lines: &LineReader<MemorySource>, k: u32) -> Option<Word> {
     }
     match lines.number(k, -5, 99) {
         Ok(value) => Some(Word::Number(value)),
-        Err(TextFault::Bad { code, .. }) => Some(Word::Other(lines.word(k).len(), code)),
-        Err(_) => None,
+        Err(fault) => Some(Word::Other(lines.word(k).len(), fault)),
     }
 }
 
@@ -114,16 +113,16 @@ const MIXED: &[u8] = b"# \x00\xff any\r\n\r\n \t\nab  7\t-0 # x\x1f\x7f\n-\n007 
     0000000000000000000000000000000000000007";
 
 const MIXED_WORDS: [(u64, Word); 11] = [
-    (4, Word::Other(2, 6)),
+    (4, Word::Other(2, NumberFault::NoNumber)),
     (4, Word::Number(7)),
     (4, Word::Number(0)),
-    (5, Word::Other(1, 6)),
+    (5, Word::Other(1, NumberFault::NoNumber)),
     (6, Word::Number(7)),
     (6, Word::Number(-5)),
-    (6, Word::Other(2, 7)),
-    (6, Word::Other(3, 7)),
-    (6, Word::Other(39, 7)),
-    (6, Word::Other(40, 7)),
+    (6, Word::Other(2, NumberFault::OutOfRange)),
+    (6, Word::Other(3, NumberFault::OutOfRange)),
+    (6, Word::Other(39, NumberFault::OutOfRange)),
+    (6, Word::Other(40, NumberFault::OutOfRange)),
     (6, Word::Number(7)),
 ];
 
@@ -156,7 +155,7 @@ fn has_letter(
     last: u64,
     end: Result<bool, TextFault>,
 ) -> bool {
-    let words = [(line, Word::Other(1, 6))];
+    let words = [(line, Word::Other(1, NumberFault::NoNumber))];
     let due = Words {
         words: &words,
         last,
@@ -168,7 +167,10 @@ fn has_letter(
 #[test]
 fn bytes_that_no_line_has(rt: HostRuntime) {
     let alloc = rt.alloc();
-    let bad = Err(TextFault::Bad { line: 2, code: 1 });
+    let bad = Err(TextFault::Bad {
+        line: 2,
+        code: TextCode::ForbiddenByte,
+    });
     assert!(rt; has_letter(alloc, b"a\n\x1f\n", 1, 2, bad));
     assert!(rt; has_letter(alloc, b"#\x7f\n~", 2, 2, Ok(false)));
     let none = Words {
@@ -193,8 +195,8 @@ fn wide(alloc: Global, size: usize) -> Result<Vec<u8>, AllocError>
 
 const WIDEST: [(u64, Word); 3] = [
     (3, Word::Number(7)),
-    (4, Word::Other(4096, 6)),
-    (5, Word::Other(1, 6)),
+    (4, Word::Other(4096, NumberFault::NoNumber)),
+    (5, Word::Other(1, NumberFault::NoNumber)),
 ];
 
 const OVER_WIDE: [(u64, RawLine, usize); 6] = [
@@ -227,7 +229,10 @@ fn longest_lines_are_taken(rt: HostRuntime) {
     let refused = Words {
         words: &WIDEST[..1],
         last: 4,
-        end: Err(TextFault::Bad { line: 4, code: 2 }),
+        end: Err(TextFault::Bad {
+            line: 4,
+            code: TextCode::OverLong,
+        }),
     };
     assert!(rt; is_wide_read(rt.alloc(), 4097, Due::Words(refused)));
     assert!(rt; is_wide_read(rt.alloc(), 200_000, Due::Raw(&OVER_WIDE)));

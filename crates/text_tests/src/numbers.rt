@@ -1,7 +1,7 @@
 //! Words as numbers of up to 128 bits, and numbers and lines as text.
 
 use byte_streams::SureSource;
-use lift_text::{LineReader, TextFault, put_line, put_number};
+use lift_text::{LineReader, NumberFault, put_line, put_number};
 use std::alloc::{AllocError, Global};
 
 const NUMBERS: &[u8] =
@@ -9,12 +9,12 @@ const NUMBERS: &[u8] =
     -170141183460469231731687303715884105728 1000000000000000000000000000000000000000 -1 -0 - \
     -000000000000000000000000000000000000000000000001 +1";
 
-const OUTSIDE: Result<i128, TextFault> = Err(TextFault::Bad { line: 1, code: 7 });
+const OUTSIDE: Result<i128, NumberFault> = Err(NumberFault::OutOfRange);
 
-const NONE: Result<i128, TextFault> = Err(TextFault::Bad { line: 1, code: 6 });
+const NONE: Result<i128, NumberFault> = Err(NumberFault::NoNumber);
 
 /// Words, the least number that they may write, and what is read.
-const READ: [(u32, i128, Result<i128, TextFault>); 11] = [
+const READ: [(u32, i128, Result<i128, NumberFault>); 11] = [
     (0, i128::MIN, Ok(i128::MAX)),
     (1, i128::MIN, OUTSIDE),
     (2, i128::MIN, Ok(i128::MIN)),

@@ -5,7 +5,7 @@ ghost use Rattle.lift_text.specs.LineReader.{failure};
 
 use byte_streams::MemorySource;
 use call_state::Snapshot;
-use lift_text::{LineReader, RawLine, TextFault};
+use lift_text::{LineReader, RawLine, TextCode, TextFault};
 use opening_text::read_day_opening;
 use std::alloc::{AllocError, Global};
 
@@ -20,20 +20,28 @@ fn text(alloc: Global, behind: &[u8]) -> Result<Vec<u8>, AllocError> {
     Ok(bytes)
 }
 
-/// The line and the code of a bad line. An opening has 0 and 0, a text that is too long or was not read has 0
-/// and 1.
-fn fault_of<T: Drop>(answer: Result<T, TextFault>) -> (u64, u8) {
+/// What is answered of an opening.
+#[derive(Clone, Copy, PartialEq, Eq)]
+enum Answer {
+    Taken,
+    /// The line with this number is bad.
+    Bad(u64, TextCode),
+    /// The text is too long or was not read.
+    Other,
+}
+
+fn answer_of<T: Drop>(answer: Result<T, TextFault>) -> Answer {
     match answer {
-        Ok(_) => (0, 0),
-        Err(TextFault::Bad { line, code }) => (line, code),
-        Err(_) => (0, 1),
+        Ok(_) => Answer::Taken,
+        Err(TextFault::Bad { line, code }) => Answer::Bad(line, code),
+        Err(_) => Answer::Other,
     }
 }
 
-/// What is wrong with the text of the source. None where memory is wanting.
-fn fault_in(alloc: Global, source: &mut MemorySource) -> Option<(u64, u8)> {
+/// What is answered of the text of the source. None where memory is wanting.
+fn answer_in(alloc: Global, source: &mut MemorySource) -> Option<Answer> {
     match LineReader::new(alloc, source) {
-        Ok(mut lines) => Some(fault_of(read_day_opening(alloc, &mut lines))),
+        Ok(mut lines) => Some(answer_of(read_day_opening(alloc, &mut lines))),
         Err(_) => None,
     }
 }
@@ -45,38 +53,62 @@ fn source_of(alloc: Global, behind: &[u8], failing: &[u64]) -> Result<MemorySour
     Ok(MemorySource::new(text(alloc, behind)?, 1, failing))
 }
 
-/// What is wrong with the text of this source.
-fn fault(alloc: Global, behind: &[u8], failing: &[u64]) -> Option<(u64, u8)> {
+/// What is answered of the text of this source.
+fn answer(alloc: Global, behind: &[u8], failing: &[u64]) -> Option<Answer> {
     match source_of(alloc, behind, failing) {
-        Ok(mut source) => fault_in(alloc, &mut source),
+        Ok(mut source) => answer_in(alloc, &mut source),
         Err(_) => None,
     }
 }
 
-/// What stands behind the front, whose next line is line 13, and the line and the code of its fault.
-const HEADERS: [(&[u8], u64, u8); 16] = [
-    (b"time,origin,destination,persons\n9,2,0,4\n", 0, 0),
-    (b"time,origin,destination,persons", 0, 0),
-    (b"\n\r\n time , origin,\"destination\",persons\r\n\n", 0, 0),
-    (b"", 13, 9),
-    (b"\n\r\n", 15, 9),
-    (b"\n\n\ntime,origin,persons,destination\n", 16, 27),
-    (b"time,origin,destination\n", 13, 27),
-    (b"time,origin,destination,persons,more\n", 13, 27),
-    (b"9,2,0,4\n", 13, 27),
-    (b" \ntime,origin,destination,persons\n", 13, 27),
-    (b"# rows\ntime,origin,destination,persons\n", 13, 27),
-    (b"\n\rtime,origin,destination,persons\n", 14, 27),
-    (b"\r", 13, 27),
-    (b"\xEF\xBB\xBFtime,origin,destination,persons\n", 13, 27),
-    (b"\x00\n", 13, 27),
-    (b"answer 1\n", 13, 27),
+/// What stands behind the front, whose next line is line 13, and what is answered.
+const HEADERS: [(&[u8], Answer); 16] = [
+    (b"time,origin,destination,persons\n9,2,0,4\n", Answer::Taken),
+    (b"time,origin,destination,persons", Answer::Taken),
+    (
+        b"\n\r\n time , origin,\"destination\",persons\r\n\n",
+        Answer::Taken,
+    ),
+    (b"", Answer::Bad(13, TextCode::CutShort)),
+    (b"\n\r\n", Answer::Bad(15, TextCode::CutShort)),
+    (
+        b"\n\n\ntime,origin,persons,destination\n",
+        Answer::Bad(16, TextCode::NoHeader),
+    ),
+    (
+        b"time,origin,destination\n",
+        Answer::Bad(13, TextCode::NoHeader),
+    ),
+    (
+        b"time,origin,destination,persons,more\n",
+        Answer::Bad(13, TextCode::NoHeader),
+    ),
+    (b"9,2,0,4\n", Answer::Bad(13, TextCode::NoHeader)),
+    (
+        b" \ntime,origin,destination,persons\n",
+        Answer::Bad(13, TextCode::NoHeader),
+    ),
+    (
+        b"# rows\ntime,origin,destination,persons\n",
+        Answer::Bad(13, TextCode::NoHeader),
+    ),
+    (
+        b"\n\rtime,origin,destination,persons\n",
+        Answer::Bad(14, TextCode::NoHeader),
+    ),
+    (b"\r", Answer::Bad(13, TextCode::NoHeader)),
+    (
+        b"\xEF\xBB\xBFtime,origin,destination,persons\n",
+        Answer::Bad(13, TextCode::NoHeader),
+    ),
+    (b"\x00\n", Answer::Bad(13, TextCode::NoHeader)),
+    (b"answer 1\n", Answer::Bad(13, TextCode::NoHeader)),
 ];
 
 #[test]
 fn headers_behind_the_snapshot(rt: HostRuntime) {
-    for (behind, line, code) in HEADERS {
-        assert!(rt; fault(rt.alloc(), behind, &[]) == Some((line, code)));
+    for (behind, due) in HEADERS {
+        assert!(rt; answer(rt.alloc(), behind, &[]) == Some(due));
     }
 }
 
@@ -90,58 +122,58 @@ fn wide_header(alloc: Global, size: usize) -> Result<Vec<u8>, AllocError> {
     Ok(line)
 }
 
-/// What is wrong with an opening whose header has so many bytes.
-fn fault_of_width(alloc: Global, size: usize) -> Option<(u64, u8)> {
+/// What is answered of an opening whose header has so many bytes.
+fn answer_of_width(alloc: Global, size: usize) -> Option<Answer> {
     match wide_header(alloc, size) {
-        Ok(line) => fault(alloc, &line, &[]),
+        Ok(line) => answer(alloc, &line, &[]),
         Err(_) => None,
     }
 }
 
 #[test]
 fn header_over_long(rt: HostRuntime) {
-    assert!(rt; fault_of_width(rt.alloc(), 4096) == Some((0, 0)));
-    assert!(rt; fault_of_width(rt.alloc(), 4097) == Some((13, 27)));
+    assert!(rt; answer_of_width(rt.alloc(), 4096) == Some(Answer::Taken));
+    assert!(rt; answer_of_width(rt.alloc(), 4097) == Some(Answer::Bad(13, TextCode::NoHeader)));
 }
 
 /// Texts with a fault before the header.
-const OTHERS: [(&[u8], u64, u8); 5] = [
-    (b"", 1, 9),
-    (b"building 1\nspeed 99\n", 2, 7),
+const OTHERS: [(&[u8], Answer); 5] = [
+    (b"", Answer::Bad(1, TextCode::CutShort)),
+    (
+        b"building 1\nspeed 99\n",
+        Answer::Bad(2, TextCode::OutOfRange),
+    ),
     (
         b"building 1\nspeed 2000\naccel 1000\nweights 2 1\nfloors 0 4000 9000\n\
         car 7 5 1000 1100 500 400 all\nend\n\
         snapshot 1\nnow 650\n\ncar 7 idle 2 700\naboard 7 31 0 1 600\nend\ntime,origin,destination,persons\n",
-        12,
-        26,
+        Answer::Bad(12, TextCode::NotInOpening),
     ),
     (
         b"building 1\nspeed 2000\naccel 1000\nweights 2 1\nfloors 0 4000 9000\n\
         car 7 5 1000 1100 500 400 all\nend\n\
         snapshot 1\nnow 650\ncar 7 idle 2 700\ncall 31 0 1 2 600 any\nend\ntime,origin,destination,persons\n",
-        11,
-        26,
+        Answer::Bad(11, TextCode::NotInOpening),
     ),
     (
         b"building 1\nspeed 2000\naccel 1000\nweights 2 1\nfloors 0 4000 9000\n\
         car 7 5 1000 1100 500 400 all\nend\ntime,origin,destination,persons\n",
-        8,
-        3,
+        Answer::Bad(8, TextCode::NoLineWord),
     ),
 ];
 
-/// What is wrong with this text, which comes in pieces of three bytes.
-fn fault_of_whole(alloc: Global, whole: &[u8]) -> Option<(u64, u8)> {
+/// What is answered of this text, which comes in pieces of three bytes.
+fn answer_of_whole(alloc: Global, whole: &[u8]) -> Option<Answer> {
     match Vec::from_slice(alloc, whole) {
-        Ok(bytes) => fault_in(alloc, &mut MemorySource::new(bytes, 3, Vec::new(alloc))),
+        Ok(bytes) => answer_in(alloc, &mut MemorySource::new(bytes, 3, Vec::new(alloc))),
         Err(_) => None,
     }
 }
 
 #[test]
 fn faults_before_the_header(rt: HostRuntime) {
-    for (whole, line, code) in OTHERS {
-        assert!(rt; fault_of_whole(rt.alloc(), whole) == Some((line, code)));
+    for (whole, due) in OTHERS {
+        assert!(rt; answer_of_whole(rt.alloc(), whole) == Some(due));
     }
 }
 
@@ -189,17 +221,17 @@ fn rows_come_next(rt: HostRuntime) {
     assert!(rt; has_lines(rt.alloc(), behind, b" 7,2 ,0,3# x", b""));
 }
 
-/// What is wrong with the text of an opening and a row where the read with this number fails.
-fn fault_at_read(alloc: Global, failing: u64) -> Option<(u64, u8)> {
+/// What is answered of the text of an opening and a row where the read with this number fails.
+fn answer_at_read(alloc: Global, failing: u64) -> Option<Answer> {
     let header = b"time,origin,destination,persons\n7,2,0,3\n";
-    fault(alloc, header, &[failing])
+    answer(alloc, header, &[failing])
 }
 
 #[test]
 fn failed_reads(rt: HostRuntime) {
     // The header has 31 bytes before its LF, which read 187 gives.
-    assert!(rt; fault_at_read(rt.alloc(), 5) == Some((0, 1)));
-    assert!(rt; fault_at_read(rt.alloc(), 156) == Some((0, 1)));
-    assert!(rt; fault_at_read(rt.alloc(), 187) == Some((0, 1)));
-    assert!(rt; fault_at_read(rt.alloc(), 188) == Some((0, 0)));
+    assert!(rt; answer_at_read(rt.alloc(), 5) == Some(Answer::Other));
+    assert!(rt; answer_at_read(rt.alloc(), 156) == Some(Answer::Other));
+    assert!(rt; answer_at_read(rt.alloc(), 187) == Some(Answer::Other));
+    assert!(rt; answer_at_read(rt.alloc(), 188) == Some(Answer::Taken));
 }

@@ -4,7 +4,7 @@ ghost use Rattle.std.specs.Prelude.{◌≤◌, ◌<◌, ◌^◌, IfOk, length};
 ghost use Rattle.search_model.specs.Reports.{report_of};
 ghost use Rattle.service_report.specs.WorkedTexts.{AreReportTexts};
 
-use search_model::{Column, Report, Served};
+use search_model::{Report, ReportColumn, Served};
 use service_report::{report_of, write_report};
 use std::alloc::{AllocError, Global};
 
@@ -131,7 +131,7 @@ fn texts_of_days(rt: HostRuntime) {
 }
 
 /// The numbers of a column, in their order.
-fn numbers_of(column: &Column) -> [u64; 8] {
+fn numbers_of(column: &ReportColumn) -> [u64; 8] {
     let [count, sum, greatest] = [column.count, column.sum, column.greatest];
     let [p50, p90, p99] = [column.p50, column.p90, column.p99];
     [

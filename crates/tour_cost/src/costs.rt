@@ -61,7 +61,7 @@ fn no_moments() -> [u64; MOST_CALLS]
 
 /// Notes the moment at which these calls boarded.
 fn note_boarding(boarded: &mut [u64; MOST_CALLS], boards: CallSet, opened: u64)
-    ensures { (j : ℕ) → j < 128
+    ensures { (j : ℕ) → j < MOST_CALLS
         → slice_index boarded.new j ≡ (if has boards j then opened else slice_index boarded.old j) }
 {
     for j in 0..MOST_CALLS {

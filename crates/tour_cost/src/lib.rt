@@ -12,7 +12,8 @@
 //!   and leaving as they are after it. Moments are below 10^10 and plans cost less than 10^18, so `cost`
 //!   cannot overflow; it takes no memory. In a building of version 1 the cost is the short form without
 //!   patience.
-//! - `judge_plan` is exactly the first bad place of a plan, and none exactly where it is feasible.
+//! - `judge_plan` is exactly the first bad place of a plan, and none exactly where it is feasible, which is
+//!   what `is_feasible` tells.
 //!
 //! `specs/Completing.antt` says which tours of the cars from one on complete what the cars before take. That
 //! nothing taken is completed by exactly the feasible plans (`proofs/Completing.antt`) is what searches over
@@ -25,5 +26,5 @@ mod timelines;
 
 pub use costs::cost;
 pub use elevator_model::{BadPlan, Plan, Times};
-pub use plans::{calls_of, judge_plan, plan_cost};
+pub use plans::{calls_of, is_feasible, judge_plan, plan_cost};
 pub use timelines::timeline;

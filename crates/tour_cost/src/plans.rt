@@ -1,6 +1,6 @@
 //! Plans: whether one is feasible, and its cost.
 
-ghost use Rattle.std.specs.Prelude.{◌≡◌, ◌↔◌, ◌≤◌, ◌<◌, ℕ, length, true, IsOk, MatchResult, Some, None};
+ghost use Rattle.std.specs.Prelude.{◌≡◌, ◌↔◌, ◌≤◌, ◌<◌, ℕ, length, true, IsOk, IsTrue, MatchResult, Some, None};
 ghost use Rattle.call_sets.specs.Counting.{has, is_among};
 ghost use Rattle.elevator_model.specs.Snapshot.{car_count};
 ghost use Rattle.elevator_model.specs.Plans.{IsFeasiblePlan, plan_cost_of, first_bad, is_boarded_in};
@@ -9,7 +9,7 @@ ghost use Rattle.tour_cost.specs.Unserved.{first_without as first_without_lem};
 use crate::costs::cost;
 use call_sets::CallSet;
 use call_state::Snapshot;
-use elevator_model::{BadPlan, MOST_COST, Plan, Rule, Tour};
+use elevator_model::{BadPlan, MOST_CALLS, MOST_COST, Plan, Rule, Tour};
 use tour_rules::judge_after;
 
 /// The cost of a feasible plan: that of its tours. It is below 10^18.
@@ -61,7 +61,7 @@ pub fn judge_plan(snapshot: &Snapshot, plan: &Plan) -> Result<(), BadPlan>
 
 /// The calls that board at a stop.
 pub(crate) fn calls_at(boards: &[u32]) -> CallSet
-    requires { (j : ℕ) → is_among j boards.now ≡ true → j < 128 }
+    requires { (j : ℕ) → is_among j boards.now ≡ true → j < MOST_CALLS }
     ensures { (j : ℕ) → has result j ≡ is_among j boards.now }
 {
     CallSet::of_list(boards)
@@ -69,7 +69,7 @@ pub(crate) fn calls_at(boards: &[u32]) -> CallSet
 
 /// The calls that a tour takes. Its boards have to be calls.
 pub fn calls_of(tour: &Tour) -> CallSet
-    requires { (j : ℕ) → is_boarded_in tour.now j ≡ true → j < 128 }
+    requires { (j : ℕ) → is_boarded_in tour.now j ≡ true → j < MOST_CALLS }
     ensures { (j : ℕ) → has result j ≡ is_boarded_in tour.now j }
 {
     let mut calls = CallSet::empty();
@@ -81,7 +81,7 @@ pub fn calls_of(tour: &Tour) -> CallSet
 
 /// The lowest of the first calls that is not in the set.
 fn first_without(calls: usize, set: CallSet) -> Option<u32>
-    requires { calls ≤ 128 }
+    requires { calls ≤ MOST_CALLS }
     ensures { result ≡ first_without_lem (has set) calls }
 {
     for call in 0..calls {
@@ -90,4 +90,14 @@ fn first_without(calls: usize, set: CallSet) -> Option<u32>
         }
     }
     None
+}
+
+/// Whether the plan has one tour per car and is feasible.
+pub fn is_feasible(snapshot: &Snapshot, plan: &Plan) -> bool
+    ensures { IsTrue result ↔ IsFeasiblePlan snapshot.now plan.now }
+{
+    if plan.tours().len() != snapshot.building().cars().len() {
+        return false;
+    }
+    judge_plan(snapshot, plan).is_ok()
 }

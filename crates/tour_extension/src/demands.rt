@@ -23,16 +23,7 @@ impl Demand {
         ensures { IsTrue result ↔ IsDemand prefix.now.snapshot prefix.now.car (has self.now.allowed)
             (has self.now.required) }
     {
-        has_all(self.allowed, self.required) && has_all(prefix.layout().possible(), self.allowed)
-    }
-}
-
-/// Whether each member of the part is in the whole.
-fn has_all(whole: CallSet, part: CallSet) -> bool
-    ensures { IsTrue result ↔ ((j : ℕ) → has part j ≡ true → has whole j ≡ true) }
-{
-    match part.minus(whole).least() {
-        None => true,
-        Some(_) => false,
+        self.allowed.contains_all(self.required)
+            && prefix.layout().possible().contains_all(self.allowed)
     }
 }

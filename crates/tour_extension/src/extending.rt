@@ -134,7 +134,7 @@ fn any_keeps_queue_and_way(
     ensures { result ≡ any_below (call_count layout.now.snapshot)
         (λ j. has calls j && keeps_queue_and_way_lem layout.now.snapshot missing sides floor j) }
 {
-    // So there are at most 128 calls.
+    // For the proof: there are at most 128 calls.
     let _accepted = layout.snapshot();
     for call in calls.iter() {
         if keeps_queue_and_way(layout, floor, sides, missing, call) {
@@ -234,8 +234,9 @@ pub fn can_be_extended(prefix: &Prefix, demand: &Demand) -> bool
         → (IsTrue result ↔ IsExtendable prefix.now.snapshot prefix.now.car
         (has demand.now.allowed) (has demand.now.required) prefix.now.moves) }
 {
-    let _lawful = prefix.moves();
     let layout = prefix.layout();
+    // For the proof: the moves are lawful, the snapshot is accepted and the car one of its cars.
+    let _lawful = prefix.moves();
     let _accepted = layout.snapshot();
     let _car = layout.car();
     passes_test(layout, prefix.point(), demand)

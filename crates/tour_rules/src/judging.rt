@@ -123,6 +123,7 @@ pub fn judge_after(snapshot: &Snapshot, car: u32, taken: CallSet, tour: &Tour) -
         ≡ None) (λ b. first_broken_from snapshot.now car (has taken)
         (start_of snapshot.now car) 1 tour.now ≡ Some b) }
 {
+    // For the proof: the snapshot is accepted.
     let _accepted = snapshot.calls();
     let mut place = at_start(snapshot, car);
     let mut number = 1;

@@ -9,6 +9,7 @@
 //! - `Walker` is a car that goes through a tour stop after stop: the moments, who is carried and who gets
 //!   off, as the definition's fold has them (`Walks`), for any stops at floors of the building where any
 //!   calls board. It tells when the car arrives and which calls get off at a next stop.
+//! - `first_floors` are exactly the floors where a car may make its first stop, if it serves them.
 //! - `cost_of_call` and `cost_of_group` are what the riders of a call, of a group cost who get off at a given
 //!   moment.
 //! - `moves_reach` and `ended_feasible`, lemmas (`proofs/Reached.antt`): each feasible tour is reached by
@@ -20,6 +21,7 @@
 //! who get off there, for tours and partial tours alike.
 #![tactic(auto)]
 
+mod first_floors;
 mod judging;
 pub mod places;
 pub mod riding;
@@ -28,4 +30,5 @@ pub mod walking;
 
 pub use call_sets::{CallSet, FloorSet};
 pub use elevator_model::{Boards, Broken, Rule, Stop, Tour};
+pub use first_floors::first_floors;
 pub use judging::{broken_at_end, judge, judge_after};

@@ -9,6 +9,7 @@ ghost use Rattle.tour_rules.specs.Places.{heads, call_in, group_in, call_heads, 
 
 use call_sets::{CallSet, FloorSet};
 use call_state::{Aboard, Call, Snapshot};
+use elevator_model::MOST_CALLS;
 
 /// Destinations, as seen from a floor.
 #[derive(Clone, Copy)]
@@ -56,7 +57,7 @@ pub struct Place {
 
 /// Whether a call of the set has such a destination.
 pub fn any_call_heads(calls: &[Call], set: CallSet, heading: Heading) -> bool
-    requires { length calls.now ≤ 128 }
+    requires { length calls.now ≤ MOST_CALLS }
     ensures { result ≡ any_below (length calls.now) (call_heads calls.now set heading) }
 {
     for (j, call) in calls.iter().enumerate() {
@@ -90,7 +91,7 @@ fn any_group_heads(groups: &[Aboard], car: u32, visited: FloorSet, heading: Head
 
 /// The persons of the calls of the set with such a destination.
 fn persons_of_calls(calls: &[Call], set: CallSet, heading: Heading) -> u32
-    requires few { length calls.now ≤ 128 }
+    requires few { length calls.now ≤ MOST_CALLS }
     requires small { (j : ℕ) → j < length calls.now → (call_in calls.now j).persons ≤ 8 }
     ensures value { result
         ≡ sum_where (length calls.now) (call_heads calls.now set heading) (λ j. (call_in calls.now j).persons) }
@@ -125,7 +126,7 @@ fn persons_of_groups(groups: &[Aboard], car: u32, visited: FloorSet, heading: He
 
 /// The calls of the set whose destination is this floor.
 fn calls_bound_for(calls: &[Call], set: CallSet, floor: u32) -> CallSet
-    requires { length calls.now ≤ 128 }
+    requires { length calls.now ≤ MOST_CALLS }
     ensures each { (j : ℕ) → j < length calls.now
         → has result j ≡ (has set j && ((call_in calls.now j).destination == floor)) }
     ensures only { (j : ℕ) → length calls.now ≤ j → has result j ≡ false }

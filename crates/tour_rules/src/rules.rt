@@ -15,11 +15,11 @@ use crate::places::{
 };
 use call_sets::CallSet;
 use call_state::{Call, CarState, Snapshot, is_open};
-use elevator_model::{Rule, Stop};
+use elevator_model::{MOST_CALLS, Rule, Stop};
 
 /// Whether a call of the set is a later one of the queue of `call`.
 pub fn overtakes(calls: &[Call], boarded: CallSet, call: &Call) -> bool
-    requires { length calls.now ≤ 128 }
+    requires { length calls.now ≤ MOST_CALLS }
     ensures { result ≡ any_below (length calls.now)
         (λ k. has boarded k && is_later_in_queue_lem (call_in calls.now k) call.now) }
 {
@@ -33,7 +33,7 @@ pub fn overtakes(calls: &[Call], boarded: CallSet, call: &Call) -> bool
 
 /// Whether a call that boards is overtaken by one that boarded before.
 pub fn any_overtakes(calls: &[Call], boards: CallSet, boarded: CallSet) -> bool
-    requires { length calls.now ≤ 128 }
+    requires { length calls.now ≤ MOST_CALLS }
     ensures { result ≡ any_below (length calls.now)
         (λ j. has boards j && any_below (length calls.now)
         (λ k. has boarded k && is_later_in_queue_lem (call_in calls.now k) (call_in calls.now j))) }
@@ -48,7 +48,7 @@ pub fn any_overtakes(calls: &[Call], boards: CallSet, boarded: CallSet) -> bool
 
 /// Whether a call that boards waits at another floor.
 pub fn any_elsewhere(calls: &[Call], boards: CallSet, floor: u32) -> bool
-    requires { length calls.now ≤ 128 }
+    requires { length calls.now ≤ MOST_CALLS }
     ensures { result ≡ any_below (length calls.now)
         (λ j. has boards j && not ((call_in calls.now j).origin == floor)) }
 {
@@ -69,7 +69,7 @@ fn times_in(boards: &[u32], call: u32) -> usize
 
 /// Whether a call boarded before, is taken by another car, or stands in the list twice.
 fn is_again(call: u32, boarded: CallSet, taken: CallSet, boards: &[u32]) -> bool
-    requires { call < 128 }
+    requires { call < MOST_CALLS }
     ensures { result ≡
         ((has boarded call || has taken call) || nat_le 2 (count_by (λ x. x == call) boards.now)) }
 {
@@ -84,7 +84,7 @@ pub fn any_twice(
     taken: CallSet,
     boards: &[u32],
 ) -> bool
-    requires { calls ≤ 128 }
+    requires { calls ≤ MOST_CALLS }
     ensures { result ≡ any_below calls
         (λ j. has set j &&
         ((has boarded j || has taken j) || nat_le 2 (count_by (λ x. x == j) boards.now))) }

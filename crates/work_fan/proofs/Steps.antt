@@ -8,7 +8,7 @@ use lib.ListN.{get_elem?}
 use Rattle.atomic_table.specs.Table.{State, Me, keeps, Step, Allows, Splits, Joins, Final, Seen}
 use Rattle.atomic_table.proofs.Lists.{at_set, at_snoc, set_again}
 use Rattle.work_fan.specs.declared.line.Share.{Share}
-use Rattle.work_fan.specs.declared.line.Limits.{Limits}
+use Rattle.work_fan.specs.declared.line.LineSizes.{LineSizes}
 use Rattle.work_fan.specs.Line.{times, times_below, past, EachOnce, EachBelow}
 use Rattle.work_fan.specs.Rule.{share, Fitting, IsKept, Draws, Looks}
 use Rattle.work_fan.proofs.Shares.{sum_set, le_sum, sum_le, sum_alone, past-none, times_from_any}
@@ -64,7 +64,7 @@ both_fit count v w fits fits' = (
   λ no. append_empty v.drawn w.drawn (fits.1 (omega arith)) (fits'.1 (omega arith)),
 )
 
-module _ {S : Type 0} (limits : Limits) where
+module _ {S : Type 0} (limits : LineSizes) where
   word_bound : (s : State S Share) → IsKept limits s → slice_index s.words 0 ≤ limits.count + limits.workers
   word_bound s kept =
       let within = sum_le (λ (v : Share). past limits.count v.drawn) (λ (v : Share). v.allowance) s.views (λ i v at. (kept.fitting i v at).0) in

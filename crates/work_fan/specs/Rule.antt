@@ -4,7 +4,7 @@ use mathlib.Core.Option.{some}
 use lib.ListN.{get_elem?}
 use Rattle.atomic_table.specs.Table.{State, Step, Me}
 use Rattle.work_fan.specs.declared.line.Share.{Share}
-use Rattle.work_fan.specs.declared.line.Limits.{Limits}
+use Rattle.work_fan.specs.declared.line.LineSizes.{LineSizes}
 use Rattle.work_fan.specs.Line.{times, times_below, past, EachOnce}
 
 abbrev pub share : List ℕ → ℕ → Share
@@ -20,7 +20,7 @@ Fitting count shares =
 -- The numbers below the word are each in exactly one share, once, and no other number is in any share.
 -- The allowances sum to the number of workers, and each share fits its allowance.
 -- `draws` and `past_draws` follow from the others, and are kept so that no proof has to count.
-pub record IsKept {S : Type 0} (limits : Limits) (state : State S Share) : Type 0 where
+pub record IsKept {S : Type 0} (limits : LineSizes) (state : State S Share) : Type 0 where
   pub small : limits.count + limits.workers < 2 ^ 63
   pub one_word : length state.words ≡ 1
   pub once : (x : ℕ)

@@ -14,5 +14,5 @@
 mod line;
 mod workers;
 
-pub use line::{JobLine, JobSeat};
+pub use line::{JobLine, JobSeat, MOST_WORKERS};
 pub use workers::{Done, Jobs, fan, in_order};

@@ -7,6 +7,9 @@ use std::alloc::{AllocError, Global};
 use std::collections::LinkedList;
 use std::marker::{Brand, Model, PhantomData};
 
+/// The most workers of a line.
+pub const MOST_WORKERS: u32 = 16;
+
 /// What the holder of a seat knows: the numbers that it drew, in order, and for how many workers it stands.
 /// No value of it is made.
 pub struct Share {
@@ -16,14 +19,14 @@ pub struct Share {
 
 /// How many jobs a line has, and for how many workers.
 #[derive(Clone, Copy)]
-pub struct Limits {
+pub struct LineSizes {
     pub count: u32,
     pub workers: u32,
 }
 
 pub struct DrawnOnce;
 
-impl TableRule<(), Share, Limits> for DrawnOnce {
+impl TableRule<(), Share, LineSizes> for DrawnOnce {
     ghost use Rattle.std.specs.Prelude.{[]};
     ghost use Rattle.work_fan.specs.Rule.{share, IsKept};
 
@@ -84,7 +87,7 @@ impl Join<Share> for Merging {
 /// Contracts see which line it is, the count of its jobs and the number of its workers.
 #[derive(Drop)]
 pub struct JobLine {
-    table: Table<(), Share, Limits, DrawnOnce, Global>,
+    table: Table<(), Share, LineSizes, DrawnOnce, Global>,
     count: u32,
 }
 
@@ -137,12 +140,12 @@ impl Model for JobSeat {
 impl JobLine {
     /// A line of `count` jobs for 1 to 16 workers, and the seat that stands for all of them.
     pub fn begin(alloc: Global, count: u32, workers: u32) -> Result<(JobLine, JobSeat), AllocError>
-        requires { (1 ≤ workers) × (workers ≤ 16) }
+        requires { (1 ≤ workers) × (workers ≤ MOST_WORKERS) }
         ensures line { IfOk result (λ r. (r.0.count ≡ count) × (r.0.workers ≡ workers)) }
         ensures seat { IfOk result (λ r.
             (r.1.line ≡ r.0.name) × (r.1.drawn ≡ []) × (r.1.allowance ≡ workers)) }
     {
-        let (table, seat) = Table::of_words(alloc, &[0], &Limits { count, workers })?;
+        let (table, seat) = Table::of_words(alloc, &[0], &LineSizes { count, workers })?;
         Ok((JobLine { table, count }, JobSeat { seat }))
     }
 

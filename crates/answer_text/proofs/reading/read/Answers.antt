@@ -4,7 +4,7 @@ use Rattle.lift_text.specs.LineReader.{text, failure}
 use Rattle.lift_text.specs.Reading.{reading}
 use Rattle.text_sections.specs.Sections.{ReadAs}
 use Rattle.text_sections.specs.Canonical.{IsMade, BeginsWith}
-use Rattle.answer_text.specs.declared.answers.Stated.{Stated}
+use Rattle.search_model.specs.declared.Stated.{Stated}
 use Rattle.answer_text.specs.Drafts.{Draft, after, stated_read}
 use Rattle.answer_text.specs.Answers.{IsSaid, IsWithin}
 use Rattle.answer_text.proofs.WholeLemmas.{sound}

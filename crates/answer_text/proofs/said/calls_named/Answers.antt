@@ -1,6 +1,7 @@
 use Rattle.std.proofs.lemmas.Result.{err_from_is_err_and}
 use Rattle.answer_text.specs.Words.{calls_named}
-use Rattle.answer_text.proofs.CallLemmas.{named_more, named_bad, gives_bad}
+use Rattle.text_sections.proofs.StepLemmas.{gives_bad}
+use Rattle.answer_text.proofs.CallLemmas.{named_more, named_bad}
 use Rattle.answer_text.proofs.said.calls_named.Goals as goal
 
 pub returns-in_err-call : goal.returns-in_err-call

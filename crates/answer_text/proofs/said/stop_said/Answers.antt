@@ -2,7 +2,7 @@ use Rattle.std.proofs.Common.{List, ◌≡◌, ◌≤◌, ◌++◌, ◌∙◌, s
 use Rattle.std.specs.Prelude.{All, drop}
 use Rattle.lift_text.specs.LineReader.{words}
 use Rattle.text_sections.specs.NumberLists.{numbers_of}
-use Rattle.answer_text.proofs.CallLemmas.{numbers_high}
+use Rattle.text_sections.proofs.NumberListLemmas.{numbers_high}
 use Rattle.answer_text.proofs.said.stop_said.Goals as goal
 
 pub calls_named-requires : goal.calls_named-requires

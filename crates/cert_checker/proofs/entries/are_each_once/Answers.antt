@@ -40,4 +40,4 @@ returns g c =
     let all : take c.loop-entry.entry-index c.args.entries.now ≡ c.args.entries.now = take_all c.loop-entry.entry-index c.args.entries.now c.loop-entry-test.false in
     let keys = ap (map g.E.Entry.key) all in
     let below = subst (λ (ks : List ℕ). list_all (λ k. nat_lt k c.args.count) ks ≡ true) keys c.loop-entry.invariant.below in
-    same_tests c.has_all.result _ (λ e. once-among c.args.count (map g.E.Entry.key c.args.entries.now) (length-map c.args.entries.now g.E.Entry.key ∙ c.if-entries-count.false) below (λ k lt. sym (ap (is_among k) keys) ∙ sym (c.loop-entry.invariant.among k) ∙ c.has_all.ensures.yes e k lt)) (λ e. c.has_all.ensures.no (λ k lt. c.loop-entry.invariant.among k ∙ ap (is_among k) keys ∙ among-once c.args.count (map g.E.Entry.key c.args.entries.now) e k lt))
+    same_tests c.has_first.result _ (λ e. once-among c.args.count (map g.E.Entry.key c.args.entries.now) (length-map c.args.entries.now g.E.Entry.key ∙ c.if-entries-count.false) below (λ k lt. sym (ap (is_among k) keys) ∙ sym (c.loop-entry.invariant.among k) ∙ c.has_first.ensures.0 e k lt)) (λ e. c.has_first.ensures.1 (λ k lt. c.loop-entry.invariant.among k ∙ ap (is_among k) keys ∙ among-once c.args.count (map g.E.Entry.key c.args.entries.now) e k lt))

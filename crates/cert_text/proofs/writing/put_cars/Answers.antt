@@ -1,10 +1,9 @@
-use Rattle.std.proofs.Common.{ℕ, List, ◌<◌, ◌++◌, ◌∙◌, sym, ap, subst}
-use Rattle.std.specs.List.{flat_map, AllByRecursion}
+use Rattle.std.proofs.Common.{ℕ, List, ◌++◌, ◌∙◌, ap}
+use Rattle.std.specs.List.{flat_map}
 use Rattle.call_sets.specs.Counting.{members}
-use Rattle.elevator_model.specs.Snapshot.{car_count, spec_of}
+use Rattle.elevator_model.specs.Snapshot.{spec_of}
 use Rattle.lift_text.specs.Text.{word}
 use Rattle.cert_text.proofs.LineTexts.{next_written}
-use Rattle.cert_text.proofs.WrittenLemmas.{members_each}
 use Rattle.cert_text.proofs.writing.put_cars.Goals as goal
 
 pub loop-c-init : goal.loop-c-init
@@ -13,24 +12,13 @@ loop-c-init c =
     let out = c.args.out.now.items in
     let words : ℕ → List ℕ = λ k. word (spec_of s k).id in
     let left = ap (λ it. it.left) c.into_iter-c-iterator.ensures.into_iter_gives ∙ c.iter-c-items.ensures in
-    record {
-      text = ap (λ (set : ℕ). out ++ flat_map words (members 16 set)) left;
-      cars = subst (λ (set : ℕ). AllByRecursion (λ k. k < car_count s) (members 16 set)) (sym left) (members_each c.args.part (car_count s) c.requires);
-    }
-
-pub id_of_car-requires : goal.id_of_car-requires
-id_of_car-requires c =
-    let s = c.args.snapshot.now in
-    let all = subst (AllByRecursion (λ k. k < car_count s)) c.in-Some.ensures.steps c.loop-c.invariant.cars in
-    all.0
+    record { text = ap (λ (set : ℕ). out ++ flat_map words (members 16 set)) left }
 
 pub loop-c-preserved : goal.loop-c-preserved
 loop-c-preserved c =
     let s = c.args.snapshot.now in
     let words : ℕ → List ℕ = λ k. word (spec_of s k).id in
-    let all = subst (AllByRecursion (λ k. k < car_count s)) c.in-Some.ensures.steps c.loop-c.invariant.cars in
     record {
       text = next_written words c.loop-c.out.items c.put_word.new.out.items _ _ _ c.in-Some.c c.loop-c.invariant.text c.in-Some.ensures.steps
           (c.in_ok-put_word.ensures.ok ∙ ap (λ (n : ℕ). c.loop-c.out.items ++ word n) c.id_of_car.ensures);
-      cars = all.1;
     }

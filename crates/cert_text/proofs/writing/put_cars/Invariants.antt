@@ -1,7 +1,7 @@
-use Rattle.std.proofs.Common.{◌≡◌, ◌++◌, ◌<◌}
-use Rattle.std.specs.List.{flat_map, AllByRecursion}
+use Rattle.std.proofs.Common.{◌≡◌, ◌++◌}
+use Rattle.std.specs.List.{flat_map}
 use Rattle.call_sets.specs.Counting.{members}
-use Rattle.elevator_model.specs.Snapshot.{car_count, spec_of}
+use Rattle.elevator_model.specs.Snapshot.{spec_of}
 use Rattle.lift_text.specs.Text.{word}
 use Rattle.cert_text.proofs.writing.put_cars.Given as goal
 
@@ -10,5 +10,4 @@ abbrev pub invariant-loop-c : goal.invariant-loop-c
 invariant-loop-c l = record {
   text : l.out.items ++ flat_map (λ c. word (spec_of l.snapshot c).id) (members 16 l.c-iterator.left)
       ≡ l.fn.out.items ++ flat_map (λ c. word (spec_of l.snapshot c).id) (members 16 l.fn.part);
-  cars : AllByRecursion (λ c. c < car_count l.snapshot) (members 16 l.c-iterator.left);
 }

@@ -12,7 +12,7 @@ returns-in-Ok-Line-clause-next g c =
     let new = c.raw_line.new.self in
     let did = c.do_line.ensures in
     line-answered (right_by (FnReturnsAt g.F.Fn c.args.plan.now)) c.args.day.now c.do_line.new.day c.do_line.new.out.items (text left c.args.lines.now) (text left new) c.raw.result.now (raw new) (left new.source.now)
-    c.do_line.result _ c.turn_after.result refl c.raw.ensures c.turn_after.ensures (read.next c.requires.unfailed) did.done did.as_before
+    c.do_line.result _ c.next_after.result refl c.raw.ensures c.next_after.ensures (read.next c.requires.unfailed) did.done did.as_before
 
 pub returns-in-Ok-Long-clause-next : goal.returns-in-Ok-Long-clause-next
 returns-in-Ok-Long-clause-next g c =
@@ -21,7 +21,7 @@ returns-in-Ok-Long-clause-next g c =
     let new = c.raw_line.new.self in
     let did = c.do_long_line.ensures in
     long-line-answered (right_by (FnReturnsAt g.F.Fn c.args.plan.now)) c.args.day.now c.do_long_line.new.day c.do_long_line.new.out.items (text left c.args.lines.now) (text left new) (raw new) (left new.source.now)
-    c.do_long_line.result _ c.turn_after-in-Ok-Long.result refl c.turn_after-in-Ok-Long.ensures (read.next c.requires.unfailed) did.day did.log did.as_before
+    c.do_long_line.result _ c.next_after-in-Ok-Long.result refl c.next_after-in-Ok-Long.ensures (read.next c.requires.unfailed) did.day did.log did.as_before
 
 pub returns-in-Err-clause-next : goal.returns-in-Err-clause-next
 returns-in-Err-clause-next g c =

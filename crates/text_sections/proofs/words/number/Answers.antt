@@ -7,7 +7,7 @@ use lib.Signed.{non_neg}
 use lib.IntN.{ℤ, nat_abs}
 use Rattle.lift_text.specs.LineReader.{words}
 use Rattle.lift_text.specs.Numbers.{digits_number}
-use Rattle.text_sections.specs.Codes.{Judged}
+use Rattle.text_sections.specs.Judging.{Judged}
 use Rattle.text_sections.specs.Words.{word_at, number}
 use Rattle.text_sections.proofs.NumberLemmas.{IsNatural, natural_value, natural_error, widened, written_number, is_within}
 use Rattle.text_sections.proofs.words.number.Given.{Over}

@@ -3,9 +3,9 @@ use Rattle.std.proofs.lemmas.List.{length-take-le}
 use Rattle.std.specs.Io.KnownBytes.{prepend_known}
 use Rattle.lift_text.specs.Lines.{HasWholeLine}
 use Rattle.lift_text.specs.Words.{parts_of}
-use Rattle.lift_text.specs.Found.{FoundIn, FoundShows}
+use Rattle.lift_text.specs.Front.{FoundIn, FoundShows}
 use Rattle.lift_text.specs.Page.{PageState, Advanced, limit_of, text_at}
-use Rattle.lift_text.specs.declared.window.Found.TheVariants.{Line, End}
+use Rattle.lift_text.specs.declared.window.Front.TheVariants.{Line, End}
 use Rattle.lift_text.proofs.PageLemmas.{state, advanced_line, advanced_other, empty_front, no_parts, nothing_behind, forward_other, at_end, no_other_whole, current_one_other}
 use Rattle.lift_text.proofs.EndLemmas.{gathered_same, line_ends_other}
 use Rattle.lift_text.proofs.page.Page.advance.Goals as goal

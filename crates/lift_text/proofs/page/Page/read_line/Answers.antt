@@ -1,7 +1,7 @@
 use Rattle.std.proofs.Common.{◌+◌, ◌<◌, inr, length, drop, sym, ap, subst, ◌∙◌}
 use Rattle.std.proofs.lemmas.List.{take-append-drop}
 use Rattle.std.specs.Io.KnownBytes.{prepend_known}
-use Rattle.lift_text.specs.Found.{NoLineFeed}
+use Rattle.lift_text.specs.Front.{NoLineFeed}
 use Rattle.lift_text.specs.Page.{PageState, Advanced, ReadLine, limit_of, text_at}
 use Rattle.lift_text.proofs.PageLemmas.{empty_front}
 use Rattle.lift_text.proofs.ReadLemmas.{read_found}

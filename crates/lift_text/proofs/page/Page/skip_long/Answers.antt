@@ -1,6 +1,6 @@
 use Rattle.std.proofs.Common.{◌≡◌, ◌+◌, Ok, Err, None, length, take, drop, arith, ap, sym, subst, ◌∙◌}
 use Rattle.std.specs.Io.KnownBytes.{prepend_known}
-use Rattle.lift_text.specs.Found.{SkippedIn}
+use Rattle.lift_text.specs.Front.{SkippedIn}
 use Rattle.lift_text.specs.Page.{PageState, SkippedLine, text_at}
 use Rattle.lift_text.specs.declared.faults.RawLine.TheVariants.{Long}
 use Rattle.lift_text.specs.declared.faults.TextFault.TheVariants.{TooLong}

@@ -3,7 +3,7 @@ use Rattle.std.specs.Io.KnownBytes.{prepend_known}
 use Rattle.std.proofs.lemmas.Result.{err_from_is_err_and}
 use Rattle.byte_streams.proofs.KnownBytes.{given_more, prepend_known-append}
 use Rattle.lift_text.specs.Lines.{HasWholeLine}
-use Rattle.lift_text.specs.Found.{NoLineFeed}
+use Rattle.lift_text.specs.Front.{NoLineFeed}
 use Rattle.lift_text.proofs.TakenLemmas.{gathered_cut}
 use Rattle.lift_text.proofs.PieceLemmas.{begins_in_window, begins_found, found_last, found_one_last, no_whole_front, no_whole_line, none_more, one_line_at, whole_line_at}
 use Rattle.lift_text.proofs.window.Window.find.Goals as goal

@@ -4,7 +4,7 @@ use Rattle.std.specs.Io.KnownBytes.{prepend_known}
 use Rattle.std.proofs.lemmas.Result.{err_from_is_err_and}
 use Rattle.lift_text.specs.Lines.{HasWholeLine}
 use Rattle.lift_text.proofs.PieceLemmas.{no_whole_line}
-use Rattle.lift_text.specs.Found.{SkippedIn}
+use Rattle.lift_text.specs.Front.{SkippedIn}
 use Rattle.lift_text.specs.declared.window.Skipped.TheVariants.{Whole}
 use Rattle.byte_streams.proofs.KnownBytes.{given_more, prepend_known-nil}
 use Rattle.lift_text.proofs.TakenLemmas.{took_last}

@@ -1,6 +1,6 @@
 use Rattle.std.proofs.Common.{◌≡◌, ℕ, List, ◌+◌, ◌<◌, ◌≤◌, ◌++◌, length}
 use Rattle.std.specs.Io.KnownBytes.{prepend_known}
-use Rattle.lift_text.specs.Found.{NoLineFeed}
+use Rattle.lift_text.specs.Front.{NoLineFeed}
 use Rattle.lift_text.proofs.window.Window.skip_line.Given as goal
 
 -- a front without LF was passed over
