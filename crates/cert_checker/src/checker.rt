@@ -19,7 +19,7 @@ use search_model::{Reason, Stated, Twig, Verdict};
 use std::alloc::{AllocError, Global};
 use std::marker::Sync;
 use std::thread::Threads;
-use work_fan::MOST_WORKERS;
+use work_fan::{MOST_WORKERS, Runtime};
 
 /// What a checker has seen.
 #[derive(Drop)]
@@ -91,9 +91,12 @@ impl Checker {
             return Ok(());
         };
         let bound = self.bound;
-        self.state = goes_on(
-            rt, alloc, snapshot, bound, places, *seen, twigs, workers, gate,
-        )?;
+        let runtime = Runtime {
+            threads: rt,
+            alloc,
+            gate,
+        };
+        self.state = goes_on(&runtime, snapshot, bound, places, *seen, twigs, workers)?;
         Ok(())
     }
 
@@ -119,16 +122,14 @@ fn reason_of_bad(bad: Option<u32>) -> Option<Reason>
 }
 
 /// What a checker has seen after some twigs more, where no reason was found before.
-fn goes_on<G: Gate + Sync>(
-    rt: &(impl Threads + Sync),
-    alloc: Global,
+fn goes_on<R: Threads + Sync, G: Gate + Sync>(
+    runtime: &Runtime<R, G>,
     snapshot: &Snapshot,
     bound: u64,
     places: &Places,
     seen: u32,
     twigs: &[Twig],
     workers: u32,
-    gate: &G,
 ) -> Result<State, AllocError>
     requires own { All (IsNodeOf snapshot.now) places.now }
     requires few { length twigs.now < 2 ^ 32 }
@@ -139,9 +140,9 @@ fn goes_on<G: Gate + Sync>(
 {
     // For the proof: its readers say that the snapshot is accepted.
     let _calls = snapshot.calls();
-    let mut places = places.copy(alloc)?;
-    let piece = Piece::of_twigs(alloc, &mut places, seen, twigs)?;
-    let found = judge_tasks(rt, alloc, snapshot, bound, &piece.tasks, workers, gate)?;
+    let mut places = places.copy(runtime.alloc)?;
+    let piece = Piece::of_twigs(runtime.alloc, &mut places, seen, twigs)?;
+    let found = judge_tasks(runtime, snapshot, bound, &piece.tasks, workers)?;
     if let Some(reason) = found.or(reason_of_bad(piece.bad)) {
         return Ok(State::Found(reason));
     }

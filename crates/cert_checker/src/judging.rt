@@ -13,7 +13,7 @@ use search_model::Reason;
 use std::alloc::{AllocError, Global};
 use std::marker::Sync;
 use std::thread::Threads;
-use work_fan::{Jobs, MOST_WORKERS, fan};
+use work_fan::{Jobs, MOST_WORKERS, Runtime, fan};
 
 /// The leaves of a piece: job `k` is to judge that of task `k`.
 #[derive(Drop)]
@@ -89,14 +89,12 @@ fn first_of(mut answers: Vec<Option<Reason>>) -> Option<Reason>
 /// The first reason of the leaves, which these workers judge. `gate` is told of each before it begins.
 ///
 /// It fails only where there is no memory left.
-pub(crate) fn judge_tasks<G: Gate + Sync>(
-    rt: &(impl Threads + Sync),
-    alloc: Global,
+pub(crate) fn judge_tasks<R: Threads + Sync, G: Gate + Sync>(
+    runtime: &Runtime<R, G>,
     snapshot: &Snapshot,
     bound: u64,
     tasks: &[Task],
     workers: u32,
-    gate: &G,
 ) -> Result<Option<Reason>, AllocError>
     requires few { length tasks.now < 2 ^ 32 }
     requires tasks { All (IsTask snapshot.now) tasks.now }
@@ -110,9 +108,15 @@ pub(crate) fn judge_tasks<G: Gate + Sync>(
         snapshot,
         bound,
         tasks,
-        alloc,
+        alloc: runtime.alloc,
     };
-    let mut desks = desks_for(alloc, snapshot, workers)?;
-    let answers = fan(rt, alloc, &judging, desks.as_mut_slice(), gate)?;
+    let mut desks = desks_for(runtime.alloc, snapshot, workers)?;
+    let answers = fan(
+        runtime.threads,
+        runtime.alloc,
+        &judging,
+        desks.as_mut_slice(),
+        runtime.gate,
+    )?;
     Ok(first_of(answers))
 }

@@ -23,7 +23,7 @@ use search_model::{Items, Stated, Twig, Verdict};
 use std::alloc::Global;
 use std::marker::Sync;
 use std::thread::Threads;
-use work_fan::MOST_WORKERS;
+use work_fan::{MOST_WORKERS, Runtime};
 
 /// The most twigs of a piece.
 const MOST_TWIGS: usize = 256;
@@ -88,15 +88,13 @@ fn read_piece<S: Source>(
 }
 
 /// Reads a piece and hands it to the checker. True where the tree is complete.
-fn check_piece<S: Source, G: Gate + Sync>(
-    rt: &(impl Threads + Sync),
-    alloc: Global,
+fn check_piece<S: Source, R: Threads + Sync, G: Gate + Sync>(
+    runtime: &Runtime<R, G>,
     reader: &mut TreeReader,
     lines: &mut LineReader<S>,
     snapshot: &Snapshot,
     checker: &mut Checker,
     workers: u32,
-    gate: &G,
 ) -> Result<bool, TextFault>
     requires whole { failure lines.old ≡ None }
     requires sound { failure_of reader.old.begun ≡ None }
@@ -112,21 +110,26 @@ fn check_piece<S: Source, G: Gate + Sync>(
         → Rose (S.faults lines.old.source.now) (S.faults lines.new.source.now) }
     ensures counted { S.faults lines.old.source.now ≤ S.faults lines.new.source.now }
 {
-    let mut piece = Items::new(alloc);
+    let mut piece = Items::new(runtime.alloc);
     let is_whole = read_piece(reader, lines, snapshot, &mut piece)?;
-    checker.feed(rt, alloc, snapshot, piece.as_slice(), workers, gate)?;
+    checker.feed(
+        runtime.threads,
+        runtime.alloc,
+        snapshot,
+        piece.as_slice(),
+        workers,
+        runtime.gate,
+    )?;
     Ok(is_whole)
 }
 
 /// Reads a certificate and hands it to the checker, piece by piece.
-fn check_tree<S: Source, G: Gate + Sync>(
-    rt: &(impl Threads + Sync),
-    alloc: Global,
+fn check_tree<S: Source, R: Threads + Sync, G: Gate + Sync>(
+    runtime: &Runtime<R, G>,
     lines: &mut LineReader<S>,
     snapshot: &Snapshot,
     checker: &mut Checker,
     workers: u32,
-    gate: &G,
 ) -> Result<(), TextFault>
     requires whole { failure lines.old ≡ None }
     requires own { IsCheckerOf snapshot.now checker.old }
@@ -140,18 +143,9 @@ fn check_tree<S: Source, G: Gate + Sync>(
         → Rose (S.faults lines.old.source.now) (S.faults lines.new.source.now) }
     ensures counted { S.faults lines.old.source.now ≤ S.faults lines.new.source.now }
 {
-    let mut reader = TreeReader::begin(alloc, lines)?;
+    let mut reader = TreeReader::begin(runtime.alloc, lines)?;
     for count in 0..MOST_PIECES {
-        let is_whole = check_piece(
-            rt,
-            alloc,
-            &mut reader,
-            lines,
-            snapshot,
-            checker,
-            workers,
-            gate,
-        )?;
+        let is_whole = check_piece(runtime, &mut reader, lines, snapshot, checker, workers)?;
         if is_whole {
             return Ok(());
         }
@@ -160,14 +154,12 @@ fn check_tree<S: Source, G: Gate + Sync>(
 }
 
 /// Reads a certificate of a plan and the text to its end, and says what the certificate proves.
-fn judge_tree<S: Source, G: Gate + Sync>(
-    rt: &(impl Threads + Sync),
-    alloc: Global,
+fn judge_tree<S: Source, R: Threads + Sync, G: Gate + Sync>(
+    runtime: &Runtime<R, G>,
     lines: &mut LineReader<S>,
     snapshot: &Snapshot,
     stated: &Stated,
     workers: u32,
-    gate: &G,
 ) -> Result<Verdict, TextFault>
     requires whole { failure lines.old ≡ None }
     requires cars { length stated.now.plan ≡ car_count snapshot.now }
@@ -181,11 +173,11 @@ fn judge_tree<S: Source, G: Gate + Sync>(
         → Rose (S.faults lines.old.source.now) (S.faults lines.new.source.now) }
     ensures counted { S.faults lines.old.source.now ≤ S.faults lines.new.source.now }
 {
-    let mut checker = match Checker::new(alloc, snapshot, stated) {
+    let mut checker = match Checker::new(runtime.alloc, snapshot, stated) {
         Ok(checker) => checker,
         Err(_) => return Err(TextFault::NoMemory),
     };
-    match check_tree(rt, alloc, lines, snapshot, &mut checker, workers, gate) {
+    match check_tree(runtime, lines, snapshot, &mut checker, workers) {
         Ok(()) => match read_end(lines) {
             Ok(()) => Ok(checker.verdict()),
             Err(fault) => Err(fault),
@@ -204,13 +196,11 @@ struct Judged {
 
 /// Reads an answer to the snapshot, a certificate of it and the text to its end, and says what the
 /// certificate proves.
-fn judge<S: Source, G: Gate + Sync>(
-    rt: &(impl Threads + Sync),
-    alloc: Global,
+fn judge<S: Source, R: Threads + Sync, G: Gate + Sync>(
+    runtime: &Runtime<R, G>,
     lines: &mut LineReader<S>,
     snapshot: &Snapshot,
     workers: u32,
-    gate: &G,
 ) -> Result<Judged, TextFault>
     requires whole { failure lines.old ≡ None }
     requires workers { (1 ≤ workers) × (workers ≤ MOST_WORKERS) }
@@ -223,11 +213,11 @@ fn judge<S: Source, G: Gate + Sync>(
         → Rose (S.faults lines.old.source.now) (S.faults lines.new.source.now) }
     ensures counted { S.faults lines.old.source.now ≤ S.faults lines.new.source.now }
 {
-    let stated = match read_answer(alloc, lines, snapshot) {
+    let stated = match read_answer(runtime.alloc, lines, snapshot) {
         Ok(stated) => stated,
         Err(fault) => return Err(fault),
     };
-    match judge_tree(rt, alloc, lines, snapshot, &stated, workers, gate) {
+    match judge_tree(runtime, lines, snapshot, &stated, workers) {
         Ok(verdict) => Ok(Judged {
             cost: stated.cost,
             bound: stated.bound,
@@ -269,7 +259,12 @@ pub fn read_check<S: Source, G: Gate + Sync>(
         Ok(snapshot) => snapshot,
         Err(fault) => return Err(fault),
     };
-    match judge(rt, alloc, lines, &snapshot, workers, gate) {
+    let runtime = Runtime {
+        threads: rt,
+        alloc,
+        gate,
+    };
+    match judge(&runtime, lines, &snapshot, workers) {
         Ok(judged) => Ok(Checked {
             snapshot,
             cost: judged.cost,

@@ -31,7 +31,7 @@ use search_tree::{Branch, SearchTree, Sheet, first_choice};
 use std::alloc::{AllocError, Global};
 use std::marker::Sync;
 use std::thread::Threads;
-use work_fan::MOST_WORKERS;
+use work_fan::{MOST_WORKERS, Runtime};
 
 /// How long a search may go on.
 #[derive(Clone, Copy)]
@@ -181,14 +181,12 @@ fn begin<'a, P: Pricer>(
 }
 
 /// The rounds below a root that is open after its turns. It fails only where there is no memory left.
-fn go_on<'a, P: Pricer, G: Gate + Sync>(
-    rt: &(impl Threads + Sync),
-    alloc: Global,
+fn go_on<'a, P: Pricer, R: Threads + Sync, G: Gate + Sync>(
+    runtime: &Runtime<R, G>,
     pricer: &P,
     root: Root<'a>,
     limits: Limits,
     desks: &mut [P::Desk],
-    gate: &G,
 ) -> Result<Begun<'a>, AllocError>
     requires accepted { IsAccepted (P.snapshot pricer.now) }
     requires turned { (start : PriceSheet)
@@ -202,16 +200,8 @@ fn go_on<'a, P: Pricer, G: Gate + Sync>(
         root.entry → IsEnded (P.fits pricer.now) (P.snapshot pricer.now) limits.rounds limits.most_tours start
         begun.turns.items begun.search) }
 {
-    let Begun { mut search, turns } = begin(alloc, pricer, root, limits)?;
-    search.run(
-        rt,
-        alloc,
-        pricer,
-        limits.rounds,
-        limits.most_tours,
-        desks,
-        gate,
-    )?;
+    let Begun { mut search, turns } = begin(runtime.alloc, pricer, root, limits)?;
+    search.run(runtime, pricer, limits.rounds, limits.most_tours, desks)?;
     Ok(Begun { search, turns })
 }
 
@@ -266,16 +256,14 @@ fn close<P: Pricer>(
 }
 
 /// The root after the turns that are due. It fails only where there is no memory left.
-fn turned<'a, P: Pricer, G: Gate + Sync>(
-    rt: &(impl Threads + Sync),
-    alloc: Global,
+fn turned<'a, P: Pricer, R: Threads + Sync, G: Gate + Sync>(
+    runtime: &Runtime<R, G>,
     snapshot: &'a Snapshot,
     pricer: &P,
     start: Plan,
     sheet: Sheet,
     limits: Limits,
     desks: &mut [P::Desk],
-    gate: &G,
 ) -> Result<Root<'a>, AllocError>
     requires snapshot { P.snapshot pricer.now ≡ snapshot.now }
     requires start { IsFeasiblePlan snapshot.now start }
@@ -290,30 +278,20 @@ fn turned<'a, P: Pricer, G: Gate + Sync>(
     ensures desks { IfOk result (λ _. Serving (P.owns pricer.now) desks.new) }
 {
     prove!(snapshot.calls().len() <= MOST_CALLS);
-    let mut root = Root::new(alloc, snapshot, start, sheet)?;
-    root.turn_as_due(
-        rt,
-        alloc,
-        pricer,
-        limits.rounds,
-        limits.most_tours,
-        desks,
-        gate,
-    )?;
+    let mut root = Root::new(runtime.alloc, snapshot, start, sheet)?;
+    root.turn_as_due(runtime, pricer, limits.rounds, limits.most_tours, desks)?;
     Ok(root)
 }
 
 /// Searches as `find_plan` does, with one worker for each desk.
-fn find_at<P: Pricer, G: Gate + Sync>(
-    rt: &(impl Threads + Sync),
-    alloc: Global,
+fn find_at<P: Pricer, R: Threads + Sync, G: Gate + Sync>(
+    runtime: &Runtime<R, G>,
     snapshot: &Snapshot,
     pricer: &P,
     start: Plan,
     sheet: Sheet,
     limits: Limits,
     desks: &mut [P::Desk],
-    gate: &G,
 ) -> Result<Found, AllocError>
     requires snapshot { P.snapshot pricer.now ≡ snapshot.now }
     requires start { IsFeasiblePlan snapshot.now start }
@@ -327,14 +305,12 @@ fn find_at<P: Pricer, G: Gate + Sync>(
         limits.rounds limits.most_tours f.stated.plan f.stated.cost f.stated.bound f.tree.twigs f.turns f.why) }
     ensures sized { IfOk result (λ f. All IsSizedTwig f.tree.twigs) }
 {
-    let root = turned(
-        rt, alloc, snapshot, pricer, start, sheet, limits, desks, gate,
-    )?;
+    let root = turned(runtime, snapshot, pricer, start, sheet, limits, desks)?;
     if !root.is_open() {
-        return close(alloc, pricer, root, limits);
+        return close(runtime.alloc, pricer, root, limits);
     }
-    let begun = go_on(rt, alloc, pricer, root, limits, desks, gate)?;
-    end(alloc, pricer, begun, limits)
+    let begun = go_on(runtime, pricer, root, limits, desks)?;
+    end(runtime.alloc, pricer, begun, limits)
 }
 
 /// Searches for a plan of the snapshot that costs least, from a feasible one, and from prices of the calls
@@ -346,16 +322,14 @@ fn find_at<P: Pricer, G: Gate + Sync>(
 /// same, as many rounds were done as `limits` allows, or nothing is left to split. Each price and each worth
 /// of the tree lies in its range. `workers` is 1 to 16, and `gate` is told of each pricing before it begins.
 /// It fails only where there is no memory left.
-pub fn find_plan<P: Pricer, G: Gate + Sync>(
-    rt: &(impl Threads + Sync),
-    alloc: Global,
+pub fn find_plan<P: Pricer, R: Threads + Sync, G: Gate + Sync>(
+    runtime: &Runtime<R, G>,
     snapshot: &Snapshot,
     pricer: &P,
     start: Plan,
     sheet: Sheet,
     limits: Limits,
     workers: u32,
-    gate: &G,
 ) -> Result<Found, AllocError>
     requires snapshot { P.snapshot pricer.now ≡ snapshot.now }
     requires start { IsFeasiblePlan snapshot.now start }
@@ -369,8 +343,6 @@ pub fn find_plan<P: Pricer, G: Gate + Sync>(
         limits.rounds limits.most_tours f.stated.plan f.stated.cost f.stated.bound f.tree.twigs f.turns f.why) }
     ensures sized { IfOk result (λ f. All IsSizedTwig f.tree.twigs) }
 {
-    let mut desks = desks_for(alloc, pricer, workers)?;
-    find_at(
-        rt, alloc, snapshot, pricer, start, sheet, limits, &mut desks, gate,
-    )
+    let mut desks = desks_for(runtime.alloc, pricer, workers)?;
+    find_at(runtime, snapshot, pricer, start, sheet, limits, &mut desks)
 }

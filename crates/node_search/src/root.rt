@@ -24,6 +24,7 @@ use std::alloc::{AllocError, Global};
 use std::marker::Sync;
 use std::mem::replace;
 use std::thread::Threads;
+use work_fan::Runtime;
 
 /// The root, which is not split yet, and the turns that were made at it.
 #[derive(Drop)]
@@ -110,14 +111,12 @@ impl<'a> Root<'a> {
     }
 
     /// The pricings of all cars at the present prices. It fails only where there is no memory left.
-    fn price<P: Pricer, G: Gate + Sync>(
+    fn price<P: Pricer, R: Threads + Sync, G: Gate + Sync>(
         &self,
-        rt: &(impl Threads + Sync),
-        alloc: Global,
+        runtime: &Runtime<R, G>,
         pricer: &P,
         most_tours: u64,
         desks: &mut [P::Desk],
-        gate: &G,
     ) -> Result<Vec<TurnOf>, AllocError>
         requires accepted { IsAccepted (P.snapshot pricer.now) }
         requires root { IsRoot (P.fits pricer.now) (P.snapshot pricer.now) most_tours self.now }
@@ -133,10 +132,8 @@ impl<'a> Root<'a> {
             node: &self.tree.branches()[0].node,
             prices: &self.prices,
         }];
-        let sizes = self.last_sizes(alloc)?;
-        price_nodes(
-            rt, alloc, pricer, cars, &tasks, &sizes, most_tours, desks, gate,
-        )
+        let sizes = self.last_sizes(runtime.alloc)?;
+        price_nodes(runtime, pricer, cars, &tasks, &sizes, most_tours, desks)
     }
 
     /// Takes in the pricings of all cars at the present prices, and answers the prices of the next turn. It fails only
@@ -209,14 +206,12 @@ impl<'a> Root<'a> {
     }
 
     /// One turn: the pricings of all cars at the present prices. It fails only where there is no memory left.
-    fn turn<P: Pricer, G: Gate + Sync>(
+    fn turn<P: Pricer, R: Threads + Sync, G: Gate + Sync>(
         &mut self,
-        rt: &(impl Threads + Sync),
-        alloc: Global,
+        runtime: &Runtime<R, G>,
         pricer: &P,
         most_tours: u64,
         desks: &mut [P::Desk],
-        gate: &G,
     ) -> Result<(), AllocError>
         requires accepted { IsAccepted (P.snapshot pricer.now) }
         requires root { IsRoot (P.fits pricer.now) (P.snapshot pricer.now) most_tours self.old }
@@ -231,21 +226,19 @@ impl<'a> Root<'a> {
             → HasOneTurn (P.fits pricer.now) (P.snapshot pricer.now) most_tours self.new) }
         ensures desks { OnOk result (Serving (P.owns pricer.now) desks.new) }
     {
-        let cars = self.price(rt, alloc, pricer, most_tours, desks, gate)?;
-        self.take(alloc, pricer, most_tours, cars)?;
+        let cars = self.price(runtime, pricer, most_tours, desks)?;
+        self.take(runtime.alloc, pricer, most_tours, cars)?;
         Ok(())
     }
 
     /// Turns until there are this many or the root is not open. It fails only where there is no memory left.
-    pub(crate) fn turn_until<P: Pricer, G: Gate + Sync>(
+    pub(crate) fn turn_until<P: Pricer, R: Threads + Sync, G: Gate + Sync>(
         &mut self,
-        rt: &(impl Threads + Sync),
-        alloc: Global,
+        runtime: &Runtime<R, G>,
         pricer: &P,
         most_tours: u64,
         most: usize,
         desks: &mut [P::Desk],
-        gate: &G,
     ) -> Result<(), AllocError>
         requires accepted { IsAccepted (P.snapshot pricer.now) }
         requires root { IsRoot (P.fits pricer.now) (P.snapshot pricer.now) most_tours self.old }
@@ -262,7 +255,7 @@ impl<'a> Root<'a> {
             if !self.is_open() {
                 break;
             }
-            self.turn(rt, alloc, pricer, most_tours, desks, gate)?;
+            self.turn(runtime, pricer, most_tours, desks)?;
         }
         Ok(())
     }
@@ -295,14 +288,12 @@ impl<'a> Root<'a> {
 
     /// The only turn of a root in which each call has one car: where no car reached the limit, its tours make
     /// a plan that costs no more than the leaf's bound. It fails only where there is no memory left.
-    pub(crate) fn turn_once<P: Pricer, G: Gate + Sync>(
+    pub(crate) fn turn_once<P: Pricer, R: Threads + Sync, G: Gate + Sync>(
         &mut self,
-        rt: &(impl Threads + Sync),
-        alloc: Global,
+        runtime: &Runtime<R, G>,
         pricer: &P,
         most_tours: u64,
         desks: &mut [P::Desk],
-        gate: &G,
     ) -> Result<(), AllocError>
         requires accepted { IsAccepted (P.snapshot pricer.now) }
         requires root { IsRoot (P.fits pricer.now) (P.snapshot pricer.now) most_tours self.old }
@@ -316,22 +307,20 @@ impl<'a> Root<'a> {
         ensures solved { OnOk result (IsSolvedIfUnspent self.new) }
         ensures desks { OnOk result (Serving (P.owns pricer.now) desks.new) }
     {
-        self.turn(rt, alloc, pricer, most_tours, desks, gate)?;
-        self.offer_turn(alloc, pricer, most_tours)?;
+        self.turn(runtime, pricer, most_tours, desks)?;
+        self.offer_turn(runtime.alloc, pricer, most_tours)?;
         Ok(())
     }
 
     /// The turns that are due: where some call has two cars, as many as there may be rounds and 20 at most,
     /// or until the root is not open; else one where it is open. It fails only where there is no memory left.
-    pub(crate) fn turn_as_due<P: Pricer, G: Gate + Sync>(
+    pub(crate) fn turn_as_due<P: Pricer, R: Threads + Sync, G: Gate + Sync>(
         &mut self,
-        rt: &(impl Threads + Sync),
-        alloc: Global,
+        runtime: &Runtime<R, G>,
         pricer: &P,
         rounds: u64,
         most_tours: u64,
         desks: &mut [P::Desk],
-        gate: &G,
     ) -> Result<(), AllocError>
         requires accepted { IsAccepted (P.snapshot pricer.now) }
         requires root { IsRoot (P.fits pricer.now) (P.snapshot pricer.now) most_tours self.old }
@@ -347,9 +336,9 @@ impl<'a> Root<'a> {
         let calls = self.prices.len();
         if first_choice(&self.tree.branches()[0].node, calls).is_some() {
             let most = rounds.min(MOST_TURNS as u64) as usize;
-            self.turn_until(rt, alloc, pricer, most_tours, most, desks, gate)?;
+            self.turn_until(runtime, pricer, most_tours, most, desks)?;
         } else if self.is_open() {
-            self.turn_once(rt, alloc, pricer, most_tours, desks, gate)?;
+            self.turn_once(runtime, pricer, most_tours, desks)?;
         }
         Ok(())
     }

@@ -16,6 +16,7 @@ use search_model::TurnOf;
 use std::alloc::{AllocError, Global};
 use std::marker::Sync;
 use std::thread::Threads;
+use work_fan::Runtime;
 
 /// A leaf that a round prices, and at which prices.
 #[derive(Drop)]
@@ -86,15 +87,13 @@ impl<'a> Search<'a> {
 
     /// Prices every car in each of these leaves, with one worker for each desk. It fails only where there is
     /// no memory left.
-    fn price<P: Pricer, G: Gate + Sync>(
+    fn price<P: Pricer, R: Threads + Sync, G: Gate + Sync>(
         &self,
-        rt: &(impl Threads + Sync),
-        alloc: Global,
+        runtime: &Runtime<R, G>,
         pricer: &P,
         most_tours: u64,
         chosen: &[Chosen],
         desks: &mut [P::Desk],
-        gate: &G,
     ) -> Result<Vec<TurnOf>, AllocError>
         requires accepted { IsAccepted (P.snapshot pricer.now) }
         requires way { IsUnderWay (P.fits pricer.now) (P.snapshot pricer.now) most_tours self.now }
@@ -106,11 +105,9 @@ impl<'a> Search<'a> {
         ensures desks { All (P.owns pricer.now) desks.new }
     {
         let cars = self.best.pool.snapshot().building().cars().len() as u32;
-        let tasks = self.tasks_of(alloc, chosen)?;
-        let sizes = self.sizes_of(alloc, chosen)?;
-        price_nodes(
-            rt, alloc, pricer, cars, &tasks, &sizes, most_tours, desks, gate,
-        )
+        let tasks = self.tasks_of(runtime.alloc, chosen)?;
+        let sizes = self.sizes_of(runtime.alloc, chosen)?;
+        price_nodes(runtime, pricer, cars, &tasks, &sizes, most_tours, desks)
     }
 
     /// Takes in the pricings of every car in each of these leaves, the last leaf first: a split moves only
@@ -145,14 +142,12 @@ impl<'a> Search<'a> {
 
     /// Prices up to four leaves and takes in what was answered. False, and all is as before, exactly where no
     /// leaf may be priced any more. It fails only where there is no memory left.
-    fn round<P: Pricer, G: Gate + Sync>(
+    fn round<P: Pricer, R: Threads + Sync, G: Gate + Sync>(
         &mut self,
-        rt: &(impl Threads + Sync),
-        alloc: Global,
+        runtime: &Runtime<R, G>,
         pricer: &P,
         most_tours: u64,
         desks: &mut [P::Desk],
-        gate: &G,
     ) -> Result<bool, AllocError>
         requires accepted { IsAccepted (P.snapshot pricer.now) }
         requires searching { IsSearching (P.fits pricer.now) (P.snapshot pricer.now) most_tours self.old }
@@ -169,31 +164,30 @@ impl<'a> Search<'a> {
         ensures same { IfOk result (λ more. more ≡ false → self.new ≡ self.old) }
         ensures desks { All (P.owns pricer.now) desks.new }
     {
-        let chosen = self.choose(alloc)?;
+        let chosen = self.choose(runtime.alloc)?;
         if chosen.is_empty() {
             return Ok(false);
         }
         {
-            let answers = self.price(rt, alloc, pricer, most_tours, &chosen, desks, gate)?;
+            let answers = self.price(runtime, pricer, most_tours, &chosen, desks)?;
             let cars = self.best.pool.snapshot().building().cars().len();
-            self.settle_all(alloc, pricer, most_tours, cars, &chosen, &answers)?;
+            self.settle_all(runtime.alloc, pricer, most_tours, cars, &chosen, &answers)?;
         }
-        self.best.select(alloc, &chosen[0].prices, most_tours)?;
+        self.best
+            .select(runtime.alloc, &chosen[0].prices, most_tours)?;
         self.done += 1;
         Ok(true)
     }
 
     /// Rounds until this many were done or no leaf may be priced any more. It fails only where there is no
     /// memory left.
-    pub(crate) fn run<P: Pricer, G: Gate + Sync>(
+    pub(crate) fn run<P: Pricer, R: Threads + Sync, G: Gate + Sync>(
         &mut self,
-        rt: &(impl Threads + Sync),
-        alloc: Global,
+        runtime: &Runtime<R, G>,
         pricer: &P,
         rounds: u64,
         most_tours: u64,
         desks: &mut [P::Desk],
-        gate: &G,
     ) -> Result<(), AllocError>
         requires accepted { IsAccepted (P.snapshot pricer.now) }
         requires searching { IsSearching (P.fits pricer.now) (P.snapshot pricer.now) most_tours self.old }
@@ -206,7 +200,7 @@ impl<'a> Search<'a> {
         ensures desks { All (P.owns pricer.now) desks.new }
     {
         while self.done < rounds {
-            if !self.round(rt, alloc, pricer, most_tours, desks, gate)? {
+            if !self.round(runtime, pricer, most_tours, desks)? {
                 break;
             }
         }

@@ -13,7 +13,7 @@ use search_model::TurnOf;
 use std::alloc::{AllocError, Global};
 use std::marker::Sync;
 use std::thread::Threads;
-use work_fan::{Jobs, fan};
+use work_fan::{Jobs, Runtime, fan};
 
 /// The pricings of every car at each of the nodes: pricing `p` is that of car `p % cars` at the node of
 /// task `p / cars`, and job `k` is pricing `order[k]`.
@@ -69,16 +69,14 @@ impl<'a, P: Pricer> Jobs for Round<'a, P> {
 /// It needs at most four tasks and 1 to 16 desks of the pricer, which are its own afterwards too, also where
 /// memory ran out. `gate` is told of each pricing before it begins. It fails only where there is no memory
 /// left.
-pub fn price_nodes<P: Pricer, G: Gate + Sync>(
-    rt: &(impl Threads + Sync),
-    alloc: Global,
+pub fn price_nodes<P: Pricer, R: Threads + Sync, G: Gate + Sync>(
+    runtime: &Runtime<R, G>,
     pricer: &P,
     cars: u32,
     tasks: &[Task],
     sizes: &[u64],
     most_tours: u64,
     desks: &mut [P::Desk],
-    gate: &G,
 ) -> Result<Vec<TurnOf>, AllocError>
     requires accepted { IsAccepted (P.snapshot pricer.now) }
     requires cars { cars ≡ car_count (P.snapshot pricer.now) }
@@ -92,15 +90,15 @@ pub fn price_nodes<P: Pricer, G: Gate + Sync>(
     ensures desks { All (P.owns pricer.now) desks.new }
 {
     let count = tasks.len() as u32 * cars;
-    let order = drawing_order(alloc, sizes, count)?;
+    let order = drawing_order(runtime.alloc, sizes, count)?;
     let round = Round {
         pricer,
         tasks,
         cars,
         most_tours,
         order: &order,
-        alloc,
+        alloc: runtime.alloc,
     };
-    let drawn = fan(rt, alloc, &round, desks, gate)?;
-    in_places(alloc, count, &order, drawn)
+    let drawn = fan(runtime.threads, runtime.alloc, &round, desks, runtime.gate)?;
+    in_places(runtime.alloc, count, &order, drawn)
 }

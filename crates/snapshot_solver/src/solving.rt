@@ -16,7 +16,7 @@ use pricing_search::Searcher;
 use std::alloc::{AllocError, Global};
 use std::marker::Sync;
 use std::thread::Threads;
-use work_fan::MOST_WORKERS;
+use work_fan::{MOST_WORKERS, Runtime};
 
 /// Searches for the cheapest plan of the snapshot within the limits, with 1 to 16 workers.
 ///
@@ -46,7 +46,10 @@ pub fn solve<G: Gate + Sync>(
     let start = first(alloc, snapshot)?;
     let sheet = start_leaf(alloc, snapshot)?;
     let searcher = Searcher::new(snapshot);
-    find_plan(
-        rt, alloc, snapshot, &searcher, start, sheet, limits, workers, gate,
-    )
+    let runtime = Runtime {
+        threads: rt,
+        alloc,
+        gate,
+    };
+    find_plan(&runtime, snapshot, &searcher, start, sheet, limits, workers)
 }

@@ -21,7 +21,7 @@
 //! who get off there, for tours and partial tours alike.
 #![tactic(auto)]
 
-mod first_floors;
+mod first_stops;
 mod judging;
 pub mod places;
 pub mod riding;
@@ -30,5 +30,5 @@ pub mod walking;
 
 pub use call_sets::{CallSet, FloorSet};
 pub use elevator_model::{Boards, Broken, Rule, Stop, Tour};
-pub use first_floors::first_floors;
+pub use first_stops::first_floors;
 pub use judging::{broken_at_end, judge, judge_after};

@@ -12,7 +12,9 @@
 #![tactic(auto)]
 
 mod line;
+mod runtime;
 mod workers;
 
 pub use line::{JobLine, JobSeat, MOST_WORKERS};
+pub use runtime::Runtime;
 pub use workers::{Done, Jobs, fan, in_order};

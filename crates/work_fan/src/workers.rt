@@ -6,6 +6,7 @@ ghost use Rattle.work_fan.specs.Line.{times};
 ghost use Rattle.work_fan.specs.Work.{Finished, SameSeat, Serving, Starts, jobs_of};
 
 use crate::line::{JobLine, JobSeat};
+use crate::runtime::Runtime;
 use byte_streams::Gate;
 use std::alloc::{AllocError, Global};
 use std::marker::{Send, Sync};
@@ -147,12 +148,15 @@ fn work_at<
         seat: line.split(&mut worker.seat, 1),
         done: Vec::new(alloc),
     };
-    let (mine, theirs) = first_and_rest(
-        rt,
+    let runtime = Runtime {
+        threads: rt,
         alloc,
+        gate,
+    };
+    let (mine, theirs) = first_and_rest(
+        &runtime,
         line,
         jobs,
-        gate,
         worker,
         rest,
         &mut other,
@@ -175,11 +179,9 @@ fn first_and_rest<
     J: Jobs<Desk = D, Answer = A> + Sync,
     G: Gate + Sync,
 >(
-    rt: &R,
-    alloc: Global,
+    runtime: &Runtime<R, G>,
     line: &JobLine,
     jobs: &J,
-    gate: &G,
     worker: &mut Worker<A>,
     rest: &mut [D],
     other: &mut Worker<A>,
@@ -195,6 +197,7 @@ fn first_and_rest<
     ensures seats { SameSeat worker.old worker.new × SameSeat other.old other.new }
     ensures desks { All (J.serves jobs.now) rest.new × J.serves jobs.now first.new }
 {
+    let (rt, alloc, gate) = (runtime.threads, runtime.alloc, runtime.gate);
     let mut mine = || -> Result<(), AllocError>
         requires threads { IsSync R.row × IsSync J.row × IsSync G.row × IsSend D.row
             × IsSend A.row }
