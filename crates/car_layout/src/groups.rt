@@ -28,60 +28,54 @@ fn goes_to(group: &Aboard, car: u32, floor: u32) -> bool
     group.car == car && group.destination == floor
 }
 
-/// The persons aboard the car who go to the floor.
-fn persons_to(snapshot: &Snapshot, car: u32, floor: u32) -> u32
+/// Those aboard the car who go to one floor: how many persons, and the sum of the moments in ms at which they
+/// boarded.
+#[derive(Clone, Copy)]
+struct Riders {
+    persons: u32,
+    moments: u64,
+}
+
+/// Those aboard the car who go to the floor.
+fn riders_to(snapshot: &Snapshot, car: u32, floor: u32) -> Riders
     requires { car < car_count snapshot.now }
-    ensures value { result ≡ persons_to_lem snapshot.now.aboard car floor }
-    ensures few { result ≤ 64 }
+    ensures persons { result.persons ≡ persons_to_lem snapshot.now.aboard car floor }
+    ensures moments { result.moments ≡ moments_to_lem snapshot.now.aboard car floor }
+    ensures few { result.persons ≤ 64 }
+    ensures bounded { result.moments ≤ 6400000000000 }
 {
     let groups = snapshot.aboard();
     let mut persons = 0;
-    for k in 0..groups.len() {
-        if goes_to(&groups[k], car, floor) {
-            persons += groups[k].persons;
-        }
-    }
-    persons
-}
-
-/// The sum of the moments at which the persons aboard the car boarded who go to the floor.
-fn moments_to(snapshot: &Snapshot, car: u32, floor: u32) -> u64
-    requires { car < car_count snapshot.now }
-    ensures value { result ≡ moments_to_lem snapshot.now.aboard car floor }
-    ensures bounded { result ≤ 6400000000000 }
-{
-    let groups = snapshot.aboard();
     let mut moments = 0;
     for k in 0..groups.len() {
         if goes_to(&groups[k], car, floor) {
+            persons += groups[k].persons;
             moments += groups[k].persons as u64 * groups[k].boarded;
         }
     }
-    moments
+    Riders { persons, moments }
 }
 
-/// Lays out the persons for each floor.
-pub(crate) fn lay_out_persons(snapshot: &Snapshot, car: u32, persons: &mut [u32])
+/// Lays out those aboard for each floor to which they go: the persons, and the sums of their moments.
+pub(crate) fn lay_out_riders(
+    snapshot: &Snapshot,
+    car: u32,
+    persons: &mut [u32],
+    moments: &mut [u64],
+)
     requires car { car < car_count snapshot.now }
-    requires size { length persons.old ≡ 64 }
-    ensures size { length persons.new ≡ 64 }
-    ensures each { (g : ℕ) → g < 64
+    requires persons { length persons.old ≡ 64 }
+    requires moments { length moments.old ≡ 64 }
+    ensures persons_size { length persons.new ≡ 64 }
+    ensures moments_size { length moments.new ≡ 64 }
+    ensures persons { (g : ℕ) → g < 64
         → slice_index persons.new g ≡ persons_to_lem snapshot.now.aboard car g }
-{
-    for floor in 0..64 {
-        persons[floor as usize] = persons_to(snapshot, car, floor);
-    }
-}
-
-/// Lays out the sums of the moments for each floor.
-pub(crate) fn lay_out_moments(snapshot: &Snapshot, car: u32, moments: &mut [u64])
-    requires car { car < car_count snapshot.now }
-    requires size { length moments.old ≡ 64 }
-    ensures size { length moments.new ≡ 64 }
-    ensures each { (g : ℕ) → g < 64
+    ensures moments { (g : ℕ) → g < 64
         → slice_index moments.new g ≡ moments_to_lem snapshot.now.aboard car g }
 {
     for floor in 0..64 {
-        moments[floor as usize] = moments_to(snapshot, car, floor);
+        let riders = riders_to(snapshot, car, floor);
+        persons[floor as usize] = riders.persons;
+        moments[floor as usize] = riders.moments;
     }
 }

@@ -7,12 +7,13 @@ ghost use Rattle.elevator_model.specs.Tours.{is_call_for};
 ghost use Rattle.car_layout.specs.Layouts.{starts_at, ends_at as ends_at_lem, is_earlier, fits_in, any_group_to, persons_to as persons_to_lem, moments_to as moments_to_lem};
 
 use crate::floors::floors_served;
-use crate::groups::{destinations, lay_out_moments, lay_out_persons};
+use crate::groups::{destinations, lay_out_riders};
 use crate::scans::{calls_for, earlier_table, ending_table, fitting_table, starting_table};
 use call_sets::{CallSet, FloorSet};
 use call_state::Snapshot;
 use std::alloc::{AllocError, Global};
 use std::marker::Model;
+use tour_rules::first_floors;
 
 /// A snapshot and a car, laid out. All memory is taken when it is made.
 #[derive(Drop)]
@@ -64,9 +65,13 @@ impl<'a> Layout<'a> {
         let earlier = earlier_table(alloc, snapshot)?;
         let fitting = fitting_table(alloc, snapshot)?;
         let mut persons = Vec::from_array(alloc, [0; 64])?;
-        lay_out_persons(snapshot, car, persons.as_mut_slice());
         let mut moments = Vec::from_array(alloc, [0; 64])?;
-        lay_out_moments(snapshot, car, moments.as_mut_slice());
+        lay_out_riders(
+            snapshot,
+            car,
+            persons.as_mut_slice(),
+            moments.as_mut_slice(),
+        );
         Ok(Layout {
             snapshot,
             car,
@@ -88,8 +93,12 @@ impl<'a> Layout<'a> {
         requires { car < car_count self.old.snapshot }
         ensures { self.new ≡ record { snapshot = self.old.snapshot; car = car } }
     {
-        lay_out_persons(self.snapshot, car, self.persons.as_mut_slice());
-        lay_out_moments(self.snapshot, car, self.moments.as_mut_slice());
+        lay_out_riders(
+            self.snapshot,
+            car,
+            self.persons.as_mut_slice(),
+            self.moments.as_mut_slice(),
+        );
         self.possible = calls_for(self.snapshot, car);
         self.served = floors_served(self.snapshot, car);
         self.first = first_floors(self.snapshot, car);

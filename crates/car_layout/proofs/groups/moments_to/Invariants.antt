@@ -1,8 +1,0 @@
-use Rattle.std.proofs.Common.{◌≡◌, ◌*◌}
-use Rattle.call_sets.specs.Counting.{sum_where}
-use Rattle.elevator_model.specs.Snapshot.{group_of}
-use Rattle.car_layout.specs.Layouts.{is_group_to}
-use Rattle.car_layout.proofs.groups.moments_to.Given as goal
-
-abbrev pub invariant-loop-k : goal.invariant-loop-k
-invariant-loop-k l = l.moments ≡ sum_where l.k (is_group_to l.snapshot.aboard l.car l.floor) (λ k. (group_of l.snapshot k).persons * (group_of l.snapshot k).boarded)
