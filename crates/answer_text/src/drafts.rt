@@ -41,12 +41,22 @@ impl<'a> Model for Draft<'a> {
 
     ghost Value = { Record };
 
-    ghost view = { λ d. record { snapshot = d.snapshot.now; due = d.due; cost = d.cost; bound = d.bound; tours = d.tours.items } };
+    ghost view = { λ d. record {
+      snapshot = d.snapshot.now;
+      due = d.due;
+      cost = d.cost;
+      bound = d.bound;
+      tours = d.tours.items;
+    } };
 }
 
 impl<'a> Draft<'a> {
-    ghost use Rattle.answer_text.specs.Drafts.{blank, stated_read, has_tour, has_all_tours, head_in, cost_in, bound_in, tour_in, stop_in, end_in, after_word, line_word, any_word};
-    ghost use Rattle.answer_text.specs.declared.kinds.LineWord.TheVariants.{Answer, Cost, Bound, Tour as TourWord, Stop as StopWord, End};
+    ghost use Rattle.answer_text.specs.Drafts.{blank, stated_read, has_tour, has_all_tours, head_in, cost_in};
+    ghost use Rattle.answer_text.specs.Drafts.{bound_in, tour_in, stop_in, end_in, after_word, line_word};
+    ghost use Rattle.answer_text.specs.Drafts.{any_word};
+    ghost use Rattle.answer_text.specs.declared.kinds.LineWord.TheVariants.{Answer, Cost, Bound};
+    ghost use Rattle.answer_text.specs.declared.kinds.LineWord.TheVariants.{Tour as TourWord};
+    ghost use Rattle.answer_text.specs.declared.kinds.LineWord.TheVariants.{Stop as StopWord, End};
 
     /// A section of which no line was read.
     pub(crate) fn new(alloc: Global, snapshot: &'a Snapshot) -> Draft<'a>

@@ -42,8 +42,7 @@ fn read<S: Source>(
     }
 }
 
-/// Reads an answer section up to its line `end`: what follows it stays unread. The allocator comes
-/// first.
+/// Reads an answer section up to its line `end`: what follows it stays unread. The allocator comes first.
 ///
 /// Where the text begins with one that `write_answer` wrote for this snapshot, that answer is read, whatever
 /// follows, with the boards of each stop by rising index. The lines that are accepted are those that stand
@@ -51,10 +50,10 @@ fn read<S: Source>(
 /// order `tour CAR` and any number of lines `stop FLOOR CALL ..`, and `end`. The plan that is read has one
 /// tour per car, and each board is the index of a call of the snapshot. It need not be feasible.
 ///
-/// The first bad line decides, with one code, of which the first of these comes: `NoLineWord`, `OutOfOrder`, also
-/// for `end` where a tour is missing, `Missing`, `TooMany`, `NoNumber` and `OutOfRange`, `UnknownId`, and then
-/// `OutOfOrder` for a car that is not the next one due. `CutShort` comes where the input ends first. `Read` comes
-/// only where a read of the source failed.
+/// The first bad line decides, with one code, of which the first of these comes: `NoLineWord`, `OutOfOrder`,
+/// also for `end` where a tour is missing, `Missing`, `TooMany`, `NoNumber` and `OutOfRange`, `UnknownId`,
+/// and then `OutOfOrder` for a car that is not the next one due. `CutShort` comes where the input ends first.
+/// `Read` comes only where a read of the source failed.
 pub fn read_answer<S: Source>(
     alloc: Global,
     lines: &mut LineReader<S>,

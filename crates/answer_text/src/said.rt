@@ -2,7 +2,8 @@
 ghost use Rattle.std.specs.Prelude.{◌≡◌, ◌≤◌, All};
 ghost use Rattle.lift_text.specs.LineReader.{words};
 ghost use Rattle.text_sections.specs.Judging.{Gives};
-ghost use Rattle.answer_text.specs.Words.{head_said, amount_said, tour_said, call_named, calls_named, stop_said};
+ghost use Rattle.answer_text.specs.Words.{head_said, amount_said, tour_said, call_named, calls_named};
+ghost use Rattle.answer_text.specs.Words.{stop_said};
 
 use call_state::Snapshot;
 use elevator_model::{Boards, MOST_COST, Stop};

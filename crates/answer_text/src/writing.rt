@@ -1,5 +1,6 @@
 //! Writing answers.
-ghost use Rattle.std.specs.Prelude.{◌≡◌, ◌++◌, ◌<◌, ◌==◌, ◌∷◌, [], codes, decimal, filter, length, map, OnErr, OnOk};
+ghost use Rattle.std.specs.Prelude.{◌≡◌, ◌++◌, ◌<◌, ◌==◌, ◌∷◌, [], codes, decimal, filter, length, map};
+ghost use Rattle.std.specs.Prelude.{OnErr, OnOk};
 ghost use Rattle.std.specs.List.{flat_map, range_with_len};
 ghost use Rattle.elevator_model.specs.Snapshot.{car_count, call_of};
 ghost use Rattle.lift_text.specs.Text.{word};
@@ -64,7 +65,8 @@ fn put_stops(out: &mut Vec<u8>, snapshot: &Snapshot, stops: &[Stop]) -> Result<(
 fn put_tours(out: &mut Vec<u8>, snapshot: &Snapshot, plan: &Plan) -> Result<(), AllocError>
     requires { FitsSnapshot snapshot.now plan.now }
     ensures { OnOk result (out.new.items ≡ out.old.items
-        ++ flat_map (λ c. lines_text (tour_lines snapshot.now plan.now c)) (range_with_len 0 (car_count snapshot.now))) }
+        ++ flat_map (λ c. lines_text (tour_lines snapshot.now plan.now c))
+        (range_with_len 0 (car_count snapshot.now))) }
 {
     let tours = plan.tours();
     for c in 0..tours.len() {

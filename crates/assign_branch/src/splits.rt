@@ -2,7 +2,8 @@
 
 ghost use Rattle.std.specs.Prelude.{◌≡◌, ◌↔◌, ◌&&◌, not, length, IfErr, IsTrue, IsOk, OnOk, OnErr};
 ghost use Rattle.call_sets.specs.Counting.{any_below, has};
-ghost use Rattle.search_model.specs.Nodes.{first_of_split, is_part as is_part_lem, rest_of, second_of_split, set_of};
+ghost use Rattle.search_model.specs.Nodes.{first_of_split, is_part as is_part_lem, rest_of, second_of_split};
+ghost use Rattle.search_model.specs.Nodes.{set_of};
 ghost use Rattle.assign_branch.specs.Splits.{AreNodes, KeepsPlans};
 
 use crate::nodes::Node;

@@ -1,12 +1,15 @@
 //! The worked cases of the definitions. The proof computes them.
 
-ghost use Rattle.elevator_model.specs.Worked.{AreCosts, AreBroken, ArePatient, ArePlans, AreFaults, AreBuildingFaults, AreStateFaults, AreGroupFaults, AreCallFaults, AreUneven, AreUnevenPlans, AreLowest, AreMoves};
+ghost use Rattle.elevator_model.specs.Worked.{AreCosts, AreBroken, ArePatient, ArePlans, AreFaults};
+ghost use Rattle.elevator_model.specs.Worked.{AreBuildingFaults, AreStateFaults, AreGroupFaults};
+ghost use Rattle.elevator_model.specs.Worked.{AreCallFaults, AreUneven, AreUnevenPlans, AreLowest, AreMoves};
 ghost use Rattle.search_model.specs.WorkedOrders.{AreOrders, AreExtendable};
 ghost use Rattle.search_model.specs.WorkedNodes.{AreSplits, AreTrees};
 ghost use Rattle.search_model.specs.WorkedBounds.{AreValues, AreBounds, AreKept};
 ghost use Rattle.search_model.specs.WorkedVerdicts.{AreVerdicts, AreClaims, AreEnough, AreUnevenVerdicts};
 ghost use Rattle.search_model.specs.WorkedSolving.{AreFloors, AreTurns, AreRootWorths, AreTreeBounds};
-ghost use Rattle.search_model.specs.WorkedDays.{AreAdvanced, AreMoving, IsDay, IsMovingDay, AreRows, AreOpenings};
+ghost use Rattle.search_model.specs.WorkedDays.{AreAdvanced, AreMoving, IsDay, IsMovingDay, AreRows};
+ghost use Rattle.search_model.specs.WorkedDays.{AreOpenings};
 ghost use Rattle.search_model.specs.WorkedCases.{AreReports, AreDraws};
 
 /// Costs, moments, broken rules and first faults; the uneven ones where no two numbers are the same.

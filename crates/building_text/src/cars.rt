@@ -2,7 +2,8 @@
 ghost use Rattle.std.specs.Prelude.{◌≡◌, ◌≤◌, length, OnOk};
 ghost use Rattle.lift_text.specs.LineReader.{words};
 ghost use Rattle.text_sections.specs.Judging.{Gives};
-ghost use Rattle.building_text.specs.Words.{has_car_words, car_numbers, set_of, served_of, judged_car, car_of_line};
+ghost use Rattle.building_text.specs.Words.{has_car_words, car_numbers, set_of, served_of, judged_car};
+ghost use Rattle.building_text.specs.Words.{car_of_line};
 
 use call_sets::FloorSet;
 use call_state::{are_rising, has_car, spec_fault};

@@ -41,7 +41,19 @@ impl Model for BuildingDraft {
 
     ghost Value = { Draft };
 
-    ghost view = { λ d. record { due = d.due; version = d.version; speed = d.speed; accel = d.accel; wait_weight = d.wait_weight; travel_weight = d.travel_weight; patience = d.patience; patience_weight = d.patience_weight; heights = d.heights.items; times = d.times.items; cars = d.cars.items } };
+    ghost view = { λ d. record {
+      due = d.due;
+      version = d.version;
+      speed = d.speed;
+      accel = d.accel;
+      wait_weight = d.wait_weight;
+      travel_weight = d.travel_weight;
+      patience = d.patience;
+      patience_weight = d.patience_weight;
+      heights = d.heights.items;
+      times = d.times.items;
+      cars = d.cars.items;
+    } };
 
     ghost invariant = { λ d. HasFloors d.due d.heights.items };
 }
@@ -51,7 +63,9 @@ impl BuildingDraft {
     ghost use Rattle.lift_text.specs.declared.faults.TextFault.TheVariants.{NoMemory};
     ghost use Rattle.building_text.specs.BuildingText.{Stands, IsWhole};
     ghost use Rattle.lift_text.specs.LineReader.{words};
-    ghost use Rattle.building_text.specs.declared.order.Due.TheVariants.{Version, Speed, Accel, Weights, Patience, Floors, Times, FirstCar, NextCar};
+    ghost use Rattle.building_text.specs.declared.order.Due.TheVariants.{Version, Speed, Accel, Weights};
+    ghost use Rattle.building_text.specs.declared.order.Due.TheVariants.{Patience, Floors, Times, FirstCar};
+    ghost use Rattle.building_text.specs.declared.order.Due.TheVariants.{NextCar};
     ghost use Rattle.building_text.specs.Said.{Became};
     ghost use Rattle.building_text.specs.Drafts.{no_draft, taken, with_times, car_taken, HasFloors};
 

@@ -1,7 +1,8 @@
 //! The order of a building's lines.
 ghost use Rattle.std.specs.Prelude.{◌≡◌, ◌<◌, length};
 ghost use Rattle.lift_text.specs.LineReader.{words};
-ghost use Rattle.building_text.specs.Order.{name_of, is_first, may_end, after_weights, after_floors, is_plain_word, is_line_word, misplaced};
+ghost use Rattle.building_text.specs.Order.{name_of, is_first, may_end, after_weights, after_floors};
+ghost use Rattle.building_text.specs.Order.{is_plain_word, is_line_word, misplaced};
 
 use lift_text::{LineReader, Source, TextCode};
 use text_sections::is_word;

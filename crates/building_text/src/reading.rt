@@ -3,7 +3,8 @@ ghost use Rattle.std.specs.Prelude.{◌≡◌, ◌≤◌, None, Err, IfErr, IfOk
 ghost use Rattle.byte_streams.specs.Streams.{Rose};
 ghost use Rattle.lift_text.specs.LineReader.{text, failure};
 ghost use Rattle.text_sections.specs.Between.{StandsBehind};
-ghost use Rattle.building_text.specs.BuildingText.{IsReadBuilding, IsRefusedBuilding, StandsInFront, TakesBuildings};
+ghost use Rattle.building_text.specs.BuildingText.{IsReadBuilding, IsRefusedBuilding, StandsInFront};
+ghost use Rattle.building_text.specs.BuildingText.{TakesBuildings};
 ghost use Rattle.building_text.specs.Written.{ReadsWritten};
 
 use crate::drafts::BuildingDraft;

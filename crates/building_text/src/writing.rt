@@ -4,7 +4,8 @@ ghost use Rattle.std.specs.List.{flat_map, range_with_len};
 ghost use Rattle.elevator_model.specs.Building.{floor_count};
 ghost use Rattle.lift_text.specs.Text.{word};
 ghost use Rattle.text_sections.specs.Canonical.{line_text, lines_text};
-ghost use Rattle.building_text.specs.Written.{named, patience_lines, row_line, times_lines, floors_in, served_words, car_line, building_text};
+ghost use Rattle.building_text.specs.Written.{named, patience_lines, row_line, times_lines, floors_in};
+ghost use Rattle.building_text.specs.Written.{served_words, car_line, building_text};
 
 use call_sets::FloorSet;
 use call_state::{Building, CarSpec, Travel};

@@ -1,5 +1,7 @@
 //! Sources and sinks in memory, for tests and for whoever has the text at hand.
-ghost use Rattle.std.specs.Prelude.{◌≡◌, ℕ, ◌+◌, ◌-◌, ◌^◌, ◌<◌, ◌≤◌, ◌↔◌, ◌⊎◌, List, [], Some, Option, length, take, drop, min, Contains, IsTrue, IsErr, IsOk, IfOk, OnOk, OnErr, vec_len, vec_capacity};
+ghost use Rattle.std.specs.Prelude.{◌≡◌, ℕ, ◌+◌, ◌-◌, ◌^◌, ◌<◌, ◌≤◌, ◌↔◌, ◌⊎◌, List, [], Some, Option};
+ghost use Rattle.std.specs.Prelude.{length, take, drop, min, Contains, IsTrue, IsErr, IsOk, IfOk, OnOk};
+ghost use Rattle.std.specs.Prelude.{OnErr, vec_len, vec_capacity};
 ghost use Rattle.std.specs.Io.KnownBytes.{prepend_known, append_known, IsAtEnd};
 ghost use Rattle.byte_streams.specs.Streams.{Rose, last_count};
 

@@ -3,7 +3,8 @@
 ghost use Rattle.std.specs.Prelude.{◌≡◌, ◌≤◌, ◌<◌, ◌+◌, ◌&&◌, ◌==◌, false, nat_lt, length, map};
 ghost use Rattle.std.specs.List.{list_any};
 ghost use Rattle.elevator_model.specs.declared.Aboard.{Aboard};
-ghost use Rattle.elevator_model.specs.Faults.{fault_of_group, are_apart as are_apart_lem, is_on_wrong_side as is_on_wrong_side_lem, persons_in};
+ghost use Rattle.elevator_model.specs.Faults.{fault_of_group, are_apart as are_apart_lem};
+ghost use Rattle.elevator_model.specs.Faults.{is_on_wrong_side as is_on_wrong_side_lem, persons_in};
 
 use crate::buildings::Building;
 use crate::id_index::IdIndex;

@@ -1,10 +1,12 @@
 //! Buildings and their cars.
 
-ghost use Rattle.std.specs.Prelude.{◌≡◌, ℕ, ◌≤◌, ◌<◌, [], length, nat_lt, IfOk, OnOk, IfErr, IfNone, MatchOption};
+ghost use Rattle.std.specs.Prelude.{◌≡◌, ℕ, ◌≤◌, ◌<◌, [], length, nat_lt, IfOk, OnOk, IfErr, IfNone};
+ghost use Rattle.std.specs.Prelude.{MatchOption};
 ghost use Rattle.std.specs.List.{list_any};
 ghost use Rattle.elevator_model.specs.Travel.{IsTravelSquare};
 ghost use Rattle.elevator_model.specs.Building.{IsBuilding, car_of};
-ghost use Rattle.elevator_model.specs.Faults.{is_rising, fault_of_frame, fault_of_spec, first_in, first_fault_of_building};
+ghost use Rattle.elevator_model.specs.Faults.{is_rising, fault_of_frame, fault_of_spec, first_in};
+ghost use Rattle.elevator_model.specs.Faults.{first_fault_of_building};
 ghost use Rattle.call_state.specs.Refusals.{Names, SpeaksAgainst};
 ghost use Rattle.call_state.specs.Tests.{has_motion_in_range, has_weights_in_range};
 
@@ -58,7 +60,8 @@ impl Model for Building {
 
     ghost view = { λ b. building_of b.parts };
 
-    ghost invariant = { λ b. IsBuilding (building_of b.parts) × (b.ids ≡ map (λ (x : CarSpec). x.id) b.parts.cars.items) };
+    ghost invariant = { λ b. IsBuilding (building_of b.parts)
+        × (b.ids ≡ map (λ (x : CarSpec). x.id) b.parts.cars.items) };
 }
 
 impl Building {

@@ -1,7 +1,9 @@
 //! Snapshots: where each car is, who is aboard, which calls are open.
 
-ghost use Rattle.std.specs.Prelude.{◌≡◌, ◌↔◌, ℕ, ◌<◌, ◌≤◌, None, IsTrue, IfOk, OnOk, IfErr, IfNone, IfSome, IsNone, MatchOption, length};
-ghost use Rattle.elevator_model.specs.Snapshot.{IsAccepted, car_count, call_count, call_of, spec_of, state_of};
+ghost use Rattle.std.specs.Prelude.{◌≡◌, ◌↔◌, ℕ, ◌<◌, ◌≤◌, None, IsTrue, IfOk, OnOk, IfErr, IfNone, IfSome};
+ghost use Rattle.std.specs.Prelude.{IsNone, MatchOption, length};
+ghost use Rattle.elevator_model.specs.Snapshot.{IsAccepted, car_count, call_count, call_of, spec_of};
+ghost use Rattle.elevator_model.specs.Snapshot.{state_of};
 ghost use Rattle.elevator_model.specs.Tours.{is_call_for};
 ghost use Rattle.elevator_model.specs.Faults.{first_fault_of_snapshot};
 ghost use Rattle.call_state.specs.SnapshotParts.{AreSnapshotParts};
@@ -194,7 +196,9 @@ impl Model for Snapshot {
 
     ghost view = { λ s. snapshot_of s.parts };
 
-    ghost invariant = { λ s. IsAccepted (snapshot_of s.parts) × (s.ids ≡ map (λ (x : Call). x.id) s.parts.calls.items) × ArePossible s.parts.building s.parts.calls.items s.possible.items };
+    ghost invariant = { λ s. IsAccepted (snapshot_of s.parts)
+        × (s.ids ≡ map (λ (x : Call). x.id) s.parts.calls.items)
+        × ArePossible s.parts.building s.parts.calls.items s.possible.items };
 }
 
 impl Snapshot {

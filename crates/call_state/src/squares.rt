@@ -1,9 +1,11 @@
 //! Travel times between floors.
 
-ghost use Rattle.std.specs.Prelude.{◌≡◌, ◌↔◌, ℕ, ◌*◌, ◌≤◌, ◌<◌, length, slice_index, IsTrue, IsOk, IfOk, IfErr};
+ghost use Rattle.std.specs.Prelude.{◌≡◌, ◌↔◌, ℕ, ◌*◌, ◌≤◌, ◌<◌, length, slice_index, IsTrue, IsOk, IfOk};
+ghost use Rattle.std.specs.Prelude.{IfErr};
 ghost use Rattle.elevator_model.specs.Travel.{IsTravelSquare, time_between};
 ghost use Rattle.elevator_model.specs.declared.Fault.TheVariants.{NoTravelSquare};
-ghost use Rattle.call_state.specs.Squares.{square_of, IsEntry, IsRow, AreRows, IsNowhereShorter, IsRowDirect, AreRowsDirect};
+ghost use Rattle.call_state.specs.Squares.{square_of, IsEntry, IsRow, AreRows, IsNowhereShorter, IsRowDirect};
+ghost use Rattle.call_state.specs.Squares.{AreRowsDirect};
 
 use crate::{Fault, StateFault};
 use elevator_model::LONGEST_WAY;

@@ -5,7 +5,8 @@ ghost use Rattle.call_sets.specs.Counting.{any_below};
 ghost use Rattle.elevator_model.specs.Building.{IsBuilding, car_of, floor_count};
 ghost use Rattle.elevator_model.specs.Snapshot.{serves, is_open as is_open_lem};
 ghost use Rattle.elevator_model.specs.Travel.{can_stop as can_stop_lem};
-ghost use Rattle.elevator_model.specs.Faults.{fault_of_state, has_no_open_floor as has_no_open_floor_lem, is_untimely as is_untimely_lem};
+ghost use Rattle.elevator_model.specs.Faults.{fault_of_state, has_no_open_floor as has_no_open_floor_lem};
+ghost use Rattle.elevator_model.specs.Faults.{is_untimely as is_untimely_lem};
 
 use crate::buildings::Building;
 use call_sets::FloorSet;

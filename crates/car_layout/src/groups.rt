@@ -3,7 +3,8 @@
 ghost use Rattle.std.specs.Prelude.{◌≡◌, ℕ, ◌<◌, ◌≤◌, ◌==◌, ◌&&◌, length, slice_index};
 ghost use Rattle.call_sets.specs.Counting.{has, sum_where};
 ghost use Rattle.elevator_model.specs.Snapshot.{car_count};
-ghost use Rattle.car_layout.specs.Layouts.{any_group_to, persons_to as persons_to_lem, moments_to as moments_to_lem};
+ghost use Rattle.car_layout.specs.Layouts.{any_group_to, persons_to as persons_to_lem};
+ghost use Rattle.car_layout.specs.Layouts.{moments_to as moments_to_lem};
 
 use crate::floors::with_if;
 use call_sets::FloorSet;

@@ -2,9 +2,12 @@
 
 ghost use Rattle.std.specs.Prelude.{◌≡◌, ℕ, ◌<◌, ◌≤◌, IfOk};
 ghost use Rattle.call_sets.specs.Counting.{has};
-ghost use Rattle.elevator_model.specs.Snapshot.{IsAccepted, car_count, call_count, state_of, serves, may_stop_first};
+ghost use Rattle.elevator_model.specs.Snapshot.{IsAccepted, car_count, call_count, state_of, serves};
+ghost use Rattle.elevator_model.specs.Snapshot.{may_stop_first};
 ghost use Rattle.elevator_model.specs.Tours.{is_call_for};
-ghost use Rattle.car_layout.specs.Layouts.{starts_at, ends_at as ends_at_lem, is_earlier, fits_in, any_group_to, persons_to as persons_to_lem, moments_to as moments_to_lem};
+ghost use Rattle.car_layout.specs.Layouts.{starts_at, ends_at as ends_at_lem, is_earlier, fits_in};
+ghost use Rattle.car_layout.specs.Layouts.{any_group_to, persons_to as persons_to_lem};
+ghost use Rattle.car_layout.specs.Layouts.{moments_to as moments_to_lem};
 
 use crate::floors::floors_served;
 use crate::groups::{destinations, lay_out_riders};
@@ -49,7 +52,13 @@ impl<'a> Model for Layout<'a> {
 
     ghost view = { λ l. record { snapshot = l.snapshot.now; car = l.car } };
 
-    ghost invariant = { λ l. IsAccepted l.snapshot.now × IsTable 64 (starts_at l.snapshot.now) l.starting.items × IsTable 64 (ends_at l.snapshot.now) l.ending.items × IsTable (length l.snapshot.now.calls) (is_earlier l.snapshot.now) l.earlier.items × IsTable 9 (fits_in l.snapshot.now) l.fitting.items × IsForCar l.snapshot.now l.car l.possible l.served l.first l.destinations l.persons.items l.moments.items };
+    ghost invariant = { λ l. IsAccepted l.snapshot.now
+        × IsTable 64 (starts_at l.snapshot.now) l.starting.items
+        × IsTable 64 (ends_at l.snapshot.now) l.ending.items
+        × IsTable (length l.snapshot.now.calls) (is_earlier l.snapshot.now) l.earlier.items
+        × IsTable 9 (fits_in l.snapshot.now) l.fitting.items
+        × IsForCar l.snapshot.now l.car l.possible l.served l.first l.destinations l.persons.items
+        l.moments.items };
 }
 
 impl<'a> Layout<'a> {

@@ -4,7 +4,8 @@ ghost use Rattle.std.specs.Io.KnownBytes.{IsAtEnd};
 ghost use Rattle.byte_streams.specs.Streams.{Rose};
 ghost use Rattle.lift_text.specs.LineReader.{text, failure};
 ghost use Rattle.elevator_model.specs.Snapshot.{IsAccepted};
-ghost use Rattle.case_text.specs.CaseTexts.{IsReadCase, IsRefusedCase, TakesCases, IsReadAlone, IsRefusedAlone, TakesLoneCases, IsEnd, IsNoEnd};
+ghost use Rattle.case_text.specs.CaseTexts.{IsReadCase, IsRefusedCase, TakesCases, IsReadAlone};
+ghost use Rattle.case_text.specs.CaseTexts.{IsRefusedAlone, TakesLoneCases, IsEnd, IsNoEnd};
 
 use building_text::read_building;
 use call_state::Snapshot;

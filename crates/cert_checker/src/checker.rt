@@ -1,12 +1,14 @@
 //! Checkers of a plan, its cost and a bound.
 
-ghost use Rattle.std.specs.Prelude.{◌≡◌, ℕ, ◌+◌, ◌<◌, ◌≤◌, ◌^◌, ◌++◌, [], List, All, IfOk, OnOk, OnErr, length};
+ghost use Rattle.std.specs.Prelude.{◌≡◌, ℕ, ◌+◌, ◌<◌, ◌≤◌, ◌^◌, ◌++◌, [], List, All, IfOk, OnOk, OnErr};
+ghost use Rattle.std.specs.Prelude.{length};
 ghost use Rattle.elevator_model.specs.Snapshot.{Snapshot as SnapshotValue, car_count};
 ghost use Rattle.search_model.specs.declared.Stated.{Stated as StatedValue};
 ghost use Rattle.search_model.specs.declared.Twig.{Twig as TwigValue};
 ghost use Rattle.search_model.specs.Nodes.{IsNodeOf};
 ghost use Rattle.search_model.specs.Verdicts.{verdict_of};
-ghost use Rattle.cert_checker.specs.Judging.{HasSeen, HasWorthSizes, IsCheckerOf, IsStateOf, GoesOnTo, reason_of_bad as reason_of_bad_lem};
+ghost use Rattle.cert_checker.specs.Judging.{HasSeen, HasWorthSizes, IsCheckerOf, IsStateOf, GoesOnTo};
+ghost use Rattle.cert_checker.specs.Judging.{reason_of_bad as reason_of_bad_lem};
 
 use crate::judging::judge_tasks;
 use crate::plans::judge_stated;

@@ -4,7 +4,8 @@ ghost use Rattle.std.specs.Prelude.{◌≡◌, ℕ, ◌*◌, ◌<◌, ◌≤◌,
 ghost use Rattle.search_model.specs.Certificates.{are_each_once as are_each_once_lem};
 ghost use Rattle.search_model.specs.Prices.{price_at};
 ghost use Rattle.search_model.specs.Sums.{int_sum_by};
-ghost use Rattle.cert_checker.specs.Leaves.{HasWorthSize, claim_among, claim_at, price_among, worth_among, worth_at};
+ghost use Rattle.cert_checker.specs.Leaves.{HasWorthSize, claim_among, claim_at, price_among, worth_among};
+ghost use Rattle.cert_checker.specs.Leaves.{worth_at};
 
 use call_sets::CallSet;
 use elevator_model::{MOST_CALLS, MOST_CARS};

@@ -9,6 +9,7 @@ ghost use Rattle.cert_checker.specs.Scanning.{Scanned};
 
 use crate::visits::Visits;
 use crate::walk::visit;
+use kept_tours::Guide;
 use partial_tours::Prefix;
 use pricing_bound::CompletionBound;
 use tour_extension::Demand;
@@ -35,5 +36,6 @@ pub(crate) fn scan<B: CompletionBound>(
         (B.bound bound.now) worth claim prefix.new.moves result }
 {
     let sums = bound.start(prefix);
-    visit(bound, demand, worth, claim, prefix, &sums)
+    let guide = Guide { bound, demand };
+    visit(&guide, worth, claim, prefix, &sums)
 }

@@ -7,10 +7,9 @@ ghost use Rattle.cert_checker.specs.Visiting.{GoesBack, Visited};
 
 use crate::visits::Visits;
 use elevator_model::Move;
-use kept_tours::{followers_below, step_below};
+use kept_tours::{Guide, followers_below, step_below};
 use partial_tours::Prefix;
 use pricing_bound::CompletionBound;
-use tour_extension::Demand;
 
 /// Visits a partial tour that some tour of the node begins with, where it is kept for the worth, and the kept
 /// ones that begin with it, depth first in the order of moves.
@@ -19,19 +18,20 @@ use tour_extension::Demand;
 /// below the worth, and stays there; else it comes back. It takes no memory.
 #[cycle(walk)]
 pub(crate) fn visit<B: CompletionBound>(
-    bound: &B,
-    demand: &Demand,
+    guide: &Guide<B>,
     worth: i128,
     left: u64,
     prefix: &mut Prefix,
     sums: &B::Sums,
 ) -> Visits
-    requires walking { IsWalking (B.aim bound.now) demand.now prefix.old }
-    requires stands { IsOpen (B.stands bound.now sums.now) demand.now prefix.old }
-    ensures visited { Visited prefix.old demand.now (B.aim bound.now).price (B.bound bound.now) worth
+    requires walking { IsWalking (B.aim guide.now.bound.now) guide.now.demand.now prefix.old }
+    requires stands { IsOpen (B.stands guide.now.bound.now sums.now) guide.now.demand.now prefix.old }
+    ensures visited { Visited prefix.old guide.now.demand.now (B.aim guide.now.bound.now).price
+        (B.bound guide.now.bound.now) worth
         left prefix.new result }
     ensures back { GoesBack prefix.old prefix.new result }
 {
+    let bound = guide.bound;
     let least = bound.value(sums);
     if least >= worth {
         return Visits::Going(left);
@@ -45,10 +45,10 @@ pub(crate) fn visit<B: CompletionBound>(
     }
     let mut left = left - 1;
     let departure = bound.depart(prefix, sums);
-    let followers = followers_below(bound, demand, prefix, &departure, worth);
+    let followers = followers_below(bound, guide.demand, prefix, &departure, worth);
     let mut next = followers.first();
     while let Some(choice) = next {
-        let visits = visit_after(bound, demand, worth, left, prefix, sums, &departure, choice);
+        let visits = visit_after(guide, worth, left, prefix, sums, &departure, choice);
         let Visits::Going(rest) = visits else {
             return visits;
         };
@@ -61,8 +61,7 @@ pub(crate) fn visit<B: CompletionBound>(
 /// The same of the partial tour with one move more, where it is kept for the worth.
 #[cycle(walk)]
 fn visit_after<B: CompletionBound>(
-    bound: &B,
-    demand: &Demand,
+    guide: &Guide<B>,
     worth: i128,
     left: u64,
     prefix: &mut Prefix,
@@ -70,18 +69,26 @@ fn visit_after<B: CompletionBound>(
     departure: &B::Departure,
     next: Move,
 ) -> Visits
-    requires walking { IsWalking (B.aim bound.now) demand.now prefix.old }
-    requires stands { IsOpen (B.stands bound.now sums.now) demand.now prefix.old }
-    requires departs { IsOpen (B.departs bound.now departure.now) demand.now prefix.old }
-    requires next { MayFollow demand.now prefix.old next }
-    ensures visited { Visited (with_move prefix.old next) demand.now (B.aim bound.now).price
-        (B.bound bound.now) worth left prefix.new result }
+    requires walking { IsWalking (B.aim guide.now.bound.now) guide.now.demand.now prefix.old }
+    requires stands { IsOpen (B.stands guide.now.bound.now sums.now) guide.now.demand.now prefix.old }
+    requires departs { IsOpen (B.departs guide.now.bound.now departure.now) guide.now.demand.now prefix.old }
+    requires next { MayFollow guide.now.demand.now prefix.old next }
+    ensures visited { Visited (with_move prefix.old next) guide.now.demand.now (B.aim guide.now.bound.now).price
+        (B.bound guide.now.bound.now) worth left prefix.new result }
     ensures back { GoesBack prefix.old prefix.new result }
 {
-    let Some(sums) = step_below(bound, demand, prefix, sums, departure, next, worth) else {
+    let Some(sums) = step_below(
+        guide.bound,
+        guide.demand,
+        prefix,
+        sums,
+        departure,
+        next,
+        worth,
+    ) else {
         return Visits::Going(left);
     };
-    let visits = visit(bound, demand, worth, left, prefix, &sums);
+    let visits = visit(guide, worth, left, prefix, &sums);
     if let Visits::Going(_) = visits {
         prefix.pop();
     }

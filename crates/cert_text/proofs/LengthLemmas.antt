@@ -14,10 +14,11 @@ use Rattle.search_model.specs.declared.Twig.{Twig}
 use Rattle.search_model.specs.declared.Twig.TheVariants.{Split, Leaf as Tip}
 use Rattle.text_sections.specs.Sections.{Line}
 use Rattle.text_sections.specs.Canonical.{joined, line_text, lines_text}
+use Rattle.text_sections.proofs.EachLemmas.{each_of}
 use Rattle.cert_text.specs.Trees.{places_left, IsPriceWithin, IsWorthWithin, IsTwigWithin}
 use Rattle.cert_text.specs.Texts.{head_words, leaf_words, split_words, price_words, worth_words, end_words, item_lines, twig_lines, cert_lines, cert_text}
 use Rattle.cert_text.specs.Written.{HasText}
-use Rattle.cert_text.proofs.WrittenLemmas.{each_of, split_line, price_line, worth_line, joined_is}
+use Rattle.cert_text.proofs.WrittenLemmas.{split_line, price_line, worth_line, joined_is}
 
 -- the most bytes of a twig's lines
 abbrev pub most_of : Twig → ℕ

@@ -78,8 +78,12 @@ impl<'a> Model for TwigDraft<'a> {
 
 impl<'a> TwigDraft<'a> {
     ghost use Rattle.cert_text.specs.declared.kinds.LineWord.TheVariants.{Split as SplitWord};
-    ghost use Rattle.cert_text.specs.declared.kinds.Entry.TheVariants.{Split as SplitEntry, Leaf as LeafEntry, Price as PriceEntry, Worth as WorthEntry, End as EndEntry};
-    ghost use Rattle.cert_text.specs.Entries.{any_word, in_place, claimed, split_in, leaf_in, price_in, worth_in, end_in, entry_in};
+    ghost use Rattle.cert_text.specs.declared.kinds.Entry.TheVariants.{Split as SplitEntry};
+    ghost use Rattle.cert_text.specs.declared.kinds.Entry.TheVariants.{Leaf as LeafEntry};
+    ghost use Rattle.cert_text.specs.declared.kinds.Entry.TheVariants.{Price as PriceEntry};
+    ghost use Rattle.cert_text.specs.declared.kinds.Entry.TheVariants.{Worth as WorthEntry, End as EndEntry};
+    ghost use Rattle.cert_text.specs.Entries.{any_word, in_place, claimed, split_in, leaf_in, price_in};
+    ghost use Rattle.cert_text.specs.Entries.{worth_in, end_in, entry_in};
     ghost use Rattle.cert_text.specs.Pieces.{has_leaf, piece_standing, piece_taken, after_piece};
 
     /// A place for a twig more is open.

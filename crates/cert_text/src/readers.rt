@@ -1,10 +1,12 @@
 //! Reading a tree twig by twig.
-ghost use Rattle.std.specs.Prelude.{◌≡◌, ◌≤◌, None, Some, Ok, Err, IfErr, IfOk, IfSome, OnOk, IsErrOf, List, []};
+ghost use Rattle.std.specs.Prelude.{◌≡◌, ◌≤◌, None, Some, Ok, Err, IfErr, IfOk, IfSome, OnOk, IsErrOf, List};
+ghost use Rattle.std.specs.Prelude.{[]};
 ghost use Rattle.byte_streams.specs.Streams.{Rose};
 ghost use Rattle.elevator_model.specs.Snapshot.{Snapshot as Model};
 ghost use Rattle.lift_text.specs.LineReader.{text, failure};
 ghost use Rattle.cert_text.specs.Pieces.{leaf_begun, reader_behind};
-ghost use Rattle.cert_text.specs.Readers.{HasRead, HandsOut, IsRefusedFor, IsBegunFor, HandsOutFor, IsNoneAtEnd, failure_of};
+ghost use Rattle.cert_text.specs.Readers.{HasRead, HandsOut, IsRefusedFor, IsBegunFor, HandsOutFor};
+ghost use Rattle.cert_text.specs.Readers.{IsNoneAtEnd, failure_of};
 
 use crate::kinds::Begun;
 use crate::pieces::{FirstLine, TwigDraft};
@@ -130,12 +132,12 @@ impl TreeReader {
     /// The next twig in preorder. None exactly where the tree is complete and its line `end` was read, and
     /// from then on. A leaf is handed out once the line after its last price or worth was read.
     ///
-    /// The reader has to be called with the lines that it began with, and always with the same snapshot. The first
-    /// bad line decides, with one code, of which the first of these comes: `NoLineWord`, `OutOfOrder` for a price
-    /// or worth without a leaf, for a twig after a complete tree and for an `end` before it, `Missing`, `TooMany`,
-    /// `NoNumber` and `OutOfRange`, `UnknownId`, and then `ClaimsPast` for claims that sum past 10^10. `CutShort`
-    /// comes where the input ends first. `Read` comes only where a read of the source failed. After an `Err` the
-    /// same is answered from then on.
+    /// The reader has to be called with the lines that it began with, and always with the same snapshot. The
+    /// first bad line decides, with one code, of which the first of these comes: `NoLineWord`, `OutOfOrder`
+    /// for a price or worth without a leaf, for a twig after a complete tree and for an `end` before it,
+    /// `Missing`, `TooMany`, `NoNumber` and `OutOfRange`, `UnknownId`, and then `ClaimsPast` for claims that
+    /// sum past 10^10. `CutShort` comes where the input ends first. `Read` comes only where a read of the
+    /// source failed. After an `Err` the same is answered from then on.
     pub fn next<S: Source>(
         &mut self,
         lines: &mut LineReader<S>,

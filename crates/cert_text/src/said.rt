@@ -2,7 +2,8 @@
 ghost use Rattle.std.specs.Prelude.{◌≡◌, ◌<◌, ◌≤◌, All, length};
 ghost use Rattle.lift_text.specs.LineReader.{words};
 ghost use Rattle.text_sections.specs.Judging.{Gives};
-ghost use Rattle.cert_text.specs.Words.{head_said, price_of_word, part_named, split_said, price_said, worth_said};
+ghost use Rattle.cert_text.specs.Words.{head_said, price_of_word, part_named, split_said, price_said};
+ghost use Rattle.cert_text.specs.Words.{worth_said};
 
 use crate::kinds::Entry;
 use answer_text::call_named;

@@ -6,8 +6,10 @@ ghost use Rattle.call_sets.specs.Counting.{members};
 ghost use Rattle.elevator_model.specs.Snapshot.{spec_of};
 ghost use Rattle.lift_text.specs.Text.{word};
 ghost use Rattle.text_sections.specs.Canonical.{line_text, lines_text};
-ghost use Rattle.cert_text.specs.Trees.{IsKnownSplit, IsKnownPrice, IsKnownWorth, IsKnownLeaf, IsKnownTwig, AreTwigsKnown};
-ghost use Rattle.cert_text.specs.Texts.{split_words, price_words, worth_words, leaf_words, item_lines, twig_lines, cert_text};
+ghost use Rattle.cert_text.specs.Trees.{IsKnownSplit, IsKnownPrice, IsKnownWorth, IsKnownLeaf, IsKnownTwig};
+ghost use Rattle.cert_text.specs.Trees.{AreTwigsKnown};
+ghost use Rattle.cert_text.specs.Texts.{split_words, price_words, worth_words, leaf_words, item_lines};
+ghost use Rattle.cert_text.specs.Texts.{twig_lines, cert_text};
 
 use call_sets::CarSet;
 use call_state::Snapshot;
@@ -97,7 +99,8 @@ fn put_worths(out: &mut Vec<u8>, snapshot: &Snapshot, worths: &[WorthOf]) -> Res
 /// Writes the prices of a leaf, and then its worths.
 fn put_leaf(out: &mut Vec<u8>, snapshot: &Snapshot, leaf: &Leaf) -> Result<(), AllocError>
     requires { IsKnownLeaf snapshot.now leaf.now }
-    ensures { OnOk result (out.new.items ≡ out.old.items ++ lines_text (leaf_words ∷ item_lines snapshot.now leaf.now)) }
+    ensures { OnOk result (out.new.items ≡ out.old.items
+        ++ lines_text (leaf_words ∷ item_lines snapshot.now leaf.now)) }
 {
     put_line(out, b"leaf", &[])?;
     put_prices(out, snapshot, leaf.prices.as_slice())?;

@@ -1,5 +1,6 @@
 //! Reading and checking a case, its answer and a certificate.
-ghost use Rattle.std.specs.Prelude.{◌≡◌, ◌+◌, ◌≤◌, None, Some, Ok, Err, IfErr, IfOk, OnOk, IsErrOf, [], length};
+ghost use Rattle.std.specs.Prelude.{◌≡◌, ◌+◌, ◌≤◌, None, Some, Ok, Err, IfErr, IfOk, OnOk, IsErrOf, []};
+ghost use Rattle.std.specs.Prelude.{length};
 ghost use Rattle.std.specs.Io.KnownBytes.{IsAtEnd};
 ghost use Rattle.byte_streams.specs.Streams.{Rose};
 ghost use Rattle.elevator_model.specs.Snapshot.{car_count};
@@ -9,7 +10,9 @@ ghost use Rattle.cert_checker.specs.Judging.{HasSeen, IsCheckerOf};
 ghost use Rattle.cert_text.specs.Readers.{failure_of};
 ghost use Rattle.check_text.specs.CheckTexts.{IsChecked, IsRefusedCheck, TakesChecks};
 ghost use Rattle.check_text.specs.VerdictTexts.{IsToldOf};
-ghost use Rattle.check_text.specs.Layers.{FeedsPieceFor, FeedsTree, HasHandedOut, HasSeenNone, IsJudged, IsRefusedCertified, IsRefusedTree, IsVerdict, ReadsPieceFor, TakesCertified, TakesTrees};
+ghost use Rattle.check_text.specs.Layers.{FeedsPieceFor, FeedsTree, HasHandedOut, HasSeenNone, IsJudged};
+ghost use Rattle.check_text.specs.Layers.{IsRefusedCertified, IsRefusedTree, IsVerdict, ReadsPieceFor};
+ghost use Rattle.check_text.specs.Layers.{TakesCertified, TakesTrees};
 
 use crate::checked::Checked;
 use answer_text::read_answer;
@@ -42,7 +45,8 @@ fn read_twig<S: Source>(
     requires whole { failure lines.old ≡ None }
     requires sound { failure_of reader.old.begun ≡ None }
     ensures same_source { lines.new.source.ghost_name ≡ lines.old.source.ghost_name }
-    ensures reads { ReadsPieceFor snapshot.now reader.old piece.old (text S.left lines.old) result reader.new piece.new (text S.left lines.new) }
+    ensures reads { ReadsPieceFor snapshot.now reader.old piece.old
+        (text S.left lines.old) result reader.new piece.new (text S.left lines.new) }
     ensures few { OnOk result (length piece.new ≤ length piece.old + 1) }
     ensures sound { OnOk result (failure_of reader.new.begun ≡ None) }
     ensures ok { OnOk result (failure lines.new ≡ None) }
@@ -70,7 +74,8 @@ fn read_piece<S: Source>(
     requires sound { failure_of reader.old.begun ≡ None }
     requires empty { piece.old ≡ [] }
     ensures same_source { lines.new.source.ghost_name ≡ lines.old.source.ghost_name }
-    ensures reads { ReadsPieceFor snapshot.now reader.old [] (text S.left lines.old) result reader.new piece.new (text S.left lines.new) }
+    ensures reads { ReadsPieceFor snapshot.now reader.old []
+        (text S.left lines.old) result reader.new piece.new (text S.left lines.new) }
     ensures few { OnOk result (length piece.new ≤ 256) }
     ensures sound { OnOk result (failure_of reader.new.begun ≡ None) }
     ensures ok { OnOk result (failure lines.new ≡ None) }
@@ -102,7 +107,8 @@ fn check_piece<S: Source, R: Threads + Sync, G: Gate + Sync>(
     requires own { IsCheckerOf snapshot.now checker.old }
     requires workers { (1 ≤ workers) × (workers ≤ MOST_WORKERS) }
     ensures same_source { lines.new.source.ghost_name ≡ lines.old.source.ghost_name }
-    ensures feeds { FeedsPieceFor snapshot.now reader.old checker.old (text S.left lines.old) result reader.new checker.new (text S.left lines.new) }
+    ensures feeds { FeedsPieceFor snapshot.now reader.old checker.old
+        (text S.left lines.old) result reader.new checker.new (text S.left lines.new) }
     ensures own { IsCheckerOf snapshot.now checker.new }
     ensures sound { OnOk result (failure_of reader.new.begun ≡ None) }
     ensures ok { OnOk result (failure lines.new ≡ None) }

@@ -4,7 +4,8 @@ ghost use Rattle.std.specs.Fmt.{signed_decimal};
 ghost use Rattle.lift_text.specs.Text.{line};
 ghost use Rattle.answer_text.specs.Plans.{BoardsCalls};
 ghost use Rattle.answer_text.specs.Texts.{stops_text};
-ghost use Rattle.check_text.specs.VerdictTexts.{IsToldOf, TellsOwnTour, bad_place, is_unserved, no_line, reason_text, signed_no_line, verdict_text};
+ghost use Rattle.check_text.specs.VerdictTexts.{IsToldOf, TellsOwnTour, bad_place, is_unserved, no_line};
+ghost use Rattle.check_text.specs.VerdictTexts.{reason_text, signed_no_line, verdict_text};
 
 use crate::checked::Checked;
 use answer_text::write_stops;
@@ -102,12 +103,13 @@ fn put_verdict(out: &mut Vec<u8>, checked: &Checked) -> Result<(), AllocError>
 
 /// Appends the text of a verdict: `yes COST BOUND`, or `no` with the number of the reason and what it tells.
 ///
-/// - `no 31 CAR STOP RULE`: the plan breaks a rule, the stop counted from 1; `no 31 0 CALL 12`: a call is in no tour.
+/// - `no 31 CAR STOP RULE`: the plan breaks a rule, the stop counted from 1; `no 31 0 CALL 12`: a call is in
+///   no tour.
 /// - `no 32 STATED ACTUAL`: the plan has another cost, in cost units.
 /// - `no 33 NODE`: the part of a split divides nothing.
 /// - `no 34 NODE NEED GOT`: the prices and worths of a leaf sum to too little, in thousandths of a cost unit.
-/// - `no 35 NODE CAR WORTH VALUE` and the `stop` lines of a tour: its value is below the worth, both in thousandths of a
-///   cost unit.
+/// - `no 35 NODE CAR WORTH VALUE` and the `stop` lines of a tour: its value is below the worth, both in
+///   thousandths of a cost unit.
 /// - `no 36 NODE CAR CLAIM`: the kept list of a car is longer than the claim.
 /// - `no 37 NODE`: a leaf lacks or repeats a price or a worth.
 ///

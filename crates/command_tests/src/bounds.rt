@@ -5,8 +5,8 @@ fn stated(line: &str, word: &str) -> Option<u64> {
     line.strip_prefix(word)?.parse().ok()
 }
 
-/// Whether the lines state no bound above the cost before it, and whether all bounds are equal to it, so that the status is 0,
-/// and else 3.
+/// Whether the lines state no bound above the cost before it, and whether all bounds are equal to it, so that
+/// the status is 0, and else 3.
 pub(crate) fn are_bounds_right(lines: &[&str], status: u8) -> bool {
     let mut cost = 0;
     let mut due = 0;

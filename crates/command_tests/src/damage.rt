@@ -119,8 +119,8 @@ impl<R: Threads + Sync> Bench<'_, R> {
         true
     }
 
-    /// Checks what the last run wrote, damaged, as an answer to the case that is the input. `least` is what the cheapest plan
-    /// costs. Tells a check that is not right.
+    /// Checks what the last run wrote, damaged, as an answer to the case that is the input. `least` is what
+    /// the cheapest plan costs. Tells a check that is not right.
     pub(crate) fn checks_damaged(&mut self, name: &str, least: &str) -> bool {
         self.due.clear();
         self.due.put(b"yes {");

@@ -1,7 +1,7 @@
 //! Whether what came is what is due.
 //!
-//! In what is due a word `{LOW..HIGH}` is any number in this range, a word `...` at the end of a line the rest of that line, and
-//! a line `...` any lines, also none.
+//! In what is due a word `{LOW..HIGH}` is any number in this range, a word `...` at the end of a line the
+//! rest of that line, and a line `...` any lines, also none.
 
 use crate::pieces::Text;
 use std::alloc::Global;
@@ -53,8 +53,8 @@ fn past(due: &[&str], lines: &[&str], from: usize, to: usize) -> Option<usize> {
     None
 }
 
-/// Whether the lines are all that is due: the lines before the first `...` stand first, those after the last one stand last,
-/// and the others at the first place after those before them.
+/// Whether the lines are all that is due: the lines before the first `...` stand first, those after the last
+/// one stand last, and the others at the first place after those before them.
 fn are_said(due: &[&str], lines: &[&str]) -> bool {
     let mut left = due.len();
     let mut from = 0;

@@ -13,8 +13,9 @@ fn whole_lines(text: &[u8], taken: usize) -> usize {
 }
 
 impl<R: Threads + Sync> Bench<'_, R> {
-    /// Reads give one byte each, and the first fails, then the second alone, and so on to the one at the input's end: whether
-    /// all of these runs are as is due. A line `after N` among the pieces says that those after it come with the N-th line.
+    /// Reads give one byte each, and the first fails, then the second alone, and so on to the one at the
+    /// input's end: whether all of these runs are as is due. A line `after N` among the pieces says that
+    /// those after it come with the N-th line.
     pub(crate) fn fits_each_failing_read(&mut self, step: Step<'_>, words: &str) -> bool {
         let pieces = section(step.lines, "output", "");
         for taken in 0..=self.input.bytes.len() {
@@ -31,8 +32,8 @@ impl<R: Threads + Sync> Bench<'_, R> {
         true
     }
 
-    /// Writes take one byte each, and the first fails, then the second alone, and so on: whether all of these runs are as is
-    /// due.
+    /// Writes take one byte each, and the first fails, then the second alone, and so on: whether all of these
+    /// runs are as is due.
     pub(crate) fn fits_each_failing_write(&mut self, step: Step<'_>, words: &str) -> bool {
         let pieces = section(step.lines, "output", "");
         self.due.set_pieces(step.file, pieces, usize::MAX);

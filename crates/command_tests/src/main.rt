@@ -1,6 +1,6 @@
-//! `command_tests FILE..` runs the cases of these files through the program, with sources and sinks in memory. It prints a
-//! line for each case that differs, with what came, and last how many cases there were. `docs/cases.md` says how a case is
-//! written.
+//! `command_tests FILE..` runs the cases of these files through the program, with sources and sinks in
+//! memory. It prints a line for each case that differs, with what came, and last how many cases there were.
+//! `docs/cases.md` says how a case is written.
 #![tactic(auto)]
 
 mod bounds;
@@ -47,8 +47,8 @@ impl<R: Threads + Sync> Bench<'_, R> {
     }
 }
 
-/// Runs the cases of the files that the words name, prints what differs, and how many cases there were. Says whether all are
-/// as is due.
+/// Runs the cases of the files that the words name, prints what differs, and how many cases there were. Says
+/// whether all are as is due.
 fn run_files<R: Threads + Sync>(rt: &HostRuntime, bench: &mut Bench<'_, R>) -> io::Result<bool> {
     for name in env::args(rt)?.skip(1) {
         bench.run_text(&fs::read_to_string(rt, name)?)?;

@@ -1,7 +1,8 @@
 //! The pieces of an input, or of what is due, as bytes.
 //!
-//! `|TEXT` is a line. `~TEXT` has no end of a line but where it writes one: `\n`, `\r`, `\t`, `\\` and `\xHH` are bytes.
-//! `*N TEXT` is N lines, and `^N TEXT` the same without ends, where `{}` stands for the number, from 0. `+NAME` is a text.
+//! `|TEXT` is a line. `~TEXT` has no end of a line but where it writes one: `\n`, `\r`, `\t`, `\\` and `\xHH`
+//! are bytes. `*N TEXT` is N lines, and `^N TEXT` the same without ends, where `{}` stands for the number,
+//! from 0. `+NAME` is a text.
 
 use bstr::ByteVec;
 use std::alloc::Global;
@@ -68,7 +69,8 @@ impl Text {
         }
     }
 
-    /// Appends a line that stands for any lines, and after a piece without an end for the rest of that line, too.
+    /// Appends a line that stands for any lines, and after a piece without an end for the rest of that line,
+    /// too.
     fn put_any_lines(&mut self) {
         if self.bytes.last().copied().unwrap_or(b'\n') != b'\n' {
             self.put(b"...\n");
@@ -115,7 +117,8 @@ impl Text {
         }
     }
 
-    /// Takes the pieces with which the lines begin, without those after a line `after N` where N is above `whole`.
+    /// Takes the pieces with which the lines begin, without those after a line `after N` where N is above
+    /// `whole`.
     pub(crate) fn set_pieces(&mut self, file: &[&str], lines: &[&str], whole: usize) {
         self.clear();
         for line in lines {

@@ -26,7 +26,8 @@ impl Report {
         self.cases = self.cases.saturating_add(1);
     }
 
-    /// Says that the case differs at these words, and what came. Without memory for the line the case is counted alone.
+    /// Says that the case differs at these words, and what came. Without memory for the line the case is
+    /// counted alone.
     pub(crate) fn differs(&mut self, name: &str, words: &str, ran: &Ran) {
         self.differing = self.differing.saturating_add(1);
         let shown = ran.text.bytes.get(..400).unwrap_or(&ran.text.bytes);

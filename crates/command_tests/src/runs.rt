@@ -9,8 +9,8 @@ use std::marker::Sync;
 use std::mem;
 use std::thread::Threads;
 
-/// How the input comes and the output goes: the most bytes of a read and of a write, the number of the read and of the write
-/// that fails (0 where none does), and the bytes that the output has room for.
+/// How the input comes and the output goes: the most bytes of a read and of a write, the number of the read
+/// and of the write that fails (0 where none does), and the bytes that the output has room for.
 #[derive(Clone, Copy)]
 pub(crate) struct Streams {
     pub reads: usize,
@@ -68,8 +68,8 @@ fn push_word(alloc: Global, words: &mut Vec<String>, first: &str, second: &str) 
     }
 }
 
-/// Appends the words of a line, between single spaces; the word `''` is the empty one. Workers that are not 0 are one word
-/// more. False out of memory.
+/// Appends the words of a line, between single spaces; the word `''` is the empty one. Workers that are not 0
+/// are one word more. False out of memory.
 fn push_line(alloc: Global, words: &mut Vec<String>, line: &str, workers: &str) -> bool {
     let mut is_whole = true;
     for word in line.split(' ') {
@@ -82,7 +82,8 @@ fn push_line(alloc: Global, words: &mut Vec<String>, line: &str, workers: &str) 
     is_whole
 }
 
-/// What runs the program: its input, what its last two runs came to, what is due, and what is told of the cases.
+/// What runs the program: its input, what its last two runs came to, what is due, and what is told of the
+/// cases.
 #[derive(Drop)]
 pub(crate) struct Bench<'r, R> {
     runtime: &'r R,
@@ -144,8 +145,8 @@ impl<'r, R: Threads + Sync> Bench<'r, R> {
         }
     }
 
-    /// Runs the program with the words of a line and these workers over the input. False where there is no memory for it, or
-    /// the input is not whole.
+    /// Runs the program with the words of a line and these workers over the input. False where there is no
+    /// memory for it, or the input is not whole.
     pub(crate) fn run(&mut self, line: &str, workers: &str, streams: Streams) -> bool {
         mem::swap(&mut self.ran, &mut self.before);
         self.ran.text.clear();
@@ -155,7 +156,8 @@ impl<'r, R: Threads + Sync> Bench<'r, R> {
             && self.run_words(&words, streams)
     }
 
-    /// Runs the program with the words of a line. Whether it ends with this status and writes as many bytes of what is due.
+    /// Runs the program with the words of a line. Whether it ends with this status and writes as many bytes
+    /// of what is due.
     pub(crate) fn ends(&mut self, line: &str, streams: Streams, status: u8, length: usize) -> bool {
         self.run(line, "0", streams) && self.ran.is(status, &self.due.bytes, length)
     }

@@ -1,4 +1,5 @@
-//! A step of a case: runs with its words over an input, each with every number of workers and every size of reads.
+//! A step of a case: runs with its words over an input, each with every number of workers and every size of
+//! reads.
 
 use crate::bounds::{are_bounds_right, stand_often};
 use crate::due::{is_said, lines_of};
@@ -65,7 +66,8 @@ impl Step<'_> {
         false
     }
 
-    /// Whether lines are those that one of the sections `output` says; any lines are where there is no such section.
+    /// Whether lines are those that one of the sections `output` says; any lines are where there is no such
+    /// section.
     fn is_text_due(self, alloc: Global, lines: &[&str], due: &mut Text) -> bool {
         let mut is_any_due = true;
         for (place, line) in self.lines.iter().enumerate() {
@@ -99,8 +101,8 @@ impl<R: Threads + Sync> Bench<'_, R> {
         }
     }
 
-    /// Runs with these words and workers, with reads of this size. Whether what came is as is due, and as what came before
-    /// where this is not the first run with these words.
+    /// Runs with these words and workers, with reads of this size. Whether what came is as is due, and as
+    /// what came before where this is not the first run with these words.
     fn run_once(&mut self, step: Step<'_>, words: &str, workers: &str, reads: &str) -> bool {
         let Some(streams) = step.streams(reads) else {
             return false;

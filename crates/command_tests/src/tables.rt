@@ -1,4 +1,5 @@
-//! Tables of inputs that are refused: each row has the line and the code that are due, and what is put into a text.
+//! Tables of inputs that are refused: each row has the line and the code that are due, and what is put into a
+//! text.
 
 use crate::pieces::{Text, section};
 use crate::runs::{Bench, Streams};
@@ -7,8 +8,8 @@ use memchr::memchr_iter;
 use std::marker::Sync;
 use std::thread::Threads;
 
-/// Where a row's lines are put: in place of those of the text from the row's line on, or after the text; or nothing is put,
-/// and the text ends before that line.
+/// Where a row's lines are put: in place of those of the text from the row's line on, or after the text; or
+/// nothing is put, and the text ends before that line.
 #[derive(Clone, Copy)]
 enum Way {
     Within,
@@ -25,7 +26,8 @@ struct Table<'a> {
     way: Way,
 }
 
-/// A row: the line at which its input is refused, counted from 1, the code, and the lines that are put into the text.
+/// A row: the line at which its input is refused, counted from 1, the code, and the lines that are put into
+/// the text.
 #[derive(Clone, Copy)]
 struct Row<'a> {
     line: usize,
@@ -87,8 +89,8 @@ impl<R: Threads + Sync> Bench<'_, R> {
         self.ends(table.words, Streams::of_reads(reads), 5, usize::MAX)
     }
 
-    /// Runs over the input of a row as it stands, in pieces of one byte, and where the line that is refused is the last one and
-    /// has no end. Tells an input that is not refused at this line with this code.
+    /// Runs over the input of a row as it stands, in pieces of one byte, and where the line that is refused
+    /// is the last one and has no end. Tells an input that is not refused at this line with this code.
     fn run_row(&mut self, table: Table<'_>, row: Row<'_>) {
         self.report.count();
         self.due.set_refusal(row);

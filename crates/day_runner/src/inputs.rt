@@ -41,7 +41,8 @@ where
     requires sound { PlannerLaw (right_by (FnReturnsAt F.Fn plan.now)) }
     requires unfailed { failure lines.old ≡ None }
     ensures same_source { lines.new.source.ghost_name ≡ lines.old.source.ghost_name }
-    ensures answered { DayAnswered (right_by (FnReturnsAt F.Fn plan.now)) (text S.left lines.old) (S.left lines.new.source.now)
+    ensures answered { DayAnswered (right_by (FnReturnsAt F.Fn plan.now)) (text S.left lines.old)
+        (S.left lines.new.source.now)
         (K.taken sink.old) (K.taken sink.new) result }
     ensures ends { IsSomeAnd (text S.left lines.old) IsDayText → EndsUnlessFailed result }
     ensures small { IfOk result (λ ended. (report_of ended.served.items).total.sum < 2 ^ 64) }

@@ -1,6 +1,7 @@
 //! Rows as they come.
 
-ghost use Rattle.std.specs.Prelude.{◌≡◌, ◌≤◌, ◌<◌, ◌+◌, ◌^◌, [], ◌∷◌, None, IsTrue, IfOk, IfErr, OnErr, OnOk, IsErrOf, length, take, ℕ};
+ghost use Rattle.std.specs.Prelude.{◌≡◌, ◌≤◌, ◌<◌, ◌+◌, ◌^◌, [], ◌∷◌, None, IsTrue, IfOk, IfErr, OnErr, OnOk};
+ghost use Rattle.std.specs.Prelude.{IsErrOf, length, take, ℕ};
 ghost use Rattle.std.specs.Io.KnownBytes.{append_known};
 ghost use Rattle.std.specs.Fn.{FnReturnsAt};
 ghost use Rattle.byte_streams.specs.Streams.{Rose};
@@ -11,7 +12,8 @@ ghost use Rattle.search_model.specs.Days.{day_after_refused, loses_none};
 ghost use Rattle.search_model.specs.declared.RowFault.TheVariants.{NoRow};
 ghost use Rattle.day_simulator.specs.Standing.{row_number};
 ghost use Rattle.day_simulator.specs.Texts.{refused_text};
-ghost use Rattle.day_runner.specs.Runs.{AreRowsDone, DidNext, Ran, WroteNext, fault_of, rows_of_line, rows_of_short, next_after, next_written};
+ghost use Rattle.day_runner.specs.Runs.{AreRowsDone, DidNext, Ran, WroteNext, fault_of, rows_of_line};
+ghost use Rattle.day_runner.specs.Runs.{rows_of_short, next_after, next_written};
 
 use byte_streams::{Sink, Source, put_all};
 use day_simulator::{Day, Planned, Snapshot};
@@ -82,7 +84,8 @@ fn do_short_line<F: Fn(&Snapshot) -> Result<Planned, AllocError>>(
     requires number { row_number day.old < 2 ^ 32 }
     requires none_lost { IsTrue (loses_none day.old) }
     requires empty { out.old.items ≡ [] }
-    ensures done { OnOk result (AreRowsDone (right_by (FnReturnsAt F.Fn plan.now)) day.old (rows_of_short line.now) day.new out.new.items) }
+    ensures done { OnOk result (AreRowsDone (right_by (FnReturnsAt F.Fn plan.now)) day.old
+        (rows_of_short line.now) day.new out.new.items) }
     ensures number { row_number day.new ≤ row_number day.old + 1 }
     ensures as_before { OnErr result (day.new ≡ day.old) }
     ensures none_lost { IsTrue (loses_none day.new) }
@@ -107,7 +110,8 @@ fn do_line<F: Fn(&Snapshot) -> Result<Planned, AllocError>>(
     requires number { row_number day.old < 2 ^ 32 }
     requires none_lost { IsTrue (loses_none day.old) }
     requires empty { out.old.items ≡ [] }
-    ensures done { OnOk result (AreRowsDone (right_by (FnReturnsAt F.Fn plan.now)) day.old (rows_of_line line.now) day.new out.new.items) }
+    ensures done { OnOk result (AreRowsDone (right_by (FnReturnsAt F.Fn plan.now)) day.old
+        (rows_of_line line.now) day.new out.new.items) }
     ensures number { row_number day.new ≤ row_number day.old + 1 }
     ensures as_before { OnErr result (day.new ≡ day.old) }
     ensures none_lost { IsTrue (loses_none day.new) }
@@ -167,7 +171,8 @@ where
     requires none_lost { IsTrue (loses_none day.old) }
     requires empty { out.old.items ≡ [] }
     ensures same_source { lines.new.source.ghost_name ≡ lines.old.source.ghost_name }
-    ensures next { DidNext (right_by (FnReturnsAt F.Fn plan.now)) day.old day.new result out.new.items (text S.left lines.old)
+    ensures next { DidNext (right_by (FnReturnsAt F.Fn plan.now)) day.old day.new result out.new.items
+        (text S.left lines.old)
         (text S.left lines.new) (S.left lines.new.source.now) }
     ensures none_lost { IsTrue (loses_none day.new) }
     ensures unfailed { OnOk result (failure lines.new ≡ None) }

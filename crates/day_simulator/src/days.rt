@@ -1,9 +1,12 @@
 //! A day of calls.
 
-ghost use Rattle.std.specs.Prelude.{◌≡◌, ◌<◌, ◌≤◌, ◌+◌, ◌++◌, ◌∷◌, ◌^◌, [], None, Some, IsTrue, All, length, nat_lt, if◌then◌else◌, IfOk, IfErr, OnOk, OnErr};
+ghost use Rattle.std.specs.Prelude.{◌≡◌, ◌<◌, ◌≤◌, ◌+◌, ◌++◌, ◌∷◌, ◌^◌, [], None, Some, IsTrue, All, length};
+ghost use Rattle.std.specs.Prelude.{nat_lt, if◌then◌else◌, IfOk, IfErr, OnOk, OnErr};
 ghost use Rattle.elevator_model.specs.Plans.{IsFeasiblePlan};
 ghost use Rattle.search_model.specs.Advancing.{advanced, events_by};
-ghost use Rattle.search_model.specs.Days.{opening_day, day_after_accepted, is_row, call_of_row, with_call, fault_of_row, fault_of_new_call, calls_after, loses_none, delivered_count as delivered_count_lem, served_of};
+ghost use Rattle.search_model.specs.Days.{opening_day, day_after_accepted, is_row, call_of_row, with_call};
+ghost use Rattle.search_model.specs.Days.{fault_of_row, fault_of_new_call, calls_after, loses_none};
+ghost use Rattle.search_model.specs.Days.{delivered_count as delivered_count_lem, served_of};
 ghost use Rattle.day_state.specs.Openings.{IsOpeningSnapshot, IsNewCall, taken};
 ghost use Rattle.row_text.specs.Records.{row_of_line, row_as_said};
 ghost use Rattle.day_simulator.specs.Logged.{IdsRise, day_call, day_calls, day_of};
@@ -139,7 +142,12 @@ impl Model for Day {
 
     ghost Value = { Record };
 
-    ghost view = { λ d. record { world = d.world; refused = d.refused; unsolved = d.unsolved; calls = day_calls d.calls.items } };
+    ghost view = { λ d. record {
+      world = d.world;
+      refused = d.refused;
+      unsolved = d.unsolved;
+      calls = day_calls d.calls.items;
+    } };
 
     ghost invariant = { λ d. IsStanding
         (record { world = d.world; refused = d.refused; unsolved = d.unsolved; calls = day_calls d.calls.items }) };

@@ -4,7 +4,8 @@ ghost use Rattle.std.specs.Prelude.{◌≡◌, ◌++◌, ◌∷◌, [], codes, d
 ghost use Rattle.elevator_model.specs.Plans.{IsFeasiblePlan};
 ghost use Rattle.search_model.specs.Days.{code_of_row};
 ghost use Rattle.text_sections.specs.Canonical.{line_text};
-ghost use Rattle.day_simulator.specs.Texts.{event_words, events_text, accepted_words, plan_text, accepted_text, refused_text, solved_words, total_text};
+ghost use Rattle.day_simulator.specs.Texts.{event_words, events_text, accepted_words, plan_text};
+ghost use Rattle.day_simulator.specs.Texts.{accepted_text, refused_text, solved_words, total_text};
 
 use crate::planners::Planned;
 use answer_text::write_body;

@@ -1,8 +1,11 @@
 //! The accepted calls of a day, in the order of their ids, and what has happened to each.
 
-ghost use Rattle.std.specs.Prelude.{◌≡◌, ◌<◌, ◌++◌, ◌∷◌, [], map, length, count_by, IfOk, OnErr, OnOk, IfSome, IfNone, None, ℕ};
-ghost use Rattle.search_model.specs.Days.{noted_in, calls_after, served_from as served_from_lem, is_delivered_call};
-ghost use Rattle.day_simulator.specs.Logged.{day_call, day_calls, id_at, id_of_event as id_of_event_lem, IdsRise};
+ghost use Rattle.std.specs.Prelude.{◌≡◌, ◌<◌, ◌++◌, ◌∷◌, [], map, length, count_by, IfOk, OnErr, OnOk};
+ghost use Rattle.std.specs.Prelude.{IfSome, IfNone, None, ℕ};
+ghost use Rattle.search_model.specs.Days.{noted_in, calls_after, served_from as served_from_lem};
+ghost use Rattle.search_model.specs.Days.{is_delivered_call};
+ghost use Rattle.day_simulator.specs.Logged.{day_call, day_calls, id_at, id_of_event as id_of_event_lem};
+ghost use Rattle.day_simulator.specs.Logged.{IdsRise};
 
 use search_model::{Event, Served};
 use std::alloc::{AllocError, Global};

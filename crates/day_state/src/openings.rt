@@ -5,7 +5,9 @@ ghost use Rattle.elevator_model.specs.Building.{floor_count};
 ghost use Rattle.elevator_model.specs.Snapshot.{car_count, state_of};
 ghost use Rattle.elevator_model.specs.Plans.{IsFeasiblePlan};
 ghost use Rattle.search_model.specs.Sums.{lesser_of};
-ghost use Rattle.search_model.specs.Days.{opening_tour as opening_tour_lem, opening_world, floors_to_open as floors_to_open_lem, nearest_open as nearest_open_lem, lone_stop as lone_stop_lem};
+ghost use Rattle.search_model.specs.Days.{opening_tour as opening_tour_lem, opening_world};
+ghost use Rattle.search_model.specs.Days.{floors_to_open as floors_to_open_lem};
+ghost use Rattle.search_model.specs.Days.{nearest_open as nearest_open_lem, lone_stop as lone_stop_lem};
 ghost use Rattle.day_state.specs.Openings.{IsOpeningSnapshot};
 
 use call_state::{CarState, Snapshot, is_open};

@@ -1,14 +1,17 @@
 //! What a world is at a moment, once the cars' stops until then are done: who is aboard, which calls wait,
 //! which stops are left.
 
-ghost use Rattle.std.specs.Prelude.{◌≡◌, ◌<◌, ◌≤◌, ◌+◌, ◌++◌, ◌&&◌, not, ℕ, List, map, filter, length, slice_index, nat_lt, IfOk, OnOk};
+ghost use Rattle.std.specs.Prelude.{◌≡◌, ◌<◌, ◌≤◌, ◌+◌, ◌++◌, ◌&&◌, not, ℕ, List, map, filter, length};
+ghost use Rattle.std.specs.Prelude.{slice_index, nat_lt, IfOk, OnOk};
 ghost use Rattle.std.specs.List.{range_with_len, list_any};
 ghost use Rattle.call_sets.specs.Counting.{has, sum_where};
 ghost use Rattle.elevator_model.specs.Snapshot.{IsAccepted, car_count, call_count, call_of, group_of};
 ghost use Rattle.elevator_model.specs.Plans.{IsFeasiblePlan};
 ghost use Rattle.elevator_model.specs.Tours.{Progress};
 ghost use Rattle.call_state.specs.SnapshotParts.{snapshot_of};
-ghost use Rattle.search_model.specs.Advancing.{World as Record, advanced, rides_on, group_from as group_from_lem, new_groups, for_cars, progress_at};
+ghost use Rattle.search_model.specs.Advancing.{World as Record, advanced, rides_on};
+ghost use Rattle.search_model.specs.Advancing.{group_from as group_from_lem, new_groups, for_cars};
+ghost use Rattle.search_model.specs.Advancing.{progress_at};
 ghost use Rattle.day_state.specs.Riding.{Rides};
 ghost use Rattle.day_state.specs.Reaching.{AreReached, AreWithin, renamed_stop, has_boarded};
 ghost use Rattle.tour_rules.specs.Places.{call_in};

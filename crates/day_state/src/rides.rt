@@ -1,12 +1,14 @@
 //! A car along its tour, with those aboard in the order in which they boarded.
 
-ghost use Rattle.std.specs.Prelude.{◌≡◌, ◌<◌, ◌≤◌, ◌+◌, ◌++◌, ℕ, Bool, List, true, take, drop, length, slice_index, if◌then◌else◌, IfOk, OnOk};
+ghost use Rattle.std.specs.Prelude.{◌≡◌, ◌<◌, ◌≤◌, ◌+◌, ◌++◌, ℕ, Bool, List, true, take, drop, length};
+ghost use Rattle.std.specs.Prelude.{slice_index, if◌then◌else◌, IfOk, OnOk};
 ghost use Rattle.call_sets.specs.Counting.{has, is_among};
 ghost use Rattle.elevator_model.specs.Building.{floor_count};
 ghost use Rattle.elevator_model.specs.Snapshot.{IsAccepted, car_count, call_count};
 ghost use Rattle.elevator_model.specs.Tours.{Progress, start_of, make_stop, after_stops, IsFeasible};
 ghost use Rattle.tour_rules.specs.Walking.{Walks};
-ghost use Rattle.search_model.specs.Advancing.{done_from, riders_at_start, riders_after, riders_after_all, events_at, events_of_car};
+ghost use Rattle.search_model.specs.Advancing.{done_from, riders_at_start, riders_after, riders_after_all};
+ghost use Rattle.search_model.specs.Advancing.{events_at, events_of_car};
 ghost use Rattle.day_state.specs.Riding.{Rides, RidesAfter, stops_by};
 
 use crate::riders::{board, by_id, deliver, riders_aboard, riders_staying};

@@ -9,7 +9,12 @@ ghost use Rattle.tour_rules.specs.Places.{Tracks, call_in, group_in, group_carri
 ghost use Rattle.tour_rules.specs.Walking.{Walks};
 ghost use Rattle.day_state.specs.Passing.{call_passed, group_passed};
 ghost use Rattle.day_state.specs.Riding.{AreFloorsOf};
-ghost use Rattle.search_model.specs.Advancing.{can_still_choose as can_still_choose_lem, comes_to as comes_to_lem, state_under_way as state_under_way_lem, state_standing as state_standing_lem, state_moving as state_moving_lem, state_then as state_then_lem};
+ghost use Rattle.search_model.specs.Advancing.{can_still_choose as can_still_choose_lem};
+ghost use Rattle.search_model.specs.Advancing.{comes_to as comes_to_lem};
+ghost use Rattle.search_model.specs.Advancing.{state_under_way as state_under_way_lem};
+ghost use Rattle.search_model.specs.Advancing.{state_standing as state_standing_lem};
+ghost use Rattle.search_model.specs.Advancing.{state_moving as state_moving_lem};
+ghost use Rattle.search_model.specs.Advancing.{state_then as state_then_lem};
 
 use call_sets::{CallSet, FloorSet};
 use call_state::{Aboard, Building, Call, CarState, Snapshot, is_open};

@@ -1,7 +1,9 @@
 //! The world of a day: a snapshot and the plan that holds in it.
 
-ghost use Rattle.std.specs.Prelude.{◌≡◌, ◌<◌, ◌≤◌, ◌↔◌, ◌++◌, true, false, nat_le, IfOk, OnOk, OnErr, IfErr, Some, None, option_map};
-ghost use Rattle.elevator_model.specs.Snapshot.{Snapshot as SnapshotRecord, IsAccepted, car_count, call_count};
+ghost use Rattle.std.specs.Prelude.{◌≡◌, ◌<◌, ◌≤◌, ◌↔◌, ◌++◌, true, false, nat_le, IfOk, OnOk, OnErr, IfErr};
+ghost use Rattle.std.specs.Prelude.{Some, None, option_map};
+ghost use Rattle.elevator_model.specs.Snapshot.{Snapshot as SnapshotRecord, IsAccepted, car_count};
+ghost use Rattle.elevator_model.specs.Snapshot.{call_count};
 ghost use Rattle.elevator_model.specs.Plans.{IsFeasiblePlan};
 ghost use Rattle.search_model.specs.Advancing.{advanced, events_by, last_events};
 ghost use Rattle.search_model.specs.Days.{opening_world, fault_of_new_call};

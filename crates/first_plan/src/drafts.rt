@@ -3,9 +3,9 @@
 ghost use Rattle.std.specs.Prelude.{◌<◌};
 ghost use Rattle.elevator_model.specs.Snapshot.{car_count};
 
-use crate::places::{Place, Spot};
+use crate::places::{Insertion, Spot};
 use crate::queues::Queues;
-use crate::ride::Ride;
+use crate::ride::DraftRide;
 use crate::stops::DraftStop;
 use call_sets::CallSet;
 use call_state::{Call, Snapshot};
@@ -17,7 +17,7 @@ use std::mem;
 /// The draft of a car's tour.
 #[derive(Drop)]
 pub(crate) struct Draft {
-    pub(crate) start: Ride,
+    pub(crate) start: DraftRide,
     pub(crate) stops: Vec<DraftStop>,
     /// Room for the stops that are timed anew.
     spare: Vec<DraftStop>,
@@ -34,10 +34,10 @@ pub(crate) struct Draft {
 fn add_timed(
     snapshot: &Snapshot,
     queues: &Queues,
-    start: &Ride,
+    start: &DraftRide,
     stops: &[DraftStop],
     timed: &mut Vec<DraftStop>,
-) -> Result<Ride, AllocError> {
+) -> Result<DraftRide, AllocError> {
     let mut ride = *start;
     for stop in stops {
         if ride.visit(snapshot, queues, stop) {
@@ -68,7 +68,7 @@ impl Draft {
         requires { car < car_count snapshot.now }
     {
         let mut draft = Self {
-            start: Ride::start(snapshot, car),
+            start: DraftRide::start(snapshot, car),
             stops,
             spare: Vec::new(alloc),
             calls: CallSet::empty(),
@@ -113,7 +113,7 @@ impl Draft {
         &mut self,
         snapshot: &Snapshot,
         queues: &Queues,
-        place: &Place,
+        place: &Insertion,
         call: u32,
         wanted: &Call,
     ) -> Result<(), AllocError> {

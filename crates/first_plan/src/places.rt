@@ -20,7 +20,7 @@ pub(crate) enum Spot {
 
 /// Where a call boards and gets off in the draft of a car.
 #[derive(Clone, Copy)]
-pub(crate) struct Place {
+pub(crate) struct Insertion {
     pub(crate) car: u32,
     pub(crate) boards: Spot,
     pub(crate) leaves: Spot,
@@ -30,7 +30,7 @@ pub(crate) struct Place {
 
 /// A search for the places of a call in the draft of a car.
 #[derive(Drop)]
-struct Search<'a> {
+struct InsertionSearch<'a> {
     snapshot: &'a Snapshot,
     draft: &'a Draft,
     car: u32,
@@ -102,7 +102,7 @@ impl Approach {
     }
 }
 
-impl Search<'_> {
+impl InsertionSearch<'_> {
     /// The moment in ms at which the doors are open at a floor where the car goes next.
     fn opened_at(&self, last: &Approach, floor: u32) -> u64 {
         last.leaves
@@ -236,7 +236,7 @@ impl Search<'_> {
         behind: &[DraftStop],
         limit: u64,
         tried: &mut u64,
-    ) -> Option<Place> {
+    ) -> Option<Insertion> {
         let boarded = stop.before.union(stop.boards);
         if !self.earlier.minus(boarded).is_empty() || !self.fits(stop.load) {
             return None;
@@ -256,7 +256,7 @@ impl Search<'_> {
         stops: &[DraftStop],
         limit: u64,
         tried: &mut u64,
-    ) -> Option<Place> {
+    ) -> Option<Insertion> {
         let origin = self.wanted.origin;
         let next = stops.first();
         if !self.earlier.minus(self.boarded_before(next)).is_empty() || !self.fits(approach.load) {
@@ -273,8 +273,8 @@ impl Search<'_> {
     }
 
     /// A place in this draft.
-    fn place(&self, boards: Spot, leaves: Spot, rise: u64) -> Place {
-        Place {
+    fn place(&self, boards: Spot, leaves: Spot, rise: u64) -> Insertion {
+        Insertion {
             car: self.car,
             boards,
             leaves,
@@ -302,7 +302,7 @@ impl Search<'_> {
 
     /// The place at a new first stop. A first stop of the draft where nobody boards or gets off is not made
     /// then.
-    fn at_first(&self, stops: &[DraftStop], limit: u64, tried: &mut u64) -> Option<Place> {
+    fn at_first(&self, stops: &[DraftStop], limit: u64, tried: &mut u64) -> Option<Insertion> {
         if !self.draft.start.may_begin_at(self.wanted.origin) {
             return None;
         }
@@ -324,7 +324,7 @@ impl Search<'_> {
         stops: &[DraftStop],
         limit: u64,
         tried: &mut u64,
-    ) -> Option<Place> {
+    ) -> Option<Insertion> {
         if let [stop, behind @ ..] = stops {
             if stop.floor == self.wanted.origin {
                 return self.at_stop(at, stop, behind, limit, tried);
@@ -340,7 +340,7 @@ impl Search<'_> {
     }
 
     /// The cheapest place of the call in the draft, if it is cheaper than the best so far.
-    fn best(&self, best: Option<Place>, tried: &mut u64) -> Option<Place> {
+    fn best(&self, best: Option<Insertion>, tried: &mut u64) -> Option<Insertion> {
         let stops = self.draft.stops.as_slice();
         let mut approach = Approach::at_start(self.draft);
         let mut best = best;
@@ -362,7 +362,7 @@ impl Search<'_> {
 }
 
 /// The rise in cost that a better place stays below.
-fn limit_of(best: Option<Place>) -> u64 {
+fn limit_of(best: Option<Insertion>) -> u64 {
     match best {
         Some(place) => place.rise,
         None => u64::MAX,
@@ -370,7 +370,7 @@ fn limit_of(best: Option<Place>) -> u64 {
 }
 
 /// The place where the cost rises less, and of two like that the first.
-fn cheaper(best: Option<Place>, place: Option<Place>) -> Option<Place> {
+fn cheaper(best: Option<Insertion>, place: Option<Insertion>) -> Option<Insertion> {
     match place {
         Some(next) if next.rise < limit_of(best) => Some(next),
         Some(_) | None => best,
@@ -385,7 +385,7 @@ fn search_in<'a>(
     car: u32,
     call: u32,
     wanted: Call,
-) -> Search<'a> {
+) -> InsertionSearch<'a> {
     let spec = draft.start.spec();
     let persons = wanted.persons as u64;
     let riding_rate = snapshot.building().travel_weight().saturating_mul(persons);
@@ -394,7 +394,7 @@ fn search_in<'a>(
         .saturating_add(spec.boarding.saturating_mul(persons))
         .saturating_add(travel_time(snapshot, wanted.origin, wanted.destination))
         .saturating_add(spec.opening);
-    Search {
+    InsertionSearch {
         snapshot,
         draft,
         car,
@@ -416,7 +416,7 @@ pub(crate) fn best_place(
     call: u32,
     wanted: &Call,
     tried: &mut u64,
-) -> Option<Place> {
+) -> Option<Insertion> {
     let cars = snapshot.building().cars().len();
     let mut best = None;
     for (car, draft) in drafts.iter().enumerate() {

@@ -14,7 +14,7 @@ use tour_rules::first_floors;
 
 /// How far a car is in its draft tour. Moments are in ms, costs in cost units.
 #[derive(Clone, Copy)]
-pub(crate) struct Ride {
+pub(crate) struct DraftRide {
     spec: CarSpec,
     /// Whether it has made a stop.
     begun: bool,
@@ -83,7 +83,7 @@ fn waiting_rate(snapshot: &Snapshot, call: &Call, opened: u64) -> u64 {
     (call.persons as u64).saturating_mul(rate)
 }
 
-impl Ride {
+impl DraftRide {
     /// The car at the start of its tour.
     pub(crate) fn start(snapshot: &Snapshot, car: u32) -> Self
         requires { car < car_count snapshot.now }

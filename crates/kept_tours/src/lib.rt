@@ -21,12 +21,14 @@
 //! that an ended partial tour is one tour, but for the order of boards at a stop.
 #![tactic(auto)]
 
+mod guides;
 mod kept_steps;
 mod steps;
 
 ghost use Rattle.search_model.specs.Kept.{KeptLaw};
 ghost use Rattle.kept_tours.specs.Kept.{KeptByLaw};
 
+pub use guides::Guide;
 pub use kept_steps::{followers_below, step_below};
 pub use steps::step;
 

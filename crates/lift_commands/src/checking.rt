@@ -6,7 +6,8 @@ ghost use Rattle.lift_text.specs.Reading.{whole_text};
 ghost use Rattle.check_text.specs.CheckTexts.{IsChecked, IsRefusedCheck, TakesChecks};
 ghost use Rattle.check_text.specs.VerdictTexts.{IsToldOf, verdict_text};
 ghost use Rattle.lift_words.specs.Taken.{AreCheckOptions};
-ghost use Rattle.lift_commands.specs.Outcome.{CheckDue, Checks, Ends, RefusesChecks, status_of_verdict as status_of_verdict_lem, streams};
+ghost use Rattle.lift_commands.specs.Outcome.{CheckDue, Checks, Ends, RefusesChecks};
+ghost use Rattle.lift_commands.specs.Outcome.{status_of_verdict as status_of_verdict_lem, streams};
 
 use crate::putting::{Answer, put, put_fault};
 use crate::status::{Status, status_of_verdict};

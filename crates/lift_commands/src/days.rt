@@ -8,7 +8,8 @@ ghost use Rattle.service_report.specs.ReportTexts.{report_text as report_text_le
 ghost use Rattle.day_runner.specs.Inputs.{DayAnswered, EndsUnlessFailed, IsDayText, IsUnread, IsUnwritten};
 ghost use Rattle.lift_words.specs.Taken.{AreDayOptions};
 ghost use Rattle.lift_commands.specs.Outcome.{Ends, streams};
-ghost use Rattle.lift_commands.specs.DayOutcome.{IsSolvedRow, PutsRowsFault, ReportsDay, RunsDay, status_of_unsolved as status_of_unsolved_lem};
+ghost use Rattle.lift_commands.specs.DayOutcome.{IsSolvedRow, PutsRowsFault, ReportsDay, RunsDay};
+ghost use Rattle.lift_commands.specs.DayOutcome.{status_of_unsolved as status_of_unsolved_lem};
 
 use crate::planning::plan_within;
 use crate::putting::{TOO_LONG, put, put_fault};

@@ -4,7 +4,8 @@ ghost use Rattle.byte_streams.specs.Streams.{Rose};
 ghost use Rattle.elevator_model.specs.Snapshot.{IsAccepted, Snapshot as SnapshotLem};
 ghost use Rattle.search_model.specs.Verdicts.{moves_enough, rounds_enough};
 ghost use Rattle.lift_words.specs.Taken.{AreCaseSizes, AreRunOptions};
-ghost use Rattle.lift_commands.specs.Outcome.{Ends, IsCaseOf, IsCaseSolved, IsMadeCase, IsSolvedCase, MakeDue, SolvedCaseDue, run_text, streams};
+ghost use Rattle.lift_commands.specs.Outcome.{Ends, IsCaseOf, IsCaseSolved, IsMadeCase, IsSolvedCase};
+ghost use Rattle.lift_commands.specs.Outcome.{MakeDue, SolvedCaseDue, run_text, streams};
 
 use crate::putting::{Answer, put};
 use crate::status::{Status, status_of};

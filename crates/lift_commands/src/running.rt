@@ -2,7 +2,9 @@
 
 ghost use Rattle.std.specs.Prelude.{map, string_bytes};
 ghost use Rattle.lift_commands.specs.DayOutcome.{AskNoDay, DaysByWords, ReportsByWords};
-ghost use Rattle.lift_commands.specs.Outcome.{Ends, RunDue, SolvesByWords, RefusesByWords, ChecksByWords, RefusesChecksByWords, MakesByWords, RunsByWords, RefusesWords, streams};
+ghost use Rattle.lift_commands.specs.Outcome.{Ends, RunDue, SolvesByWords, RefusesByWords, ChecksByWords};
+ghost use Rattle.lift_commands.specs.Outcome.{RefusesChecksByWords, MakesByWords, RunsByWords, RefusesWords};
+ghost use Rattle.lift_commands.specs.Outcome.{streams};
 
 use crate::checking::check;
 use crate::days::{day, report};
@@ -45,7 +47,8 @@ pub fn run<S: Source, K: Sink, G: Gate + Sync>(
     gate: &G,
 ) -> Status
     // What was read and written, and why it ended, by words of other commands than `day` and `report`.
-    ensures ends { AskNoDay (map string_bytes words.now) → Ends (RunDue (map string_bytes words.now) (S.left source.old) (S.left source.new))
+    ensures ends { AskNoDay (map string_bytes words.now)
+        → Ends (RunDue (map string_bytes words.now) (S.left source.old) (S.left source.new))
         (streams (S.left source.old) (K.taken sink.old) (S.faults source.old) (K.faults sink.old))
         (streams (S.left source.new) (K.taken sink.new) (S.faults source.new)
         (K.faults sink.new)) result }

@@ -8,7 +8,9 @@ ghost use Rattle.case_text.specs.CaseTexts.{IsCaseText, IsLoneCaseFault, Tells};
 ghost use Rattle.search_model.specs.Verdicts.{moves_enough, rounds_enough};
 ghost use Rattle.cert_text.specs.Trees.{AreTwigsKnown};
 ghost use Rattle.lift_words.specs.Taken.{AreSolveOptions};
-ghost use Rattle.lift_commands.specs.Outcome.{AnswersCases, CanBeChecked, Ends, IsCarOf, IsSaidYes, IsSolution, Refuses, SolveDue, Solves, certificate_part, closing_line, streams};
+ghost use Rattle.lift_commands.specs.Outcome.{AnswersCases, CanBeChecked, Ends, IsCarOf, IsSaidYes};
+ghost use Rattle.lift_commands.specs.Outcome.{IsSolution, Refuses, SolveDue, Solves, certificate_part};
+ghost use Rattle.lift_commands.specs.Outcome.{closing_line, streams};
 
 use crate::putting::{Answer, put, put_fault};
 use crate::status::{Status, status_of};

@@ -1,7 +1,8 @@
 //! How a run ends.
 
 ghost use Rattle.std.specs.Prelude.{◌≡◌};
-ghost use Rattle.lift_commands.specs.Outcome.{status_of as status_of_lem, status_of_verdict as status_of_verdict_lem};
+ghost use Rattle.lift_commands.specs.Outcome.{status_of as status_of_lem};
+ghost use Rattle.lift_commands.specs.Outcome.{status_of_verdict as status_of_verdict_lem};
 
 use search_model::{StopReason, Verdict};
 

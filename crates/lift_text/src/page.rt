@@ -1,5 +1,6 @@
 //! The line of a text that is being read, and what is read of the text after it.
-ghost use Rattle.std.specs.Prelude.{◌≡◌, ◌≢◌, ℕ, ◌+◌, ◌<◌, ◌≤◌, List, [], ◌∷◌, ◌++◌, Some, None, true, false, length, take, drop, IfOk, IfErr, IfSome, OnOk, OnErr, IsErrOf};
+ghost use Rattle.std.specs.Prelude.{◌≡◌, ◌≢◌, ℕ, ◌+◌, ◌<◌, ◌≤◌, List, [], ◌∷◌, ◌++◌, Some, None, true, false};
+ghost use Rattle.std.specs.Prelude.{length, take, drop, IfOk, IfErr, IfSome, OnOk, OnErr, IsErrOf};
 ghost use Rattle.byte_streams.specs.Streams.{Rose};
 ghost use Rattle.lift_text.specs.Page.{IfBad, step_of};
 
@@ -57,17 +58,23 @@ impl Model for Page {
       failure = p.failure;
     } };
 
-    ghost invariant = { λ p. IsPage p.window p.size p.raw p.line (vec_len p.spans) (vec_capacity p.spans) p.spans.items };
+    ghost invariant = { λ p. IsPage p.window p.size p.raw p.line (vec_len p.spans)
+        (vec_capacity p.spans) p.spans.items };
 }
 
 impl Page {
-    ghost use Rattle.std.specs.Prelude.{◌≡◌, ◌≢◌, ℕ, ◌+◌, ◌<◌, ◌≤◌, List, [], ◌∷◌, ◌++◌, Some, None, true, false, length, take, drop, IfOk, IfErr, IfSome, OnOk, OnErr, IsErrOf, slice_index_or};
+    ghost use Rattle.std.specs.Prelude.{◌≡◌, ◌≢◌, ℕ, ◌+◌, ◌<◌, ◌≤◌, List, [], ◌∷◌, ◌++◌, Some, None, true};
+    ghost use Rattle.std.specs.Prelude.{false, length, take, drop, IfOk, IfErr, IfSome, OnOk, OnErr, IsErrOf};
+    ghost use Rattle.std.specs.Prelude.{slice_index_or};
     ghost use Rattle.std.specs.Io.KnownBytes.{IsAtEnd};
     ghost use Rattle.byte_streams.specs.Streams.{Rose, Took};
     ghost use Rattle.lift_text.specs.Lines.{pieces_of, HasWholeLine};
     ghost use Rattle.lift_text.specs.Front.{IsWholeLine, past_found};
-    ghost use Rattle.lift_text.specs.Reading.{NextLine, NextRaw, BadLineShows, HasWholeAnswer, StoppedBehind, lines_counted, past_quota};
-    ghost use Rattle.lift_text.specs.Page.{text_at, limit_of, Advanced, CurrentOne, CurrentWhole, Forward, IfBad, JudgedAs, LineEnds, PageTook, ReadLine, SkippedLine, StepEnds};
+    ghost use Rattle.lift_text.specs.Reading.{NextLine, NextRaw, BadLineShows, HasWholeAnswer, StoppedBehind};
+    ghost use Rattle.lift_text.specs.Reading.{lines_counted, past_quota};
+    ghost use Rattle.lift_text.specs.Page.{text_at, limit_of, Advanced, CurrentOne, CurrentWhole, Forward};
+    ghost use Rattle.lift_text.specs.Page.{IfBad, JudgedAs, LineEnds, PageTook, ReadLine, SkippedLine};
+    ghost use Rattle.lift_text.specs.Page.{StepEnds};
 
     /// A page before the first line.
     pub(crate) fn new(alloc: Global) -> Result<Page, AllocError>

@@ -1,10 +1,12 @@
 //! Reading a text line by line.
-ghost use Rattle.std.specs.Prelude.{◌≡◌, ◌≢◌, ℕ, ◌+◌, ◌<◌, ◌≤◌, List, [], ◌++◌, Some, None, true, false, length, IfOk, IfErr, IfSome, OnOk, IsErrOf, option_map, slice_index_or};
+ghost use Rattle.std.specs.Prelude.{◌≡◌, ◌≢◌, ℕ, ◌+◌, ◌<◌, ◌≤◌, List, [], ◌++◌, Some, None, true, false};
+ghost use Rattle.std.specs.Prelude.{length, IfOk, IfErr, IfSome, OnOk, IsErrOf, option_map, slice_index_or};
 ghost use Rattle.std.specs.Io.KnownBytes.{IsAtEnd};
 ghost use Rattle.byte_streams.specs.Streams.{Rose, Took};
 ghost use Rattle.lift_text.specs.Lines.{pieces_of, HasWholeLine};
 ghost use Rattle.lift_text.specs.Numbers.{read_number};
-ghost use Rattle.lift_text.specs.Reading.{NextLine, NextRaw, BadLineShows, HasWholeAnswer, StoppedBehind, lines_counted, past_quota, whole_text};
+ghost use Rattle.lift_text.specs.Reading.{NextLine, NextRaw, BadLineShows, HasWholeAnswer, StoppedBehind};
+ghost use Rattle.lift_text.specs.Reading.{lines_counted, past_quota, whole_text};
 
 use crate::faults::{RawLine, TextFault};
 use crate::numbers::{NumberFault, number_in};

@@ -1,10 +1,12 @@
 //! The bytes of a source that are read and not used yet.
-ghost use Rattle.std.specs.Prelude.{◌≡◌, ◌≢◌, ℕ, ◌+◌, ◌<◌, ◌≤◌, List, [], ◌∷◌, ◌++◌, length, take, drop, IfOk, OnErr, slice_index};
+ghost use Rattle.std.specs.Prelude.{◌≡◌, ◌≢◌, ℕ, ◌+◌, ◌<◌, ◌≤◌, List, [], ◌∷◌, ◌++◌, length, take, drop};
+ghost use Rattle.std.specs.Prelude.{IfOk, OnErr, slice_index};
 ghost use Rattle.std.specs.Io.KnownBytes.{prepend_known, IsAtEnd};
 ghost use Rattle.std.specs.Io.BufRead.{strip_last};
 ghost use Rattle.byte_streams.specs.Streams.{Rose, Took};
 ghost use Rattle.lift_text.specs.Lines.{HasWholeLine};
-ghost use Rattle.lift_text.specs.Front.{Filled, FoundIn, FoundOne, FoundWhole, Gathered, FoundShows, NoLineFeedBelow, SkippedIn, past_found, past_skipped};
+ghost use Rattle.lift_text.specs.Front.{Filled, FoundIn, FoundOne, FoundWhole, Gathered, FoundShows};
+ghost use Rattle.lift_text.specs.Front.{NoLineFeedBelow, SkippedIn, past_found, past_skipped};
 
 use crate::judge::LINE_LIMIT;
 use crate::places::place_of;

@@ -1,7 +1,11 @@
 //! Reads the words.
-ghost use Rattle.std.specs.Prelude.{◌≡◌, ◌≤◌, IfErr, IfOk, IfSome, None, length, IsTrue, ◌↔◌, Some, codes, map, option_map, string_bytes};
+ghost use Rattle.std.specs.Prelude.{◌≡◌, ◌≤◌, IfErr, IfOk, IfSome, None, length, IsTrue, ◌↔◌, Some, codes};
+ghost use Rattle.std.specs.Prelude.{map, option_map, string_bytes};
 ghost use Rattle.clap.specs.Words.{first_of, found_of, rows_of};
-ghost use Rattle.lift_words.specs.Taken.{AreCaseSizes, AreCheckOptions, AreDayOptions, AreSolveOptions, AreTaken, AsksBy, AsksForDay, AsksForSizes, AsksToCheck, AsksToSolve, ExactlyWhere, IsInRange, IsSecond, IsWithin, number_in_range, number_of};
+ghost use Rattle.lift_words.specs.Taken.{AreCaseSizes, AreCheckOptions, AreDayOptions, AreSolveOptions};
+ghost use Rattle.lift_words.specs.Taken.{AreTaken, AsksBy, AsksForDay, AsksForSizes, AsksToCheck};
+ghost use Rattle.lift_words.specs.Taken.{AsksToSolve, ExactlyWhere, IsInRange, IsSecond, IsWithin};
+ghost use Rattle.lift_words.specs.Taken.{number_in_range, number_of};
 ghost use Rattle.lift_words.specs.declared.request.Request.{Request};
 ghost use Rattle.lift_words.specs.declared.table.CommandWord.{CommandWord};
 

@@ -1,8 +1,10 @@
 //! The lines of a table of measured times.
-ghost use Rattle.std.specs.Prelude.{◌≡◌, ◌≤◌, ◌<◌, None, Some, Ok, Err, length, IfErr, IfOk, IfSome, OnOk, IsErrOf};
+ghost use Rattle.std.specs.Prelude.{◌≡◌, ◌≤◌, ◌<◌, None, Some, Ok, Err, length, IfErr, IfOk, IfSome, OnOk};
+ghost use Rattle.std.specs.Prelude.{IsErrOf};
 ghost use Rattle.byte_streams.specs.Streams.{Rose};
 ghost use Rattle.lift_text.specs.LineReader.{text, words, failure};
-ghost use Rattle.motion_table.specs.Tables.{AreFloors, columns, rests_at, row_judged, IsReadTable, IsRefusedTable, RowRead};
+ghost use Rattle.motion_table.specs.Tables.{AreFloors, columns, rests_at, row_judged, IsReadTable};
+ghost use Rattle.motion_table.specs.Tables.{IsRefusedTable, RowRead};
 
 use elevator_model::{LONGEST_WAY, MOST_FLOORS};
 use lift_text::{LineReader, Source, TextCode, TextFault};
@@ -82,7 +84,8 @@ pub fn read_row<S: Source>(
     times: &mut Vec<u64>,
 ) -> Result<u32, LineFault>
     requires { AreFloors floors }
-    ensures read { RowRead (row_judged floors times.old.items (words lines.now)) times.old.items result times.new.items }
+    ensures read { RowRead (row_judged floors times.old.items (words lines.now)) times.old.items result
+        times.new.items }
     ensures floors { IfOk result (λ n. AreFloors (Some n)) }
 {
     let count = columns(floors, lines)?;

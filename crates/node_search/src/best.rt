@@ -1,6 +1,7 @@
 //! The cheapest plan that is known.
 
-ghost use Rattle.std.specs.Prelude.{◌≡◌, ◌<◌, ◌≤◌, ◌^◌, ℕ, IfOk, OnOk, IfSome, List, length, slice_index_or, Some};
+ghost use Rattle.std.specs.Prelude.{◌≡◌, ◌<◌, ◌≤◌, ◌^◌, ℕ, IfOk, OnOk, IfSome, List, length, slice_index_or};
+ghost use Rattle.std.specs.Prelude.{Some};
 ghost use Rattle.elevator_model.specs.Snapshot.{car_count, call_count};
 ghost use Rattle.elevator_model.specs.Tours.{IsFeasible};
 ghost use Rattle.elevator_model.specs.declared.Stop.{Stop};

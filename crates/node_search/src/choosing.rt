@@ -126,7 +126,8 @@ pub(crate) fn chosen(
     calls: usize,
 ) -> Result<Vec<usize>, AllocError>
     requires { calls ≤ MOST_CALLS }
-    ensures { IfOk result (λ places. (s : Snapshot) → call_count s ≡ calls → AreChosen s cost branches.now places.items) }
+    ensures { IfOk result (λ places. (s : Snapshot) → call_count s ≡ calls
+        → AreChosen s cost branches.now places.items) }
 {
     let marks = marks_of(alloc, branches, cost, calls)?;
     let mut places = marked(alloc, branches, &marks, cost, calls)?;

@@ -1,6 +1,7 @@
 //! The whole search: turns at the root, rounds below it, and what is answered at the end.
 
-ghost use Rattle.std.specs.Prelude.{◌≡◌, ◌<◌, ◌≤◌, ◌^◌, ◌⊎◌, ℕ, ℤ, pos, ◌≤ℤ◌, ◌<ℤ◌, All, IfOk, OnOk, MatchOption, length, None, Some, IfSome};
+ghost use Rattle.std.specs.Prelude.{◌≡◌, ◌<◌, ◌≤◌, ◌^◌, ◌⊎◌, ℕ, ℤ, pos, ◌≤ℤ◌, ◌<ℤ◌, All, IfOk, OnOk};
+ghost use Rattle.std.specs.Prelude.{MatchOption, length, None, Some, IfSome};
 ghost use Rattle.elevator_model.specs.Snapshot.{Snapshot as SnapshotOf, IsAccepted, call_count, car_count};
 ghost use Rattle.elevator_model.specs.Plans.{IsFeasiblePlan};
 ghost use Rattle.search_model.specs.Sums.{rounded_up};
@@ -13,7 +14,8 @@ ghost use Rattle.work_fan.specs.Work.{Serving};
 ghost use Rattle.node_search.specs.Best.{IsBest};
 ghost use Rattle.node_search.specs.Roots.{IsRoot};
 ghost use Rattle.node_search.specs.Searches.{IsSplit};
-ghost use Rattle.node_search.specs.Found.{IsAnswerOf, IsBegun, IsBelow, IsEnded, IsKeptRoot, IsOpenRoot, IsReasonOf, IsTurned, least_of};
+ghost use Rattle.node_search.specs.Found.{IsAnswerOf, IsBegun, IsBelow, IsEnded, IsKeptRoot, IsOpenRoot};
+ghost use Rattle.node_search.specs.Found.{IsReasonOf, IsTurned, least_of};
 
 use crate::best::Best;
 use crate::choosing::first_wanted;
@@ -301,7 +303,8 @@ fn find_at<P: Pricer, R: Threads + Sync, G: Gate + Sync>(
     requires rounds { (1 ≤ limits.rounds) × (limits.rounds ≤ 10 ^ 18) }
     requires most_tours { (1 ≤ limits.most_tours) × (limits.most_tours ≤ 10 ^ 18) }
     requires desks { Serving (P.owns pricer.now) desks.old }
-    ensures found { IfOk result (λ f. IsFound (P.fits pricer.now) sheet.prices (rounded_up (sum_of_sheet sheet)) snapshot.now
+    ensures found { IfOk result (λ f. IsFound (P.fits pricer.now) sheet.prices
+        (rounded_up (sum_of_sheet sheet)) snapshot.now
         limits.rounds limits.most_tours f.stated.plan f.stated.cost f.stated.bound f.tree.twigs f.turns f.why) }
     ensures sized { IfOk result (λ f. All IsSizedTwig f.tree.twigs) }
 {
@@ -339,7 +342,8 @@ pub fn find_plan<P: Pricer, R: Threads + Sync, G: Gate + Sync>(
     requires rounds { (1 ≤ limits.rounds) × (limits.rounds ≤ 10 ^ 18) }
     requires most_tours { (1 ≤ limits.most_tours) × (limits.most_tours ≤ 10 ^ 18) }
     requires workers { (1 ≤ workers) × (workers ≤ MOST_WORKERS) }
-    ensures found { IfOk result (λ f. IsFound (P.fits pricer.now) sheet.prices (rounded_up (sum_of_sheet sheet)) snapshot.now
+    ensures found { IfOk result (λ f. IsFound (P.fits pricer.now) sheet.prices
+        (rounded_up (sum_of_sheet sheet)) snapshot.now
         limits.rounds limits.most_tours f.stated.plan f.stated.cost f.stated.bound f.tree.twigs f.turns f.why) }
     ensures sized { IfOk result (λ f. All IsSizedTwig f.tree.twigs) }
 {

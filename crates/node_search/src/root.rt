@@ -1,6 +1,7 @@
 //! Turns at the root.
 
-ghost use Rattle.std.specs.Prelude.{◌≡◌, ◌<◌, ◌≤◌, ◌+◌, ◌^◌, ℕ, pos, int_lt, IfOk, OnOk, length, slice_set, [], ◌∷◌, ◌++◌};
+ghost use Rattle.std.specs.Prelude.{◌≡◌, ◌<◌, ◌≤◌, ◌+◌, ◌^◌, ℕ, pos, int_lt, IfOk, OnOk, length, slice_set};
+ghost use Rattle.std.specs.Prelude.{[], ◌∷◌, ◌++◌};
 ghost use Rattle.elevator_model.specs.Snapshot.{call_count};
 ghost use Rattle.elevator_model.specs.Plans.{IsFeasiblePlan};
 ghost use Rattle.search_model.specs.Nodes.{IsNodeOf, root_of};
@@ -62,7 +63,8 @@ fn tree_of(
 impl<'a> Root<'a> {
     ghost use Rattle.elevator_model.specs.Snapshot.{IsAccepted};
     ghost use Rattle.search_tree.specs.Answers.{AreAnswersIn};
-    ghost use Rattle.node_search.specs.Roots.{HasOneTurn, HasTakenIn, HasTurned, IsEnough, IsNewRoot, IsRoot, IsSolvedIfUnspent, turn_with};
+    ghost use Rattle.node_search.specs.Roots.{HasOneTurn, HasTakenIn, HasTurned, IsEnough, IsNewRoot, IsRoot};
+    ghost use Rattle.node_search.specs.Roots.{IsSolvedIfUnspent, turn_with};
 
     /// The root with these prices and worths, before its first turn. It fails only where there is no memory
     /// left.
@@ -136,8 +138,8 @@ impl<'a> Root<'a> {
         price_nodes(runtime, pricer, cars, &tasks, &sizes, most_tours, desks)
     }
 
-    /// Takes in the pricings of all cars at the present prices, and answers the prices of the next turn. It fails only
-    /// where there is no memory left.
+    /// Takes in the pricings of all cars at the present prices, and answers the prices of the next turn. It
+    /// fails only where there is no memory left.
     fn take_in<P: Pricer>(
         &mut self,
         alloc: Global,
@@ -162,8 +164,8 @@ impl<'a> Root<'a> {
         Ok(next)
     }
 
-    /// Puts the turn at the present prices behind the others, and goes on to the next prices. It fails only where there
-    /// is no memory left.
+    /// Puts the turn at the present prices behind the others, and goes on to the next prices. It fails only
+    /// where there is no memory left.
     fn push_turn(&mut self, next: Vec<Price>, cars: Vec<TurnOf>) -> Result<(), AllocError>
         ensures tree { self.new.tree ≡ self.old.tree }
         ensures best { self.new.best ≡ self.old.best }

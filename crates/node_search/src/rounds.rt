@@ -3,7 +3,8 @@
 ghost use Rattle.std.specs.Prelude.{◌≡◌, ◌<◌, ◌≤◌, ◌^◌, All, IfOk, OnOk, length, true, false};
 ghost use Rattle.elevator_model.specs.Snapshot.{IsAccepted, car_count};
 ghost use Rattle.work_fan.specs.Work.{Serving};
-ghost use Rattle.node_search.specs.Searches.{ArePriced, AreTaken, AreTasksFor, HasAdvanced, HasDoneRound, HasRun, IsAtRest, IsPricedFrom, IsSearching, IsUnderWay};
+ghost use Rattle.node_search.specs.Searches.{ArePriced, AreTaken, AreTasksFor, HasAdvanced, HasDoneRound};
+ghost use Rattle.node_search.specs.Searches.{HasRun, IsAtRest, IsPricedFrom, IsSearching, IsUnderWay};
 
 use crate::choosing::chosen;
 use crate::search::Search;

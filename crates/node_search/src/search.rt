@@ -1,6 +1,7 @@
 //! Rounds over the tree.
 
-ghost use Rattle.std.specs.Prelude.{◌≡◌, ◌<◌, ◌≤◌, ◌^◌, ℕ, ℤ, pos, ◌≤ℤ◌, ◌<ℤ◌, true, IfOk, OnOk, length, slice_index_or, false, IsSome, IfSome};
+ghost use Rattle.std.specs.Prelude.{◌≡◌, ◌<◌, ◌≤◌, ◌^◌, ℕ, ℤ, pos, ◌≤ℤ◌, ◌<ℤ◌, true, IfOk, OnOk, length};
+ghost use Rattle.std.specs.Prelude.{slice_index_or, false, IsSome, IfSome};
 ghost use Rattle.elevator_model.specs.Snapshot.{IsAccepted, call_count, car_count};
 ghost use Rattle.search_model.specs.Sums.{rounded_up};
 ghost use Rattle.search_model.specs.Nodes.{IsNodeOf, is_part, set_of};
@@ -39,7 +40,8 @@ fn gap_of(leaf: &Branch, cost: u64) -> i128 {
         .saturating_sub(leaf.sheet.sum())
 }
 
-/// Gives a plan without tours those that the pricings of all cars gave. It fails only where there is no memory left.
+/// Gives a plan without tours those that the pricings of all cars gave. It fails only where there is no
+/// memory left.
 fn push_tours(plan: &mut Plan, alloc: Global, cars: &[TurnOf]) -> Result<(), AllocError>
     requires none { length plan.old ≡ 0 }
     requires tours { (c : ℕ) → c < length cars.now → IsSome (slice_index_or cars.now c no_turn).tour }

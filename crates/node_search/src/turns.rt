@@ -1,6 +1,7 @@
 //! Turns: pricings of every car at the root, and how prices move from one to the next.
 
-ghost use Rattle.std.specs.Prelude.{◌≡◌, ◌<◌, ◌≤◌, ◌^◌, ℕ, ℤ, pos, ◌+ℤ◌, ◌-ℤ◌, ◌*ℤ◌, ◌≤ℤ◌, ◌+◌, ◌/◌, IfOk, IfSome, length, slice_index, count_by};
+ghost use Rattle.std.specs.Prelude.{◌≡◌, ◌<◌, ◌≤◌, ◌^◌, ℕ, ℤ, pos, ◌+ℤ◌, ◌-ℤ◌, ◌*ℤ◌, ◌≤ℤ◌, ◌+◌, ◌/◌, IfOk};
+ghost use Rattle.std.specs.Prelude.{IfSome, length, slice_index, count_by};
 ghost use Rattle.search_model.specs.declared.TurnOf.{TurnOf};
 ghost use Rattle.search_model.specs.Prices.{price_at};
 ghost use Rattle.price_scale.specs.Scale.{cut};

@@ -47,9 +47,10 @@ fn read_line<S: Source>(alloc: Global, lines: &mut LineReader<S>) -> Result<bool
 
 /// Reads the header of the rows of a day: the first line that is not empty. What follows it stays unread.
 ///
-/// The line is bad with `NoHeader` where it is not the four names, as `row_text::is_header` has it, or is over 4,096
-/// bytes. `CutShort` comes where the input ends before it, at the line after the last. `TooLong` comes where it does
-/// not end within the bytes that may be read, and `Read` only where a read of the source failed.
+/// The line is bad with `NoHeader` where it is not the four names, as `row_text::is_header` has it, or is
+/// over 4,096 bytes. `CutShort` comes where the input ends before it, at the line after the last. `TooLong`
+/// comes where it does not end within the bytes that may be read, and `Read` only where a read of the source
+/// failed.
 pub fn read_header<S: Source>(alloc: Global, lines: &mut LineReader<S>) -> Result<(), TextFault>
     requires { failure lines.old ≡ None }
     ensures same_source { lines.new.source.ghost_name ≡ lines.old.source.ghost_name }

@@ -3,7 +3,8 @@ ghost use Rattle.std.specs.Prelude.{◌≡◌, ◌≤◌, None, IfErr, IfOk, OnO
 ghost use Rattle.byte_streams.specs.Streams.{Rose};
 ghost use Rattle.lift_text.specs.LineReader.{text, failure};
 ghost use Rattle.elevator_model.specs.Snapshot.{IsAccepted};
-ghost use Rattle.opening_text.specs.DayOpenings.{IsDayOpeningRead, IsDayOpeningRefused, TakesDayOpenings, IsEmptySnapshot};
+ghost use Rattle.opening_text.specs.DayOpenings.{IsDayOpeningRead, IsDayOpeningRefused, TakesDayOpenings};
+ghost use Rattle.opening_text.specs.DayOpenings.{IsEmptySnapshot};
 
 use crate::headers::read_header;
 use building_text::read_building;

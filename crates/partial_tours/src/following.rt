@@ -1,13 +1,16 @@
 //! The moves that may follow a partial tour, as sets.
 
-ghost use Rattle.std.specs.Prelude.{◌≡◌, ℕ, ◌<◌, ◌≤◌, ◌+◌, ◌++◌, ◌&&◌, ◌||◌, not, Bool, true, false, nat_lt, nat_le, map, vec_len, vec_capacity, is_some};
+ghost use Rattle.std.specs.Prelude.{◌≡◌, ℕ, ◌<◌, ◌≤◌, ◌+◌, ◌++◌, ◌&&◌, ◌||◌, not, Bool, true, false, nat_lt};
+ghost use Rattle.std.specs.Prelude.{nat_le, map, vec_len, vec_capacity, is_some};
 ghost use Rattle.std.specs.List.{filter};
 ghost use Rattle.call_sets.specs.Counting.{has, any_below, members};
 ghost use Rattle.elevator_model.specs.Tours.{rider_count};
 ghost use Rattle.elevator_model.specs.declared.Move.{Move as MoveValue};
-ghost use Rattle.elevator_model.specs.Snapshot.{Snapshot, call_count, call_of, state_of, is_coming as is_coming_lem, is_idle as is_idle_lem};
+ghost use Rattle.elevator_model.specs.Snapshot.{Snapshot, call_count, call_of, state_of};
+ghost use Rattle.elevator_model.specs.Snapshot.{is_coming as is_coming_lem, is_idle as is_idle_lem};
 ghost use Rattle.elevator_model.specs.Partial.{Course, all_moves, move_on, lawful_moves, may_stand};
-ghost use Rattle.partial_tours.specs.Courses.{TracksCourse, is_after, may_be_next, reached, empty_stop, IsOnWay};
+ghost use Rattle.partial_tours.specs.Courses.{TracksCourse, is_after, may_be_next, reached, empty_stop};
+ghost use Rattle.partial_tours.specs.Courses.{IsOnWay};
 ghost use Rattle.partial_tours.specs.Followers.{AreFollowers, ArePassing};
 ghost use Rattle.partial_tours.specs.Orders.{first_of, next_after, first_choice as first_choice_lem};
 

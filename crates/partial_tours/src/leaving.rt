@@ -5,7 +5,9 @@ ghost use Rattle.call_sets.specs.Counting.{has, sum_where};
 ghost use Rattle.elevator_model.specs.Snapshot.{call_count, call_of, group_of, spec_of};
 ghost use Rattle.elevator_model.specs.Tours.{Progress, persons_where, gets_off};
 ghost use Rattle.tour_rules.specs.Places.{Tracks};
-ghost use Rattle.tour_rules.specs.Leaving.{IsKept, AreBoarded, is_group_off, leaving_cost, cost_of_call as cost_of_call_lem, cost_of_group as cost_of_group_lem};
+ghost use Rattle.tour_rules.specs.Leaving.{IsKept, AreBoarded, is_group_off, leaving_cost};
+ghost use Rattle.tour_rules.specs.Leaving.{cost_of_call as cost_of_call_lem};
+ghost use Rattle.tour_rules.specs.Leaving.{cost_of_group as cost_of_group_lem};
 
 use call_sets::{CallSet, FloorSet};
 use call_state::Snapshot;

@@ -1,6 +1,7 @@
 //! Partial tours and the moves that may follow.
 
-ghost use Rattle.std.specs.Prelude.{true, OnOk, ◌≡◌, ◌+◌, ◌<◌, ◌≤◌, ◌++◌, ◌∷◌, [], IfOk, IfSome, MatchOption, Some, ℕ, length};
+ghost use Rattle.std.specs.Prelude.{true, OnOk, ◌≡◌, ◌+◌, ◌<◌, ◌≤◌, ◌++◌, ◌∷◌, [], IfOk, IfSome, MatchOption};
+ghost use Rattle.std.specs.Prelude.{Some, ℕ, length};
 ghost use Rattle.call_sets.specs.Counting.{has};
 ghost use Rattle.elevator_model.specs.Partial.{Course, lawful_moves, moves_of, settled_of, moment_in};
 ghost use Rattle.partial_tours.specs.PartialTour.{course, with_move_made, stops_made};
@@ -81,7 +82,9 @@ impl<'a> Model for Prefix<'a> {
 
     ghost view = { λ p. record { snapshot = p.layout.snapshot; car = p.layout.car; moves = p.moves.items } };
 
-    ghost invariant = { λ p. IsPrefix p.layout.snapshot p.layout.car p.moves.items p.steps.items × (450 ≤ vec_capacity p.moves) × (451 ≤ vec_capacity p.steps) × IsTallied p.layout.snapshot p.layout.car p.moves.items p.steps.items p.moments.items };
+    ghost invariant = { λ p. IsPrefix p.layout.snapshot p.layout.car p.moves.items p.steps.items
+        × (450 ≤ vec_capacity p.moves) × (451 ≤ vec_capacity p.steps)
+        × IsTallied p.layout.snapshot p.layout.car p.moves.items p.steps.items p.moments.items };
 }
 
 impl<'a> Prefix<'a> {

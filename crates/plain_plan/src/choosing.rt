@@ -2,7 +2,8 @@
 
 ghost use Rattle.std.specs.Prelude.{◌≡◌, ◌==◌, ◌<◌, ◌⊎◌, true, Some, length, slice_index, vec_len, IfOk};
 ghost use Rattle.std.specs.List.{filter};
-ghost use Rattle.elevator_model.specs.Snapshot.{call_count, call_of, car_count, is_possible as is_possible_lem};
+ghost use Rattle.elevator_model.specs.Snapshot.{call_count, call_of, car_count};
+ghost use Rattle.elevator_model.specs.Snapshot.{is_possible as is_possible_lem};
 ghost use Rattle.plain_plan.specs.PlainPlans.{AreChosen, calls_for};
 
 use call_state::Snapshot;

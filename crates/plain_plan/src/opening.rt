@@ -1,10 +1,13 @@
 //! The floors where a car has to stop before it serves calls.
 
-ghost use Rattle.std.specs.Prelude.{◌≡◌, ◌<◌, ◌≤◌, ◌==◌, ◌&&◌, ◌+◌, true, length, [], ◌∷◌, ◌++◌, if◌then◌else◌, unwrap_or, IfOk, OnOk};
+ghost use Rattle.std.specs.Prelude.{◌≡◌, ◌<◌, ◌≤◌, ◌==◌, ◌&&◌, ◌+◌, true, length, [], ◌∷◌, ◌++◌};
+ghost use Rattle.std.specs.Prelude.{if◌then◌else◌, unwrap_or, IfOk, OnOk};
 ghost use Rattle.elevator_model.specs.Building.{floor_count};
 ghost use Rattle.call_sets.specs.Counting.{any_below};
 ghost use Rattle.elevator_model.specs.Snapshot.{car_count, group_of, serves, is_open as is_open_lem};
-ghost use Rattle.plain_plan.specs.Openings.{is_destination as is_destination_lem, falling, floors_above as floors_above_lem, floors_aboard as floors_aboard_lem, IsOpening};
+ghost use Rattle.plain_plan.specs.Openings.{is_destination as is_destination_lem, falling};
+ghost use Rattle.plain_plan.specs.Openings.{floors_above as floors_above_lem};
+ghost use Rattle.plain_plan.specs.Openings.{floors_aboard as floors_aboard_lem, IsOpening};
 
 use call_state::{CarState, Snapshot, is_open};
 use std::alloc::{AllocError, Global};

@@ -1,6 +1,7 @@
 //! The plain plan: each car lets off those aboard, and then serves its calls one after another.
 
-ghost use Rattle.std.specs.Prelude.{◌≡◌, ◌<◌, ◌++◌, ◌∷◌, [], ℕ, List, length, slice_index, EachIndex, OnOk, IfOk};
+ghost use Rattle.std.specs.Prelude.{◌≡◌, ◌<◌, ◌++◌, ◌∷◌, [], ℕ, List, length, slice_index, EachIndex, OnOk};
+ghost use Rattle.std.specs.Prelude.{IfOk};
 ghost use Rattle.elevator_model.specs.declared.Stop.{Stop};
 ghost use Rattle.elevator_model.specs.Snapshot.{call_count, car_count};
 ghost use Rattle.elevator_model.specs.Plans.{IsFeasiblePlan};

@@ -1,12 +1,14 @@
 //! The tours among which each car has a choice, and the cheapest choice.
 
-ghost use Rattle.std.specs.Prelude.{◌≡◌, ℕ, ◌+◌, ◌*◌, ◌-◌, ◌^◌, ◌≤◌, ◌<◌, ◌↔◌, [], length, IsTrue, IfOk, IfSome, true, false, slice_index_or};
+ghost use Rattle.std.specs.Prelude.{◌≡◌, ℕ, ◌+◌, ◌*◌, ◌-◌, ◌^◌, ◌≤◌, ◌<◌, ◌↔◌, [], length, IsTrue, IfOk};
+ghost use Rattle.std.specs.Prelude.{IfSome, true, false, slice_index_or};
 ghost use Rattle.call_sets.specs.Counting.{has};
 ghost use Rattle.elevator_model.specs.Snapshot.{car_count, call_count};
 ghost use Rattle.elevator_model.specs.Tours.{IsFeasible};
 ghost use Rattle.elevator_model.specs.Costs.{cost_of};
 ghost use Rattle.elevator_model.specs.Plans.{is_boarded_in};
-ghost use Rattle.plain_solver.specs.Rests.{AreChoices, AreChoicesFrom, IsCheapest, better_of, begun_with, IsSmallCost};
+ghost use Rattle.plain_solver.specs.Rests.{AreChoices, AreChoicesFrom, IsCheapest, better_of, begun_with};
+ghost use Rattle.plain_solver.specs.Rests.{IsSmallCost};
 
 use crate::tours::feasible_tours;
 use call_sets::CallSet;

@@ -31,79 +31,80 @@ fn is_least(alloc: Global, head: &str, capacities: &[u64], lines: &str, due: u64
     )
 }
 
+const ROWS_OF_FOUR_FLOORS: [(&[u64], &str, u64); 13] = [
+    // one idle car
+    (
+        &[8],
+        "now 0 / car 1 idle 1 0 / call 1 1 2 1 0 any / call 2 1 0 1 0 any",
+        28000,
+    ),
+    (
+        &[1],
+        "now 0 / car 1 idle 0 0 / call 1 0 3 1 0 any / call 2 0 1 1 0 any",
+        40000,
+    ),
+    (
+        &[2],
+        "now 0 / car 1 idle 0 0 / call 1 0 1 1 0 any / call 2 0 1 1 0 any",
+        16000,
+    ),
+    (
+        &[2],
+        "now 0 / car 1 idle 0 0 / call 1 0 1 2 0 any / call 2 0 1 1 0 any",
+        37500,
+    ),
+    // one car with work
+    (
+        &[8],
+        "now 0 / car 1 idle 0 0 / aboard 1 9 3 1 0 / call 1 1 2 1 0 any",
+        29500,
+    ),
+    (
+        &[8],
+        "now 0 / car 1 coming 1 3000 / call 1 1 2 1 0 any",
+        10500,
+    ),
+    // two cars
+    (
+        &[8, 8],
+        "now 0 / car 1 idle 0 0 / car 2 idle 0 0 / call 1 0 1 1 0 any",
+        7500,
+    ),
+    (
+        &[8, 8],
+        "now 0 / car 1 idle 0 0 / car 2 idle 3 0 / call 1 0 1 1 0 2",
+        15500,
+    ),
+    // two calls up and two down
+    (
+        &[1, 2],
+        "now 0 / car 1 idle 0 0 / car 2 idle 1 0 / call 1 0 2 1 0 any / call 2 0 2 1 0 any
+        call 3 2 0 1 0 any / call 4 2 0 1 0 any",
+        61000,
+    ),
+    // nobody costs nothing
+    (&[8, 8], "now 0 / car 1 idle 0 0 / car 2 coming 3 2000", 0),
+    // a moving car stops where it still can
+    (
+        &[8],
+        "now 1000 / car 1 moving 0 up 0 / call 1 1 2 1 1000 any",
+        10500,
+    ),
+    (
+        &[8],
+        "now 2000 / car 1 moving 0 up 0 / call 1 1 2 1 2000 any",
+        9500,
+    ),
+    (
+        &[8],
+        "now 2001 / car 1 moving 0 up 0 / call 1 1 2 1 2001 any",
+        17499,
+    ),
+];
+
 #[test]
 fn cheapest_plans_of_four_floors(rt: HostRuntime) {
-    let rows: [(&[u64], &str, u64); 13] = [
-        // one idle car
-        (
-            &[8],
-            "now 0 / car 1 idle 1 0 / call 1 1 2 1 0 any / call 2 1 0 1 0 any",
-            28000,
-        ),
-        (
-            &[1],
-            "now 0 / car 1 idle 0 0 / call 1 0 3 1 0 any / call 2 0 1 1 0 any",
-            40000,
-        ),
-        (
-            &[2],
-            "now 0 / car 1 idle 0 0 / call 1 0 1 1 0 any / call 2 0 1 1 0 any",
-            16000,
-        ),
-        (
-            &[2],
-            "now 0 / car 1 idle 0 0 / call 1 0 1 2 0 any / call 2 0 1 1 0 any",
-            37500,
-        ),
-        // one car with work
-        (
-            &[8],
-            "now 0 / car 1 idle 0 0 / aboard 1 9 3 1 0 / call 1 1 2 1 0 any",
-            29500,
-        ),
-        (
-            &[8],
-            "now 0 / car 1 coming 1 3000 / call 1 1 2 1 0 any",
-            10500,
-        ),
-        // two cars
-        (
-            &[8, 8],
-            "now 0 / car 1 idle 0 0 / car 2 idle 0 0 / call 1 0 1 1 0 any",
-            7500,
-        ),
-        (
-            &[8, 8],
-            "now 0 / car 1 idle 0 0 / car 2 idle 3 0 / call 1 0 1 1 0 2",
-            15500,
-        ),
-        // two calls up and two down
-        (
-            &[1, 2],
-            "now 0 / car 1 idle 0 0 / car 2 idle 1 0 / call 1 0 2 1 0 any / call 2 0 2 1 0 any
-            call 3 2 0 1 0 any / call 4 2 0 1 0 any",
-            61000,
-        ),
-        // nobody costs nothing
-        (&[8, 8], "now 0 / car 1 idle 0 0 / car 2 coming 3 2000", 0),
-        // a moving car stops where it still can
-        (
-            &[8],
-            "now 1000 / car 1 moving 0 up 0 / call 1 1 2 1 1000 any",
-            10500,
-        ),
-        (
-            &[8],
-            "now 2000 / car 1 moving 0 up 0 / call 1 1 2 1 2000 any",
-            9500,
-        ),
-        (
-            &[8],
-            "now 2001 / car 1 moving 0 up 0 / call 1 1 2 1 2001 any",
-            17499,
-        ),
-    ];
-    for (capacities, lines, due) in rows {
+    for (capacities, lines, due) in ROWS_OF_FOUR_FLOORS {
         assert!(rt;
             is_least(rt.alloc(), FOUR_FLOORS, capacities, lines, due),
             "{lines}"
@@ -125,7 +126,7 @@ fn waits_past_the_patience_cost_more(rt: HostRuntime) {
             7500,
         ),
     ];
-    for (head, due) in rows {
+    for (head, due) in ROWS_OF_FOUR_FLOORS {
         assert!(rt; is_least(rt.alloc(), head, &[8], ONE_CALL, due), "{head}");
     }
 }

@@ -5,7 +5,7 @@ ghost use Rattle.elevator_model.specs.Snapshot.{call_count};
 
 use crate::fills::{fill, prices_of};
 use crate::listing::{is_pooled, least_cost, note_columns, selections, ways};
-use crate::tally::Tally;
+use crate::tally::Counts;
 use call_state::Snapshot;
 use case_kit::{draws_of_case, plan_price};
 use case_maker::make;
@@ -29,7 +29,7 @@ struct Known {
 }
 
 /// Compares a choice that was made with this limit.
-fn note_choice(pool: &Pool<'_>, known: Known, limit: u64, choice: &Choice, tally: &mut Tally) {
+fn note_choice(pool: &Pool<'_>, known: Known, limit: u64, choice: &Choice, tally: &mut Counts) {
     match &choice.plan {
         Some(plan) => {
             let cost = plan_price(pool.snapshot(), plan);
@@ -54,7 +54,7 @@ fn note_choice(pool: &Pool<'_>, known: Known, limit: u64, choice: &Choice, tally
 }
 
 /// Compares a choice of a plan that was to cost less than this.
-fn note_below(pool: &Pool<'_>, known: Known, below: u64, choice: &Choice, tally: &mut Tally) {
+fn note_below(pool: &Pool<'_>, known: Known, below: u64, choice: &Choice, tally: &mut Counts) {
     let is_right = match &choice.plan {
         Some(plan) => {
             let cost = plan_price(pool.snapshot(), plan);
@@ -75,7 +75,7 @@ fn compare_any(
     target: u64,
     limit: u64,
     known: Known,
-    tally: &mut Tally,
+    tally: &mut Counts,
 ) -> Result<(), AllocError>
     requires prices { length prices.now ≡ call_count pool.now.snapshot }
     requires limit { 0 < limit }
@@ -93,7 +93,7 @@ fn compare_below(
     target: u64,
     limit: u64,
     known: Known,
-    tally: &mut Tally,
+    tally: &mut Counts,
 ) -> Result<(), AllocError>
     requires prices { length prices.now ≡ call_count pool.now.snapshot }
     requires limit { 0 < limit }
@@ -111,7 +111,7 @@ fn compare_limit(
     target: u64,
     limit: u64,
     known: Known,
-    tally: &mut Tally,
+    tally: &mut Counts,
 ) -> Result<(), AllocError>
     requires { length prices.now ≡ call_count pool.now.snapshot }
 {
@@ -128,7 +128,7 @@ fn compare_limits(
     pool: &Pool<'_>,
     prices: &[Price],
     draws: &mut Draws,
-    tally: &mut Tally,
+    tally: &mut Counts,
 ) -> Result<(), AllocError>
     requires { length prices.now ≡ call_count pool.now.snapshot }
 {
@@ -155,7 +155,7 @@ fn compare_pool(
     alloc: Global,
     pool: &Pool<'_>,
     draws: &mut Draws,
-    tally: &mut Tally,
+    tally: &mut Counts,
 ) -> Result<(), AllocError> {
     let calls = pool.snapshot().calls().len();
     let prices = prices_of(alloc, calls, draws)?;
@@ -171,7 +171,7 @@ fn compare_short(
     pool: &Pool<'_>,
     prices: &[Price],
     whole: &Choice,
-    tally: &mut Tally,
+    tally: &mut Counts,
 ) -> Result<(), AllocError>
     requires { length prices.now ≡ call_count pool.now.snapshot }
 {
@@ -185,7 +185,7 @@ fn compare_short(
 
 /// Selects from a pool with too many plans to list: once with a limit that is not reached, and then with a
 /// low one.
-fn compare_large(alloc: Global, pool: &Pool<'_>, tally: &mut Tally) -> Result<(), AllocError> {
+fn compare_large(alloc: Global, pool: &Pool<'_>, tally: &mut Counts) -> Result<(), AllocError> {
     let calls = pool.snapshot().calls().len();
     let Some(price) = Price::new(0) else {
         return Ok(());
@@ -203,7 +203,7 @@ fn compare_filled(
     alloc: Global,
     pool: &mut Pool<'_>,
     draws: &mut Draws,
-    tally: &mut Tally,
+    tally: &mut Counts,
 ) -> Result<(), AllocError> {
     fill(alloc, pool, draws)?;
     note_columns(pool, &mut tally.columns);
@@ -219,7 +219,7 @@ fn compare_snapshot(
     alloc: Global,
     snapshot: &Snapshot,
     draws: &mut Draws,
-    tally: &mut Tally,
+    tally: &mut Counts,
 ) -> Result<(), AllocError> {
     for _ in 0..3 {
         let mut pool = Pool::new(alloc, snapshot)?;
@@ -229,7 +229,7 @@ fn compare_snapshot(
 }
 
 /// Draws a snapshot, and compares what is selected from pools of its tours.
-pub(crate) fn compare_case(alloc: Global, case: u64, tally: &mut Tally) -> Result<(), AllocError> {
+pub(crate) fn compare_case(alloc: Global, case: u64, tally: &mut Counts) -> Result<(), AllocError> {
     let mut draws = draws_of_case(case);
     let floors = 3 + draws.pick(4);
     let cars = 1 + draws.pick(3);

@@ -5,7 +5,7 @@ use std::io;
 
 /// What all comparisons came to.
 #[derive(Clone, Copy, Default)]
-pub(crate) struct Tally {
+pub(crate) struct Counts {
     /// How many pools were compared.
     pub(crate) pools: u64,
     /// A column is a feasible tour of its car, with its cost and the calls that board in it.
@@ -34,7 +34,7 @@ pub(crate) struct Tally {
     pub(crate) worked: Checks,
 }
 
-impl Tally {
+impl Counts {
     /// Prints the tally, a line for each kind of checks. Says whether no check failed, and there were some of
     /// each kind.
     pub(crate) fn print(&self, rt: &HostRuntime) -> io::Result<bool> {

@@ -7,7 +7,7 @@
 
 use crate::fills::{offer, tours_of};
 use crate::listing::count_of;
-use crate::tally::Tally;
+use crate::tally::Counts;
 use call_state::Snapshot;
 use case_kit::{WORKED_CASE, snapshot_in, tour_in};
 use elevator_model::Tour;
@@ -50,7 +50,7 @@ fn is_first_spent(alloc: Global, pool: &Pool<'_>) -> bool {
 }
 
 /// Puts tours in until there are plans, and compares what is selected.
-fn compare_costs(alloc: Global, pool: &mut Pool<'_>, tally: &mut Tally) {
+fn compare_costs(alloc: Global, pool: &mut Pool<'_>, tally: &mut Counts) {
     let checks = &mut tally.worked;
     checks.note(offer_text(alloc, pool, 0, "0:0 2:2 0"));
     checks.note(offer_text(alloc, pool, 1, "2:23 0:1 2"));
@@ -71,7 +71,7 @@ fn has_text(alloc: Global, pool: &Pool<'_>, place: usize, text: &str) -> bool {
 }
 
 /// Puts a tour in twice, with another one between, and compares their order.
-fn compare_order(alloc: Global, pool: &mut Pool<'_>, tally: &mut Tally) {
+fn compare_order(alloc: Global, pool: &mut Pool<'_>, tally: &mut Counts) {
     let checks = &mut tally.worked;
     for text in ["0:0 2", "0:1 2", "0:0 2"] {
         checks.note(offer_text(alloc, pool, 0, text));
@@ -104,7 +104,7 @@ fn keeps_last(pool: &Pool<'_>, tours: &[Tour]) -> bool {
 }
 
 /// Puts more than 32 tours of the second car in, and compares those that are kept with the last 32.
-fn compare_kept(alloc: Global, pool: &mut Pool<'_>, tally: &mut Tally) -> Result<(), AllocError> {
+fn compare_kept(alloc: Global, pool: &mut Pool<'_>, tally: &mut Counts) -> Result<(), AllocError> {
     let tours = tours_of(alloc, pool, 1)?.unwrap_or(Vec::new(alloc));
     let put = offer_all(pool, tours);
     let tours = tours_of(alloc, pool, 1)?.unwrap_or(Vec::new(alloc));
@@ -116,7 +116,7 @@ fn compare_kept(alloc: Global, pool: &mut Pool<'_>, tally: &mut Tally) -> Result
 fn compare_snapshot(
     alloc: Global,
     snapshot: &Snapshot,
-    tally: &mut Tally,
+    tally: &mut Counts,
 ) -> Result<(), AllocError> {
     compare_costs(alloc, &mut Pool::new(alloc, snapshot)?, tally);
     compare_order(alloc, &mut Pool::new(alloc, snapshot)?, tally);
@@ -124,7 +124,7 @@ fn compare_snapshot(
 }
 
 /// Compares the answers in the case that was worked out by hand.
-pub(crate) fn compare_worked(alloc: Global, tally: &mut Tally) -> Result<(), AllocError> {
+pub(crate) fn compare_worked(alloc: Global, tally: &mut Counts) -> Result<(), AllocError> {
     match snapshot_in(alloc, WORKED_CASE.as_bytes()) {
         Some(snapshot) => compare_snapshot(alloc, &snapshot, tally),
         None => {

@@ -9,7 +9,7 @@ use price_scale::Price;
 
 /// Which way the prices move, and how far.
 #[derive(Clone, Copy)]
-struct Course {
+struct AscentCourse {
     pace: Pace,
     /// The greatest sum so far, and the one that is to be reached.
     sum: i128,
@@ -20,13 +20,13 @@ struct Course {
     rate: i64,
 }
 
-impl Course {
+impl AscentCourse {
     fn new(pace: Pace, first: &Reading, target: i128) -> Self {
         let mut direction = [0; MOST_CALLS];
         for (part, lack) in direction.iter_mut().zip(first.lacks.as_slice()) {
             *part = lack.saturating_mul(pace.one);
         }
-        Course {
+        AscentCourse {
             pace,
             sum: first.sum,
             target,
@@ -63,8 +63,8 @@ impl Course {
     }
 }
 
-/// Moves the prices to ones at which the tours say more, and answers what they say there. `next` is room for as many
-/// prices. The sum that is hoped for is the target.
+/// Moves the prices to ones at which the tours say more, and answers what they say there. `next` is room for
+/// as many prices. The sum that is hoped for is the target.
 pub fn raise<T: Tours>(
     tours: &T,
     pace: Pace,
@@ -77,7 +77,7 @@ pub fn raise<T: Tours>(
     ensures best { length best.new ≡ length best.old }
     ensures room { length next.new ≡ length next.old }
 {
-    let mut course = Course::new(pace, &tours.read(best), target);
+    let mut course = AscentCourse::new(pace, &tours.read(best), target);
     for _ in 0..pace.moves {
         if course.has_arrived() {
             break;

@@ -5,8 +5,8 @@ ghost use Rattle.std.specs.Prelude.{◌≤◌, length};
 use call_sets::CallSet;
 use elevator_model::MOST_CALLS;
 
-/// For each call 1 less the number of tours that take it: above 0 where its price is to rise. Only calls have an entry,
-/// so that only they make the length of a direction, by which a step is divided.
+/// For each call 1 less the number of tours that take it: above 0 where its price is to rise. Only calls have
+/// an entry, so that only they make the length of a direction, by which a step is divided.
 #[derive(Clone, Copy)]
 pub struct Lacks {
     calls: usize,

@@ -1,9 +1,9 @@
 //! How prices move so that what is known of some tours says more.
 //!
-//! At any prices, these and the least values of the cars' tours together are at most what a plan of the tours costs,
-//! where a tour's value is its cost without the prices of its calls. A subgradient ascent raises that sum: the price of a
-//! call rises where none of the cheapest tours takes it, and falls where several do. No contract says how far, since
-//! no answer rests on the prices.
+//! At any prices, these and the least values of the cars' tours together are at most what a plan of the tours
+//! costs, where a tour's value is its cost without the prices of its calls. A subgradient ascent raises that
+//! sum: the price of a call rises where none of the cheapest tours takes it, and falls where several do. No
+//! contract says how far, since no answer rests on the prices.
 //!
 //! Prices, values and sums are in thousandths of a cost unit. Calls are named by their index.
 #![tactic(auto)]

@@ -1,6 +1,7 @@
 //! Moves of prices.
 
-ghost use Rattle.std.specs.Prelude.{◌≡◌, ℕ, ◌<◌, ◌≤◌, ◌^◌, ℤ, pos, ◌+ℤ◌, ◌-ℤ◌, ◌*ℤ◌, ◌≤ℤ◌, length, slice_index};
+ghost use Rattle.std.specs.Prelude.{◌≡◌, ℕ, ◌<◌, ◌≤◌, ◌^◌, ℤ, pos, ◌+ℤ◌, ◌-ℤ◌, ◌*ℤ◌, ◌≤ℤ◌, length};
+ghost use Rattle.std.specs.Prelude.{slice_index};
 ghost use Rattle.price_scale.specs.Scale.{cut};
 ghost use Rattle.search_model.specs.Prices.{price_at};
 
@@ -8,9 +9,9 @@ use crate::paces::Pace;
 use elevator_model::MOST_CARS;
 use price_scale::Price;
 
-/// Moves the price of each call by `step * (1 - count)`, where `count` says how many tours take the call, and cuts
-/// it at plus and minus 10^24: the price rises where no tour takes the call, and falls where two or more do.
-/// Prices and step are in thousandths of a cost unit.
+/// Moves the price of each call by `step * (1 - count)`, where `count` says how many tours take the call, and
+/// cuts it at plus and minus 10^24: the price rises where no tour takes the call, and falls where two or more
+/// do. Prices and step are in thousandths of a cost unit.
 pub fn adjust(prices: &mut [Price], counts: &[u32], step: i128)
     requires lengths { length prices.old ≡ length counts.now }
     requires counts { (j : ℕ) → slice_index counts.now j ≤ MOST_CARS }
@@ -36,8 +37,8 @@ fn moved(price: Price, count: u32, step: i128) -> Price
 }
 
 impl Pace {
-    /// Moves prices from these on in a direction, in parts of one for each call: so far that what rises with the
-    /// direction alone would close the gap, in thousandths of a cost unit, at this rate (Polyak's step).
+    /// Moves prices from these on in a direction, in parts of one for each call: so far that what rises with
+    /// the direction alone would close the gap, in thousandths of a cost unit, at this rate (Polyak's step).
     pub fn step(&self, from: &[Price], direction: &[i64], gap: i128, rate: i64, next: &mut [Price])
         ensures { length next.new ≡ length next.old }
     {

@@ -26,7 +26,8 @@ pub struct Pace {
     pub down_percent: i64,
     /// By how much a sum that has arrived may be below the target, in thousandths of a cost unit.
     pub tolerance: i128,
-    /// A gap counts for no more than this, in thousandths of a cost unit, so that no product of a step saturates.
+    /// A gap counts for no more than this, in thousandths of a cost unit, so that no product of a step
+    /// saturates.
     pub most_gap: i128,
 }
 

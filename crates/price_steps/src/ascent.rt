@@ -1,7 +1,8 @@
 //! Prices at which the known tours of a node come close to what a plan costs.
 //!
-//! At any prices, these and the least values of the cars' tours in the node together bound what a plan costs there. The
-//! tours of a pool are only some of them, so what they say is no bound, but a model of it that costs no pricing.
+//! At any prices, these and the least values of the cars' tours in the node together bound what a plan costs
+//! there. The tours of a pool are only some of them, so what they say is no bound, but a model of it that
+//! costs no pricing.
 
 use crate::fixed::ONE;
 use price_ascent::{Pace, Rounding};

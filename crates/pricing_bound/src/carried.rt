@@ -9,7 +9,8 @@ ghost use Rattle.elevator_model.specs.Snapshot.{IsAccepted, call_count, car_coun
 ghost use Rattle.partial_tours.specs.Courses.{reached};
 ghost use Rattle.partial_tours.specs.PartialTour.{course};
 ghost use Rattle.search_model.specs.Bounds.{cost_if_straight};
-ghost use Rattle.pricing_bound.specs.Running.{cost_of_call_rides, cost_of_group_rides, cost_of_rides, ridden_to as ridden_to_lem, standing_at};
+ghost use Rattle.pricing_bound.specs.Running.{cost_of_call_rides, cost_of_group_rides, cost_of_rides};
+ghost use Rattle.pricing_bound.specs.Running.{ridden_to as ridden_to_lem, standing_at};
 
 use crate::rates::Rates;
 use crate::rides::arrival_from;

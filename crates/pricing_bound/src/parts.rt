@@ -1,6 +1,7 @@
 //! What one call and one group add to a bound, in thousandths of a cost unit.
 
-ghost use Rattle.std.specs.Prelude.{◌≡◌, ◌*◌, ◌^◌, ◌<◌, ◌≤ℤ◌, ◌-ℤ◌, pos, neg_ℤ, if◌then◌else◌, Some, true, length};
+ghost use Rattle.std.specs.Prelude.{◌≡◌, ◌*◌, ◌^◌, ◌<◌, ◌≤ℤ◌, ◌-ℤ◌, pos, neg_ℤ, if◌then◌else◌, Some, true};
+ghost use Rattle.std.specs.Prelude.{length};
 ghost use Rattle.call_sets.specs.Counting.{has};
 ghost use Rattle.elevator_model.specs.Partial.{Course};
 ghost use Rattle.elevator_model.specs.Snapshot.{call_count, car_count};

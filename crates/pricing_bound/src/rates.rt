@@ -1,6 +1,8 @@
 //! What calls cost, laid out once for a snapshot, with one price for each call.
 
-ghost use Rattle.std.specs.Prelude.{◌≡◌, ℕ, ℤ, pos, neg_ℤ, ◌-ℤ◌, ◌+◌, ◌-◌, ◌*◌, ◌^◌, ◌<◌, ◌≤◌, ◌≤ℤ◌, int_lt, false, true, not, IfOk, length, map, nat_lt, slice_index_or, vec_capacity};
+ghost use Rattle.std.specs.Prelude.{◌≡◌, ℕ, ℤ, pos, neg_ℤ, ◌-ℤ◌, ◌+◌, ◌-◌, ◌*◌, ◌^◌, ◌<◌, ◌≤◌, ◌≤ℤ◌, int_lt};
+ghost use Rattle.std.specs.Prelude.{false, true, not, IfOk, length, map, nat_lt, slice_index_or};
+ghost use Rattle.std.specs.Prelude.{vec_capacity};
 ghost use Rattle.call_sets.specs.Counting.{has};
 ghost use Rattle.elevator_model.specs.Building.{floor_count};
 ghost use Rattle.elevator_model.specs.Snapshot.{IsAccepted, Snapshot as SnapshotValue, call_count, call_of};
@@ -10,7 +12,8 @@ ghost use Rattle.elevator_model.specs.Tours.{destination_of};
 ghost use Rattle.elevator_model.specs.Travel.{time_between};
 ghost use Rattle.search_model.specs.Bounds.{cost_if_alone};
 ghost use Rattle.search_model.specs.Prices.{price_at, scaled as scaled_lem};
-ghost use Rattle.pricing_bound.specs.Rates.{AreEnds, AreNearest, AreRates, IsEnd, IsNearest, IsRate, ArePrices, rise_at, wait_at};
+ghost use Rattle.pricing_bound.specs.Rates.{AreEnds, AreNearest, AreRates, IsEnd, IsNearest, IsRate};
+ghost use Rattle.pricing_bound.specs.Rates.{ArePrices, rise_at, wait_at};
 
 use crate::rides::arrival_from;
 use crate::waiting::Growth;
@@ -330,7 +333,10 @@ impl<'a> Model for Rates<'a> {
 
     ghost view = { λ r. record { snapshot = r.snapshot.now; prices = map (λ rate. rate.price) r.rates.items } };
 
-    ghost invariant = { λ r. IsAccepted r.snapshot.now × AreRates r.snapshot.now r.rates.items × ((j : ℕ) → has r.calls j ≡ nat_lt j (call_count r.snapshot.now)) × AreEnds r.rates.items r.ends.items × (129 ≤ vec_capacity r.ends) × AreNearest r.snapshot.now.building.travel r.nearest.items };
+    ghost invariant = { λ r. IsAccepted r.snapshot.now × AreRates r.snapshot.now r.rates.items
+        × ((j : ℕ) → has r.calls j ≡ nat_lt j (call_count r.snapshot.now))
+        × AreEnds r.rates.items r.ends.items × (129 ≤ vec_capacity r.ends)
+        × AreNearest r.snapshot.now.building.travel r.nearest.items };
 }
 
 impl<'a> Rates<'a> {

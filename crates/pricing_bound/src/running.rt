@@ -4,7 +4,8 @@ ghost use Rattle.std.specs.Prelude.{◌≡◌, ◌≤ℤ◌, ℕ, ℤ, [], Some}
 ghost use Rattle.elevator_model.specs.Partial.{Course, move_on};
 ghost use Rattle.elevator_model.specs.declared.Move.{Move as MoveValue};
 ghost use Rattle.partial_tours.specs.PartialTour.{course, with_move};
-ghost use Rattle.pricing_bound.specs.Aims.{Aim, AimsAt, HasEnded, HasReached, IsAtLeastSettled, IsBoundSize, IsGrowing, IsNextMove, IsLower, IsNarrower, value_for};
+ghost use Rattle.pricing_bound.specs.Aims.{Aim, AimsAt, HasEnded, HasReached, IsAtLeastSettled, IsBoundSize};
+ghost use Rattle.pricing_bound.specs.Aims.{IsGrowing, IsNextMove, IsLower, IsNarrower, value_for};
 
 use elevator_model::Move;
 use partial_tours::Prefix;

@@ -1,6 +1,7 @@
 //! The completion bound in which each rider goes straight to its destination, kept along the moves.
 
-ghost use Rattle.std.specs.Prelude.{◌≡◌, ℕ, pos, neg_ℤ, int_lt, not, ◌==◌, ◌*◌, ◌^◌, ◌&&◌, ◌||◌, ◌<◌, ◌≤◌, ◌+ℤ◌, ◌-ℤ◌, ◌≤ℤ◌, if◌then◌else◌, Some, true};
+ghost use Rattle.std.specs.Prelude.{◌≡◌, ℕ, pos, neg_ℤ, int_lt, not, ◌==◌, ◌*◌, ◌^◌, ◌&&◌, ◌||◌, ◌<◌, ◌≤◌};
+ghost use Rattle.std.specs.Prelude.{◌+ℤ◌, ◌-ℤ◌, ◌≤ℤ◌, if◌then◌else◌, Some, true};
 ghost use Rattle.call_sets.specs.Counting.{has, sum_where};
 ghost use Rattle.elevator_model.specs.Partial.{Course};
 ghost use Rattle.elevator_model.specs.Snapshot.{call_count};
@@ -461,11 +462,16 @@ impl<'a> CompletionBound for StraightRides<'a> {
         scaled(prefix.settled()) - sums.paid
     }
 
-    ghost lower = { λ it moves x tour. bound_is_lower (aim_at it.rates.now it.car it.allowed it.required).snapshot it.car (price_at it.rates.now.prices) (has it.allowed) (has it.required) moves x tour };
+    ghost lower = { λ it moves x tour. bound_is_lower
+        (aim_at it.rates.now it.car it.allowed it.required).snapshot it.car (price_at it.rates.now.prices)
+        (has it.allowed) (has it.required) moves x tour };
 
-    ghost grows = { λ it moves x y m. bound_grows it.rates.now.snapshot it.car (price_at it.rates.now.prices) (has it.allowed) (has it.required) moves x y m };
+    ghost grows = { λ it moves x y m. bound_grows it.rates.now.snapshot it.car (price_at it.rates.now.prices)
+        (has it.allowed) (has it.required) moves x y m };
 
-    ghost least = { λ it moves x. bound_is_at_least it.rates.now.snapshot it.car (price_at it.rates.now.prices) (has it.allowed) (has it.required) moves x };
+    ghost least = { λ it moves x. bound_is_at_least it.rates.now.snapshot it.car
+        (price_at it.rates.now.prices) (has it.allowed) (has it.required) moves x };
 
-    ghost narrow = { λ it other narrower x. narrowed (aim_at it.rates.now it.car it.allowed it.required) (aim_at other.rates.now other.car other.allowed other.required) narrower x };
+    ghost narrow = { λ it other narrower x. narrowed (aim_at it.rates.now it.car it.allowed it.required)
+        (aim_at other.rates.now other.car other.allowed other.required) narrower x };
 }

@@ -6,7 +6,7 @@ ghost use Rattle.search_model.specs.Nodes.{IsNodeOf};
 
 use crate::aims::Aim;
 use crate::kept::Kept;
-use crate::tally::Tally;
+use crate::tally::Counts;
 use assign_branch::{Priced, Pricer};
 use elevator_model::Tour;
 use std::alloc::{AllocError, Global};
@@ -23,13 +23,13 @@ fn value_of(aim: &Aim, given: &Option<Tour>) -> Option<i128> {
 }
 
 /// Compares a pricing with no limit that matters.
-fn note_whole(aim: &Aim, due: i128, priced: Priced, given: &Option<Tour>, tally: &mut Tally) {
+fn note_whole(aim: &Aim, due: i128, priced: Priced, given: &Option<Tour>, tally: &mut Counts) {
     tally.least.note(priced.worth == due && !priced.spent);
     tally.tours.note(value_of(aim, given) == Some(due));
 }
 
 /// Compares the visits of such a pricing with the partial tours that are kept.
-fn note_visits(kept: Kept, priced: Priced, tally: &mut Tally) {
+fn note_visits(kept: Kept, priced: Priced, tally: &mut Counts) {
     let count = kept.count.unwrap_or(FAR);
     tally.visits.note(count <= priced.visits);
     tally.all_kept = tally.all_kept.wrapping_add(count);
@@ -37,7 +37,7 @@ fn note_visits(kept: Kept, priced: Priced, tally: &mut Tally) {
 }
 
 /// Compares a pricing with a limit.
-fn note_limited(kept: Kept, limit: u64, priced: Priced, tally: &mut Tally) {
+fn note_limited(kept: Kept, limit: u64, priced: Priced, tally: &mut Counts) {
     tally.limits.note(priced.visits <= limit && priced.spent == (priced.visits == limit));
     tally.bounds.note(priced.worth <= kept.worth && kept.first_bound <= priced.worth);
     if !priced.spent {
@@ -49,7 +49,7 @@ fn note_limited(kept: Kept, limit: u64, priced: Priced, tally: &mut Tally) {
 }
 
 /// Compares the tour of a pricing with a limit.
-fn note_given(aim: &Aim, due: i128, priced: Priced, given: &Option<Tour>, tally: &mut Tally) {
+fn note_given(aim: &Aim, due: i128, priced: Priced, given: &Option<Tour>, tally: &mut Counts) {
     let value = value_of(aim, given);
     if priced.spent {
         tally.given.note(given.is_none() || value.is_some());
@@ -66,7 +66,7 @@ fn compare_limit<P: Pricer>(
     kept: Kept,
     limit: u64,
     desk: &mut P::Desk,
-    tally: &mut Tally,
+    tally: &mut Counts,
 ) -> Result<(), AllocError>
     requires same { P.snapshot pricer.now ≡ aim.now.snapshot.now }
     requires car { aim.now.car < car_count aim.now.snapshot.now }
@@ -92,7 +92,7 @@ fn compare_whole<P: Pricer>(
     aim: &Aim,
     kept: Kept,
     desk: &mut P::Desk,
-    tally: &mut Tally,
+    tally: &mut Counts,
 ) -> Result<u64, AllocError>
     requires same { P.snapshot pricer.now ≡ aim.now.snapshot.now }
     requires car { aim.now.car < car_count aim.now.snapshot.now }
@@ -114,7 +114,7 @@ pub(crate) fn compare<P: Pricer>(
     pricer: &P,
     aim: &Aim,
     desk: &mut P::Desk,
-    tally: &mut Tally,
+    tally: &mut Counts,
 ) -> Result<(), AllocError>
     requires same { P.snapshot pricer.now ≡ aim.now.snapshot.now }
     requires car { aim.now.car < car_count aim.now.snapshot.now }

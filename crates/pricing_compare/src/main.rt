@@ -17,14 +17,14 @@ mod worked;
 use runs::compare_case;
 use std::io;
 use std::process::ExitCode;
-use tally::Tally;
+use tally::Counts;
 use worked::compare_worked;
 
 /// How many snapshots are drawn.
 const CASES: u64 = 15_000;
 
 fn main(rt: HostRuntime) -> io::Result<ExitCode> {
-    let mut tally = Tally::default();
+    let mut tally = Counts::default();
     for case in 0..CASES {
         compare_case(rt.alloc(), case, &mut tally)?;
     }

@@ -8,7 +8,7 @@ use crate::aims::Aim;
 use crate::answers::compare;
 use crate::prices::Pricing;
 use crate::snapshots::drawn;
-use crate::tally::Tally;
+use crate::tally::Counts;
 use crate::tours::{Listed, mean_cost, tours_of};
 use assign_branch::{CarSet, Node, Pricer, root, split};
 use call_state::Snapshot;
@@ -25,7 +25,7 @@ fn compare_pricing<P: Pricer>(
     pricing: Pricing,
     draws: &mut Draws,
     desk: &mut P::Desk,
-    tally: &mut Tally,
+    tally: &mut Counts,
 ) -> Result<(), AllocError>
     requires same { P.snapshot pricer.now ≡ aim.snapshot.now }
     requires car { aim.car < car_count aim.snapshot.now }
@@ -53,7 +53,7 @@ fn compare_pricings<P: Pricer>(
     aim: Aim,
     draws: &mut Draws,
     desk: &mut P::Desk,
-    tally: &mut Tally,
+    tally: &mut Counts,
 ) -> Result<(), AllocError>
     requires same { P.snapshot pricer.now ≡ aim.snapshot.now }
     requires car { aim.car < car_count aim.snapshot.now }
@@ -71,25 +71,23 @@ fn compare_pricings<P: Pricer>(
 fn compare_car<P: Pricer>(
     alloc: Global,
     pricer: &P,
-    snapshot: &Snapshot,
-    node: &Node,
-    car: u32,
+    aim: Aim,
     draws: &mut Draws,
     desk: &mut P::Desk,
-    tally: &mut Tally,
+    tally: &mut Counts,
 ) -> Result<(), AllocError>
-    requires same { P.snapshot pricer.now ≡ snapshot.now }
-    requires car { car < car_count snapshot.now }
-    requires node { IsNodeOf snapshot.now node.now }
+    requires same { P.snapshot pricer.now ≡ aim.snapshot.now }
+    requires car { aim.car < car_count aim.snapshot.now }
+    requires node { IsNodeOf aim.snapshot.now aim.node.now }
     requires own { P.owns pricer.now desk.old }
     ensures own { P.owns pricer.now desk.new }
 {
-    let tours = tours_of(alloc, snapshot, car, &mut tally.listed)?;
+    let tours = tours_of(alloc, aim.snapshot, aim.car, &mut tally.listed)?;
     let aim = Aim {
-        snapshot,
-        node,
-        car,
-        prices: &[],
+        snapshot: aim.snapshot,
+        node: aim.node,
+        car: aim.car,
+        prices: aim.prices,
         tours: &tours,
     };
     compare_pricings(alloc, pricer, aim, draws, desk, tally)
@@ -103,7 +101,7 @@ fn compare_node<P: Pricer>(
     node: &Node,
     draws: &mut Draws,
     desk: &mut P::Desk,
-    tally: &mut Tally,
+    tally: &mut Counts,
 ) -> Result<(), AllocError>
     requires same { P.snapshot pricer.now ≡ snapshot.now }
     requires node { IsNodeOf snapshot.now node.now }
@@ -111,9 +109,14 @@ fn compare_node<P: Pricer>(
     ensures own { P.owns pricer.now desk.new }
 {
     for car in 0..snapshot.building().cars().len() {
-        compare_car(
-            alloc, pricer, snapshot, node, car as u32, draws, desk, tally,
-        )?;
+        let aim = Aim {
+            snapshot,
+            node,
+            car: car as u32,
+            prices: &[],
+            tours: &[],
+        };
+        compare_car(alloc, pricer, aim, draws, desk, tally)?;
     }
     Ok(())
 }
@@ -169,7 +172,7 @@ fn compare_split<P: Pricer>(
     node: &Node,
     draws: &mut Draws,
     desk: &mut P::Desk,
-    tally: &mut Tally,
+    tally: &mut Counts,
 ) -> Result<(), AllocError>
     requires same { P.snapshot pricer.now ≡ snapshot.now }
     requires node { IsNodeOf snapshot.now node.now }
@@ -191,7 +194,7 @@ fn compare_root<P: Pricer>(
     root: &Node,
     draws: &mut Draws,
     desk: &mut P::Desk,
-    tally: &mut Tally,
+    tally: &mut Counts,
 ) -> Result<(), AllocError>
     requires same { P.snapshot pricer.now ≡ snapshot.now }
     requires node { IsNodeOf snapshot.now root.now }
@@ -211,7 +214,7 @@ fn compare_at_desk(
     snapshot: &Snapshot,
     root: &Node,
     draws: &mut Draws,
-    tally: &mut Tally,
+    tally: &mut Counts,
 ) -> Result<(), AllocError>
     requires { IsNodeOf snapshot.now root.now }
 {
@@ -225,14 +228,14 @@ fn compare_snapshot(
     alloc: Global,
     snapshot: &Snapshot,
     draws: &mut Draws,
-    tally: &mut Tally,
+    tally: &mut Counts,
 ) -> Result<(), AllocError> {
     let root = root(alloc, snapshot)?;
     compare_at_desk(alloc, snapshot, &root, draws, tally)
 }
 
 /// Draws a snapshot and compares what is asked of it. One that is refused is counted.
-pub(crate) fn compare_case(alloc: Global, case: u64, tally: &mut Tally) -> Result<(), AllocError> {
+pub(crate) fn compare_case(alloc: Global, case: u64, tally: &mut Counts) -> Result<(), AllocError> {
     let mut draws = draws_of_case(case);
     match drawn(alloc, &mut draws) {
         Some(snapshot) => {

@@ -5,7 +5,7 @@ use std::io;
 
 /// What all comparisons came to.
 #[derive(Clone, Copy, Default)]
-pub(crate) struct Tally {
+pub(crate) struct Counts {
     /// How many snapshots were compared.
     pub(crate) snapshots: u64,
     /// How many that were drawn break a rule of buildings or snapshots.
@@ -36,7 +36,7 @@ pub(crate) struct Tally {
     pub(crate) all_kept: u64,
 }
 
-impl Tally {
+impl Counts {
     /// Prints the tally, a line for each kind of checks. Says whether no check failed, and there were some of
     /// each kind.
     pub(crate) fn print(&self, rt: &HostRuntime) -> io::Result<bool> {

@@ -5,7 +5,7 @@ ghost use Rattle.std.specs.Prelude.{◌≡◌, ◌<◌};
 ghost use Rattle.elevator_model.specs.Snapshot.{car_count, call_count};
 ghost use Rattle.search_model.specs.Nodes.{IsNodeOf};
 
-use crate::tally::Tally;
+use crate::tally::Counts;
 use assign_branch::{Node, Pricer, root};
 use call_state::Snapshot;
 use case_kit::{WORKED_CASE, boards_of, snapshot_in};
@@ -16,7 +16,7 @@ use std::alloc::{AllocError, Global};
 
 /// The answer that is due where all calls have this price, in thousandths of a cost unit.
 #[derive(Clone, Copy)]
-struct Due {
+struct Expected {
     car: u32,
     price: i128,
     worth: i128,
@@ -26,38 +26,38 @@ struct Due {
 
 /// The first car stands where the first two calls wait: either costs it 9500, and two calls at least 28000.
 /// Each call costs the second car 13500, and two that start at one floor cost it 28000.
-const ALL_DUE: [Due; 6] = [
-    Due {
+const ALL_DUE: [Expected; 6] = [
+    Expected {
         car: 0,
         price: 0,
         worth: 0,
         boards: [0, 0],
     },
-    Due {
+    Expected {
         car: 1,
         price: 0,
         worth: 0,
         boards: [0, 0],
     },
-    Due {
+    Expected {
         car: 0,
         price: 6_000_000,
         worth: 0,
         boards: [0, 0],
     },
-    Due {
+    Expected {
         car: 1,
         price: 6_000_000,
         worth: 0,
         boards: [0, 0],
     },
-    Due {
+    Expected {
         car: 0,
         price: 12_000_000,
         worth: -2_500_000,
         boards: [1, 2],
     },
-    Due {
+    Expected {
         car: 1,
         price: 12_000_000,
         worth: 0,
@@ -66,7 +66,7 @@ const ALL_DUE: [Due; 6] = [
 ];
 
 /// Whether the tour serves just the calls that are due. One that serves none has no stops.
-fn is_due(due: Due, given: &Option<Tour>) -> bool {
+fn is_due(due: Expected, given: &Option<Tour>) -> bool {
     let Some(tour) = given else {
         return false;
     };
@@ -83,9 +83,9 @@ fn compare_due<P: Pricer>(
     alloc: Global,
     pricer: &P,
     node: &Node,
-    due: Due,
+    due: Expected,
     desk: &mut P::Desk,
-    tally: &mut Tally,
+    tally: &mut Counts,
 ) -> Result<(), AllocError>
     requires car { due.car < car_count (P.snapshot pricer.now) }
     requires node { IsNodeOf (P.snapshot pricer.now) node.now }
@@ -112,7 +112,7 @@ fn compare_all<P: Pricer>(
     pricer: &P,
     node: &Node,
     desk: &mut P::Desk,
-    tally: &mut Tally,
+    tally: &mut Counts,
 ) -> Result<(), AllocError>
     requires cars { car_count (P.snapshot pricer.now) ≡ 2 }
     requires node { IsNodeOf (P.snapshot pricer.now) node.now }
@@ -132,7 +132,7 @@ fn compare_root(
     alloc: Global,
     snapshot: &Snapshot,
     root: &Node,
-    tally: &mut Tally,
+    tally: &mut Counts,
 ) -> Result<(), AllocError>
     requires cars { car_count snapshot.now ≡ 2 }
     requires node { IsNodeOf snapshot.now root.now }
@@ -146,7 +146,7 @@ fn compare_root(
 fn compare_snapshot(
     alloc: Global,
     snapshot: &Snapshot,
-    tally: &mut Tally,
+    tally: &mut Counts,
 ) -> Result<(), AllocError> {
     if snapshot.building().cars().len() != 2 || snapshot.calls().len() != 4 {
         tally.worked.note(false);
@@ -157,7 +157,7 @@ fn compare_snapshot(
 }
 
 /// Compares the answers in the case that was worked out by hand.
-pub(crate) fn compare_worked(alloc: Global, tally: &mut Tally) -> Result<(), AllocError> {
+pub(crate) fn compare_worked(alloc: Global, tally: &mut Counts) -> Result<(), AllocError> {
     match snapshot_in(alloc, WORKED_CASE.as_bytes()) {
         Some(snapshot) => compare_snapshot(alloc, &snapshot, tally),
         None => {

@@ -60,8 +60,8 @@ impl<'a, P: Pricer> Jobs for Round<'a, P> {
     }
 }
 
-/// Prices every car at each of the nodes, with one worker for each desk: at `i * cars + c` stands the pricing of car `c`
-/// at the node of task `i`, of at most `most_tours` partial tours, and the tour that it gave.
+/// Prices every car at each of the nodes, with one worker for each desk: at `i * cars + c` stands the pricing
+/// of car `c` at the node of task `i`, of at most `most_tours` partial tours, and the tour that it gave.
 ///
 /// `sizes` tells how many partial tours each pricing may try, as far as one can tell, in the order of the
 /// answers. It only says which pricings are drawn first, and may be of any length.

@@ -11,6 +11,7 @@ use crate::dive::dive;
 use crate::progress::Progress;
 use crate::walk::visit;
 use assign_branch::Priced;
+use kept_tours::Guide;
 use partial_tours::Prefix;
 use pricing_bound::CompletionBound;
 use tour_extension::Demand;
@@ -39,7 +40,8 @@ pub(crate) fn search<B: CompletionBound>(
     // For the proof: the bound of the empty partial tour, which the worth is at least, is of a bound's size.
     let _least = bound.value(&sums);
     dive(bound, demand, prefix, &sums, progress);
-    visit(bound, demand, limit, prefix, &sums, progress);
+    let guide = Guide { bound, demand };
+    visit(&guide, limit, prefix, &sums, progress);
     let visits = progress.visits();
     Priced {
         worth: progress.worth(),

@@ -7,10 +7,9 @@ ghost use Rattle.pricing_search.specs.Walks.{HasFound, Visited};
 
 use crate::progress::Progress;
 use elevator_model::Move;
-use kept_tours::{followers_below, step_below};
+use kept_tours::{Guide, followers_below, step_below};
 use partial_tours::Prefix;
 use pricing_bound::CompletionBound;
-use tour_extension::Demand;
 
 /// Visits a partial tour that some tour of the node begins with, and those that begin with it.
 ///
@@ -18,21 +17,22 @@ use tour_extension::Demand;
 /// as many were visited as the limit says, the least bound of those that are left out is noted.
 #[cycle(walk)]
 pub(crate) fn visit<B: CompletionBound>(
-    bound: &B,
-    demand: &Demand,
+    guide: &Guide<B>,
     limit: u64,
     prefix: &mut Prefix,
     sums: &B::Sums,
     progress: &mut Progress,
 )
-    requires walking { IsWalking (B.aim bound.now) demand.now prefix.old }
-    requires stands { IsOpen (B.stands bound.now sums.now) demand.now prefix.old }
+    requires walking { IsWalking (B.aim guide.now.bound.now) guide.now.demand.now prefix.old }
+    requires stands { IsOpen (B.stands guide.now.bound.now sums.now) guide.now.demand.now prefix.old }
     requires limit { progress.old.visits ≤ limit }
-    requires found { HasFound (aim_at prefix.old demand.now (B.aim bound.now).price) progress.old }
+    requires found { HasFound (aim_at prefix.old guide.now.demand.now (B.aim guide.now.bound.now).price) progress.old }
     ensures prefix { prefix.new ≡ prefix.old }
-    ensures visited { Visited prefix.old demand.now (B.aim bound.now).price (B.bound bound.now) limit
+    ensures visited { Visited prefix.old guide.now.demand.now (B.aim guide.now.bound.now).price
+        (B.bound guide.now.bound.now) limit
         progress.old progress.new }
 {
+    let bound = guide.bound;
     let least = bound.value(sums);
     if progress.is_reached(least) {
         return;
@@ -47,12 +47,10 @@ pub(crate) fn visit<B: CompletionBound>(
         return;
     }
     let departure = bound.depart(prefix, sums);
-    let followers = followers_below(bound, demand, prefix, &departure, progress.best);
+    let followers = followers_below(bound, guide.demand, prefix, &departure, progress.best);
     let mut next = followers.first();
     while let Some(choice) = next {
-        visit_after(
-            bound, demand, limit, prefix, sums, &departure, choice, progress,
-        );
+        visit_after(guide, limit, prefix, sums, &departure, choice, progress);
         next = followers.after(choice);
     }
 }
@@ -61,8 +59,7 @@ pub(crate) fn visit<B: CompletionBound>(
 /// is below the best value.
 #[cycle(walk)]
 fn visit_after<B: CompletionBound>(
-    bound: &B,
-    demand: &Demand,
+    guide: &Guide<B>,
     limit: u64,
     prefix: &mut Prefix,
     sums: &B::Sums,
@@ -70,20 +67,28 @@ fn visit_after<B: CompletionBound>(
     next: Move,
     progress: &mut Progress,
 )
-    requires walking { IsWalking (B.aim bound.now) demand.now prefix.old }
-    requires stands { IsOpen (B.stands bound.now sums.now) demand.now prefix.old }
-    requires departs { IsOpen (B.departs bound.now departure.now) demand.now prefix.old }
-    requires next { MayFollow demand.now prefix.old next }
+    requires walking { IsWalking (B.aim guide.now.bound.now) guide.now.demand.now prefix.old }
+    requires stands { IsOpen (B.stands guide.now.bound.now sums.now) guide.now.demand.now prefix.old }
+    requires departs { IsOpen (B.departs guide.now.bound.now departure.now) guide.now.demand.now prefix.old }
+    requires next { MayFollow guide.now.demand.now prefix.old next }
     requires limit { progress.old.visits ≤ limit }
-    requires found { HasFound (aim_at prefix.old demand.now (B.aim bound.now).price) progress.old }
+    requires found { HasFound (aim_at prefix.old guide.now.demand.now (B.aim guide.now.bound.now).price) progress.old }
     ensures prefix { prefix.new ≡ prefix.old }
-    ensures visited { Visited (with_move prefix.old next) demand.now (B.aim bound.now).price
-        (B.bound bound.now) limit progress.old progress.new }
+    ensures visited { Visited (with_move prefix.old next) guide.now.demand.now (B.aim guide.now.bound.now).price
+        (B.bound guide.now.bound.now) limit progress.old progress.new }
 {
     let worth = progress.best;
-    let Some(sums) = step_below(bound, demand, prefix, sums, departure, next, worth) else {
+    let Some(sums) = step_below(
+        guide.bound,
+        guide.demand,
+        prefix,
+        sums,
+        departure,
+        next,
+        worth,
+    ) else {
         return;
     };
-    visit(bound, demand, limit, prefix, &sums, progress);
+    visit(guide, limit, prefix, &sums, progress);
     prefix.pop();
 }

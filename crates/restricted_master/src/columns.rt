@@ -1,6 +1,7 @@
 //! The tours of one car that a pool holds.
 
-ghost use Rattle.std.specs.Prelude.{◌≡◌, ℕ, ◌≤◌, ◌<◌, [], IfOk, length, not, ◌*◌, ◌^◌, pos, neg_ℤ, ◌≤ℤ◌, slice_index_or};
+ghost use Rattle.std.specs.Prelude.{◌≡◌, ℕ, ◌≤◌, ◌<◌, [], IfOk, length, not, ◌*◌, ◌^◌, pos, neg_ℤ, ◌≤ℤ◌};
+ghost use Rattle.std.specs.Prelude.{slice_index_or};
 ghost use Rattle.elevator_model.specs.Snapshot.{car_count};
 ghost use Rattle.elevator_model.specs.Tours.{IsFeasible};
 ghost use Rattle.restricted_master.specs.declared.columns.Column.{Column};
@@ -146,7 +147,8 @@ pub(crate) fn least_reduced_cost(columns: &[Column], prices: &[Price]) -> i128
     requires small { (k : ℕ) (d : Column) → k < length columns.now
         → (slice_index_or columns.now k d).cost ≤ 10 ^ 18 }
     ensures least { (k : ℕ) (d : Column) → k < length columns.now
-        → result ≤ℤ reduced_cost_of prices.now (slice_index_or columns.now k d).cost (slice_index_or columns.now k d).calls }
+        → result ≤ℤ reduced_cost_of prices.now (slice_index_or columns.now k d).cost
+        (slice_index_or columns.now k d).calls }
     ensures low { neg_ℤ (pos (2 * 10 ^ 26)) ≤ℤ result }
     ensures high { result ≤ℤ pos (2 * 10 ^ 26) }
 {

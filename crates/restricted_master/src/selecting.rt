@@ -1,6 +1,7 @@
 //! The cheapest plan that is made of tours of a pool.
 
-ghost use Rattle.std.specs.Prelude.{◌≡◌, ℕ, ◌≤◌, ◌<◌, ◌^◌, true, false, nat_lt, ◌||◌, is_some, IfOk, IfSome, length, slice_index_or, All, ◌*◌, pos, neg_ℤ, ◌≤ℤ◌};
+ghost use Rattle.std.specs.Prelude.{◌≡◌, ℕ, ◌≤◌, ◌<◌, ◌^◌, true, false, nat_lt, ◌||◌, is_some, IfOk, IfSome};
+ghost use Rattle.std.specs.Prelude.{length, slice_index_or, All, ◌*◌, pos, neg_ℤ, ◌≤ℤ◌};
 ghost use Rattle.call_sets.specs.Counting.{has};
 ghost use Rattle.elevator_model.specs.Snapshot.{call_count, car_count};
 ghost use Rattle.restricted_master.specs.Priced.{least_sum};
@@ -55,11 +56,13 @@ impl Outcome {
 }
 
 impl<'a> Pool<'a> {
-    ghost use Rattle.restricted_master.specs.Pools.{IsCheapest, IsCheapestBelow, IsMadeOf, cost_of_choice, selection_count, tours_of_car};
+    ghost use Rattle.restricted_master.specs.Pools.{IsCheapest, IsCheapestBelow, IsMadeOf, cost_of_choice};
+    ghost use Rattle.restricted_master.specs.Pools.{selection_count, tours_of_car};
     ghost use Rattle.restricted_master.specs.declared.choosing.CarChoice.{CarChoice};
     ghost use Rattle.restricted_master.specs.Choosing.{IsRising, picks};
     ghost use Rattle.restricted_master.specs.Priced.{IsPriced};
-    ghost use Rattle.restricted_master.specs.Choices.{AreCandidates, AreChoices, IsPicked, CanPick, IsPlanPick, IsCheapestPick, IsLeastBelow, HasPicked};
+    ghost use Rattle.restricted_master.specs.Choices.{AreCandidates, AreChoices, IsPicked, CanPick};
+    ghost use Rattle.restricted_master.specs.Choices.{IsPlanPick, IsCheapestPick, IsLeastBelow, HasPicked};
 
     /// The cheapest feasible plan that is made of tours of the pool, found depth first over the cars. A
     /// partial selection is one tour for each of the first cars, of none up to all; at most `limit` of them

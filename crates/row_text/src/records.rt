@@ -3,7 +3,11 @@
 ghost use Rattle.std.specs.Prelude.{◌≡◌, ◌↔◌, ◌≤◌, Some, IfOk, IsTrue, length, option_map};
 ghost use Rattle.std.specs.List.{list_any};
 ghost use Rattle.csv.specs.Records.{fields_of};
-ghost use Rattle.row_text.specs.Records.{begins_with_mark as begins_with_mark_lem, ends_line, is_set_apart, fields_read as fields_read_lem, fields_of_line, without_spaces as without_spaces_lem, without_spaces_before as without_spaces_before_lem, end_of_field, texts_of_line, header_fields, SaysAt, SaysHeader};
+ghost use Rattle.row_text.specs.Records.{begins_with_mark as begins_with_mark_lem, ends_line, is_set_apart};
+ghost use Rattle.row_text.specs.Records.{fields_read as fields_read_lem, fields_of_line};
+ghost use Rattle.row_text.specs.Records.{without_spaces as without_spaces_lem};
+ghost use Rattle.row_text.specs.Records.{without_spaces_before as without_spaces_before_lem, end_of_field};
+ghost use Rattle.row_text.specs.Records.{texts_of_line, header_fields, SaysAt, SaysHeader};
 
 use csv::{ByteRecord, ReaderBuilder};
 use std::alloc::{AllocError, Global};

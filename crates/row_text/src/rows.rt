@@ -5,7 +5,9 @@ ghost use Rattle.csv.specs.Records.{fields_of, field_at};
 ghost use Rattle.elevator_model.specs.Building.{floor_count};
 ghost use Rattle.search_model.specs.Days.{call_of_row};
 ghost use Rattle.lift_text.specs.Numbers.{digits_number};
-ghost use Rattle.row_text.specs.Records.{without_spaces, number_said, row_of_fields, row_of_line, row_within, at_most as at_most_lem, numbers_within, carries_someone as carries_someone_lem, row_as_said};
+ghost use Rattle.row_text.specs.Records.{without_spaces, number_said, row_of_fields, row_of_line, row_within};
+ghost use Rattle.row_text.specs.Records.{at_most as at_most_lem, numbers_within};
+ghost use Rattle.row_text.specs.Records.{carries_someone as carries_someone_lem, row_as_said};
 
 use crate::records::{record_of, without_spaces};
 use call_state::{Building, Call};

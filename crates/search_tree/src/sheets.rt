@@ -5,7 +5,9 @@ ghost use Rattle.price_scale.specs.Scale.{IsPrice};
 ghost use Rattle.assign_branch.specs.Pricings.{IsWorthSize};
 ghost use Rattle.search_model.specs.Sums.{rounded_up};
 ghost use Rattle.search_tree.specs.Kept.{KeepsSum, of_lists};
-ghost use Rattle.search_tree.specs.Sheets.{AreTurnSizes, AreWorthSizes, IsSized, IsSizedLeaf, IsWorthSum, greater_of, leaf_of, prices_from, raised, sum_of_sheet, sum_of_worths, turn_worth, worths_from};
+ghost use Rattle.search_tree.specs.Sheets.{AreTurnSizes, AreWorthSizes, IsSized, IsSizedLeaf, IsWorthSum};
+ghost use Rattle.search_tree.specs.Sheets.{greater_of, leaf_of, prices_from, raised, sum_of_sheet};
+ghost use Rattle.search_tree.specs.Sheets.{sum_of_worths, turn_worth, worths_from};
 
 use elevator_model::{MOST_CALLS, MOST_CARS};
 use price_scale::{MOST_PRICE, Price, sum_prices, unscale_up};

@@ -1,6 +1,8 @@
 //! The tree.
 
-ghost use Rattle.std.specs.Prelude.{◌≡◌, ◌<◌, ◌≤◌, ◌+◌, [], ◌∷◌, All, IfOk, OnOk, OnErr, insert, vec_capacity, vec_len, length, map, true, false, slice_index_or, slice_set};
+ghost use Rattle.std.specs.Prelude.{◌≡◌, ◌<◌, ◌≤◌, ◌+◌, [], ◌∷◌, All, IfOk, OnOk, OnErr, insert};
+ghost use Rattle.std.specs.Prelude.{vec_capacity, vec_len, length, map, true, false, slice_index_or};
+ghost use Rattle.std.specs.Prelude.{slice_set};
 ghost use Rattle.std.specs.Borrow.{sem};
 ghost use Rattle.search_model.specs.Nodes.{is_part, set_of};
 ghost use Rattle.search_model.specs.Solving.{least_bound};
@@ -16,8 +18,8 @@ use search_model::{Items, TurnOf};
 use std::alloc::{AllocError, Global};
 use std::marker::Model;
 
-/// The nodes of a search, in preorder: after a node that was split come those of its first part and then those of
-/// its second part. Each node has a payload, which is what the owner of the tree keeps of it.
+/// The nodes of a search, in preorder: after a node that was split come those of its first part and then
+/// those of its second part. Each node has a payload, which is what the owner of the tree keeps of it.
 #[derive(Drop)]
 pub struct SearchTree<T> {
     branches: Vec<Branch>,
@@ -89,8 +91,9 @@ impl<T: Drop> SearchTree<T> {
         self.branches[place].note(prices, cars);
     }
 
-    /// Splits the leaf at this place: in the first part the cars of `part` may serve the call, in the second one the
-    /// rest of its cars. Both begin with the leaf's prices and worths, and with the payloads that are given.
+    /// Splits the leaf at this place: in the first part the cars of `part` may serve the call, in the second
+    /// one the rest of its cars. Both begin with the leaf's prices and worths, and with the payloads that are
+    /// given.
     ///
     /// It says false, and the tree is as before, exactly where the part does not divide the call's set. It
     /// fails only where there is no memory left, and then the tree is as before too.

@@ -3,9 +3,11 @@
 ghost use Rattle.std.specs.Prelude.{◌≡◌, ◌<◌, IfOk};
 ghost use Rattle.elevator_model.specs.Snapshot.{car_count, call_count};
 ghost use Rattle.search_model.specs.Prices.{scaled as scaled_lem};
-ghost use Rattle.search_model.specs.Solving.{floor_of_bound, least_lone_cost, start_prices as start_prices_lem};
+ghost use Rattle.search_model.specs.Solving.{floor_of_bound, least_lone_cost};
+ghost use Rattle.search_model.specs.Solving.{start_prices as start_prices_lem};
 ghost use Rattle.search_tree.specs.Sheets.{sum_of_sheet};
-ghost use Rattle.snapshot_solver.specs.Starts.{IsRootSheet, start_worth as start_worth_lem, start_worths as start_worths_lem};
+ghost use Rattle.snapshot_solver.specs.Starts.{IsRootSheet, start_worth as start_worth_lem};
+ghost use Rattle.snapshot_solver.specs.Starts.{start_worths as start_worths_lem};
 
 use crate::costs::{aboard_cost_of, least_lone_cost_of};
 use call_state::Snapshot;

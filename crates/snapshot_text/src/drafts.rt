@@ -1,5 +1,6 @@
 //! A snapshot section, as far as it was read.
-ghost use Rattle.std.specs.Prelude.{◌≡◌, ◌<◌, ◌++◌, ◌∷◌, [], ℕ, false, length, map, slice_index, Ok, IfOk, IfSome, OnErr, OnOk};
+ghost use Rattle.std.specs.Prelude.{◌≡◌, ◌<◌, ◌++◌, ◌∷◌, [], ℕ, false, length, map, slice_index, Ok, IfOk};
+ghost use Rattle.std.specs.Prelude.{IfSome, OnErr, OnOk};
 ghost use Rattle.elevator_model.specs.declared.CarSpec.{CarSpec};
 ghost use Rattle.elevator_model.specs.Building.{IsBuilding};
 ghost use Rattle.elevator_model.specs.Snapshot.{no_state};
@@ -80,14 +81,33 @@ impl Model for Draft {
 
     ghost Value = { Record };
 
-    ghost view = { λ d. record { is_opening = d.is_opening; building = d.building; due = d.due; version = d.version; moment = d.moment; states = d.states.items; stated = d.stated.items; aboard = d.aboard.items; calls = d.calls.items } };
+    ghost view = { λ d. record {
+      is_opening = d.is_opening;
+      building = d.building;
+      due = d.due;
+      version = d.version;
+      moment = d.moment;
+      states = d.states.items;
+      stated = d.stated.items;
+      aboard = d.aboard.items;
+      calls = d.calls.items;
+    } };
 
-    ghost invariant = { λ d. (length d.states.items ≡ length d.building.cars) × (length d.stated.items ≡ length d.building.cars) × (d.group_ids ≡ map (λ (x : Aboard). x.id) d.aboard.items) × (d.call_ids ≡ map (λ (x : Call). x.id) d.calls.items) };
+    ghost invariant = { λ d. (length d.states.items ≡ length d.building.cars)
+        × (length d.stated.items ≡ length d.building.cars)
+        × (d.group_ids ≡ map (λ (x : Aboard). x.id) d.aboard.items)
+        × (d.call_ids ≡ map (λ (x : Call). x.id) d.calls.items) };
 }
 
 impl Draft {
-    ghost use Rattle.snapshot_text.specs.Drafts.{blank, snapshot_read, has_car, has_all_cars, cars_in_order, groups_in_order, calls_in_order, outside_opening, with_all_cars, version_in, moment_in, car_in, group_in, call_in, end_in, fault_in_car, after_word, line_word, any_word};
-    ghost use Rattle.snapshot_text.specs.declared.kinds.LineWord.TheVariants.{Snapshot, Now, Car, Aboard as AboardWord, Call as CallWord, End};
+    ghost use Rattle.snapshot_text.specs.Drafts.{blank, snapshot_read, has_car, has_all_cars, cars_in_order};
+    ghost use Rattle.snapshot_text.specs.Drafts.{groups_in_order, calls_in_order, outside_opening};
+    ghost use Rattle.snapshot_text.specs.Drafts.{with_all_cars, version_in, moment_in, car_in, group_in};
+    ghost use Rattle.snapshot_text.specs.Drafts.{call_in, end_in, fault_in_car, after_word, line_word};
+    ghost use Rattle.snapshot_text.specs.Drafts.{any_word};
+    ghost use Rattle.snapshot_text.specs.declared.kinds.LineWord.TheVariants.{Snapshot, Now, Car};
+    ghost use Rattle.snapshot_text.specs.declared.kinds.LineWord.TheVariants.{Aboard as AboardWord};
+    ghost use Rattle.snapshot_text.specs.declared.kinds.LineWord.TheVariants.{Call as CallWord, End};
     ghost use Rattle.call_state.specs.SnapshotParts.{snapshot_of};
 
     /// A section of which no line was read.

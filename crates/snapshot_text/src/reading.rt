@@ -1,12 +1,14 @@
 //! Reading snapshots.
-ghost use Rattle.std.specs.Prelude.{◌≡◌, ◌≤◌, false, true, None, Some, Ok, Err, IfErr, IfOk, IfSome, OnOk, IsErrOf};
+ghost use Rattle.std.specs.Prelude.{◌≡◌, ◌≤◌, false, true, None, Some, Ok, Err, IfErr, IfOk, IfSome, OnOk};
+ghost use Rattle.std.specs.Prelude.{IsErrOf};
 ghost use Rattle.byte_streams.specs.Streams.{Rose};
 ghost use Rattle.lift_text.specs.LineReader.{text, failure};
 ghost use Rattle.elevator_model.specs.Snapshot.{IsAccepted};
 ghost use Rattle.text_sections.specs.Between.{StandsBehind};
 ghost use Rattle.snapshot_text.specs.Drafts.{snapshot_read};
 ghost use Rattle.snapshot_text.specs.Texts.{ReadsText};
-ghost use Rattle.snapshot_text.specs.Snapshots.{IsReadSnapshot, IsRefusedSnapshot, IsSaid, ReadsLines, FailsAs};
+ghost use Rattle.snapshot_text.specs.Snapshots.{IsReadSnapshot, IsRefusedSnapshot, IsSaid, ReadsLines};
+ghost use Rattle.snapshot_text.specs.Snapshots.{FailsAs};
 
 use crate::drafts::Draft;
 use call_state::{Building, Snapshot};

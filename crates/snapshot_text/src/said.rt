@@ -1,7 +1,10 @@
 //! What the words of each line say.
 ghost use Rattle.std.specs.Prelude.{◌≡◌, ◌<◌, IfOk, IfSome, Some, Ok, length};
 ghost use Rattle.lift_text.specs.LineReader.{words};
-ghost use Rattle.snapshot_text.specs.Words.{version_said, moment_said, has_direction, form_of, idle_said, coming_said, moving_said, state_said, car_named, car_said, group_of_words, group_said, pin_said, pin_named, call_of_words, call_said};
+ghost use Rattle.snapshot_text.specs.Words.{version_said, moment_said, has_direction, form_of, idle_said};
+ghost use Rattle.snapshot_text.specs.Words.{coming_said, moving_said, state_said, car_named, car_said};
+ghost use Rattle.snapshot_text.specs.Words.{group_of_words, group_said, pin_said, pin_named, call_of_words};
+ghost use Rattle.snapshot_text.specs.Words.{call_said};
 
 use crate::kinds::Form;
 use call_state::{Aboard, Building, Call, CarState};

@@ -1,8 +1,11 @@
 //! Writing snapshots.
-ghost use Rattle.std.specs.Prelude.{◌≡◌, ◌++◌, ◌∷◌, [], ◌<◌, codes, decimal, length, map, OnErr, OnOk, IfSome};
+ghost use Rattle.std.specs.Prelude.{◌≡◌, ◌++◌, ◌∷◌, [], ◌<◌, codes, decimal, length, map, OnErr, OnOk};
+ghost use Rattle.std.specs.Prelude.{IfSome};
 ghost use Rattle.std.specs.List.{flat_map, range_with_len};
 ghost use Rattle.text_sections.specs.Canonical.{line_text};
-ghost use Rattle.snapshot_text.specs.Texts.{head_words, moment_words, direction, state_words, car_words, group_words, pin_word, call_front, call_words, end_words, snapshot_text};
+ghost use Rattle.snapshot_text.specs.Texts.{head_words, moment_words, direction, state_words, car_words};
+ghost use Rattle.snapshot_text.specs.Texts.{group_words, pin_word, call_front, call_words, end_words};
+ghost use Rattle.snapshot_text.specs.Texts.{snapshot_text};
 
 use call_state::{Aboard, Building, Call, CarState, Snapshot};
 use lift_text::put_word;
@@ -100,7 +103,8 @@ fn put_state(out: &mut Vec<u8>, id: u32, state: CarState) -> Result<(), AllocErr
 /// Writes the line of each car, in the building's order.
 fn put_cars(out: &mut Vec<u8>, snapshot: &Snapshot) -> Result<(), AllocError>
     ensures { OnOk result (out.new.items ≡ out.old.items
-        ++ flat_map (λ c. line_text (car_words snapshot.now c)) (range_with_len 0 (length snapshot.now.building.cars))) }
+        ++ flat_map (λ c. line_text (car_words snapshot.now c))
+        (range_with_len 0 (length snapshot.now.building.cars))) }
 {
     let cars = snapshot.building().cars();
     for c in 0..cars.len() as u32 {

@@ -41,8 +41,11 @@ pub fn read_section<S: Source, T: Section>(
     section: &mut T,
 ) -> Result<(), TextFault>
     ensures same_source { lines.new.source.ghost_name ≡ lines.old.source.ghost_name }
-    ensures outcome { failure lines.old ≡ None → ReadAs T.after (text S.left lines.old) section.old result section.new (text S.left lines.new) }
-    ensures written { failure lines.old ≡ None → ReadsWritten T.after (text S.left lines.old) section.old result section.new (text S.left lines.new) }
+    ensures outcome { failure lines.old ≡ None
+        → ReadAs T.after (text S.left lines.old) section.old result section.new (text S.left lines.new) }
+    ensures written { failure lines.old ≡ None
+        → ReadsWritten T.after (text S.left lines.old) section.old result section.new
+        (text S.left lines.new) }
     ensures again { IfSome (failure lines.old) (λ fault. result ≡ Err fault) }
     ensures made { OnOk result (IsMade T.after section.old section.new) }
     ensures behind { failure lines.old ≡ None
@@ -64,7 +67,8 @@ fn read_lines<S: Source, T: Section>(
     section: &mut T,
 ) -> Result<(), TextFault>
     ensures same_source { lines.new.source.ghost_name ≡ lines.old.source.ghost_name }
-    ensures outcome { failure lines.old ≡ None → ReadAs T.after (text S.left lines.old) section.old result section.new (text S.left lines.new) }
+    ensures outcome { failure lines.old ≡ None
+        → ReadAs T.after (text S.left lines.old) section.old result section.new (text S.left lines.new) }
     ensures again { IfSome (failure lines.old) (λ fault. result ≡ Err fault) }
     ensures made { OnOk result (IsMade T.after section.old section.new) }
     ensures behind { failure lines.old ≡ None

@@ -1,7 +1,8 @@
 //! What the words of a line say.
 ghost use Rattle.std.specs.Prelude.{◌≡◌, ℕ, ◌<◌, ◌≤◌, ◌^◌, Ok, IfOk, OnOk, length, decimal};
 ghost use Rattle.lift_text.specs.LineReader.{words};
-ghost use Rattle.text_sections.specs.Words.{at_least, at_most, exactly, is_word, number, short, signed, word_at};
+ghost use Rattle.text_sections.specs.Words.{at_least, at_most, exactly, is_word, number, short, signed};
+ghost use Rattle.text_sections.specs.Words.{word_at};
 
 use lift_text::{LineReader, Source, TextCode};
 
@@ -55,7 +56,8 @@ pub fn number<S: Source>(
     requires { k < length (words lines.now) }
     ensures value { result ≡ number (words lines.now) k low high }
     ensures within { IfOk result (λ n. (low ≤ n) × (n ≤ high)) }
-    ensures written { (n : ℕ) → n < 2 ^ 64 → word_at (words lines.now) k ≡ decimal n → low ≤ n → n ≤ high → result ≡ Ok n }
+    ensures written { (n : ℕ) → n < 2 ^ 64 → word_at (words lines.now) k ≡ decimal n → low ≤ n → n ≤ high
+        → result ≡ Ok n }
 {
     let value = signed(lines, k, i128::from(low), i128::from(high))?;
     Ok(value as u64)

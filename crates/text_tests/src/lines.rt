@@ -72,26 +72,26 @@ fn source_of(alloc: Global, bytes: &[u8], each: usize) -> Result<MemorySource, A
 
 /// What is read of a text.
 #[derive(Clone, Copy)]
-enum Due<'a> {
+enum Expected<'a> {
     Words(Words<'a>),
     Raw(RawLines<'a>),
 }
 
-fn reads(lines: &mut LineReader<MemorySource>, due: Due) -> bool {
+fn reads(lines: &mut LineReader<MemorySource>, due: Expected) -> bool {
     match due {
-        Due::Words(words) => reads_words(lines, words),
-        Due::Raw(raw) => reads_raw(lines, raw),
+        Expected::Words(words) => reads_words(lines, words),
+        Expected::Raw(raw) => reads_raw(lines, raw),
     }
 }
 
-fn reads_over(alloc: Global, source: &mut MemorySource, due: Due) -> bool {
+fn reads_over(alloc: Global, source: &mut MemorySource, due: Expected) -> bool {
     match LineReader::new(alloc, source) {
         Ok(mut lines) => reads(&mut lines, due),
         Err(_) => false,
     }
 }
 
-fn is_read_by(alloc: Global, bytes: &[u8], each: usize, due: Due) -> bool
+fn is_read_by(alloc: Global, bytes: &[u8], each: usize, due: Expected) -> bool
     requires { 1 ≤ each }
 {
     match source_of(alloc, bytes, each) {
@@ -101,7 +101,7 @@ fn is_read_by(alloc: Global, bytes: &[u8], each: usize, due: Due) -> bool
 }
 
 /// Whether the text is read so, in pieces of any size.
-fn is_read(alloc: Global, bytes: &[u8], due: Due) -> bool {
+fn is_read(alloc: Global, bytes: &[u8], due: Expected) -> bool {
     is_read_by(alloc, bytes, 1, due)
         && is_read_by(alloc, bytes, 3, due)
         && is_read_by(alloc, bytes, 100_000, due)
@@ -143,8 +143,8 @@ fn lines_are_the_same_in_any_pieces(rt: HostRuntime) {
         last: 6,
         end: Ok(false),
     };
-    assert!(rt; is_read(rt.alloc(), MIXED, Due::Words(mixed)));
-    assert!(rt; is_read(rt.alloc(), MIXED, Due::Raw(&MIXED_LINES)));
+    assert!(rt; is_read(rt.alloc(), MIXED, Expected::Words(mixed)));
+    assert!(rt; is_read(rt.alloc(), MIXED, Expected::Raw(&MIXED_LINES)));
 }
 
 /// Whether the text has one word of one byte, which is no number, in this line, and the words end so.
@@ -161,7 +161,7 @@ fn has_letter(
         last,
         end,
     };
-    is_read(alloc, bytes, Due::Words(due))
+    is_read(alloc, bytes, Expected::Words(due))
 }
 
 #[test]
@@ -178,9 +178,9 @@ fn bytes_that_no_line_has(rt: HostRuntime) {
         last: 2,
         end: bad,
     };
-    assert!(rt; is_read(alloc, b"\na\r", Due::Words(none)));
+    assert!(rt; is_read(alloc, b"\na\r", Expected::Words(none)));
     let raw = [(1, RawLine::Line, 2), (1, RawLine::End, 0)];
-    assert!(rt; is_read(alloc, b"a\r\r\n", Due::Raw(&raw)));
+    assert!(rt; is_read(alloc, b"a\r\r\n", Expected::Raw(&raw)));
 }
 
 /// A text whose fourth line has so many bytes.
@@ -209,7 +209,7 @@ const OVER_WIDE: [(u64, RawLine, usize); 6] = [
 ];
 
 /// Whether the text whose fourth line has so many bytes is read so.
-fn is_wide_read(alloc: Global, size: usize, due: Due) -> bool
+fn is_wide_read(alloc: Global, size: usize, due: Expected) -> bool
     requires { size ≤ 200000 }
 {
     match wide(alloc, size) {
@@ -225,7 +225,7 @@ fn longest_lines_are_taken(rt: HostRuntime) {
         last: 5,
         end: Ok(false),
     };
-    assert!(rt; is_wide_read(rt.alloc(), 4096, Due::Words(widest)));
+    assert!(rt; is_wide_read(rt.alloc(), 4096, Expected::Words(widest)));
     let refused = Words {
         words: &WIDEST[..1],
         last: 4,
@@ -234,6 +234,6 @@ fn longest_lines_are_taken(rt: HostRuntime) {
             code: TextCode::OverLong,
         }),
     };
-    assert!(rt; is_wide_read(rt.alloc(), 4097, Due::Words(refused)));
-    assert!(rt; is_wide_read(rt.alloc(), 200_000, Due::Raw(&OVER_WIDE)));
+    assert!(rt; is_wide_read(rt.alloc(), 4097, Expected::Words(refused)));
+    assert!(rt; is_wide_read(rt.alloc(), 200_000, Expected::Raw(&OVER_WIDE)));
 }

@@ -54,7 +54,7 @@ fn source_of(alloc: Global, behind: &[u8], failing: &[u64]) -> Result<MemorySour
 }
 
 /// What is answered of the text of this source.
-fn answer(alloc: Global, behind: &[u8], failing: &[u64]) -> Option<Answer> {
+fn answer_after(alloc: Global, behind: &[u8], failing: &[u64]) -> Option<Answer> {
     match source_of(alloc, behind, failing) {
         Ok(mut source) => answer_in(alloc, &mut source),
         Err(_) => None,
@@ -108,7 +108,7 @@ const HEADERS: [(&[u8], Answer); 16] = [
 #[test]
 fn headers_behind_the_snapshot(rt: HostRuntime) {
     for (behind, due) in HEADERS {
-        assert!(rt; answer(rt.alloc(), behind, &[]) == Some(due));
+        assert!(rt; answer_after(rt.alloc(), behind, &[]) == Some(due));
     }
 }
 
@@ -125,7 +125,7 @@ fn wide_header(alloc: Global, size: usize) -> Result<Vec<u8>, AllocError> {
 /// What is answered of an opening whose header has so many bytes.
 fn answer_of_width(alloc: Global, size: usize) -> Option<Answer> {
     match wide_header(alloc, size) {
-        Ok(line) => answer(alloc, &line, &[]),
+        Ok(line) => answer_after(alloc, &line, &[]),
         Err(_) => None,
     }
 }
@@ -224,7 +224,7 @@ fn rows_come_next(rt: HostRuntime) {
 /// What is answered of the text of an opening and a row where the read with this number fails.
 fn answer_at_read(alloc: Global, failing: u64) -> Option<Answer> {
     let header = b"time,origin,destination,persons\n7,2,0,3\n";
-    answer(alloc, header, &[failing])
+    answer_after(alloc, header, &[failing])
 }
 
 #[test]

@@ -86,46 +86,47 @@ const ELEVEN: [Moments; 11] = [
     (92, 94, 113),
 ];
 
+const TEXTS_OF_DAYS: [(&[Moments], &str); 7] = [
+    (
+        &[(0, 1000, 7500), (6500, 10000, 19000), (9500, 12500, 25500)],
+        "#measure,wait,ride,total\ncount,3,3,3\nsum,7500,28500,36000\ngreatest,3500,13000,16000\n\
+         p50,3000,9000,12500\np90,3500,13000,16000\np99,3500,13000,16000\nmean,2500/1,9500/1,12000/1\n",
+    ),
+    (
+        &[],
+        "#measure,wait,ride,total\ncount,0,0,0\nsum,0,0,0\ngreatest,0,0,0\n\
+         p50,0,0,0\np90,0,0,0\np99,0,0,0\nmean,0/1,0/1,0/1\n",
+    ),
+    (
+        &[(7, 12, 30)],
+        "#measure,wait,ride,total\ncount,1,1,1\nsum,5,18,23\ngreatest,5,18,23\n\
+         p50,5,18,23\np90,5,18,23\np99,5,18,23\nmean,5/1,18/1,23/1\n",
+    ),
+    (
+        &TEN,
+        "#measure,wait,ride,total\ncount,10,10,10\nsum,232,425,657\ngreatest,97,95,153\n\
+         p50,9,33,48\np90,35,71,100\np99,97,95,153\nmean,116/5,85/2,657/10\n",
+    ),
+    (
+        &ELEVEN,
+        "#measure,wait,ride,total\ncount,11,11,11\nsum,282,426,708\ngreatest,97,95,153\n\
+         p50,15,33,51\np90,50,71,100\np99,97,95,153\nmean,282/11,426/11,708/11\n",
+    ),
+    (
+        &[(5, 11, 26), (3, 9, 24), (5, 11, 26), (40, 46, 61)],
+        "#measure,wait,ride,total\ncount,4,4,4\nsum,24,60,84\ngreatest,6,15,21\n\
+         p50,6,15,21\np90,6,15,21\np99,6,15,21\nmean,6/1,15/1,21/1\n",
+    ),
+    (
+        &[(1, 4, 14), (9, 13, 33), (2, 3, 33), (8, 14, 59)],
+        "#measure,wait,ride,total\ncount,4,4,4\nsum,14,105,119\ngreatest,6,45,51\n\
+         p50,3,20,24\np90,6,45,51\np99,6,45,51\nmean,7/2,105/4,119/4\n",
+    ),
+];
+
 #[test]
 fn texts_of_days(rt: HostRuntime) {
-    let table: [(&[Moments], &str); 7] = [
-        (
-            &[(0, 1000, 7500), (6500, 10000, 19000), (9500, 12500, 25500)],
-            "#measure,wait,ride,total\ncount,3,3,3\nsum,7500,28500,36000\ngreatest,3500,13000,16000\n\
-             p50,3000,9000,12500\np90,3500,13000,16000\np99,3500,13000,16000\nmean,2500/1,9500/1,12000/1\n",
-        ),
-        (
-            &[],
-            "#measure,wait,ride,total\ncount,0,0,0\nsum,0,0,0\ngreatest,0,0,0\n\
-             p50,0,0,0\np90,0,0,0\np99,0,0,0\nmean,0/1,0/1,0/1\n",
-        ),
-        (
-            &[(7, 12, 30)],
-            "#measure,wait,ride,total\ncount,1,1,1\nsum,5,18,23\ngreatest,5,18,23\n\
-             p50,5,18,23\np90,5,18,23\np99,5,18,23\nmean,5/1,18/1,23/1\n",
-        ),
-        (
-            &TEN,
-            "#measure,wait,ride,total\ncount,10,10,10\nsum,232,425,657\ngreatest,97,95,153\n\
-             p50,9,33,48\np90,35,71,100\np99,97,95,153\nmean,116/5,85/2,657/10\n",
-        ),
-        (
-            &ELEVEN,
-            "#measure,wait,ride,total\ncount,11,11,11\nsum,282,426,708\ngreatest,97,95,153\n\
-             p50,15,33,51\np90,50,71,100\np99,97,95,153\nmean,282/11,426/11,708/11\n",
-        ),
-        (
-            &[(5, 11, 26), (3, 9, 24), (5, 11, 26), (40, 46, 61)],
-            "#measure,wait,ride,total\ncount,4,4,4\nsum,24,60,84\ngreatest,6,15,21\n\
-             p50,6,15,21\np90,6,15,21\np99,6,15,21\nmean,6/1,15/1,21/1\n",
-        ),
-        (
-            &[(1, 4, 14), (9, 13, 33), (2, 3, 33), (8, 14, 59)],
-            "#measure,wait,ride,total\ncount,4,4,4\nsum,14,105,119\ngreatest,6,45,51\n\
-             p50,3,20,24\np90,6,45,51\np99,6,45,51\nmean,7/2,105/4,119/4\n",
-        ),
-    ];
-    for (moments, due) in table {
+    for (moments, due) in TEXTS_OF_DAYS {
         assert!(rt; has_text(rt.alloc(), moments, due), "{due}");
     }
 }

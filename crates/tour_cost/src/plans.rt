@@ -1,6 +1,7 @@
 //! Plans: whether one is feasible, and its cost.
 
-ghost use Rattle.std.specs.Prelude.{◌≡◌, ◌↔◌, ◌≤◌, ◌<◌, ℕ, length, true, IsOk, IsTrue, MatchResult, Some, None};
+ghost use Rattle.std.specs.Prelude.{◌≡◌, ◌↔◌, ◌≤◌, ◌<◌, ℕ, length, true, IsOk, IsTrue, MatchResult, Some};
+ghost use Rattle.std.specs.Prelude.{None};
 ghost use Rattle.call_sets.specs.Counting.{has, is_among};
 ghost use Rattle.elevator_model.specs.Snapshot.{car_count};
 ghost use Rattle.elevator_model.specs.Plans.{IsFeasiblePlan, plan_cost_of, first_bad, is_boarded_in};

@@ -9,9 +9,15 @@ ghost use Rattle.elevator_model.specs.Partial.{Course};
 ghost use Rattle.partial_tours.specs.PartialTour.{course};
 ghost use Rattle.car_layout.specs.Layouts.{starts_at, fits_in};
 ghost use Rattle.partial_tours.specs.Courses.{is_after};
-ghost use Rattle.search_model.specs.Extending.{IsDemand, IsExtendable, has_to_board, none_left as none_left_lem, none_skipped as none_skipped_lem, all_fit as all_fit_lem, has_use as has_use_lem, can_go_on as can_go_on_lem, can_be_extended as can_be_extended_lem};
+ghost use Rattle.search_model.specs.Extending.{IsDemand, IsExtendable, has_to_board};
+ghost use Rattle.search_model.specs.Extending.{none_left as none_left_lem, none_skipped as none_skipped_lem};
+ghost use Rattle.search_model.specs.Extending.{all_fit as all_fit_lem, has_use as has_use_lem};
+ghost use Rattle.search_model.specs.Extending.{can_go_on as can_go_on_lem};
+ghost use Rattle.search_model.specs.Extending.{can_be_extended as can_be_extended_lem};
 ghost use Rattle.search_model.specs.Orders.{AreAllowed};
-ghost use Rattle.tour_extension.specs.Points.{IsAtStop, StandsFor, passes_none as passes_none_lem, keeps_queue_and_way as keeps_queue_and_way_lem, missing_can_board as missing_can_board_lem};
+ghost use Rattle.tour_extension.specs.Points.{IsAtStop, StandsFor, passes_none as passes_none_lem};
+ghost use Rattle.tour_extension.specs.Points.{keeps_queue_and_way as keeps_queue_and_way_lem};
+ghost use Rattle.tour_extension.specs.Points.{missing_can_board as missing_can_board_lem};
 
 use crate::demands::Demand;
 use crate::sides::Sides;
@@ -229,7 +235,8 @@ pub fn can_be_extended(prefix: &Prefix, demand: &Demand) -> bool
     requires { IsDemand prefix.now.snapshot prefix.now.car (has demand.now.allowed)
         (has demand.now.required) }
     ensures test { (x : Course) → course prefix.now ≡ Some x
-        → result ≡ can_be_extended_lem prefix.now.snapshot prefix.now.car (has demand.now.allowed) (has demand.now.required) x }
+        → result ≡ can_be_extended_lem prefix.now.snapshot prefix.now.car (has demand.now.allowed)
+        (has demand.now.required) x }
     ensures tour { AreAllowed (has demand.now.allowed) prefix.now.moves
         → (IsTrue result ↔ IsExtendable prefix.now.snapshot prefix.now.car
         (has demand.now.allowed) (has demand.now.required) prefix.now.moves) }

@@ -4,7 +4,9 @@ ghost use Rattle.std.specs.Prelude.{◌≡◌, ◌<◌, ◌≤◌, ◌+◌, ℕ,
 ghost use Rattle.elevator_model.specs.declared.Stop.{Stop};
 ghost use Rattle.call_sets.specs.Counting.{has};
 ghost use Rattle.elevator_model.specs.Snapshot.{car_count, call_count};
-ghost use Rattle.elevator_model.specs.Tours.{Progress, breaks as breaks_lem, broken_at as broken_at_lem, broken_at_end as broken_at_end_lem, first_broken, first_broken_from, start_of, none_taken};
+ghost use Rattle.elevator_model.specs.Tours.{Progress, breaks as breaks_lem, broken_at as broken_at_lem};
+ghost use Rattle.elevator_model.specs.Tours.{broken_at_end as broken_at_end_lem, first_broken};
+ghost use Rattle.elevator_model.specs.Tours.{first_broken_from, start_of, none_taken};
 ghost use Rattle.tour_rules.specs.Places.{Tracks, HasBoards};
 
 use crate::places::{Heading, Place, after_stop, any_carried, at_start};

@@ -1,11 +1,14 @@
 //! Where a car is in its tour, for the rules: who has boarded, who is carried.
 
-ghost use Rattle.std.specs.Prelude.{Bool, ◌≡◌, ◌≢◌, ◌<◌, ◌≤◌, ◌+◌, ◌*◌, ◌&&◌, ◌||◌, not, false, ℕ, ◌==◌, length};
+ghost use Rattle.std.specs.Prelude.{Bool, ◌≡◌, ◌≢◌, ◌<◌, ◌≤◌, ◌+◌, ◌*◌, ◌&&◌, ◌||◌, not, false, ℕ, ◌==◌};
+ghost use Rattle.std.specs.Prelude.{length};
 ghost use Rattle.call_sets.specs.Counting.{has, any_below, sum_where};
 ghost use Rattle.elevator_model.specs.Snapshot.{car_count, call_count};
-ghost use Rattle.elevator_model.specs.Tours.{Progress, rider_count, destination_of, persons_where, start_of, stop_at, gets_off};
+ghost use Rattle.elevator_model.specs.Tours.{Progress, rider_count, destination_of, persons_where, start_of};
+ghost use Rattle.elevator_model.specs.Tours.{stop_at, gets_off};
 ghost use Rattle.tour_rules.specs.Leaving.{is_call_off};
-ghost use Rattle.tour_rules.specs.Places.{heads, call_in, group_in, call_heads, group_heads, Tracks, IsBoardSet};
+ghost use Rattle.tour_rules.specs.Places.{heads, call_in, group_in, call_heads, group_heads, Tracks};
+ghost use Rattle.tour_rules.specs.Places.{IsBoardSet};
 
 use call_sets::{CallSet, FloorSet};
 use call_state::{Aboard, Call, Snapshot};
@@ -112,7 +115,8 @@ fn persons_of_groups(groups: &[Aboard], car: u32, visited: FloorSet, heading: He
     requires few { sum_where (length groups.now) (λ k. (group_in groups.now k).car == car)
         (λ k. (group_in groups.now k).persons) ≤ 64 }
     ensures value { result
-        ≡ sum_where (length groups.now) (group_heads groups.now car visited heading) (λ k. (group_in groups.now k).persons) }
+        ≡ sum_where (length groups.now) (group_heads groups.now car visited heading)
+        (λ k. (group_in groups.now k).persons) }
     ensures small { result ≤ 64 }
 {
     let mut persons = 0;

@@ -8,7 +8,9 @@ ghost use Rattle.call_sets.specs.Counting.{has, sum_where};
 ghost use Rattle.elevator_model.specs.Building.{IsBuilding, floor_count};
 ghost use Rattle.elevator_model.specs.Snapshot.{IsAccepted, car_count, call_count, spec_of};
 ghost use Rattle.elevator_model.specs.Tours.{Progress, arrival as arrival_lem};
-ghost use Rattle.tour_rules.specs.Leaving.{AreCarried, IsKept, AreBoarded, is_call_off, is_group_off, leaving_cost, call_cost, cost_of_call as cost_of_call_lem, group_cost, cost_of_group as cost_of_group_lem};
+ghost use Rattle.tour_rules.specs.Leaving.{AreCarried, IsKept, AreBoarded, is_call_off, is_group_off};
+ghost use Rattle.tour_rules.specs.Leaving.{leaving_cost, call_cost, cost_of_call as cost_of_call_lem};
+ghost use Rattle.tour_rules.specs.Leaving.{group_cost, cost_of_group as cost_of_group_lem};
 
 use crate::places::is_carried;
 use call_sets::{CallSet, FloorSet};

@@ -1,13 +1,17 @@
 //! The rules of tours, tested at one stop.
 
-ghost use Rattle.std.specs.Prelude.{◌≡◌, ◌≢◌, ◌<◌, ◌≤◌, ◌+◌, ◌*◌, ◌&&◌, ◌||◌, not, ℕ, ◌==◌, length, count_by, nat_le, nat_lt};
+ghost use Rattle.std.specs.Prelude.{◌≡◌, ◌≢◌, ◌<◌, ◌≤◌, ◌+◌, ◌*◌, ◌&&◌, ◌||◌, not, ℕ, ◌==◌, length, count_by};
+ghost use Rattle.std.specs.Prelude.{nat_le, nat_lt};
 ghost use Rattle.std.specs.List.{list_any};
 ghost use Rattle.call_sets.specs.Counting.{has, any_below, is_among};
 ghost use Rattle.elevator_model.specs.declared.Stop.{Stop};
 ghost use Rattle.elevator_model.specs.Building.{floor_count};
 ghost use Rattle.elevator_model.specs.Travel.{can_stop as can_stop_lem};
-ghost use Rattle.elevator_model.specs.Snapshot.{car_count, state_of, is_idle, is_coming, serves, is_open as is_open_lem, may_stop_first as may_stop_first_lem};
-ghost use Rattle.elevator_model.specs.Tours.{Progress, breaks as breaks_lem, has_leg as has_leg_lem, turns_with, none_taken, is_later_in_queue as is_later_in_queue_lem, is_call_for};
+ghost use Rattle.elevator_model.specs.Snapshot.{car_count, state_of, is_idle, is_coming, serves};
+ghost use Rattle.elevator_model.specs.Snapshot.{is_open as is_open_lem, may_stop_first as may_stop_first_lem};
+ghost use Rattle.elevator_model.specs.Tours.{Progress, breaks as breaks_lem, has_leg as has_leg_lem};
+ghost use Rattle.elevator_model.specs.Tours.{turns_with, none_taken};
+ghost use Rattle.elevator_model.specs.Tours.{is_later_in_queue as is_later_in_queue_lem, is_call_for};
 ghost use Rattle.tour_rules.specs.Places.{call_in, Tracks, HasBoards};
 
 use crate::places::{

@@ -1,5 +1,6 @@
 //! A line of jobs and its seats, over one atomic word.
-ghost use Rattle.std.specs.Prelude.{◌≡◌, ℕ, ◌+◌, ◌-◌, ◌<◌, ◌≤◌, [], ◌∷◌, ◌++◌, length, All, Any, IfOk, SomeIff};
+ghost use Rattle.std.specs.Prelude.{◌≡◌, ℕ, ◌+◌, ◌-◌, ◌<◌, ◌≤◌, [], ◌∷◌, ◌++◌, length, All, Any, IfOk};
+ghost use Rattle.std.specs.Prelude.{SomeIff};
 ghost use Rattle.work_fan.specs.Line.{times, EachOnce, EachBelow};
 
 use atomic_table::{Join, Play, Seat, Split, Table, TableRule};

@@ -1,5 +1,6 @@
 //! The jobs of one call, done by several workers.
-ghost use Rattle.std.specs.Prelude.{◌≡◌, ℕ, ◌<◌, ◌≤◌, [], length, replicate, All, Contains, IfOk, OnOk, IsSome, slice_get, slice_index_or};
+ghost use Rattle.std.specs.Prelude.{◌≡◌, ℕ, ◌<◌, ◌≤◌, [], length, replicate, All, Contains, IfOk, OnOk};
+ghost use Rattle.std.specs.Prelude.{IsSome, slice_get, slice_index_or};
 ghost use Rattle.std.specs.List.{filter_map};
 ghost use denote.Param.Send.{IsSync, IsSend};
 ghost use Rattle.work_fan.specs.Line.{times};
