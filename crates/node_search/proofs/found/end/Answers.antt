@@ -24,4 +24,4 @@ returns-clause-found g c =
     let ended = c.requires.ended.2 in
     let same = ended.begun.searching.under_way.best.snapshot in
     let reason : IsReasonOf s c.args.limits.most_tours x why = c.reason-why.ensures s (sym (ap length c.calls-calls.ensures.value ∙ ap call_count (c.snapshot.ensures.value ∙ same))) in
-    if_ok c.answer.result (IsAnswerOf x.tree.branches x.best turns why) _ (λ f is start ended'. answer_found fits start.prices (bound_of_sheet start) s c.args.limits.rounds c.args.limits.most_tours x.tree.branches x.best turns why f is (found_ended fits s c.args.limits.rounds c.args.limits.most_tours start turns x ended' f.bound why is.bound (reason_is fits s c.args.limits.rounds c.args.limits.most_tours start turns x ended' f.bound why is.bound reason))) c.answer.ensures.answer
+    if_ok c.answer.result (IsAnswerOf x.tree.branches x.best turns why) _ (λ f is start ended'. answer_found fits start.prices (bound_of_sheet start) s c.args.limits.rounds c.args.limits.most_tours x.tree.branches x.best turns why f is (found_ended fits s c.args.limits.rounds c.args.limits.most_tours start turns x ended' f.stated.bound why is.bound (reason_is fits s c.args.limits.rounds c.args.limits.most_tours start turns x ended' f.stated.bound why is.bound reason))) c.answer.ensures.answer

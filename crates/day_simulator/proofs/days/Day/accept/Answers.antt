@@ -14,21 +14,21 @@ add_accepted-requires g c =
     let planned = c.in_ok-planned.planned in
     let told = answered g.F.Fn c.args.plan.now c.snapshot.result c.plan.result planned c.in_ok-planned.was c.plan.ensures in
     let right_plan = c.requires.sound c.snapshot.result.now planned.stated planned.proof.items told in
-    subst (λ (s : Snapshot). IsFeasiblePlan s planned.plan) (c.snapshot.ensures.value ∙ sym c.snapshot-2.ensures.value) right_plan.feasible
+    subst (λ (s : Snapshot). IsFeasiblePlan s planned.stated.plan) (c.snapshot.ensures.value ∙ sym c.snapshot-2.ensures.value) right_plan.feasible
 
 pub set_plan-requires : goal.set_plan-requires
 set_plan-requires g c =
     let planned = c.in_ok-planned.planned in
     let told = answered g.F.Fn c.args.plan.now c.snapshot.result c.plan.result planned c.in_ok-planned.was c.plan.ensures in
     let right_plan = c.requires.sound c.snapshot.result.now planned.stated planned.proof.items told in
-    subst (λ (s : Snapshot). IsFeasiblePlan s planned.plan) c.snapshot.ensures.value right_plan.feasible
+    subst (λ (s : Snapshot). IsFeasiblePlan s planned.stated.plan) c.snapshot.ensures.value right_plan.feasible
 
 pub take-requires-clause-feasible : goal.take-requires-clause-feasible
 take-requires-clause-feasible g c =
     let planned = c.in_ok-planned.planned in
     let told = answered g.F.Fn c.args.plan.now c.snapshot.result c.plan.result planned c.in_ok-planned.was c.plan.ensures in
     let right_plan = c.requires.sound c.snapshot.result.now planned.stated planned.proof.items told in
-    subst (λ (w : World). IsFeasiblePlan w.snapshot w.plan) (sym c.set_plan.ensures) (subst (λ (s : Snapshot). IsFeasiblePlan s planned.plan) c.snapshot.ensures.value right_plan.feasible)
+    subst (λ (w : World). IsFeasiblePlan w.snapshot w.plan) (sym c.set_plan.ensures) (subst (λ (s : Snapshot). IsFeasiblePlan s planned.stated.plan) c.snapshot.ensures.value right_plan.feasible)
 
 pub returns-in-Ok-clause-row : goal.returns-in-Ok-clause-row
 returns-in-Ok-clause-row g c =
