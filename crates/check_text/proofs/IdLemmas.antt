@@ -1,5 +1,5 @@
 -- The ids of a case that a text has lie in the range of the text.
-use Rattle.std.proofs.Common.{◌≡◌, ℕ, zero, suc, ◌^◌, ◌<◌, ◌==◌, Bool, true, false, cond, List, [], ◌∷◌, ◌++◌, map, length, get_or, refl, sym, ap, subst, arith, Option, None, Some, Ok, Err}
+use Rattle.std.proofs.Common.{◌≡◌, ◌∙◌, ℕ, zero, suc, ◌^◌, ◌<◌, ◌==◌, Bool, true, false, cond, List, [], ◌∷◌, ◌++◌, map, length, get_or, refl, sym, ap, subst, arith, Option, None, Some, Ok, Err}
 use Rattle.std.specs.Prelude.{codes}
 use Rattle.std.specs.List.{list_any}
 use Rattle.elevator_model.specs.declared.Call.{Call}
@@ -16,7 +16,7 @@ use Rattle.text_sections.specs.Words.{number, exactly, short, named}
 use Rattle.text_sections.specs.Sections.{Line}
 use Rattle.text_sections.proofs.StepLemmas.{then-inv}
 use Rattle.text_sections.proofs.NumberLemmas.{number_in}
-use Rattle.snapshot_text.specs.Words.{pin_said, pin_named, call_of_words, call_said}
+use Rattle.snapshot_text.specs.Words.{call_at, pin_said, pin_named, call_of_words, call_said}
 use Rattle.snapshot_text.specs.Snapshots.{says_call}
 use Rattle.building_text.specs.Words.{car_numbers, has_car_words, served_of, faultless, judged_car, with_floors, car_of_line}
 use Rattle.building_text.specs.BuildingText.{AreCarLines}
@@ -28,28 +28,31 @@ use Rattle.check_text.specs.Laws.{HasLowIds}
 abbrev HasLowId : Call → Type 0
 HasLowId call = call.id < 2 ^ 32
 
-low_call_words : (words : Line) (call : Call) → call_of_words words ≡ Ok call → HasLowId call
-low_call_words words call e =
-    let all = then-inv (exactly words 7) (λ _. short words 1 >>= λ id. (short words 2 >>= λ origin. (short words 3 >>= λ destination. (short words 4 >>= λ persons. (number words 5 0 1000000000 >>= λ released. (pin_said words >>= λ pin. Ok (record { id = id; origin = origin; destination = destination; persons = persons; released = released; pin = pin }))))))) call e in
-    let id = then-inv (short words 1) (λ id. short words 2 >>= λ origin. (short words 3 >>= λ destination. (short words 4 >>= λ persons. (number words 5 0 1000000000 >>= λ released. (pin_said words >>= λ pin. Ok (record { id = id; origin = origin; destination = destination; persons = persons; released = released; pin = pin })))))) call all.2 in
-    let low = (number_in words 1 0 4294967295 id.0 id.1).1 in
-    let origin = then-inv (short words 2) (λ origin. short words 3 >>= λ destination. (short words 4 >>= λ persons. (number words 5 0 1000000000 >>= λ released. (pin_said words >>= λ pin. Ok (record { id = id.0; origin = origin; destination = destination; persons = persons; released = released; pin = pin }))))) call id.2 in
-    let destination = then-inv (short words 3) (λ destination. short words 4 >>= λ persons. (number words 5 0 1000000000 >>= λ released. (pin_said words >>= λ pin. Ok (record { id = id.0; origin = origin.0; destination = destination; persons = persons; released = released; pin = pin })))) call origin.2 in
-    let persons = then-inv (short words 4) (λ persons. number words 5 0 1000000000 >>= λ released. (pin_said words >>= λ pin. Ok (record { id = id.0; origin = origin.0; destination = destination.0; persons = persons; released = released; pin = pin }))) call destination.2 in
-    let released = then-inv (number words 5 0 1000000000) (λ released. pin_said words >>= λ pin. Ok (record { id = id.0; origin = origin.0; destination = destination.0; persons = persons.0; released = released; pin = pin })) call persons.2 in
-    let pin = then-inv (pin_said words) (λ pin. Ok (record { id = id.0; origin = origin.0; destination = destination.0; persons = persons.0; released = released.0; pin = pin })) call released.2 in
-    let made : Call = record { id = id.0; origin = origin.0; destination = destination.0; persons = persons.0; released = released.0; pin = pin.0 } in
-    let same : made ≡ call = cc in
-    subst HasLowId {x = made} same (omega (arith, low))
+abbrev or_else : {A : Type 0} → A → Judged A → A
+or_else x (Ok y) = y
+or_else x (Err code) = x
+
+same_ok : {A : Type 0} (x y : A) (answer : Judged A) → answer ≡ Ok x → answer ≡ Ok y → x ≡ y
+same_ok x y answer e f = ap (or_else x) (sym e ∙ f)
 
 low_call : (b : Building) (words : Line) (call : Call) → says_call b words ≡ Ok call → HasLowId call
 low_call b words call e =
     let named_so = then-inv (named (codes "call") words) (λ _. call_said b words) call e in
-    let said = then-inv (call_of_words words) (λ said. pin_named b said.pin >>= λ pin. Ok (record said { pin = pin })) call named_so.2 in
-    let pin = then-inv (pin_named b said.0.pin) (λ pin. Ok (record said.0 { pin = pin })) call said.2 in
-    let made : Call = record said.0 { pin = pin.0 } in
+    let said = then-inv (call_of_words words) (λ said. pin_named b said.pin_id >>= λ pin. Ok (call_at said pin)) call named_so.2 in
+    let pin = then-inv (pin_named b said.0.pin_id) (λ pin. Ok (call_at said.0 pin)) call said.2 in
+    let all = then-inv (exactly words 7) _ said.0 said.1 in
+    let id = then-inv (short words 1) _ said.0 all.2 in
+    let low = (number_in words 1 0 4294967295 id.0 id.1).1 in
+    let origin = then-inv (short words 2) _ said.0 id.2 in
+    let destination = then-inv (short words 3) _ said.0 origin.2 in
+    let persons = then-inv (short words 4) _ said.0 destination.2 in
+    let released = then-inv (number words 5 0 1000000000) _ said.0 persons.2 in
+    let last = then-inv (pin_said words) _ said.0 released.2 in
+    let whole = same_ok _ said.0 _ refl last.2 in
+    let same_id : id.0 ≡ said.0.id = ap (λ words. (call_at words None).id) whole in
+    let made : Call = call_at said.0 pin.0 in
     let same : made ≡ call = cc in
-    subst HasLowId {x = made} same (low_call_words words said.0 said.1)
+    subst HasLowId {x = made} same (omega (arith, low, same_id))
 
 low_calls : (b : Building) (lines : List Line) (calls : List Call) → map (says_call b) lines ≡ map Ok calls → (j : ℕ) → j < length calls → HasLowId (get_or calls j no_call)
 low_calls b [] [] e j below = absurd (omega arith)
