@@ -31,6 +31,7 @@ fn is_least(alloc: Global, head: &str, capacities: &[u64], lines: &str, due: u64
     )
 }
 
+/// Cars by capacity, a snapshot, and what its cheapest plan costs, in a building of four floors.
 const ROWS_OF_FOUR_FLOORS: [(&[u64], &str, u64); 13] = [
     // one idle car
     (
@@ -126,7 +127,7 @@ fn waits_past_the_patience_cost_more(rt: HostRuntime) {
             7500,
         ),
     ];
-    for (head, due) in ROWS_OF_FOUR_FLOORS {
+    for (head, due) in rows {
         assert!(rt; is_least(rt.alloc(), head, &[8], ONE_CALL, due), "{head}");
     }
 }

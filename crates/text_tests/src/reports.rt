@@ -86,6 +86,7 @@ const ELEVEN: [Moments; 11] = [
     (92, 94, 113),
 ];
 
+/// The calls of a day, and the text of its report.
 const TEXTS_OF_DAYS: [(&[Moments], &str); 7] = [
     (
         &[(0, 1000, 7500), (6500, 10000, 19000), (9500, 12500, 25500)],
