@@ -34,14 +34,16 @@ impl Pricing {
     /// The next price in thousandths, where a call costs so much. `is_chosen` is true of one call of a list.
     fn next(self, draws: &mut Draws, mean: u64, is_chosen: bool) -> i128 {
         // About as many thousandths as the mean has, and no two alike.
-        let about = i128::from(mean) * i128::from(850 + draws.pick(301));
+        let about = i128::from(mean).wrapping_mul(i128::from(850 + draws.pick(301)));
         let is_negative = draws.pick(2) == 0;
         match self {
             Pricing::Zero => 0,
-            Pricing::Twice => 2 * about,
-            Pricing::FourTimes => 4 * about,
-            Pricing::AnySign if is_negative => (about * i128::from(draws.pick(4))).wrapping_neg(),
-            Pricing::AnySign => about * i128::from(draws.pick(5)),
+            Pricing::Twice => about.wrapping_mul(2),
+            Pricing::FourTimes => about.wrapping_mul(4),
+            Pricing::AnySign if is_negative => about
+                .wrapping_mul(i128::from(draws.pick(4)))
+                .wrapping_neg(),
+            Pricing::AnySign => about.wrapping_mul(i128::from(draws.pick(5))),
             Pricing::Extreme if !is_chosen => about,
             Pricing::Extreme if is_negative => -MOST,
             Pricing::Extreme => MOST,
