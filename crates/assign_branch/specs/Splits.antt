@@ -1,5 +1,5 @@
 -- What a split keeps.
-use Rattle.std.specs.Prelude.{◌≡◌, List, length}
+use Rattle.std.specs.Prelude.{◌≡◌, All, List, length}
 use Rattle.elevator_model.specs.declared.Stop.{Stop}
 use Rattle.elevator_model.specs.Snapshot.{Snapshot, IsAccepted, call_count}
 use Rattle.elevator_model.specs.Plans.{IsFeasiblePlan}
@@ -14,3 +14,7 @@ KeepsPlans from first second =
 -- where the old node is one of a snapshot's search, the two are
 abbrev pub AreNodes : (from first second : Node) → Type 0
 AreNodes from first second = (s : Snapshot) → IsAccepted s → IsNodeOf s from → IsNodeOf s first × IsNodeOf s second
+
+-- where the node and the places are nodes of a snapshot's search, the new places are
+abbrev pub KeepsNodes : Node → (places left : List Node) → Type 0
+KeepsNodes node places left = (s : Snapshot) → IsAccepted s → IsNodeOf s node → All (IsNodeOf s) places → All (IsNodeOf s) left

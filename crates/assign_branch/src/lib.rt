@@ -14,10 +14,10 @@
 //!   are as before. Else the part's cars are in one node, the rest in the other, and all other sets stay. A
 //!   feasible plan is in the split node exactly where it is in one of the two, and never in both. Both are
 //!   nodes of each snapshot of which the split one is a node.
+//! - `Places` has the nodes of a tree's places that are still to be filled, as its twigs come in preorder.
 //! - `Pricer`, what every pricing of a car in a node keeps, and all that a search may rest on: the worth is
 //!   one, of absolute value at most 10^27. Where the limit was not reached it is the least value, and the
-//!   tour that is given has it; where it was, the car has that many partial tours. The visits are a claim
-//!   that fits, and a claim that fits in a node fits in both nodes of a split.
+//!   tour that is given has it; where it was, the car has that many partial tours.
 //!
 //! A pricer's desk is what one worker works at. What a desk holds is a relation, so a desk need not remember
 //! the node and the prices.
@@ -25,12 +25,14 @@
 
 mod demands;
 mod nodes;
+mod places;
 mod pricers;
 mod splits;
 mod trees;
 
 pub use call_sets::{CallSet, CarSet};
 pub use nodes::{Node, root};
+pub use places::Places;
 pub use pricers::Pricer;
 pub use search_model::{Items, Leaf, PriceOf, Priced, Twig, WorthOf};
 pub use splits::{BadSplit, is_part, split};

@@ -4,8 +4,8 @@ ghost use Rattle.std.specs.Prelude.{◌≡◌, ◌<◌, ◌≤◌, ◌^◌, true
 ghost use Rattle.elevator_model.specs.Snapshot.{Snapshot, car_count, call_count};
 ghost use Rattle.search_model.specs.Nodes.{IsNodeOf, IsTourIn};
 ghost use Rattle.search_model.specs.Prices.{IsWorth, price_at};
-ghost use Rattle.search_model.specs.Solving.{Fits, HasPartialTours, ReachesLeast};
-ghost use Rattle.assign_branch.specs.Pricings.{FitsInSplits, GivesWorth, IsWorthSize, Pricing};
+ghost use Rattle.search_model.specs.Solving.{HasPartialTours, ReachesLeast};
+ghost use Rattle.assign_branch.specs.Pricings.{GivesWorth, IsWorthSize, Pricing};
 
 use crate::nodes::Node;
 use elevator_model::Tour;
@@ -31,9 +31,6 @@ pub trait Pricer: Sync {
     /// The last pricing at this desk was this one.
     ghost holds: { Self → Self.Desk → Pricing → Type 0 };
 
-    /// Which claims fit a car in a node, prices and a worth.
-    ghost fits: { Self → Fits };
-
     /// A desk of its own at which nothing was priced. It fails only where there is no memory left.
     fn desk(&self, alloc: Global) -> Result<Self::Desk, AllocError>
         ensures own { IfOk result (λ desk. owns self.now desk) }
@@ -43,8 +40,7 @@ pub trait Pricer: Sync {
     /// tours. It takes no memory.
     ///
     /// The worth is one that no tour of the car in the node has a value below, in thousandths of a cost unit,
-    /// and where the limit was not reached some tour has it. The number of visits is a claim that fits the
-    /// worth.
+    /// and where the limit was not reached some tour has it.
     fn price(
         &self,
         car: u32,
@@ -67,8 +63,7 @@ pub trait Pricer: Sync {
         ensures least { result.spent ≡ false
             → ReachesLeast (snapshot self.now) node.now car (price_at prices.now) result.worth }
         ensures spent { result.spent ≡ true
-            → (result.visits ≡ limit) × HasPartialTours (snapshot self.now) node.now car limit }
-        ensures claim { fits self.now node.now car (price_at prices.now) result.worth result.visits };
+            → (result.visits ≡ limit) × HasPartialTours (snapshot self.now) node.now car limit };
 
     /// A tour of the last pricing at the desk: one that has the worth where the limit was not reached, and
     /// else any tour of the car in the node, or none. None is given before the first pricing.
@@ -81,7 +76,4 @@ pub trait Pricer: Sync {
         ensures least { IfOk result (λ given. (p : Pricing) → holds self.now desk.now p
             → p.answer.spent ≡ false → GivesWorth (snapshot self.now) p given) }
         ensures held { IfOk result (λ given. IfSome given (λ _. (p : Pricing) × holds self.now desk.now p)) };
-
-    /// A claim that fits in a node fits the same prices and worth in both nodes of a split of it.
-    ghost fits_in_splits: { (pricer : Self) → FitsInSplits (fits pricer) (snapshot pricer) };
 }

@@ -79,7 +79,7 @@ length-lists_from s c allowed keep (suc n) moves x =
     let later = length-lists_later s c allowed keep n moves x (spread (most_next s) n) (length-lists_from s c allowed keep n) in
     cond_both (keep x) (moves ∷ lists_later s c allowed keep n moves x) [] (λ (l : List (List Move)). length l ≤ spread (most_next s) (suc n)) (λ e. omega (arith, later)) (λ e. omega arith)
 
--- so many lists are fewer than all lists of moves of that length
+-- fewer than all lists of moves of that length
 spread-le : (b n : ℕ) → spread b (suc n) ≤ (b + 1) ^ n
 spread-le b zero = omega (arith, pow-zero (b + 1))
 spread-le b (suc n) =

@@ -18,11 +18,10 @@ use Rattle.search_model.specs.declared.StopReason.{StopReason}
 use Rattle.search_model.specs.declared.StopReason.TheVariants.{Solved, Rounds, Moves}
 use Rattle.search_model.specs.Orders.{AtLeast, IsPartialTour}
 use Rattle.search_model.specs.Sums.{int_sum_by, least_where, rounded_up}
-use Rattle.search_model.specs.Nodes.{Node, root_of, set_of, allows, requires_of, IsTourIn}
+use Rattle.search_model.specs.Nodes.{Node, root_of, set_of, allows, IsTourIn}
 use Rattle.search_model.specs.Prices.{scaled, price_at, value_of, IsWorth}
 use Rattle.search_model.specs.Bounds.{cost_if_alone, cost_if_straight}
-use Rattle.search_model.specs.Certificates.{Place, Placed, placed_twigs, Proves, price_in, worth_in, claim_in, sum_of_leaf}
-use Rattle.search_model.specs.Kept.{kept_list}
+use Rattle.search_model.specs.Certificates.{Place, Placed, placed_twigs, Proves, price_in, worth_in, sum_of_leaf}
 
 -- ---- bounds
 
@@ -155,23 +154,9 @@ IsPriced s moves place (Tip leaf) =
 abbrev pub IsPricedTree : Snapshot → (moves : ℕ) → List Twig → Type 0
 IsPricedTree s moves tree = All (λ (p : Placed). IsPriced s moves p.place p.twig) (placed_twigs s tree)
 
--- What a claim has to fit, as a pricing says it: of a car in a node at prices, for a worth.
-abbrev pub Fits : Type 1
-Fits = (node : Node) (c : ℕ) (price : ℕ → ℤ) (worth : ℤ) (claim : ℕ) → Type 0
-
--- each claim is at least 1 and at most the limit, and fits
-pub record IsClaimed (fits : Fits) (moves : ℕ) (node : Node) (leaf : Leaf) (c : ℕ) : Type 0 where
-  pub low : 1 ≤ claim_in leaf c
-  pub high : claim_in leaf c ≤ moves
-  pub fit : fits node c (price_in leaf) (worth_in leaf c) (claim_in leaf c)
-
-abbrev pub AreClaimed : Fits → Snapshot → (moves : ℕ) → Place → Twig → Type 0
-AreClaimed fits s moves place (Split j part) = Unit {0}
-AreClaimed fits s moves place (Tip leaf) = (c : ℕ) → c < car_count s → IsClaimed fits moves place.node leaf c
-
 -- ---- reasons
 
--- every call has one car left, and some car has at least so many partial tours
+-- every call has one car left, and some car has at least this many partial tours
 pub record IsAtEnd (s : Snapshot) (node : Node) (count : ℕ) : Type 0 where
   pub single : (j : ℕ) → j < call_count s → (c : ℕ) × (set_of node j ≡ 2 ^ c)
   pub car : ℕ
@@ -182,7 +167,7 @@ abbrev pub EndsThere : Snapshot → (cost count : ℕ) → Place → Twig → Ty
 EndsThere s cost count place (Split j part) = Unit {0}
 EndsThere s cost count place (Tip leaf) = bound_of_leaf leaf <ℤ pos cost → IsAtEnd s place.node count
 
--- a leaf whose bound is below the cost, where the car has at least so many partial tours
+-- a leaf whose bound is below the cost, where the car has at least this many partial tours
 abbrev pub IsEndOf : Snapshot → (cost car count : ℕ) → Place → Twig → Type 0
 IsEndOf s cost car count place (Split j part) = ⊥
 IsEndOf s cost car count place (Tip leaf) = (bound_of_leaf leaf <ℤ pos cost) × HasPartialTours s place.node car count
@@ -221,15 +206,13 @@ abbrev pub HasChoice : Snapshot → Type 0
 HasChoice s =
     (j : ℕ) × (j < call_count s) × (2 ≤ sum_where (car_count s) (λ c. is_possible s c (call_of s j)) (λ _. 1))
 
--- What a search answers that starts with given prices and with a bound `least` of its own, where `fits` says
--- which claims are enough.
-pub record IsFound (fits : Fits) (start : List ℤ) (least : ℤ) (s : Snapshot) (rounds moves : ℕ) (plan : List (List Stop)) (cost bound : ℕ) (tree : List Twig) (turns : List Turn) (why : StopReason) : Type 0 where
+-- What a search answers that starts with given prices and with a bound `least` of its own.
+pub record IsFound (start : List ℤ) (least : ℤ) (s : Snapshot) (rounds moves : ℕ) (plan : List (List Stop)) (cost bound : ℕ) (tree : List Twig) (turns : List Turn) (why : StopReason) : Type 0 where
   pub proves : Proves s plan cost bound tree
   pub best_bound : pos bound ≡ least_bound cost tree
   pub at_least : least ≤ℤ pos bound
   -- a round prices at most four nodes, and only priced nodes are split
   pub twigs : length tree ≤ 8 * rounds + 1
-  pub claims : All (λ (p : Placed). AreClaimed fits s moves p.place p.twig) (placed_twigs s tree)
   pub root_turns : AreRootTurns s moves start turns
   pub few_turns : length turns ≤ 20
   pub turn_bounds : All (λ (turn : Turn). rounded_up (sum_of_turn turn) ≤ℤ pos bound) turns
@@ -238,10 +221,6 @@ pub record IsFound (fits : Fits) (start : List ℤ) (least : ℤ) (s : Snapshot)
   pub tours : 34 ^ car_count s ≤ moves → (other : List (List Stop)) → IsFeasiblePlan s other → ((c : ℕ) → c < car_count s → IsTourOfTurns turns c (tour_of other c)) → cost ≤ plan_cost_of s other
   pub reason : IsReason s rounds moves cost bound tree why
 
--- a kept list is not longer than the claim
-abbrev pub fits_kept : Snapshot → Fits
-fits_kept s node c price worth claim = length (kept_list s c price (allows node c) (requires_of node c) worth) ≤ claim
-
 -- What a snapshot's solution answers: it starts with the least lone costs.
 abbrev pub IsSolveAnswer : Snapshot → (rounds moves : ℕ) → List (List Stop) → (cost bound : ℕ) → List Twig → List Turn → StopReason → Type 0
-IsSolveAnswer s rounds moves plan cost bound tree turns why = IsFound (fits_kept s) (start_prices s) (pos (floor_of_bound s)) s rounds moves plan cost bound tree turns why
+IsSolveAnswer s rounds moves plan cost bound tree turns why = IsFound (start_prices s) (pos (floor_of_bound s)) s rounds moves plan cost bound tree turns why

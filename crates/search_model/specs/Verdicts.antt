@@ -104,7 +104,7 @@ abbrev pub most_aboard : Snapshot → ℕ → ℕ
 most_aboard s zero = 0
 most_aboard s (suc n) = max (most_aboard s n) (sum_where (length s.aboard) (λ k. (group_of s k).car == n) (λ _. 1))
 
--- With these limits a search ends solved: so many rounds, and so many partial tours in a pricing, more than a
+-- With these limits a search ends solved: this many rounds, and this many partial tours in a pricing, more than a
 -- car has.
 abbrev pub rounds_enough : Snapshot → ℕ
 rounds_enough s = 40 * car_count s ^ call_count s

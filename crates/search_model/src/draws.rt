@@ -48,7 +48,9 @@ impl Draws {
     /// A place in a list of this many, by the next number.
     pub fn pick_place(&mut self, count: usize) -> usize
         requires { 0 < count }
-        ensures { result < count }
+        ensures state { self.new.state ≡ state_after self.old.state }
+        ensures drawn { result ≡ drawn_by (state_after self.old.state) % count }
+        ensures below { result < count }
     {
         self.draw() as usize % count
     }

@@ -1,5 +1,5 @@
 use Rattle.std.proofs.Common.{◌≡◌, take}
-use Rattle.cert_checker.proofs.tree.copies.Given as goal
+use Rattle.assign_branch.proofs.places.copies.Given as goal
 
 abbrev pub invariant-loop-node : goal.invariant-loop-node
 invariant-loop-node l = l.copies.items ≡ take l.node-index l.nodes

@@ -1,10 +1,12 @@
-//! The places of a tree that are still to be filled.
+//! The places of a tree that are still to be filled, as its twigs come in preorder.
 
 ghost use Rattle.std.specs.Prelude.{◌≡◌, [], ◌∷◌, true, false, IfOk, OnOk, MatchOption};
-ghost use Rattle.cert_checker.specs.Judging.{KeepsNodes};
+ghost use Rattle.assign_branch.specs.Splits.{KeepsNodes};
 ghost use Rattle.search_model.specs.Nodes.{first_of_split, is_part, second_of_split, set_of};
 
-use assign_branch::{CarSet, Node, split};
+use crate::nodes::Node;
+use crate::splits::split;
+use call_sets::CarSet;
 use std::alloc::{AllocError, Global};
 use std::marker::Model;
 
@@ -12,7 +14,7 @@ use std::marker::Model;
 ///
 /// Contracts see them in the order in which they are filled, the next one first.
 #[derive(Drop)]
-pub(crate) struct Places {
+pub struct Places {
     /// The next one last.
     nodes: Vec<Node>,
 }
@@ -28,7 +30,7 @@ impl Model for Places {
 
 impl Places {
     /// One place. It fails only where there is no memory left.
-    pub(crate) fn new(alloc: Global, node: Node) -> Result<Self, AllocError>
+    pub fn new(alloc: Global, node: Node) -> Result<Self, AllocError>
         ensures { IfOk result (λ places. places ≡ node ∷ []) }
     {
         let mut nodes = Vec::new(alloc);
@@ -37,7 +39,7 @@ impl Places {
     }
 
     /// A copy of the places. It fails only where there is no memory left.
-    pub(crate) fn copy(&self, alloc: Global) -> Result<Self, AllocError>
+    pub fn copy(&self, alloc: Global) -> Result<Self, AllocError>
         ensures { IfOk result (λ places. places ≡ self.now) }
     {
         Ok(Places {
@@ -46,7 +48,7 @@ impl Places {
     }
 
     /// Takes the next place out. None where no place is left.
-    pub(crate) fn take_next(&mut self) -> Option<Node>
+    pub fn take_next(&mut self) -> Option<Node>
         ensures { MatchOption result ((self.old ≡ []) × (self.new ≡ []))
             (λ node. self.old ≡ node ∷ self.new) }
     {
@@ -58,7 +60,7 @@ impl Places {
     /// call's set.
     ///
     /// It fails only where there is no memory left.
-    pub(crate) fn split(
+    pub fn split(
         &mut self,
         alloc: Global,
         node: &Node,

@@ -1,12 +1,15 @@
-use Rattle.std.proofs.Common.{◌≡◌, ◌∙◌, ◌∷◌, true, false, sym, subst, arith, reverse}
+use Rattle.std.proofs.Common.{◌≡◌, ◌∙◌, ◌∷◌, true, false, Bool, refl, sym, subst, arith, reverse}
 use Rattle.std.specs.Prelude.{All, IsOk, OnOk, is_err, Result, Ok, Err}
 use Rattle.std.proofs.lemmas.Bool.{true≢false}
 use Rattle.std.proofs.lemmas.Grind.{common_steps}
 use Rattle.std.proofs.lemmas.List.Elements.{All-cons}
 use Rattle.search_model.specs.Nodes.{IsNodeOf}
 use Rattle.assign_branch.specs.Splits.{AreNodes}
-use Rattle.cert_checker.proofs.EntryLemmas.{is_false}
-use Rattle.cert_checker.proofs.tree.Places.split.Goals as goal
+use Rattle.assign_branch.proofs.places.Places.split.Goals as goal
+
+is_false : (b : Bool) → (b ≡ true → ⊥) → b ≡ false
+is_false true h = absurd (h refl)
+is_false false h = refl
 
 not_ok : {A E : Type 0} (r : Result A E) → is_err r ≡ true → IsOk r → ⊥
 not_ok (Ok x) e h = cc
