@@ -1,9 +1,11 @@
 pub mod Outcomes
 pub mod MadeCases
+pub mod SearchBounds
 pub mod Solutions
 pub mod SolvedCases
 pub mod SolvedTrees
 pub mod SaidYes
+pub mod Enough
 pub mod Verdicts
 pub mod SolvedRows
 pub mod DayOutcomes

@@ -17,7 +17,7 @@ use Rattle.search_model.specs.declared.StopReason.{StopReason}
 use Rattle.search_model.specs.declared.StopReason.TheVariants.{Solved, Rounds, Moves}
 use Rattle.search_model.specs.declared.Verdict.TheVariants.{Yes}
 use Rattle.search_model.specs.Certificates.{Place, Placed, Proves, placed_twigs}
-use Rattle.search_model.specs.Solving.{IsReason, IsSolveAnswer, AreClaimed, fits_kept, least_bound}
+use Rattle.search_model.specs.Solving.{IsReason, IsSolveAnswer, least_bound}
 use Rattle.search_model.specs.Verdicts.{FitsClaims, verdict_of}
 use Rattle.search_tree.specs.Sheets.{IsSizedTwig}
 use Rattle.node_search.proofs.SearchEnd.{least-cost}
@@ -38,8 +38,10 @@ use Rattle.check_text.proofs.StatedLemmas.{stated_text}
 use Rattle.check_text.specs.Laws.{IsClosing}
 use Rattle.check_text.proofs.AgainLemmas.{again_holds}
 use Rattle.lift_words.specs.declared.request.SolveOptions.{SolveOptions}
-use Rattle.lift_commands.specs.Outcome.{CanBeChecked, IsSaidYes, certificate_part, closing_line}
-use Rattle.lift_commands.proofs.SolvedTrees.{tree_known, tree_short, tree_within}
+use Rattle.cert_claims.specs.Due.{StatesDue, claims_of_tree}
+use Rattle.lift_commands.specs.Outcome.{CanBeChecked, IsCertified, IsPrinted, IsSaidYes, certificate_part, closing_line, ending_of}
+use Rattle.lift_commands.proofs.SearchBounds.{bound_low}
+use Rattle.lift_commands.proofs.SolvedTrees.{tree_short, tree_within, worths_few}
 
 -- no certificate is wanted
 pub certificate_when : (options : SolveOptions) (s : Snapshot) (tree : List Twig) (text : List ℕ) → options.brief ≡ true → text ≡ text ++ certificate_part options s tree
@@ -101,64 +103,77 @@ numbers_close name numbers test short small few =
     }
 
 -- within the default limits
-closes : (s : Snapshot) (rounds moves cost bound : ℕ) (tree : List Twig) (why : StopReason) → ((c : ℕ) → c < car_count s → (spec_of s c).id < 2 ^ 32) → rounds ≤ 2000 → moves ≤ 75000
-    → IsReason s rounds moves cost bound tree why → IsClosing (closing_line s why)
-closes s rounds moves cost bound tree Solved ids few_rounds few_moves reason = record { text = codes " solved"; closing_is = refl; no_line = tested_no_end (codes " solved") refl; short = lit< tt }
-closes s rounds moves cost bound tree (Rounds done) ids few_rounds few_moves reason =
-    let limit = reason.limit in
-    let small : done < 2 ^ 32 = omega (arith, limit, few_rounds) in
+closes : (s : Snapshot) (rounds moves limit cost bound printed : ℕ) (tree : List Twig) (why : StopReason) → ((c : ℕ) → c < car_count s → (spec_of s c).id < 2 ^ 32) → rounds ≤ 2000 → moves ≤ 75000 → limit ≤ 1000000000
+    → IsReason s rounds moves cost bound tree why → (solved : Bool) → IsClosing (closing_line s (ending_of why limit solved))
+closes s rounds moves limit cost bound printed tree why ids few_rounds few_moves few_claims reason true = record { text = codes " solved"; closing_is = refl; no_line = tested_no_end (codes " solved") refl; short = lit< tt }
+closes s rounds moves limit cost bound printed tree Solved ids few_rounds few_moves few_claims reason false =
+    let small : limit < 2 ^ 32 = omega (arith, few_claims) in
+    numbers_close (codes " stopped claims") (limit ∷ []) refl (lit< tt) (small, tt) (lit< tt)
+closes s rounds moves limit cost bound printed tree (Rounds done) ids few_rounds few_moves few_claims reason false =
+    let done_is = reason.limit in
+    let small : done < 2 ^ 32 = omega (arith, done_is, few_rounds) in
     numbers_close (codes " stopped rounds") (done ∷ []) refl (lit< tt) (small, tt) (lit< tt)
-closes s rounds moves cost bound tree (Moves car count) ids few_rounds few_moves reason =
-    let limit = reason.limit in
-    let small : count < 2 ^ 32 = omega (arith, limit, few_moves) in
+closes s rounds moves limit cost bound printed tree (Moves car count) ids few_rounds few_moves few_claims reason false =
+    let count_is = reason.limit in
+    let small : count < 2 ^ 32 = omega (arith, count_is, few_moves) in
     numbers_close (codes " stopped moves") ((spec_of s car).id ∷ count ∷ []) refl (lit< tt) (ids car reason.is_car, (small, tt)) (lit< tt)
 
 -- ---- the verdict
 
-fits_twig : (s : Snapshot) (moves : ℕ) (place : Place) (twig : Twig) → AreClaimed (fits_kept s) s moves place twig → FitsClaims s place twig
-fits_twig s moves place (Split j part) h = tt
-fits_twig s moves place (Tip leaf) h = λ c lt. (h c lt).fit
+-- a claim that is due fits
+fits_twig : (s : Snapshot) (place : Place) (twig : Twig) → StatesDue s place twig → FitsClaims s place twig
+fits_twig s place (Split j part) h = tt
+fits_twig s place (Tip leaf) h = λ c lt. (let due = h c lt in omega (arith, due))
 
-module _ (s : Snapshot) (accepted : IsAccepted s) (rounds moves : ℕ) (plan : List (List Stop)) (cost bound : ℕ) (tree : List Twig) (turns : List Turn) (why : StopReason)
-    (answer : IsSolveAnswer s rounds moves plan cost bound tree turns why) (sized : All IsSizedTwig tree) where
-  pub known_tree : AreTwigsKnown s tree
-  known_tree = tree_known (fits_kept s) s accepted bound moves tree answer.proves.whole answer.proves.sound answer.claims sized
+module _ (s : Snapshot) (accepted : IsAccepted s) (limit : ℕ) (stated : Stated) (tree : List Twig) (bound : ℕ) (certificate : List Twig)
+    (certified : IsCertified s limit stated tree bound certificate) (sized : All IsSizedTwig certificate) where
+  abbrev printed_as : Stated
+  printed_as = record { plan = stated.plan; cost = stated.cost; bound = bound }
 
-  says_yes : verdict_of s (plan_by_index s plan) cost bound tree ≡ Yes
+  says_yes : verdict_of s (plan_by_index s stated.plan) stated.cost bound certificate ≡ Yes
   says_yes =
-      let same = by_index_holds s plan answer.proves.feasible in
-      let proves : Proves s (plan_by_index s plan) cost bound tree = record { feasible = same.0; costs = same.1 ∙ answer.proves.costs; whole = answer.proves.whole; sound = answer.proves.sound } in
-      let cars : length (plan_by_index s plan) ≡ car_count s = length-map plan (map (stop_by_index s)) ∙ (feasible_fits s plan answer.proves.feasible).tours in
-      let claims = All-weaker (λ (p : Placed). AreClaimed (fits_kept s) s moves p.place p.twig) (λ (p : Placed). FitsClaims s p.place p.twig) (λ p h. fits_twig s moves p.place p.twig h) (placed_twigs s tree) answer.claims in
-      (verdict_holds s (plan_by_index s plan) cost bound tree accepted cars answer.proves.whole).yes proves claims
+      let same = by_index_holds s stated.plan certified.proves.feasible in
+      let proves : Proves s (plan_by_index s stated.plan) stated.cost bound certificate = record { feasible = same.0; costs = same.1 ∙ certified.proves.costs; whole = certified.proves.whole; sound = certified.proves.sound } in
+      let cars : length (plan_by_index s stated.plan) ≡ car_count s = length-map stated.plan (map (stop_by_index s)) ∙ (feasible_fits s stated.plan certified.proves.feasible).tours in
+      let claims = All-weaker (λ (p : Placed). StatesDue s p.place p.twig) (λ (p : Placed). FitsClaims s p.place p.twig) (λ p h. fits_twig s p.place p.twig h) (placed_twigs s certificate) certified.due in
+      (verdict_holds s (plan_by_index s stated.plan) stated.cost bound certificate accepted cars certified.proves.whole).yes proves claims
 
-  bound_low : bound ≤ cost
-  bound_low =
-      let least : least_bound cost tree ≤ℤ pos cost = least-cost cost tree in
-      let same : pos bound ≡ least_bound cost tree = answer.best_bound in
-      omega (arith, ints, least, same)
+  few_claims : length certificate ≤ 16001 → limit ≤ 10000000000 → claims_of_tree certificate ≤ 10000000000
+  few_claims short small =
+      let few = certified.few in
+      let worths = worths_few s accepted bound certificate certified.proves.whole certified.proves.sound sized short in
+      omega (arith, few, worths, small)
 
   -- the text behind a case that can be checked
-  yes_behind : (input : List ℕ) → IsCaseText input s → IsTrue (ends_with_byte 10 input) → length input ≤ 1000000 → rounds ≤ 2000 → moves ≤ 75000
-      → IsSaidYes (input ++ answer_text s (record { plan = plan; cost = cost; bound = bound }) ++ cert_text s tree ++ closing_line s why) s
-  yes_behind input case ended short few_rounds few_moves =
-      let stated : Stated = record { plan = plan; cost = cost; bound = bound } in
-      let text = stated_text input s stated case answer.proves.feasible (sym answer.proves.costs) bound_low in
-      let twigs = answer.twigs in
-      let few : length tree ≤ 16001 = omega (arith, twigs, few_rounds) in
-      let certificate : HasText s tree = record { within = tree_within (fits_kept s) s accepted bound moves few_moves tree answer.proves.whole answer.proves.sound answer.claims sized few; car_ids = text.0.car_ids; call_ids = text.0.call_ids } in
-      let size = tree_short (fits_kept s) s accepted bound moves few_moves tree answer.proves.whole answer.proves.sound answer.claims sized few certificate in
-      record { stated = stated_by_index s stated; tree = tree; read = again_holds input s stated tree (closing_line s why) case ended short text.0 certificate (omega (arith, text.1)) size (closes s rounds moves cost bound tree why text.0.car_ids few_rounds few_moves answer.reason); yes = says_yes }
+  yes_behind : (input closing : List ℕ) → IsCaseText input s → IsTrue (ends_with_byte 10 input) → length input ≤ 1000000 → bound ≤ stated.cost → length certificate ≤ 16001 → limit ≤ 1000000000
+      → (((c : ℕ) → c < car_count s → (spec_of s c).id < 2 ^ 32) → IsClosing closing) → IsSaidYes (input ++ answer_text s printed_as ++ cert_text s certificate ++ closing) s
+  yes_behind input closing case ended short low few small closes_so =
+      let text = stated_text input s printed_as case certified.proves.feasible (sym certified.proves.costs) low in
+      let within = tree_within s accepted bound certificate certified.proves.whole certified.proves.sound sized certified.due (few_claims few (omega (arith, small))) in
+      let written : HasText s certificate = record { within = within; car_ids = text.0.car_ids; call_ids = text.0.call_ids } in
+      let size = tree_short s accepted bound certificate certified.proves.whole certified.proves.sound sized few written in
+      record { stated = stated_by_index s printed_as; tree = certificate; read = again_holds input s printed_as certificate closing case ended short text.0 written (omega (arith, text.1)) size (closes_so text.0.car_ids); yes = says_yes }
 
 behind_input : (input a b c : List ℕ) → input ++ a ++ b ++ c ≡ input ++ (a ++ b ++ c)
 behind_input input a b c = ap (λ (x : List ℕ). x ++ c) (append_assoc input a b) ∙ append_assoc input (a ++ b) c
 
+-- what is printed with a certificate
+certified_of : (options : SolveOptions) (s : Snapshot) (stated : Stated) (tree : List Twig) (bound : ℕ) (certificate : List Twig) → options.brief ≡ false → IsPrinted options s stated tree bound certificate → IsCertified s options.claims stated tree bound certificate
+certified_of options s stated tree bound certificate brief printed = subst (λ (b : Bool). if b then bound ≡ stated.bound else IsCertified s options.claims stated tree bound certificate) brief printed
+
 -- what `solve` writes, where that is so
-pub said_yes : (options : SolveOptions) (s : Snapshot) → IsAccepted s → (plan : List (List Stop)) (cost bound : ℕ) (tree : List Twig) (turns : List Turn) (why : StopReason)
-    → (answer : IsSolveAnswer s options.rounds options.moves plan cost bound tree turns why) → All IsSizedTwig tree → (input text : List ℕ) → IsCaseText input s → CanBeChecked options input
-    → text ≡ answer_text s (record { plan = plan; cost = cost; bound = bound }) ++ certificate_part options s tree ++ closing_line s why → IsSaidYes (input ++ text) s
-said_yes options s accepted plan cost bound tree turns why answer sized input text case can is =
-    let stated : Stated = record { plan = plan; cost = cost; bound = bound } in
-    let there : text ≡ answer_text s stated ++ cert_text s tree ++ closing_line s why = is ∙ ap (λ (part : List ℕ). answer_text s stated ++ part ++ closing_line s why) (certificate_there options s tree can.certificate) in
-    let one : input ++ answer_text s stated ++ cert_text s tree ++ closing_line s why ≡ input ++ text = behind_input input (answer_text s stated) (cert_text s tree) (closing_line s why) ∙ sym (ap (λ (x : List ℕ). input ++ x) there) in
-    subst (λ (x : List ℕ). IsSaidYes x s) one (yes_behind s accepted options.rounds options.moves plan cost bound tree turns why answer sized input case can.ended can.short can.rounds can.moves)
+pub said_yes : (options : SolveOptions) (s : Snapshot) → IsAccepted s → (stated : Stated) (tree : List Twig) (turns : List Turn) (why : StopReason)
+    → IsSolveAnswer s options.rounds options.moves stated.plan stated.cost stated.bound tree turns why → (bound : ℕ) (certificate : List Twig) → IsPrinted options s stated tree bound certificate → All IsSizedTwig certificate → length certificate ≤ length tree
+    → (input text : List ℕ) → IsCaseText input s → CanBeChecked options input → (solved : Bool)
+    → text ≡ answer_text s (record { plan = stated.plan; cost = stated.cost; bound = bound }) ++ certificate_part options s certificate ++ closing_line s (ending_of why options.claims solved) → IsSaidYes (input ++ text) s
+said_yes options s accepted stated tree turns why answer bound certificate printed sized shorter input text case can solved is =
+    let certified = certified_of options s stated tree bound certificate can.certificate printed in
+    let shown : Stated = record { plan = stated.plan; cost = stated.cost; bound = bound } in
+    let closing = closing_line s (ending_of why options.claims solved) in
+    let there : text ≡ answer_text s shown ++ cert_text s certificate ++ closing = is ∙ ap (λ (part : List ℕ). answer_text s shown ++ part ++ closing) (certificate_there options s certificate can.certificate) in
+    let one : input ++ answer_text s shown ++ cert_text s certificate ++ closing ≡ input ++ text = behind_input input (answer_text s shown) (cert_text s certificate) closing ∙ sym (ap (λ (x : List ℕ). input ++ x) there) in
+    let twigs = answer.twigs in
+    let rounds = can.rounds in
+    let low = bound_low s options.rounds options.moves stated.plan stated.cost stated.bound tree turns why answer in
+    let lower = certified.low in
+    subst (λ (x : List ℕ). IsSaidYes x s) one (yes_behind s accepted options.claims stated tree bound certificate certified sized input closing case can.ended can.short (omega (arith, low, lower)) (omega (arith, shorter, twigs, rounds)) can.claims (λ ids. closes s options.rounds options.moves options.claims stated.cost stated.bound bound tree why ids can.rounds can.moves can.claims answer.reason solved))

@@ -1,10 +1,10 @@
--- The tree that a search answers within the default limits has a text, which is not too long.
+-- The tree of a certificate, of which the claims are due and few, has a text, which is not too long.
 use Rattle.std.proofs.Common.{◌≡◌, ℕ, ◌+◌, ◌*◌, ◌^◌, ◌<◌, ◌≤◌, Bool, true, List, [], ◌∷◌, length, map, get_or, refl, sym, ap, ◌∙◌, subst, inl, inr, arith}
 use Rattle.std.specs.Prelude.{All, sum_by}
 use Rattle.std.proofs.lemmas.Bool.{cases_lt, both_ways, and_parts}
 use Rattle.std.proofs.lemmas.List.{length-map}
 use Rattle.std.proofs.lemmas.List.Elements.{All-nil, All-cons, All-head, All-tail}
-use Rattle.std.proofs.lemmas.List.Sums.{sum_by-cons, sum_by-le}
+use Rattle.std.proofs.lemmas.List.Sums.{sum_by-cons, get_or-le-sum_by}
 use Rattle.call_sets.specs.Counting.{has}
 use Rattle.call_sets.proofs.Bits.{has_none_above}
 use Rattle.elevator_model.specs.Snapshot.{Snapshot, IsAccepted, car_count, call_count, call_of, is_possible}
@@ -15,7 +15,7 @@ use Rattle.search_model.specs.declared.Twig.{Twig}
 use Rattle.search_model.specs.declared.Twig.TheVariants.{Split, Leaf as Tip}
 use Rattle.search_model.specs.Nodes.{Node, IsNodeOf, set_of, set_where, is_part}
 use Rattle.search_model.specs.Certificates.{Place, Placed, IsSound, are_each_once, claim_in, is_filled, is_whole, placed_from, placed_twigs, places_after, root_place}
-use Rattle.search_model.specs.Solving.{Fits, AreClaimed}
+use Rattle.cert_claims.specs.Due.{StatesDue, claims_of as stated_claims, claims_of_tree, worths_of, worths_of_tree}
 use Rattle.search_model.proofs.NodeLemmas.{part-from}
 use Rattle.search_model.proofs.SetLemmas.{set_where-below}
 use Rattle.search_model.proofs.SnapshotNodes.{root_is_node, first_is_node, second_is_node, set_of-root}
@@ -32,29 +32,26 @@ use Rattle.cert_text.proofs.LengthLemmas.{HasAtMost, cert_length_of_answer, leav
 use Rattle.lift_commands.proofs.Solutions.{cars-le}
 
 -- what is known of a twig at its place
-pub record IsKnown (fits : Fits) (s : Snapshot) (bound moves : ℕ) (place : Place) (twig : Twig) : Type 0 where
+pub record IsKnown (s : Snapshot) (bound : ℕ) (place : Place) (twig : Twig) : Type 0 where
   pub sound : IsSound s bound place twig
-  pub claimed : AreClaimed fits s moves place twig
   pub sized : IsSizedTwig twig
 
 -- and of each, at the places that they fill
-abbrev pub AreKnown : Fits → Snapshot → (bound moves : ℕ) → List Place → List Twig → Type 0
-AreKnown fits s bound moves places [] = Unit {0}
-AreKnown fits s bound moves [] (twig ∷ twigs) = ⊥
-AreKnown fits s bound moves (place ∷ places) (twig ∷ twigs) = IsKnown fits s bound moves place twig × AreKnown fits s bound moves (places_after place twig places) twigs
+abbrev pub AreKnown : Snapshot → (bound : ℕ) → List Place → List Twig → Type 0
+AreKnown s bound places [] = Unit {0}
+AreKnown s bound [] (twig ∷ twigs) = ⊥
+AreKnown s bound (place ∷ places) (twig ∷ twigs) = IsKnown s bound place twig × AreKnown s bound (places_after place twig places) twigs
 
-module _ (fits : Fits) (s : Snapshot) (bound moves : ℕ) where
-  pub are_known : (places : List Place) (twigs : List Twig) → is_filled places twigs ≡ true → All (λ (p : Placed). IsSound s bound p.place p.twig) (placed_from places twigs)
-      → All (λ (p : Placed). AreClaimed fits s moves p.place p.twig) (placed_from places twigs) → All IsSizedTwig twigs → AreKnown fits s bound moves places twigs
-  are_known places [] filled sound claimed sized = tt
-  are_known [] (twig ∷ twigs) filled sound claimed sized = absurd cc
-  are_known (place ∷ places) (twig ∷ twigs) filled sound claimed sized =
+module _ (s : Snapshot) (bound : ℕ) where
+  pub are_known : (places : List Place) (twigs : List Twig) → is_filled places twigs ≡ true → All (λ (p : Placed). IsSound s bound p.place p.twig) (placed_from places twigs) → All IsSizedTwig twigs → AreKnown s bound places twigs
+  are_known places [] filled sound sized = tt
+  are_known [] (twig ∷ twigs) filled sound sized = absurd cc
+  are_known (place ∷ places) (twig ∷ twigs) filled sound sized =
       let Sound : Placed → Type 0 = λ p. IsSound s bound p.place p.twig in
-      let Claimed : Placed → Type 0 = λ p. AreClaimed fits s moves p.place p.twig in
       let here : Placed = record { place = place; twig = twig } in
       let later = placed_from (places_after place twig places) twigs in (
-        record { sound = All-head Sound here later sound; claimed = All-head Claimed here later claimed; sized = All-head IsSizedTwig twig twigs sized },
-        are_known (places_after place twig places) twigs filled (All-tail Sound here later sound) (All-tail Claimed here later claimed) (All-tail IsSizedTwig twig twigs sized),
+        record { sound = All-head Sound here later sound; sized = All-head IsSizedTwig twig twigs sized },
+        are_known (places_after place twig places) twigs filled (All-tail Sound here later sound) (All-tail IsSizedTwig twig twigs sized),
       )
 
 -- ---- splits
@@ -81,7 +78,7 @@ module _ (s : Snapshot) where
 
 -- ---- leaves
 
-module _ (fits : Fits) (s : Snapshot) (bound moves : ℕ) (place : Place) (leaf : Leaf) (known : IsKnown fits s bound moves place (Tip leaf)) where
+module _ (s : Snapshot) (bound : ℕ) (place : Place) (leaf : Leaf) (known : IsKnown s bound place (Tip leaf)) where
   each_once : (are_each_once (call_count s) (map (λ (p : PriceOf). p.call) leaf.prices) ≡ true) × (are_each_once (car_count s) (map (λ (w : WorthOf). w.car) leaf.worths) ≡ true)
   each_once = and_parts (are_each_once (call_count s) (map (λ (p : PriceOf). p.call) leaf.prices)) (are_each_once (car_count s) (map (λ (w : WorthOf). w.car) leaf.worths)) known.sound.whole
 
@@ -114,32 +111,18 @@ module _ (fits : Fits) (s : Snapshot) (bound moves : ℕ) (place : Place) (leaf 
       let cars = cars-le s accepted in
       (omega (arith, prices, calls), omega (arith, worths, cars))
 
-  module _ (few : moves ≤ 75000) where
+  module _ (due : StatesDue s place (Tip leaf)) (few : stated_claims (Tip leaf) ≤ 10000000000) where
     worths_fit : All (IsWorthWithin s) leaf.worths
     worths_fit k d lt =
         let car = car_at k d lt in
         let claim = claim_at k d lt in
-        let claimed = known.claimed (get_or leaf.worths k d).car car in
-        let low = claimed.low in
-        let high = claimed.high in
+        let stated = due (get_or leaf.worths k d).car car in
         let size = known.sized.worths k d lt in
-        record { car = car; worth_low = size.0; worth_high = size.1; claim_low = omega (arith, claim, low); claim_high = omega (arith, claim, high, few) }
+        let part = get_or-le-sum_by (λ (w : WorthOf). w.claim) leaf.worths k d lt in
+        record { car = car; worth_low = size.0; worth_high = size.1; claim_low = omega (arith, claim, stated); claim_high = omega (arith, part, few) }
 
     pub leaf_fits : IsLeafWithin s leaf
     leaf_fits = record { prices = λ k d lt. record { call = call_at k d lt; price = known.sized.prices k d lt }; worths = worths_fit }
-
-    claims_few : All (λ (w : WorthOf). w.claim ≤ 75000) leaf.worths
-    claims_few k d lt =
-        let claim = claim_at k d lt in
-        let high = (known.claimed (get_or leaf.worths k d).car (car_at k d lt)).high in
-        omega (arith, claim, high, few)
-
-    pub claims_small : IsAccepted s → claims_of (Tip leaf) ≤ 1200000
-    claims_small accepted =
-        let sum = sum_by-le (λ (w : WorthOf). w.claim) 75000 leaf.worths claims_few in
-        let count = worth_count in
-        let cars = cars-le s accepted in
-        omega (arith, sum, count, cars)
 
 -- ---- trees
 
@@ -157,13 +140,27 @@ all_counted (Tip leaf ∷ tree) =
     let leaves = sum_by-cons leaves_of (Tip leaf) tree in
     omega (arith, rest, splits, leaves)
 
+-- the claims as the text and as the pass add them up
+same_claims : (tree : List Twig) → sum_of_claims tree ≡ claims_of_tree tree
+same_claims [] = refl
+same_claims (Split j part ∷ tree) =
+    let rest = same_claims tree in
+    let one = sum_by-cons claims_of (Split j part) tree in
+    let other = sum_by-cons stated_claims (Split j part) tree in
+    omega (arith, rest, one, other)
+same_claims (Tip leaf ∷ tree) =
+    let rest = same_claims tree in
+    let one = sum_by-cons claims_of (Tip leaf) tree in
+    let other = sum_by-cons stated_claims (Tip leaf) tree in
+    omega (arith, rest, one, other)
+
 -- each place has a node
 abbrev HaveNodes : Snapshot → List Place → Type 0
 HaveNodes s [] = Unit {0}
 HaveNodes s (place ∷ places) = IsNodeOf s place.node × HaveNodes s places
 
-module _ (fits : Fits) (s : Snapshot) (accepted : IsAccepted s) (bound moves : ℕ) where
-  twigs_known : (places : List Place) (twigs : List Twig) → HaveNodes s places → AreKnown fits s bound moves places twigs → AreTwigsKnown s twigs
+module _ (s : Snapshot) (accepted : IsAccepted s) (bound : ℕ) where
+  twigs_known : (places : List Place) (twigs : List Twig) → HaveNodes s places → AreKnown s bound places twigs → AreTwigsKnown s twigs
   twigs_known places [] nodes known = All-nil (IsKnownTwig s)
   twigs_known [] (twig ∷ twigs) nodes known = absurd known
   twigs_known (place ∷ places) (Split j part ∷ twigs) nodes known =
@@ -174,55 +171,59 @@ module _ (fits : Fits) (s : Snapshot) (accepted : IsAccepted s) (bound moves : �
       let own = split_fits s place.node j part is h small in
       All-cons (IsKnownTwig s) (Split j part) twigs (record { call = call; cars = own.cars }) (twigs_known (places_after place (Split j part) places) twigs (first_is_node s place.node j part small is call h, (second_is_node s place.node j part is call h, nodes.1)) known.1)
   twigs_known (place ∷ places) (Tip leaf ∷ twigs) nodes known =
-      All-cons (IsKnownTwig s) (Tip leaf) twigs (leaf_known fits s bound moves place leaf known.0) (twigs_known places twigs nodes.1 known.1)
+      All-cons (IsKnownTwig s) (Tip leaf) twigs (leaf_known s bound place leaf known.0) (twigs_known places twigs nodes.1 known.1)
 
-  pub tree_known : (tree : List Twig) → is_whole s tree ≡ true → All (λ (p : Placed). IsSound s bound p.place p.twig) (placed_twigs s tree)
-      → All (λ (p : Placed). AreClaimed fits s moves p.place p.twig) (placed_twigs s tree) → All IsSizedTwig tree → AreTwigsKnown s tree
-  tree_known tree whole sound claimed sized =
-      twigs_known (root_place s ∷ []) tree (root_is_node s accepted, tt) (are_known fits s bound moves (root_place s ∷ []) tree whole sound claimed sized)
+  pub tree_known : (tree : List Twig) → is_whole s tree ≡ true → All (λ (p : Placed). IsSound s bound p.place p.twig) (placed_twigs s tree) → All IsSizedTwig tree → AreTwigsKnown s tree
+  tree_known tree whole sound sized =
+      twigs_known (root_place s ∷ []) tree (root_is_node s accepted, tt) (are_known s bound (root_place s ∷ []) tree whole sound sized)
 
-module _ (fits : Fits) (s : Snapshot) (accepted : IsAccepted s) (bound moves : ℕ) (few : moves ≤ 75000) where
-  twigs_fit : (places : List Place) (twigs : List Twig) → HaveNodes s places → AreKnown fits s bound moves places twigs → All (IsTwigWithin s) twigs
-  twigs_fit places [] nodes known = All-nil (IsTwigWithin s)
-  twigs_fit [] (twig ∷ twigs) nodes known = absurd known
-  twigs_fit (place ∷ places) (Split j part ∷ twigs) nodes known =
+  Due : Placed → Type 0
+  Due p = StatesDue s p.place p.twig
+
+  -- within what is left of the claims
+  twigs_fit : (places : List Place) (twigs : List Twig) → HaveNodes s places → AreKnown s bound places twigs → All Due (placed_from places twigs) → claims_of_tree twigs ≤ 10000000000 → All (IsTwigWithin s) twigs
+  twigs_fit places [] nodes known due few = All-nil (IsTwigWithin s)
+  twigs_fit [] (twig ∷ twigs) nodes known due few = absurd known
+  twigs_fit (place ∷ places) (Split j part ∷ twigs) nodes known due few =
       let is = nodes.0 in
       let h = known.0.sound in
       let small = known.0.sized in
       let call = call_of_split s place.node j part is h in
-      All-cons (IsTwigWithin s) (Split j part) twigs (split_fits s place.node j part is h small) (twigs_fit (places_after place (Split j part) places) twigs (first_is_node s place.node j part small is call h, (second_is_node s place.node j part is call h, nodes.1)) known.1)
-  twigs_fit (place ∷ places) (Tip leaf ∷ twigs) nodes known =
-      All-cons (IsTwigWithin s) (Tip leaf) twigs (leaf_fits fits s bound moves place leaf known.0 few) (twigs_fit places twigs nodes.1 known.1)
+      let here : Placed = record { place = place; twig = Split j part } in
+      let later = placed_from (places_after place (Split j part) places) twigs in
+      let claims = sum_by-cons stated_claims (Split j part) twigs in
+      All-cons (IsTwigWithin s) (Split j part) twigs (split_fits s place.node j part is h small) (twigs_fit (places_after place (Split j part) places) twigs (first_is_node s place.node j part small is call h, (second_is_node s place.node j part is call h, nodes.1)) known.1 (All-tail Due here later due) (omega (arith, few, claims)))
+  twigs_fit (place ∷ places) (Tip leaf ∷ twigs) nodes known due few =
+      let here : Placed = record { place = place; twig = Tip leaf } in
+      let later = placed_from places twigs in
+      let claims = sum_by-cons stated_claims (Tip leaf) twigs in
+      All-cons (IsTwigWithin s) (Tip leaf) twigs (leaf_fits s bound place leaf known.0 (All-head Due here later due) (omega (arith, few, claims))) (twigs_fit places twigs nodes.1 known.1 (All-tail Due here later due) (omega (arith, few, claims)))
 
-  claims_few_in : (places : List Place) (twigs : List Twig) → AreKnown fits s bound moves places twigs → sum_of_claims twigs ≤ 1200000 * sum_by leaves_of twigs
-  claims_few_in places [] known = omega arith
-  claims_few_in [] (twig ∷ twigs) known = absurd known
-  claims_few_in (place ∷ places) (Split j part ∷ twigs) known =
-      let rest = claims_few_in (places_after place (Split j part) places) twigs known.1 in
-      let claims = sum_by-cons claims_of (Split j part) twigs in
-      let leaves = sum_by-cons leaves_of (Split j part) twigs in
-      omega (arith, rest, claims, leaves)
-  claims_few_in (place ∷ places) (Tip leaf ∷ twigs) known =
-      let rest = claims_few_in places twigs known.1 in
-      let claims = sum_by-cons claims_of (Tip leaf) twigs in
-      let leaves = sum_by-cons leaves_of (Tip leaf) twigs in
-      let here = claims_small fits s bound moves place leaf known.0 few accepted in
-      omega (arith, rest, claims, leaves, here)
-
-  twigs_small : (places : List Place) (twigs : List Twig) → AreKnown fits s bound moves places twigs → All (HasAtMost 128 16) twigs
+  twigs_small : (places : List Place) (twigs : List Twig) → AreKnown s bound places twigs → All (HasAtMost 128 16) twigs
   twigs_small places [] known = All-nil (HasAtMost 128 16)
   twigs_small [] (twig ∷ twigs) known = absurd known
   twigs_small (place ∷ places) (Split j part ∷ twigs) known = All-cons (HasAtMost 128 16) (Split j part) twigs tt (twigs_small (places_after place (Split j part) places) twigs known.1)
   twigs_small (place ∷ places) (Tip leaf ∷ twigs) known =
-      All-cons (HasAtMost 128 16) (Tip leaf) twigs (leaf_small fits s bound moves place leaf known.0 accepted) (twigs_small places twigs known.1)
+      All-cons (HasAtMost 128 16) (Tip leaf) twigs (leaf_small s bound place leaf known.0 accepted) (twigs_small places twigs known.1)
 
-  module _ (tree : List Twig) (whole : is_whole s tree ≡ true) (sound : All (λ (p : Placed). IsSound s bound p.place p.twig) (placed_twigs s tree))
-      (claimed : All (λ (p : Placed). AreClaimed fits s moves p.place p.twig) (placed_twigs s tree)) (sized : All IsSizedTwig tree) where
-    known : AreKnown fits s bound moves (root_place s ∷ []) tree
-    known = are_known fits s bound moves (root_place s ∷ []) tree whole sound claimed sized
+  worths_in : (places : List Place) (twigs : List Twig) → AreKnown s bound places twigs → worths_of_tree twigs ≤ 16 * sum_by leaves_of twigs
+  worths_in places [] known = omega arith
+  worths_in [] (twig ∷ twigs) known = absurd known
+  worths_in (place ∷ places) (Split j part ∷ twigs) known =
+      let rest = worths_in (places_after place (Split j part) places) twigs known.1 in
+      let worths = sum_by-cons worths_of (Split j part) twigs in
+      let leaves = sum_by-cons leaves_of (Split j part) twigs in
+      omega (arith, rest, worths, leaves)
+  worths_in (place ∷ places) (Tip leaf ∷ twigs) known =
+      let rest = worths_in places twigs known.1 in
+      let worths = sum_by-cons worths_of (Tip leaf) twigs in
+      let leaves = sum_by-cons leaves_of (Tip leaf) twigs in
+      let few = (leaf_small s bound place leaf known.0 accepted).1 in
+      omega (arith, rest, worths, leaves, few)
 
-    pub tree_fits : All (IsTwigWithin s) tree
-    tree_fits = twigs_fit (root_place s ∷ []) tree (root_is_node s accepted, tt) known
+  module _ (tree : List Twig) (whole : is_whole s tree ≡ true) (sound : All (λ (p : Placed). IsSound s bound p.place p.twig) (placed_twigs s tree)) (sized : All IsSizedTwig tree) where
+    known : AreKnown s bound (root_place s ∷ []) tree
+    known = are_known s bound (root_place s ∷ []) tree whole sound sized
 
     leaves_few : length tree ≤ 16001 → sum_by leaves_of tree ≤ 8001
     leaves_few short =
@@ -230,11 +231,14 @@ module _ (fits : Fits) (s : Snapshot) (accepted : IsAccepted s) (bound moves : �
         let all = all_counted tree in
         omega (arith, leaves, all, short)
 
-    pub tree_within : length tree ≤ 16001 → IsWithin s tree
-    tree_within short =
-        let claims = claims_few_in (root_place s ∷ []) tree known in
+    pub worths_few : length tree ≤ 16001 → worths_of_tree tree ≤ 128016
+    worths_few short =
+        let worths = worths_in (root_place s ∷ []) tree known in
         let leaves = leaves_few short in
-        whole_within s tree tree_fits whole (omega (arith, claims, leaves))
+        omega (arith, worths, leaves)
+
+    pub tree_within : All Due (placed_twigs s tree) → claims_of_tree tree ≤ 10000000000 → IsWithin s tree
+    tree_within due few = whole_within s tree (twigs_fit (root_place s ∷ []) tree (root_is_node s accepted, tt) known due few) whole (omega (arith, few, same_claims tree))
 
     pub tree_short : length tree ≤ 16001 → HasText s tree → length (cert_text s tree) ≤ 60000000
     tree_short short text =

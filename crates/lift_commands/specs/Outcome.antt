@@ -1,5 +1,5 @@
 -- What a run of the program leaves: what was read and written, and why it ended.
-use Rattle.std.specs.Prelude.{◌≡◌, ℕ, ◌<◌, ◌≤◌, ◌⊎◌, ◌↔◌, IsTrue, false, List, [], ◌∷◌, ◌++◌, All, length, take, codes, Option, Some, Result, if◌then◌else◌}
+use Rattle.std.specs.Prelude.{◌≡◌, ℕ, ◌+◌, ◌*◌, ◌<◌, ◌≤◌, ◌==◌, ◌⊎◌, ◌↔◌, IsTrue, Bool, true, false, List, [], ◌∷◌, ◌++◌, All, length, take, codes, Option, Some, Result, if◌then◌else◌}
 use Rattle.std.specs.Io.BufRead.{ends_with_byte}
 use Rattle.std.specs.Io.KnownBytes.{append_known, IsAtEnd}
 use Rattle.elevator_model.specs.declared.Stop.{Stop}
@@ -22,10 +22,14 @@ use Rattle.search_model.specs.declared.Twig.{Twig}
 use Rattle.search_model.specs.declared.Turn.{Turn}
 use Rattle.search_model.specs.declared.StopReason.{StopReason}
 use Rattle.search_model.specs.declared.StopReason.TheVariants.{Solved, Rounds, Moves}
+use Rattle.lift_commands.specs.declared.endings.Ending.{Ending}
+use Rattle.lift_commands.specs.declared.endings.Ending.TheVariants.{IsSolved, OfRounds, OfMoves, OfClaims}
 use Rattle.search_model.specs.Solving.{IsSolveAnswer}
-use Rattle.search_model.specs.Certificates.{Proves}
+use Rattle.search_model.specs.Certificates.{Placed, Proves, placed_twigs}
 use Rattle.search_model.specs.Verdicts.{rounds_enough, moves_enough, verdict_of}
 use Rattle.search_model.specs.Cases.{IsCase}
+use Rattle.cert_claims.specs.Due.{StatesDue, claims_of_tree, due_of_tree, most_of_tree}
+use Rattle.cert_claims.specs.Stating.{DifferInClaims}
 use Rattle.lift_words.specs.Taken.{AreTaken}
 use Rattle.lift_words.specs.declared.request.Request.{Request}
 use Rattle.lift_words.specs.declared.request.Request.TheVariants.{Solve, Check, Make, Run}
@@ -114,18 +118,35 @@ PutsFault NoMemory result old new before after = (result ≡ Memory) × (new ≡
 
 -- ---- the command `solve`
 
--- the comment line that says why a search ended
-abbrev pub closing_line : Snapshot → StopReason → List ℕ
-closing_line s Solved = solved_line
-closing_line s (Rounds done) = line (codes "# stopped rounds") (done ∷ [])
-closing_line s (Moves car count) = line (codes "# stopped moves") ((spec_of s car).id ∷ count ∷ [])
+-- Why an answer ends as it does: its cost is its bound; or else by the reason of the search, and where that was
+-- solved, by the limit of claims.
+abbrev pub ending_of : StopReason → (limit : ℕ) → (solved : Bool) → Ending
+ending_of why limit true = IsSolved
+ending_of Solved limit false = OfClaims limit
+ending_of (Rounds done) limit false = OfRounds done
+ending_of (Moves car count) limit false = OfMoves car count
 
--- the car that the reason names is one of the snapshot's
-abbrev pub IsCarOf : Snapshot → StopReason → Type 0
-IsCarOf s Solved = Unit {0}
-IsCarOf s (Rounds done) = Unit {0}
-IsCarOf s (Moves car count) = car < car_count s
+-- the comment line that says so
+abbrev pub closing_line : Snapshot → Ending → List ℕ
+closing_line s IsSolved = solved_line
+closing_line s (OfRounds done) = line (codes "# stopped rounds") (done ∷ [])
+closing_line s (OfMoves car count) = line (codes "# stopped moves") ((spec_of s car).id ∷ count ∷ [])
+closing_line s (OfClaims limit) = line (codes "# stopped claims") (limit ∷ [])
 
+-- the car that it names is one of the snapshot's
+abbrev pub IsCarOf : Snapshot → Ending → Type 0
+IsCarOf s IsSolved = Unit {0}
+IsCarOf s (OfRounds done) = Unit {0}
+IsCarOf s (OfMoves car count) = car < car_count s
+IsCarOf s (OfClaims limit) = Unit {0}
+
+abbrev pub status_of_ending : Ending → Status
+status_of_ending IsSolved = Done
+status_of_ending (OfRounds done) = Stopped
+status_of_ending (OfMoves car count) = Stopped
+status_of_ending (OfClaims limit) = Stopped
+
+-- of a search whose answer is not written
 abbrev pub status_of : StopReason → Status
 status_of Solved = Done
 status_of (Rounds done) = Stopped
@@ -135,19 +156,37 @@ status_of (Moves car count) = Stopped
 abbrev pub certificate_part : SolveOptions → Snapshot → List Twig → List ℕ
 certificate_part options s tree = if options.brief then [] else cert_text s tree
 
--- A plan, its cost and a bound as a search of the snapshot answers them within these limits, with the reason why it ended;
--- where that is that it is solved, the plan is optimal.
+-- The certificate of what a search answers: it proves the bound that is printed, each of its claims is the one that is
+-- due, and they sum to no more than the limit allows. The search's own bound and tree, but for the claims, are printed
+-- exactly where the claims that are due there sum to no more than that.
+pub record IsCertified (s : Snapshot) (limit : ℕ) (stated : Stated) (tree : List Twig) (bound : ℕ) (certificate : List Twig) : Type 0 where
+  pub proves : Proves s stated.plan stated.cost bound certificate
+  pub low : bound ≤ stated.bound
+  pub due : All (λ (p : Placed). StatesDue s p.place p.twig) (placed_twigs s certificate)
+  pub few : claims_of_tree certificate ≤ most_of_tree limit certificate
+  pub whole : due_of_tree s tree ≤ most_of_tree limit tree → (bound ≡ stated.bound) × DifferInClaims certificate tree
+
+-- the bound and the certificate that are printed after a search: without a certificate, the bound of the search
+abbrev pub IsPrinted : SolveOptions → Snapshot → Stated → (tree : List Twig) → (bound : ℕ) → (certificate : List Twig) → Type 0
+IsPrinted options s stated tree bound certificate =
+    if options.brief then bound ≡ stated.bound else IsCertified s options.claims stated tree bound certificate
+
+-- A plan, its cost and a bound as a search of the snapshot answers them within these limits, with the certificate of what
+-- is printed and why it ends so; where the cost is the bound, the plan is optimal.
 pub record IsSolution (options : SolveOptions) (s : Snapshot) (status : Status) (text : List ℕ) : Type 0 where
-  pub plan : List (List Stop)
-  pub cost : ℕ
-  pub bound : ℕ
+  pub stated : Stated
   pub tree : List Twig
   pub turns : List Turn
   pub why : StopReason
-  pub answer : IsSolveAnswer s options.rounds options.moves plan cost bound tree turns why
-  pub status_is : status ≡ status_of why
-  pub optimal : status ≡ Done → IsOptimal s plan
-  pub is_text : text ≡ answer_text s (record { plan = plan; cost = cost; bound = bound }) ++ certificate_part options s tree ++ closing_line s why
+  pub answer : IsSolveAnswer s options.rounds options.moves stated.plan stated.cost stated.bound tree turns why
+  pub bound : ℕ
+  pub certificate : List Twig
+  pub printed : IsPrinted options s stated tree bound certificate
+  pub ending : Ending
+  pub ending_is : ending ≡ ending_of why options.claims (stated.cost == bound)
+  pub status_is : status ≡ status_of_ending ending
+  pub optimal : status ≡ Done → IsOptimal s stated.plan
+  pub is_text : text ≡ answer_text s (record { plan = stated.plan; cost = stated.cost; bound = bound }) ++ certificate_part options s certificate ++ closing_line s ending
 
 -- where the input is the text of a snapshot, that one is read, unless a read fails or memory is wanting
 abbrev pub AnswersCases : Option (List ℕ) → Result Snapshot TextFault → Type 0
@@ -166,6 +205,7 @@ pub record CanBeChecked (options : SolveOptions) (input : List ℕ) : Type 0 whe
   pub certificate : options.brief ≡ false
   pub rounds : options.rounds ≤ 2000
   pub moves : options.moves ≤ 75000
+  pub claims : options.claims ≤ 1000000000
   pub ended : IsTrue (ends_with_byte 10 input)
   pub short : length input ≤ 1000000
 
@@ -196,11 +236,18 @@ SolveDue options left left' Read text = ⊥
 SolveDue options left left' Write text = ⊥
 SolveDue options left left' Memory text = ⊥
 
+-- The limits are enough for the snapshot: those of the search, and for a certificate also the limit of claims, with as
+-- many for each car at each leaf as it can have partial tours.
+pub record AreEnough (options : SolveOptions) (s : Snapshot) : Type 0 where
+  pub rounds : rounds_enough s ≤ options.rounds
+  pub moves : moves_enough s ≤ options.moves
+  pub claims : options.brief ≡ false → (8 * options.rounds + 1) * (car_count s * moves_enough s) ≤ options.claims
+
 -- The input is the text of a snapshot, so a plan is answered, unless the source or the sink fails or memory is wanting;
 -- and where the limits are enough for the snapshot, no limit is reached.
 pub record IsAnswered (options : SolveOptions) (s : Snapshot) (status : Status) : Type 0 where
   pub ended : (status ≡ Done) ⊎ (status ≡ Stopped) ⊎ (status ≡ Memory)
-  pub enough : rounds_enough s ≤ options.rounds → moves_enough s ≤ options.moves → (status ≡ Done) ⊎ (status ≡ Memory)
+  pub enough : AreEnough options s → (status ≡ Done) ⊎ (status ≡ Memory)
 
 abbrev pub Solves : SolveOptions → (old new : Streams) → Status → Type 0
 Solves options old new status = (input : List ℕ) (s : Snapshot) → old.left ≡ Some input → IsCaseText input s

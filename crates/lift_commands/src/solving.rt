@@ -49,19 +49,54 @@ fn read_input<S: Source>(alloc: Global, source: &mut S) -> Result<Snapshot, Text
     read
 }
 
-/// Appends the comment line that says why a search ended.
-fn put_closing(snapshot: &Snapshot, why: StopReason, text: &mut Vec<u8>) -> Result<(), AllocError>
-    requires car { IsCarOf snapshot.now why }
-    ensures { OnOk result (text.new.items ≡ text.old.items ++ closing_line snapshot.now why) }
+/// Appends the comment line that says why an answer ends as it does.
+fn put_closing(snapshot: &Snapshot, ending: Ending, text: &mut Vec<u8>) -> Result<(), AllocError>
+    requires car { IsCarOf snapshot.now ending }
+    ensures { OnOk result (text.new.items ≡ text.old.items ++ closing_line snapshot.now ending) }
 {
-    match why {
-        StopReason::Solved => text.extend_from_slice(b"# solved\n"),
-        StopReason::Rounds { done } => put_line(text, b"# stopped rounds", &[done]),
-        StopReason::Moves { car, count } => {
+    match ending {
+        Ending::IsSolved => text.extend_from_slice(b"# solved\n"),
+        Ending::OfRounds { done } => put_line(text, b"# stopped rounds", &[done]),
+        Ending::OfMoves { car, count } => {
             let id = snapshot.building().cars()[car as usize].id;
             put_line(text, b"# stopped moves", &[u64::from(id), count])
         }
+        Ending::OfClaims { limit } => put_line(text, b"# stopped claims", &[limit]),
     }
+}
+
+/// What is printed after a search: its bound, and with a certificate the tree with its claims and the bound
+/// that this proves.
+///
+/// It fails only where there is no memory left.
+fn printed<G: Gate + Sync>(
+    runtime: &Runtime<impl Threads + Sync, G>,
+    options: SolveOptions,
+    snapshot: &Snapshot,
+    stated: &Stated,
+    tree: Tree,
+) -> Result<Claimed, AllocError>
+    requires options { AreSolveOptions options }
+    requires proves { Proves snapshot.now stated.now.plan stated.now.cost stated.now.bound tree.twigs }
+    requires best_bound { pos stated.now.bound ≡ least_bound stated.now.cost tree.twigs }
+    requires least { pos (floor_of_bound snapshot.now) ≤ℤ pos stated.now.bound }
+    requires sized { All IsSizedTwig tree.twigs }
+    requires known { AreTwigsKnown snapshot.now tree.twigs }
+    ensures printed { IfOk result (λ claimed.
+        IsPrinted options snapshot.now stated.now tree.twigs claimed.bound claimed.tree.twigs) }
+    ensures sized { IfOk result (λ claimed. All IsSizedTwig claimed.tree.twigs) }
+    ensures known { IfOk result (λ claimed. AreTwigsKnown snapshot.now claimed.tree.twigs) }
+    ensures short { IfOk result (λ claimed. length claimed.tree.twigs ≤ length tree.twigs) }
+{
+    if options.brief {
+        return Ok(Claimed {
+            tree,
+            bound: stated.bound,
+            cut: false,
+        });
+    }
+    let resort = start_leaf(runtime.alloc, snapshot)?;
+    state_claims(runtime, snapshot, stated, tree, resort, options.claims, options.workers)
 }
 
 /// Appends the certificate, where one is wanted.
@@ -81,6 +116,29 @@ fn put_certificate(
     write_cert(snapshot, tree, text)
 }
 
+/// The text of an answer, with its certificate unless none is wanted. It fails only where there is no memory
+/// left.
+fn text_of(
+    alloc: Global,
+    options: SolveOptions,
+    snapshot: &Snapshot,
+    stated: &Stated,
+    tree: &Tree,
+    ending: Ending,
+) -> Result<Vec<u8>, AllocError>
+    requires tours { FitsSnapshot snapshot.now stated.now.plan }
+    requires known { AreTwigsKnown snapshot.now tree.now.twigs }
+    requires car { IsCarOf snapshot.now ending }
+    ensures { IfOk result (λ text. text.items ≡ answer_text snapshot.now stated.now
+        ++ certificate_part options snapshot.now tree.now.twigs ++ closing_line snapshot.now ending) }
+{
+    let mut text = Vec::new(alloc);
+    write_answer(snapshot, stated, &mut text)?;
+    put_certificate(options, snapshot, tree.twigs.as_slice(), &mut text)?;
+    put_closing(snapshot, ending, &mut text)?;
+    Ok(text)
+}
+
 /// The text of a plan with its cost and a bound, with its certificate unless none is wanted, and why the
 /// search for it ended.
 fn solution_of<G: Gate + Sync>(
@@ -92,8 +150,7 @@ fn solution_of<G: Gate + Sync>(
 ) -> Result<Answer, AllocError>
     requires options { AreSolveOptions options }
     ensures solution { IfOk result (λ answer. IsSolution options snapshot.now answer.status answer.text.items) }
-    ensures enough { rounds_enough snapshot.now ≤ options.rounds → moves_enough snapshot.now ≤ options.moves
-        → IfOk result (λ answer. answer.status ≡ Status.Done) }
+    ensures enough { AreEnough options snapshot.now → IfOk result (λ answer. answer.status ≡ Status.Done) }
     ensures checks { (input : List ℕ) → IsCaseText input snapshot.now → CanBeChecked options input
         → IfOk result (λ answer. IsSaidYes (input ++ answer.text.items) snapshot.now) }
 {
@@ -103,12 +160,22 @@ fn solution_of<G: Gate + Sync>(
         most_tours: options.moves,
     };
     let found = solve_within(rt, alloc, snapshot, limits, options.workers, gate)?;
-    let status = status_of(found.why);
-    let mut text = Vec::new(alloc);
-    write_answer(snapshot, &found.stated, &mut text)?;
-    put_certificate(options, snapshot, found.tree.twigs.as_slice(), &mut text)?;
-    put_closing(snapshot, found.why, &mut text)?;
-    Ok(Answer { status, text })
+    let runtime = Runtime {
+        threads: rt,
+        alloc,
+        gate,
+    };
+    let claimed = printed(&runtime, options, snapshot, &found.stated, found.tree)?;
+    let ending = Ending::of(found.why, options.claims, found.stated.cost == claimed.bound);
+    let stated = Stated {
+        bound: claimed.bound,
+        ..found.stated
+    };
+    let text = text_of(alloc, options, snapshot, &stated, &claimed.tree, ending)?;
+    Ok(Answer {
+        status: ending.status(),
+        text,
+    })
 }
 
 /// Reads a case and writes the cheapest plan of it that the search finds within the limits, or what is wrong

@@ -100,8 +100,9 @@ asks_to_solve_one rows a b x y =
     let rounds = only (sym x.rounds ∙ y.rounds) in
     let moves = only (sym x.moves ∙ y.moves) in
     let workers = only (sym x.workers ∙ y.workers) in
+    let claims = only (sym x.claims ∙ y.claims) in
     let brief = same_truth (AsksForBrief rows) a.brief b.brief x.brief y.brief in
-    λ i. record { rounds = rounds i; moves = moves i; workers = workers i; brief = brief i }
+    λ i. record { rounds = rounds i; moves = moves i; workers = workers i; claims = claims i; brief = brief i }
 
 asks_to_check_one : (rows : List Row) (a b : CheckOptions) → AsksToCheck rows a → AsksToCheck rows b → a ≡ b
 asks_to_check_one rows a b x y =

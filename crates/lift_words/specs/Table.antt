@@ -8,7 +8,7 @@ use Rattle.clap.specs.declared.builder.action.ArgAction.TheVariants.{SetTrue}
 use Rattle.lift_words.specs.declared.table.CommandWord.{CommandWord}
 use Rattle.lift_words.specs.declared.table.CommandWord.TheVariants.{Solve, Check, Day, Report, Make}
 use Rattle.lift_words.specs.declared.table.NumberOption.{NumberOption}
-use Rattle.lift_words.specs.declared.table.NumberOption.TheVariants.{Rounds, Moves, Workers, Number, Floors, Cars, Calls}
+use Rattle.lift_words.specs.declared.table.NumberOption.TheVariants.{Rounds, Moves, Claims, Workers, Number, Floors, Cars, Calls}
 use Rattle.lift_words.specs.declared.table.Setting.{Setting}
 
 -- an option that takes a number: its name without the dashes, its least and its greatest value, and
@@ -25,6 +25,7 @@ row name low high default = record { name = name; low = low; high = high; defaul
 abbrev pub setting_of : NumberOption → OptionRow
 setting_of Rounds = row (codes "rounds") 1 (10 ^ 18) 2000
 setting_of Moves = row (codes "moves") 1 (10 ^ 18) 75000
+setting_of Claims = row (codes "claims") 1 (10 ^ 10) (10 ^ 9)
 setting_of Workers = row (codes "workers") 1 16 1
 setting_of Number = row (codes "number") 0 (2 ^ 64 - 1) 1
 setting_of Floors = row (codes "floors") 2 64 12
@@ -48,7 +49,7 @@ command_of word = if bytes_eq word (codes "solve") then Some Solve
 
 -- the options of a command that take a number
 abbrev pub numbers_of : CommandWord → List NumberOption
-numbers_of Solve = Rounds ∷ Moves ∷ Workers ∷ []
+numbers_of Solve = Rounds ∷ Moves ∷ Workers ∷ Claims ∷ []
 numbers_of Check = Workers ∷ []
 numbers_of Day = Rounds ∷ Moves ∷ Workers ∷ []
 numbers_of Report = Rounds ∷ Moves ∷ Workers ∷ []

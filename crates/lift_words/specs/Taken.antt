@@ -10,7 +10,7 @@ use Rattle.lift_words.specs.Repeats.{IsRepeated}
 use Rattle.lift_words.specs.declared.table.CommandWord.{CommandWord}
 use Rattle.lift_words.specs.declared.table.CommandWord.TheVariants as command
 use Rattle.lift_words.specs.declared.table.NumberOption.{NumberOption}
-use Rattle.lift_words.specs.declared.table.NumberOption.TheVariants.{Rounds, Moves, Workers, Number, Floors, Cars, Calls}
+use Rattle.lift_words.specs.declared.table.NumberOption.TheVariants.{Rounds, Moves, Claims, Workers, Number, Floors, Cars, Calls}
 use Rattle.lift_words.specs.declared.request.Request.{Request}
 use Rattle.lift_words.specs.declared.request.Request.TheVariants.{Solve, Check, Day, Report, Make, Run}
 use Rattle.lift_words.specs.declared.request.SolveOptions.{SolveOptions}
@@ -44,6 +44,7 @@ pub record AsksToSolve (rows : List Row) (options : SolveOptions) : Type 0 where
   pub rounds : number_of rows Rounds ≡ Some options.rounds
   pub moves : number_of rows Moves ≡ Some options.moves
   pub workers : number_of rows Workers ≡ Some options.workers
+  pub claims : number_of rows Claims ≡ Some options.claims
 
 abbrev pub AsksToCheck : List Row → CheckOptions → Type 0
 AsksToCheck rows options = number_of rows Workers ≡ Some options.workers
@@ -128,6 +129,7 @@ pub record AreSolveOptions (options : SolveOptions) : Type 0 where
   pub rounds : IsInRange Rounds options.rounds
   pub moves : IsInRange Moves options.moves
   pub workers : IsInRange Workers options.workers
+  pub claims : IsInRange Claims options.claims
 
 pub record AreCheckOptions (options : CheckOptions) : Type 0 where
   pub workers : IsInRange Workers options.workers

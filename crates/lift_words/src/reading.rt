@@ -70,7 +70,7 @@ fn asked(command: CommandWord, matches: &ArgMatches<'_>) -> Option<Request>
     }
 }
 
-/// The options of `solve`: those of `day`, and a flag.
+/// The options of `solve`: those of `day`, the limit of claims, and a flag.
 fn solve_options(matches: &ArgMatches<'_>) -> Option<SolveOptions>
     ensures asked { let rows = rows_of (found_of matches.now) in
         ExactlyWhere (AsksToSolve rows) result }
@@ -81,6 +81,7 @@ fn solve_options(matches: &ArgMatches<'_>) -> Option<SolveOptions>
         rounds: limits.rounds,
         moves: limits.moves,
         workers: limits.workers,
+        claims: number(matches, NumberOption::Claims)?,
         brief: is_given(matches, "brief"),
     })
 }

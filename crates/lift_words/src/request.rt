@@ -33,6 +33,8 @@ pub struct SolveOptions {
     pub moves: u64,
     /// `--workers`: this many threads, 1 to 16. The default is 1.
     pub workers: u32,
+    /// `--claims`: the claims of the certificate sum to at most this, 1 to 10^10. The default is 10^9.
+    pub claims: u64,
     /// `--brief`: no certificate is to be written.
     pub brief: bool,
 }

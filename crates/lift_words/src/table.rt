@@ -17,6 +17,7 @@ pub(crate) enum CommandWord {
 pub(crate) enum NumberOption {
     Rounds,
     Moves,
+    Claims,
     Workers,
     Number,
     Floors,
@@ -70,7 +71,13 @@ impl CommandWord {
         ensures { result.now ≡ numbers_of self }
     {
         match self {
-            CommandWord::Solve | CommandWord::Day | CommandWord::Report => &[
+            CommandWord::Solve => &[
+                NumberOption::Rounds,
+                NumberOption::Moves,
+                NumberOption::Workers,
+                NumberOption::Claims,
+            ],
+            CommandWord::Day | CommandWord::Report => &[
                 NumberOption::Rounds,
                 NumberOption::Moves,
                 NumberOption::Workers,
@@ -107,6 +114,9 @@ impl NumberOption {
         match self {
             NumberOption::Rounds => make_setting("rounds", 1, MOST, 2000),
             NumberOption::Moves => make_setting("moves", 1, MOST, 75000),
+            NumberOption::Claims => {
+                make_setting("claims", 1, 10_000_000_000, 1_000_000_000)
+            }
             NumberOption::Workers => make_setting("workers", 1, 16, 1),
             NumberOption::Number => make_setting("number", 0, u64::MAX, 1),
             NumberOption::Floors => make_setting("floors", 2, 64, 12),

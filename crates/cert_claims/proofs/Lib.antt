@@ -1,0 +1,5 @@
+mod LeafLemmas
+mod TreeLemmas
+mod CountLemmas
+mod WorthLemmas
+mod CarLemmas

@@ -1,0 +1,147 @@
+//! The claims of a tree.
+
+ghost use Rattle.std.specs.Prelude.{◌≡◌, ◌≤◌, ◌<◌, ◌^◌, ◌-◌, ℕ, [], ◌∷◌, drop, pos, true, IfOk, option_map};
+ghost use Rattle.search_model.specs.declared.Stated.{Stated as StatedValue};
+ghost use Rattle.search_model.specs.declared.Twig.TheVariants.{Leaf as Tip};
+ghost use Rattle.search_model.specs.Certificates.{Proves};
+ghost use Rattle.search_model.specs.Nodes.{root_of};
+ghost use Rattle.search_model.specs.Solving.{least_bound};
+ghost use Rattle.cert_claims.specs.Due.{worths_of_tree};
+ghost use Rattle.cert_claims.specs.Leaves.{AreAllWithin, claimed, claimed_here};
+ghost use Rattle.cert_claims.specs.Leaves.{claims_after, leaves_from};
+ghost use Rattle.cert_claims.specs.Stating.{IsClaimed, IsLastResort};
+
+use crate::counting::claims_of_all;
+use crate::leaves::{Claims, with_claims};
+use crate::tasks::leaves_of;
+use assign_branch::Tree;
+use byte_streams::Gate;
+use call_state::Snapshot;
+use search_model::{Items, Leaf, Stated, Twig};
+use std::alloc::{AllocError, Global};
+use std::marker::Sync;
+use std::thread::Threads;
+use work_fan::{MOST_WORKERS, Runtime};
+
+/// The tree of a certificate, with its claims.
+#[derive(Drop)]
+pub struct Claimed {
+    pub tree: Tree,
+    /// What the tree proves, in cost units.
+    pub bound: u64,
+    /// Whether the claims of the search's own tree go beyond the limit.
+    pub cut: bool,
+}
+
+/// A leaf that holds at the root, and is checked by one visit for each car at most.
+#[derive(Drop)]
+pub struct LastResort {
+    pub leaf: Leaf,
+    /// What it proves, in cost units.
+    pub bound: u64,
+}
+
+/// The twig, with the next claims where it is a leaf.
+fn claimed_twig(twig: Twig, all: &[Claims], next: &mut usize) -> Twig
+    ensures twig { result ≡ claimed_here twig (drop next.old all.now) }
+    ensures next { drop next.new all.now ≡ claims_after twig (drop next.old all.now) }
+{
+    match twig {
+        Twig::Split { call, part } => Twig::Split { call, part },
+        Twig::Leaf(leaf) => {
+            let Some(claims) = all.get(*next) else {
+                return Twig::Leaf(leaf);
+            };
+            *next += 1;
+            Twig::Leaf(with_claims(leaf, &claims.by_car))
+        }
+    }
+}
+
+/// The tree with these claims, leaf by leaf. It fails only where there is no memory left.
+fn write_claims(alloc: Global, tree: Tree, all: &[Claims]) -> Result<Tree, AllocError>
+    ensures { IfOk result (λ made. made.twigs ≡ claimed tree.twigs all.now) }
+{
+    let mut twigs = Vec::new(alloc);
+    let mut next = 0;
+    for twig in tree.twigs.into_vec() {
+        twigs.push(claimed_twig(twig, all, &mut next))?;
+    }
+    Ok(Tree {
+        twigs: Items::from_vec(twigs),
+    })
+}
+
+/// The claims that are due in a tree: None where they go further than the limit allows.
+///
+/// It fails only where there is no memory left.
+fn claims_of<R: Threads + Sync, G: Gate + Sync>(
+    runtime: &Runtime<R, G>,
+    snapshot: &Snapshot,
+    tree: &Tree,
+    limit: u64,
+    workers: u32,
+) -> Result<Option<Vec<Claims>>, AllocError>
+    ghost stated: { StatedValue }
+    requires proves { Proves snapshot.now stated.plan stated.cost stated.bound tree.now.twigs }
+    requires limit { limit < 2 ^ 63 }
+    requires workers { (1 ≤ workers) × (workers ≤ MOST_WORKERS) }
+    ensures { IfOk result (λ found. AreAllWithin snapshot.now (limit - worths_of_tree tree.now.twigs)
+        (leaves_from (root_of snapshot.now ∷ []) tree.now.twigs) (option_map (λ all. all.items) found)) }
+{
+    let tasks = leaves_of(runtime.alloc, snapshot, tree.twigs.as_slice())?;
+    let cars = snapshot.building().cars().len() as u64;
+    let worths = (tasks.len() as u64).saturating_mul(cars);
+    claims_of_all(runtime, snapshot, tasks.as_slice(), limit.saturating_sub(worths), workers)
+}
+
+impl LastResort {
+    /// A tree of this one leaf. It fails only where there is no memory left.
+    fn into_claimed(self, alloc: Global) -> Result<Claimed, AllocError>
+        ensures tree { IfOk result (λ claimed. claimed.tree.twigs ≡ Tip self.leaf ∷ []) }
+        ensures bound { IfOk result (λ claimed. claimed.bound ≡ self.bound) }
+        ensures cut { IfOk result (λ claimed. claimed.cut ≡ true) }
+    {
+        let mut twigs = Vec::new(alloc);
+        twigs.push(Twig::Leaf(self.leaf))?;
+        Ok(Claimed {
+            tree: Tree {
+                twigs: Items::from_vec(twigs),
+            },
+            bound: self.bound,
+            cut: true,
+        })
+    }
+}
+
+/// States the claims of a tree that proves what is stated: for each worth the one that is due.
+///
+/// Where these go further than the limit allows, the answer is the last resort. The leaves are shared by
+/// `workers` workers, and `runtime.gate` is told of each before it begins. It fails only where there is no
+/// memory left.
+pub fn state_claims<R: Threads + Sync, G: Gate + Sync>(
+    runtime: &Runtime<R, G>,
+    snapshot: &Snapshot,
+    stated: &Stated,
+    tree: Tree,
+    resort: LastResort,
+    limit: u64,
+    workers: u32,
+) -> Result<Claimed, AllocError>
+    requires proves { Proves snapshot.now stated.now.plan stated.now.cost stated.now.bound tree.twigs }
+    requires best_bound { pos stated.now.bound ≡ least_bound stated.now.cost tree.twigs }
+    requires resort { IsLastResort snapshot.now resort.bound resort.leaf }
+    requires least { resort.bound ≤ stated.now.bound }
+    requires limit { limit ≤ 10 ^ 10 }
+    requires workers { (1 ≤ workers) × (workers ≤ MOST_WORKERS) }
+    ensures { IfOk result (IsClaimed snapshot.now stated.now tree.twigs resort.leaf limit) }
+{
+    match claims_of(runtime, snapshot, &tree, limit, workers)? {
+        Some(all) => Ok(Claimed {
+            tree: write_claims(runtime.alloc, tree, all.as_slice())?,
+            bound: stated.bound,
+            cut: false,
+        }),
+        None => resort.into_claimed(runtime.alloc),
+    }
+}
