@@ -1,6 +1,6 @@
 -- What the leaf that a sheet states has for each call and car.
 use Rattle.std.proofs.Common.{◌≡◌, ℕ, zero, suc, ◌+◌, ◌<◌, ◌≤◌, ◌==◌, Bool, true, false, not, cond, List, [], ◌∷◌, length, map, get_or, refl, ap, ◌∙◌, inl, inr, arith}
-use Rattle.std.specs.Prelude.{ℤ, pos, ◌+ℤ◌, nat_lt, count_by, sum_by}
+use Rattle.std.specs.Prelude.{ℤ, pos, ◌+ℤ◌, nat_lt, count_by}
 use Rattle.std.specs.List.{list_all}
 use Rattle.std.proofs.lemmas.Int.{ints}
 use Rattle.std.proofs.lemmas.Bool.{cases_lt, cases_eq, both_ways, and_from, eqb-true, eq-eqb, not_from_false, lt-ltb}
@@ -12,9 +12,8 @@ use Rattle.search_model.specs.Sums.{int_sum_by}
 use Rattle.call_sets.specs.Counting.{any_below}
 use Rattle.elevator_model.specs.Snapshot.{Snapshot, car_count, call_count}
 use Rattle.search_model.specs.Prices.{price_at}
-use Rattle.search_model.specs.Certificates.{price_in, worth_in, claim_in, sum_of_leaf, are_each_once, has_whole_lists}
-use Rattle.search_tree.specs.declared.sheets.Worth.{Worth}
-use Rattle.search_tree.specs.Sheets.{PriceSheet, no_worth, worth_of_car, claim_of_car, sum_of_worths, sum_of_sheet, prices_from, worths_from, leaf_of}
+use Rattle.search_model.specs.Certificates.{price_in, worth_in, sum_of_leaf, are_each_once, has_whole_lists}
+use Rattle.search_tree.specs.Sheets.{PriceSheet, worth_of_car, sum_of_worths, sum_of_sheet, prices_from, worths_from, leaf_of}
 
 -- ---- sums
 
@@ -22,9 +21,9 @@ prices_from-sum : (i : ℕ) (prices : List ℤ) → int_sum_by (λ (p : PriceOf)
 prices_from-sum i [] = refl
 prices_from-sum i (x ∷ prices) = ap (λ (z : ℤ). x +ℤ z) (prices_from-sum (i + 1) prices)
 
-worths_from-sum : (i : ℕ) (worths : List Worth) → int_sum_by (λ (w : WorthOf). w.worth) (worths_from i worths) ≡ sum_of_worths worths
+worths_from-sum : (i : ℕ) (worths : List ℤ) → int_sum_by (λ (w : WorthOf). w.worth) (worths_from i worths) ≡ sum_of_worths worths
 worths_from-sum i [] = refl
-worths_from-sum i (w ∷ worths) = ap (λ (z : ℤ). w.worth +ℤ z) (worths_from-sum (i + 1) worths)
+worths_from-sum i (w ∷ worths) = ap (λ (z : ℤ). w +ℤ z) (worths_from-sum (i + 1) worths)
 
 pub sum_of_leaf-sheet : (sheet : PriceSheet) → sum_of_leaf (leaf_of sheet) ≡ sum_of_sheet sheet
 sum_of_leaf-sheet sheet =
@@ -67,41 +66,20 @@ price_in-sheet sheet = λ i j. price-at 0 j j sheet.prices (omega arith) i
 abbrev stated_worth : ℕ → List WorthOf → ℤ
 stated_worth c xs = int_sum_by (λ (w : WorthOf). cond (w.car == c) w.worth (pos 0)) xs
 
-worth-before : (i c : ℕ) (worths : List Worth) → c < i → stated_worth c (worths_from i worths) ≡ pos 0
+worth-before : (i c : ℕ) (worths : List ℤ) → c < i → stated_worth c (worths_from i worths) ≡ pos 0
 worth-before i c [] lt = refl
 worth-before i c (w ∷ worths) lt =
-    ap (λ (b : Bool). cond b w.worth (pos 0) +ℤ stated_worth c (worths_from (i + 1) worths)) (neq i c (λ e. omega (arith, e, lt))) ∙ zero_plus (stated_worth c (worths_from (i + 1) worths)) ∙ worth-before (i + 1) c worths (omega (arith, lt))
+    ap (λ (b : Bool). cond b w (pos 0) +ℤ stated_worth c (worths_from (i + 1) worths)) (neq i c (λ e. omega (arith, e, lt))) ∙ zero_plus (stated_worth c (worths_from (i + 1) worths)) ∙ worth-before (i + 1) c worths (omega (arith, lt))
 
-worth-at : (i k c : ℕ) (worths : List Worth) → i + k ≡ c → stated_worth c (worths_from i worths) ≡ (get_or worths k no_worth).worth
+worth-at : (i k c : ℕ) (worths : List ℤ) → i + k ≡ c → stated_worth c (worths_from i worths) ≡ get_or worths k (pos 0)
 worth-at i k c [] e = refl
 worth-at i zero c (w ∷ worths) e =
-    ap (λ (b : Bool). cond b w.worth (pos 0) +ℤ stated_worth c (worths_from (i + 1) worths)) (eq-eqb i c (omega (arith, e))) ∙ ap (λ (z : ℤ). w.worth +ℤ z) (worth-before (i + 1) c worths (omega (arith, e))) ∙ plus_zero w.worth
+    ap (λ (b : Bool). cond b w (pos 0) +ℤ stated_worth c (worths_from (i + 1) worths)) (eq-eqb i c (omega (arith, e))) ∙ ap (λ (z : ℤ). w +ℤ z) (worth-before (i + 1) c worths (omega (arith, e))) ∙ plus_zero w
 worth-at i (suc k) c (w ∷ worths) e =
-    ap (λ (b : Bool). cond b w.worth (pos 0) +ℤ stated_worth c (worths_from (i + 1) worths)) (neq i c (λ same. omega (arith, e, same))) ∙ zero_plus (stated_worth c (worths_from (i + 1) worths)) ∙ worth-at (i + 1) k c worths (omega (arith, e))
+    ap (λ (b : Bool). cond b w (pos 0) +ℤ stated_worth c (worths_from (i + 1) worths)) (neq i c (λ same. omega (arith, e, same))) ∙ zero_plus (stated_worth c (worths_from (i + 1) worths)) ∙ worth-at (i + 1) k c worths (omega (arith, e))
 
 pub worth_in-sheet : (sheet : PriceSheet) (c : ℕ) → worth_in (leaf_of sheet) c ≡ worth_of_car sheet c
 worth_in-sheet sheet c = worth-at 0 c c sheet.worths (omega arith)
-
-abbrev claims : ℕ → List WorthOf → ℕ
-claims c xs = sum_by (λ (w : WorthOf). cond (w.car == c) w.claim 0) xs
-
-claims-cons : (c i : ℕ) (w : Worth) (worths : List Worth) → claims c (worths_from i (w ∷ worths)) ≡ cond (i == c) w.claim 0 + claims c (worths_from (i + 1) worths)
-claims-cons c i w worths = sum_by-cons (λ (v : WorthOf). cond (v.car == c) v.claim 0) (record { car = i; worth = w.worth; claim = w.claim }) (worths_from (i + 1) worths)
-
-claim-before : (i c : ℕ) (worths : List Worth) → c < i → claims c (worths_from i worths) ≡ 0
-claim-before i c [] lt = refl
-claim-before i c (w ∷ worths) lt =
-    claims-cons c i w worths ∙ ap (λ (b : Bool). cond b w.claim 0 + claims c (worths_from (i + 1) worths)) (neq i c (λ e. omega (arith, e, lt))) ∙ (let none = claim-before (i + 1) c worths (omega (arith, lt)) in omega (arith, none))
-
-claim-at : (i k c : ℕ) (worths : List Worth) → i + k ≡ c → claims c (worths_from i worths) ≡ (get_or worths k no_worth).claim
-claim-at i k c [] e = refl
-claim-at i zero c (w ∷ worths) e =
-    claims-cons c i w worths ∙ ap (λ (b : Bool). cond b w.claim 0 + claims c (worths_from (i + 1) worths)) (eq-eqb i c (omega (arith, e))) ∙ (let none = claim-before (i + 1) c worths (omega (arith, e)) in omega (arith, none))
-claim-at i (suc k) c (w ∷ worths) e =
-    claims-cons c i w worths ∙ ap (λ (b : Bool). cond b w.claim 0 + claims c (worths_from (i + 1) worths)) (neq i c (λ same. omega (arith, e, same))) ∙ (let rest = claim-at (i + 1) k c worths (omega (arith, e)) in omega (arith, rest))
-
-pub claim_in-sheet : (sheet : PriceSheet) (c : ℕ) → claim_in (leaf_of sheet) c ≡ claim_of_car sheet c
-claim_in-sheet sheet c = claim-at 0 c c sheet.worths (omega arith)
 
 -- ---- each once
 
@@ -114,7 +92,7 @@ calls-numbers : (i : ℕ) (prices : List ℤ) → map (λ (p : PriceOf). p.call)
 calls-numbers i [] = refl
 calls-numbers i (x ∷ prices) = ap (λ (ks : List ℕ). i ∷ ks) (calls-numbers (i + 1) prices)
 
-cars-numbers : (i : ℕ) (worths : List Worth) → map (λ (w : WorthOf). w.car) (worths_from i worths) ≡ numbers i (length worths)
+cars-numbers : (i : ℕ) (worths : List ℤ) → map (λ (w : WorthOf). w.car) (worths_from i worths) ≡ numbers i (length worths)
 cars-numbers i [] = refl
 cars-numbers i (w ∷ worths) = ap (λ (ks : List ℕ). i ∷ ks) (cars-numbers (i + 1) worths)
 
