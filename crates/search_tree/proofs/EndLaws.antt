@@ -51,7 +51,7 @@ bound-of-leaves cost P (place ∷ places) (b ∷ tree) h = by_kind b.split refl 
     by_kind : (x : Option SplitAt) → b.split ≡ x → AllStand (IsAbove rest) (places_after place (twig_of b) places) tree → IfLeaf b.split (lesser_bound rest (twig_of b) ≤ℤ bound_of_sheet b.sheet) × AllStand (IsAbove (lesser_bound rest (twig_of b))) (places_after place (twig_of b) places) tree
     by_kind None e later =
         let is : lesser_bound rest (twig_of b) ≡ int_min (bound_of_leaf (leaf_of b.sheet)) rest = ap (λ (y : Option SplitAt). lesser_bound rest (twig_at y b.sheet)) e in
-        let same : bound_of_leaf (leaf_of b.sheet) ≡ bound_of_sheet b.sheet = ap rounded_up (sum_of_leaf-sheet b.sheet) in
+        let same : bound_of_leaf (leaf_of b.sheet) ≡ bound_of_sheet b.sheet = ap rounded_up (sum_of_leaf-sheet 0 b.sheet) in
         let first = min-first (bound_of_leaf (leaf_of b.sheet)) rest in
         let second = min-second (bound_of_leaf (leaf_of b.sheet)) rest in
         (subst (λ (y : Option SplitAt). IfLeaf y (lesser_bound rest (twig_of b) ≤ℤ bound_of_sheet b.sheet)) (sym e) (omega (arith, ints, is, same, first)), stand-more (IsAbove rest) (IsAbove (lesser_bound rest (twig_of b))) (above-lower (lesser_bound rest (twig_of b)) rest (omega (arith, ints, is, second))) (places_after place (twig_of b) places) tree later)
@@ -75,9 +75,9 @@ module _ (s : Snapshot) (most_tours : ℕ) where
   leaf-sound : (bound : ℕ) (place : Place) (b : Branch) → b.node ≡ place.node → IsLeafIn s most_tours b.node b → pos bound ≤ℤ bound_of_sheet b.sheet → IsSoundLeaf s bound place.node (leaf_of b.sheet)
   leaf-sound bound place b e leaf le =
       record {
-        whole = whole_lists-sheet s b.sheet leaf.sheet.calls leaf.sheet.cars;
-        enough = (let sum = sum_of_leaf-sheet b.sheet in let big = enough bound (sum_of_sheet b.sheet) le in omega (arith, ints, sum, big));
-        worths = λ c lt. subst (λ (n : Node). IsWorth s n c (price_in (leaf_of b.sheet)) (worth_in (leaf_of b.sheet) c)) e (subst (λ (p : ℕ → ℤ). IsWorth s b.node c p (worth_in (leaf_of b.sheet) c)) (sym (price_in-sheet b.sheet)) (subst (IsWorth s b.node c (price_at b.sheet.prices)) (sym (worth_in-sheet b.sheet c)) (leaf.sheet.worths c lt)));
+        whole = whole_lists-sheet 0 s b.sheet leaf.sheet.calls leaf.sheet.cars;
+        enough = (let sum = sum_of_leaf-sheet 0 b.sheet in let big = enough bound (sum_of_sheet b.sheet) le in omega (arith, ints, sum, big));
+        worths = λ c lt. subst (λ (n : Node). IsWorth s n c (price_in (leaf_of b.sheet)) (worth_in (leaf_of b.sheet) c)) e (subst (λ (p : ℕ → ℤ). IsWorth s b.node c p (worth_in (leaf_of b.sheet) c)) (sym (price_in-sheet 0 b.sheet)) (subst (IsWorth s b.node c (price_at b.sheet.prices)) (sym (worth_in-sheet 0 b.sheet c)) (leaf.sheet.worths c lt)));
       }
 
   branch-sound : (bound : ℕ) (place : Place) (b : Branch) → IsBranchAt s most_tours place b → IsAbove (pos bound) place b → IsSound s bound place (twig_of b)
@@ -104,7 +104,7 @@ module _ (s : Snapshot) (most_tours : ℕ) where
   branch-priced place b h = by_kind b.split h
     where
       by_kind : (x : Option SplitAt) → IfLeaf x (AreLeastIn s most_tours place.above b.sheet) → IsPriced s most_tours place (twig_at x b.sheet)
-      by_kind None least = λ c lt. subst (λ (w : ℤ). ReachesLeast s place.above c (price_in (leaf_of b.sheet)) w ⊎ HasPartialTours s place.above c most_tours) (sym (worth_in-sheet b.sheet c)) (subst (λ (p : ℕ → ℤ). ReachesLeast s place.above c p (worth_of_car b.sheet c) ⊎ HasPartialTours s place.above c most_tours) (sym (price_in-sheet b.sheet)) (least c lt))
+      by_kind None least = λ c lt. subst (λ (w : ℤ). ReachesLeast s place.above c (price_in (leaf_of b.sheet)) w ⊎ HasPartialTours s place.above c most_tours) (sym (worth_in-sheet 0 b.sheet c)) (subst (λ (p : ℕ → ℤ). ReachesLeast s place.above c p (worth_of_car b.sheet c) ⊎ HasPartialTours s place.above c most_tours) (sym (price_in-sheet 0 b.sheet)) (least c lt))
       by_kind (Some at) least = tt
 
   pub tree-priced : (tree : List Branch) → AllInTree (IsPricedAt s most_tours) s tree → IsPricedTree s most_tours (map twig_of tree)

@@ -74,9 +74,9 @@ sum-enough bound sum is = by_test (int_lt sum (sum_needed bound)) refl
 root-sound : (s : Snapshot) (bound : ℕ) (sheet : PriceSheet) → IsSheetIn s (root_of s) sheet → rounded_up (sum_of_sheet sheet) ≡ pos bound → IsSoundLeaf s bound (root_of s) (leaf_of sheet)
 root-sound s bound sheet is rounds =
     record {
-      whole = whole_lists-sheet s sheet is.calls is.cars;
-      enough = subst (λ (z : ℤ). sum_needed bound ≤ℤ z) (sym (sum_of_leaf-sheet sheet)) (sum-enough bound (sum_of_sheet sheet) rounds);
-      worths = λ c lt. subst (λ (p : ℕ → ℤ). IsWorth s (root_of s) c p (worth_in (leaf_of sheet) c)) (sym (price_in-sheet sheet)) (subst (IsWorth s (root_of s) c (price_at sheet.prices)) (sym (worth_in-sheet sheet c)) (is.worths c lt));
+      whole = whole_lists-sheet 0 s sheet is.calls is.cars;
+      enough = subst (λ (z : ℤ). sum_needed bound ≤ℤ z) (sym (sum_of_leaf-sheet 0 sheet)) (sum-enough bound (sum_of_sheet sheet) rounds);
+      worths = λ c lt. subst (λ (p : ℕ → ℤ). IsWorth s (root_of s) c p (worth_in (leaf_of sheet) c)) (sym (price_in-sheet 0 sheet)) (subst (IsWorth s (root_of s) c (price_at sheet.prices)) (sym (worth_in-sheet 0 sheet c)) (is.worths c lt));
     }
 
 -- Weak duality: no feasible plan costs less than the rounded sum of prices and worths of the root.
@@ -131,7 +131,7 @@ least-of-leaves z cost le (place ∷ places) (b ∷ tree) h = by_kind b.split h.
 
     by_kind : (x : Option SplitAt) → IfLeaf x (z ≤ℤ bound_of_sheet b.sheet) → z ≤ℤ rest → z ≤ℤ lesser_bound rest (twig_at x b.sheet)
     by_kind None here later =
-        let same : bound_of_leaf (leaf_of b.sheet) ≡ bound_of_sheet b.sheet = ap rounded_up (sum_of_leaf-sheet b.sheet) in
+        let same : bound_of_leaf (leaf_of b.sheet) ≡ bound_of_sheet b.sheet = ap rounded_up (sum_of_leaf-sheet 0 b.sheet) in
         let is = int_min_is (bound_of_leaf (leaf_of b.sheet)) rest in
         omega (arith, ints, here, later, same, is)
     by_kind (Some at) here later = later
@@ -272,7 +272,7 @@ stuck-ends s most_tours cost place b is stuck = by_kind b.split refl stuck
         }
 
     by_kind : (x : Option SplitAt) → b.split ≡ x → IfLeaf x (IsStuck s cost b) → EndsThere s cost most_tours place (twig_at x b.sheet)
-    by_kind None e stands = λ below. at_end e (stands (subst (λ (z : ℤ). z <ℤ pos cost) (ap rounded_up (sum_of_leaf-sheet b.sheet)) below))
+    by_kind None e stands = λ below. at_end e (stands (subst (λ (z : ℤ). z <ℤ pos cost) (ap rounded_up (sum_of_leaf-sheet 0 b.sheet)) below))
     by_kind (Some at) e stands = tt
 
 -- a node of the tree, as a twig at its place
@@ -288,7 +288,7 @@ stand-some P Q (suc k) (place ∷ places) (b ∷ tree) lt f h =
 
 is-end : (s : Snapshot) (most_tours cost car : ℕ) (place : Place) (b : Branch) → b.split ≡ None → bound_of_sheet b.sheet <ℤ pos cost → b.spent ≡ Some car → IsBranchAt s most_tours place b → IsEndOf s cost car most_tours place (twig_of b)
 is-end s most_tours cost car place b leaf below spent is =
-    subst (λ (x : Option SplitAt). IsEndOf s cost car most_tours place (twig_at x b.sheet)) (sym leaf) (subst (λ (z : ℤ). z <ℤ pos cost) (sym (ap rounded_up (sum_of_leaf-sheet b.sheet))) below, (spent-there s most_tours place b car is leaf spent).1)
+    subst (λ (x : Option SplitAt). IsEndOf s cost car most_tours place (twig_at x b.sheet)) (sym leaf) (subst (λ (z : ℤ). z <ℤ pos cost) (sym (ap rounded_up (sum_of_leaf-sheet 0 b.sheet))) below, (spent-there s most_tours place b car is leaf spent).1)
 
 -- A search in whose tree no leaf is left that a round may take.
 pub out_of_moves : (s : Snapshot) (most_tours cost bound car : ℕ) (tree : List Branch) (k : ℕ) → AllInTree (IsStuckAt s cost) s tree → AllInTree (IsPricedAt s most_tours) s tree → AllInTree (IsBranchAt s most_tours) s tree → bound < cost → k < length tree → (at_place tree k).split ≡ None → bound_of_sheet (at_place tree k).sheet <ℤ pos cost → (at_place tree k).spent ≡ Some car → IsOutOfMoves s most_tours cost bound car most_tours (map twig_of tree)
@@ -326,7 +326,7 @@ least-below cost (b ∷ tree) lt = by_kind b.split refl lt (least-below cost tre
     by_test : b.split ≡ None → int_min (bound_of_leaf (leaf_of b.sheet)) rest <ℤ pos cost → (rest <ℤ pos cost → (k : ℕ) × IsBelowAt cost tree k) → (t : Bool) → int_lt rest (pos cost) ≡ t → (k : ℕ) × IsBelowAt cost (b ∷ tree) k
     by_test e under later true low = below-later cost b tree (later (omega (arith, ints, low)))
     by_test e under later false high =
-        let same : bound_of_leaf (leaf_of b.sheet) ≡ bound_of_sheet b.sheet = ap rounded_up (sum_of_leaf-sheet b.sheet) in
+        let same : bound_of_leaf (leaf_of b.sheet) ≡ bound_of_sheet b.sheet = ap rounded_up (sum_of_leaf-sheet 0 b.sheet) in
         let is = int_min_is (bound_of_leaf (leaf_of b.sheet)) rest in
         (0, record { in_tree = omega arith; leaf = e; below = omega (arith, ints, under, high, same, is) })
 

@@ -19,17 +19,17 @@ pub priced_all : (list : List PriceOf) (prices : List ℤ) (k : ℕ) → length 
 priced_all list prices k h so =
     sym (append-nil list) ∙ sym (ap (λ (xs : List PriceOf). list ++ xs) (at_drop_all (prices_from k) prices k h)) ∙ so
 
-pub worth_listed : (list : List WorthOf) (worths : List ℤ) (k : ℕ) (worth : ℤ) → k < length worths → worth ≡ get_or worths k (pos 0) → list ++ worths_from k (drop k worths) ≡ worths_from 0 worths → (list ++ record { car = k; worth = worth; claim = 0 } ∷ []) ++ worths_from (k + 1) (drop (k + 1) worths) ≡ worths_from 0 worths
-worth_listed list worths k worth lt e so =
-    append_assoc list _ _ ∙ ap (λ (x : ℤ). list ++ record { car = k; worth = x; claim = 0 } ∷ worths_from (k + 1) (drop (k + 1) worths)) e ∙ sym (ap (λ (xs : List WorthOf). list ++ xs) (at_drop_more (worths_from k) worths k (pos 0) lt)) ∙ so
+pub worth_listed : (claim : ℕ) (list : List WorthOf) (worths : List ℤ) (k : ℕ) (worth : ℤ) → k < length worths → worth ≡ get_or worths k (pos 0) → list ++ worths_from claim k (drop k worths) ≡ worths_from claim 0 worths → (list ++ record { car = k; worth = worth; claim = claim } ∷ []) ++ worths_from claim (k + 1) (drop (k + 1) worths) ≡ worths_from claim 0 worths
+worth_listed claim list worths k worth lt e so =
+    append_assoc list _ _ ∙ ap (λ (x : ℤ). list ++ record { car = k; worth = x; claim = claim } ∷ worths_from claim (k + 1) (drop (k + 1) worths)) e ∙ sym (ap (λ (xs : List WorthOf). list ++ xs) (at_drop_more (worths_from claim k) worths k (pos 0) lt)) ∙ so
 
-pub worths_all : (list : List WorthOf) (worths : List ℤ) (k : ℕ) → length worths ≤ k → list ++ worths_from k (drop k worths) ≡ worths_from 0 worths → list ≡ worths_from 0 worths
-worths_all list worths k h so =
-    sym (append-nil list) ∙ sym (ap (λ (xs : List WorthOf). list ++ xs) (at_drop_all (worths_from k) worths k h)) ∙ so
+pub worths_all : (claim : ℕ) (list : List WorthOf) (worths : List ℤ) (k : ℕ) → length worths ≤ k → list ++ worths_from claim k (drop k worths) ≡ worths_from claim 0 worths → list ≡ worths_from claim 0 worths
+worths_all claim list worths k h so =
+    sym (append-nil list) ∙ sym (ap (λ (xs : List WorthOf). list ++ xs) (at_drop_all (worths_from claim k) worths k h)) ∙ so
 
 -- ---- bounds of leaves
 
 -- the bound of a leaf beside another one
 pub lesser_at_leaf : (split : Option SplitAt) (sheet : PriceSheet) (own bound : ℤ) → split ≡ None → own ≡ rounded_up (sum_of_sheet sheet) → int_min own bound ≡ lesser_bound bound (twig_at split sheet)
-lesser_at_leaf None sheet own bound e is = ap (λ (z : ℤ). int_min z bound) (is ∙ sym (ap rounded_up (sum_of_leaf-sheet sheet)))
+lesser_at_leaf None sheet own bound e is = ap (λ (z : ℤ). int_min z bound) (is ∙ sym (ap rounded_up (sum_of_leaf-sheet 0 sheet)))
 lesser_at_leaf (Some at) sheet own bound e is = absurd cc

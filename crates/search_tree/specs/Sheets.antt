@@ -51,14 +51,17 @@ abbrev pub prices_from : (call : ℕ) → List ℤ → List PriceOf
 prices_from call [] = []
 prices_from call (price ∷ prices) = record { call = call; price = price } ∷ prices_from (call + 1) prices
 
--- a search states no claims: what states them comes after it
-abbrev pub worths_from : (car : ℕ) → List ℤ → List WorthOf
-worths_from car [] = []
-worths_from car (worth ∷ worths) = record { car = car; worth = worth; claim = 0 } ∷ worths_from (car + 1) worths
+abbrev pub worths_from : (claim car : ℕ) → List ℤ → List WorthOf
+worths_from claim car [] = []
+worths_from claim car (worth ∷ worths) = record { car = car; worth = worth; claim = claim } ∷ worths_from claim (car + 1) worths
 
--- the leaf of a certificate that states these
+-- the leaf of a certificate that states these, with this claim for each worth
+abbrev pub leaf_with : (claim : ℕ) → PriceSheet → Leaf
+leaf_with claim sheet = record { prices = prices_from 0 sheet.prices; worths = worths_from claim 0 sheet.worths }
+
+-- the leaf of a search: it states no claims, what states them comes after it
 abbrev pub leaf_of : PriceSheet → Leaf
-leaf_of sheet = record { prices = prices_from 0 sheet.prices; worths = worths_from 0 sheet.worths }
+leaf_of sheet = leaf_with 0 sheet
 
 -- each price of a leaf lies in its range, and each worth
 pub record IsSizedLeaf (leaf : Leaf) : Type 0 where

@@ -6,7 +6,7 @@ ghost use Rattle.assign_branch.specs.Pricings.{IsWorthSize};
 ghost use Rattle.search_model.specs.Sums.{rounded_up};
 ghost use Rattle.search_tree.specs.Kept.{KeepsSum, of_lists};
 ghost use Rattle.search_tree.specs.Sheets.{AreTurnSizes, AreWorthSizes, IsSized, IsSizedLeaf, IsWorthSum};
-ghost use Rattle.search_tree.specs.Sheets.{leaf_of, prices_from, raised, sum_of_sheet};
+ghost use Rattle.search_tree.specs.Sheets.{leaf_with, prices_from, raised, sum_of_sheet};
 ghost use Rattle.search_tree.specs.Sheets.{sum_of_worths, turn_worth, worths_from};
 
 use elevator_model::{MOST_CALLS, MOST_CARS};
@@ -14,9 +14,6 @@ use price_scale::{MOST_PRICE, Price, sum_prices, unscale_up};
 use search_model::{Items, Leaf, PriceOf, TurnOf, WorthOf};
 use std::alloc::{AllocError, Global};
 use std::marker::Model;
-
-/// A search states no claims: what states them comes after it.
-const NO_CLAIM: u64 = 0;
 
 /// The sum of the worths, in thousandths of a cost unit.
 fn sum_worths(worths: &[i128]) -> i128
@@ -174,13 +171,14 @@ impl Sheet {
         }
     }
 
-    /// The leaf of a certificate that states these. It fails only where there is no memory left.
-    pub(crate) fn to_leaf(&self, alloc: Global) -> Result<Leaf, AllocError>
-        ensures leaf { IfOk result (λ leaf. leaf ≡ leaf_of self.now) }
+    /// The leaf of a certificate that states these, with this claim for each worth. It fails only where there
+    /// is no memory left.
+    pub fn to_leaf(&self, alloc: Global, claim: u64) -> Result<Leaf, AllocError>
+        ensures leaf { IfOk result (λ leaf. leaf ≡ leaf_with claim self.now) }
         ensures sized { IfOk result IsSizedLeaf }
     {
         let prices = list_prices(alloc, &self.prices)?;
-        let worths = list_worths(alloc, &self.worths)?;
+        let worths = list_worths(alloc, &self.worths, claim)?;
         Ok(Leaf { prices, worths })
     }
 }
@@ -203,11 +201,11 @@ fn list_prices(alloc: Global, prices: &[Price]) -> Result<Items<PriceOf>, AllocE
     Ok(list)
 }
 
-/// The worths, each with its car and with no claim. It fails only where there is no memory left.
-fn list_worths(alloc: Global, worths: &[i128]) -> Result<Items<WorthOf>, AllocError>
+/// The worths, each with its car and this claim. It fails only where there is no memory left.
+fn list_worths(alloc: Global, worths: &[i128], claim: u64) -> Result<Items<WorthOf>, AllocError>
     requires few { length worths.now ≤ MOST_CARS }
     requires sizes { AreWorthSizes worths.now }
-    ensures list { IfOk result (λ list. list ≡ worths_from 0 worths.now) }
+    ensures list { IfOk result (λ list. list ≡ worths_from claim 0 worths.now) }
     ensures sized { IfOk result (All (λ w. IsWorthSize w.worth)) }
 {
     let mut list = Items::new(alloc);
@@ -215,7 +213,7 @@ fn list_worths(alloc: Global, worths: &[i128]) -> Result<Items<WorthOf>, AllocEr
         list.push(WorthOf {
             car: car as u32,
             worth: worths[car],
-            claim: NO_CLAIM,
+            claim,
         })?;
     }
     Ok(list)
