@@ -1,8 +1,3 @@
-pub mod EntryLemmas
-pub mod StepLemmas
-pub mod WalkLemmas
-pub mod ScanLemmas
-pub mod CarLemmas
 pub mod LeafLemmas
 pub mod TreeLemmas
 pub mod PieceLemmas

@@ -35,13 +35,13 @@ use Rattle.search_model.proofs.SnapshotNodes.{root_is_node}
 use Rattle.search_model.proofs.TreeLemmas.{part-index, proves-bound}
 use Rattle.search_model.proofs.OrderLemmas.{IsTested, tested_lists-each}
 use Rattle.search_model.proofs.ManyLemmas.{tested_lists-few}
-use Rattle.call_state.proofs.PossibleLemmas.{most_cars-le}
 use Rattle.tour_rules.proofs.Reached.{moves_reach}
 use Rattle.tour_cost.proofs.Judged.{feasible_where_clear, clear_where_feasible}
 use Rattle.tour_extension.proofs.NodeDemands.{node_holds}
 use Rattle.pricing_bound.specs.LowerLemmas.{bound_is_lower}
 use Rattle.kept_tours.proofs.EndLemmas.{ended_within, ended_value}
 use Rattle.kept_tours.proofs.KeptLaws.{kept_holds}
+use Rattle.kept_count.proofs.LeafLemmas.{cars_few}
 use Rattle.cert_checker.specs.Laws.{HasEnough, SufficientLaw, YesLaw}
 
 -- ---- parts of a reason
@@ -130,10 +130,7 @@ some_under s c price worth o x at over none = by_test (int_lt (value_of s c pric
 -- ---- a car at a leaf
 
 few_cars : (s : Snapshot) (c : ℕ) → IsAccepted s → c < car_count s → c < 16
-few_cars s c ok below = let high = ok.building.cars_high in let few = most_cars-le s.building.version in omega (arith, below, high, few)
-
-pub all_cars : (s : Snapshot) → IsAccepted s → car_count s ≤ 16
-all_cars s ok = let high = ok.building.cars_high in let few = most_cars-le s.building.version in omega (arith, high, few)
+few_cars s c ok below = let few = cars_few s ok in omega (arith, below, few)
 
 -- each call's cars are possible ones
 abbrev pub IsWithinRoot : Snapshot → Node → Type 0
@@ -381,4 +378,4 @@ sufficient_holds s plan cost bound tree ok cars whole enough =
 pub yes_holds : YesLaw
 yes_holds s plan cost bound tree ok cars whole e =
     let proves = (verdict_holds s plan cost bound tree ok cars whole).proof e in
-    record { feasible = proves.feasible; costs = proves.costs; least = proves-bound s plan cost bound tree (all_cars s ok) proves }
+    record { feasible = proves.feasible; costs = proves.costs; least = proves-bound s plan cost bound tree (cars_few s ok) proves }

@@ -1,6 +1,6 @@
 -- What has been seen of a plan, its cost and a tree's twigs, and which reason to say no it gave.
 use Rattle.std.specs.Prelude.{◌≡◌, ℕ, ◌+◌, ◌<◌, ◌≤◌, ◌^◌, List, [], ◌∷◌, length, All, Option, Some, None, if◌then◌else◌}
-use Rattle.elevator_model.specs.declared.Move.{Move}
+use Rattle.elevator_model.specs.declared.Stop.{Stop}
 use Rattle.elevator_model.specs.Snapshot.{Snapshot, IsAccepted}
 use Rattle.elevator_model.specs.Plans.{first_bad, first_of}
 use Rattle.search_model.specs.declared.Twig.{Twig}
@@ -11,24 +11,24 @@ use Rattle.search_model.specs.declared.Reason.TheVariants.{Split as BadSplit, Un
 use Rattle.search_model.specs.Nodes.{Node, IsNodeOf, set_of, is_part, root_of, first_of_split, second_of_split}
 use Rattle.search_model.specs.Certificates.{placed_twigs}
 use Rattle.search_model.specs.Verdicts.{reason_of_leaf, reason_of_tree, reason_of_plan, reason_of_cost}
-use Rattle.partial_tours.specs.PartialTour.{stops_made}
+use Rattle.assign_branch.specs.Splits.{KeepsNodes}
+use Rattle.kept_count.specs.declared.counts.Count.{Count}
+use Rattle.kept_count.specs.declared.counts.Count.TheVariants.{Whole, Longer, Under}
+use Rattle.kept_count.specs.declared.entries.Stake.{Stake}
+use Rattle.kept_count.specs.Leaves.{HasWorthSize}
 use Rattle.cert_checker.specs.declared.checker.Checker.{Checker}
 use Rattle.cert_checker.specs.declared.checker.State.{State}
 use Rattle.cert_checker.specs.declared.checker.State.TheVariants.{Found, Open}
-use Rattle.cert_checker.specs.declared.entries.Stake.{Stake}
 use Rattle.cert_checker.specs.declared.tasks.Task.{Task}
 use Rattle.cert_checker.specs.declared.tasks.Piece.{Piece}
-use Rattle.cert_checker.specs.declared.visits.Visits.{Visits}
-use Rattle.cert_checker.specs.declared.visits.Visits.TheVariants.{Going, Passed, Under}
-use Rattle.cert_checker.specs.Leaves.{HasWorthSize}
 
 -- ---- a car
 
--- the reason that the visits for a car give, which stand at these moves
-abbrev pub reason_of_visits : (k c : ℕ) → Stake → Visits → List Move → Option Reason
-reason_of_visits k c stake (Going left) moves = None
-reason_of_visits k c stake Passed moves = Some (Claim k c stake.claim)
-reason_of_visits k c stake (Under value) moves = Some (IsUnder k c stake.worth value (stops_made moves))
+-- the reason that the count of a car's kept list gives, with the tour that was found
+abbrev pub reason_of_count : (k c : ℕ) → Stake → Count → List Stop → Option Reason
+reason_of_count k c stake (Whole n) tour = None
+reason_of_count k c stake Longer tour = Some (Claim k c stake.claim)
+reason_of_count k c stake (Under value) tour = Some (IsUnder k c stake.worth value tour)
 
 -- ---- nodes in preorder
 
@@ -88,10 +88,6 @@ pub record IsTask (s : Snapshot) (task : Task) : Type 0 where
   pub node : IsNodeOf s task.node
   pub sizes : All HasWorthSize task.leaf.now.worths
 
--- where the node and the places are nodes of a snapshot's search, the new places are
-abbrev pub KeepsNodes : Node → (places left : List Node) → Type 0
-KeepsNodes node places left = (s : Snapshot) → IsAccepted s → IsNodeOf s node → All (IsNodeOf s) places → All (IsNodeOf s) left
-
 -- One twig more was put at its node, which has the number k.
 pub record PlacesTwig (k : ℕ) (node : Node) (twig : Twig) (places : List Node) (old : Piece) (left : List Node) (new : Piece) : Type 0 where
   pub reason : (s : Snapshot) (bound : ℕ) → reason_of_piece s bound new ≡ first_of (reason_of_piece s bound old) (reason_of_node s bound k node twig)
@@ -100,7 +96,7 @@ pub record PlacesTwig (k : ℕ) (node : Node) (twig : Twig) (places : List Node)
   pub nodes : KeepsNodes node places left
   pub few : length new.tasks.items ≤ length old.tasks.items + 1
 
--- The piece of these twigs at these nodes, after so many twigs, and the nodes that are left.
+-- The piece of these twigs at these nodes, after this many twigs, and the nodes that are left.
 pub record IsPiece (nodes : List Node) (seen : ℕ) (twigs : List Twig) (piece : Piece) (left : List Node) : Type 0 where
   pub reason : (s : Snapshot) (bound : ℕ) → seen + length twigs < 2 ^ 32 → reason_from s bound (seen + 1) nodes twigs ≡ reason_of_piece s bound piece
   pub left_are : piece.bad ≡ None → left ≡ nodes_left nodes twigs
@@ -137,7 +133,7 @@ IsStateOf s (Open places seen) = All (IsNodeOf s) places
 abbrev pub IsCheckerOf : Snapshot → Checker → Type 0
 IsCheckerOf s checker = IsStateOf s checker.state
 
--- what a checker has seen after some twigs more, at these nodes and after so many
+-- what a checker has seen after some twigs more, at these nodes and after this many
 abbrev pub GoesOnTo : Snapshot → (bound : ℕ) → List Node → (seen : ℕ) → List Twig → State → Type 0
 GoesOnTo s bound nodes seen twigs (Found reason) = seen + length twigs < 2 ^ 32 → reason_from s bound (seen + 1) nodes twigs ≡ Some reason
 GoesOnTo s bound nodes seen twigs (Open places all) =

@@ -1,5 +1,2 @@
-pub mod Visiting
-pub mod Scanning
-pub mod Leaves
 pub mod Judging
 pub mod Laws

@@ -13,8 +13,7 @@ ghost use Rattle.cert_checker.specs.Judging.{reason_of_bad as reason_of_bad_lem}
 use crate::judging::judge_tasks;
 use crate::plans::judge_stated;
 use crate::tasks::Piece;
-use crate::tree::Places;
-use assign_branch::root;
+use assign_branch::{Places, root};
 use byte_streams::Gate;
 use call_state::Snapshot;
 use search_model::{Reason, Stated, Twig, Verdict};

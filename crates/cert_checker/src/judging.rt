@@ -4,11 +4,11 @@ ghost use Rattle.std.specs.Prelude.{◌≡◌, ◌<◌, ◌≤◌, ◌^◌, All,
 ghost use Rattle.elevator_model.specs.Snapshot.{Snapshot as SnapshotValue};
 ghost use Rattle.cert_checker.specs.Judging.{IsTask, first_some, reason_of_tasks};
 
-use crate::desks::Desk;
 use crate::leaves::judge_leaf;
 use crate::tasks::Task;
 use byte_streams::Gate;
 use call_state::Snapshot;
+use kept_count::Desk;
 use search_model::Reason;
 use std::alloc::{AllocError, Global};
 use std::marker::Sync;

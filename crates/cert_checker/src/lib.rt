@@ -22,25 +22,17 @@
 //! filled: `HasSeen` (`specs/Judging.antt`) says which twigs it has seen. A piece is first laid out
 //! (`Piece`): its twigs are put at the places that they fill, up to the first bad split. Then its leaves are
 //! shared by workers (`judge_tasks`, over `work_fan::fan`), and the first reason among their answers comes
-//! before a bad split, which is after all of them. At a leaf the entries are tested first (`are_each_once`),
-//! so no sum can overflow; then the cars go in order, each by a walk over its kept list (`scan`, `visit`)
-//! that takes no memory, counts down what its claim allows, and stops where one more is due or at a tour
-//! below the worth. The walk's contract is the definition `see` (`specs/Visiting.antt`) over the list of the
-//! kept ones that begin with a partial tour, cut where the followers are; it is generic over the bound.
+//! before a bad split, which is after all of them. At a leaf the entries are tested first (`is_whole`), so no
+//! sum can overflow; then the cars go in order, each by a count of its kept list up to its claim
+//! (`kept_count::Desk::count`), which takes no memory, and the answer is the reason (`judge_car`).
 #![tactic(auto)]
 
 mod checker;
-mod desks;
-mod entries;
 mod judging;
 mod laws;
 mod leaves;
 mod plans;
-mod scan;
 mod tasks;
-mod tree;
-mod visits;
-mod walk;
 
 pub use checker::{Checker, check};
 pub use laws::verdict_laws;

@@ -5,8 +5,7 @@ ghost use Rattle.search_model.specs.declared.Twig.TheVariants.{Split, Leaf as Ti
 ghost use Rattle.search_model.specs.Nodes.{Node as NodeValue};
 ghost use Rattle.cert_checker.specs.Judging.{IsPiece, PlacesTwig};
 
-use crate::tree::Places;
-use assign_branch::{CarSet, Node};
+use assign_branch::{CarSet, Node, Places};
 use search_model::{Leaf, Twig};
 use std::alloc::{AllocError, Global};
 
@@ -90,7 +89,7 @@ impl<'t> Piece<'t> {
         }
     }
 
-    /// The twigs at the places that they fill, up to the first bad split or to where no place is left. So
+    /// The twigs at the places that they fill, up to the first bad split or to where no place is left. This
     /// many twigs came before them.
     ///
     /// It fails only where there is no memory left.

@@ -1,6 +1,6 @@
 use Rattle.std.proofs.Common.{◌≡◌, length}
 use Rattle.std.specs.List.{All}
-use Rattle.cert_checker.specs.declared.desks.Desk.{Desk}
+use Rattle.kept_count.specs.declared.desks.Desk.{Desk}
 use Rattle.cert_checker.proofs.judging.desks_for.Given as goal
 
 abbrev pub invariant-loop-worker : goal.invariant-loop-worker

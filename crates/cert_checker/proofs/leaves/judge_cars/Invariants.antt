@@ -1,12 +1,12 @@
 -- No car so far gives a reason, and the desk still holds the leaf.
 use Rattle.std.proofs.Common.{◌≡◌, None}
 use Rattle.search_model.specs.Verdicts.{reason_of_cars}
-use Rattle.cert_checker.specs.Leaves.{Holds}
+use Rattle.kept_count.specs.Counting.{Holds}
 use Rattle.cert_checker.proofs.leaves.judge_cars.Given as goal
 
 abbrev pub invariant-loop-car : goal.invariant-loop-car
 invariant-loop-car l = record {
   same : l.desk.snapshot.now ≡ l.initial.desk.snapshot.now;
-  holds : Holds l.leaf l.desk.rates l.desk.stakes.items;
+  holds : Holds l.leaf l.desk;
   clear : reason_of_cars l.initial.desk.snapshot.now l.number l.node l.leaf l.car ≡ None;
 }

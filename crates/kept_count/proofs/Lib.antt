@@ -1,0 +1,6 @@
+pub mod EntryLemmas
+pub mod LeafLemmas
+mod StepLemmas
+mod WalkLemmas
+mod ScanLemmas
+mod CountLemmas

@@ -1,0 +1,4 @@
+pub mod Leaves
+pub mod Visiting
+pub mod Scanning
+pub mod Counting
