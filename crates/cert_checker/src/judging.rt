@@ -8,7 +8,7 @@ use crate::leaves::judge_leaf;
 use crate::tasks::Task;
 use byte_streams::Gate;
 use call_state::Snapshot;
-use kept_count::Desk;
+use kept_count::{Desk, desks_for};
 use search_model::Reason;
 use std::alloc::{AllocError, Global};
 use std::marker::Sync;
@@ -57,22 +57,6 @@ impl<'a> Jobs for Judging<'a> {
             desk,
         )
     }
-}
-
-/// As many desks as there are workers. It fails only where there is no memory left.
-fn desks_for<'a>(
-    alloc: Global,
-    snapshot: &'a Snapshot,
-    workers: u32,
-) -> Result<Vec<Desk<'a>>, AllocError>
-    ensures count { IfOk result (λ desks. length desks.items ≡ workers) }
-    ensures own { IfOk result (λ desks. All (λ desk. desk.snapshot.now ≡ snapshot.now) desks.items) }
-{
-    let mut desks = Vec::new(alloc);
-    for _worker in 0..workers {
-        desks.push(Desk::new(alloc, snapshot)?)?;
-    }
-    Ok(desks)
 }
 
 /// The first reason among answers.

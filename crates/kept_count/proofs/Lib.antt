@@ -4,3 +4,4 @@ mod StepLemmas
 mod WalkLemmas
 mod ScanLemmas
 mod CountLemmas
+pub mod WorthLemmas

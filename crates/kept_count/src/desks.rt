@@ -1,6 +1,6 @@
 //! Where a worker counts kept lists.
 
-ghost use Rattle.std.specs.Prelude.{◌≡◌, ◌<◌, IfOk, IsTrue, length};
+ghost use Rattle.std.specs.Prelude.{◌≡◌, ◌<◌, All, IfOk, IsTrue, length};
 ghost use Rattle.elevator_model.specs.Snapshot.{car_count};
 ghost use Rattle.search_model.specs.declared.Leaf.{Leaf as LeafValue};
 ghost use Rattle.search_model.specs.Certificates.{claim_in, has_whole_lists, worth_in};
@@ -103,6 +103,22 @@ impl<'a> Desk<'a> {
     {
         tour_of(alloc, self.prefix.moves())
     }
+}
+
+/// As many desks as there are workers. It fails only where there is no memory left.
+pub fn desks_for<'a>(
+    alloc: Global,
+    snapshot: &'a Snapshot,
+    workers: u32,
+) -> Result<Vec<Desk<'a>>, AllocError>
+    ensures count { IfOk result (λ desks. length desks.items ≡ workers) }
+    ensures own { IfOk result (λ desks. All (λ desk. desk.snapshot.now ≡ snapshot.now) desks.items) }
+{
+    let mut desks = Vec::new(alloc);
+    for _worker in 0..workers {
+        desks.push(Desk::new(alloc, snapshot)?)?;
+    }
+    Ok(desks)
 }
 
 /// The price 0.

@@ -34,6 +34,6 @@ mod visits;
 mod walk;
 
 pub use counts::Count;
-pub use desks::Desk;
+pub use desks::{Desk, desks_for};
 pub use entries::Stake;
 pub use leaves::{is_whole, sum_of_leaf};

@@ -2,7 +2,7 @@ use Rattle.std.proofs.Common.{◌≡◌, ◌∷◌, [], length, sym, ap, subst, 
 use Rattle.std.specs.List.{All}
 use Rattle.std.proofs.lemmas.List.Elements.{All-push}
 use Rattle.kept_count.specs.declared.desks.Desk.{Desk}
-use Rattle.cert_checker.proofs.judging.desks_for.Goals as goal
+use Rattle.kept_count.proofs.desks.desks_for.Goals as goal
 
 pub loop-worker-preserved : goal.loop-worker-preserved
 loop-worker-preserved c =

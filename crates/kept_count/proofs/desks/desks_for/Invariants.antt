@@ -1,7 +1,7 @@
 use Rattle.std.proofs.Common.{◌≡◌, length}
 use Rattle.std.specs.List.{All}
 use Rattle.kept_count.specs.declared.desks.Desk.{Desk}
-use Rattle.cert_checker.proofs.judging.desks_for.Given as goal
+use Rattle.kept_count.proofs.desks.desks_for.Given as goal
 
 abbrev pub invariant-loop-worker : goal.invariant-loop-worker
 invariant-loop-worker l = record {
