@@ -70,9 +70,9 @@ impl<'a> Desk<'a> {
         self.stakes[car as usize]
     }
 
-    /// How long the kept list of a car in a node is for this worth, up to a limit, at the prices that are laid
-    /// out: the list is visited from its first partial tour on, until one ends a tour of a value below the
-    /// worth, or one more than the limit is due.
+    /// How long the kept list of a car in a node is for this worth, up to a limit, at the prices that are
+    /// laid out: the list is visited from its first partial tour on, until one ends a tour of a value below
+    /// the worth, or one more than the limit is due.
     ///
     /// What is laid out stays. It takes no memory.
     pub fn count(&mut self, node: &Node, car: u32, worth: i128, limit: u64) -> Count

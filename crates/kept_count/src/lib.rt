@@ -5,8 +5,9 @@
 //!
 //! # What is promised
 //!
-//! - `Desk::lay_out` takes the prices, worths and claims of a whole leaf: `Holds` (`specs/Counting.antt`) says
-//!   that they are those that the definitions read in the leaf. `Desk::stake` is what it states of a car.
+//! - `Desk::lay_out` takes the prices, worths and claims of a whole leaf: `Holds` (`specs/Counting.antt`)
+//!   says that they are those that the definitions read in the leaf. `Desk::stake` has what the leaf states
+//!   of a car.
 //! - `Desk::count` is what the definition says of the kept list of a car in a node, for any worth and any
 //!   limit, at the prices laid out (`IsCounted`): its length, or that it is longer than the limit, where no
 //!   partial tour up to the limit ends a tour of a value below the worth; else the value of the first one
@@ -17,11 +18,11 @@
 //!
 //! # How it counts
 //!
-//! The walk (`scan`, `visit`) goes depth first in the order of moves, by the steps of `kept_tours`, and passes
-//! by what is not kept. It counts down from the limit, and stops where one more is due or at a tour below the
-//! worth. Its contract is the definition `see` (`specs/Visiting.antt`) over the list of the kept ones that
-//! begin with a partial tour, cut where the followers are; it is generic over the bound. `proofs/CountLemmas`
-//! leads from `see` to the length and the first tour of the list.
+//! The walk (`scan`, `visit`) goes depth first in the order of moves, by the steps of `kept_tours`, and
+//! passes by what is not kept. It counts down from the limit, and stops where one more is due or at a tour
+//! below the worth. Its contract is the definition `see` (`specs/Visiting.antt`) over the list of the kept
+//! ones that begin with a partial tour, cut where the followers are; it is generic over the bound.
+//! `proofs/CountLemmas.antt` leads from `see` to the length and the first tour of the list.
 #![tactic(auto)]
 
 mod counts;

@@ -27,8 +27,7 @@ pub(crate) fn visit<B: CompletionBound>(
     requires walking { IsWalking (B.aim guide.now.bound.now) guide.now.demand.now prefix.old }
     requires stands { IsOpen (B.stands guide.now.bound.now sums.now) guide.now.demand.now prefix.old }
     ensures visited { Visited prefix.old guide.now.demand.now (B.aim guide.now.bound.now).price
-        (B.bound guide.now.bound.now) worth
-        left prefix.new result }
+        (B.bound guide.now.bound.now) worth left prefix.new result }
     ensures back { GoesBack prefix.old prefix.new result }
 {
     let bound = guide.bound;
@@ -73,8 +72,8 @@ fn visit_after<B: CompletionBound>(
     requires stands { IsOpen (B.stands guide.now.bound.now sums.now) guide.now.demand.now prefix.old }
     requires departs { IsOpen (B.departs guide.now.bound.now departure.now) guide.now.demand.now prefix.old }
     requires next { MayFollow guide.now.demand.now prefix.old next }
-    ensures visited { Visited (with_move prefix.old next) guide.now.demand.now (B.aim guide.now.bound.now).price
-        (B.bound guide.now.bound.now) worth left prefix.new result }
+    ensures visited { Visited (with_move prefix.old next) guide.now.demand.now
+        (B.aim guide.now.bound.now).price (B.bound guide.now.bound.now) worth left prefix.new result }
     ensures back { GoesBack prefix.old prefix.new result }
 {
     let Some(sums) = step_below(
