@@ -6,8 +6,8 @@
 //! # What is promised
 //!
 //! - `Desk::lay_out` takes the prices, worths and claims of a whole leaf: `Holds` (`specs/Counting.antt`)
-//!   says that they are those that the definitions read in the leaf. `Desk::stake` has what the leaf states of
-//!   a car.
+//!   says that they are those that the definitions read in the leaf. `Desk::stake` has what the leaf states
+//!   of a car.
 //! - `Desk::count` is what the definition says of the kept list of a car in a node, for any worth and any
 //!   limit, at the prices laid out (`IsCounted`): its length, or that it is longer than the limit, where no
 //!   partial tour up to the limit ends a tour of a value below the worth; else the value of the first one
