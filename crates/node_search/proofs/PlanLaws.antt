@@ -13,7 +13,7 @@ use Rattle.search_model.specs.declared.TurnOf.{TurnOf}
 use Rattle.search_model.specs.Sums.{int_sum_below, int_sum_by, rounded_up}
 use Rattle.search_model.specs.Nodes.{Node, IsNodeOf, IsTourIn, set_of}
 use Rattle.search_model.specs.Prices.{scaled, price_at, value_of}
-use Rattle.search_model.specs.Solving.{Fits, no_turn}
+use Rattle.search_model.specs.Solving.{no_turn}
 use Rattle.search_model.proofs.SetLemmas.{has-single}
 use Rattle.search_model.proofs.SumLemmas.{int_sum-same}
 use Rattle.search_model.proofs.LeafLemmas.{values-sum}
@@ -52,7 +52,7 @@ worths-sum (t ∷ cars) = ap (λ (z : ℤ). t.priced.worth +ℤ z) (worths-sum c
 scaled-rounds : (cost : ℕ) (sum : ℤ) → scaled cost ≤ℤ sum → pos cost ≤ℤ rounded_up sum
 scaled-rounds cost sum le = let most = (rounded_up-least sum).enough in omega (arith, ints, le, most)
 
-module _ (fits : Fits) (s : Snapshot) (most_tours : ℕ) (node : Node) (prices : List ℤ) (cars : List TurnOf) (plan : List (List Stop)) (answers : AreAnswersIn fits s most_tours node prices cars) (is_node : IsNodeOf s node) (single : AreSingle (call_count s) node) (few : car_count s ≤ 16) (none : (c : ℕ) → c < length cars → (get_or cars c no_turn).priced.spent ≡ false) (of : IsPlanOf cars plan) where
+module _ (s : Snapshot) (most_tours : ℕ) (node : Node) (prices : List ℤ) (cars : List TurnOf) (plan : List (List Stop)) (answers : AreAnswersIn s most_tours node prices cars) (is_node : IsNodeOf s node) (single : AreSingle (call_count s) node) (few : car_count s ≤ 16) (none : (c : ℕ) → c < length cars → (get_or cars c no_turn).priced.spent ≡ false) (of : IsPlanOf cars plan) where
   below : (c : ℕ) → c < car_count s → c < length cars
   below c lt = let count = answers.count in omega (arith, lt, count)
 

@@ -14,7 +14,7 @@ use Rattle.search_model.specs.Nodes.{Node, root_of, IsTourIn}
 use Rattle.search_model.proofs.FeasibleLemmas.{boarded-below}
 use Rattle.search_model.specs.Prices.{price_at}
 use Rattle.search_model.specs.Certificates.{root_place}
-use Rattle.search_model.specs.Solving.{Fits, AreRootTurns, IsRootTurn, greatest_price, no_turn}
+use Rattle.search_model.specs.Solving.{AreRootTurns, IsRootTurn, greatest_price, no_turn}
 use Rattle.restricted_master.specs.Pools.{TourPool, tours_of_car}
 use Rattle.search_tree.specs.declared.branches.Branch.{Branch}
 use Rattle.search_tree.specs.Sheets.{sum_of_sheet, sheet_of_turn}
@@ -63,10 +63,10 @@ taken_step s most_tours old mid new next cars is tree best step prices turns =
 pub taken_cheaper : (old mid new : Root) → new.best ≡ mid.best → mid.best.cost ≤ old.best.cost → new.best.cost ≤ old.best.cost
 taken_cheaper old mid new best cheaper = subst (λ (b : Best). b.cost ≤ old.best.cost) (sym best) cheaper
 
-leaf_of_kind : (fits : Fits) (s : Snapshot) (most_tours : ℕ) (node : Node) (b : Branch) → b.split ≡ None → IsKindIn fits s most_tours node b b.split → IsLeafIn fits s most_tours node b
-leaf_of_kind fits s most_tours node b leaf kind = subst (IsKindIn fits s most_tours node b) leaf kind
+leaf_of_kind : (s : Snapshot) (most_tours : ℕ) (node : Node) (b : Branch) → b.split ≡ None → IsKindIn s most_tours node b b.split → IsLeafIn s most_tours node b
+leaf_of_kind s most_tours node b leaf kind = subst (IsKindIn s most_tours node b) leaf kind
 
-module _ (fits : Fits) (s : Snapshot) (most_tours : ℕ) (few_cars : car_count s ≤ 16) (old new : Root) (cars : List TurnOf) (is : IsRoot fits s most_tours old) (lt : length old.turns.items < 20) (given : AreAnswersIn fits s most_tours (root_of s) old.prices.items cars) (step : IsStepOf s most_tours old new cars) where
+module _ (s : Snapshot) (most_tours : ℕ) (few_cars : car_count s ≤ 16) (old new : Root) (cars : List TurnOf) (is : IsRoot s most_tours old) (lt : length old.turns.items < 20) (given : AreAnswersIn s most_tours (root_of s) old.prices.items cars) (step : IsStepOf s most_tours old new cars) where
   abbrev b : Branch
   b = is.branch
 
@@ -76,17 +76,17 @@ module _ (fits : Fits) (s : Snapshot) (most_tours : ℕ) (few_cars : car_count s
   abbrev turn : Turn
   turn = turn_with prices cars
 
-  answers : AreAnswersIn fits s most_tours b.node prices cars
-  answers = subst (λ (n : Node). AreAnswersIn fits s most_tours n prices cars) (sym is.at.node) given
+  answers : AreAnswersIn s most_tours b.node prices cars
+  answers = subst (λ (n : Node). AreAnswersIn s most_tours n prices cars) (sym is.at.node) given
 
   rounds_few : b.rounds < 20
   rounds_few = let same = is.rounds in omega (arith, lt, same)
 
-  in_leaf : IsLeafIn fits s most_tours b.node b
-  in_leaf = leaf_of_kind fits s most_tours b.node b is.leaf is.at.kind
+  in_leaf : IsLeafIn s most_tours b.node b
+  in_leaf = leaf_of_kind s most_tours b.node b is.leaf is.at.kind
 
-  sheet : IsNotedSheet fits s most_tours b.node b.sheet (sheet_of_turn prices cars) (noted b prices cars).sheet
-  sheet = noted-sheet fits s most_tours b.node b prices cars in_leaf is.begins answers
+  sheet : IsNotedSheet s most_tours b.node b.sheet (sheet_of_turn prices cars) (noted b prices cars).sheet
+  sheet = noted-sheet s most_tours b.node b prices cars in_leaf is.begins answers
 
   first_of : at_place old.tree.branches 0 ≡ b
   first_of = ap (λ (tree : List Branch). at_place tree 0) is.lone
@@ -104,7 +104,7 @@ module _ (fits : Fits) (s : Snapshot) (most_tours : ℕ) (few_cars : car_count s
   count_is = ap length step.turns ∙ length-append old.turns.items (turn ∷ [])
 
   turn_is : IsRootTurn s most_tours (due_prices s start old.turns.items) turn
-  turn_is = subst (λ (ps : List ℤ). IsRootTurn s most_tours ps turn) is.prices (answers_are_turn fits s most_tours prices cars given)
+  turn_is = subst (λ (ps : List ℤ). IsRootTurn s most_tours ps turn) is.prices (answers_are_turn s most_tours prices cars given)
 
   turns_are : AreRootTurns s most_tours start new.turns.items
   turns_are = subst (AreRootTurns s most_tours start) (sym step.turns) (turns-more s most_tours start old.turns.items turn is.turns turn_is)
@@ -131,12 +131,12 @@ module _ (fits : Fits) (s : Snapshot) (most_tours : ℕ) (few_cars : car_count s
   turn_below : IsTurnBelow (sum_of_sheet (noted b prices cars).sheet) turn
   turn_below = let same = turn-sum prices cars in let up = sheet.takes in omega (arith, ints, same, up)
 
-  pub root-step : IsRoot fits s most_tours new
+  pub root-step : IsRoot s most_tours new
   root-step =
       record {
         branch = noted b prices cars;
         lone = lone;
-        at = noted-branch fits s most_tours few_cars (root_place s) b prices cars is.at is.leaf rounds_few is.begins answers;
+        at = noted-branch s most_tours few_cars (root_place s) b prices cars is.at is.leaf rounds_few is.begins answers;
         leaf = is.leaf;
         rounds = (let same = is.rounds in let count = count_is in omega (arith, same, count));
         begins = λ none. absurd (omega (arith, none));
@@ -159,10 +159,10 @@ if_some : {X : Type 0} (P Q : X → Type 0) → ((x : X) → P x → Q x) → (o
 if_some P Q f None h = tt
 if_some P Q f (Some x) h = f x h
 
-pub feasible_tours : (fits : Fits) (s s' : Snapshot) (most_tours : ℕ) (node : Node) (prices : List ℤ) (cars : List TurnOf) → s' ≡ s → AreAnswersIn fits s most_tours node prices cars → AreToursOf s' cars
-feasible_tours fits s s' most_tours node prices cars same answers c lt =
+pub feasible_tours : (s s' : Snapshot) (most_tours : ℕ) (node : Node) (prices : List ℤ) (cars : List TurnOf) → s' ≡ s → AreAnswersIn s most_tours node prices cars → AreToursOf s' cars
+feasible_tours s s' most_tours node prices cars same answers c lt =
     if_some (IsTourIn s node c) (IsFeasible s' c) (λ t within. subst (λ (x : Snapshot). IsFeasible x c t) (sym same) within.feasible) (get_or cars c no_turn).tour ((answers.each c (let count = answers.count in omega (arith, lt, count))).within)
 
-pub below_tours : (fits : Fits) (s : Snapshot) (most_tours : ℕ) (node : Node) (prices : List ℤ) (cars : List TurnOf) → call_count s ≤ 128 → AreAnswersIn fits s most_tours node prices cars → BoardBelow cars
-below_tours fits s most_tours node prices cars few answers c lt =
+pub below_tours : (s : Snapshot) (most_tours : ℕ) (node : Node) (prices : List ℤ) (cars : List TurnOf) → call_count s ≤ 128 → AreAnswersIn s most_tours node prices cars → BoardBelow cars
+below_tours s most_tours node prices cars few answers c lt =
     if_some (IsTourIn s node c) BoardsBelow (λ t within j boards. (let below = boarded-below s c t j within.feasible boards in omega (arith, below, few))) (get_or cars c no_turn).tour ((answers.each c (let count = answers.count in omega (arith, lt, count))).within)

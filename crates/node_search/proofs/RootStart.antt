@@ -1,29 +1,28 @@
 -- The root before its first turn, and after the turns that are due.
-use Rattle.std.proofs.Common.{rules, ◌≡◌, ℕ, ◌≤◌, ◌<◌, List, length, refl, sym, ap, ◌∙◌, subst, arith}
-use Rattle.std.specs.Prelude.{ℤ, All, None, pos}
+use Rattle.std.proofs.Common.{rules, ◌≡◌, ℕ, List, length, refl, sym, ap, ◌∙◌, subst, arith}
+use Rattle.std.specs.Prelude.{All, pos}
 use Rattle.std.proofs.lemmas.Int.{ints}
 use Rattle.elevator_model.specs.Snapshot.{Snapshot}
 use Rattle.search_model.specs.declared.Turn.{Turn}
 use Rattle.search_model.specs.Nodes.{root_of}
 use Rattle.search_model.specs.Certificates.{root_place}
-use Rattle.search_model.specs.Solving.{Fits, AreRootTurns, greatest_price}
-use Rattle.restricted_master.specs.Pools.{tours_of_car}
+use Rattle.search_model.specs.Solving.{AreRootTurns, greatest_price}
 use Rattle.search_tree.specs.declared.branches.Branch.{Branch}
 use Rattle.search_tree.specs.Sheets.{PriceSheet, sum_of_sheet}
 use Rattle.search_tree.specs.Branches.{at_place, leaf_at}
 use Rattle.search_tree.specs.Standing.{IsBranchAt, IsLeafIn, IsSheetIn}
 use Rattle.node_search.specs.declared.root.Root.{Root}
-use Rattle.node_search.specs.Roots.{IsRoot, IsNewRoot, IsPooled, IsTurnBelow, HasTurned, due_prices, leaf_of_root, start_of_turns}
+use Rattle.node_search.specs.Roots.{IsRoot, IsNewRoot, IsPooled, IsTurnBelow, HasTurned, due_prices, start_of_turns}
 use Rattle.node_search.specs.Found.{HasDueTurns, IsTurned}
 
-module _ (fits : Fits) (s : Snapshot) (most_tours : ℕ) (start : PriceSheet) (root : Root) (is : IsNewRoot s start root) (within : IsSheetIn fits s most_tours (root_of s) start) where
+module _ (s : Snapshot) (most_tours : ℕ) (start : PriceSheet) (root : Root) (is : IsNewRoot s start root) (within : IsSheetIn s (root_of s) start) where
   abbrev branch : Branch
   branch = leaf_at (root_of s) start 0
 
-  in_leaf : IsLeafIn fits s most_tours (root_of s) branch
+  in_leaf : IsLeafIn s most_tours (root_of s) branch
   in_leaf = record { sheet = within; priced = λ lt. absurd (omega (arith, lt)); spent = tt }
 
-  at : IsBranchAt fits s most_tours (root_place s) branch
+  at : IsBranchAt s most_tours (root_place s) branch
   at =
       record {
         node = refl;
@@ -36,7 +35,7 @@ module _ (fits : Fits) (s : Snapshot) (most_tours : ℕ) (start : PriceSheet) (r
   none : length root.turns.items ≡ 0
   none = ap length is.turns
 
-  pub new_root : IsRoot fits s most_tours root
+  pub new_root : IsRoot s most_tours root
   new_root =
       record {
         branch = branch;
@@ -58,7 +57,7 @@ module _ (fits : Fits) (s : Snapshot) (most_tours : ℕ) (start : PriceSheet) (r
         covered = λ lt. absurd (let no = none in omega (arith, lt, no));
       }
 
-  pub turned_is : (rounds : ℕ) (new : Root) → IsRoot fits s most_tours new → HasTurned root new → HasDueTurns s rounds new → IsTurned fits s rounds most_tours start new
+  pub turned_is : (rounds : ℕ) (new : Root) → IsRoot s most_tours new → HasTurned root new → HasDueTurns s rounds new → IsTurned s rounds most_tours start new
   turned_is rounds new stands turned due =
       record {
         stands = stands;

@@ -15,7 +15,6 @@ use Rattle.search_tree.proofs.TreeLaws.{leaf_of_kind}
 use Rattle.elevator_model.specs.Snapshot.{Snapshot, car_count, call_count}
 use Rattle.search_model.specs.declared.TurnOf.{TurnOf}
 use Rattle.search_model.specs.Nodes.{Node, IsNodeOf, root_of}
-use Rattle.search_model.specs.Solving.{Fits}
 use Rattle.search_tree.specs.Answers.{AreAnswersIn}
 use Rattle.pricing_rounds.specs.declared.tasks.Task.{Task}
 use Rattle.pricing_rounds.specs.Rounds.{AreAnswersOf}
@@ -27,36 +26,36 @@ use Rattle.node_search.specs.Roots.{IsRoot, IsPooled, HasTurned, HasOneTurn, lea
 use Rattle.node_search.proofs.TurnLists.{start-more}
 
 -- the answers to one task alone are those of its node
-pub one_task : (fits : Fits) (s : Snapshot) (most_tours : ℕ) (node : Node) (prices : List ℤ) (task : Task) (cars : ℕ) (answers : List TurnOf) → AreAnswersOf fits s most_tours (task ∷ []) cars answers → task.node.now ≡ node → task.prices.now ≡ prices → cars ≡ car_count s → length answers ≡ 1 * cars → IsNodeOf s node → length prices ≡ call_count s → AreAnswersIn fits s most_tours node prices answers
-one_task fits s most_tours node prices task cars answers right node_is prices_is all count is calls =
-    let given : AreAnswersIn fits s most_tours task.node.now task.prices.now (take cars (drop (0 * cars) answers)) = answers_in fits s most_tours (task ∷ []) cars answers 0 task all count refl (record { node = subst (IsNodeOf s) (sym node_is) is; prices = ap length prices_is ∙ calls }) right in
+pub one_task : (s : Snapshot) (most_tours : ℕ) (node : Node) (prices : List ℤ) (task : Task) (cars : ℕ) (answers : List TurnOf) → AreAnswersOf s most_tours (task ∷ []) cars answers → task.node.now ≡ node → task.prices.now ≡ prices → cars ≡ car_count s → length answers ≡ 1 * cars → IsNodeOf s node → length prices ≡ call_count s → AreAnswersIn s most_tours node prices answers
+one_task s most_tours node prices task cars answers right node_is prices_is all count is calls =
+    let given : AreAnswersIn s most_tours task.node.now task.prices.now (take cars (drop (0 * cars) answers)) = answers_in s most_tours (task ∷ []) cars answers 0 task all count refl (record { node = subst (IsNodeOf s) (sym node_is) is; prices = ap length prices_is ∙ calls }) right in
     let none : 0 * cars ≡ 0 = omega arith in
     let whole : take cars (drop (0 * cars) answers) ≡ answers = ap (λ (n : ℕ). take cars (drop n answers)) none ∙ take_all cars answers (omega (arith, count)) in
-    subst (AreAnswersIn fits s most_tours node prices) whole (subst (λ (ps : List ℤ). AreAnswersIn fits s most_tours node ps (take cars (drop (0 * cars) answers))) prices_is (subst (λ (n : Node). AreAnswersIn fits s most_tours n task.prices.now (take cars (drop (0 * cars) answers))) node_is given))
+    subst (AreAnswersIn s most_tours node prices) whole (subst (λ (ps : List ℤ). AreAnswersIn s most_tours node ps (take cars (drop (0 * cars) answers))) prices_is (subst (λ (n : Node). AreAnswersIn s most_tours n task.prices.now (take cars (drop (0 * cars) answers))) node_is given))
 
 -- ---- what stands of a root
 
-pub root_leaf : (fits : Fits) (s : Snapshot) (most_tours : ℕ) (root : Root) (is : IsRoot fits s most_tours root) → IsLeafIn fits s most_tours is.branch.node is.branch
-root_leaf fits s most_tours root is = leaf_of_kind fits s most_tours is.branch.node is.branch is.leaf is.at.kind
+pub root_leaf : (s : Snapshot) (most_tours : ℕ) (root : Root) (is : IsRoot s most_tours root) → IsLeafIn s most_tours is.branch.node is.branch
+root_leaf s most_tours root is = leaf_of_kind s most_tours is.branch.node is.branch is.leaf is.at.kind
 
-pub root_calls : (fits : Fits) (s : Snapshot) (most_tours : ℕ) (root : Root) → IsRoot fits s most_tours root → length root.prices.items ≡ call_count s
-root_calls fits s most_tours root is = is.calls ∙ (root_leaf fits s most_tours root is).sheet.calls
+pub root_calls : (s : Snapshot) (most_tours : ℕ) (root : Root) → IsRoot s most_tours root → length root.prices.items ≡ call_count s
+root_calls s most_tours root is = is.calls ∙ (root_leaf s most_tours root is).sheet.calls
 
-pub root_node : (fits : Fits) (s : Snapshot) (most_tours : ℕ) (root : Root) → IsRoot fits s most_tours root → IsNodeOf s (root_of s)
-root_node fits s most_tours root is = subst (IsNodeOf s) is.at.node is.at.is_node
+pub root_node : (s : Snapshot) (most_tours : ℕ) (root : Root) → IsRoot s most_tours root → IsNodeOf s (root_of s)
+root_node s most_tours root is = subst (IsNodeOf s) is.at.node is.at.is_node
 
-pub root_branch : (fits : Fits) (s : Snapshot) (most_tours : ℕ) (root : Root) (is : IsRoot fits s most_tours root) → leaf_of_root root ≡ is.branch
-root_branch fits s most_tours root is = ap (λ (tree : List Branch). at_place tree 0) is.lone
+pub root_branch : (s : Snapshot) (most_tours : ℕ) (root : Root) (is : IsRoot s most_tours root) → leaf_of_root root ≡ is.branch
+root_branch s most_tours root is = ap (λ (tree : List Branch). at_place tree 0) is.lone
 
-pub root_lone : (fits : Fits) (s : Snapshot) (most_tours : ℕ) (root : Root) → IsRoot fits s most_tours root → length root.tree.branches ≡ 1
-root_lone fits s most_tours root is = ap length is.lone
+pub root_lone : (s : Snapshot) (most_tours : ℕ) (root : Root) → IsRoot s most_tours root → length root.tree.branches ≡ 1
+root_lone s most_tours root is = ap length is.lone
 
 -- ---- one turn
 
-module _ (fits : Fits) (s : Snapshot) (most_tours : ℕ) (old new : Root) (cars : List TurnOf) (is : IsRoot fits s most_tours old) (given : AreAnswersIn fits s most_tours (root_of s) old.prices.items cars) (tree : new.tree.branches ≡ set old.tree.branches 0 (noted (at_place old.tree.branches 0) old.prices.items cars)) (turns : new.turns.items ≡ old.turns.items ++ turn_with old.prices.items cars ∷ []) where
-  sheet : IsNotedSheet fits s most_tours is.branch.node is.branch.sheet (sheet_of_turn old.prices.items cars) (noted is.branch old.prices.items cars).sheet
+module _ (s : Snapshot) (most_tours : ℕ) (old new : Root) (cars : List TurnOf) (is : IsRoot s most_tours old) (given : AreAnswersIn s most_tours (root_of s) old.prices.items cars) (tree : new.tree.branches ≡ set old.tree.branches 0 (noted (at_place old.tree.branches 0) old.prices.items cars)) (turns : new.turns.items ≡ old.turns.items ++ turn_with old.prices.items cars ∷ []) where
+  sheet : IsNotedSheet s most_tours is.branch.node is.branch.sheet (sheet_of_turn old.prices.items cars) (noted is.branch old.prices.items cars).sheet
   sheet =
-      noted-sheet fits s most_tours is.branch.node is.branch old.prices.items cars (root_leaf fits s most_tours old is) is.begins (subst (λ (n : Node). AreAnswersIn fits s most_tours n old.prices.items cars) (sym is.at.node) given)
+      noted-sheet s most_tours is.branch.node is.branch old.prices.items cars (root_leaf s most_tours old is) is.begins (subst (λ (n : Node). AreAnswersIn s most_tours n old.prices.items cars) (sym is.at.node) given)
 
   new_leaf : leaf_of_root new ≡ noted is.branch old.prices.items cars
   new_leaf =
@@ -66,14 +65,14 @@ module _ (fits : Fits) (s : Snapshot) (most_tours : ℕ) (old new : Root) (cars 
   has_turned cheaper =
       record {
         start = ap (λ (ts : List Turn). start_of_turns ts new.prices.items) turns ∙ start-more old.turns.items (turn_with old.prices.items cars) new.prices.items;
-        rises = (let up = sheet.rises in let was = ap (λ (b : Branch). sum_of_sheet b.sheet) (root_branch fits s most_tours old is) in let now = ap (λ (b : Branch). sum_of_sheet b.sheet) new_leaf in omega (arith, ints, up, was, now));
+        rises = (let up = sheet.rises in let was = ap (λ (b : Branch). sum_of_sheet b.sheet) (root_branch s most_tours old is) in let now = ap (λ (b : Branch). sum_of_sheet b.sheet) new_leaf in omega (arith, ints, up, was, now));
         cheaper = cheaper;
       }
 
   pub turns_more : length new.turns.items ≡ length old.turns.items + 1
   turns_more = ap length turns ∙ length-append old.turns.items (turn_with old.prices.items cars ∷ [])
 
-  pub has_one_turn : old.turns.items ≡ [] → HasOneTurn fits s most_tours new
+  pub has_one_turn : old.turns.items ≡ [] → HasOneTurn s most_tours new
   has_one_turn none =
       record {
         turn = turn_with old.prices.items cars;
@@ -98,8 +97,8 @@ turned-more a b c h i =
 
 -- ---- a cheaper plan
 
-pub root-cheaper : (fits : Fits) (s : Snapshot) (most_tours : ℕ) (old : Root) (best : Best) → IsRoot fits s most_tours old → IsBest s best → best.pool ≡ old.best.pool → best.cost ≤ old.best.cost → IsRoot fits s most_tours (record { tree = old.tree; best = best; turns = old.turns; prices = old.prices; step = old.step })
-root-cheaper fits s most_tours old best is is_best pool cheaper =
+pub root-cheaper : (s : Snapshot) (most_tours : ℕ) (old : Root) (best : Best) → IsRoot s most_tours old → IsBest s best → best.pool ≡ old.best.pool → best.cost ≤ old.best.cost → IsRoot s most_tours (record { tree = old.tree; best = best; turns = old.turns; prices = old.prices; step = old.step })
+root-cheaper s most_tours old best is is_best pool cheaper =
     record {
       branch = is.branch;
       lone = is.lone;

@@ -8,7 +8,6 @@ use Rattle.std.proofs.lemmas.Option.{slice_get_within, slice_get-get_or, get_or_
 use Rattle.elevator_model.specs.Snapshot.{Snapshot, car_count, call_count}
 use Rattle.search_model.specs.declared.TurnOf.{TurnOf}
 use Rattle.search_model.specs.Nodes.{Node, IsNodeOf}
-use Rattle.search_model.specs.Solving.{Fits}
 use Rattle.search_model.specs.Certificates.{root_place}
 use Rattle.search_tree.specs.declared.branches.Branch.{Branch}
 use Rattle.search_tree.specs.Branches.{at_place}
@@ -94,14 +93,14 @@ taken_busy s x chosen c at taken rest =
 
 -- ---- what it asks
 
-module _ (fits : Fits) (s : Snapshot) (most_tours : ℕ) (x : Search) (chosen : List Chosen) (way : IsUnderWay fits s most_tours x) (taken : AreTaken s x chosen) where
+module _ (s : Snapshot) (most_tours : ℕ) (x : Search) (chosen : List Chosen) (way : IsUnderWay s most_tours x) (taken : AreTaken s x chosen) where
   taken-at : (i : ℕ) (c : Chosen) → slice_get chosen i ≡ Some c → IsTaken s x c
   taken-at i c at = subst (IsTaken s x) (get_or_from_slice_get chosen i c c at) (taken.each i c (slice_get_within chosen i c at))
 
-  stands : (k : ℕ) → k < length x.tree.branches → (at_place x.tree.branches k).split ≡ None → IsLeafIn fits s most_tours (at_place x.tree.branches k).node (at_place x.tree.branches k)
+  stands : (k : ℕ) → k < length x.tree.branches → (at_place x.tree.branches k).split ≡ None → IsLeafIn s most_tours (at_place x.tree.branches k).node (at_place x.tree.branches k)
   stands k lt leaf =
-      let at = stand-at (IsBranchAt fits s most_tours) k (root_place s ∷ []) x.tree.branches lt way.tree.branches in
-      leaf_of_kind fits s most_tours (at_place x.tree.branches k).node (at_place x.tree.branches k) leaf at.1.kind
+      let at = stand-at (IsBranchAt s most_tours) k (root_place s ∷ []) x.tree.branches lt way.tree.branches in
+      leaf_of_kind s most_tours (at_place x.tree.branches k).node (at_place x.tree.branches k) leaf at.1.kind
 
   -- a leaf that a round may price was priced in fewer rounds than are made
   few_rounds : (k : ℕ) → k < length x.tree.branches → IsWanted s x.best.cost (at_place x.tree.branches k) → (at_place x.tree.branches k).rounds < 20
@@ -116,7 +115,7 @@ module _ (fits : Fits) (s : Snapshot) (most_tours : ℕ) (x : Search) (chosen : 
 
   task_is : (c : Chosen) (task : Task) → IsTaken s x c → IsTaskFor x c task → IsTaskOf s task
   task_is c task it for =
-      let at = stand-at (IsBranchAt fits s most_tours) c.place (root_place s ∷ []) x.tree.branches it.within way.tree.branches in
+      let at = stand-at (IsBranchAt s most_tours) c.place (root_place s ∷ []) x.tree.branches it.within way.tree.branches in
       record {
         node = subst (IsNodeOf s) (sym for.node) at.1.is_node;
         prices = ap length for.prices ∙ it.calls ∙ (stands c.place it.within it.wanted.leaf).sheet.calls;
@@ -134,7 +133,7 @@ module _ (fits : Fits) (s : Snapshot) (most_tours : ℕ) (x : Search) (chosen : 
           | inr past ↦ (let end = past.0 in absurd (omega (arith, lt, count, end)))
         ]
 
-    pub priced_are : (cars : ℕ) (answers : List TurnOf) → cars ≡ car_count s → length answers ≡ length tasks * cars → AreAnswersOf fits s most_tours tasks cars answers → ArePriced fits s most_tours x chosen answers
+    pub priced_are : (cars : ℕ) (answers : List TurnOf) → cars ≡ car_count s → length answers ≡ length tasks * cars → AreAnswersOf s most_tours tasks cars answers → ArePriced s most_tours x chosen answers
     priced_are cars answers all count right =
         let same = asked.count in
         record {
@@ -147,13 +146,13 @@ module _ (fits : Fits) (s : Snapshot) (most_tours : ℕ) (x : Search) (chosen : 
                     (let task = there.0 in
                     let for = asked.each i c task at there.2 in
                     let is = task_is c task it for in
-                    let answers_here = answers_in fits s most_tours tasks cars answers i task all count there.2 is right in
+                    let answers_here = answers_in s most_tours tasks cars answers i task all count there.2 is right in
                     record {
                       within = it.within;
                       leaf = it.wanted.leaf;
                       few = few_rounds c.place it.within it.wanted;
                       begins = it.begins;
-                      answers = subst (λ (n : ℕ). AreAnswersIn fits s most_tours (at_place x.tree.branches c.place).node c.prices.items (take n (drop (i * n) answers))) all (subst (λ (ps : List ℤ). AreAnswersIn fits s most_tours (at_place x.tree.branches c.place).node ps (take cars (drop (i * cars) answers))) for.prices (subst (λ (n : Node). AreAnswersIn fits s most_tours n task.prices.now (take cars (drop (i * cars) answers))) for.node answers_here));
+                      answers = subst (λ (n : ℕ). AreAnswersIn s most_tours (at_place x.tree.branches c.place).node c.prices.items (take n (drop (i * n) answers))) all (subst (λ (ps : List ℤ). AreAnswersIn s most_tours (at_place x.tree.branches c.place).node ps (take cars (drop (i * cars) answers))) for.prices (subst (λ (n : Node). AreAnswersIn s most_tours n task.prices.now (take cars (drop (i * cars) answers))) for.node answers_here));
                     })
                 | inr past ↦ (let end = past.0 in absurd (omega (arith, lt, same, end)))
               ];
@@ -182,15 +181,15 @@ advanced_more s n place old mid new so_far this =
     }
 
 -- the pricings of the leaves from the k-th on were taken in
-pub record HasTakenFrom (fits : Fits) (s : Snapshot) (most_tours : ℕ) (chosen : List Chosen) (k : ℕ) (old now : Search) : Type 0 where
+pub record HasTakenFrom (s : Snapshot) (most_tours : ℕ) (chosen : List Chosen) (k : ℕ) (old now : Search) : Type 0 where
   pub within : k ≤ length chosen
-  pub way : IsUnderWay fits s most_tours now
+  pub way : IsUnderWay s most_tours now
   pub advanced : (n : ℕ) → k + n ≡ length chosen → HasAdvanced s n old now
   pub longer : length old.tree.branches ≤ length now.tree.branches
   pub same : (i : ℕ) (c : Chosen) → i < k → slice_get chosen i ≡ Some c → at_place now.tree.branches c.place ≡ at_place old.tree.branches c.place
 
-pub taken_none : (fits : Fits) (s : Snapshot) (most_tours : ℕ) (chosen : List Chosen) (x : Search) → IsUnderWay fits s most_tours x → HasTakenFrom fits s most_tours chosen (length chosen) x x
-taken_none fits s most_tours chosen x way =
+pub taken_none : (s : Snapshot) (most_tours : ℕ) (chosen : List Chosen) (x : Search) → IsUnderWay s most_tours x → HasTakenFrom s most_tours chosen (length chosen) x x
+taken_none s most_tours chosen x way =
     record {
       within = omega arith;
       way = way;
@@ -199,22 +198,22 @@ taken_none fits s most_tours chosen x way =
       same = λ i c lt at. refl;
     }
 
-pub pricing_kept : (fits : Fits) (s : Snapshot) (most_tours : ℕ) (old now : Search) (place : ℕ) (prices : List ℤ) (cars : List TurnOf) → length old.tree.branches ≤ length now.tree.branches → at_place now.tree.branches place ≡ at_place old.tree.branches place → IsPricingOf fits s most_tours old place prices cars → IsPricingOf fits s most_tours now place prices cars
-pricing_kept fits s most_tours old now place prices cars longer same it =
+pub pricing_kept : (s : Snapshot) (most_tours : ℕ) (old now : Search) (place : ℕ) (prices : List ℤ) (cars : List TurnOf) → length old.tree.branches ≤ length now.tree.branches → at_place now.tree.branches place ≡ at_place old.tree.branches place → IsPricingOf s most_tours old place prices cars → IsPricingOf s most_tours now place prices cars
+pricing_kept s most_tours old now place prices cars longer same it =
     let within = it.within in
     record {
       within = omega (arith, within, longer);
       leaf = ap (λ (b : Branch). b.split) same ∙ it.leaf;
       few = subst (λ (b : Branch). b.rounds < 20) (sym same) it.few;
       begins = λ new. ap (λ (b : Branch). b.sheet.prices) same ∙ it.begins (ap (λ (b : Branch). b.rounds) (sym same) ∙ new);
-      answers = subst (λ (b : Branch). AreAnswersIn fits s most_tours b.node prices cars) (sym same) it.answers;
+      answers = subst (λ (b : Branch). AreAnswersIn s most_tours b.node prices cars) (sym same) it.answers;
     }
 
-module _ (fits : Fits) (s : Snapshot) (most_tours : ℕ) (chosen : List Chosen) (answers : List TurnOf) (old : Search) (priced : ArePriced fits s most_tours old chosen answers) (k : ℕ) (c : Chosen) (at : slice_get chosen k ≡ Some c) (mid : Search) (so_far : HasTakenFrom fits s most_tours chosen (k + 1) old mid) where
-  pub next_pricing : IsPricingOf fits s most_tours mid c.place c.prices.items (take (car_count s) (drop (k * car_count s) answers))
-  next_pricing = pricing_kept fits s most_tours old mid c.place c.prices.items (take (car_count s) (drop (k * car_count s) answers)) so_far.longer (so_far.same k c (omega arith) at) (priced.each k c at)
+module _ (s : Snapshot) (most_tours : ℕ) (chosen : List Chosen) (answers : List TurnOf) (old : Search) (priced : ArePriced s most_tours old chosen answers) (k : ℕ) (c : Chosen) (at : slice_get chosen k ≡ Some c) (mid : Search) (so_far : HasTakenFrom s most_tours chosen (k + 1) old mid) where
+  pub next_pricing : IsPricingOf s most_tours mid c.place c.prices.items (take (car_count s) (drop (k * car_count s) answers))
+  next_pricing = pricing_kept s most_tours old mid c.place c.prices.items (take (car_count s) (drop (k * car_count s) answers)) so_far.longer (so_far.same k c (omega arith) at) (priced.each k c at)
 
-  pub taken_more : (new : Search) → IsUnderWay fits s most_tours new → HasSettled s mid new c.place → HasTakenFrom fits s most_tours chosen k old new
+  pub taken_more : (new : Search) → IsUnderWay s most_tours new → HasSettled s mid new c.place → HasTakenFrom s most_tours chosen k old new
   taken_more new way this =
       let within = so_far.within in
       let longer = so_far.longer in
@@ -232,14 +231,14 @@ module _ (fits : Fits) (s : Snapshot) (most_tours : ℕ) (chosen : List Chosen) 
 
 -- ---- the round
 
-pub round_searching : (fits : Fits) (s : Snapshot) (most_tours n : ℕ) (old mid new : Search) → IsSearching fits s most_tours old → 0 < n → n ≤ 4 → IsUnderWay fits s most_tours mid → HasAdvanced s n old mid → IsBest s new.best → new.best.cost ≤ mid.best.cost → new.tree.branches ≡ mid.tree.branches → new.done ≡ old.done + 1 → IsSearching fits s most_tours new
-round_searching fits s most_tours n old mid new was some few way advanced best cheaper tree done =
+pub round_searching : (s : Snapshot) (most_tours n : ℕ) (old mid new : Search) → IsSearching s most_tours old → 0 < n → n ≤ 4 → IsUnderWay s most_tours mid → HasAdvanced s n old mid → IsBest s new.best → new.best.cost ≤ mid.best.cost → new.tree.branches ≡ mid.tree.branches → new.done ≡ old.done + 1 → IsSearching s most_tours new
+round_searching s most_tours n old mid new was some few way advanced best cheaper tree done =
     let pricings = was.pricings in
     let size = was.size in
     let pricings' = advanced.pricings in
     let size' = advanced.size in
     record {
-      under_way = record { best = best; tree = subst (IsTreeOf fits s most_tours new.best.cost) (sym tree) (tree-cheaper fits s most_tours mid.best.cost new.best.cost mid.tree.branches cheaper way.tree) };
+      under_way = record { best = best; tree = subst (IsTreeOf s most_tours new.best.cost) (sym tree) (tree-cheaper s most_tours mid.best.cost new.best.cost mid.tree.branches cheaper way.tree) };
       begun = omega (arith, done);
       pricings = subst (λ (t : List Branch). new.done ≤ pricings_of t) (sym tree) (omega (arith, done, pricings, pricings', some));
       size = subst (λ (t : List Branch). length t ≤ 8 * new.done + 1) (sym tree) (omega (arith, done, size, size', few));

@@ -19,7 +19,7 @@ use Rattle.search_model.specs.declared.Twig.TheVariants.{Split, Leaf as Tip}
 use Rattle.search_model.specs.declared.StopReason.{StopReason}
 use Rattle.search_model.specs.declared.StopReason.TheVariants.{Solved, Rounds, Moves}
 use Rattle.search_model.specs.Certificates.{Place, places_after, root_place}
-use Rattle.search_model.specs.Solving.{Fits, HasChoice, IsFound, IsReason, IsOutOfMoves, is_split, bound_of_leaf, least_bound, sum_of_turn}
+use Rattle.search_model.specs.Solving.{HasChoice, IsFound, IsReason, IsOutOfMoves, is_split, bound_of_leaf, least_bound, sum_of_turn}
 use Rattle.search_tree.specs.declared.branches.SplitAt.{SplitAt}
 use Rattle.search_tree.specs.declared.branches.Branch.{Branch}
 use Rattle.search_tree.specs.Sheets.{PriceSheet, sum_of_sheet}
@@ -42,8 +42,8 @@ use Rattle.node_search.proofs.TurnPrices.{stored}
 use Rattle.node_search.proofs.SearchStart.{branches_alone, lone_stands, turns_above}
 
 -- what stands below the root stands after the rounds
-pub ended_of : (fits : Fits) (s : Snapshot) (rounds most_tours : ℕ) (start : PriceSheet) (turns : List Turn) (old new : Search) → IsBegun fits s rounds most_tours start turns old → IsSearching fits s most_tours new → HasRun s rounds old new → IsEnded fits s rounds most_tours start turns new
-ended_of fits s rounds most_tours start turns old new begun searching run =
+pub ended_of : (s : Snapshot) (rounds most_tours : ℕ) (start : PriceSheet) (turns : List Turn) (old new : Search) → IsBegun s rounds most_tours start turns old → IsSearching s most_tours new → HasRun s rounds old new → IsEnded s rounds most_tours start turns new
+ended_of s rounds most_tours start turns old new begun searching run =
     record {
       begun = record {
         searching = searching;
@@ -71,32 +71,32 @@ least-cost cost (Tip leaf ∷ twigs) =
     let is = int_min_is (bound_of_leaf leaf) (least_bound cost twigs) in
     omega (arith, ints, rest, is)
 
-pub bound_natural : (fits : Fits) (s : Snapshot) (most_tours : ℕ) (start : PriceSheet) (turns : List Turn) (tree : List Branch) (best : Best) → IsBest s best → HasTurnsAbove fits s most_tours start turns tree best.cost → pos 0 ≤ℤ sum_of_sheet start → pos 0 ≤ℤ least_of best.cost tree
-bound_natural fits s most_tours start turns tree best is above natural =
-    bound_exists fits s most_tours start tree best.plan best.cost above.sheet natural above.above_start is.feasible is.costs
+pub bound_natural : (s : Snapshot) (most_tours : ℕ) (start : PriceSheet) (turns : List Turn) (tree : List Branch) (best : Best) → IsBest s best → HasTurnsAbove s most_tours start turns tree best.cost → pos 0 ≤ℤ sum_of_sheet start → pos 0 ≤ℤ least_of best.cost tree
+bound_natural s most_tours start turns tree best is above natural =
+    bound_exists s start tree best.plan best.cost above.sheet natural above.above_start is.feasible is.costs
 
 -- ---- a root that is not open
 
 -- Its tree is one leaf, whose bound is not below the cost.
-pub found_solved : (fits : Fits) (s : Snapshot) (rounds most_tours : ℕ) (start : PriceSheet) (root : Root) (bound : ℕ) → 1 ≤ car_count s → IsTurned fits s rounds most_tours start root → pos root.best.cost ≤ℤ bound_of_sheet (leaf_of_root root).sheet → pos bound ≡ least_of root.best.cost root.tree.branches → IsFound fits start.prices (bound_of_sheet start) s rounds most_tours root.best.plan root.best.cost bound (map twig_of root.tree.branches) root.turns.items Solved
-found_solved fits s rounds most_tours start root bound cars turned closed bound_is =
-    found fits s rounds most_tours start root.turns.items root.tree.branches root.best.plan root.best.cost bound Solved (record {
+pub found_solved : (s : Snapshot) (rounds most_tours : ℕ) (start : PriceSheet) (root : Root) (bound : ℕ) → 1 ≤ car_count s → IsTurned s rounds most_tours start root → pos root.best.cost ≤ℤ bound_of_sheet (leaf_of_root root).sheet → pos bound ≡ least_of root.best.cost root.tree.branches → IsFound start.prices (bound_of_sheet start) s rounds most_tours root.best.plan root.best.cost bound (map twig_of root.tree.branches) root.turns.items Solved
+found_solved s rounds most_tours start root bound cars turned closed bound_is =
+    found s rounds most_tours start root.turns.items root.tree.branches root.best.plan root.best.cost bound Solved (record {
       sheet = above.sheet;
       root_turns = above.root_turns;
       few_turns = above.few_turns;
-      branches = branches_alone fits s rounds most_tours start root turned;
+      branches = branches_alone s rounds most_tours start root turned;
       above_start = above.above_start;
       above_turns = above.above_turns;
     }) (let one = ap length is.lone in omega (arith, one)) is.best.feasible is.best.costs bound_is many above.tours solved
   where
-    is : IsRoot fits s most_tours root
+    is : IsRoot s most_tours root
     is = turned.stands
 
-    above : HasTurnsAbove fits s most_tours start root.turns.items root.tree.branches root.best.cost
-    above = turns_above fits s rounds most_tours start root turned cars
+    above : HasTurnsAbove s most_tours start root.turns.items root.tree.branches root.best.cost
+    above = turns_above s rounds most_tours start root turned cars
 
     high : pos root.best.cost ≤ℤ bound_of_sheet is.branch.sheet
-    high = subst (λ (b : Branch). pos root.best.cost ≤ℤ bound_of_sheet b.sheet) (root_branch fits s most_tours root is) closed
+    high = subst (λ (b : Branch). pos root.best.cost ≤ℤ bound_of_sheet b.sheet) (root_branch s most_tours root is) closed
 
     leaves : AllInTree (IsAbove (pos root.best.cost)) s root.tree.branches
     leaves = subst (AllInTree (IsAbove (pos root.best.cost)) s) (sym is.lone) (lone_stands (IsAbove (pos root.best.cost)) s is.branch is.leaf (of_leaf (pos root.best.cost ≤ℤ bound_of_sheet is.branch.sheet) is.branch.split high))
@@ -116,18 +116,18 @@ found_solved fits s rounds most_tours start root bound cars turned closed bound_
 
 -- ---- a search below the root
 
-module _ (fits : Fits) (s : Snapshot) (rounds most_tours : ℕ) (start : PriceSheet) (turns : List Turn) (x : Search) (ended : IsEnded fits s rounds most_tours start turns x) where
+module _ (s : Snapshot) (rounds most_tours : ℕ) (start : PriceSheet) (turns : List Turn) (x : Search) (ended : IsEnded s rounds most_tours start turns x) where
   abbrev tree : List Branch
   tree = x.tree.branches
 
   abbrev cost : ℕ
   cost = x.best.cost
 
-  pub found_ended : (bound : ℕ) (why : StopReason) → pos bound ≡ least_of x.best.cost x.tree.branches → IsReason s rounds most_tours x.best.cost bound (map twig_of x.tree.branches) why → IsFound fits start.prices (bound_of_sheet start) s rounds most_tours x.best.plan x.best.cost bound (map twig_of x.tree.branches) turns why
+  pub found_ended : (bound : ℕ) (why : StopReason) → pos bound ≡ least_of x.best.cost x.tree.branches → IsReason s rounds most_tours x.best.cost bound (map twig_of x.tree.branches) why → IsFound start.prices (bound_of_sheet start) s rounds most_tours x.best.plan x.best.cost bound (map twig_of x.tree.branches) turns why
   found_ended bound why bound_is reason =
       let above = ended.begun.above in
       let way = ended.begun.searching.under_way in
-      found fits s rounds most_tours start turns x.tree.branches x.best.plan x.best.cost bound why (record {
+      found s rounds most_tours start turns x.tree.branches x.best.plan x.best.cost bound why (record {
         sheet = above.sheet;
         root_turns = above.root_turns;
         few_turns = above.few_turns;
@@ -183,12 +183,12 @@ module _ (fits : Fits) (s : Snapshot) (rounds most_tours : ℕ) (start : PriceSh
       let lt : bound < x.best.cost = omega (arith, ints, low, bound_is) in
       let way = ended.begun.searching.under_way in
       let all : x.done ≡ rounds = (elim ended.ended [ inl e ↦ e | inr rest ↦ (let at = below_at bound bound_is lt in absurd (left_spent at.0 at.1 rest (why.unspent rest at.0 at.1))) ]) in
-      out_of_rounds fits s rounds most_tours x.best.cost bound done x.tree.branches way.tree.priced way.tree.branches (subst (λ (n : ℕ). n ≤ pricings_of x.tree.branches) (sym why.done_is) ended.begun.searching.pricings) (why.done_is ∙ all) lt
+      out_of_rounds s rounds most_tours x.best.cost bound done x.tree.branches way.tree.priced way.tree.branches (subst (λ (n : ℕ). n ≤ pricings_of x.tree.branches) (sym why.done_is) ended.begun.searching.pricings) (why.done_is ∙ all) lt
   reason_is bound (Moves car count) bound_is why =
       let low = why.below in
       let lt : bound < x.best.cost = omega (arith, ints, low, bound_is) in
       let way = ended.begun.searching.under_way in
-      subst (λ (n : ℕ). IsOutOfMoves s most_tours x.best.cost bound car n (map twig_of x.tree.branches)) (sym why.count_is) (out_of_moves fits s most_tours x.best.cost bound car x.tree.branches why.place (stuck_all (root_place s ∷ []) x.tree.branches way.tree.resting why.rest) way.tree.priced way.tree.branches lt why.at.in_tree why.at.leaf why.at.below why.spent)
+      subst (λ (n : ℕ). IsOutOfMoves s most_tours x.best.cost bound car n (map twig_of x.tree.branches)) (sym why.count_is) (out_of_moves s most_tours x.best.cost bound car x.tree.branches why.place (stuck_all (root_place s ∷ []) x.tree.branches way.tree.resting why.rest) way.tree.priced way.tree.branches lt why.at.in_tree why.at.leaf why.at.below why.spent)
 
 -- ---- the bound in 64 bits
 
@@ -202,13 +202,13 @@ natural_cast z cost few low high =
 
 -- ---- the answer
 
-pub answer_found : (fits : Fits) (start : List ℤ) (least : ℤ) (s : Snapshot) (rounds most_tours : ℕ) (tree : List Branch) (best : Best) (turns : List Turn) (why : StopReason) (f : Found) → IsAnswerOf tree best turns why f → IsFound fits start least s rounds most_tours best.plan best.cost f.stated.bound (map twig_of tree) turns why → IsFound fits start least s rounds most_tours f.stated.plan f.stated.cost f.stated.bound f.tree.twigs f.turns f.why
-answer_found fits start least s rounds most_tours tree best turns why f is h =
-    let a = subst (λ (p : List (List Stop)). IsFound fits start least s rounds most_tours p best.cost f.stated.bound (map twig_of tree) turns why) (sym is.plan) h in
-    let b = subst (λ (n : ℕ). IsFound fits start least s rounds most_tours f.stated.plan n f.stated.bound (map twig_of tree) turns why) (sym is.cost) a in
-    let c = subst (λ (ts : List Twig). IsFound fits start least s rounds most_tours f.stated.plan f.stated.cost f.stated.bound ts turns why) (sym is.twigs) b in
-    let d = subst (λ (ts : List Turn). IsFound fits start least s rounds most_tours f.stated.plan f.stated.cost f.stated.bound f.tree.twigs ts why) (sym is.turns_are) c in
-    subst (λ (w : StopReason). IsFound fits start least s rounds most_tours f.stated.plan f.stated.cost f.stated.bound f.tree.twigs f.turns w) (sym is.why_is) d
+pub answer_found : (start : List ℤ) (least : ℤ) (s : Snapshot) (rounds most_tours : ℕ) (tree : List Branch) (best : Best) (turns : List Turn) (why : StopReason) (f : Found) → IsAnswerOf tree best turns why f → IsFound start least s rounds most_tours best.plan best.cost f.stated.bound (map twig_of tree) turns why → IsFound start least s rounds most_tours f.stated.plan f.stated.cost f.stated.bound f.tree.twigs f.turns f.why
+answer_found start least s rounds most_tours tree best turns why f is h =
+    let a = subst (λ (p : List (List Stop)). IsFound start least s rounds most_tours p best.cost f.stated.bound (map twig_of tree) turns why) (sym is.plan) h in
+    let b = subst (λ (n : ℕ). IsFound start least s rounds most_tours f.stated.plan n f.stated.bound (map twig_of tree) turns why) (sym is.cost) a in
+    let c = subst (λ (ts : List Twig). IsFound start least s rounds most_tours f.stated.plan f.stated.cost f.stated.bound ts turns why) (sym is.twigs) b in
+    let d = subst (λ (ts : List Turn). IsFound start least s rounds most_tours f.stated.plan f.stated.cost f.stated.bound f.tree.twigs ts why) (sym is.turns_are) c in
+    subst (λ (w : StopReason). IsFound start least s rounds most_tours f.stated.plan f.stated.cost f.stated.bound f.tree.twigs f.turns w) (sym is.why_is) d
 
 pub if_ok : {X E : Type 0} (r : Result X E) (P Q : X → Type 0) → ((x : X) → P x → Q x) → IfOk r P → IfOk r Q
 if_ok (Ok x) P Q f h = f x h

@@ -14,11 +14,10 @@ use Rattle.elevator_model.specs.Plans.{IsFeasiblePlan, tour_of}
 use Rattle.search_model.specs.declared.Turn.{Turn}
 use Rattle.search_model.specs.Nodes.{IsNodeOf, root_of, set_of, is_part}
 use Rattle.search_model.specs.Certificates.{Place, places_after, root_place}
-use Rattle.search_model.specs.Solving.{Fits, HasChoice, AreRootTurns, IsTourOfTurns, sum_of_turn, turn_of_car}
+use Rattle.search_model.specs.Solving.{HasChoice, AreRootTurns, IsTourOfTurns, sum_of_turn, turn_of_car}
 use Rattle.search_model.proofs.SetLemmas.{has-single, has-set_where}
 use Rattle.search_model.proofs.SnapshotNodes.{set_of-root}
 use Rattle.restricted_master.specs.Pools.{tours_of_car}
-use Rattle.assign_branch.specs.Pricings.{FitsInSplits}
 use Rattle.search_tree.specs.declared.branches.SplitAt.{SplitAt}
 use Rattle.search_tree.specs.declared.branches.Branch.{Branch}
 use Rattle.search_tree.specs.Sheets.{PriceSheet, sum_of_sheet}
@@ -66,7 +65,7 @@ choice_open s is_node choice single =
 
 -- ---- the turns' tours
 
-module _ (fits : Fits) (s : Snapshot) (most_tours : ℕ) (root : Root) (is : IsRoot fits s most_tours root) (cars : 1 ≤ car_count s) where
+module _ (s : Snapshot) (most_tours : ℕ) (root : Root) (is : IsRoot s most_tours root) (cars : 1 ≤ car_count s) where
   pooled_tour : (c : ℕ) (tour : List Stop) → c < car_count s → IsTourOfTurns root.turns.items c tour → Contains (tours_of_car root.best.pool c) tour
   pooled_tour c tour lt at = is.pooled at.0 at.1 at.2 c tour lt (ap (λ (t : Turn). (turn_of_car t c).tour) at.3 ∙ at.4)
 
@@ -87,25 +86,25 @@ pub lone_stands : (P : Holding) (s : Snapshot) (b : Branch) → b.split ≡ None
 lone_stands P s b leaf h =
     (h, subst (λ (x : Option SplitAt). AllStand P (places_after (root_place s) (twig_at x b.sheet) []) []) (sym leaf) tt)
 
-module _ (fits : Fits) (s : Snapshot) (rounds most_tours : ℕ) (start : PriceSheet) (root : Root) (turned : IsTurned fits s rounds most_tours start root) where
-  abbrev is : IsRoot fits s most_tours root
+module _ (s : Snapshot) (rounds most_tours : ℕ) (start : PriceSheet) (root : Root) (turned : IsTurned s rounds most_tours start root) where
+  abbrev is : IsRoot s most_tours root
   is = turned.stands
 
   abbrev b : Branch
   b = is.branch
 
   leaf_is : leaf_of_root root ≡ b
-  leaf_is = root_branch fits s most_tours root is
+  leaf_is = root_branch s most_tours root is
 
   -- a sum that is not above the leaf's
   at_least : (z : ℤ) → z ≤ℤ sum_of_sheet b.sheet → AllInTree (IsAtLeast z) s root.tree.branches
   at_least z le =
       subst (AllInTree (IsAtLeast z) s) (sym is.lone) (lone_stands (IsAtLeast z) s b is.leaf (of_leaf (z ≤ℤ sum_of_sheet b.sheet) b.split le))
 
-  pub branches_alone : AllInTree (IsBranchAt fits s most_tours) s root.tree.branches
-  branches_alone = subst (AllInTree (IsBranchAt fits s most_tours) s) (sym is.lone) (lone_stands (IsBranchAt fits s most_tours) s b is.leaf is.at)
+  pub branches_alone : AllInTree (IsBranchAt s most_tours) s root.tree.branches
+  branches_alone = subst (AllInTree (IsBranchAt s most_tours) s) (sym is.lone) (lone_stands (IsBranchAt s most_tours) s b is.leaf is.at)
 
-  pub turns_above : 1 ≤ car_count s → HasTurnsAbove fits s most_tours start root.turns.items root.tree.branches root.best.cost
+  pub turns_above : 1 ≤ car_count s → HasTurnsAbove s most_tours start root.turns.items root.tree.branches root.best.cost
   turns_above cars =
       record {
         sheet = turned.sheet;
@@ -113,11 +112,11 @@ module _ (fits : Fits) (s : Snapshot) (rounds most_tours : ℕ) (start : PriceSh
         few_turns = is.few_turns;
         above_start = at_least (sum_of_sheet start) (subst (λ (a : Branch). sum_of_sheet start ≤ℤ sum_of_sheet a.sheet) leaf_is turned.rises);
         above_turns = All-weaker (IsTurnBelow (sum_of_sheet b.sheet)) (λ (turn : Turn). AllInTree (IsAtLeast (sum_of_turn turn)) s root.tree.branches) (λ turn h. at_least (sum_of_turn turn) h) root.turns.items is.takes;
-        tours = turns_cheapest fits s most_tours root is cars;
+        tours = turns_cheapest s most_tours root is cars;
       }
 
   choice_many : HasChoice s → IsOpenRoot root → length root.turns.items ≡ min rounds 20
-  choice_many choice is_open = turned.due.many (choice_open s (root_node fits s most_tours root is) choice) is_open
+  choice_many choice is_open = turned.due.many (choice_open s (root_node s most_tours root is) choice) is_open
 
   -- ---- the root was priced, and is open
 
@@ -126,7 +125,7 @@ module _ (fits : Fits) (s : Snapshot) (rounds most_tours : ℕ) (start : PriceSh
     was = let some = turned.due.begun is_open in let same = is.rounds in omega (arith, some, same)
 
     priced : IsPricedAt s most_tours (root_place s) b
-    priced = priced-above fits s most_tours few_cars (root_place s) b is.at was
+    priced = priced-above s most_tours few_cars (root_place s) b is.at was
 
     -- it is not split
 
@@ -137,10 +136,10 @@ module _ (fits : Fits) (s : Snapshot) (rounds most_tours : ℕ) (start : PriceSh
           many = λ some most. (let below = few (λ single. some (subst (AreSingle (call_count s)) (sym is.at.node) single)) in let same = is.rounds in absurd (omega (arith, below, same, most)));
         }
 
-    tree_alone : ((AreSingle (call_count s) (root_of s) → ⊥) → length root.turns.items < 20) → IsTreeOf fits s most_tours root.best.cost root.tree.branches
+    tree_alone : ((AreSingle (call_count s) (root_of s) → ⊥) → length root.turns.items < 20) → IsTreeOf s most_tours root.best.cost root.tree.branches
     tree_alone few =
-        subst (IsTreeOf fits s most_tours root.best.cost) (sym is.lone) (record {
-          branches = lone_stands (IsBranchAt fits s most_tours) s b is.leaf is.at;
+        subst (IsTreeOf s most_tours root.best.cost) (sym is.lone) (record {
+          branches = lone_stands (IsBranchAt s most_tours) s b is.leaf is.at;
           priced = lone_stands (IsPricedAt s most_tours) s b is.leaf priced;
           resting = lone_stands (IsRestingAt s root.best.cost) s b is.leaf (of_leaf (IsResting s root.best.cost b) b.split (rests few));
         })
@@ -148,27 +147,27 @@ module _ (fits : Fits) (s : Snapshot) (rounds most_tours : ℕ) (start : PriceSh
     rounds_alone : pricings_of root.tree.branches ≡ length root.turns.items
     rounds_alone = ap pricings_of is.lone ∙ (let sum = sum_by-cons (λ (a : Branch). a.rounds) b [] in let same = is.rounds in omega (arith, sum, same))
 
-    pub begun_alone : (x : Search) → x.tree.branches ≡ root.tree.branches → x.best ≡ root.best → x.done ≡ length root.turns.items → ((AreSingle (call_count s) (root_of s) → ⊥) → length root.turns.items < 20) → IsBegun fits s rounds most_tours start root.turns.items x
+    pub begun_alone : (x : Search) → x.tree.branches ≡ root.tree.branches → x.best ≡ root.best → x.done ≡ length root.turns.items → ((AreSingle (call_count s) (root_of s) → ⊥) → length root.turns.items < 20) → IsBegun s rounds most_tours start root.turns.items x
     begun_alone x tree best done few =
         let cost : x.best.cost ≡ root.best.cost = ap (λ (a : Best). a.cost) best in
         record {
           searching = record {
             under_way = record {
               best = subst (IsBest s) (sym best) is.best;
-              tree = subst (λ (n : ℕ). IsTreeOf fits s most_tours n x.tree.branches) (sym cost) (subst (IsTreeOf fits s most_tours root.best.cost) (sym tree) (tree_alone few));
+              tree = subst (λ (n : ℕ). IsTreeOf s most_tours n x.tree.branches) (sym cost) (subst (IsTreeOf s most_tours root.best.cost) (sym tree) (tree_alone few));
             };
             begun = (let some = turned.due.begun is_open in omega (arith, some, done));
             pricings = (let same = ap pricings_of tree in let all = rounds_alone in omega (arith, same, all, done));
             size = (let one = ap length tree in let one' = ap length is.lone in omega (arith, one, one'));
           };
-          above = subst (HasTurnsAbove fits s most_tours start root.turns.items x.tree.branches) (sym cost) (subst (λ (bs : List Branch). HasTurnsAbove fits s most_tours start root.turns.items bs root.best.cost) (sym tree) (turns_above some_cars));
+          above = subst (HasTurnsAbove s most_tours start root.turns.items x.tree.branches) (sym cost) (subst (λ (bs : List Branch). HasTurnsAbove s most_tours start root.turns.items bs root.best.cost) (sym tree) (turns_above some_cars));
           few = (let most = turned.due.few in omega (arith, most, done));
           many = λ choice. choice_many choice is_open;
         }
 
     -- it is split
 
-    module _ (accepted : IsAccepted s) (splits : FitsInSplits fits s) (tree : List Branch) (split : IsSplit 0 root.tree.branches tree) where
+    module _ (tree : List Branch) (split : IsSplit 0 root.tree.branches tree) where
       part_is : is_part (set_of b.node split.call) split.part ≡ true
       part_is = subst (λ (a : Branch). is_part (set_of a.node split.call) split.part ≡ true) leaf_is split.is
 
@@ -178,26 +177,26 @@ module _ (fits : Fits) (s : Snapshot) (rounds most_tours : ℕ) (start : PriceSh
       is_split : tree ≡ noted_split same split.call split.part (b ∷ []) 0
       is_split = split.split ∙ ap (λ (bs : List Branch). split_tree bs 0 split.call split.part) is.lone
 
-      parts : (Q : Holding) → ((place : Place) → IsBranchAt fits s most_tours place b → Q place b → Q place (split_at b split.call split.part) × Q (first_place place split.call split.part) (first_part b split.call split.part) × Q (second_place place split.call split.part) (second_part b split.call split.part)) → Q (root_place s) b → AllInTree Q s tree
+      parts : (Q : Holding) → ((place : Place) → IsBranchAt s most_tours place b → Q place b → Q place (split_at b split.call split.part) × Q (first_place place split.call split.part) (first_part b split.call split.part) × Q (second_place place split.call split.part) (second_part b split.call split.part)) → Q (root_place s) b → AllInTree Q s tree
       parts Q f h =
-          subst (AllInTree Q s) (sym is_split) (stand-split (IsBranchAt fits s most_tours) Q same split.call split.part 0 (root_place s ∷ []) (b ∷ []) (omega arith) is.leaf f (lone_stands (IsBranchAt fits s most_tours) s b is.leaf is.at) (lone_stands Q s b is.leaf h))
+          subst (AllInTree Q s) (sym is_split) (stand-split (IsBranchAt s most_tours) Q same split.call split.part 0 (root_place s ∷ []) (b ∷ []) (omega arith) is.leaf f (lone_stands (IsBranchAt s most_tours) s b is.leaf is.at) (lone_stands Q s b is.leaf h))
 
-      tree_split : IsTreeOf fits s most_tours root.best.cost tree
+      tree_split : IsTreeOf s most_tours root.best.cost tree
       tree_split =
           record {
-            branches = parts (IsBranchAt fits s most_tours) (λ place p q. split-branches fits s most_tours few_cars accepted splits b split.call split.part split.small part_is is.at.is_node place p is.leaf) is.at;
-            priced = parts (IsPricedAt s most_tours) (λ place p q. split-priced fits s most_tours few_cars accepted splits b split.call split.part split.small part_is is.at.is_node place p is.leaf was) priced;
+            branches = parts (IsBranchAt s most_tours) (λ place p q. split-branches s most_tours few_cars b split.call split.part split.small part_is is.at.is_node place p is.leaf) is.at;
+            priced = parts (IsPricedAt s most_tours) (λ place p q. split-priced s most_tours few_cars b split.call split.part split.small part_is is.at.is_node place p is.leaf was) priced;
             resting = split_rests;
           }
         where
           split_rests : AllInTree (IsRestingAt s root.best.cost) s tree
-          split_rests = subst (AllInTree (IsRestingAt s root.best.cost) s) (sym is_split) (let three = split-resting fits s most_tours few_cars accepted splits b split.call split.part split.small part_is is.at.is_node root.best.cost (root_place s) in (three.0, (three.1, (three.2, tt))))
+          split_rests = subst (AllInTree (IsRestingAt s root.best.cost) s) (sym is_split) (let three = split-resting s most_tours few_cars b split.call split.part split.small part_is is.at.is_node root.best.cost (root_place s) in (three.0, (three.1, (three.2, tt))))
 
       least_split : (z : ℤ) → z ≤ℤ sum_of_sheet b.sheet → AllInTree (IsAtLeast z) s tree
       least_split z le =
           parts (IsAtLeast z) (λ place p q. (tt, le, le)) (of_leaf (z ≤ℤ sum_of_sheet b.sheet) b.split le)
 
-      turns_split : HasTurnsAbove fits s most_tours start root.turns.items tree root.best.cost
+      turns_split : HasTurnsAbove s most_tours start root.turns.items tree root.best.cost
       turns_split =
           record {
             sheet = turned.sheet;
@@ -205,7 +204,7 @@ module _ (fits : Fits) (s : Snapshot) (rounds most_tours : ℕ) (start : PriceSh
             few_turns = is.few_turns;
             above_start = least_split (sum_of_sheet start) (subst (λ (a : Branch). sum_of_sheet start ≤ℤ sum_of_sheet a.sheet) leaf_is turned.rises);
             above_turns = All-weaker (IsTurnBelow (sum_of_sheet b.sheet)) (λ (turn : Turn). AllInTree (IsAtLeast (sum_of_turn turn)) s tree) (λ turn h. least_split (sum_of_turn turn) h) root.turns.items is.takes;
-            tours = turns_cheapest fits s most_tours root is some_cars;
+            tours = turns_cheapest s most_tours root is some_cars;
           }
 
       rounds_split : pricings_of tree ≡ length root.turns.items
@@ -217,29 +216,29 @@ module _ (fits : Fits) (s : Snapshot) (rounds most_tours : ℕ) (start : PriceSh
           let same = is.rounds in
           omega (arith, one, two, three, same))
 
-      pub begun_split : (x : Search) → x.tree.branches ≡ tree → x.best ≡ root.best → x.done ≡ length root.turns.items → IsBegun fits s rounds most_tours start root.turns.items x
+      pub begun_split : (x : Search) → x.tree.branches ≡ tree → x.best ≡ root.best → x.done ≡ length root.turns.items → IsBegun s rounds most_tours start root.turns.items x
       begun_split x tree_is best done =
           let cost : x.best.cost ≡ root.best.cost = ap (λ (a : Best). a.cost) best in
           record {
             searching = record {
               under_way = record {
                 best = subst (IsBest s) (sym best) is.best;
-                tree = subst (λ (n : ℕ). IsTreeOf fits s most_tours n x.tree.branches) (sym cost) (subst (IsTreeOf fits s most_tours root.best.cost) (sym tree_is) tree_split);
+                tree = subst (λ (n : ℕ). IsTreeOf s most_tours n x.tree.branches) (sym cost) (subst (IsTreeOf s most_tours root.best.cost) (sym tree_is) tree_split);
               };
               begun = (let some = turned.due.begun is_open in omega (arith, some, done));
               pricings = (let same = ap pricings_of tree_is in let all = rounds_split in omega (arith, same, all, done));
               size = (let some = turned.due.begun is_open in let one = ap length tree_is in let three = ap length is_split in omega (arith, one, three, some, done));
             };
-            above = subst (HasTurnsAbove fits s most_tours start root.turns.items x.tree.branches) (sym cost) (subst (λ (bs : List Branch). HasTurnsAbove fits s most_tours start root.turns.items bs root.best.cost) (sym tree_is) turns_split);
+            above = subst (HasTurnsAbove s most_tours start root.turns.items x.tree.branches) (sym cost) (subst (λ (bs : List Branch). HasTurnsAbove s most_tours start root.turns.items bs root.best.cost) (sym tree_is) turns_split);
             few = (let most = turned.due.few in omega (arith, most, done));
             many = λ choice. choice_many choice is_open;
           }
 
 -- ---- the search that begins
 
-pub begun_is : (fits : Fits) (s : Snapshot) (rounds most_tours : ℕ) (start : PriceSheet) (root : Root) → IsTurned fits s rounds most_tours start root → IsAccepted s → car_count s ≤ 16 → FitsInSplits fits s → IsOpenRoot root → (x : Search) → x.best ≡ root.best → x.done ≡ length root.turns.items → IsSplit 0 root.tree.branches x.tree.branches ⊎ IsKeptRoot (call_count s) (length root.turns.items) root.tree.branches x.tree.branches → IsBegun fits s rounds most_tours start root.turns.items x
-begun_is fits s rounds most_tours start root turned accepted few_cars splits is_open x best done grown =
-    elim grown [ inl split ↦ begun_split fits s rounds most_tours start root turned few_cars accepted.building.cars_low is_open accepted splits x.tree.branches split x refl best done | inr kept ↦ begun_alone fits s rounds most_tours start root turned few_cars accepted.building.cars_low is_open x kept.same best done (λ many. kept.few (λ single. many (subst (AreSingle (call_count s)) root_node_is single))) ]
+pub begun_is : (s : Snapshot) (rounds most_tours : ℕ) (start : PriceSheet) (root : Root) → IsTurned s rounds most_tours start root → IsAccepted s → car_count s ≤ 16 → IsOpenRoot root → (x : Search) → x.best ≡ root.best → x.done ≡ length root.turns.items → IsSplit 0 root.tree.branches x.tree.branches ⊎ IsKeptRoot (call_count s) (length root.turns.items) root.tree.branches x.tree.branches → IsBegun s rounds most_tours start root.turns.items x
+begun_is s rounds most_tours start root turned accepted few_cars is_open x best done grown =
+    elim grown [ inl split ↦ begun_split s rounds most_tours start root turned few_cars accepted.building.cars_low is_open x.tree.branches split x refl best done | inr kept ↦ begun_alone s rounds most_tours start root turned few_cars accepted.building.cars_low is_open x kept.same best done (λ many. kept.few (λ single. many (subst (AreSingle (call_count s)) root_node_is single))) ]
   where
     root_node_is : (at_place root.tree.branches 0).node ≡ root_of s
-    root_node_is = ap (λ (b : Branch). b.node) (root_branch fits s most_tours root turned.stands) ∙ turned.stands.at.node
+    root_node_is = ap (λ (b : Branch). b.node) (root_branch s most_tours root turned.stands) ∙ turned.stands.at.node

@@ -6,14 +6,12 @@ use Rattle.std.proofs.lemmas.Bool.{and_parts, both_ways, not-true}
 use Rattle.std.proofs.lemmas.List.{length-set, get_or-set_other, get_or-set_same}
 use Rattle.call_sets.specs.Counting.{has, any_below}
 use Rattle.call_sets.proofs.BelowTests.{any_below-true}
-use Rattle.elevator_model.specs.Snapshot.{Snapshot, IsAccepted, car_count, call_count}
+use Rattle.elevator_model.specs.Snapshot.{Snapshot, car_count, call_count}
 use Rattle.search_model.specs.declared.TurnOf.{TurnOf}
 use Rattle.search_model.specs.Nodes.{Node, IsNodeOf, set_of, is_part}
-use Rattle.search_model.specs.Solving.{Fits}
 use Rattle.search_model.specs.Certificates.{Place, places_after, root_place}
 use Rattle.search_model.proofs.SetLemmas.{has-single}
 use Rattle.search_model.proofs.NodeLemmas.{part-from}
-use Rattle.assign_branch.specs.Pricings.{FitsInSplits}
 use Rattle.search_tree.specs.declared.branches.Branch.{Branch}
 use Rattle.search_tree.specs.declared.branches.SplitAt.{SplitAt}
 use Rattle.search_tree.specs.Sheets.{AreTurnSizes, sum_of_sheet, sheet_of_turn}
@@ -50,11 +48,11 @@ choice_none calls node None lone e = lone
 choice_none calls node (Some at) lone e = absurd (both_ways true e refl)
 
 -- the sizes of a pricing of a leaf, and its node
-module _ (fits : Fits) (s : Snapshot) (most_tours : ℕ) (x : Search) (k : ℕ) (prices : List ℤ) (cars : List TurnOf) (way : IsUnderWay fits s most_tours x) (pricing : IsPricingOf fits s most_tours x k prices cars) where
-  in_leaf : IsLeafIn fits s most_tours (at_place x.tree.branches k).node (at_place x.tree.branches k)
+module _ (s : Snapshot) (most_tours : ℕ) (x : Search) (k : ℕ) (prices : List ℤ) (cars : List TurnOf) (way : IsUnderWay s most_tours x) (pricing : IsPricingOf s most_tours x k prices cars) where
+  in_leaf : IsLeafIn s most_tours (at_place x.tree.branches k).node (at_place x.tree.branches k)
   in_leaf =
-      let at = stand-at (IsBranchAt fits s most_tours) k (root_place s ∷ []) x.tree.branches pricing.within way.tree.branches in
-      leaf_of_kind fits s most_tours (at_place x.tree.branches k).node (at_place x.tree.branches k) pricing.leaf at.1.kind
+      let at = stand-at (IsBranchAt s most_tours) k (root_place s ∷ []) x.tree.branches pricing.within way.tree.branches in
+      leaf_of_kind s most_tours (at_place x.tree.branches k).node (at_place x.tree.branches k) pricing.leaf at.1.kind
 
   pub pricing_calls : length prices ≡ length (at_place x.tree.branches k).sheet.prices
   pricing_calls = pricing.answers.calls ∙ sym in_leaf.sheet.calls
@@ -66,7 +64,7 @@ module _ (fits : Fits) (s : Snapshot) (most_tours : ℕ) (x : Search) (k : ℕ) 
   pricing_sizes = λ c lt. (pricing.answers.each c (let count = pricing.answers.count in omega (arith, lt, count))).size
 
   pub pricing_node : IsNodeOf s (at_place x.tree.branches k).node
-  pricing_node = (stand-at (IsBranchAt fits s most_tours) k (root_place s ∷ []) x.tree.branches pricing.within way.tree.branches).1.is_node
+  pricing_node = (stand-at (IsBranchAt s most_tours) k (root_place s ∷ []) x.tree.branches pricing.within way.tree.branches).1.is_node
 
 -- ---- the leaf after its pricing
 
@@ -88,7 +86,7 @@ single_rests s cost b single h = record { single = λ _ was none. h none; many =
 pub open_rests : (s : Snapshot) (cost call part : ℕ) (b : Branch) → call < call_count s → is_part (set_of b.node call) part ≡ true → (20 ≤ b.rounds → pos cost ≤ℤ bound_of_sheet b.sheet) → IsResting s cost b
 open_rests s cost call part b lt is h = record { single = λ single was none. absurd (single_no_part (call_count s) call part b.node lt is single); many = λ some most. h most }
 
-module _ (fits : Fits) (s : Snapshot) (most_tours : ℕ) (few_cars : car_count s ≤ 16) (old new : Search) (k : ℕ) (prices : List ℤ) (cars : List TurnOf) (way : IsUnderWay fits s most_tours old) (pricing : IsPricingOf fits s most_tours old k prices cars) (best : IsBest s new.best) (cheaper : new.best.cost ≤ old.best.cost) (done : new.done ≡ old.done) where
+module _ (s : Snapshot) (most_tours : ℕ) (few_cars : car_count s ≤ 16) (old new : Search) (k : ℕ) (prices : List ℤ) (cars : List TurnOf) (way : IsUnderWay s most_tours old) (pricing : IsPricingOf s most_tours old k prices cars) (best : IsBest s new.best) (cheaper : new.best.cost ≤ old.best.cost) (done : new.done ≡ old.done) where
   abbrev b : Branch
   b = at_place old.tree.branches k
 
@@ -98,10 +96,10 @@ module _ (fits : Fits) (s : Snapshot) (most_tours : ℕ) (few_cars : car_count s
   abbrev n : Branch → Branch
   n a = noted a prices cars
 
-  sheet : IsNotedSheet fits s most_tours b.node b.sheet (sheet_of_turn prices cars) noted_b.sheet
+  sheet : IsNotedSheet s most_tours b.node b.sheet (sheet_of_turn prices cars) noted_b.sheet
   sheet =
-      let at = stand-at (IsBranchAt fits s most_tours) k (root_place s ∷ []) old.tree.branches pricing.within way.tree.branches in
-      noted-sheet fits s most_tours b.node b prices cars (leaf_of_kind fits s most_tours b.node b pricing.leaf at.1.kind) pricing.begins pricing.answers
+      let at = stand-at (IsBranchAt s most_tours) k (root_place s ∷ []) old.tree.branches pricing.within way.tree.branches in
+      noted-sheet s most_tours b.node b prices cars (leaf_of_kind s most_tours b.node b pricing.leaf at.1.kind) pricing.begins pricing.answers
 
   pub sheet-takes : sum_of_sheet (sheet_of_turn prices cars) ≤ℤ sum_of_sheet noted_b.sheet
   sheet-takes = sheet.takes
@@ -118,11 +116,11 @@ module _ (fits : Fits) (s : Snapshot) (most_tours : ℕ) (few_cars : car_count s
   -- ---- it rests
 
   module _ (is : new.tree.branches ≡ set old.tree.branches k (noted (at_place old.tree.branches k) prices cars)) (rests : IsResting s new.best.cost (noted (at_place old.tree.branches k) prices cars)) where
-    pub rests_way : IsUnderWay fits s most_tours new
+    pub rests_way : IsUnderWay s most_tours new
     rests_way =
         record {
           best = best;
-          tree = subst (IsTreeOf fits s most_tours new.best.cost) (sym is) (tree-noted fits s most_tours old.best.cost new.best.cost few_cars cheaper old.tree.branches k pricing.within pricing.leaf pricing.few prices cars pricing.begins pricing.answers way.tree rests);
+          tree = subst (IsTreeOf s most_tours new.best.cost) (sym is) (tree-noted s most_tours old.best.cost new.best.cost few_cars cheaper old.tree.branches k pricing.within pricing.leaf pricing.few prices cars pricing.begins pricing.answers way.tree rests);
         }
 
     pub rests_settled : HasSettled s old new k
@@ -137,17 +135,17 @@ module _ (fits : Fits) (s : Snapshot) (most_tours : ℕ) (few_cars : car_count s
           size = omega (arith, count);
           before = λ i lt. ap (λ (tree : List Branch). at_place tree i) is ∙ get_or-set_other old.tree.branches k i noted_b _ (λ e. omega (arith, e, lt));
           done = done;
-          sums = λ z h. subst (AllInTree (IsAtLeast z) s) (sym is) (stand-set (IsBranchAt fits s most_tours) (IsAtLeast z) noted_b k (root_place s ∷ []) old.tree.branches pricing.within (λ place p q. of_leaf (z ≤ℤ sum_of_sheet noted_b.sheet) b.split (rises z place q)) same_after way.tree.branches h);
+          sums = λ z h. subst (AllInTree (IsAtLeast z) s) (sym is) (stand-set (IsBranchAt s most_tours) (IsAtLeast z) noted_b k (root_place s ∷ []) old.tree.branches pricing.within (λ place p q. of_leaf (z ≤ℤ sum_of_sheet noted_b.sheet) b.split (rises z place q)) same_after way.tree.branches h);
         }
 
   -- ---- it is split
 
-  module _ (accepted : IsAccepted s) (splits : FitsInSplits fits s) (call part : ℕ) (small : part < 2 ^ 16) (part_is : is_part (set_of (at_place old.tree.branches k).node call) part ≡ true) (is : new.tree.branches ≡ split_tree (set old.tree.branches k (noted (at_place old.tree.branches k) prices cars)) k call part) where
-    pub split_way : IsUnderWay fits s most_tours new
+  module _ (call part : ℕ) (small : part < 2 ^ 16) (part_is : is_part (set_of (at_place old.tree.branches k).node call) part ≡ true) (is : new.tree.branches ≡ split_tree (set old.tree.branches k (noted (at_place old.tree.branches k) prices cars)) k call part) where
+    pub split_way : IsUnderWay s most_tours new
     split_way =
         record {
           best = best;
-          tree = subst (IsTreeOf fits s most_tours new.best.cost) (sym is) (tree-split fits s most_tours old.best.cost new.best.cost few_cars cheaper old.tree.branches k pricing.within pricing.leaf pricing.few prices cars pricing.begins pricing.answers way.tree accepted splits call part small part_is);
+          tree = subst (IsTreeOf s most_tours new.best.cost) (sym is) (tree-split s most_tours old.best.cost new.best.cost few_cars cheaper old.tree.branches k pricing.within pricing.leaf pricing.few prices cars pricing.begins pricing.answers way.tree call part small part_is);
         }
 
     is_noted : new.tree.branches ≡ noted_split n call part old.tree.branches k
@@ -165,7 +163,7 @@ module _ (fits : Fits) (s : Snapshot) (most_tours : ℕ) (few_cars : car_count s
           size = omega (arith, count);
           before = λ i lt. ap (λ (tree : List Branch). at_place tree i) is_noted ∙ split_branch-before (λ a. split_at (n a) call part) (λ a. first_part (n a) call part) (λ a. second_part (n a) call part) old.tree.branches k i lt;
           done = done;
-          sums = λ z h. subst (AllInTree (IsAtLeast z) s) (sym is_noted) (stand-split (IsBranchAt fits s most_tours) (IsAtLeast z) n call part k (root_place s ∷ []) old.tree.branches pricing.within pricing.leaf (λ place p q. (let up = rises z place q in (tt, up, up))) way.tree.branches h);
+          sums = λ z h. subst (AllInTree (IsAtLeast z) s) (sym is_noted) (stand-split (IsBranchAt s most_tours) (IsAtLeast z) n call part k (root_place s ∷ []) old.tree.branches pricing.within pricing.leaf (λ place p q. (let up = rises z place q in (tt, up, up))) way.tree.branches h);
         }
 
   -- ---- what is known of the code's tree before it is split
@@ -176,15 +174,15 @@ module _ (fits : Fits) (s : Snapshot) (most_tours : ℕ) (few_cars : car_count s
     rests_open call part lt part_is h =
         open_rests s new.best.cost call part noted_b lt part_is (subst (λ (a : Branch). 20 ≤ a.rounds → pos new.best.cost ≤ℤ bound_of_sheet a.sheet) (noted_at old.tree.branches mid k prices cars pricing.within mid_is) h)
 
-    module _ (accepted : IsAccepted s) (splits : FitsInSplits fits s) (grown : IsSplit k mid new.tree.branches) where
+    module _ (grown : IsSplit k mid new.tree.branches) where
       at_noted : IsSplit k (set old.tree.branches k noted_b) new.tree.branches
       at_noted = subst (λ (bs : List Branch). IsSplit k bs new.tree.branches) mid_is grown
 
       part_at : is_part (set_of b.node at_noted.call) at_noted.part ≡ true
       part_at = subst (λ (a : Branch). is_part (set_of a.node at_noted.call) at_noted.part ≡ true) (get_or-set_same old.tree.branches k noted_b no_branch pricing.within) at_noted.is
 
-      pub grown_way : IsUnderWay fits s most_tours new
-      grown_way = split_way accepted splits at_noted.call at_noted.part at_noted.small part_at at_noted.split
+      pub grown_way : IsUnderWay s most_tours new
+      grown_way = split_way at_noted.call at_noted.part at_noted.small part_at at_noted.split
 
       pub grown_settled : HasSettled s old new k
-      grown_settled = split_settled accepted splits at_noted.call at_noted.part at_noted.small part_at at_noted.split
+      grown_settled = split_settled at_noted.call at_noted.part at_noted.small part_at at_noted.split

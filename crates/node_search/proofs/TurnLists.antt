@@ -11,7 +11,7 @@ use Rattle.search_model.specs.Nodes.{root_of}
 use Rattle.search_model.specs.Prices.{price_at}
 use Rattle.search_model.specs.Sums.{int_sum_by}
 use Rattle.price_scale.specs.Scale.{cut}
-use Rattle.search_model.specs.Solving.{Fits, AreRootTurns, FollowTurn, IsRootTurn, IsPricing, prices_after, greatest_price, sum_of_turn, no_turn, boards_of_turn}
+use Rattle.search_model.specs.Solving.{AreRootTurns, FollowTurn, IsRootTurn, IsPricing, prices_after, greatest_price, sum_of_turn, no_turn, boards_of_turn}
 use Rattle.search_tree.specs.Sheets.{sum_of_sheet, sheet_of_turn, sum_of_worths, turn_worth}
 use Rattle.search_tree.specs.Answers.{IsAnswerIn, AreAnswersIn}
 use Rattle.node_search.specs.Turns.{moved_price}
@@ -44,8 +44,8 @@ start-more (turn ∷ turns) last next = refl
 abbrev pub turn_with : List ℤ → List TurnOf → Turn
 turn_with prices cars = record { prices = prices; cars = cars }
 
-pub answers_are_turn : (fits : Fits) (s : Snapshot) (most_tours : ℕ) (prices : List ℤ) (cars : List TurnOf) → AreAnswersIn fits s most_tours (root_of s) prices cars → IsRootTurn s most_tours prices (turn_with prices cars)
-answers_are_turn fits s most_tours prices cars answers =
+pub answers_are_turn : (s : Snapshot) (most_tours : ℕ) (prices : List ℤ) (cars : List TurnOf) → AreAnswersIn s most_tours (root_of s) prices cars → IsRootTurn s most_tours prices (turn_with prices cars)
+answers_are_turn s most_tours prices cars answers =
     record {
       prices = refl;
       calls = answers.calls;
@@ -53,7 +53,7 @@ answers_are_turn fits s most_tours prices cars answers =
       pricings = λ c lt. by_spent c (answers.each c lt) (get_or cars c no_turn).priced.spent refl;
     }
   where
-    by_spent : (c : ℕ) → IsAnswerIn fits s most_tours (root_of s) (price_at prices) c (get_or cars c no_turn) → (b : Bool) → (get_or cars c no_turn).priced.spent ≡ b → IsPricing s most_tours c (price_at prices) (get_or cars c no_turn) b
+    by_spent : (c : ℕ) → IsAnswerIn s most_tours (root_of s) (price_at prices) c (get_or cars c no_turn) → (b : Bool) → (get_or cars c no_turn).priced.spent ≡ b → IsPricing s most_tours c (price_at prices) (get_or cars c no_turn) b
     by_spent c a true e = record { worth = a.worth; within = a.within; many = a.many e }
     by_spent c a false e =
         let given = a.gives e in

@@ -7,7 +7,7 @@ use Rattle.search_model.specs.declared.Turn.{Turn}
 use Rattle.search_model.specs.declared.StopReason.{StopReason}
 use Rattle.search_model.specs.declared.StopReason.TheVariants.{Solved, Rounds, Moves}
 use Rattle.search_model.specs.Nodes.{root_of}
-use Rattle.search_model.specs.Solving.{Fits, HasChoice, AreRootTurns, IsTourOfTurns, least_bound, sum_of_turn}
+use Rattle.search_model.specs.Solving.{HasChoice, AreRootTurns, IsTourOfTurns, least_bound, sum_of_turn}
 use Rattle.search_tree.specs.declared.branches.Branch.{Branch}
 use Rattle.search_tree.specs.Sheets.{PriceSheet, sum_of_sheet}
 use Rattle.search_tree.specs.Branches.{AreSingle, at_place, twig_of}
@@ -20,7 +20,7 @@ use Rattle.node_search.specs.declared.search.Search.{Search}
 use Rattle.node_search.specs.Roots.{IsRoot, IsSolvedIfUnspent, leaf_of_root, start_of_turns}
 use Rattle.node_search.specs.Searches.{IsSearching, IsAtRest}
 
--- where so many tries are enough, no plan made of the tours of the turns is cheaper
+-- where this many tries are enough, no plan made of the tours of the turns is cheaper
 abbrev pub IsCheapestOfTurns : Snapshot → (most_tours cost : ℕ) → List Turn → Type 0
 IsCheapestOfTurns s most_tours cost turns =
     34 ^ car_count s ≤ most_tours → (other : List (List Stop)) → IsFeasiblePlan s other → ((c : ℕ) → c < car_count s → IsTourOfTurns turns c (tour_of other c)) → cost ≤ plan_cost_of s other
@@ -38,10 +38,10 @@ pub record HasDueTurns (s : Snapshot) (rounds : ℕ) (root : Root) : Type 0 wher
   pub many : (AreSingle (call_count s) (root_of s) → ⊥) → IsOpenRoot root → length root.turns.items ≡ min rounds MOST_TURNS
 
 -- the root after its turns, in a search that started with these prices and worths
-pub record IsTurned (fits : Fits) (s : Snapshot) (rounds most_tours : ℕ) (start : PriceSheet) (root : Root) : Type 0 where
-  pub stands : IsRoot fits s most_tours root
+pub record IsTurned (s : Snapshot) (rounds most_tours : ℕ) (start : PriceSheet) (root : Root) : Type 0 where
+  pub stands : IsRoot s most_tours root
   pub start_is : start_of_turns root.turns.items root.prices.items ≡ start.prices
-  pub sheet : IsSheetIn fits s most_tours (root_of s) start
+  pub sheet : IsSheetIn s (root_of s) start
   pub rises : sum_of_sheet start ≤ℤ sum_of_sheet (leaf_of_root root).sheet
   pub due : HasDueTurns s rounds root
 
@@ -51,8 +51,8 @@ pub record IsKeptRoot (calls turns : ℕ) (old new : List Branch) : Type 0 where
   pub few : (AreSingle calls (at_place old 0).node → ⊥) → turns < MOST_TURNS
 
 -- What stands of the turns at the root and of the tree that grows from it.
-pub record HasTurnsAbove (fits : Fits) (s : Snapshot) (most_tours : ℕ) (start : PriceSheet) (turns : List Turn) (tree : List Branch) (cost : ℕ) : Type 0 where
-  pub sheet : IsSheetIn fits s most_tours (root_of s) start
+pub record HasTurnsAbove (s : Snapshot) (most_tours : ℕ) (start : PriceSheet) (turns : List Turn) (tree : List Branch) (cost : ℕ) : Type 0 where
+  pub sheet : IsSheetIn s (root_of s) start
   pub root_turns : AreRootTurns s most_tours start.prices turns
   pub few_turns : length turns ≤ MOST_TURNS
   pub above_start : AllInTree (IsAtLeast (sum_of_sheet start)) s tree
@@ -60,15 +60,15 @@ pub record HasTurnsAbove (fits : Fits) (s : Snapshot) (most_tours : ℕ) (start 
   pub tours : IsCheapestOfTurns s most_tours cost turns
 
 -- A search below the root, whose turns were these.
-pub record IsBegun (fits : Fits) (s : Snapshot) (rounds most_tours : ℕ) (start : PriceSheet) (turns : List Turn) (x : Search) : Type 0 where
-  pub searching : IsSearching fits s most_tours x
-  pub above : HasTurnsAbove fits s most_tours start turns x.tree.branches x.best.cost
+pub record IsBegun (s : Snapshot) (rounds most_tours : ℕ) (start : PriceSheet) (turns : List Turn) (x : Search) : Type 0 where
+  pub searching : IsSearching s most_tours x
+  pub above : HasTurnsAbove s most_tours start turns x.tree.branches x.best.cost
   pub few : x.done ≤ rounds
   pub many : HasChoice s → length turns ≡ min rounds MOST_TURNS
 
 -- It has ended: as many rounds were done as may be, or no leaf may be priced any more.
-pub record IsEnded (fits : Fits) (s : Snapshot) (rounds most_tours : ℕ) (start : PriceSheet) (turns : List Turn) (x : Search) : Type 0 where
-  pub begun : IsBegun fits s rounds most_tours start turns x
+pub record IsEnded (s : Snapshot) (rounds most_tours : ℕ) (start : PriceSheet) (turns : List Turn) (x : Search) : Type 0 where
+  pub begun : IsBegun s rounds most_tours start turns x
   pub ended : (x.done ≡ rounds) ⊎ IsAtRest s x
 
 -- ---- the answer

@@ -9,7 +9,7 @@ use Rattle.search_model.specs.declared.TurnOf.{TurnOf}
 use Rattle.search_model.specs.Nodes.{IsNodeOf, root_of}
 use Rattle.search_model.specs.Certificates.{root_place}
 use Rattle.search_model.specs.Prices.{price_at}
-use Rattle.search_model.specs.Solving.{Fits, AreRootTurns, prices_after, greatest_price, sum_of_turn, turn_of_car}
+use Rattle.search_model.specs.Solving.{AreRootTurns, prices_after, greatest_price, sum_of_turn, turn_of_car}
 use Rattle.restricted_master.specs.Pools.{TourPool, IsMadeOf, tours_of_car}
 use Rattle.search_tree.specs.declared.branches.Branch.{Branch}
 use Rattle.search_tree.specs.Sheets.{PriceSheet, sum_of_sheet, sheet_of_turn}
@@ -50,10 +50,10 @@ abbrev pub IsTurnBelow : ℤ → Turn → Type 0
 IsTurnBelow z turn = sum_of_turn turn ≤ℤ z
 
 -- The root, after some turns.
-pub record IsRoot (fits : Fits) (s : Snapshot) (most_tours : ℕ) (root : Root) : Type 0 where
+pub record IsRoot (s : Snapshot) (most_tours : ℕ) (root : Root) : Type 0 where
   pub branch : Branch
   pub lone : root.tree.branches ≡ branch ∷ []
-  pub at : IsBranchAt fits s most_tours (root_place s) branch
+  pub at : IsBranchAt s most_tours (root_place s) branch
   pub leaf : branch.split ≡ None
   pub rounds : branch.rounds ≡ length root.turns.items
   pub begins : BeginsAt branch root.prices.items
@@ -114,10 +114,10 @@ pub record IsEnough (most : ℕ) (root : Root) : Type 0 where
   pub due : bound_of_sheet (leaf_of_root root).sheet <ℤ pos root.best.cost → length root.turns.items ≡ most
 
 -- one turn was made, with these pricings
-pub record HasOneTurn (fits : Fits) (s : Snapshot) (most_tours : ℕ) (root : Root) : Type 0 where
+pub record HasOneTurn (s : Snapshot) (most_tours : ℕ) (root : Root) : Type 0 where
   pub turn : Turn
   pub turns : root.turns.items ≡ turn ∷ []
-  pub answers : AreAnswersIn fits s most_tours (root_of s) turn.prices turn.cars
+  pub answers : AreAnswersIn s most_tours (root_of s) turn.prices turn.cars
   pub spent : (leaf_of_root root).spent ≡ first_spent 0 turn.cars
   pub takes : sum_of_sheet (sheet_of_turn turn.prices turn.cars) ≤ℤ sum_of_sheet (leaf_of_root root).sheet
 

@@ -5,7 +5,7 @@ use Rattle.elevator_model.specs.Snapshot.{Snapshot, car_count, call_count}
 use Rattle.elevator_model.specs.Plans.{tour_of}
 use Rattle.search_model.specs.declared.TurnOf.{TurnOf}
 use Rattle.search_model.specs.Nodes.{is_part, set_of}
-use Rattle.search_model.specs.Solving.{Fits, no_turn}
+use Rattle.search_model.specs.Solving.{no_turn}
 use Rattle.search_tree.specs.declared.branches.Branch.{Branch}
 use Rattle.search_tree.specs.declared.branches.TheConstants.{MOST_PRICINGS}
 use Rattle.search_tree.specs.Branches.{AreSingle, at_place, split_tree}
@@ -17,13 +17,13 @@ use Rattle.node_search.specs.declared.rounds.Chosen.{Chosen}
 use Rattle.node_search.specs.Best.{IsBest}
 
 -- the tree and the cheapest plan, also within a round
-pub record IsUnderWay (fits : Fits) (s : Snapshot) (most_tours : ℕ) (x : Search) : Type 0 where
+pub record IsUnderWay (s : Snapshot) (most_tours : ℕ) (x : Search) : Type 0 where
   pub best : IsBest s x.best
-  pub tree : IsTreeOf fits s most_tours x.best.cost x.tree.branches
+  pub tree : IsTreeOf s most_tours x.best.cost x.tree.branches
 
 -- between rounds
-pub record IsSearching (fits : Fits) (s : Snapshot) (most_tours : ℕ) (x : Search) : Type 0 where
-  pub under_way : IsUnderWay fits s most_tours x
+pub record IsSearching (s : Snapshot) (most_tours : ℕ) (x : Search) : Type 0 where
+  pub under_way : IsUnderWay s most_tours x
   pub begun : 1 ≤ x.done
   pub pricings : x.done ≤ pricings_of x.tree.branches
   pub size : length x.tree.branches ≤ 8 * x.done + 1
@@ -35,12 +35,12 @@ pub record IsTakeable (cost : ℕ) (b : Branch) : Type 0 where
   pub below : bound_of_sheet b.sheet <ℤ pos cost
 
 -- the pricings of all cars in the leaf at this place
-pub record IsPricingOf (fits : Fits) (s : Snapshot) (most_tours : ℕ) (x : Search) (place : ℕ) (prices : List ℤ) (cars : List TurnOf) : Type 0 where
+pub record IsPricingOf (s : Snapshot) (most_tours : ℕ) (x : Search) (place : ℕ) (prices : List ℤ) (cars : List TurnOf) : Type 0 where
   pub within : place < length x.tree.branches
   pub leaf : (at_place x.tree.branches place).split ≡ None
   pub few : (at_place x.tree.branches place).rounds < MOST_PRICINGS
   pub begins : BeginsAt (at_place x.tree.branches place) prices
-  pub answers : AreAnswersIn fits s most_tours (at_place x.tree.branches place).node prices cars
+  pub answers : AreAnswersIn s most_tours (at_place x.tree.branches place).node prices cars
 
 -- the leaf at the place is split into the two parts of some set
 pub record IsSplit (place : ℕ) (old new : List Branch) : Type 0 where
@@ -112,9 +112,9 @@ pub record AreTaken (s : Snapshot) (x : Search) (chosen : List Chosen) : Type 0 
   pub none : chosen ≡ [] → (k : ℕ) → k < length x.tree.branches → IsLeft s x.best.cost (at_place x.tree.branches k)
 
 -- all cars were priced in each of these leaves: those of one after those of the other
-pub record ArePriced (fits : Fits) (s : Snapshot) (most_tours : ℕ) (x : Search) (chosen : List Chosen) (answers : List TurnOf) : Type 0 where
+pub record ArePriced (s : Snapshot) (most_tours : ℕ) (x : Search) (chosen : List Chosen) (answers : List TurnOf) : Type 0 where
   pub count : length answers ≡ length chosen * car_count s
-  pub each : (i : ℕ) (c : Chosen) → slice_get chosen i ≡ Some c → IsPricingOf fits s most_tours x c.place c.prices.items (take (car_count s) (drop (i * car_count s) answers))
+  pub each : (i : ℕ) (c : Chosen) → slice_get chosen i ≡ Some c → IsPricingOf s most_tours x c.place c.prices.items (take (car_count s) (drop (i * car_count s) answers))
   pub rise : AreRising chosen
 
 -- what n pricings of leaves change

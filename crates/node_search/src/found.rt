@@ -160,11 +160,11 @@ fn begin<'a, P: Pricer>(
     limits: Limits,
 ) -> Result<Begun<'a>, AllocError>
     requires accepted { IsAccepted (P.snapshot pricer.now) }
-    requires root { IsRoot (P.fits pricer.now) (P.snapshot pricer.now) limits.most_tours root }
+    requires root { IsRoot (P.snapshot pricer.now) limits.most_tours root }
     ensures { IfOk result (λ begun. (start : PriceSheet)
-        → IsTurned (P.fits pricer.now) (P.snapshot pricer.now) limits.rounds limits.most_tours start
+        → IsTurned (P.snapshot pricer.now) limits.rounds limits.most_tours start
         root.entry → IsOpenRoot root.entry
-        → IsBegun (P.fits pricer.now) (P.snapshot pricer.now) limits.rounds limits.most_tours start
+        → IsBegun (P.snapshot pricer.now) limits.rounds limits.most_tours start
         begun.turns.items begun.search) }
 {
     let Root {
@@ -192,14 +192,14 @@ fn go_on<'a, P: Pricer, R: Threads + Sync, G: Gate + Sync>(
 ) -> Result<Begun<'a>, AllocError>
     requires accepted { IsAccepted (P.snapshot pricer.now) }
     requires turned { (start : PriceSheet)
-        × IsTurned (P.fits pricer.now) (P.snapshot pricer.now) limits.rounds limits.most_tours start root }
+        × IsTurned (P.snapshot pricer.now) limits.rounds limits.most_tours start root }
     requires open_yet { IsOpenRoot root }
     requires rounds { (1 ≤ limits.rounds) × (limits.rounds ≤ 10 ^ 18) }
     requires most_tours { (1 ≤ limits.most_tours) × (limits.most_tours ≤ 10 ^ 18) }
     requires desks { Serving (P.owns pricer.now) desks.old }
     ensures { IfOk result (λ begun. (start : PriceSheet)
-        → IsTurned (P.fits pricer.now) (P.snapshot pricer.now) limits.rounds limits.most_tours start
-        root.entry → IsEnded (P.fits pricer.now) (P.snapshot pricer.now) limits.rounds limits.most_tours start
+        → IsTurned (P.snapshot pricer.now) limits.rounds limits.most_tours start
+        root.entry → IsEnded (P.snapshot pricer.now) limits.rounds limits.most_tours start
         begun.turns.items begun.search) }
 {
     let Begun { mut search, turns } = begin(runtime.alloc, pricer, root, limits)?;
@@ -215,12 +215,12 @@ fn end<P: Pricer>(
     limits: Limits,
 ) -> Result<Found, AllocError>
     requires ended { (start : PriceSheet) × (pos 0 ≤ℤ sum_of_sheet start)
-        × IsEnded (P.fits pricer.now) (P.snapshot pricer.now) limits.rounds limits.most_tours start
+        × IsEnded (P.snapshot pricer.now) limits.rounds limits.most_tours start
         begun.turns.items begun.search }
     ensures found { IfOk result (λ f. (start : PriceSheet)
-        → IsEnded (P.fits pricer.now) (P.snapshot pricer.now) limits.rounds limits.most_tours start
+        → IsEnded (P.snapshot pricer.now) limits.rounds limits.most_tours start
         begun.entry.turns.items begun.entry.search
-        → IsFound (P.fits pricer.now) start.prices (rounded_up (sum_of_sheet start)) (P.snapshot pricer.now)
+        → IsFound start.prices (rounded_up (sum_of_sheet start)) (P.snapshot pricer.now)
         limits.rounds limits.most_tours f.stated.plan f.stated.cost f.stated.bound f.tree.twigs f.turns f.why) }
     ensures sized { IfOk result (λ f. All IsSizedTwig f.tree.twigs) }
 {
@@ -240,11 +240,11 @@ fn close<P: Pricer>(
 ) -> Result<Found, AllocError>
     requires accepted { IsAccepted (P.snapshot pricer.now) }
     requires turned { (start : PriceSheet) × (pos 0 ≤ℤ sum_of_sheet start)
-        × IsTurned (P.fits pricer.now) (P.snapshot pricer.now) limits.rounds limits.most_tours start root }
+        × IsTurned (P.snapshot pricer.now) limits.rounds limits.most_tours start root }
     requires closed { pos root.best.cost ≤ℤ bound_of_sheet (at_place root.tree.branches 0).sheet }
     ensures found { IfOk result (λ f. (start : PriceSheet)
-        → IsTurned (P.fits pricer.now) (P.snapshot pricer.now) limits.rounds limits.most_tours start
-        root.entry → IsFound (P.fits pricer.now) start.prices (rounded_up (sum_of_sheet start)) (P.snapshot pricer.now)
+        → IsTurned (P.snapshot pricer.now) limits.rounds limits.most_tours start
+        root.entry → IsFound start.prices (rounded_up (sum_of_sheet start)) (P.snapshot pricer.now)
         limits.rounds limits.most_tours f.stated.plan f.stated.cost f.stated.bound f.tree.twigs f.turns f.why) }
     ensures sized { IfOk result (λ f. All IsSizedTwig f.tree.twigs) }
 {
@@ -269,13 +269,11 @@ fn turned<'a, P: Pricer, R: Threads + Sync, G: Gate + Sync>(
 ) -> Result<Root<'a>, AllocError>
     requires snapshot { P.snapshot pricer.now ≡ snapshot.now }
     requires start { IsFeasiblePlan snapshot.now start }
-    requires sheet { IsSheetIn (P.fits pricer.now) snapshot.now limits.most_tours
-        (root_of snapshot.now) sheet }
+    requires sheet { IsSheetIn snapshot.now (root_of snapshot.now) sheet }
     requires rounds { 1 ≤ limits.rounds }
     requires most_tours { (1 ≤ limits.most_tours) × (limits.most_tours ≤ 10 ^ 18) }
     requires desks { Serving (P.owns pricer.now) desks.old }
-    ensures turned { IfOk result
-        (IsTurned (P.fits pricer.now) (P.snapshot pricer.now) limits.rounds limits.most_tours sheet) }
+    ensures turned { IfOk result (IsTurned (P.snapshot pricer.now) limits.rounds limits.most_tours sheet) }
     ensures accepted { IsAccepted (P.snapshot pricer.now) }
     ensures desks { IfOk result (λ _. Serving (P.owns pricer.now) desks.new) }
 {
@@ -297,14 +295,12 @@ fn find_at<P: Pricer, R: Threads + Sync, G: Gate + Sync>(
 ) -> Result<Found, AllocError>
     requires snapshot { P.snapshot pricer.now ≡ snapshot.now }
     requires start { IsFeasiblePlan snapshot.now start }
-    requires sheet { IsSheetIn (P.fits pricer.now) snapshot.now limits.most_tours
-        (root_of snapshot.now) sheet }
+    requires sheet { IsSheetIn snapshot.now (root_of snapshot.now) sheet }
     requires sum { pos 0 ≤ℤ sum_of_sheet sheet }
     requires rounds { (1 ≤ limits.rounds) × (limits.rounds ≤ 10 ^ 18) }
     requires most_tours { (1 ≤ limits.most_tours) × (limits.most_tours ≤ 10 ^ 18) }
     requires desks { Serving (P.owns pricer.now) desks.old }
-    ensures found { IfOk result (λ f. IsFound (P.fits pricer.now) sheet.prices
-        (rounded_up (sum_of_sheet sheet)) snapshot.now
+    ensures found { IfOk result (λ f. IsFound sheet.prices (rounded_up (sum_of_sheet sheet)) snapshot.now
         limits.rounds limits.most_tours f.stated.plan f.stated.cost f.stated.bound f.tree.twigs f.turns f.why) }
     ensures sized { IfOk result (λ f. All IsSizedTwig f.tree.twigs) }
 {
@@ -336,14 +332,12 @@ pub fn find_plan<P: Pricer, R: Threads + Sync, G: Gate + Sync>(
 ) -> Result<Found, AllocError>
     requires snapshot { P.snapshot pricer.now ≡ snapshot.now }
     requires start { IsFeasiblePlan snapshot.now start }
-    requires sheet { IsSheetIn (P.fits pricer.now) snapshot.now limits.most_tours
-        (root_of snapshot.now) sheet }
+    requires sheet { IsSheetIn snapshot.now (root_of snapshot.now) sheet }
     requires sum { pos 0 ≤ℤ sum_of_sheet sheet }
     requires rounds { (1 ≤ limits.rounds) × (limits.rounds ≤ 10 ^ 18) }
     requires most_tours { (1 ≤ limits.most_tours) × (limits.most_tours ≤ 10 ^ 18) }
     requires workers { (1 ≤ workers) × (workers ≤ MOST_WORKERS) }
-    ensures found { IfOk result (λ f. IsFound (P.fits pricer.now) sheet.prices
-        (rounded_up (sum_of_sheet sheet)) snapshot.now
+    ensures found { IfOk result (λ f. IsFound sheet.prices (rounded_up (sum_of_sheet sheet)) snapshot.now
         limits.rounds limits.most_tours f.stated.plan f.stated.cost f.stated.bound f.tree.twigs f.turns f.why) }
     ensures sized { IfOk result (λ f. All IsSizedTwig f.tree.twigs) }
 {

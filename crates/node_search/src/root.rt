@@ -121,11 +121,10 @@ impl<'a> Root<'a> {
         desks: &mut [P::Desk],
     ) -> Result<Vec<TurnOf>, AllocError>
         requires accepted { IsAccepted (P.snapshot pricer.now) }
-        requires root { IsRoot (P.fits pricer.now) (P.snapshot pricer.now) most_tours self.now }
+        requires root { IsRoot (P.snapshot pricer.now) most_tours self.now }
         requires most_tours { (1 ≤ most_tours) × (most_tours ≤ 10 ^ 18) }
         requires desks { Serving (P.owns pricer.now) desks.old }
-        ensures answers { IfOk result
-            (λ cars. AreAnswersIn (P.fits pricer.now) (P.snapshot pricer.now) most_tours
+        ensures answers { IfOk result (λ cars. AreAnswersIn (P.snapshot pricer.now) most_tours
             (root_of (P.snapshot pricer.now)) self.now.prices.items cars.items) }
         ensures desks { Serving (P.owns pricer.now) desks.new }
     {
@@ -148,9 +147,9 @@ impl<'a> Root<'a> {
         cars: &[TurnOf],
     ) -> Result<Vec<Price>, AllocError>
         requires accepted { IsAccepted (P.snapshot pricer.now) }
-        requires root { IsRoot (P.fits pricer.now) (P.snapshot pricer.now) most_tours self.old }
+        requires root { IsRoot (P.snapshot pricer.now) most_tours self.old }
         requires turns { length self.old.turns.items < MOST_TURNS }
-        requires answers { AreAnswersIn (P.fits pricer.now) (P.snapshot pricer.now) most_tours
+        requires answers { AreAnswersIn (P.snapshot pricer.now) most_tours
             (root_of (P.snapshot pricer.now)) self.old.prices.items cars.now }
         requires most_tours { 1 ≤ most_tours }
         ensures { IfOk result (λ next. HasTakenIn (P.snapshot pricer.now) most_tours
@@ -189,12 +188,12 @@ impl<'a> Root<'a> {
         cars: Vec<TurnOf>,
     ) -> Result<(), AllocError>
         requires accepted { IsAccepted (P.snapshot pricer.now) }
-        requires root { IsRoot (P.fits pricer.now) (P.snapshot pricer.now) most_tours self.old }
+        requires root { IsRoot (P.snapshot pricer.now) most_tours self.old }
         requires turns { length self.old.turns.items < MOST_TURNS }
-        requires answers { AreAnswersIn (P.fits pricer.now) (P.snapshot pricer.now) most_tours
+        requires answers { AreAnswersIn (P.snapshot pricer.now) most_tours
             (root_of (P.snapshot pricer.now)) self.old.prices.items cars.items }
         requires most_tours { 1 ≤ most_tours }
-        ensures root { OnOk result (IsRoot (P.fits pricer.now) (P.snapshot pricer.now) most_tours self.new) }
+        ensures root { OnOk result (IsRoot (P.snapshot pricer.now) most_tours self.new) }
         ensures turned { OnOk result (HasTurned self.old self.new) }
         ensures turns { OnOk result
             (self.new.turns.items ≡ self.old.turns.items ++ turn_with self.old.prices.items cars.items ∷ []) }
@@ -216,16 +215,16 @@ impl<'a> Root<'a> {
         desks: &mut [P::Desk],
     ) -> Result<(), AllocError>
         requires accepted { IsAccepted (P.snapshot pricer.now) }
-        requires root { IsRoot (P.fits pricer.now) (P.snapshot pricer.now) most_tours self.old }
+        requires root { IsRoot (P.snapshot pricer.now) most_tours self.old }
         requires turns { length self.old.turns.items < MOST_TURNS }
         requires most_tours { (1 ≤ most_tours) × (most_tours ≤ 10 ^ 18) }
         requires desks { Serving (P.owns pricer.now) desks.old }
-        ensures root { OnOk result (IsRoot (P.fits pricer.now) (P.snapshot pricer.now) most_tours self.new) }
+        ensures root { OnOk result (IsRoot (P.snapshot pricer.now) most_tours self.new) }
         ensures turned { OnOk result (HasTurned self.old self.new) }
         ensures turns { OnOk result
             (length self.new.turns.items ≡ length self.old.turns.items + 1) }
         ensures first { OnOk result (self.old.turns.items ≡ []
-            → HasOneTurn (P.fits pricer.now) (P.snapshot pricer.now) most_tours self.new) }
+            → HasOneTurn (P.snapshot pricer.now) most_tours self.new) }
         ensures desks { OnOk result (Serving (P.owns pricer.now) desks.new) }
     {
         let cars = self.price(runtime, pricer, most_tours, desks)?;
@@ -243,12 +242,12 @@ impl<'a> Root<'a> {
         desks: &mut [P::Desk],
     ) -> Result<(), AllocError>
         requires accepted { IsAccepted (P.snapshot pricer.now) }
-        requires root { IsRoot (P.fits pricer.now) (P.snapshot pricer.now) most_tours self.old }
+        requires root { IsRoot (P.snapshot pricer.now) most_tours self.old }
         requires most { length self.old.turns.items ≤ most }
         requires few { most ≤ MOST_TURNS }
         requires most_tours { (1 ≤ most_tours) × (most_tours ≤ 10 ^ 18) }
         requires desks { Serving (P.owns pricer.now) desks.old }
-        ensures root { OnOk result (IsRoot (P.fits pricer.now) (P.snapshot pricer.now) most_tours self.new) }
+        ensures root { OnOk result (IsRoot (P.snapshot pricer.now) most_tours self.new) }
         ensures turned { OnOk result (HasTurned self.old self.new) }
         ensures enough { OnOk result (IsEnough most self.new) }
         ensures desks { OnOk result (Serving (P.owns pricer.now) desks.new) }
@@ -270,10 +269,10 @@ impl<'a> Root<'a> {
         pricer: &P,
         most_tours: u64,
     ) -> Result<(), AllocError>
-        requires root { IsRoot (P.fits pricer.now) (P.snapshot pricer.now) most_tours self.old }
+        requires root { IsRoot (P.snapshot pricer.now) most_tours self.old }
         requires single { AreSingle (call_count (P.snapshot pricer.now)) (root_of (P.snapshot pricer.now)) }
-        requires one { HasOneTurn (P.fits pricer.now) (P.snapshot pricer.now) most_tours self.old }
-        ensures root { OnOk result (IsRoot (P.fits pricer.now) (P.snapshot pricer.now) most_tours self.new) }
+        requires one { HasOneTurn (P.snapshot pricer.now) most_tours self.old }
+        ensures root { OnOk result (IsRoot (P.snapshot pricer.now) most_tours self.new) }
         ensures turned { OnOk result (HasTurned self.old self.new) }
         ensures turns { OnOk result (self.new.turns.items ≡ self.old.turns.items) }
         ensures solved { OnOk result (IsSolvedIfUnspent self.new) }
@@ -298,12 +297,12 @@ impl<'a> Root<'a> {
         desks: &mut [P::Desk],
     ) -> Result<(), AllocError>
         requires accepted { IsAccepted (P.snapshot pricer.now) }
-        requires root { IsRoot (P.fits pricer.now) (P.snapshot pricer.now) most_tours self.old }
+        requires root { IsRoot (P.snapshot pricer.now) most_tours self.old }
         requires single { AreSingle (call_count (P.snapshot pricer.now)) (root_of (P.snapshot pricer.now)) }
         requires turns { self.old.turns.items ≡ [] }
         requires most_tours { (1 ≤ most_tours) × (most_tours ≤ 10 ^ 18) }
         requires desks { Serving (P.owns pricer.now) desks.old }
-        ensures root { OnOk result (IsRoot (P.fits pricer.now) (P.snapshot pricer.now) most_tours self.new) }
+        ensures root { OnOk result (IsRoot (P.snapshot pricer.now) most_tours self.new) }
         ensures turned { OnOk result (HasTurned self.old self.new) }
         ensures turns { OnOk result (length self.new.turns.items ≡ 1) }
         ensures solved { OnOk result (IsSolvedIfUnspent self.new) }
@@ -325,12 +324,12 @@ impl<'a> Root<'a> {
         desks: &mut [P::Desk],
     ) -> Result<(), AllocError>
         requires accepted { IsAccepted (P.snapshot pricer.now) }
-        requires root { IsRoot (P.fits pricer.now) (P.snapshot pricer.now) most_tours self.old }
+        requires root { IsRoot (P.snapshot pricer.now) most_tours self.old }
         requires turns { self.old.turns.items ≡ [] }
         requires rounds { 1 ≤ rounds }
         requires most_tours { (1 ≤ most_tours) × (most_tours ≤ 10 ^ 18) }
         requires desks { Serving (P.owns pricer.now) desks.old }
-        ensures root { OnOk result (IsRoot (P.fits pricer.now) (P.snapshot pricer.now) most_tours self.new) }
+        ensures root { OnOk result (IsRoot (P.snapshot pricer.now) most_tours self.new) }
         ensures turned { OnOk result (HasTurned self.old self.new) }
         ensures due { OnOk result (HasDueTurns (P.snapshot pricer.now) rounds self.new) }
         ensures desks { OnOk result (Serving (P.owns pricer.now) desks.new) }

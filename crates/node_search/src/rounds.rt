@@ -71,16 +71,17 @@ impl<'a> Search<'a> {
         Ok(tasks)
     }
 
-    /// How many partial tours each car's pricing in each of these leaves may try, as those that gave the
-    /// leaf's worths tell. It fails only where there is no memory left.
+    /// How many partial tours each car's pricing in each of these leaves may try, as its last one there or
+    /// above tells. It fails only where there is no memory left.
     fn sizes_of(&self, alloc: Global, chosen: &[Chosen]) -> Result<Vec<u64>, AllocError>
         requires { All (λ (c : Chosen). c.place < length self.now.tree.branches) chosen.now }
     {
+        let cars = self.best.pool.snapshot().building().cars().len();
         let mut sizes = Vec::new(alloc);
         for index in 0..chosen.len() {
-            let branch = &self.tree.branches()[chosen[index].place];
-            for worth in branch.sheet.worths() {
-                sizes.push(worth.claim)?;
+            let steps = self.tree.payload(chosen[index].place);
+            for car in 0..cars {
+                sizes.push(steps.tried(car))?;
             }
         }
         Ok(sizes)
@@ -97,12 +98,12 @@ impl<'a> Search<'a> {
         desks: &mut [P::Desk],
     ) -> Result<Vec<TurnOf>, AllocError>
         requires accepted { IsAccepted (P.snapshot pricer.now) }
-        requires way { IsUnderWay (P.fits pricer.now) (P.snapshot pricer.now) most_tours self.now }
+        requires way { IsUnderWay (P.snapshot pricer.now) most_tours self.now }
         requires taken { AreTaken (P.snapshot pricer.now) self.now chosen.now }
         requires most_tours { (1 ≤ most_tours) × (most_tours ≤ 10 ^ 18) }
         requires desks { Serving (P.owns pricer.now) desks.old }
-        ensures priced { IfOk result (λ answers. ArePriced (P.fits pricer.now)
-            (P.snapshot pricer.now) most_tours self.now chosen.now answers.items) }
+        ensures priced { IfOk result
+            (λ answers. ArePriced (P.snapshot pricer.now) most_tours self.now chosen.now answers.items) }
         ensures desks { All (P.owns pricer.now) desks.new }
     {
         let cars = self.best.pool.snapshot().building().cars().len() as u32;
@@ -123,12 +124,10 @@ impl<'a> Search<'a> {
         answers: &[TurnOf],
     ) -> Result<(), AllocError>
         requires accepted { IsAccepted (P.snapshot pricer.now) }
-        requires way { IsUnderWay (P.fits pricer.now) (P.snapshot pricer.now) most_tours self.old }
+        requires way { IsUnderWay (P.snapshot pricer.now) most_tours self.old }
         requires cars { cars ≡ car_count (P.snapshot pricer.now) }
-        requires priced { ArePriced (P.fits pricer.now) (P.snapshot pricer.now) most_tours self.old
-            chosen.now answers.now }
-        ensures way { OnOk result
-            (IsUnderWay (P.fits pricer.now) (P.snapshot pricer.now) most_tours self.new) }
+        requires priced { ArePriced (P.snapshot pricer.now) most_tours self.old chosen.now answers.now }
+        ensures way { OnOk result (IsUnderWay (P.snapshot pricer.now) most_tours self.new) }
         ensures advanced { OnOk result
             (HasAdvanced (P.snapshot pricer.now) (length chosen.now) self.old self.new) }
     {
@@ -151,12 +150,11 @@ impl<'a> Search<'a> {
         desks: &mut [P::Desk],
     ) -> Result<bool, AllocError>
         requires accepted { IsAccepted (P.snapshot pricer.now) }
-        requires searching { IsSearching (P.fits pricer.now) (P.snapshot pricer.now) most_tours self.old }
+        requires searching { IsSearching (P.snapshot pricer.now) most_tours self.old }
         requires most_tours { (1 ≤ most_tours) × (most_tours ≤ 10 ^ 18) }
         requires done { self.old.done < 10 ^ 18 }
         requires desks { Serving (P.owns pricer.now) desks.old }
-        ensures searching { OnOk result
-            (IsSearching (P.fits pricer.now) (P.snapshot pricer.now) most_tours self.new) }
+        ensures searching { OnOk result (IsSearching (P.snapshot pricer.now) most_tours self.new) }
         ensures done { IfOk result
             (λ more. more ≡ true → HasDoneRound (P.snapshot pricer.now) self.old self.new) }
         ensures busy { IfOk result
@@ -191,12 +189,11 @@ impl<'a> Search<'a> {
         desks: &mut [P::Desk],
     ) -> Result<(), AllocError>
         requires accepted { IsAccepted (P.snapshot pricer.now) }
-        requires searching { IsSearching (P.fits pricer.now) (P.snapshot pricer.now) most_tours self.old }
+        requires searching { IsSearching (P.snapshot pricer.now) most_tours self.old }
         requires most_tours { (1 ≤ most_tours) × (most_tours ≤ 10 ^ 18) }
         requires rounds { (self.old.done ≤ rounds) × (rounds ≤ 10 ^ 18) }
         requires desks { Serving (P.owns pricer.now) desks.old }
-        ensures searching { OnOk result
-            (IsSearching (P.fits pricer.now) (P.snapshot pricer.now) most_tours self.new) }
+        ensures searching { OnOk result (IsSearching (P.snapshot pricer.now) most_tours self.new) }
         ensures run { OnOk result (HasRun (P.snapshot pricer.now) rounds self.old self.new) }
         ensures desks { All (P.owns pricer.now) desks.new }
     {

@@ -81,8 +81,7 @@ impl<'a> Best<'a> {
         requires best { IsBest (P.snapshot pricer.now) self.old }
         requires node { IsNodeOf (P.snapshot pricer.now) node.now }
         requires single { AreSingle (call_count (P.snapshot pricer.now)) node.now }
-        requires answers { AreAnswersIn (P.fits pricer.now) (P.snapshot pricer.now) most_tours
-            node.now prices.now cars.now }
+        requires answers { AreAnswersIn (P.snapshot pricer.now) most_tours node.now prices.now cars.now }
         requires none { (c : ℕ) → c < length cars.now
             → (slice_index_or cars.now c no_turn).priced.spent ≡ false }
         ensures best { OnOk result (IsBest (P.snapshot pricer.now) self.new) }
@@ -139,13 +138,11 @@ impl<'a> Search<'a> {
         cars: &[TurnOf],
     ) -> Result<(), AllocError>
         requires accepted { IsAccepted (P.snapshot pricer.now) }
-        requires way { IsUnderWay (P.fits pricer.now) (P.snapshot pricer.now) most_tours self.old }
-        requires pricing { IsPricingOf (P.fits pricer.now) (P.snapshot pricer.now) most_tours self.old
-            place prices.now cars.now }
+        requires way { IsUnderWay (P.snapshot pricer.now) most_tours self.old }
+        requires pricing { IsPricingOf (P.snapshot pricer.now) most_tours self.old place prices.now cars.now }
         requires single { AreSingle (call_count (P.snapshot pricer.now))
             (at_place self.old.tree.branches place).node }
-        ensures way { OnOk result
-            (IsUnderWay (P.fits pricer.now) (P.snapshot pricer.now) most_tours self.new) }
+        ensures way { OnOk result (IsUnderWay (P.snapshot pricer.now) most_tours self.new) }
         ensures settled { OnOk result (HasSettled (P.snapshot pricer.now) self.old self.new place) }
     {
         self.tree.note(place, prices, cars);
@@ -170,14 +167,12 @@ impl<'a> Search<'a> {
         first: SplitAt,
     ) -> Result<(), AllocError>
         requires accepted { IsAccepted (P.snapshot pricer.now) }
-        requires way { IsUnderWay (P.fits pricer.now) (P.snapshot pricer.now) most_tours self.old }
-        requires pricing { IsPricingOf (P.fits pricer.now) (P.snapshot pricer.now) most_tours self.old
-            place prices.now cars.now }
+        requires way { IsUnderWay (P.snapshot pricer.now) most_tours self.old }
+        requires pricing { IsPricingOf (P.snapshot pricer.now) most_tours self.old place prices.now cars.now }
         requires call { first.call < call_count (P.snapshot pricer.now) }
         requires part { is_part (set_of (at_place self.old.tree.branches place).node first.call)
             first.part ≡ true }
-        ensures way { OnOk result
-            (IsUnderWay (P.fits pricer.now) (P.snapshot pricer.now) most_tours self.new) }
+        ensures way { OnOk result (IsUnderWay (P.snapshot pricer.now) most_tours self.new) }
         ensures settled { OnOk result (HasSettled (P.snapshot pricer.now) self.old self.new place) }
     {
         note(&mut self.tree, place, prices, cars);
@@ -200,11 +195,9 @@ impl<'a> Search<'a> {
         cars: &[TurnOf],
     ) -> Result<(), AllocError>
         requires accepted { IsAccepted (P.snapshot pricer.now) }
-        requires way { IsUnderWay (P.fits pricer.now) (P.snapshot pricer.now) most_tours self.old }
-        requires pricing { IsPricingOf (P.fits pricer.now) (P.snapshot pricer.now) most_tours self.old
-            place prices.now cars.now }
-        ensures way { OnOk result
-            (IsUnderWay (P.fits pricer.now) (P.snapshot pricer.now) most_tours self.new) }
+        requires way { IsUnderWay (P.snapshot pricer.now) most_tours self.old }
+        requires pricing { IsPricingOf (P.snapshot pricer.now) most_tours self.old place prices.now cars.now }
+        ensures way { OnOk result (IsUnderWay (P.snapshot pricer.now) most_tours self.new) }
         ensures settled { OnOk result (HasSettled (P.snapshot pricer.now) self.old self.new place) }
     {
         prove!(self.best.pool.snapshot().calls().len() <= MOST_CALLS);

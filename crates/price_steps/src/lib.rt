@@ -12,10 +12,11 @@
 //!   cars, and nothing overflows. Nothing is promised of how good they are.
 //!
 //! `Steps` belongs to a node of the tree: how far calls were boarded too often or not at all, how much the
-//! last pricings gained, and which car took which call how often; the parts of a split begin with most of it.
-//! From these `next_prices` proposes the prices of the node's next pricing (thirty steps of ascent over the
-//! pool's tours that lie in the node, taken back towards the leaf's prices where that gained nothing; else a
-//! step along the averaged violation), `is_due` when it is split and `choice` at which call and how.
+//! last pricings gained, which car took which call how often, and how many partial tours each car's last
+//! pricing tried; the parts of a split begin with most of it. From these `next_prices` proposes the prices of
+//! the node's next pricing (thirty steps of ascent over the pool's tours that lie in the node, taken back
+//! towards the leaf's prices where that gained nothing; else a step along the averaged violation), `is_due`
+//! when it is split and `choice` at which call and how; `tried` foretells how long each pricing may take.
 #![tactic(auto)]
 
 mod ascent;

@@ -11,7 +11,7 @@ use crate::fixed::ONE;
 use crate::moves::take_back;
 use crate::shares::Shares;
 use assign_branch::Node;
-use elevator_model::MOST_CALLS;
+use elevator_model::{MOST_CALLS, MOST_CARS};
 use price_ascent::{Lacks, percent_of, raise};
 use price_scale::{Price, SCALE};
 use restricted_master::Pool;
@@ -30,8 +30,11 @@ const LEAST_RATE: i64 = ONE / 64;
 
 const LEAST_NEW_RATE: i64 = ONE / 8;
 
+/// How many cars there may be.
+const CARS: usize = MOST_CARS as usize;
+
 /// What a node of a search remembers of its pricings and of those of the nodes above it: from it come the
-/// prices of the next pricing, when the node is split, and where.
+/// prices of the next pricing, how long each car's may take, when the node is split, and where.
 #[derive(Drop)]
 pub struct Steps {
     /// For each call, in 2^20ths: the average of 1 less the number of tours that took it, of which the newest
@@ -47,6 +50,8 @@ pub struct Steps {
     gains: [i128; 4],
     /// How many pricings the node had.
     pricings: u32,
+    /// How many partial tours each car's last pricing tried, in the node or in one above it.
+    tried: [u64; CARS],
 }
 
 impl Steps {
@@ -59,6 +64,7 @@ impl Steps {
             back: 0,
             gains: [0; 4],
             pricings: 0,
+            tried: [0; CARS],
         })
     }
 
@@ -71,16 +77,32 @@ impl Steps {
             back: 0,
             gains: [0; 4],
             pricings: 0,
+            tried: self.tried,
         })
     }
 
-    /// Takes in a pricing of all cars, which raised the leaf's sum by so much, in thousandths of a cost unit.
-    /// It is spent where some car's pricing reached the limit of partial tours: its tours then tell nothing.
+    /// Takes in a pricing of all cars, which raised the leaf's sum by this much, in thousandths of a cost
+    /// unit. It is spent where some car's pricing reached the limit of partial tours: its tours then tell
+    /// nothing.
     pub fn note(&mut self, cars: &[TurnOf], gain: i128, spent: bool) {
         if !spent {
             self.note_tours(cars);
         }
         self.note_gain(gain, spent);
+        self.note_tried(cars);
+    }
+
+    /// Takes in how many partial tours each car's pricing tried.
+    fn note_tried(&mut self, cars: &[TurnOf]) {
+        for (tried, turn) in self.tried.iter_mut().zip(cars) {
+            *tried = turn.priced.visits;
+        }
+    }
+
+    /// How many partial tours the car's last pricing tried, in the node or in one above it: 0 before the
+    /// first.
+    pub fn tried(&self, car: usize) -> u64 {
+        self.tried.get(car).copied().unwrap_or(0)
     }
 
     /// Takes in which car took which call.
@@ -158,7 +180,7 @@ impl Steps {
         Ok(prices)
     }
 
-    /// Whether the node is to be split, where its leaf's sum is below the cost of the best known plan by so
+    /// Whether the node is to be split, where its leaf's sum is below the cost of the best known plan by this
     /// much, in thousandths of a cost unit: its last pricings together closed less than a tenth of the gap,
     /// or it had as many as a node may have.
     pub fn is_due(&self, gap: i128) -> bool {

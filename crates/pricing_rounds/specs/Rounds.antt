@@ -6,7 +6,7 @@ use Rattle.elevator_model.specs.Snapshot.{Snapshot, car_count, call_count}
 use Rattle.search_model.specs.declared.TurnOf.{TurnOf}
 use Rattle.search_model.specs.Nodes.{IsNodeOf}
 use Rattle.search_model.specs.Prices.{price_at}
-use Rattle.search_model.specs.Solving.{Fits, no_turn}
+use Rattle.search_model.specs.Solving.{no_turn}
 use Rattle.search_tree.specs.Answers.{IsAnswerIn}
 use Rattle.work_fan.specs.declared.workers.Done.{Done}
 use Rattle.pricing_rounds.specs.declared.tasks.Task.{Task}
@@ -40,15 +40,15 @@ pub record IsRound (s : Snapshot) (tasks : List Task) (cars most_tours : ℕ) (o
   pub below : All (λ p. p < length tasks * cars) order
 
 -- a pricing of car c at task i, where there is such a task
-abbrev pub IsAnswerOf : Fits → Snapshot → (most_tours : ℕ) → List Task → (i c : ℕ) → TurnOf → Type 0
-IsAnswerOf fits s most_tours tasks i c answer =
-    (task : Task) → slice_get tasks i ≡ Some task → IsAnswerIn fits s most_tours task.node.now (price_at task.prices.now) c answer
+abbrev pub IsAnswerOf : Snapshot → (most_tours : ℕ) → List Task → (i c : ℕ) → TurnOf → Type 0
+IsAnswerOf s most_tours tasks i c answer =
+    (task : Task) → slice_get tasks i ≡ Some task → IsAnswerIn s most_tours task.node.now (price_at task.prices.now) c answer
 
 -- an answer of pricing p, that of car p % cars at task p / cars
-abbrev pub IsAnswerAt : Fits → Snapshot → (most_tours : ℕ) → List Task → (cars p : ℕ) → TurnOf → Type 0
-IsAnswerAt fits s most_tours tasks cars p answer = IsAnswerOf fits s most_tours tasks (p / cars) (p % cars) answer
+abbrev pub IsAnswerAt : Snapshot → (most_tours : ℕ) → List Task → (cars p : ℕ) → TurnOf → Type 0
+IsAnswerAt s most_tours tasks cars p answer = IsAnswerOf s most_tours tasks (p / cars) (p % cars) answer
 
 -- the pricings of all cars at all tasks: at i * cars + c stands that of car c at task i
-abbrev pub AreAnswersOf : Fits → Snapshot → (most_tours : ℕ) → List Task → (cars : ℕ) → List TurnOf → Type 0
-AreAnswersOf fits s most_tours tasks cars answers =
-    (i c : ℕ) → c < cars → IsAnswerOf fits s most_tours tasks i c (slice_index_or answers (i * cars + c) no_turn)
+abbrev pub AreAnswersOf : Snapshot → (most_tours : ℕ) → List Task → (cars : ℕ) → List TurnOf → Type 0
+AreAnswersOf s most_tours tasks cars answers =
+    (i c : ℕ) → c < cars → IsAnswerOf s most_tours tasks i c (slice_index_or answers (i * cars + c) no_turn)

@@ -41,8 +41,8 @@ impl<'a, P: Pricer> Jobs for Round<'a, P> {
 
     ghost serves = { λ it desk. P.owns it.pricer.now desk };
 
-    ghost is_right = { λ it k answer. IsAnswerAt (P.fits it.pricer.now) (P.snapshot it.pricer.now)
-        it.most_tours it.tasks.now it.cars (slice_index it.order.now k) answer };
+    ghost is_right = { λ it k answer. IsAnswerAt (P.snapshot it.pricer.now) it.most_tours
+        it.tasks.now it.cars (slice_index it.order.now k) answer };
 
     fn count(&self) -> u32 {
         self.tasks.len() as u32 * self.cars
@@ -85,8 +85,8 @@ pub fn price_nodes<P: Pricer, R: Threads + Sync, G: Gate + Sync>(
     requires limit { (1 ≤ most_tours) × (most_tours ≤ 10 ^ 18) }
     requires desks { Serving (P.owns pricer.now) desks.old }
     ensures count { IfOk result (λ answers. length answers.items ≡ length tasks.now * cars) }
-    ensures answers { IfOk result (λ answers. AreAnswersOf (P.fits pricer.now)
-        (P.snapshot pricer.now) most_tours tasks.now cars answers.items) }
+    ensures answers { IfOk result (λ answers. AreAnswersOf (P.snapshot pricer.now)
+        most_tours tasks.now cars answers.items) }
     ensures desks { All (P.owns pricer.now) desks.new }
 {
     let count = tasks.len() as u32 * cars;

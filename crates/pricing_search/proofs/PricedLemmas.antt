@@ -66,7 +66,6 @@ priced s node c prices most found answer r = record {
   high = r.high;
   exact = λ e. reaches (r.exact e);
   spent = λ e. (r.spent e, many_tours s node c most (let many = r.many in let all = r.spent e in omega (arith, many, all)));
-  claim = r.kept;
   least = r.least;
 }
   where

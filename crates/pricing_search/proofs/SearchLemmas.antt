@@ -15,7 +15,6 @@ use Rattle.tour_rules.proofs.Measure.{lawful_short}
 use Rattle.partial_tours.specs.PartialTour.{PartialTour, course}
 use Rattle.tour_extension.specs.declared.demands.Demand.{Demand}
 use Rattle.pricing_bound.specs.Aims.{Aim, AimsAt, IsBoundSize, IsLower}
-use Rattle.kept_tours.specs.Kept.{kept_from}
 use Rattle.kept_tours.specs.Walking.{aim_at, IsWalking, IsOpen}
 use Rattle.kept_tours.proofs.ListLemmas.{own_one}
 use Rattle.pricing_search.specs.declared.progress.Progress.{Progress}
@@ -77,13 +76,6 @@ searched a demand t bound most first last answer w lower empty begins walked som
       let under = may.best in
       (through _ _ answer.worth low at_least, through answer.worth first.best _ (through answer.worth last.best first.best under best) high)
       );
-  kept = (
-      let all = walked.kept (course_start t.snapshot t.car) at answer.worth (move_limit t.snapshot t.car + 1) may in
-      let none = begins.visits in
-      let more = (one_at_least last.visits).1 in
-      let lists = ap (λ (ms : List Move). length (kept_here ms)) empty in
-      omega (arith, all, none, more, visits_are, lists)
-      );
   least = at_least;
   finds = (last.best, walked.found);
   exact = λ e. subst (IsFoundTour (aim_at t demand a.price) last.found) (sym (worth_is ∙ lesser_same last.untried last.best (best_known e))) walked.found;
@@ -93,9 +85,6 @@ searched a demand t bound most first last answer w lower empty begins walked som
   where
     at : course t ≡ Some (course_start t.snapshot t.car)
     at = ap course (is_empty t empty)
-
-    kept_here : List Move → List (List Move)
-    kept_here ms = kept_from t.snapshot t.car bound (has demand.allowed) (has demand.required) answer.worth (move_limit t.snapshot t.car + 1) ms (course_start t.snapshot t.car)
 
     may : MayAnswer last answer.worth
     may = let l = lesser-least last.untried last.best in let lu = l.0 in let lb = l.1 in record { best = omega (arith, ints, worth_is, lb); untried = omega (arith, ints, worth_is, lu) }

@@ -1,10 +1,10 @@
 -- What a walk keeps, move after move.
 use Rattle.std.proofs.Common.{◌≡◌, ℕ, zero, suc, ◌+◌, ◌<◌, ◌≤◌, Bool, true, false, cond, List, [], ◌∷◌, ◌++◌, length, get_or, refl, sym, ap, ◌∙◌, subst, inl, inr, arith, append-nil, Option, Some, None}
-use Rattle.std.specs.Prelude.{ℤ, ◌≤ℤ◌, int_lt, not, ◌-◌, ◌&&◌}
+use Rattle.std.specs.Prelude.{ℤ, ◌≤ℤ◌, int_lt, not, ◌&&◌}
 use Rattle.std.specs.List.{flat_map}
 use Rattle.std.proofs.Math.Nat.{eq-or-lt_of_le}
 use Rattle.std.proofs.lemmas.Int.{ints}
-use Rattle.std.proofs.lemmas.Bool.{and_left, and_right, both_ways}
+use Rattle.std.proofs.lemmas.Bool.{both_ways}
 use Rattle.call_sets.specs.Counting.{has}
 use Rattle.elevator_model.specs.declared.Move.{Move}
 use Rattle.elevator_model.specs.declared.Move.TheVariants.{Board, End}
@@ -27,9 +27,9 @@ use Rattle.kept_tours.specs.Walking.{aim_at, goes_on, IsWalking, IsOpen, IsNotKe
 use Rattle.kept_tours.proofs.Followers.{followers, IsAt, at_move, at_end, at_place_of, follower, one_course, in_followers, past_out}
 use Rattle.kept_tours.proofs.Below.{GoesToKept}
 use Rattle.kept_tours.proofs.EndLemmas.{ended_within, ended_value, HasNext, has_next}
-use Rattle.kept_tours.proofs.ListLemmas.{fails_none, first_lists, own_lists, next_lists, all_lists, ended_lists, own_one, own_all}
+use Rattle.kept_tours.proofs.ListLemmas.{first_lists, own_lists, next_lists, own_one, own_all}
 use Rattle.pricing_search.specs.declared.progress.Progress.{Progress}
-use Rattle.pricing_search.specs.Walks.{IsFoundTour, HasFound, GoesOn, MayAnswer, CountsKept, BelowAll, KeepsLow, Visited}
+use Rattle.pricing_search.specs.Walks.{IsFoundTour, HasFound, GoesOn, MayAnswer, BelowAll, KeepsLow, Visited}
 
 -- the test of those that are kept
 abbrev pub keeps : PartialTour → Demand → (bound : Course → ℤ) → (worth : ℤ) → Course → Bool
@@ -39,7 +39,6 @@ keeps t demand bound worth = is_kept_by t.snapshot t.car bound (has demand.allow
 pub record VisitsBefore (t : PartialTour) (demand : Demand) (price : ℕ → ℤ) (bound : Course → ℤ) (most : ℕ) (old new : Progress) (place : ℕ) : Type 0 where
   pub on : GoesOn most old new
   pub found : HasFound (aim_at t demand price) new
-  pub kept : (x : Course) → course t ≡ Some x → CountsKept (λ worth n. first_lists t demand.allowed (keeps t demand bound worth) n x place) old new
   pub below : (k : ℕ) → k < place → BelowAll t demand price (t.moves ++ get_or (followers t demand.allowed) k (Board 0) ∷ []) new
   pub few : (x : Course) → course t ≡ Some x → (n : ℕ) → moves_left t.snapshot t.car x ≤ n → new.visits ≤ old.visits + length (first_lists t demand.allowed any_course n x place)
   pub least : (x : Course) → course t ≡ Some x → KeepsLow (bound x) old new
@@ -61,9 +60,6 @@ might_answer most old new worth on may =
 
 -- ---- where nothing is visited
 
-not_below : (b worth : ℤ) → worth ≤ℤ b → int_lt b worth ≡ false
-not_below b worth le = grind (arith, ints)
-
 through : (t u v : ℤ) → t ≤ℤ u → u ≤ℤ v → t ≤ℤ v
 through t u v h k = omega (arith, ints, h, k)
 
@@ -72,11 +68,6 @@ pub passed_by : (t : PartialTour) (demand : Demand) (price : ℕ → ℤ) (bound
 passed_by t demand price bound most old new at ok car_in lower leads on same found least low = record {
   on = on;
   found = found;
-  kept = λ x there worth n may. (
-      let le = subst (λ (y : Course). worth ≤ℤ bound y) (one_course t at x leads there) (least worth may) in
-      let none = fails_none t.snapshot t.car (has demand.allowed) (keeps t demand bound worth) n t.moves x (and_right (goes_on t demand x) (int_lt (bound x) worth) (not_below (bound x) worth le)) in
-      omega (arith, none, same)
-      );
   below = λ worth tour may within begins. through worth (bound at) (value_for (aim_at t demand price) tour) (least worth may) (lower t.moves at tour ok car_in leads begins within);
   few = λ x there n lt. omega (arith, same);
   least = λ x there. subst (λ (y : Course). KeepsLow (bound y) old new) (one_course t at x leads there) low;
@@ -87,11 +78,6 @@ pub shut_out : (t : PartialTour) (demand : Demand) (price : ℕ → ℤ) (bound 
 shut_out t demand price bound most p at ok demands leads shut le found = record {
   on = goes_nowhere most p le;
   found = found;
-  kept = λ x there worth n may. (
-      let no = subst (λ (y : Course). goes_on t demand y ≡ false) (one_course t at x leads there) shut in
-      let none = fails_none t.snapshot t.car (has demand.allowed) (keeps t demand bound worth) n t.moves x (and_left (goes_on t demand x) (int_lt (bound x) worth) no) in
-      omega (arith, none)
-      );
   below = λ worth tour may within begins. absurd (both_ways (goes_on t demand at) shut (extendable_to t.snapshot t.car (has demand.allowed) (has demand.required) t.moves at ok demands leads (tour, within, begins)));
   few = λ x there n lt. omega arith;
   least = λ x there z le may. may;
@@ -140,13 +126,6 @@ one_visited t demand price bound most at m place old mid new leads stands first 
     let here = at_move t set m place stands in record {
       on = goes_through most old mid new first.on more_on.on;
       found = more_on.found;
-      kept = λ x there worth n may. (
-          let fx = follower t set x m place there stands in
-          let a = first.kept x there worth n (might_answer most mid new worth more_on.on may) in
-          let b = more_on.kept fx.next fx.leads worth n may in
-          let one_more = next_lists t set (keeps t demand bound worth) n x fx.next m place there stands fx.moved in
-          omega (arith, a, b, one_more)
-          );
       below = λ k b worth tour may within begins. (
           let le : k ≤ place = omega (arith, b) in
           elim (eq-or-lt_of_le le) [ inl e ↦ more_on.below worth tour may within (subst (λ (v : Move). BeginsWith t.snapshot tour (t.moves ++ v ∷ [])) (ap (λ (i : ℕ). get_or (followers t set) i (Board 0)) e ∙ sym here.1) begins) | inr lt ↦ first.below k lt worth tour (might_answer most mid new worth more_on.on may) within begins ]
@@ -189,7 +168,6 @@ visits_first a t demand bound most at next p w lower leads grows goes le found =
     visits_to a t demand bound most at next 0 p p w lower leads grows goes (record {
       on = goes_nowhere most p le;
       found = found;
-      kept = λ x there worth n may. omega arith;
       below = λ k b. absurd (omega arith);
       few = λ x there n lt. omega arith;
       least = λ x there z le may. may;
@@ -264,10 +242,6 @@ ended_visited a demand t bound stands most old now new value w o over lt found l
     record {
       on = record { limit = omega (arith, lt, visits); rises = omega (arith, visits); best = omega (arith, ints, best, low_too); untried = omega (arith, ints, untried); unspent = λ _. untried };
       found = subst (λ (ms : List Move). IsFoundTour aim ms new.best) (sym moves) (subst (λ (v : ℤ). IsFoundTour aim (cond (int_lt value old.best) t.moves old.found) v) (sym best) here);
-      kept = λ x there worth n may. (
-          let ends = ended_lists t demand.allowed (keeps t demand bound worth) n x (ap (λ (y : Course). y.ended) (one_course t x o.at there o.leads) ∙ over) in
-          omega (arith, ends, visits)
-          );
       below = λ worth tour may inside begins. (
           let same = ended_value s t.car a.price t.moves o.at tour o.leads over begins (has demand.allowed) (has demand.required) inside in
           let b = may.best in
@@ -292,17 +266,12 @@ ended_visited a demand t bound stands most old now new value w o over lt found l
 pub all_visited : (a : Aim) (demand : Demand) (t : PartialTour) (bound : Course → ℤ) (stands : Course → Type 0) (most : ℕ) (old now new : Progress) → IsWalking a demand t → (o : IsOpen stands demand t) → o.at.ended ≡ false → IsCounted old now → Visits t demand a.price bound most None now new → Visited t demand a.price bound most old new
 all_visited a demand t bound stands most old now new w o runs counted all =
     let s = t.snapshot in
-    let set = demand.allowed in
     let on = all.done.on in
     let rises = on.rises in let b = on.best in let u = on.untried in
     let visits = counted.visits in let best = counted.best in let untried = counted.untried in
     record {
       on = record { limit = on.limit; rises = omega (arith, rises, visits); best = omega (arith, ints, b, best); untried = omega (arith, ints, u, untried); unspent = λ lt. on.unspent lt ∙ untried };
       found = all.done.found;
-      kept = λ x there worth n may. (
-          let whole = all_lists t set (keeps t demand bound worth) x all.place (new.visits - now.visits) there all.at (λ m. let k = all.done.kept x there worth m may in omega (arith, k)) n in
-          omega (arith, whole, visits, rises)
-          );
       below = λ worth tour may inside begins. (
           let next = has_next s t.car t.moves o.at tour o.leads runs inside.feasible begins in
           through_all worth tour may inside next.move (among tour inside next) next.begins

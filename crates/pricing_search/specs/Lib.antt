@@ -1,4 +1,3 @@
 pub mod Walks
 pub mod Dives
 pub mod Searches
-pub mod Claims

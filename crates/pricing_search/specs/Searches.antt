@@ -9,12 +9,11 @@ use Rattle.search_model.specs.Nodes.{Node, IsTourWithin, IsTourIn, allows, requi
 use Rattle.search_model.specs.Orders.{partial_tours}
 use Rattle.search_model.specs.Prices.{IsWorth, price_at, value_of}
 use Rattle.search_model.specs.Bounds.{completion_bound}
-use Rattle.search_model.specs.Solving.{ReachesLeast, HasPartialTours, fits_kept}
+use Rattle.search_model.specs.Solving.{ReachesLeast, HasPartialTours}
 use Rattle.assign_branch.specs.Pricings.{Pricing, IsWorthSize}
 use Rattle.partial_tours.specs.PartialTour.{PartialTour}
 use Rattle.pricing_bound.specs.Aims.{Aim, value_for, IsBoundSize}
 use Rattle.pricing_bound.specs.Rates.{Rated}
-use Rattle.kept_tours.specs.Kept.{kept_list_by}
 use Rattle.pricing_search.specs.Walks.{IsFoundTour}
 
 -- a tour was found
@@ -27,8 +26,6 @@ pub record IsSearched (a : Aim) (bound : Course → ℤ) (most : ℕ) (found : L
   pub high : answer.visits ≤ most
   pub worth : (tour : List Stop) → IsTourWithin a.snapshot a.car a.allowed a.required tour → answer.worth ≤ℤ value_for a tour
   pub size : IsBoundSize answer.worth
-  -- the kept list of the worth is not longer than the visits
-  pub kept : length (kept_list_by a.snapshot a.car bound a.allowed a.required answer.worth) ≤ answer.visits
   -- the worth is no less than the bound of the empty partial tour
   pub least : bound (course_start a.snapshot a.car) ≤ℤ answer.worth
   pub finds : FindsSome a found
@@ -65,6 +62,5 @@ pub record IsPriced (s : Snapshot) (node : Node) (c : ℕ) (prices : List ℤ) (
   pub high : answer.visits ≤ most
   pub exact : answer.spent ≡ false → ReachesLeast s node c (price_at prices) answer.worth
   pub spent : answer.spent ≡ true → (answer.visits ≡ most) × HasPartialTours s node c most
-  pub claim : fits_kept s node c (price_at prices) answer.worth answer.visits
   -- the worth is no less than the completion bound of the empty partial tour
   pub least : completion_bound s c (price_at prices) (allows node c) (requires_of node c) (course_start s c) ≤ℤ answer.worth

@@ -8,7 +8,6 @@ use Rattle.search_model.specs.Orders.{BeginsWith, lists_from, any_course}
 use Rattle.tour_rules.specs.Measure.{moves_left}
 use Rattle.partial_tours.specs.PartialTour.{PartialTour, course}
 use Rattle.pricing_bound.specs.Aims.{Aim, value_for, IsBoundSize}
-use Rattle.kept_tours.specs.Kept.{kept_from}
 use Rattle.kept_tours.specs.Walking.{aim_at}
 use Rattle.tour_extension.specs.declared.demands.Demand.{Demand}
 use Rattle.pricing_search.specs.declared.progress.Progress.{Progress}
@@ -42,14 +41,6 @@ pub record MayAnswer (p : Progress) (worth : ℤ) : Type 0 where
 abbrev pub KeepsLow : (bound : ℤ) → (old new : Progress) → Type 0
 KeepsLow bound old new = (z : ℤ) → z ≤ℤ bound → MayAnswer old z → MayAnswer new z
 
--- For each worth that may be answered the kept ones, with any number of moves more, are among those that were visited.
-abbrev pub CountsKept : (lists : (worth : ℤ) (n : ℕ) → List (List Move)) → (old new : Progress) → Type 0
-CountsKept lists old new = (worth : ℤ) (n : ℕ) → MayAnswer new worth → length (lists worth n) + old.visits ≤ new.visits
-
--- the kept ones that begin with a partial tour
-abbrev pub kept_at : Aim → (bound : Course → ℤ) → List Move → Course → (worth : ℤ) (n : ℕ) → List (List Move)
-kept_at a bound moves x worth n = kept_from a.snapshot a.car bound a.allowed a.required worth n moves x
-
 -- Each worth that may be answered is at most the value of each tour for the aim of this kind.
 abbrev pub IsBelowThose : Aim → (kind : List Stop → Type 0) → Progress → Type 0
 IsBelowThose a kind new =
@@ -68,7 +59,6 @@ BelowAll t demand price moves p = IsBelowThose (aim_at t demand price) (λ tour.
 pub record Visited (t : PartialTour) (demand : Demand) (price : ℕ → ℤ) (bound : Course → ℤ) (most : ℕ) (old new : Progress) : Type 0 where
   pub on : GoesOn most old new
   pub found : HasFound (aim_at t demand price) new
-  pub kept : (x : Course) → course t ≡ Some x → CountsKept (kept_at (aim_at t demand price) bound t.moves x) old new
   pub below : BelowAll t demand price t.moves new
   pub few : (x : Course) → course t ≡ Some x → CountsFew (aim_at t demand price) t x old new
   -- no worth that is at most the bound is lost

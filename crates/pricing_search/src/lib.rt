@@ -4,17 +4,16 @@
 //!
 //! - `Searcher` is a `Pricer`: the worth is the least value of the car's tours in the node where the limit
 //!   was not reached, and else one that none of them undercuts. It is spent only where the visits are the
-//!   limit and the car has that many partial tours. The kept list of the worth is not longer than the visits.
-//!   `price` takes no memory.
+//!   limit and the car has that many partial tours. `price` takes no memory.
 //!
 //! First a dive goes from each partial tour to the follower that promises most, to a first tour (`dive`;
 //! there always is a follower, by `step_forth`). Then `visit` walks depth first in the order of moves and
 //! passes by what has a bound not below the best value. Its contract is one record, `Visited`
-//! (`specs/Walks.antt`), over every worth that may still be answered and every number of moves left: the kept
-//! ones that begin with this partial tour are among those visited, and none of its tours is worth less. So a
-//! later fall of the best value needs no lemma. Once the limit was reached the least bound of what is left
-//! out is noted, and the answer is the least of that and the best value. The sums of the bound go down by
-//! value, so a way back undoes nothing. All memory is a desk's.
+//! (`specs/Walks.antt`), over every worth that may still be answered: no tour that begins with this partial
+//! tour has a value below it, and no more were visited than there are lawful ones. So a later fall of the
+//! best value needs no lemma. Once the limit was reached the least bound of what is left out is noted, and
+//! the answer is the least of that and the best value. The sums of the bound go down by value, so a way back
+//! undoes nothing. All memory is a desk's.
 #![tactic(auto)]
 
 mod dive;

@@ -17,7 +17,7 @@ use pricing_bound::CompletionBound;
 use tour_extension::Demand;
 
 /// Searches for the tour of the car that has the least value, from its empty partial tour on, and visits at
-/// most so many partial tours.
+/// most this many partial tours.
 pub(crate) fn search<B: CompletionBound>(
     bound: &B,
     demand: &Demand,

@@ -4,9 +4,7 @@ ghost use Rattle.std.specs.Prelude.{◌≡◌, ◌<◌, ◌≤◌, ◌^◌, leng
 ghost use Rattle.elevator_model.specs.Snapshot.{car_count, call_count};
 ghost use Rattle.search_model.specs.Nodes.{IsNodeOf};
 ghost use Rattle.search_model.specs.Prices.{price_at};
-ghost use Rattle.search_model.specs.Solving.{fits_kept};
 ghost use Rattle.pricing_search.specs.Searches.{HoldsPricing, IsDeskOf, IsPriced};
-ghost use Rattle.pricing_search.specs.Claims.{fits_on};
 
 use crate::progress::Progress;
 use crate::search::search;
@@ -21,8 +19,6 @@ use tour_extension::Demand;
 
 /// Prices the cars of a snapshot exactly: finds the tour of least value by a walk over the partial tours that
 /// some tour of the node begins with and whose completion bound is below the best value.
-///
-/// A claim fits where the kept list of the worth is not longer.
 #[derive(Drop)]
 pub struct Searcher<'a> {
     snapshot: &'a Snapshot,
@@ -89,8 +85,6 @@ impl<'a> Pricer for Searcher<'a> {
 
     ghost holds = { λ it desk p. HoldsPricing it.snapshot.now desk.progress.found desk.has_priced p };
 
-    ghost fits = { λ it. fits_kept it.snapshot.now };
-
     fn desk(&self, alloc: Global) -> Result<Desk<'a>, AllocError> {
         // For the proof: their readers say that the snapshot is accepted, so there is a first car.
         let _calls = self.snapshot.calls();
@@ -119,6 +113,4 @@ impl<'a> Pricer for Searcher<'a> {
         }
         Ok(Some(tour_of(alloc, desk.progress.found.moves())?))
     }
-
-    ghost fits_in_splits = { λ it. fits_on it.snapshot.now };
 }

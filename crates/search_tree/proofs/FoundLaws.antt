@@ -27,7 +27,7 @@ use Rattle.search_model.specs.Sums.{int_sum_by, rounded_up}
 use Rattle.search_model.specs.Nodes.{Node, root_of, set_of, set_where, is_part, rest_of}
 use Rattle.search_model.specs.Prices.{price_at, IsWorth}
 use Rattle.search_model.specs.Certificates.{Place, Placed, places_after, placed_from, is_filled, IsSound, Proves, root_place, worth_in, sum_needed, IsSoundLeaf}
-use Rattle.search_model.specs.Solving.{Fits, HasPartialTours, EndsThere, IsAtEnd, IsEndOf, IsOutOfRounds, IsOutOfMoves, least_bound, lesser_bound, bound_of_leaf, IsFound, IsReason, HasChoice, AreRootTurns, FollowTurn, IsRootTurn, IsPricing, IsTourOfTurns, is_split, no_turn, turn_of_car, sum_of_turn, prices_after}
+use Rattle.search_model.specs.Solving.{HasPartialTours, EndsThere, IsAtEnd, IsEndOf, IsOutOfRounds, IsOutOfMoves, least_bound, lesser_bound, bound_of_leaf, IsFound, IsReason, HasChoice, AreRootTurns, FollowTurn, IsRootTurn, IsPricing, IsTourOfTurns, is_split, no_turn, turn_of_car, sum_of_turn, prices_after}
 use Rattle.search_model.specs.Verdicts.{rounds_enough, moves_enough}
 use Rattle.call_state.proofs.PossibleLemmas.{most_cars-le}
 use Rattle.search_model.proofs.RoundLemmas.{rounded_up-least}
@@ -39,15 +39,14 @@ use Rattle.search_model.proofs.FeasibleLemmas.{length-root_of, plan_in_root}
 use Rattle.search_model.proofs.LeafLemmas.{leaf-bounds}
 use Rattle.search_tree.specs.declared.branches.SplitAt.{SplitAt}
 use Rattle.search_tree.specs.declared.branches.Branch.{Branch}
-use Rattle.search_tree.specs.declared.sheets.Worth.{Worth}
-use Rattle.search_tree.specs.Sheets.{PriceSheet, worth_of_car, sum_of_sheet, turn_worth, sheet_of_turn, no_worth, leaf_of}
+use Rattle.search_tree.specs.Sheets.{PriceSheet, worth_of_car, sum_of_sheet, turn_worth, sheet_of_turn, leaf_of}
 use Rattle.search_tree.specs.Branches.{AreSingle, twig_of, twig_at, at_place}
 use Rattle.search_tree.specs.Standing.{Holding, AllStand, AllInTree, IsSheetIn, IsSpentCar, IsKindIn, IsBranchAt, IfLeaf, IsPricedAt, IsAtLeast, bound_of_sheet, pricings_of}
 use Rattle.search_tree.proofs.SumLemmas.{turn_sum}
 use Rattle.search_tree.proofs.ChoiceLemmas.{single-in_node}
 use Rattle.search_tree.proofs.StandingLemmas.{stand-more, stand-both, stand-placed, stand-at}
 use Rattle.search_tree.proofs.LeafFacts.{sum_of_leaf-sheet, price_in-sheet, worth_in-sheet, whole_lists-sheet}
-use Rattle.search_tree.proofs.EndLaws.{IsAbove, tree-proves, tree-claimed, tree-priced}
+use Rattle.search_tree.proofs.EndLaws.{IsAbove, tree-proves, tree-priced}
 
 -- ---- rounded sums
 
@@ -72,22 +71,16 @@ sum-enough bound sum is = by_test (int_lt sum (sum_needed bound)) refl
 
 -- ---- the root
 
--- a price for each call, and for each car a worth in the root
-pub record IsRootSheet (s : Snapshot) (sheet : PriceSheet) : Type 0 where
-  pub calls : length sheet.prices ≡ call_count s
-  pub cars : length sheet.worths ≡ car_count s
-  pub worths : (c : ℕ) → c < car_count s → IsWorth s (root_of s) c (price_at sheet.prices) (worth_of_car sheet c)
-
-root-sound : (s : Snapshot) (bound : ℕ) (sheet : PriceSheet) → IsRootSheet s sheet → rounded_up (sum_of_sheet sheet) ≡ pos bound → IsSoundLeaf s bound (root_of s) (leaf_of sheet)
+root-sound : (s : Snapshot) (bound : ℕ) (sheet : PriceSheet) → IsSheetIn s (root_of s) sheet → rounded_up (sum_of_sheet sheet) ≡ pos bound → IsSoundLeaf s bound (root_of s) (leaf_of sheet)
 root-sound s bound sheet is rounds =
     record {
-      whole = whole_lists-sheet s sheet is.calls is.cars;
-      enough = subst (λ (z : ℤ). sum_needed bound ≤ℤ z) (sym (sum_of_leaf-sheet sheet)) (sum-enough bound (sum_of_sheet sheet) rounds);
-      worths = λ c lt. subst (λ (p : ℕ → ℤ). IsWorth s (root_of s) c p (worth_in (leaf_of sheet) c)) (sym (price_in-sheet sheet)) (subst (IsWorth s (root_of s) c (price_at sheet.prices)) (sym (worth_in-sheet sheet c)) (is.worths c lt));
+      whole = whole_lists-sheet 0 s sheet is.calls is.cars;
+      enough = subst (λ (z : ℤ). sum_needed bound ≤ℤ z) (sym (sum_of_leaf-sheet 0 sheet)) (sum-enough bound (sum_of_sheet sheet) rounds);
+      worths = λ c lt. subst (λ (p : ℕ → ℤ). IsWorth s (root_of s) c p (worth_in (leaf_of sheet) c)) (sym (price_in-sheet 0 sheet)) (subst (IsWorth s (root_of s) c (price_at sheet.prices)) (sym (worth_in-sheet 0 sheet c)) (is.worths c lt));
     }
 
 -- Weak duality: no feasible plan costs less than the rounded sum of prices and worths of the root.
-pub root-bounds : (s : Snapshot) (sheet : PriceSheet) (plan : List (List Stop)) → IsRootSheet s sheet → IsFeasiblePlan s plan → bound_of_sheet sheet ≤ℤ pos (plan_cost_of s plan)
+pub root-bounds : (s : Snapshot) (sheet : PriceSheet) (plan : List (List Stop)) → IsSheetIn s (root_of s) sheet → IsFeasiblePlan s plan → bound_of_sheet sheet ≤ℤ pos (plan_cost_of s plan)
 root-bounds s sheet plan is feasible = by_sign (rounded_up (sum_of_sheet sheet)) refl
   where
     by_sign : (z : ℤ) → rounded_up (sum_of_sheet sheet) ≡ z → z ≤ℤ pos (plan_cost_of s plan)
@@ -106,9 +99,9 @@ abbrev sheet_of : Turn → PriceSheet
 sheet_of turn = sheet_of_turn turn.prices turn.cars
 
 turn-worth : (turn : Turn) (c : ℕ) → c < length turn.cars → worth_of_car (sheet_of turn) c ≡ (turn_of_car turn c).priced.worth
-turn-worth turn c lt = ap (λ (w : Worth). w.worth) (get_or-map turn_worth turn.cars c no_turn no_worth lt)
+turn-worth turn c lt = get_or-map turn_worth turn.cars c no_turn (pos 0) lt
 
-turn-sheet : (s : Snapshot) (most_tours : ℕ) (given : List ℤ) (turn : Turn) → IsRootTurn s most_tours given turn → IsRootSheet s (sheet_of turn)
+turn-sheet : (s : Snapshot) (most_tours : ℕ) (given : List ℤ) (turn : Turn) → IsRootTurn s most_tours given turn → IsSheetIn s (root_of s) (sheet_of turn)
 turn-sheet s most_tours given turn is =
     record {
       calls = is.calls;
@@ -138,7 +131,7 @@ least-of-leaves z cost le (place ∷ places) (b ∷ tree) h = by_kind b.split h.
 
     by_kind : (x : Option SplitAt) → IfLeaf x (z ≤ℤ bound_of_sheet b.sheet) → z ≤ℤ rest → z ≤ℤ lesser_bound rest (twig_at x b.sheet)
     by_kind None here later =
-        let same : bound_of_leaf (leaf_of b.sheet) ≡ bound_of_sheet b.sheet = ap rounded_up (sum_of_leaf-sheet b.sheet) in
+        let same : bound_of_leaf (leaf_of b.sheet) ≡ bound_of_sheet b.sheet = ap rounded_up (sum_of_leaf-sheet 0 b.sheet) in
         let is = int_min_is (bound_of_leaf (leaf_of b.sheet)) rest in
         omega (arith, ints, here, later, same, is)
     by_kind (Some at) here later = later
@@ -156,10 +149,9 @@ rounded-of-leaves s sum cost tree le h =
     least-of-leaves (rounded_up sum) cost le (root_place s ∷ []) tree (stand-more (IsAtLeast sum) (IsAbove (rounded_up sum)) (above-rounded sum) (root_place s ∷ []) tree h)
 
 -- the least bound is at least the rounded sum that the search starts with
-start-least : (fits : Fits) (s : Snapshot) (most_tours : ℕ) (start : PriceSheet) (tree : List Branch) (plan : List (List Stop)) (cost : ℕ) → IsSheetIn fits s most_tours (root_of s) start → AllInTree (IsAtLeast (sum_of_sheet start)) s tree → IsFeasiblePlan s plan → plan_cost_of s plan ≡ cost → rounded_up (sum_of_sheet start) ≤ℤ least_bound cost (map twig_of tree)
-start-least fits s most_tours start tree plan cost sheet leaves feasible costs =
-    let is : IsRootSheet s start = record { calls = sheet.calls; cars = sheet.cars; worths = sheet.worths } in
-    rounded-of-leaves s (sum_of_sheet start) cost tree (subst (λ (n : ℕ). bound_of_sheet start ≤ℤ pos n) costs (root-bounds s start plan is feasible)) leaves
+start-least : (s : Snapshot) (start : PriceSheet) (tree : List Branch) (plan : List (List Stop)) (cost : ℕ) → IsSheetIn s (root_of s) start → AllInTree (IsAtLeast (sum_of_sheet start)) s tree → IsFeasiblePlan s plan → plan_cost_of s plan ≡ cost → rounded_up (sum_of_sheet start) ≤ℤ least_bound cost (map twig_of tree)
+start-least s start tree plan cost sheet leaves feasible costs =
+    rounded-of-leaves s (sum_of_sheet start) cost tree (subst (λ (n : ℕ). bound_of_sheet start ≤ℤ pos n) costs (root-bounds s start plan sheet feasible)) leaves
 
 -- ---- all turns
 
@@ -177,18 +169,18 @@ turns-all s most_tours Q P f start (turn ∷ turns) h q =
 -- ---- what was found
 
 -- The tree's least bound is not negative where the sum that the search starts with is not.
-pub bound_exists : (fits : Fits) (s : Snapshot) (most_tours : ℕ) (start : PriceSheet) (tree : List Branch) (plan : List (List Stop)) (cost : ℕ) → IsSheetIn fits s most_tours (root_of s) start → pos 0 ≤ℤ sum_of_sheet start → AllInTree (IsAtLeast (sum_of_sheet start)) s tree → IsFeasiblePlan s plan → plan_cost_of s plan ≡ cost → pos 0 ≤ℤ least_bound cost (map twig_of tree)
-bound_exists fits s most_tours start tree plan cost sheet natural leaves feasible costs =
+pub bound_exists : (s : Snapshot) (start : PriceSheet) (tree : List Branch) (plan : List (List Stop)) (cost : ℕ) → IsSheetIn s (root_of s) start → pos 0 ≤ℤ sum_of_sheet start → AllInTree (IsAtLeast (sum_of_sheet start)) s tree → IsFeasiblePlan s plan → plan_cost_of s plan ≡ cost → pos 0 ≤ℤ least_bound cost (map twig_of tree)
+bound_exists s start tree plan cost sheet natural leaves feasible costs =
     let low = rounded_up-natural (sum_of_sheet start) natural in
-    let least = start-least fits s most_tours start tree plan cost sheet leaves feasible costs in
+    let least = start-least s start tree plan cost sheet leaves feasible costs in
     omega (arith, ints, low, least)
 
 -- What stands of the tree and of the turns at the root once a search has ended that started with these prices and worths.
-pub record IsTreeAtEnd (fits : Fits) (s : Snapshot) (most_tours : ℕ) (start : PriceSheet) (turns : List Turn) (tree : List Branch) : Type 0 where
-  pub sheet : IsSheetIn fits s most_tours (root_of s) start
+pub record IsTreeAtEnd (s : Snapshot) (most_tours : ℕ) (start : PriceSheet) (turns : List Turn) (tree : List Branch) : Type 0 where
+  pub sheet : IsSheetIn s (root_of s) start
   pub root_turns : AreRootTurns s most_tours start.prices turns
   pub few_turns : length turns ≤ 20
-  pub branches : AllInTree (IsBranchAt fits s most_tours) s tree
+  pub branches : AllInTree (IsBranchAt s most_tours) s tree
   -- no leaf's sum is below that of the start or of a turn
   pub above_start : AllInTree (IsAtLeast (sum_of_sheet start)) s tree
   pub above_turns : All (λ (turn : Turn). AllInTree (IsAtLeast (sum_of_turn turn)) s tree) turns
@@ -203,14 +195,13 @@ IsBestOfTurns s most_tours cost turns =
     34 ^ car_count s ≤ most_tours → (other : List (List Stop)) → IsFeasiblePlan s other → ((c : ℕ) → c < car_count s → IsTourOfTurns turns c (tour_of other c)) → cost ≤ plan_cost_of s other
 
 -- Its tree proves plan, cost and bound, and the bound is at least that of the start and of each turn.
-pub found : (fits : Fits) (s : Snapshot) (rounds most_tours : ℕ) (start : PriceSheet) (turns : List Turn) (tree : List Branch) (plan : List (List Stop)) (cost bound : ℕ) (why : StopReason) → IsTreeAtEnd fits s most_tours start turns tree → length tree ≤ 8 * rounds + 1 → IsFeasiblePlan s plan → plan_cost_of s plan ≡ cost → pos bound ≡ least_bound cost (map twig_of tree) → HasManyTurns s rounds cost bound (map twig_of tree) turns → IsBestOfTurns s most_tours cost turns → IsReason s rounds most_tours cost bound (map twig_of tree) why → IsFound fits start.prices (bound_of_sheet start) s rounds most_tours plan cost bound (map twig_of tree) turns why
-found fits s rounds most_tours start turns tree plan cost bound why stands twigs feasible costs bound_is many tours reason =
+pub found : (s : Snapshot) (rounds most_tours : ℕ) (start : PriceSheet) (turns : List Turn) (tree : List Branch) (plan : List (List Stop)) (cost bound : ℕ) (why : StopReason) → IsTreeAtEnd s most_tours start turns tree → length tree ≤ 8 * rounds + 1 → IsFeasiblePlan s plan → plan_cost_of s plan ≡ cost → pos bound ≡ least_bound cost (map twig_of tree) → HasManyTurns s rounds cost bound (map twig_of tree) turns → IsBestOfTurns s most_tours cost turns → IsReason s rounds most_tours cost bound (map twig_of tree) why → IsFound start.prices (bound_of_sheet start) s rounds most_tours plan cost bound (map twig_of tree) turns why
+found s rounds most_tours start turns tree plan cost bound why stands twigs feasible costs bound_is many tours reason =
     record {
-      proves = tree-proves fits s most_tours plan cost bound tree feasible costs bound_is stands.branches;
+      proves = tree-proves s most_tours plan cost bound tree feasible costs bound_is stands.branches;
       best_bound = bound_is;
-      at_least = subst (λ (z : ℤ). bound_of_sheet start ≤ℤ z) (sym bound_is) (start-least fits s most_tours start tree plan cost stands.sheet stands.above_start feasible costs);
+      at_least = subst (λ (z : ℤ). bound_of_sheet start ≤ℤ z) (sym bound_is) (start-least s start tree plan cost stands.sheet stands.above_start feasible costs);
       twigs = subst (λ (n : ℕ). n ≤ 8 * rounds + 1) (sym (length-map tree twig_of)) twigs;
-      claims = tree-claimed fits s most_tours tree stands.branches;
       root_turns = stands.root_turns;
       few_turns = stands.few_turns;
       turn_bounds = turns-all s most_tours (λ (turn : Turn). AllInTree (IsAtLeast (sum_of_turn turn)) s tree) (λ (turn : Turn). rounded_up (sum_of_turn turn) ≤ℤ pos bound) turn_bound start.prices turns stands.root_turns stands.above_turns;
@@ -227,23 +218,23 @@ found fits s rounds most_tours start turns tree plan cost bound why stands twigs
 -- ---- out of rounds
 
 -- no node had a part in more than 20 pricings
-pub pricings-few : (fits : Fits) (s : Snapshot) (most_tours : ℕ) (places : List Place) (tree : List Branch) → AllStand (IsBranchAt fits s most_tours) places tree → pricings_of tree ≤ 20 * length tree
-pricings-few fits s most_tours [] [] h = omega arith
-pricings-few fits s most_tours [] (b ∷ tree) h = absurd h
-pricings-few fits s most_tours (place ∷ places) [] h = absurd h
-pricings-few fits s most_tours (place ∷ places) (b ∷ tree) h =
+pub pricings-few : (s : Snapshot) (most_tours : ℕ) (places : List Place) (tree : List Branch) → AllStand (IsBranchAt s most_tours) places tree → pricings_of tree ≤ 20 * length tree
+pricings-few s most_tours [] [] h = omega arith
+pricings-few s most_tours [] (b ∷ tree) h = absurd h
+pricings-few s most_tours (place ∷ places) [] h = absurd h
+pricings-few s most_tours (place ∷ places) (b ∷ tree) h =
     let few = h.0.few in
-    let rest = pricings-few fits s most_tours (places_after place (twig_of b) places) tree h.1 in
+    let rest = pricings-few s most_tours (places_after place (twig_of b) places) tree h.1 in
     omega (arith, few, rest, sum_by-cons (λ (a : Branch). a.rounds) b tree)
 
 -- A search that did as many rounds as it may.
-pub out_of_rounds : (fits : Fits) (s : Snapshot) (rounds most_tours cost bound done : ℕ) (tree : List Branch) → AllInTree (IsPricedAt s most_tours) s tree → AllInTree (IsBranchAt fits s most_tours) s tree → done ≤ pricings_of tree → done ≡ rounds → bound < cost → IsOutOfRounds s rounds most_tours cost bound done (map twig_of tree)
-out_of_rounds fits s rounds most_tours cost bound done tree priced branches part limit below =
+pub out_of_rounds : (s : Snapshot) (rounds most_tours cost bound done : ℕ) (tree : List Branch) → AllInTree (IsPricedAt s most_tours) s tree → AllInTree (IsBranchAt s most_tours) s tree → done ≤ pricings_of tree → done ≡ rounds → bound < cost → IsOutOfRounds s rounds most_tours cost bound done (map twig_of tree)
+out_of_rounds s rounds most_tours cost bound done tree priced branches part limit below =
     record {
       below = below;
       limit = limit;
-      priced = tree-priced fits s most_tours tree priced;
-      twigs = (let few = pricings-few fits s most_tours (root_place s ∷ []) tree branches in let same = length-map tree twig_of in omega (arith, part, few, same));
+      priced = tree-priced s most_tours tree priced;
+      twigs = (let few = pricings-few s most_tours (root_place s ∷ []) tree branches in let same = length-map tree twig_of in omega (arith, part, few, same));
     }
 
 -- ---- the limit of partial tours was reached
@@ -262,17 +253,17 @@ abbrev pub IsStuckAt : Snapshot → (cost : ℕ) → Holding
 IsStuckAt s cost place b = IfLeaf b.split (IsStuck s cost b)
 
 -- the car that a pricing of the leaf was spent on has too many partial tours at its place
-spent-there : (fits : Fits) (s : Snapshot) (most_tours : ℕ) (place : Place) (b : Branch) (car : ℕ) → IsBranchAt fits s most_tours place b → b.split ≡ None → b.spent ≡ Some car → IsSpentCar s most_tours place.node car
-spent-there fits s most_tours place b car is leaf e =
-    let own = subst (IsKindIn fits s most_tours b.node b) leaf is.kind in
+spent-there : (s : Snapshot) (most_tours : ℕ) (place : Place) (b : Branch) (car : ℕ) → IsBranchAt s most_tours place b → b.split ≡ None → b.spent ≡ Some car → IsSpentCar s most_tours place.node car
+spent-there s most_tours place b car is leaf e =
+    let own = subst (IsKindIn s most_tours b.node b) leaf is.kind in
     subst (λ (n : Node). IsSpentCar s most_tours n car) is.node (subst (λ (x : Option ℕ). IfSome x (IsSpentCar s most_tours b.node)) e own.spent)
 
-stuck-ends : (fits : Fits) (s : Snapshot) (most_tours cost : ℕ) (place : Place) (b : Branch) → IsBranchAt fits s most_tours place b → IsStuckAt s cost place b → EndsThere s cost most_tours place (twig_of b)
-stuck-ends fits s most_tours cost place b is stuck = by_kind b.split refl stuck
+stuck-ends : (s : Snapshot) (most_tours cost : ℕ) (place : Place) (b : Branch) → IsBranchAt s most_tours place b → IsStuckAt s cost place b → EndsThere s cost most_tours place (twig_of b)
+stuck-ends s most_tours cost place b is stuck = by_kind b.split refl stuck
   where
     at_end : b.split ≡ None → IsSpentEnd s b → IsAtEnd s place.node most_tours
     at_end leaf stands =
-        let spent = spent-there fits s most_tours place b stands.car is leaf stands.spent in
+        let spent = spent-there s most_tours place b stands.car is leaf stands.spent in
         record {
           single = subst (λ (n : Node). (j : ℕ) → j < call_count s → (c : ℕ) × (set_of n j ≡ 2 ^ c)) is.node (single-in_node s b.node is.is_node stands.single);
           car = stands.car;
@@ -281,7 +272,7 @@ stuck-ends fits s most_tours cost place b is stuck = by_kind b.split refl stuck
         }
 
     by_kind : (x : Option SplitAt) → b.split ≡ x → IfLeaf x (IsStuck s cost b) → EndsThere s cost most_tours place (twig_at x b.sheet)
-    by_kind None e stands = λ below. at_end e (stands (subst (λ (z : ℤ). z <ℤ pos cost) (ap rounded_up (sum_of_leaf-sheet b.sheet)) below))
+    by_kind None e stands = λ below. at_end e (stands (subst (λ (z : ℤ). z <ℤ pos cost) (ap rounded_up (sum_of_leaf-sheet 0 b.sheet)) below))
     by_kind (Some at) e stands = tt
 
 -- a node of the tree, as a twig at its place
@@ -295,23 +286,23 @@ stand-some P Q (suc k) (place ∷ places) (b ∷ tree) lt f h =
     let in' = a.2 in
     (suc a.0, a.1, omega (arith, in'), a.3, a.4)
 
-is-end : (fits : Fits) (s : Snapshot) (most_tours cost car : ℕ) (place : Place) (b : Branch) → b.split ≡ None → bound_of_sheet b.sheet <ℤ pos cost → b.spent ≡ Some car → IsBranchAt fits s most_tours place b → IsEndOf s cost car most_tours place (twig_of b)
-is-end fits s most_tours cost car place b leaf below spent is =
-    subst (λ (x : Option SplitAt). IsEndOf s cost car most_tours place (twig_at x b.sheet)) (sym leaf) (subst (λ (z : ℤ). z <ℤ pos cost) (sym (ap rounded_up (sum_of_leaf-sheet b.sheet))) below, (spent-there fits s most_tours place b car is leaf spent).1)
+is-end : (s : Snapshot) (most_tours cost car : ℕ) (place : Place) (b : Branch) → b.split ≡ None → bound_of_sheet b.sheet <ℤ pos cost → b.spent ≡ Some car → IsBranchAt s most_tours place b → IsEndOf s cost car most_tours place (twig_of b)
+is-end s most_tours cost car place b leaf below spent is =
+    subst (λ (x : Option SplitAt). IsEndOf s cost car most_tours place (twig_at x b.sheet)) (sym leaf) (subst (λ (z : ℤ). z <ℤ pos cost) (sym (ap rounded_up (sum_of_leaf-sheet 0 b.sheet))) below, (spent-there s most_tours place b car is leaf spent).1)
 
 -- A search in whose tree no leaf is left that a round may take.
-pub out_of_moves : (fits : Fits) (s : Snapshot) (most_tours cost bound car : ℕ) (tree : List Branch) (k : ℕ) → AllInTree (IsStuckAt s cost) s tree → AllInTree (IsPricedAt s most_tours) s tree → AllInTree (IsBranchAt fits s most_tours) s tree → bound < cost → k < length tree → (at_place tree k).split ≡ None → bound_of_sheet (at_place tree k).sheet <ℤ pos cost → (at_place tree k).spent ≡ Some car → IsOutOfMoves s most_tours cost bound car most_tours (map twig_of tree)
-out_of_moves fits s most_tours cost bound car tree k stuck priced branches below lt leaf under spent =
-    let Both : Holding = λ (place : Place) (b : Branch). IsBranchAt fits s most_tours place b × IsStuckAt s cost place b in
-    let both = stand-both (IsBranchAt fits s most_tours) (IsStuckAt s cost) Both (λ place b p q. (p, q)) (root_place s ∷ []) tree branches stuck in
-    let own = stand-at (IsBranchAt fits s most_tours) k (root_place s ∷ []) tree lt branches in
+pub out_of_moves : (s : Snapshot) (most_tours cost bound car : ℕ) (tree : List Branch) (k : ℕ) → AllInTree (IsStuckAt s cost) s tree → AllInTree (IsPricedAt s most_tours) s tree → AllInTree (IsBranchAt s most_tours) s tree → bound < cost → k < length tree → (at_place tree k).split ≡ None → bound_of_sheet (at_place tree k).sheet <ℤ pos cost → (at_place tree k).spent ≡ Some car → IsOutOfMoves s most_tours cost bound car most_tours (map twig_of tree)
+out_of_moves s most_tours cost bound car tree k stuck priced branches below lt leaf under spent =
+    let Both : Holding = λ (place : Place) (b : Branch). IsBranchAt s most_tours place b × IsStuckAt s cost place b in
+    let both = stand-both (IsBranchAt s most_tours) (IsStuckAt s cost) Both (λ place b p q. (p, q)) (root_place s ∷ []) tree branches stuck in
+    let own = stand-at (IsBranchAt s most_tours) k (root_place s ∷ []) tree lt branches in
     record {
       below = below;
       limit = refl;
-      priced = tree-priced fits s most_tours tree priced;
-      ends = stand-placed Both (EndsThere s cost most_tours) (λ place b p. stuck-ends fits s most_tours cost place b p.0 p.1) (root_place s ∷ []) tree both;
-      is_car = (spent-there fits s most_tours own.0 (at_place tree k) car own.1 leaf spent).0;
-      at_car = stand-some (IsBranchAt fits s most_tours) (IsEndOf s cost car most_tours) k (root_place s ∷ []) tree lt (λ place is. is-end fits s most_tours cost car place (at_place tree k) leaf under spent is) branches;
+      priced = tree-priced s most_tours tree priced;
+      ends = stand-placed Both (EndsThere s cost most_tours) (λ place b p. stuck-ends s most_tours cost place b p.0 p.1) (root_place s ∷ []) tree both;
+      is_car = (spent-there s most_tours own.0 (at_place tree k) car own.1 leaf spent).0;
+      at_car = stand-some (IsBranchAt s most_tours) (IsEndOf s cost car most_tours) k (root_place s ∷ []) tree lt (λ place is. is-end s most_tours cost car place (at_place tree k) leaf under spent is) branches;
     }
 
 -- a leaf of the tree whose bound is below the cost
@@ -335,7 +326,7 @@ least-below cost (b ∷ tree) lt = by_kind b.split refl lt (least-below cost tre
     by_test : b.split ≡ None → int_min (bound_of_leaf (leaf_of b.sheet)) rest <ℤ pos cost → (rest <ℤ pos cost → (k : ℕ) × IsBelowAt cost tree k) → (t : Bool) → int_lt rest (pos cost) ≡ t → (k : ℕ) × IsBelowAt cost (b ∷ tree) k
     by_test e under later true low = below-later cost b tree (later (omega (arith, ints, low)))
     by_test e under later false high =
-        let same : bound_of_leaf (leaf_of b.sheet) ≡ bound_of_sheet b.sheet = ap rounded_up (sum_of_leaf-sheet b.sheet) in
+        let same : bound_of_leaf (leaf_of b.sheet) ≡ bound_of_sheet b.sheet = ap rounded_up (sum_of_leaf-sheet 0 b.sheet) in
         let is = int_min_is (bound_of_leaf (leaf_of b.sheet)) rest in
         (0, record { in_tree = omega arith; leaf = e; below = omega (arith, ints, under, high, same, is) })
 
@@ -504,8 +495,8 @@ abbrev pub HasFewTours : Snapshot → Type 0
 HasFewTours s = (node : Node) (c n : ℕ) → c < car_count s → HasPartialTours s node c n → n < moves_enough s
 
 -- With sufficient limits a search ends solved: its cost is its bound.
-pub enough_is_solved : (fits : Fits) (start : List ℤ) (least : ℤ) (s : Snapshot) (rounds most_tours : ℕ) (plan : List (List Stop)) (cost bound : ℕ) (tree : List Twig) (turns : List Turn) (why : StopReason) → IsAccepted s → HasFewTours s → rounds_enough s ≤ rounds → moves_enough s ≤ most_tours → IsFound fits start least s rounds most_tours plan cost bound tree turns why → (cost ≡ bound) × (why ≡ Solved)
-enough_is_solved fits start least s rounds most_tours plan cost bound tree turns why accepted few_tours many_rounds many_moves is =
+pub enough_is_solved : (start : List ℤ) (least : ℤ) (s : Snapshot) (rounds most_tours : ℕ) (plan : List (List Stop)) (cost bound : ℕ) (tree : List Twig) (turns : List Turn) (why : StopReason) → IsAccepted s → HasFewTours s → rounds_enough s ≤ rounds → moves_enough s ≤ most_tours → IsFound start least s rounds most_tours plan cost bound tree turns why → (cost ≡ bound) × (why ≡ Solved)
+enough_is_solved start least s rounds most_tours plan cost bound tree turns why accepted few_tours many_rounds many_moves is =
     by_reason why is.reason
   where
     at_end : (count car : ℕ) (p : Placed) → moves_enough s ≤ count → car < car_count s → IsEndOf s cost car count p.place p.twig → ⊥

@@ -13,8 +13,7 @@ use Rattle.call_sets.specs.Counting.{any_below}
 use Rattle.elevator_model.specs.Snapshot.{Snapshot, car_count, call_count}
 use Rattle.search_model.specs.Prices.{price_at}
 use Rattle.search_model.specs.Certificates.{price_in, worth_in, claim_in, sum_of_leaf, are_each_once, has_whole_lists}
-use Rattle.search_tree.specs.declared.sheets.Worth.{Worth}
-use Rattle.search_tree.specs.Sheets.{PriceSheet, no_worth, worth_of_car, claim_of_car, sum_of_worths, sum_of_sheet, prices_from, worths_from, leaf_of}
+use Rattle.search_tree.specs.Sheets.{PriceSheet, worth_of_car, sum_of_worths, sum_of_sheet, prices_from, worths_from, leaf_with}
 
 -- ---- sums
 
@@ -22,13 +21,13 @@ prices_from-sum : (i : ℕ) (prices : List ℤ) → int_sum_by (λ (p : PriceOf)
 prices_from-sum i [] = refl
 prices_from-sum i (x ∷ prices) = ap (λ (z : ℤ). x +ℤ z) (prices_from-sum (i + 1) prices)
 
-worths_from-sum : (i : ℕ) (worths : List Worth) → int_sum_by (λ (w : WorthOf). w.worth) (worths_from i worths) ≡ sum_of_worths worths
-worths_from-sum i [] = refl
-worths_from-sum i (w ∷ worths) = ap (λ (z : ℤ). w.worth +ℤ z) (worths_from-sum (i + 1) worths)
+worths_from-sum : (claim i : ℕ) (worths : List ℤ) → int_sum_by (λ (w : WorthOf). w.worth) (worths_from claim i worths) ≡ sum_of_worths worths
+worths_from-sum claim i [] = refl
+worths_from-sum claim i (w ∷ worths) = ap (λ (z : ℤ). w +ℤ z) (worths_from-sum claim (i + 1) worths)
 
-pub sum_of_leaf-sheet : (sheet : PriceSheet) → sum_of_leaf (leaf_of sheet) ≡ sum_of_sheet sheet
-sum_of_leaf-sheet sheet =
-    ap (λ (z : ℤ). z +ℤ int_sum_by (λ (w : WorthOf). w.worth) (worths_from 0 sheet.worths)) (prices_from-sum 0 sheet.prices) ∙ ap (λ (z : ℤ). int_sum_by (λ (x : ℤ). x) sheet.prices +ℤ z) (worths_from-sum 0 sheet.worths)
+pub sum_of_leaf-sheet : (claim : ℕ) (sheet : PriceSheet) → sum_of_leaf (leaf_with claim sheet) ≡ sum_of_sheet sheet
+sum_of_leaf-sheet claim sheet =
+    ap (λ (z : ℤ). z +ℤ int_sum_by (λ (w : WorthOf). w.worth) (worths_from claim 0 sheet.worths)) (prices_from-sum 0 sheet.prices) ∙ ap (λ (z : ℤ). int_sum_by (λ (x : ℤ). x) sheet.prices +ℤ z) (worths_from-sum claim 0 sheet.worths)
 
 -- ---- what is stated of one
 
@@ -61,47 +60,47 @@ price-at i zero j (x ∷ prices) e =
 price-at i (suc k) j (x ∷ prices) e =
     ap (λ (b : Bool). cond b x (pos 0) +ℤ stated_price j (prices_from (i + 1) prices)) (neq i j (λ same. omega (arith, e, same))) ∙ zero_plus (stated_price j (prices_from (i + 1) prices)) ∙ price-at (i + 1) k j prices (omega (arith, e))
 
-pub price_in-sheet : (sheet : PriceSheet) → price_in (leaf_of sheet) ≡ price_at sheet.prices
-price_in-sheet sheet = λ i j. price-at 0 j j sheet.prices (omega arith) i
+pub price_in-sheet : (claim : ℕ) (sheet : PriceSheet) → price_in (leaf_with claim sheet) ≡ price_at sheet.prices
+price_in-sheet claim sheet = λ i j. price-at 0 j j sheet.prices (omega arith) i
 
 abbrev stated_worth : ℕ → List WorthOf → ℤ
 stated_worth c xs = int_sum_by (λ (w : WorthOf). cond (w.car == c) w.worth (pos 0)) xs
 
-worth-before : (i c : ℕ) (worths : List Worth) → c < i → stated_worth c (worths_from i worths) ≡ pos 0
-worth-before i c [] lt = refl
-worth-before i c (w ∷ worths) lt =
-    ap (λ (b : Bool). cond b w.worth (pos 0) +ℤ stated_worth c (worths_from (i + 1) worths)) (neq i c (λ e. omega (arith, e, lt))) ∙ zero_plus (stated_worth c (worths_from (i + 1) worths)) ∙ worth-before (i + 1) c worths (omega (arith, lt))
+worth-before : (claim i c : ℕ) (worths : List ℤ) → c < i → stated_worth c (worths_from claim i worths) ≡ pos 0
+worth-before claim i c [] lt = refl
+worth-before claim i c (w ∷ worths) lt =
+    ap (λ (b : Bool). cond b w (pos 0) +ℤ stated_worth c (worths_from claim (i + 1) worths)) (neq i c (λ e. omega (arith, e, lt))) ∙ zero_plus (stated_worth c (worths_from claim (i + 1) worths)) ∙ worth-before claim (i + 1) c worths (omega (arith, lt))
 
-worth-at : (i k c : ℕ) (worths : List Worth) → i + k ≡ c → stated_worth c (worths_from i worths) ≡ (get_or worths k no_worth).worth
-worth-at i k c [] e = refl
-worth-at i zero c (w ∷ worths) e =
-    ap (λ (b : Bool). cond b w.worth (pos 0) +ℤ stated_worth c (worths_from (i + 1) worths)) (eq-eqb i c (omega (arith, e))) ∙ ap (λ (z : ℤ). w.worth +ℤ z) (worth-before (i + 1) c worths (omega (arith, e))) ∙ plus_zero w.worth
-worth-at i (suc k) c (w ∷ worths) e =
-    ap (λ (b : Bool). cond b w.worth (pos 0) +ℤ stated_worth c (worths_from (i + 1) worths)) (neq i c (λ same. omega (arith, e, same))) ∙ zero_plus (stated_worth c (worths_from (i + 1) worths)) ∙ worth-at (i + 1) k c worths (omega (arith, e))
+worth-at : (claim i k c : ℕ) (worths : List ℤ) → i + k ≡ c → stated_worth c (worths_from claim i worths) ≡ get_or worths k (pos 0)
+worth-at claim i k c [] e = refl
+worth-at claim i zero c (w ∷ worths) e =
+    ap (λ (b : Bool). cond b w (pos 0) +ℤ stated_worth c (worths_from claim (i + 1) worths)) (eq-eqb i c (omega (arith, e))) ∙ ap (λ (z : ℤ). w +ℤ z) (worth-before claim (i + 1) c worths (omega (arith, e))) ∙ plus_zero w
+worth-at claim i (suc k) c (w ∷ worths) e =
+    ap (λ (b : Bool). cond b w (pos 0) +ℤ stated_worth c (worths_from claim (i + 1) worths)) (neq i c (λ same. omega (arith, e, same))) ∙ zero_plus (stated_worth c (worths_from claim (i + 1) worths)) ∙ worth-at claim (i + 1) k c worths (omega (arith, e))
 
-pub worth_in-sheet : (sheet : PriceSheet) (c : ℕ) → worth_in (leaf_of sheet) c ≡ worth_of_car sheet c
-worth_in-sheet sheet c = worth-at 0 c c sheet.worths (omega arith)
+pub worth_in-sheet : (claim : ℕ) (sheet : PriceSheet) (c : ℕ) → worth_in (leaf_with claim sheet) c ≡ worth_of_car sheet c
+worth_in-sheet claim sheet c = worth-at claim 0 c c sheet.worths (omega arith)
 
-abbrev claims : ℕ → List WorthOf → ℕ
-claims c xs = sum_by (λ (w : WorthOf). cond (w.car == c) w.claim 0) xs
+abbrev stated_claim : ℕ → List WorthOf → ℕ
+stated_claim c xs = sum_by (λ (w : WorthOf). cond (w.car == c) w.claim 0) xs
 
-claims-cons : (c i : ℕ) (w : Worth) (worths : List Worth) → claims c (worths_from i (w ∷ worths)) ≡ cond (i == c) w.claim 0 + claims c (worths_from (i + 1) worths)
-claims-cons c i w worths = sum_by-cons (λ (v : WorthOf). cond (v.car == c) v.claim 0) (record { car = i; worth = w.worth; claim = w.claim }) (worths_from (i + 1) worths)
+claims-cons : (claim i c : ℕ) (w : ℤ) (worths : List ℤ) → stated_claim c (worths_from claim i (w ∷ worths)) ≡ cond (i == c) claim 0 + stated_claim c (worths_from claim (i + 1) worths)
+claims-cons claim i c w worths = sum_by-cons (λ (v : WorthOf). cond (v.car == c) v.claim 0) (record { car = i; worth = w; claim = claim }) (worths_from claim (i + 1) worths)
 
-claim-before : (i c : ℕ) (worths : List Worth) → c < i → claims c (worths_from i worths) ≡ 0
-claim-before i c [] lt = refl
-claim-before i c (w ∷ worths) lt =
-    claims-cons c i w worths ∙ ap (λ (b : Bool). cond b w.claim 0 + claims c (worths_from (i + 1) worths)) (neq i c (λ e. omega (arith, e, lt))) ∙ (let none = claim-before (i + 1) c worths (omega (arith, lt)) in omega (arith, none))
+claim-before : (claim i c : ℕ) (worths : List ℤ) → c < i → stated_claim c (worths_from claim i worths) ≡ 0
+claim-before claim i c [] lt = refl
+claim-before claim i c (w ∷ worths) lt =
+    claims-cons claim i c w worths ∙ ap (λ (b : Bool). cond b claim 0 + stated_claim c (worths_from claim (i + 1) worths)) (neq i c (λ e. omega (arith, e, lt))) ∙ (let none = claim-before claim (i + 1) c worths (omega (arith, lt)) in omega (arith, none))
 
-claim-at : (i k c : ℕ) (worths : List Worth) → i + k ≡ c → claims c (worths_from i worths) ≡ (get_or worths k no_worth).claim
-claim-at i k c [] e = refl
-claim-at i zero c (w ∷ worths) e =
-    claims-cons c i w worths ∙ ap (λ (b : Bool). cond b w.claim 0 + claims c (worths_from (i + 1) worths)) (eq-eqb i c (omega (arith, e))) ∙ (let none = claim-before (i + 1) c worths (omega (arith, e)) in omega (arith, none))
-claim-at i (suc k) c (w ∷ worths) e =
-    claims-cons c i w worths ∙ ap (λ (b : Bool). cond b w.claim 0 + claims c (worths_from (i + 1) worths)) (neq i c (λ same. omega (arith, e, same))) ∙ (let rest = claim-at (i + 1) k c worths (omega (arith, e)) in omega (arith, rest))
+claim-at : (claim i k c : ℕ) (worths : List ℤ) → i + k ≡ c → k < length worths → stated_claim c (worths_from claim i worths) ≡ claim
+claim-at claim i k c [] e lt = absurd (omega (arith, lt))
+claim-at claim i zero c (w ∷ worths) e lt =
+    claims-cons claim i c w worths ∙ ap (λ (b : Bool). cond b claim 0 + stated_claim c (worths_from claim (i + 1) worths)) (eq-eqb i c (omega (arith, e))) ∙ (let none = claim-before claim (i + 1) c worths (omega (arith, e)) in omega (arith, none))
+claim-at claim i (suc k) c (w ∷ worths) e lt =
+    claims-cons claim i c w worths ∙ ap (λ (b : Bool). cond b claim 0 + stated_claim c (worths_from claim (i + 1) worths)) (neq i c (λ same. omega (arith, e, same))) ∙ (let rest = claim-at claim (i + 1) k c worths (omega (arith, e)) (omega (arith, lt)) in omega (arith, rest))
 
-pub claim_in-sheet : (sheet : PriceSheet) (c : ℕ) → claim_in (leaf_of sheet) c ≡ claim_of_car sheet c
-claim_in-sheet sheet c = claim-at 0 c c sheet.worths (omega arith)
+pub claim_in-sheet : (claim : ℕ) (sheet : PriceSheet) (c : ℕ) → c < length sheet.worths → claim_in (leaf_with claim sheet) c ≡ claim
+claim_in-sheet claim sheet c lt = claim-at claim 0 c c sheet.worths (omega arith) lt
 
 -- ---- each once
 
@@ -114,9 +113,9 @@ calls-numbers : (i : ℕ) (prices : List ℤ) → map (λ (p : PriceOf). p.call)
 calls-numbers i [] = refl
 calls-numbers i (x ∷ prices) = ap (λ (ks : List ℕ). i ∷ ks) (calls-numbers (i + 1) prices)
 
-cars-numbers : (i : ℕ) (worths : List Worth) → map (λ (w : WorthOf). w.car) (worths_from i worths) ≡ numbers i (length worths)
-cars-numbers i [] = refl
-cars-numbers i (w ∷ worths) = ap (λ (ks : List ℕ). i ∷ ks) (cars-numbers (i + 1) worths)
+cars-numbers : (claim i : ℕ) (worths : List ℤ) → map (λ (w : WorthOf). w.car) (worths_from claim i worths) ≡ numbers i (length worths)
+cars-numbers claim i [] = refl
+cars-numbers claim i (w ∷ worths) = ap (λ (ks : List ℕ). i ∷ ks) (cars-numbers claim (i + 1) worths)
 
 all-below : (m i n : ℕ) → i + n ≤ m → list_all (λ k. nat_lt k m) (numbers i n) ≡ true
 all-below m i zero h = refl
@@ -148,6 +147,6 @@ each-once : (n : ℕ) → are_each_once n (numbers 0 n) ≡ true
 each-once n =
     and_from (list_all (λ k. nat_lt k n) (numbers 0 n)) (not (any_below n (λ k. not (count_by (λ x. x == k) (numbers 0 n) == 1)))) (all-below n 0 n (omega arith)) (not_from_false (any_below n (λ k. not (count_by (λ x. x == k) (numbers 0 n) == 1))) (any_below-none n (λ k. not (count_by (λ x. x == k) (numbers 0 n) == 1)) (λ k lt. ap (λ (x : ℕ). not (x == 1)) (count-within k 0 n (omega arith) (omega (arith, lt))))))
 
-pub whole_lists-sheet : (s : Snapshot) (sheet : PriceSheet) → length sheet.prices ≡ call_count s → length sheet.worths ≡ car_count s → has_whole_lists s (leaf_of sheet) ≡ true
-whole_lists-sheet s sheet calls cars =
-    and_from (are_each_once (call_count s) (map (λ (p : PriceOf). p.call) (prices_from 0 sheet.prices))) (are_each_once (car_count s) (map (λ (w : WorthOf). w.car) (worths_from 0 sheet.worths))) (ap (are_each_once (call_count s)) (calls-numbers 0 sheet.prices ∙ ap (numbers 0) calls) ∙ each-once (call_count s)) (ap (are_each_once (car_count s)) (cars-numbers 0 sheet.worths ∙ ap (numbers 0) cars) ∙ each-once (car_count s))
+pub whole_lists-sheet : (claim : ℕ) (s : Snapshot) (sheet : PriceSheet) → length sheet.prices ≡ call_count s → length sheet.worths ≡ car_count s → has_whole_lists s (leaf_with claim sheet) ≡ true
+whole_lists-sheet claim s sheet calls cars =
+    and_from (are_each_once (call_count s) (map (λ (p : PriceOf). p.call) (prices_from 0 sheet.prices))) (are_each_once (car_count s) (map (λ (w : WorthOf). w.car) (worths_from claim 0 sheet.worths))) (ap (are_each_once (call_count s)) (calls-numbers 0 sheet.prices ∙ ap (numbers 0) calls) ∙ each-once (call_count s)) (ap (are_each_once (car_count s)) (cars-numbers claim 0 sheet.worths ∙ ap (numbers 0) cars) ∙ each-once (car_count s))

@@ -10,7 +10,6 @@ use Rattle.assign_branch.specs.Pricings.{IsWorthSize}
 use Rattle.price_scale.specs.Scale.{IsPriceSum, RoundsUp, price_sum}
 use Rattle.search_model.specs.Sums.{rounded_up}
 use Rattle.search_model.proofs.RoundLemmas.{price_sum-by, rounded_up-same}
-use Rattle.search_tree.specs.declared.sheets.Worth.{Worth}
 use Rattle.search_tree.specs.Kept.{IsSmall, KeepsSum, of_lists}
 use Rattle.search_tree.specs.Sheets.{IsSized, IsWorthSum, better_of, PriceSheet, sum_of_sheet, sum_of_worths, turn_worth}
 
@@ -97,7 +96,7 @@ summed : (sheet : PriceSheet) (of_prices of_worths : ℤ) → of_prices ≡ pric
 summed sheet p w p_is w_is = ap (λ (z : ℤ). z +ℤ w) (p_is ∙ price_sum-by sheet.prices) ∙ ap (λ (z : ℤ). int_sum_by (λ (x : ℤ). x) sheet.prices +ℤ z) w_is
 
 -- what is added up again keeps the sum
-pub keeps_sum : (prices : List ℤ) (worths : List Worth) (of_prices of_worths : ℤ) → IsSized (of_lists prices worths) → of_prices ≡ price_sum prices → IsPriceSum of_prices → of_worths ≡ sum_of_worths worths → IsWorthSum 16 of_worths → KeepsSum prices worths (to_z w128 (of_z w128 (to_z w128 (of_z w128 of_prices) +ℤ to_z w128 (of_z w128 of_worths))))
+pub keeps_sum : (prices : List ℤ) (worths : List ℤ) (of_prices of_worths : ℤ) → IsSized (of_lists prices worths) → of_prices ≡ price_sum prices → IsPriceSum of_prices → of_worths ≡ sum_of_worths worths → IsWorthSum 16 of_worths → KeepsSum prices worths (to_z w128 (of_z w128 (to_z w128 (of_z w128 of_prices) +ℤ to_z w128 (of_z w128 of_worths))))
 keeps_sum prices worths p w sized p_is p_range w_is w_range =
     let low = p_range.0 in
     let high = p_range.1 in
@@ -119,12 +118,12 @@ greater_is_better sheet other sum p w small sum_is p_is p_range w_is w_range h =
     sym (ap (λ (b : Bool). if b then other else sheet) greater)
 
 -- the kept sum once it is stored
-pub keeps_stored : (prices prices' : List ℤ) (worths worths' : List Worth) (sum : ℤ) → prices ≡ prices' → worths ≡ worths' → KeepsSum prices worths sum → KeepsSum prices' worths' (to_z w128 (of_z w128 sum))
+pub keeps_stored : (prices prices' : List ℤ) (worths worths' : List ℤ) (sum : ℤ) → prices ≡ prices' → worths ≡ worths' → KeepsSum prices worths sum → KeepsSum prices' worths' (to_z w128 (of_z w128 sum))
 keeps_stored prices prices' worths worths' sum e e' kept =
     let small = kept.small in
     let is = stored sum small.0 small.1 in
     let at_prices = subst (λ (ps : List ℤ). KeepsSum ps worths sum) e kept in
-    let at_both = subst (λ (ws : List Worth). KeepsSum prices' ws sum) e' at_prices in
+    let at_both = subst (λ (ws : List ℤ). KeepsSum prices' ws sum) e' at_prices in
     subst (KeepsSum prices' worths') (sym is) at_both
 
 -- a kept sum, rounded up

@@ -4,7 +4,7 @@ use Rattle.std.specs.Prelude.{ℤ, ◌≤ℤ◌, Option, Some, None}
 use Rattle.std.proofs.lemmas.Int.{ints}
 use Rattle.elevator_model.specs.declared.Stop.{Stop}
 use Rattle.search_model.specs.declared.TurnOf.{TurnOf}
-use Rattle.elevator_model.specs.Snapshot.{Snapshot, IsAccepted, car_count, call_count}
+use Rattle.elevator_model.specs.Snapshot.{Snapshot, car_count, call_count}
 use Rattle.search_model.specs.Nodes.{Node, IsNodeOf, IsTourIn, set_of, allows, is_part, first_of_split, second_of_split}
 use Rattle.search_model.specs.Prices.{price_at}
 use Rattle.search_model.specs.Certificates.{Place, places_after, root_place}
@@ -12,15 +12,14 @@ use Rattle.elevator_model.specs.declared.Move.{Move}
 use Rattle.elevator_model.specs.declared.Move.TheVariants.{Board, Leave, End}
 use Rattle.elevator_model.specs.Partial.{boards_allowed}
 use Rattle.search_model.specs.Orders.{IsPartialTour, AreAllowed}
-use Rattle.search_model.specs.Solving.{Fits, HasPartialTours}
-use Rattle.assign_branch.specs.Pricings.{FitsInSplits}
+use Rattle.search_model.specs.Solving.{HasPartialTours}
 use Rattle.search_model.proofs.SplitLemmas.{first-narrows, second-narrows, worth_in_first, worth_in_second}
 use Rattle.search_model.proofs.SnapshotNodes.{first_is_node, second_is_node}
 use Rattle.search_model.proofs.TreeLemmas.{part-index}
 use Rattle.search_model.proofs.OrderLemmas.{each_less}
 use Rattle.search_tree.specs.declared.branches.SplitAt.{SplitAt}
 use Rattle.search_tree.specs.declared.branches.Branch.{Branch}
-use Rattle.search_tree.specs.Sheets.{PriceSheet, worth_of_car, claim_of_car, sum_of_sheet}
+use Rattle.search_tree.specs.Sheets.{PriceSheet, worth_of_car, sum_of_sheet}
 use Rattle.search_tree.specs.Branches.{twig_of, twig_at, at_place, leaf_at, noted, split_at, first_part, second_part, split_tree}
 use Rattle.search_tree.specs.Standing.{IsTighter, IsSheetIn, AreLeastIn, IsLeafIn, IsKindIn, IsBranchAt, IfLeaf, IsPricedAt, IsResting, IsRestingAt, IsAtLeast, IsTreeOf}
 use Rattle.search_tree.specs.Answers.{AreAnswersIn, BeginsAt}
@@ -75,8 +74,8 @@ second-tighter node call part is =
 
 -- ---- a leaf that was priced
 
-pub leaf_of_kind : (fits : Fits) (s : Snapshot) (most_tours : ℕ) (node : Node) (b : Branch) → b.split ≡ None → IsKindIn fits s most_tours node b b.split → IsLeafIn fits s most_tours node b
-leaf_of_kind fits s most_tours node b leaf kind = subst (IsKindIn fits s most_tours node b) leaf kind
+pub leaf_of_kind : (s : Snapshot) (most_tours : ℕ) (node : Node) (b : Branch) → b.split ≡ None → IsKindIn s most_tours node b b.split → IsLeafIn s most_tours node b
+leaf_of_kind s most_tours node b leaf kind = subst (IsKindIn s most_tours node b) leaf kind
 
 pub if_leaf : (P : Type 0) (split : Option SplitAt) → split ≡ None → IfLeaf split P → P
 if_leaf P split leaf h = subst (λ (x : Option SplitAt). IfLeaf x P) leaf h
@@ -85,77 +84,73 @@ pub of_leaf : (P : Type 0) (split : Option SplitAt) → P → IfLeaf split P
 of_leaf P None h = h
 of_leaf P (Some at) h = tt
 
-module _ (fits : Fits) (s : Snapshot) (most_tours : ℕ) (cars : car_count s ≤ 16) where
-  pub noted-branch : (place : Place) (b : Branch) (prices : List ℤ) (turns : List TurnOf) → IsBranchAt fits s most_tours place b → b.split ≡ None → b.rounds < 20 → BeginsAt b prices → AreAnswersIn fits s most_tours b.node prices turns → IsBranchAt fits s most_tours place (noted b prices turns)
+module _ (s : Snapshot) (most_tours : ℕ) (cars : car_count s ≤ 16) where
+  pub noted-branch : (place : Place) (b : Branch) (prices : List ℤ) (turns : List TurnOf) → IsBranchAt s most_tours place b → b.split ≡ None → b.rounds < 20 → BeginsAt b prices → AreAnswersIn s most_tours b.node prices turns → IsBranchAt s most_tours place (noted b prices turns)
   noted-branch place b prices turns is leaf few begins answers =
       record {
         node = is.node;
         is_node = is.is_node;
         above = is.above;
         few = omega (arith, few);
-        kind = subst (IsKindIn fits s most_tours b.node (noted b prices turns)) (sym leaf) (noted-leaf fits s most_tours b.node b prices turns (leaf_of_kind fits s most_tours b.node b leaf is.kind) begins answers);
+        kind = subst (IsKindIn s most_tours b.node (noted b prices turns)) (sym leaf) (noted-leaf s most_tours b.node b prices turns (leaf_of_kind s most_tours b.node b leaf is.kind) begins answers);
       }
 
   -- once it was priced its worths are those of its node, so also those of the node above
-  pub noted-priced : (place : Place) (b : Branch) (prices : List ℤ) (turns : List TurnOf) → IsBranchAt fits s most_tours place b → b.split ≡ None → BeginsAt b prices → AreAnswersIn fits s most_tours b.node prices turns → IsPricedAt s most_tours place (noted b prices turns)
+  pub noted-priced : (place : Place) (b : Branch) (prices : List ℤ) (turns : List TurnOf) → IsBranchAt s most_tours place b → b.split ≡ None → BeginsAt b prices → AreAnswersIn s most_tours b.node prices turns → IsPricedAt s most_tours place (noted b prices turns)
   noted-priced place b prices turns is leaf begins answers =
-      of_leaf (AreLeastIn s most_tours place.above (noted b prices turns).sheet) b.split (least-above s most_tours b.node place.above (noted b prices turns).sheet cars is.above (noted-sheet fits s most_tours b.node b prices turns (leaf_of_kind fits s most_tours b.node b leaf is.kind) begins answers).least)
+      of_leaf (AreLeastIn s most_tours place.above (noted b prices turns).sheet) b.split (least-above s most_tours b.node place.above (noted b prices turns).sheet cars is.above (noted-sheet s most_tours b.node b prices turns (leaf_of_kind s most_tours b.node b leaf is.kind) begins answers).least)
 
   -- a leaf that was priced, at its place
-  pub priced-above : (place : Place) (b : Branch) → IsBranchAt fits s most_tours place b → 0 < b.rounds → IsPricedAt s most_tours place b
+  pub priced-above : (place : Place) (b : Branch) → IsBranchAt s most_tours place b → 0 < b.rounds → IsPricedAt s most_tours place b
   priced-above place b is was = by_kind b.split refl is.kind
     where
-      by_kind : (x : Option SplitAt) → b.split ≡ x → IsKindIn fits s most_tours b.node b x → IfLeaf x (AreLeastIn s most_tours place.above b.sheet)
+      by_kind : (x : Option SplitAt) → b.split ≡ x → IsKindIn s most_tours b.node b x → IfLeaf x (AreLeastIn s most_tours place.above b.sheet)
       by_kind None e kind = least-above s most_tours b.node place.above b.sheet cars is.above (kind.priced was)
       by_kind (Some at) e kind = tt
 
   -- ---- a leaf that was split
 
-  module _ (accepted : IsAccepted s) (splits : FitsInSplits fits s) (b : Branch) (call part : ℕ) (small : part < 2 ^ 16) (part_is : is_part (set_of b.node call) part ≡ true) (is_node : IsNodeOf s b.node) where
+  module _ (b : Branch) (call part : ℕ) (small : part < 2 ^ 16) (part_is : is_part (set_of b.node call) part ≡ true) (is_node : IsNodeOf s b.node) where
     call_below : call < call_count s
     call_below = subst (λ (n : ℕ). call < n) is_node.calls (part-index b.node call part part_is)
 
     in_range : call < length b.node
     in_range = part-index b.node call part part_is
 
-    first-sheet : IsSheetIn fits s most_tours b.node b.sheet → IsSheetIn fits s most_tours (first_of_split b.node call part) b.sheet
+    first-sheet : IsSheetIn s b.node b.sheet → IsSheetIn s (first_of_split b.node call part) b.sheet
     first-sheet sheet =
         record {
           calls = sheet.calls;
           cars = sheet.cars;
           worths = λ c lt. worth_in_first s b.node c call part (price_at b.sheet.prices) (worth_of_car b.sheet c) (omega (arith, lt, cars)) in_range part_is (sheet.worths c lt);
-          claims = sheet.claims;
-          fit = λ c lt. (splits b.node c call part (price_at b.sheet.prices) (worth_of_car b.sheet c) (claim_of_car b.sheet c) accepted is_node lt call_below part_is (sheet.fit c lt)).0;
         }
 
-    second-sheet : IsSheetIn fits s most_tours b.node b.sheet → IsSheetIn fits s most_tours (second_of_split b.node call part) b.sheet
+    second-sheet : IsSheetIn s b.node b.sheet → IsSheetIn s (second_of_split b.node call part) b.sheet
     second-sheet sheet =
         record {
           calls = sheet.calls;
           cars = sheet.cars;
           worths = λ c lt. worth_in_second s b.node c call part (price_at b.sheet.prices) (worth_of_car b.sheet c) (omega (arith, lt, cars)) in_range part_is (sheet.worths c lt);
-          claims = sheet.claims;
-          fit = λ c lt. (splits b.node c call part (price_at b.sheet.prices) (worth_of_car b.sheet c) (claim_of_car b.sheet c) accepted is_node lt call_below part_is (sheet.fit c lt)).1;
         }
 
-    new-leaf : (node : Node) (depth : ℕ) → IsSheetIn fits s most_tours node b.sheet → IsLeafIn fits s most_tours node (leaf_at node b.sheet depth)
+    new-leaf : (node : Node) (depth : ℕ) → IsSheetIn s node b.sheet → IsLeafIn s most_tours node (leaf_at node b.sheet depth)
     new-leaf node depth sheet = record { sheet = sheet; priced = λ lt. absurd (omega (arith, lt)); spent = tt }
 
     abbrev pub PartsAt : (P : Place → Branch → Type 0) → Place → Type 0
     PartsAt P place = P place (split_at b call part) × P (first_place place call part) (first_part b call part) × P (second_place place call part) (second_part b call part)
 
-    pub split-branches : (place : Place) → IsBranchAt fits s most_tours place b → b.split ≡ None → PartsAt (IsBranchAt fits s most_tours) place
+    pub split-branches : (place : Place) → IsBranchAt s most_tours place b → b.split ≡ None → PartsAt (IsBranchAt s most_tours) place
     split-branches place is leaf =
-        let in_leaf = leaf_of_kind fits s most_tours b.node b leaf is.kind in (
+        let in_leaf = leaf_of_kind s most_tours b.node b leaf is.kind in (
           record { node = is.node; is_node = is.is_node; above = is.above; few = is.few; kind = part_is },
           record { node = ap (λ (n : Node). first_of_split n call part) is.node; is_node = first_is_node s b.node call part small is_node call_below part_is; above = subst (IsTighter (first_of_split b.node call part)) is.node (first-tighter b.node call part part_is); few = omega arith; kind = new-leaf (first_of_split b.node call part) _ (first-sheet in_leaf.sheet) },
           record { node = ap (λ (n : Node). second_of_split n call part) is.node; is_node = second_is_node s b.node call part is_node call_below part_is; above = subst (IsTighter (second_of_split b.node call part)) is.node (second-tighter b.node call part part_is); few = omega arith; kind = new-leaf (second_of_split b.node call part) _ (second-sheet in_leaf.sheet) },
         )
 
     -- the parts begin with worths of the node that was split, once it was priced
-    pub split-priced : (place : Place) → IsBranchAt fits s most_tours place b → b.split ≡ None → 0 < b.rounds → PartsAt (IsPricedAt s most_tours) place
+    pub split-priced : (place : Place) → IsBranchAt s most_tours place b → b.split ≡ None → 0 < b.rounds → PartsAt (IsPricedAt s most_tours) place
     split-priced place is leaf was =
-        let least = (leaf_of_kind fits s most_tours b.node b leaf is.kind).priced was in
+        let least = (leaf_of_kind s most_tours b.node b leaf is.kind).priced was in
         (tt, subst (λ (n : Node). AreLeastIn s most_tours n b.sheet) is.node least, subst (λ (n : Node). AreLeastIn s most_tours n b.sheet) is.node least)
 
     pub split-resting : (cost : ℕ) (place : Place) → PartsAt (IsRestingAt s cost) place
@@ -176,11 +171,11 @@ resting-cheaper s cost cost' le place b h = by_kind b.split h
     by_kind None r = record { single = λ one was none. (let most = r.single one was none in omega (arith, ints, most, le)); many = λ some many. (let most = r.many some many in omega (arith, ints, most, le)) }
     by_kind (Some at) r = tt
 
-pub tree-cheaper : (fits : Fits) (s : Snapshot) (most_tours cost cost' : ℕ) (tree : List Branch) → cost' ≤ cost → IsTreeOf fits s most_tours cost tree → IsTreeOf fits s most_tours cost' tree
-tree-cheaper fits s most_tours cost cost' tree le h =
+pub tree-cheaper : (s : Snapshot) (most_tours cost cost' : ℕ) (tree : List Branch) → cost' ≤ cost → IsTreeOf s most_tours cost tree → IsTreeOf s most_tours cost' tree
+tree-cheaper s most_tours cost cost' tree le h =
     record { branches = h.branches; priced = h.priced; resting = stand-more (IsRestingAt s cost) (IsRestingAt s cost') (resting-cheaper s cost cost' le) (root_place s ∷ []) tree h.resting }
 
-module _ (fits : Fits) (s : Snapshot) (most_tours cost cost' : ℕ) (cars : car_count s ≤ 16) (le : cost' ≤ cost) (tree : List Branch) (k : ℕ) (lt : k < length tree) (leaf : (at_place tree k).split ≡ None) (few : (at_place tree k).rounds < 20) (prices : List ℤ) (turns : List TurnOf) (begins : BeginsAt (at_place tree k) prices) (answers : AreAnswersIn fits s most_tours (at_place tree k).node prices turns) (h : IsTreeOf fits s most_tours cost tree) where
+module _ (s : Snapshot) (most_tours cost cost' : ℕ) (cars : car_count s ≤ 16) (le : cost' ≤ cost) (tree : List Branch) (k : ℕ) (lt : k < length tree) (leaf : (at_place tree k).split ≡ None) (few : (at_place tree k).rounds < 20) (prices : List ℤ) (turns : List TurnOf) (begins : BeginsAt (at_place tree k) prices) (answers : AreAnswersIn s most_tours (at_place tree k).node prices turns) (h : IsTreeOf s most_tours cost tree) where
   abbrev b : Branch
   b = at_place tree k
 
@@ -188,14 +183,14 @@ module _ (fits : Fits) (s : Snapshot) (most_tours cost cost' : ℕ) (cars : car_
   places = root_place s ∷ []
 
   abbrev pub At : Place → Branch → Type 0
-  At = IsBranchAt fits s most_tours
+  At = IsBranchAt s most_tours
 
   -- the leaf is priced, and rests
-  pub tree-noted : IsResting s cost' (noted b prices turns) → IsTreeOf fits s most_tours cost' (set tree k (noted b prices turns))
+  pub tree-noted : IsResting s cost' (noted b prices turns) → IsTreeOf s most_tours cost' (set tree k (noted b prices turns))
   tree-noted rests =
       record {
-        branches = stand-set At At (noted b prices turns) k places tree lt (λ place p q. noted-branch fits s most_tours cars place b prices turns p leaf few begins answers) same h.branches h.branches;
-        priced = stand-set At (IsPricedAt s most_tours) (noted b prices turns) k places tree lt (λ place p q. noted-priced fits s most_tours cars place b prices turns p leaf begins answers) same h.branches h.priced;
+        branches = stand-set At At (noted b prices turns) k places tree lt (λ place p q. noted-branch s most_tours cars place b prices turns p leaf few begins answers) same h.branches h.branches;
+        priced = stand-set At (IsPricedAt s most_tours) (noted b prices turns) k places tree lt (λ place p q. noted-priced s most_tours cars place b prices turns p leaf begins answers) same h.branches h.priced;
         resting = stand-set At (IsRestingAt s cost') (noted b prices turns) k places tree lt (λ place p q. of_leaf (IsResting s cost' (noted b prices turns)) b.split rests) same h.branches (stand-more (IsRestingAt s cost) (IsRestingAt s cost') (resting-cheaper s cost cost' le) places tree h.resting);
       }
     where
@@ -204,20 +199,20 @@ module _ (fits : Fits) (s : Snapshot) (most_tours cost cost' : ℕ) (cars : car_
       same place rest = ap (λ (x : Option SplitAt). places_after place (twig_at x (noted (at_place tree k) prices turns).sheet) rest) leaf ∙ ap (λ (x : Option SplitAt). places_after place (twig_at x (at_place tree k).sheet) rest) (sym leaf)
 
   -- the leaf is priced and split
-  module _ (accepted : IsAccepted s) (splits : FitsInSplits fits s) (call part : ℕ) (small : part < 2 ^ 16) (part_is : is_part (set_of (at_place tree k).node call) part ≡ true) where
+  module _ (call part : ℕ) (small : part < 2 ^ 16) (part_is : is_part (set_of (at_place tree k).node call) part ≡ true) where
     abbrev n : Branch → Branch
     n a = noted a prices turns
 
     node_is : IsNodeOf s b.node
     node_is = (stand-at At k places tree lt h.branches).1.is_node
 
-    noted_at : (place : Place) → IsBranchAt fits s most_tours place b → IsBranchAt fits s most_tours place (n b)
-    noted_at place p = noted-branch fits s most_tours cars place b prices turns p leaf few begins answers
+    noted_at : (place : Place) → IsBranchAt s most_tours place b → IsBranchAt s most_tours place (n b)
+    noted_at place p = noted-branch s most_tours cars place b prices turns p leaf few begins answers
 
-    pub tree-split : IsTreeOf fits s most_tours cost' (split_tree (set tree k (noted b prices turns)) k call part)
+    pub tree-split : IsTreeOf s most_tours cost' (split_tree (set tree k (noted b prices turns)) k call part)
     tree-split =
-        subst (IsTreeOf fits s most_tours cost') (sym (split_tree-noted n call part k tree lt)) (record {
-          branches = stand-split At At n call part k places tree lt leaf (λ place p q. split-branches fits s most_tours cars accepted splits (n b) call part small part_is node_is place (noted_at place p) leaf) h.branches h.branches;
-          priced = stand-split At (IsPricedAt s most_tours) n call part k places tree lt leaf (λ place p q. split-priced fits s most_tours cars accepted splits (n b) call part small part_is node_is place (noted_at place p) leaf (omega arith)) h.branches h.priced;
-          resting = stand-split At (IsRestingAt s cost') n call part k places tree lt leaf (λ place p q. split-resting fits s most_tours cars accepted splits (n b) call part small part_is node_is cost' place) h.branches (stand-more (IsRestingAt s cost) (IsRestingAt s cost') (resting-cheaper s cost cost' le) places tree h.resting);
+        subst (IsTreeOf s most_tours cost') (sym (split_tree-noted n call part k tree lt)) (record {
+          branches = stand-split At At n call part k places tree lt leaf (λ place p q. split-branches s most_tours cars (n b) call part small part_is node_is place (noted_at place p) leaf) h.branches h.branches;
+          priced = stand-split At (IsPricedAt s most_tours) n call part k places tree lt leaf (λ place p q. split-priced s most_tours cars (n b) call part small part_is node_is place (noted_at place p) leaf (omega arith)) h.branches h.priced;
+          resting = stand-split At (IsRestingAt s cost') n call part k places tree lt leaf (λ place p q. split-resting s most_tours cars (n b) call part small part_is node_is cost' place) h.branches (stand-more (IsRestingAt s cost) (IsRestingAt s cost') (resting-cheaper s cost cost' le) places tree h.resting);
         })

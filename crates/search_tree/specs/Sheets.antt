@@ -1,5 +1,6 @@
 -- Prices and worths of a leaf, in the order of the calls and cars.
 use Rattle.std.specs.Prelude.{ℕ, ◌+◌, ◌*◌, ◌^◌, ◌<◌, ◌≤◌, ℤ, pos, neg_ℤ, ◌+ℤ◌, ◌≤ℤ◌, int_lt, List, [], ◌∷◌, All, length, map, slice_index_or, if◌then◌else◌}
+use Rattle.std.specs.Int.{int_max}
 use Rattle.price_scale.specs.Scale.{IsPrice}
 use Rattle.search_model.specs.declared.PriceOf.{PriceOf}
 use Rattle.search_model.specs.declared.WorthOf.{WorthOf}
@@ -10,24 +11,17 @@ use Rattle.search_model.specs.declared.TurnOf.{TurnOf}
 use Rattle.search_model.specs.Sums.{int_sum_by}
 use Rattle.assign_branch.specs.Pricings.{IsWorthSize}
 use Rattle.search_model.specs.Solving.{no_turn}
-use Rattle.search_tree.specs.declared.sheets.Worth.{Worth}
 
 -- a price for each call and a worth for each car
 pub record PriceSheet : Type 0 where
   pub prices : List ℤ
-  pub worths : List Worth
-
-abbrev pub no_worth : Worth
-no_worth = record { worth = pos 0; claim = 0 }
+  pub worths : List ℤ
 
 abbrev pub worth_of_car : PriceSheet → ℕ → ℤ
-worth_of_car sheet c = (slice_index_or sheet.worths c no_worth).worth
+worth_of_car sheet c = slice_index_or sheet.worths c (pos 0)
 
-abbrev pub claim_of_car : PriceSheet → ℕ → ℕ
-claim_of_car sheet c = (slice_index_or sheet.worths c no_worth).claim
-
-abbrev pub sum_of_worths : List Worth → ℤ
-sum_of_worths worths = int_sum_by (λ (w : Worth). w.worth) worths
+abbrev pub sum_of_worths : List ℤ → ℤ
+sum_of_worths worths = int_sum_by (λ (worth : ℤ). worth) worths
 
 -- the prices and worths, added up
 abbrev pub sum_of_sheet : PriceSheet → ℤ
@@ -35,8 +29,8 @@ sum_of_sheet sheet = int_sum_by (λ (x : ℤ). x) sheet.prices +ℤ sum_of_worth
 
 -- ---- sizes
 
-abbrev pub AreWorthSizes : List Worth → Type 0
-AreWorthSizes worths = (c : ℕ) → c < length worths → IsWorthSize (slice_index_or worths c no_worth).worth
+abbrev pub AreWorthSizes : List ℤ → Type 0
+AreWorthSizes worths = (c : ℕ) → c < length worths → IsWorthSize (slice_index_or worths c (pos 0))
 
 -- what the worths of n cars can sum to
 abbrev pub IsWorthSum : (n : ℕ) → ℤ → Type 0
@@ -57,41 +51,42 @@ abbrev pub prices_from : (call : ℕ) → List ℤ → List PriceOf
 prices_from call [] = []
 prices_from call (price ∷ prices) = record { call = call; price = price } ∷ prices_from (call + 1) prices
 
-abbrev pub worths_from : (car : ℕ) → List Worth → List WorthOf
-worths_from car [] = []
-worths_from car (w ∷ worths) = record { car = car; worth = w.worth; claim = w.claim } ∷ worths_from (car + 1) worths
+abbrev pub worths_from : (claim car : ℕ) → List ℤ → List WorthOf
+worths_from claim car [] = []
+worths_from claim car (worth ∷ worths) = record { car = car; worth = worth; claim = claim } ∷ worths_from claim (car + 1) worths
 
--- the leaf of a certificate that states these
+-- the leaf of a certificate that states these, with this claim for each worth
+abbrev pub leaf_with : (claim : ℕ) → PriceSheet → Leaf
+leaf_with claim sheet = record { prices = prices_from 0 sheet.prices; worths = worths_from claim 0 sheet.worths }
+
+-- the leaf of a search: it states no claims, what states them comes after it
 abbrev pub leaf_of : PriceSheet → Leaf
-leaf_of sheet = record { prices = prices_from 0 sheet.prices; worths = worths_from 0 sheet.worths }
+leaf_of sheet = leaf_with 0 sheet
 
 -- each price of a leaf lies in its range, and each worth
 pub record IsSizedLeaf (leaf : Leaf) : Type 0 where
   pub prices : All (λ (p : PriceOf). IsPrice p.price) leaf.prices
   pub worths : All (λ (w : WorthOf). IsWorthSize w.worth) leaf.worths
 
--- so, and a part is a set of cars
+-- the same, and a part is a set of cars
 abbrev pub IsSizedTwig : Twig → Type 0
 IsSizedTwig (Split j part) = part < 2 ^ 16
 IsSizedTwig (Tip leaf) = IsSizedLeaf leaf
 
 -- ---- pricings
 
-abbrev pub turn_worth : TurnOf → Worth
-turn_worth turn = record { worth = turn.priced.worth; claim = turn.priced.visits }
+abbrev pub turn_worth : TurnOf → ℤ
+turn_worth turn = turn.priced.worth
 
 -- what the pricings of all cars at these prices state
 abbrev pub sheet_of_turn : (prices : List ℤ) → List TurnOf → PriceSheet
 sheet_of_turn prices cars = record { prices = prices; worths = map turn_worth cars }
 
-abbrev pub greater_of : Worth → Worth → Worth
-greater_of w v = if int_lt w.worth v.worth then v else w
-
 -- each car keeps the greater of its two worths
-abbrev pub raised : List Worth → List TurnOf → List Worth
+abbrev pub raised : List ℤ → List TurnOf → List ℤ
 raised [] cars = []
-raised (w ∷ worths) [] = w ∷ worths
-raised (w ∷ worths) (turn ∷ cars) = greater_of w (turn_worth turn) ∷ raised worths cars
+raised (worth ∷ worths) [] = worth ∷ worths
+raised (worth ∷ worths) (turn ∷ cars) = int_max worth (turn_worth turn) ∷ raised worths cars
 
 -- the sheet with the greater sum
 abbrev pub better_of : PriceSheet → PriceSheet → PriceSheet

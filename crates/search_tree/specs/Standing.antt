@@ -5,11 +5,11 @@ use Rattle.elevator_model.specs.Snapshot.{Snapshot, car_count, call_count}
 use Rattle.search_model.specs.Nodes.{Node, IsNodeOf, set_of, allows, requires_of, is_part}
 use Rattle.search_model.specs.Prices.{price_at, IsWorth}
 use Rattle.search_model.specs.Certificates.{Place, places_after, root_place}
-use Rattle.search_model.specs.Solving.{Fits, ReachesLeast, HasPartialTours}
+use Rattle.search_model.specs.Solving.{ReachesLeast, HasPartialTours}
 use Rattle.search_tree.specs.declared.branches.SplitAt.{SplitAt}
 use Rattle.search_tree.specs.declared.branches.Branch.{Branch}
 use Rattle.search_tree.specs.declared.branches.TheConstants.{MOST_PRICINGS}
-use Rattle.search_tree.specs.Sheets.{PriceSheet, worth_of_car, claim_of_car, sum_of_sheet}
+use Rattle.search_tree.specs.Sheets.{PriceSheet, worth_of_car, sum_of_sheet}
 use Rattle.search_tree.specs.Branches.{AreSingle, twig_of}
 
 -- what holds of a node of the tree at its place
@@ -34,40 +34,38 @@ pub record IsTighter (node other : Node) : Type 0 where
   pub fewer : (c j : ℕ) → c < 16 → allows node c j ≡ true → allows other c j ≡ true
   pub more : (c j : ℕ) → c < 16 → requires_of other c j ≡ true → requires_of node c j ≡ true
 
--- a worth in the node for each car, with a claim that fits and is at most the limit
-pub record IsSheetIn (fits : Fits) (s : Snapshot) (most_tours : ℕ) (node : Node) (sheet : PriceSheet) : Type 0 where
+-- a price for each call, and for each car a worth in the node
+pub record IsSheetIn (s : Snapshot) (node : Node) (sheet : PriceSheet) : Type 0 where
   pub calls : length sheet.prices ≡ call_count s
   pub cars : length sheet.worths ≡ car_count s
   pub worths : (c : ℕ) → c < car_count s → IsWorth s node c (price_at sheet.prices) (worth_of_car sheet c)
-  pub claims : (c : ℕ) → c < car_count s → (1 ≤ claim_of_car sheet c) × (claim_of_car sheet c ≤ most_tours)
-  pub fit : (c : ℕ) → c < car_count s → fits node c (price_at sheet.prices) (worth_of_car sheet c) (claim_of_car sheet c)
 
 -- each worth is the least value of the car's tours in the node, or the car has too many partial tours there
 abbrev pub AreLeastIn : Snapshot → (most_tours : ℕ) → Node → PriceSheet → Type 0
 AreLeastIn s most_tours node sheet =
     (c : ℕ) → c < car_count s → ReachesLeast s node c (price_at sheet.prices) (worth_of_car sheet c) ⊎ HasPartialTours s node c most_tours
 
--- a car with at least so many partial tours in the node
+-- a car with at least this many partial tours in the node
 abbrev pub IsSpentCar : Snapshot → (most_tours : ℕ) → Node → ℕ → Type 0
 IsSpentCar s most_tours node c = (c < car_count s) × HasPartialTours s node c most_tours
 
-pub record IsLeafIn (fits : Fits) (s : Snapshot) (most_tours : ℕ) (node : Node) (b : Branch) : Type 0 where
-  pub sheet : IsSheetIn fits s most_tours node b.sheet
+pub record IsLeafIn (s : Snapshot) (most_tours : ℕ) (node : Node) (b : Branch) : Type 0 where
+  pub sheet : IsSheetIn s node b.sheet
   -- once it was priced
   pub priced : 0 < b.rounds → AreLeastIn s most_tours node b.sheet
   pub spent : IfSome b.spent (IsSpentCar s most_tours node)
 
-abbrev pub IsKindIn : Fits → Snapshot → (most_tours : ℕ) → Node → Branch → Option SplitAt → Type 0
-IsKindIn fits s most_tours node b None = IsLeafIn fits s most_tours node b
-IsKindIn fits s most_tours node b (Some at) = IsTrue (is_part (set_of node at.call) at.part)
+abbrev pub IsKindIn : Snapshot → (most_tours : ℕ) → Node → Branch → Option SplitAt → Type 0
+IsKindIn s most_tours node b None = IsLeafIn s most_tours node b
+IsKindIn s most_tours node b (Some at) = IsTrue (is_part (set_of node at.call) at.part)
 
 -- a node of the tree, at its place
-pub record IsBranchAt (fits : Fits) (s : Snapshot) (most_tours : ℕ) (place : Place) (b : Branch) : Type 0 where
+pub record IsBranchAt (s : Snapshot) (most_tours : ℕ) (place : Place) (b : Branch) : Type 0 where
   pub node : b.node ≡ place.node
   pub is_node : IsNodeOf s b.node
   pub above : IsTighter b.node place.above
   pub few : b.rounds ≤ MOST_PRICINGS
-  pub kind : IsKindIn fits s most_tours b.node b b.split
+  pub kind : IsKindIn s most_tours b.node b b.split
 
 -- what holds of leaves alone
 abbrev pub IfLeaf : Option SplitAt → Type 0 → Type 0
@@ -85,7 +83,7 @@ bound_of_sheet sheet = rounded_up (sum_of_sheet sheet)
 pub record IsResting (s : Snapshot) (cost : ℕ) (b : Branch) : Type 0 where
   -- where each call has one car left, one pricing that reached no limit makes a plan
   pub single : AreSingle (call_count s) b.node → 0 < b.rounds → b.spent ≡ None → pos cost ≤ℤ bound_of_sheet b.sheet
-  -- the other leaves are split after so many pricings
+  -- the other leaves are split after this many pricings
   pub many : (AreSingle (call_count s) b.node → ⊥) → MOST_PRICINGS ≤ b.rounds → pos cost ≤ℤ bound_of_sheet b.sheet
 
 abbrev pub IsRestingAt : Snapshot → (cost : ℕ) → Holding
@@ -96,8 +94,8 @@ abbrev pub IsAtLeast : ℤ → Holding
 IsAtLeast z place b = IfLeaf b.split (z ≤ℤ sum_of_sheet b.sheet)
 
 -- What stands of a tree that was priced, with this cost of the cheapest plan.
-pub record IsTreeOf (fits : Fits) (s : Snapshot) (most_tours cost : ℕ) (tree : List Branch) : Type 0 where
-  pub branches : AllInTree (IsBranchAt fits s most_tours) s tree
+pub record IsTreeOf (s : Snapshot) (most_tours cost : ℕ) (tree : List Branch) : Type 0 where
+  pub branches : AllInTree (IsBranchAt s most_tours) s tree
   pub priced : AllInTree (IsPricedAt s most_tours) s tree
   pub resting : AllInTree (IsRestingAt s cost) s tree
 

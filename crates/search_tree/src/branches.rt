@@ -19,6 +19,9 @@ use std::alloc::{AllocError, Global};
 /// The most pricings that a node may have: then it is split.
 pub const MOST_PRICINGS: u32 = 20;
 
+/// A search states no claims: what states them comes after it.
+const NO_CLAIM: u64 = 0;
+
 /// At which call a node is split, and the cars that may still serve it in the first part.
 #[derive(Clone, Copy)]
 pub struct SplitAt {
@@ -166,7 +169,7 @@ impl Branch {
     {
         match self.split {
             Some(at) => Ok(at.to_twig()),
-            None => Ok(Twig::Leaf(self.sheet.to_leaf(alloc)?)),
+            None => Ok(Twig::Leaf(self.sheet.to_leaf(alloc, NO_CLAIM)?)),
         }
     }
 }

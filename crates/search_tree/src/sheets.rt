@@ -6,7 +6,7 @@ ghost use Rattle.assign_branch.specs.Pricings.{IsWorthSize};
 ghost use Rattle.search_model.specs.Sums.{rounded_up};
 ghost use Rattle.search_tree.specs.Kept.{KeepsSum, of_lists};
 ghost use Rattle.search_tree.specs.Sheets.{AreTurnSizes, AreWorthSizes, IsSized, IsSizedLeaf, IsWorthSum};
-ghost use Rattle.search_tree.specs.Sheets.{greater_of, leaf_of, prices_from, raised, sum_of_sheet};
+ghost use Rattle.search_tree.specs.Sheets.{leaf_with, prices_from, raised, sum_of_sheet};
 ghost use Rattle.search_tree.specs.Sheets.{sum_of_worths, turn_worth, worths_from};
 
 use elevator_model::{MOST_CALLS, MOST_CARS};
@@ -15,39 +15,8 @@ use search_model::{Items, Leaf, PriceOf, TurnOf, WorthOf};
 use std::alloc::{AllocError, Global};
 use std::marker::Model;
 
-/// A worth of a car, and the claim that fits it: how many partial tours a checker visits for it at most.
-#[derive(Clone, Copy)]
-pub struct Worth {
-    /// In thousandths of a cost unit.
-    pub worth: i128,
-    pub claim: u64,
-}
-
-impl Worth {
-    /// What a pricing answered.
-    fn of_turn(turn: &TurnOf) -> Self
-        ensures { result ≡ turn_worth turn.now }
-    {
-        Self {
-            worth: turn.priced.worth,
-            claim: turn.priced.visits,
-        }
-    }
-
-    /// The greater of two worths of a car, with its claim; this one where they are equal.
-    fn greater(self, other: Self) -> Self
-        ensures { result ≡ greater_of self other }
-    {
-        if self.worth < other.worth {
-            other
-        } else {
-            self
-        }
-    }
-}
-
 /// The sum of the worths, in thousandths of a cost unit.
-fn sum_worths(worths: &[Worth]) -> i128
+fn sum_worths(worths: &[i128]) -> i128
     requires cars { length worths.now ≤ MOST_CARS }
     requires sizes { AreWorthSizes worths.now }
     ensures sum { result ≡ sum_of_worths worths.now }
@@ -55,13 +24,13 @@ fn sum_worths(worths: &[Worth]) -> i128
 {
     let mut sum = 0;
     for car in 0..worths.len() {
-        sum += worths[car].worth;
+        sum += worths[car];
     }
     sum
 }
 
 /// The sum of the prices and worths, in thousandths of a cost unit.
-fn sum_all(prices: &[Price], worths: &[Worth]) -> i128
+fn sum_all(prices: &[Price], worths: &[i128]) -> i128
     requires { IsSized (of_lists prices.now worths.now) }
     ensures { KeepsSum prices.now worths.now result }
 {
@@ -69,22 +38,22 @@ fn sum_all(prices: &[Price], worths: &[Worth]) -> i128
 }
 
 /// Keeps for each car the greater of its worth and the worth of its pricing.
-fn raise_worths(worths: &mut [Worth], cars: &[TurnOf])
+fn raise_worths(worths: &mut [i128], cars: &[TurnOf])
     requires { length cars.now ≡ length worths.old }
     ensures { worths.new ≡ raised worths.old cars.now }
 {
     for car in 0..worths.len() {
-        worths[car] = worths[car].greater(Worth::of_turn(&cars[car]));
+        worths[car] = worths[car].max(cars[car].priced.worth);
     }
 }
 
 /// Gives each car the worth of its pricing.
-fn take_worths(worths: &mut [Worth], cars: &[TurnOf])
+fn take_worths(worths: &mut [i128], cars: &[TurnOf])
     requires { length cars.now ≡ length worths.old }
     ensures { worths.new ≡ map turn_worth cars.now }
 {
     for car in 0..worths.len() {
-        worths[car] = Worth::of_turn(&cars[car]);
+        worths[car] = cars[car].priced.worth;
     }
 }
 
@@ -92,7 +61,7 @@ fn take_worths(worths: &mut [Worth], cars: &[TurnOf])
 #[derive(Drop)]
 pub struct Sheet {
     prices: Vec<Price>,
-    worths: Vec<Worth>,
+    worths: Vec<i128>,
     /// All of them added up.
     sum: i128,
 }
@@ -112,7 +81,7 @@ impl Sheet {
     ghost use Rattle.search_tree.specs.Sheets.{better_of, raised_sheet, sheet_of_turn};
 
     /// These prices and worths.
-    pub fn new(prices: Vec<Price>, worths: Vec<Worth>) -> Self
+    pub fn new(prices: Vec<Price>, worths: Vec<i128>) -> Self
         requires calls { length prices.items ≤ MOST_CALLS }
         requires cars { length worths.items ≤ MOST_CARS }
         requires sizes { AreWorthSizes worths.items }
@@ -134,8 +103,8 @@ impl Sheet {
         &self.prices
     }
 
-    /// The worths of the cars.
-    pub fn worths(&self) -> &[Worth]
+    /// The worths of the cars, in thousandths of a cost unit.
+    pub fn worths(&self) -> &[i128]
         ensures worths { result.now ≡ self.now.worths }
         ensures sized { IsSized self.now }
     {
@@ -202,13 +171,14 @@ impl Sheet {
         }
     }
 
-    /// The leaf of a certificate that states these. It fails only where there is no memory left.
-    pub(crate) fn to_leaf(&self, alloc: Global) -> Result<Leaf, AllocError>
-        ensures leaf { IfOk result (λ leaf. leaf ≡ leaf_of self.now) }
+    /// The leaf of a certificate that states these, with this claim for each worth. It fails only where there
+    /// is no memory left.
+    pub fn to_leaf(&self, alloc: Global, claim: u64) -> Result<Leaf, AllocError>
+        ensures leaf { IfOk result (λ leaf. leaf ≡ leaf_with claim self.now) }
         ensures sized { IfOk result IsSizedLeaf }
     {
         let prices = list_prices(alloc, &self.prices)?;
-        let worths = list_worths(alloc, &self.worths)?;
+        let worths = list_worths(alloc, &self.worths, claim)?;
         Ok(Leaf { prices, worths })
     }
 }
@@ -231,19 +201,19 @@ fn list_prices(alloc: Global, prices: &[Price]) -> Result<Items<PriceOf>, AllocE
     Ok(list)
 }
 
-/// The worths, each with its car. It fails only where there is no memory left.
-fn list_worths(alloc: Global, worths: &[Worth]) -> Result<Items<WorthOf>, AllocError>
+/// The worths, each with its car and this claim. It fails only where there is no memory left.
+fn list_worths(alloc: Global, worths: &[i128], claim: u64) -> Result<Items<WorthOf>, AllocError>
     requires few { length worths.now ≤ MOST_CARS }
     requires sizes { AreWorthSizes worths.now }
-    ensures list { IfOk result (λ list. list ≡ worths_from 0 worths.now) }
+    ensures list { IfOk result (λ list. list ≡ worths_from claim 0 worths.now) }
     ensures sized { IfOk result (All (λ w. IsWorthSize w.worth)) }
 {
     let mut list = Items::new(alloc);
     for car in 0..worths.len() {
         list.push(WorthOf {
             car: car as u32,
-            worth: worths[car].worth,
-            claim: worths[car].claim,
+            worth: worths[car],
+            claim,
         })?;
     }
     Ok(list)

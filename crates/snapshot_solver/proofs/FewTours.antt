@@ -1,5 +1,5 @@
 -- No car has as many partial tours in a node as the sufficient limit.
-use Rattle.std.proofs.Common.{◌≡◌, ℕ, ◌<◌, ◌≤◌, true, false, List, [], ◌∷◌, length, refl, subst, inl, inr, arith, Bool, Option, Some, None}
+use Rattle.std.proofs.Common.{◌≡◌, ℕ, ◌<◌, false, List, [], ◌∷◌, refl, subst, inl, inr, arith, Bool, Option, Some, None}
 use Rattle.std.specs.Prelude.{IsSome}
 use Rattle.std.proofs.lemmas.Bool.{both_ways}
 use Rattle.elevator_model.specs.declared.Move.{Move}

@@ -1,8 +1,7 @@
 -- From what a search answers to what a snapshot's solution answers.
-use Rattle.std.proofs.Common.{◌≡◌, ℕ, ◌≤◌, List, refl, sym, ap, ◌∙◌, subst, arith, Result, Ok, Err}
-use Rattle.std.specs.Prelude.{ℤ, pos, ◌*ℤ◌, ◌≤ℤ◌, IfOk}
+use Rattle.std.proofs.Common.{◌≡◌, ℕ, sym, arith, Result, Ok, Err}
+use Rattle.std.specs.Prelude.{pos, IfOk}
 use Rattle.std.proofs.lemmas.Int.{ints}
-use Rattle.price_scale.specs.Scale.{RoundsUp}
 use Rattle.search_model.specs.Sums.{rounded_up}
 use Rattle.search_model.specs.Prices.{scaled}
 use Rattle.search_model.proofs.RoundLemmas.{rounded_up-same}
@@ -14,3 +13,7 @@ rounded_scaled n = sym (rounded_up-same (scaled n) (pos n) (record { enough = om
 pub if_ok : {X E : Type 0} (P Q : X → Type 0) → ((x : X) → P x → Q x) → (r : Result X E) → IfOk r P → IfOk r Q
 if_ok P Q f (Ok x) h = f x h
 if_ok P Q f (Err e) h = tt
+
+pub if_both : {X E : Type 0} (P Q R : X → Type 0) → ((x : X) → P x → Q x → R x) → (r : Result X E) → IfOk r P → IfOk r Q → IfOk r R
+if_both P Q R f (Ok x) p q = f x p q
+if_both P Q R f (Err e) p q = tt

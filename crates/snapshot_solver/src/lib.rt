@@ -7,12 +7,13 @@
 //! # What is promised
 //!
 //! - `solve` is the search of `node_search` for a snapshot, with the searcher of `pricing_search`, the plan
-//!   of `first` and `start_leaf`. It answers `IsSolveAnswer`: no kept list is longer than its claim, and it
-//!   ends solved wherever the limits are enough for the snapshot.
-//! - `start_leaf` gives the leaf with which a search starts: the price of a call is its least lone cost, the
-//!   worth of a car the completion bound of its empty partial tour, each claim 1. Each worth is one in the
-//!   root, and the kept lists are empty, so the claims fit. The sum is a thousand times the floor below which
-//!   no bound of a search lies.
+//!   of `first` and the prices and worths of `start_leaf`. It answers `IsSolveAnswer`, and it ends solved
+//!   wherever the limits are enough for the snapshot. It states no claims: what states them comes after it.
+//! - `start_leaf` gives the leaf with which a search starts, as a certificate states it: the price of a call
+//!   is its least lone cost, the worth of a car the completion bound of its empty partial tour, each claim 1.
+//!   Each worth is one in the root, and no kept list is longer than its claim, so that the leaf alone is a
+//!   certificate. The sum is a thousand times the floor below which no bound of a search lies
+//!   (`IsStartLeaf`).
 #![tactic(auto)]
 
 mod costs;

@@ -6,7 +6,7 @@ ghost use Rattle.search_model.specs.Solving.{IsSolveAnswer};
 ghost use Rattle.search_model.specs.Verdicts.{moves_enough, rounds_enough};
 ghost use Rattle.search_tree.specs.Sheets.{IsSizedTwig};
 
-use crate::starts::start_leaf;
+use crate::starts::start_sheet;
 use byte_streams::Gate;
 use call_state::Snapshot;
 use elevator_model::MOST_CALLS;
@@ -44,7 +44,7 @@ pub fn solve<G: Gate + Sync>(
 {
     prove!(snapshot.calls().len() <= MOST_CALLS);
     let start = first(alloc, snapshot)?;
-    let sheet = start_leaf(alloc, snapshot)?;
+    let sheet = start_sheet(alloc, snapshot)?;
     let searcher = Searcher::new(snapshot);
     let runtime = Runtime {
         threads: rt,

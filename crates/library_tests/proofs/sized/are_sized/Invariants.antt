@@ -1,6 +1,6 @@
 use Rattle.std.proofs.Common.{take}
 use Rattle.std.specs.List.{All}
-use Rattle.cert_checker.specs.Leaves.{HasWorthSize}
+use Rattle.kept_count.specs.Leaves.{HasWorthSize}
 use Rattle.library_tests.proofs.sized.are_sized.Given as goal
 
 abbrev pub invariant-loop-entry : goal.invariant-loop-entry

@@ -33,7 +33,6 @@ invariant_of-round g c =
 pub returns-clause-answers : goal.returns-clause-answers
 returns-clause-answers g c =
     let s = g.P.Pricer.snapshot c.args.pricer.now in
-    let fits = g.P.Pricer.fits c.args.pricer.now in
     let tasks = c.args.tasks.now in
     let cars = c.args.cars in
     let order = c.deref.result.now in
@@ -42,5 +41,5 @@ returns-clause-answers g c =
     let kept : c.deref-2.result.now ≡ order = c.deref-2.ensures.value ∙ sym c.deref.ensures.value in
     let Counted : Vec TurnOf Global → Type 0 = λ v. length v.items ≡ length tasks * cars in
     let From : List ℕ → Vec TurnOf Global → Type 0 = λ o v. (p : ℕ) (a : TurnOf) → slice_get v.items p ≡ Some a → Contains (zip o drawn) (p, a) in
-    let Goal : Vec TurnOf Global → Type 0 = λ v. AreAnswersOf fits s c.args.most_tours tasks cars v.items in
-    ok_both c.in_places.result Counted (From c.deref-2.result.now) Goal (λ v count from. answers_of fits s c.args.most_tours tasks cars v.items count (λ p a at. answer_at fits s c.args.most_tours tasks cars order drawn same c.in_ok-drawn.ensures.right p a (subst (λ (o : List ℕ). From o v) kept from p a at))) c.in_places.ensures.count c.in_places.ensures.from
+    let Goal : Vec TurnOf Global → Type 0 = λ v. AreAnswersOf s c.args.most_tours tasks cars v.items in
+    ok_both c.in_places.result Counted (From c.deref-2.result.now) Goal (λ v count from. answers_of s c.args.most_tours tasks cars v.items count (λ p a at. answer_at s c.args.most_tours tasks cars order drawn same c.in_ok-drawn.ensures.right p a (subst (λ (o : List ℕ). From o v) kept from p a at))) c.in_places.ensures.count c.in_places.ensures.from

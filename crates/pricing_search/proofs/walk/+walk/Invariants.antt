@@ -1,4 +1,4 @@
--- How many moves are left, and in the loop: what the followers so far keep has been visited.
+-- How many moves are left, and in the loop: what was visited through the followers so far.
 use Rattle.std.proofs.Common.{◌≡◌, ◌+◌, ◌*◌}
 use Rattle.partial_tours.proofs.Search.{left_in, from_next}
 use Rattle.kept_tours.proofs.Followers.{followers}

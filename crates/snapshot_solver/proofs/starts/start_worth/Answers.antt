@@ -1,8 +1,6 @@
 use Rattle.std.proofs.Common.{◌∙◌, ap, sym, arith}
-use Rattle.std.specs.Prelude.{ℤ}
 use Rattle.std.proofs.lemmas.Int.{ints}
 use Rattle.search_model.specs.Prices.{scaled}
-use Rattle.search_tree.specs.declared.sheets.Worth.{Worth}
 use Rattle.search_tree.proofs.SumLemmas.{stored}
 use Rattle.snapshot_solver.proofs.StartBound.{bound-start}
 use Rattle.snapshot_solver.proofs.starts.start_worth.Goals as goal
@@ -14,4 +12,4 @@ returns c =
     let e = c.scaled.ensures in
     let most = c.aboard_cost_of.ensures.bounded in
     let is = stored z (omega (arith, ints, e)) (omega (arith, ints, e, most)) in
-    ap {B = Worth} (λ (worth : ℤ). record { worth = worth; claim = 1 }) (is ∙ e ∙ ap scaled c.aboard_cost_of.ensures.cost ∙ sym (bound-start c.args.snapshot.now c.args.car c.requires))
+    is ∙ e ∙ ap scaled c.aboard_cost_of.ensures.cost ∙ sym (bound-start c.args.snapshot.now c.args.car c.requires)

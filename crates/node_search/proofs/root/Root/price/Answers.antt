@@ -7,7 +7,6 @@ use Rattle.node_search.proofs.root.Root.price.Goals as goal
 pub returns-clause-answers : goal.returns-clause-answers
 returns-clause-answers g c =
     let s = g.P.Pricer.snapshot c.args.pricer.now in
-    let fits = g.P.Pricer.fits c.args.pricer.now in
     let prices : c.deref.result.now ≡ c.args.self.now.prices.items = search rules in
     let node' : (get_or c.branches.result.now 0 c.index-branches-0.result).node ≡ root_of s = search rules in
-    ok_both c.price_nodes.result _ _ _ (λ cars count right. one_task fits s c.args.most_tours (root_of s) c.args.self.now.prices.items _ _ cars.items right node' prices (search rules) count (root_node fits s c.args.most_tours c.args.self.now c.requires.root) (root_calls fits s c.args.most_tours c.args.self.now c.requires.root)) c.price_nodes.ensures.count c.price_nodes.ensures.answers
+    ok_both c.price_nodes.result _ _ _ (λ cars count right. one_task s c.args.most_tours (root_of s) c.args.self.now.prices.items _ _ cars.items right node' prices (search rules) count (root_node s c.args.most_tours c.args.self.now c.requires.root) (root_calls s c.args.most_tours c.args.self.now c.requires.root)) c.price_nodes.ensures.count c.price_nodes.ensures.answers

@@ -2,7 +2,6 @@ use Rattle.std.proofs.Common.{rules, arith, refl, to_z, of_z, pos, ℤ, ◌+◌,
 use Rattle.std.specs.Int.{w128}
 use Rattle.std.proofs.lemmas.Int.{ints}
 use Rattle.node_search.proofs.TurnPrices.{stored}
-use Rattle.search_model.specs.Prices.{price_at}
 use Rattle.search_model.specs.Solving.{greatest_price}
 use Rattle.search_model.specs.Nodes.{root_of}
 use Rattle.tour_cost.proofs.Served.{cars-le}
@@ -14,7 +13,7 @@ use Rattle.elevator_model.specs.Plans.{plan_cost_of}
 use Rattle.restricted_master.specs.Pools.{TourPool, IsMadeOf}
 use Rattle.node_search.specs.Roots.{start_of_turns}
 use Rattle.node_search.specs.Turns.{moved_price}
-use Rattle.node_search.specs.Best.{IsBest, with_turn}
+use Rattle.node_search.specs.Best.{IsBest}
 use Rattle.node_search.proofs.RootLaws.{below_tours, feasible_tours}
 use Rattle.node_search.proofs.RootTurns.{root_branch, root_calls, root_leaf, root_lone}
 use Rattle.node_search.proofs.root.Root.take_in.Goals as goal
@@ -22,22 +21,22 @@ use Rattle.node_search.proofs.root.Root.take_in.Goals as goal
 pub put_tours-requires-clause-tours : goal.put_tours-requires-clause-tours
 put_tours-requires-clause-tours g c =
     let s = g.P.Pricer.snapshot c.args.pricer.now in
-    feasible_tours (g.P.Pricer.fits c.args.pricer.now) s c.args.self.now.best.pool.snapshot c.args.most_tours (root_of s) c.args.self.now.prices.items c.args.cars.now c.requires.root.best.snapshot c.requires.answers
+    feasible_tours s c.args.self.now.best.pool.snapshot c.args.most_tours (root_of s) c.args.self.now.prices.items c.args.cars.now c.requires.root.best.snapshot c.requires.answers
 
 pub note-requires-clause-place : goal.note-requires-clause-place
 note-requires-clause-place g c =
-    let one = root_lone (g.P.Pricer.fits c.args.pricer.now) (g.P.Pricer.snapshot c.args.pricer.now) c.args.most_tours c.args.self.now c.requires.root in
+    let one = root_lone (g.P.Pricer.snapshot c.args.pricer.now) c.args.most_tours c.args.self.now c.requires.root in
     omega (arith, one)
 
 pub note-requires-clause-calls : goal.note-requires-clause-calls
 note-requires-clause-calls g c =
-    let leaf = root_branch (g.P.Pricer.fits c.args.pricer.now) (g.P.Pricer.snapshot c.args.pricer.now) c.args.most_tours c.args.self.now c.requires.root in
+    let leaf = root_branch (g.P.Pricer.snapshot c.args.pricer.now) c.args.most_tours c.args.self.now c.requires.root in
     ap length c.deref.ensures.value ∙ c.requires.root.calls ∙ ap (λ (b : Branch). length b.sheet.prices) (sym leaf)
 
 pub note-requires-clause-cars : goal.note-requires-clause-cars
 note-requires-clause-cars g c =
-    let leaf = root_branch (g.P.Pricer.fits c.args.pricer.now) (g.P.Pricer.snapshot c.args.pricer.now) c.args.most_tours c.args.self.now c.requires.root in
-    let within = root_leaf (g.P.Pricer.fits c.args.pricer.now) (g.P.Pricer.snapshot c.args.pricer.now) c.args.most_tours c.args.self.now c.requires.root in
+    let leaf = root_branch (g.P.Pricer.snapshot c.args.pricer.now) c.args.most_tours c.args.self.now c.requires.root in
+    let within = root_leaf (g.P.Pricer.snapshot c.args.pricer.now) c.args.most_tours c.args.self.now c.requires.root in
     c.requires.answers.count ∙ sym within.sheet.cars ∙ ap (λ (b : Branch). length b.sheet.worths) (sym leaf)
 
 pub note-requires-clause-sizes : goal.note-requires-clause-sizes
@@ -47,7 +46,7 @@ note-requires-clause-sizes g c k lt =
 
 pub note-requires-clause-rounds : goal.note-requires-clause-rounds
 note-requires-clause-rounds g c =
-    let leaf = root_branch (g.P.Pricer.fits c.args.pricer.now) (g.P.Pricer.snapshot c.args.pricer.now) c.args.most_tours c.args.self.now c.requires.root in
+    let leaf = root_branch (g.P.Pricer.snapshot c.args.pricer.now) c.args.most_tours c.args.self.now c.requires.root in
     let at = ap (λ (b : Branch). b.rounds) leaf in
     let rounds = c.requires.root.rounds in
     let few = c.requires.turns in
@@ -64,7 +63,7 @@ select-requires-clause-best g c = subst (λ (x : Snapshot). IsBest x c.put_tours
 
 pub select-requires-clause-prices : goal.select-requires-clause-prices
 select-requires-clause-prices g c =
-    let calls = root_calls (g.P.Pricer.fits c.args.pricer.now) (g.P.Pricer.snapshot c.args.pricer.now) c.args.most_tours c.args.self.now c.requires.root in
+    let calls = root_calls (g.P.Pricer.snapshot c.args.pricer.now) c.args.most_tours c.args.self.now c.requires.root in
     ap length c.deref-2.ensures.value ∙ calls ∙ ap call_count (sym (c.in_ok-put_tours.ensures.best.snapshot ∙ c.requires.root.best.snapshot))
 
 pub select-requires-clause-limit : goal.select-requires-clause-limit
@@ -79,11 +78,11 @@ prices_after-requires-clause-cars g c =
 pub prices_after-requires-clause-tours : goal.prices_after-requires-clause-tours
 prices_after-requires-clause-tours g c =
     let s = g.P.Pricer.snapshot c.args.pricer.now in
-    below_tours (g.P.Pricer.fits c.args.pricer.now) s c.args.most_tours (root_of s) c.args.self.now.prices.items c.args.cars.now (calls-le s c.requires.accepted) c.requires.answers
+    below_tours s c.args.most_tours (root_of s) c.args.self.now.prices.items c.args.cars.now (calls-le s c.requires.accepted) c.requires.answers
 
 pub prices_after-requires-clause-calls : goal.prices_after-requires-clause-calls
 prices_after-requires-clause-calls g c =
-    let calls = root_calls (g.P.Pricer.fits c.args.pricer.now) (g.P.Pricer.snapshot c.args.pricer.now) c.args.most_tours c.args.self.now c.requires.root in
+    let calls = root_calls (g.P.Pricer.snapshot c.args.pricer.now) c.args.most_tours c.args.self.now c.requires.root in
     let same = ap length c.deref-3.ensures.value in
     let few = calls-le (g.P.Pricer.snapshot c.args.pricer.now) c.requires.accepted in
     omega (arith, calls, same, few)

@@ -4,7 +4,7 @@ use Rattle.node_search.proofs.root.Root.turn_until.Goals as goal
 
 pub is_open-requires : goal.is_open-requires
 is_open-requires g c =
-    let one = root_lone (g.P.Pricer.fits c.args.pricer.now) (g.P.Pricer.snapshot c.args.pricer.now) c.args.most_tours _ c.loop-turn.invariant.root in
+    let one = root_lone (g.P.Pricer.snapshot c.args.pricer.now) c.args.most_tours _ c.loop-turn.invariant.root in
     omega (arith, one)
 
 pub loop-turn-preserved : goal.loop-turn-preserved

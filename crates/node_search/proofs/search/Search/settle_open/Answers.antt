@@ -9,16 +9,16 @@ pub note-requires-clause-place : goal.note-requires-clause-place
 note-requires-clause-place g c = c.requires.pricing.within
 
 pub note-requires-clause-sizes : goal.note-requires-clause-sizes
-note-requires-clause-sizes g c = pricing_sizes (g.P.Pricer.fits c.args.pricer.now) (g.P.Pricer.snapshot c.args.pricer.now) c.args.most_tours c.args.self.now c.args.place c.args.prices.now c.args.cars.now c.requires.way c.requires.pricing
+note-requires-clause-sizes g c = pricing_sizes (g.P.Pricer.snapshot c.args.pricer.now) c.args.most_tours c.args.self.now c.args.place c.args.prices.now c.args.cars.now c.requires.way c.requires.pricing
 
 pub note-requires-clause-rounds : goal.note-requires-clause-rounds
 note-requires-clause-rounds g c = c.requires.pricing.few
 
 pub note-requires-clause-calls : goal.note-requires-clause-calls
-note-requires-clause-calls g c = pricing_calls (g.P.Pricer.fits c.args.pricer.now) (g.P.Pricer.snapshot c.args.pricer.now) c.args.most_tours c.args.self.now c.args.place c.args.prices.now c.args.cars.now c.requires.way c.requires.pricing
+note-requires-clause-calls g c = pricing_calls (g.P.Pricer.snapshot c.args.pricer.now) c.args.most_tours c.args.self.now c.args.place c.args.prices.now c.args.cars.now c.requires.way c.requires.pricing
 
 pub note-requires-clause-cars : goal.note-requires-clause-cars
-note-requires-clause-cars g c = pricing_cars (g.P.Pricer.fits c.args.pricer.now) (g.P.Pricer.snapshot c.args.pricer.now) c.args.most_tours c.args.self.now c.args.place c.args.prices.now c.args.cars.now c.requires.way c.requires.pricing
+note-requires-clause-cars g c = pricing_cars (g.P.Pricer.snapshot c.args.pricer.now) c.args.most_tours c.args.self.now c.args.place c.args.prices.now c.args.cars.now c.requires.way c.requires.pricing
 
 pub is_due-requires : goal.is_due-requires
 is_due-requires g c = within_after c.args.self.now.tree.branches c.note.new.tree.branches c.args.place c.args.prices.now c.args.cars.now c.requires.pricing.within c.note.ensures
@@ -37,38 +37,32 @@ split-requires-clause-part g c = part_after c.args.self.now.tree.branches c.note
 
 pub returns-in_ok-split-clause-way : goal.returns-in_ok-split-clause-way
 returns-in_ok-split-clause-way g c =
-    let fits = g.P.Pricer.fits c.args.pricer.now in
     let s = g.P.Pricer.snapshot c.args.pricer.now in
     let old = c.args.self.now in
     let new : Search = record { tree = c.split.new.tree; best = old.best; done = old.done } in
-    let splits = (g.met.P.Pricer g.world.𝓛 g.world.𝓜 g.world.𝓡 ((λ s x. x), (λ x. x), (λ x. x), λ x. x)).fits_in_splits c.args.pricer.now in
-    grown_way fits s c.args.most_tours (cars-le s c.requires.accepted) old new c.args.place c.args.prices.now c.args.cars.now c.requires.way c.requires.pricing c.requires.way.best (omega arith) refl c.note.new.tree.branches c.note.ensures c.requires.accepted splits c.in_ok-split.ensures
+    grown_way s c.args.most_tours (cars-le s c.requires.accepted) old new c.args.place c.args.prices.now c.args.cars.now c.requires.way c.requires.pricing c.requires.way.best (omega arith) refl c.note.new.tree.branches c.note.ensures c.in_ok-split.ensures
 
 pub returns-in_ok-split-clause-settled : goal.returns-in_ok-split-clause-settled
 returns-in_ok-split-clause-settled g c =
-    let fits = g.P.Pricer.fits c.args.pricer.now in
     let s = g.P.Pricer.snapshot c.args.pricer.now in
     let old = c.args.self.now in
     let new : Search = record { tree = c.split.new.tree; best = old.best; done = old.done } in
-    let splits = (g.met.P.Pricer g.world.𝓛 g.world.𝓜 g.world.𝓡 ((λ s x. x), (λ x. x), (λ x. x), λ x. x)).fits_in_splits c.args.pricer.now in
-    grown_settled fits s c.args.most_tours (cars-le s c.requires.accepted) old new c.args.place c.args.prices.now c.args.cars.now c.requires.way c.requires.pricing c.requires.way.best (omega arith) refl c.note.new.tree.branches c.note.ensures c.requires.accepted splits c.in_ok-split.ensures
+    grown_settled s c.args.most_tours (cars-le s c.requires.accepted) old new c.args.place c.args.prices.now c.args.cars.now c.requires.way c.requires.pricing c.requires.way.best (omega arith) refl c.note.new.tree.branches c.note.ensures c.in_ok-split.ensures
 
 pub returns-else-is_due-clause-way : goal.returns-else-is_due-clause-way
 returns-else-is_due-clause-way g c =
-    let fits = g.P.Pricer.fits c.args.pricer.now in
     let s = g.P.Pricer.snapshot c.args.pricer.now in
     let old = c.args.self.now in
     let new : Search = record { tree = c.note.new.tree; best = old.best; done = old.done } in
     let few = cars-le s c.requires.accepted in
-    let rests = rests_open fits s c.args.most_tours few old new c.args.place c.args.prices.now c.args.cars.now c.requires.way c.requires.pricing c.requires.way.best (omega arith) refl c.note.new.tree.branches c.note.ensures c.args.first.call c.args.first.part c.requires.call c.requires.part (c.is_due.ensures.most c.if-is_due.false) in
-    rests_way fits s c.args.most_tours few old new c.args.place c.args.prices.now c.args.cars.now c.requires.way c.requires.pricing c.requires.way.best (omega arith) refl c.note.ensures rests
+    let rests = rests_open s c.args.most_tours few old new c.args.place c.args.prices.now c.args.cars.now c.requires.way c.requires.pricing c.requires.way.best (omega arith) refl c.note.new.tree.branches c.note.ensures c.args.first.call c.args.first.part c.requires.call c.requires.part (c.is_due.ensures.most c.if-is_due.false) in
+    rests_way s c.args.most_tours few old new c.args.place c.args.prices.now c.args.cars.now c.requires.way c.requires.pricing c.requires.way.best (omega arith) refl c.note.ensures rests
 
 pub returns-else-is_due-clause-settled : goal.returns-else-is_due-clause-settled
 returns-else-is_due-clause-settled g c =
-    let fits = g.P.Pricer.fits c.args.pricer.now in
     let s = g.P.Pricer.snapshot c.args.pricer.now in
     let old = c.args.self.now in
     let new : Search = record { tree = c.note.new.tree; best = old.best; done = old.done } in
     let few = cars-le s c.requires.accepted in
-    let rests = rests_open fits s c.args.most_tours few old new c.args.place c.args.prices.now c.args.cars.now c.requires.way c.requires.pricing c.requires.way.best (omega arith) refl c.note.new.tree.branches c.note.ensures c.args.first.call c.args.first.part c.requires.call c.requires.part (c.is_due.ensures.most c.if-is_due.false) in
-    rests_settled fits s c.args.most_tours few old new c.args.place c.args.prices.now c.args.cars.now c.requires.way c.requires.pricing c.requires.way.best (omega arith) refl c.note.ensures rests
+    let rests = rests_open s c.args.most_tours few old new c.args.place c.args.prices.now c.args.cars.now c.requires.way c.requires.pricing c.requires.way.best (omega arith) refl c.note.new.tree.branches c.note.ensures c.args.first.call c.args.first.part c.requires.call c.requires.part (c.is_due.ensures.most c.if-is_due.false) in
+    rests_settled s c.args.most_tours few old new c.args.place c.args.prices.now c.args.cars.now c.requires.way c.requires.pricing c.requires.way.best (omega arith) refl c.note.ensures rests

@@ -29,20 +29,17 @@ pub returns-clause-answer : goal.returns-clause-answer
 returns-clause-answer g c task at =
     let it = c.args.self.now in
     let s = g.P.Pricer.snapshot it.pricer.now in
-    let fits = g.P.Pricer.fits it.pricer.now in
     let pricing = slice_index it.order.now c.args.k in
     let car = pricing % it.cars in
     let here : Task = slice_index_or it.tasks.now (pricing / it.cars) c.index-self-pricing.result in
     let told = c.price-priced.ensures in
     let p : Pricing = record { car = car; node = here.node.now; prices = here.prices.now; answer = c.price-priced.result } in
-    let answer : IsAnswerIn fits s it.most_tours here.node.now (price_at here.prices.now) car (record { priced = c.price-priced.result; tour = c.in_ok-tour.tour }) = record {
+    let answer : IsAnswerIn s it.most_tours here.node.now (price_at here.prices.now) car (record { priced = c.price-priced.result; tour = c.in_ok-tour.tour }) = record {
       worth = told.worth;
       size = told.size;
-      visits = told.visits;
-      claim = told.claim;
       least = told.least;
       gives = λ e. gives_tour s p c.in_ok-tour.tour (c.in_ok-tour.ensures.least p told.held e);
       many = λ e. (told.spent e).1;
       within = c.in_ok-tour.ensures.within p told.held;
     } in
-    subst (λ (t : Task). IsAnswerIn fits s it.most_tours t.node.now (price_at t.prices.now) car (record { priced = c.price-priced.result; tour = c.in_ok-tour.tour })) (get_or_from_slice_get it.tasks.now (pricing / it.cars) task c.index-self-pricing.result at) answer
+    subst (λ (t : Task). IsAnswerIn s it.most_tours t.node.now (price_at t.prices.now) car (record { priced = c.price-priced.result; tour = c.in_ok-tour.tour })) (get_or_from_slice_get it.tasks.now (pricing / it.cars) task c.index-self-pricing.result at) answer
