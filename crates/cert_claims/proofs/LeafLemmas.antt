@@ -154,8 +154,3 @@ module _ {X : Type 0} where
       let on : n + 1 ≡ suc n = omega arith in
       let value : v ≡ g (get_or xs n d) = e ∙ ap (λ (l : List X). g (get_or l n d)) is ∙ ap g (get-changed g xs n d lt) in
       ap (λ (l : List X). set l n v) is ∙ ap (λ (y : X). set (map g (take n xs) ++ drop n xs) n y) value ∙ change-more g xs n d lt ∙ ap (λ (m : ℕ). map g (take m xs) ++ drop m xs) (sym on)
-
-  pub length-changed : (g : X → X) (xs : List X) (n : ℕ) → length (map g (take n xs) ++ drop n xs) ≡ length xs
-  length-changed g [] n = refl
-  length-changed g (x ∷ xs) zero = refl
-  length-changed g (x ∷ xs) (suc n) = ap suc (length-changed g xs n)

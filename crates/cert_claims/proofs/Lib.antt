@@ -3,3 +3,4 @@ mod TreeLemmas
 mod CountLemmas
 mod WorthLemmas
 mod CarLemmas
+mod StatingLemmas

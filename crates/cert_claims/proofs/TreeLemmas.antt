@@ -78,7 +78,7 @@ module _ (s : Snapshot) (bound : ℕ) where
   Sound p = IsSound s bound p.place p.twig
 
   -- the leaves after a split that divides
-  split_leaves : (place : Place) (j part : ℕ) (places : List Place) (twigs : List Twig) → is_part (set_of place.node j) part ≡ true → leaves_from (nodes_of (place ∷ places)) (Split j part ∷ twigs) ≡ leaves_from (nodes_of (places_after place (Split j part) places)) twigs
+  pub split_leaves : (place : Place) (j part : ℕ) (places : List Place) (twigs : List Twig) → is_part (set_of place.node j) part ≡ true → leaves_from (nodes_of (place ∷ places)) (Split j part ∷ twigs) ≡ leaves_from (nodes_of (places_after place (Split j part) places)) twigs
   split_leaves place j part places twigs is = ap (λ (b : Bool). leaves_from (cond b (first_of_split place.node j part ∷ second_of_split place.node j part ∷ nodes_of places) (nodes_of places)) twigs) is
 
   pub sound-claimed : (places : List Place) (twigs : List Twig) (all : List Claims) → All Sound (placed_from places twigs) → All Sound (placed_from places (claimed twigs all))

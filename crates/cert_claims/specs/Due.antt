@@ -1,5 +1,5 @@
 -- Which claims are due in a certificate.
-use Rattle.std.specs.Prelude.{◌≡◌, ℕ, ◌<◌, max, List, length, sum_by}
+use Rattle.std.specs.Prelude.{◌≡◌, ℕ, ◌<◌, ◌^◌, max, List, length, sum_by}
 use Rattle.call_sets.specs.Counting.{sum_below}
 use Rattle.elevator_model.specs.Snapshot.{Snapshot, car_count}
 use Rattle.search_model.specs.declared.WorthOf.{WorthOf}
@@ -47,3 +47,8 @@ worths_of_tree tree = sum_by worths_of tree
 -- What the claims may sum to: the limit, or the number of worths where that is greater, since each claim is at least 1.
 abbrev pub most_of_tree : (limit : ℕ) → List Twig → ℕ
 most_of_tree limit tree = max limit (worths_of_tree tree)
+
+-- a part is a set of cars
+abbrev pub HasCars : Twig → Type 0
+HasCars (Split j part) = part < 2 ^ 16
+HasCars (Tip leaf) = Unit {0}

@@ -1,5 +1,5 @@
 -- The leaves of a tree at their nodes, and the claims that are found for them. No public clause cites this module.
-use Rattle.std.specs.Prelude.{◌≡◌, ℕ, ◌+◌, ◌-◌, ◌<◌, ◌≤◌, List, [], ◌∷◌, ◌++◌, length, map, sum_by, slice_get, slice_index_or, Bool, true, false, IsTrue, Option, Some, None, if◌then◌else◌}
+use Rattle.std.specs.Prelude.{◌≡◌, ℕ, ◌+◌, ◌-◌, ◌<◌, ◌≤◌, List, [], ◌∷◌, ◌++◌, length, map, sum_by, slice_get, slice_index_or, Bool, true, false, IsTrue, All, Option, Some, None, if◌then◌else◌}
 use Rattle.call_sets.specs.Counting.{sum_below}
 use Rattle.elevator_model.specs.Snapshot.{Snapshot, car_count}
 use Rattle.search_model.specs.declared.WorthOf.{WorthOf}
@@ -8,8 +8,8 @@ use Rattle.search_model.specs.declared.Twig.{Twig}
 use Rattle.search_model.specs.declared.Twig.TheVariants.{Split, Leaf as Tip}
 use Rattle.search_model.specs.Nodes.{Node, IsNodeOf, set_of, is_part, first_of_split, second_of_split}
 use Rattle.search_model.specs.Prices.{IsWorth}
-use Rattle.search_model.specs.Certificates.{has_whole_lists, price_in, worth_in}
-use Rattle.cert_claims.specs.Due.{claim_due}
+use Rattle.search_model.specs.Certificates.{IsSound, Placed, has_whole_lists, is_whole, placed_twigs, price_in, worth_in}
+use Rattle.cert_claims.specs.Due.{HasCars, claim_due}
 use Rattle.cert_claims.specs.declared.tasks.Task.{Task}
 use Rattle.cert_claims.specs.declared.leaves.Claims.{Claims}
 use Rattle.cert_claims.specs.declared.counting.Tally.{Tally}
@@ -50,6 +50,13 @@ pub record IsProvedLeaf (s : Snapshot) (at : LeafAt) : Type 0 where
   pub node : IsNodeOf s at.node
   pub whole : IsTrue (has_whole_lists s at.leaf)
   pub worths : HasWorths s at.node at.leaf
+
+-- a whole tree that proves some bound, of which each part is a set of cars
+pub record IsProvedTree (s : Snapshot) (tree : List Twig) : Type 0 where
+  pub bound : ℕ
+  pub whole : IsTrue (is_whole s tree)
+  pub sound : All (λ (p : Placed). IsSound s bound p.place p.twig) (placed_twigs s tree)
+  pub cars : All HasCars tree
 
 -- ---- claims
 

@@ -1,5 +1,5 @@
 -- What a pass over the tree of a search answers.
-use Rattle.std.specs.Prelude.{◌≡◌, ◌↔◌, ℕ, ◌<◌, ◌≤◌, ◌^◌, pos, List, [], ◌∷◌, length, map, All, true, false, IsTrue}
+use Rattle.std.specs.Prelude.{◌≡◌, ◌↔◌, ℕ, ◌<◌, ◌≤◌, ◌^◌, List, [], ◌∷◌, length, map, All, true, false, IsTrue}
 use Rattle.elevator_model.specs.Snapshot.{Snapshot, car_count}
 use Rattle.search_model.specs.declared.Leaf.{Leaf}
 use Rattle.search_model.specs.declared.Stated.{Stated}
@@ -7,9 +7,7 @@ use Rattle.search_model.specs.declared.Twig.{Twig}
 use Rattle.search_model.specs.declared.Twig.TheVariants.{Split, Leaf as Tip}
 use Rattle.search_model.specs.declared.WorthOf.{WorthOf}
 use Rattle.search_model.specs.Nodes.{root_of}
-use Rattle.search_model.specs.Certificates.{Placed, IsSoundLeaf, Proves, claim_in, placed_twigs, sum_of_leaf}
-use Rattle.search_model.specs.Prices.{scaled}
-use Rattle.search_model.specs.Solving.{least_bound}
+use Rattle.search_model.specs.Certificates.{Placed, IsSoundLeaf, Proves, claim_in, placed_twigs}
 use Rattle.search_model.specs.Verdicts.{kept_at}
 use Rattle.cert_claims.specs.Due.{StatesDue, claims_of_tree, due_of_tree, most_of_tree}
 use Rattle.cert_claims.specs.declared.stating.Claimed.{Claimed}
@@ -29,7 +27,6 @@ DifferInClaims tree other = map without_claims tree ≡ map without_claims other
 -- A leaf that proves this bound at the root and is checked by one visit for each car at most.
 pub record IsLastResort (s : Snapshot) (bound : ℕ) (leaf : Leaf) : Type 0 where
   pub sound : IsSoundLeaf s bound (root_of s) leaf
-  pub sum_is : sum_of_leaf leaf ≡ scaled bound
   pub claims : (c : ℕ) → c < car_count s → claim_in leaf c ≡ 1
   pub few : (c : ℕ) → c < car_count s → length (kept_at s (root_of s) leaf c) ≤ 1
 
@@ -37,7 +34,6 @@ pub record IsLastResort (s : Snapshot) (bound : ℕ) (leaf : Leaf) : Type 0 wher
 -- resort, and the bound that it proves.
 pub record IsClaimed (s : Snapshot) (stated : Stated) (tree : List Twig) (resort : Leaf) (limit : ℕ) (claimed : Claimed) : Type 0 where
   pub proves : Proves s stated.plan stated.cost claimed.bound claimed.tree.twigs
-  pub best_bound : pos claimed.bound ≡ least_bound stated.cost claimed.tree.twigs
   pub low : claimed.bound ≤ stated.bound
   pub due : All (λ (p : Placed). StatesDue s p.place p.twig) (placed_twigs s claimed.tree.twigs)
   pub few : claims_of_tree claimed.tree.twigs ≤ most_of_tree limit claimed.tree.twigs

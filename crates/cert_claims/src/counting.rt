@@ -1,6 +1,6 @@
 //! The claims of many leaves, which workers share.
 
-ghost use Rattle.std.specs.Prelude.{◌≡◌, ◌+◌, ◌≤◌, ◌<◌, ◌^◌, ◌*◌, All, IfOk, List, ℕ, drop, length, map, option_map, take};
+ghost use Rattle.std.specs.Prelude.{◌≡◌, ◌+◌, ◌≤◌, ◌<◌, ◌^◌, ◌*◌, All, IfOk, List, ℕ, [], drop, length, map, option_map, take};
 ghost use Rattle.elevator_model.specs.Snapshot.{Snapshot as SnapshotValue};
 ghost use Rattle.cert_claims.specs.Leaves.{AreAllWithin, AreAnswers, HasTaken, IsProvedTask, LeafAt, leaf_at};
 
@@ -127,14 +127,41 @@ fn next_tasks<'t, 'a>(tasks: &'t [Task<'a>], done: usize, step: usize) -> &'t [T
     &tasks[done..tasks.len().min(done + step)]
 }
 
+/// Finds the claims of all leaves and takes them: false where they go further beyond 1 than is spare.
+///
+/// It fails only where there is no memory left.
+fn count_all<'a, R: Threads + Sync, G: Gate + Sync>(
+    runtime: &Runtime<R, G>,
+    snapshot: &'a Snapshot,
+    tasks: &'a [Task<'a>],
+    desks: &mut [Desk<'a>],
+    tally: &mut Tally,
+) -> Result<bool, AllocError>
+    requires small { tally.old.spare < 2 ^ 63 }
+    requires none { tally.old.claims.items ≡ [] }
+    requires tasks { All (IsProvedTask snapshot.now) tasks.now }
+    requires workers { (1 ≤ length desks.old) × (length desks.old ≤ MOST_WORKERS) }
+    requires desks { All (λ desk. desk.snapshot.now ≡ snapshot.now) desks.old }
+    ensures { IfOk result (HasTaken snapshot.now (map leaf_at tasks.now) tally.old tally.new) }
+{
+    let step = LEAVES_A_WORKER * desks.len();
+    while tally.claims.len() < tasks.len() {
+        let some = next_tasks(tasks, tally.claims.len(), step);
+        if !count_some(runtime, snapshot, some, desks, tally)? {
+            return Ok(false);
+        }
+    }
+    Ok(true)
+}
+
 /// The claims that are due at these leaves: None where they go further beyond 1, in all, than is spare.
 ///
 /// The leaves are shared by `workers` workers. `gate` is told of each before it begins. It fails only where
 /// there is no memory left.
-pub(crate) fn claims_of_all<R: Threads + Sync, G: Gate + Sync>(
+pub(crate) fn claims_of_all<'a, R: Threads + Sync, G: Gate + Sync>(
     runtime: &Runtime<R, G>,
-    snapshot: &Snapshot,
-    tasks: &[Task],
+    snapshot: &'a Snapshot,
+    tasks: &'a [Task<'a>],
     spare: u64,
     workers: u32,
 ) -> Result<Option<Vec<Claims>>, AllocError>
@@ -144,17 +171,14 @@ pub(crate) fn claims_of_all<R: Threads + Sync, G: Gate + Sync>(
     ensures { IfOk result (λ found. AreAllWithin snapshot.now spare (map leaf_at tasks.now)
         (option_map (λ claims. claims.items) found)) }
 {
-    let step = LEAVES_A_WORKER * workers as usize;
     let mut desks = desks_for(runtime.alloc, snapshot, workers)?;
     let mut tally = Tally {
         claims: Vec::new(runtime.alloc),
         spare,
     };
-    while tally.claims.len() < tasks.len() {
-        let some = next_tasks(tasks, tally.claims.len(), step);
-        if !count_some(runtime, snapshot, some, desks.as_mut_slice(), &mut tally)? {
-            return Ok(None);
-        }
+    if count_all(runtime, snapshot, tasks, desks.as_mut_slice(), &mut tally)? {
+        Ok(Some(tally.claims))
+    } else {
+        Ok(None)
     }
-    Ok(Some(tally.claims))
 }

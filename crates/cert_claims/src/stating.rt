@@ -1,14 +1,12 @@
 //! The claims of a tree.
 
-ghost use Rattle.std.specs.Prelude.{◌≡◌, ◌≤◌, ◌<◌, ◌^◌, ◌-◌, ℕ, [], ◌∷◌, drop, pos, true, IfOk, option_map};
-ghost use Rattle.search_model.specs.declared.Stated.{Stated as StatedValue};
+ghost use Rattle.std.specs.Prelude.{◌≡◌, ◌≤◌, ◌<◌, ◌^◌, ◌-◌, [], ◌∷◌, All, drop, true, IfOk, option_map};
 ghost use Rattle.search_model.specs.declared.Twig.TheVariants.{Leaf as Tip};
 ghost use Rattle.search_model.specs.Certificates.{Proves};
 ghost use Rattle.search_model.specs.Nodes.{root_of};
-ghost use Rattle.search_model.specs.Solving.{least_bound};
-ghost use Rattle.cert_claims.specs.Due.{worths_of_tree};
+ghost use Rattle.cert_claims.specs.Due.{HasCars, worths_of_tree};
 ghost use Rattle.cert_claims.specs.Leaves.{AreAllWithin, claimed, claimed_here};
-ghost use Rattle.cert_claims.specs.Leaves.{claims_after, leaves_from};
+ghost use Rattle.cert_claims.specs.Leaves.{IsProvedTree, claims_after, leaves_from};
 ghost use Rattle.cert_claims.specs.Stating.{IsClaimed, IsLastResort};
 
 use crate::counting::claims_of_all;
@@ -82,13 +80,14 @@ fn claims_of<R: Threads + Sync, G: Gate + Sync>(
     limit: u64,
     workers: u32,
 ) -> Result<Option<Vec<Claims>>, AllocError>
-    ghost stated: { StatedValue }
-    requires proves { Proves snapshot.now stated.plan stated.cost stated.bound tree.now.twigs }
+    requires proved { IsProvedTree snapshot.now tree.now.twigs }
     requires limit { limit < 2 ^ 63 }
     requires workers { (1 ≤ workers) × (workers ≤ MOST_WORKERS) }
     ensures { IfOk result (λ found. AreAllWithin snapshot.now (limit - worths_of_tree tree.now.twigs)
         (leaves_from (root_of snapshot.now ∷ []) tree.now.twigs) (option_map (λ all. all.items) found)) }
 {
+    // For the proof: the reader says that the snapshot is accepted.
+    let _calls = snapshot.calls();
     let tasks = leaves_of(runtime.alloc, snapshot, tree.twigs.as_slice())?;
     let cars = snapshot.building().cars().len() as u64;
     let worths = (tasks.len() as u64).saturating_mul(cars);
@@ -129,7 +128,7 @@ pub fn state_claims<R: Threads + Sync, G: Gate + Sync>(
     workers: u32,
 ) -> Result<Claimed, AllocError>
     requires proves { Proves snapshot.now stated.now.plan stated.now.cost stated.now.bound tree.twigs }
-    requires best_bound { pos stated.now.bound ≡ least_bound stated.now.cost tree.twigs }
+    requires cars { All HasCars tree.twigs }
     requires resort { IsLastResort snapshot.now resort.bound resort.leaf }
     requires least { resort.bound ≤ stated.now.bound }
     requires limit { limit ≤ 10 ^ 10 }
