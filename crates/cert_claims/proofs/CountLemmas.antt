@@ -1,10 +1,10 @@
 -- The claims of leaves, one after another.
 use Rattle.std.proofs.Common.{Bool, map, length-append, ◌≡◌, ℕ, zero, suc, ◌+◌, ◌-◌, ◌<◌, ◌≤◌, List, [], ◌∷◌, ◌++◌, length, take, drop, get_or, append_assoc, refl, sym, ap, ◌∙◌, subst, arith, Option, Some, None}
-use Rattle.std.specs.Prelude.{IfOk, Result, Ok, Err, sum_by, slice_get}
+use Rattle.std.specs.Prelude.{IfOk, Result, Ok, Err, slice_get}
 use Rattle.std.proofs.lemmas.List.{length-map}
 use Rattle.std.specs.declared.alloc.AllocError.{AllocError}
 use Rattle.std.proofs.lemmas.List.Sums.{sum_by-cons, sum_by-append, sum_by-take-le}
-use Rattle.elevator_model.specs.Snapshot.{Snapshot, car_count}
+use Rattle.elevator_model.specs.Snapshot.{Snapshot}
 use Rattle.cert_claims.specs.declared.leaves.Claims.{Claims}
 use Rattle.cert_claims.specs.declared.counting.Tally.{Tally}
 use Rattle.cert_claims.specs.declared.tasks.Task.{Task}

@@ -1,6 +1,6 @@
 -- A leaf with the claims that are due.
 use Rattle.std.proofs.Common.{◌≡◌, ℕ, zero, suc, ◌+◌, ◌-◌, ◌<◌, ◌≤◌, ◌==◌, Bool, true, false, cond, ◌&&◌, List, [], ◌∷◌, ◌++◌, length, map, get_or, set, take, drop, refl, sym, ap, ◌∙◌, subst, inl, inr, arith}
-use Rattle.std.specs.Prelude.{ℤ, pos, ◌+ℤ◌, ◌≤ℤ◌, max, nat_lt, sum_by, slice_index_or, IsTrue}
+use Rattle.std.specs.Prelude.{ℤ, pos, ◌+ℤ◌, ◌≤ℤ◌, max, nat_lt, sum_by, slice_index_or}
 use Rattle.std.specs.List.{list_all}
 use Rattle.std.proofs.lemmas.Bool.{and_parts, cases_Bool, eqb-true}
 use Rattle.std.proofs.lemmas.Int.{ints}
@@ -19,8 +19,8 @@ use Rattle.search_model.specs.Prices.{IsWorth}
 use Rattle.search_model.specs.Kept.{kept_list}
 use Rattle.search_model.specs.Certificates.{IsSoundLeaf, are_each_once, claim_in, has_whole_lists, price_in, sum_needed, sum_of_leaf, worth_in}
 use Rattle.kept_count.proofs.EntryLemmas.{claims_once, place_of, among-once, once-from, once-length}
-use Rattle.cert_claims.specs.Due.{claim_due, claims_of, worths_of}
-use Rattle.cert_claims.specs.Leaves.{AreDue, LeafAt, extra_of, extra_of_cars, leaf_of, with_claim, with_claims}
+use Rattle.cert_claims.specs.Due.{claim_due, claims_of}
+use Rattle.cert_claims.specs.Leaves.{AreDue, LeafAt, extra_of, leaf_of, with_claim, with_claims}
 
 -- ---- lists
 

@@ -1,10 +1,9 @@
 -- The claims of a tree, stated.
-use Rattle.std.proofs.Common.{◌≡◌, ℕ, zero, suc, ◌+◌, ◌-◌, ◌*◌, ◌^◌, ◌<◌, ◌≤◌, Bool, true, false, List, [], ◌∷◌, length, map, refl, sym, ap, ◌∙◌, subst, arith, Option, Some, None}
-use Rattle.std.specs.Prelude.{◌↔◌, All, IsTrue, max, min, sum_by}
+use Rattle.std.proofs.Common.{◌≡◌, ℕ, zero, suc, ◌+◌, ◌-◌, ◌*◌, ◌^◌, ◌<◌, ◌≤◌, true, false, List, [], ◌∷◌, length, map, refl, sym, ap, ◌∙◌, subst, arith}
+use Rattle.std.specs.Prelude.{All, min}
 use Rattle.std.proofs.lemmas.List.{length-map}
 use Rattle.std.proofs.lemmas.List.Elements.{All-nil, All-cons, All-head, All-tail}
 use Rattle.std.proofs.lemmas.List.Sums.{sum_by-cons}
-use Rattle.std.proofs.Math.Nat.{mul-le-mul_left}
 use Rattle.call_sets.specs.Counting.{sum_below}
 use Rattle.call_sets.proofs.Sums.{sum_below-same}
 use Rattle.elevator_model.specs.Snapshot.{Snapshot, IsAccepted, call_count, car_count}
@@ -12,15 +11,15 @@ use Rattle.search_model.specs.declared.Leaf.{Leaf}
 use Rattle.search_model.specs.declared.Stated.{Stated}
 use Rattle.search_model.specs.declared.Twig.{Twig}
 use Rattle.search_model.specs.declared.Twig.TheVariants.{Split, Leaf as Tip}
-use Rattle.search_model.specs.Nodes.{Node, IsNodeOf, root_of, set_of, is_part}
-use Rattle.search_model.specs.Certificates.{IsSound, Place, Placed, Proves, claim_in, is_filled, placed_from, placed_twigs, places_after, root_place}
+use Rattle.search_model.specs.Nodes.{IsNodeOf, root_of}
+use Rattle.search_model.specs.Certificates.{Place, Placed, Proves, claim_in, is_filled, placed_from, placed_twigs, places_after, root_place}
 use Rattle.search_model.proofs.SnapshotNodes.{root_is_node, first_is_node, second_is_node}
 use Rattle.search_model.proofs.TreeLemmas.{part-index}
 use Rattle.cert_claims.specs.declared.leaves.Claims.{Claims}
 use Rattle.cert_claims.specs.declared.stating.Claimed.{Claimed}
 use Rattle.cert_claims.specs.declared.tasks.Task.{Task}
-use Rattle.cert_claims.specs.Due.{HasCars, StatesDue, claim_due, claims_of, claims_of_tree, due_at, due_of_tree, most_of_tree, worths_of, worths_of_tree}
-use Rattle.cert_claims.specs.Leaves.{AreAllDue, AreAllWithin, IsProvedLeaf, IsProvedTask, IsProvedTree, LeafAt, claimed, extra_of_all, leaf_at, leaf_of, leaves_from}
+use Rattle.cert_claims.specs.Due.{HasCars, claim_due, claims_of, claims_of_tree, due_of_tree, most_of_tree, worths_of, worths_of_tree}
+use Rattle.cert_claims.specs.Leaves.{AreAllDue, IsProvedLeaf, IsProvedTask, IsProvedTree, LeafAt, claimed, extra_of_all, leaf_at, leaf_of, leaves_from}
 use Rattle.cert_claims.specs.Stating.{IsClaimed, IsLastResort}
 use Rattle.cert_claims.proofs.LeafLemmas.{claims_by_car, length_worths}
 use Rattle.cert_claims.proofs.TreeLemmas.{Sound, Due, due-claimed, due-placed, filled-claimed, nodes_of, sound-claimed, split_leaves, stated-claimed, without-claimed, worths-claimed}

@@ -1,15 +1,12 @@
 -- A tree with the claims that are due.
-use Rattle.std.proofs.Common.{◌≡◌, ℕ, ◌+◌, ◌<◌, ◌≤◌, Bool, true, false, cond, List, [], ◌∷◌, length, map, refl, sym, ap, ◌∙◌, subst, inl, inr, arith}
-use Rattle.std.specs.Prelude.{ℤ, pos, All, IsTrue, sum_by, max}
+use Rattle.std.proofs.Common.{◌≡◌, ℕ, ◌+◌, Bool, true, cond, List, [], ◌∷◌, map, refl, sym, ap, ◌∙◌, subst, arith}
+use Rattle.std.specs.Prelude.{ℤ, All, sum_by}
 use Rattle.std.specs.Int.{int_min}
-use Rattle.std.proofs.lemmas.Bool.{cond-true}
 use Rattle.std.proofs.lemmas.List.{length-map}
 use Rattle.std.proofs.lemmas.List.Elements.{All-nil, All-cons, All-head, All-tail}
 use Rattle.std.proofs.lemmas.List.Sums.{sum_by-cons}
-use Rattle.call_sets.specs.Counting.{sum_below}
-use Rattle.elevator_model.specs.Snapshot.{Snapshot, IsAccepted, call_count, car_count}
+use Rattle.elevator_model.specs.Snapshot.{Snapshot}
 use Rattle.search_model.specs.declared.WorthOf.{WorthOf}
-use Rattle.search_model.specs.declared.Leaf.{Leaf}
 use Rattle.search_model.specs.declared.Twig.{Twig}
 use Rattle.search_model.specs.declared.Twig.TheVariants.{Split, Leaf as Tip}
 use Rattle.search_model.specs.Sums.{rounded_up}
@@ -18,7 +15,7 @@ use Rattle.search_model.specs.Certificates.{IsSound, Place, Placed, is_filled, p
 use Rattle.search_model.specs.Solving.{bound_of_leaf, least_bound}
 use Rattle.cert_claims.specs.declared.leaves.Claims.{Claims}
 use Rattle.cert_claims.specs.Due.{StatesDue, claims_of, claims_of_tree, due_at, worths_of, worths_of_tree}
-use Rattle.cert_claims.specs.Leaves.{AreAllDue, LeafAt, claimed, claimed_here, claims_after, extra_of, extra_of_all, leaf_of, leaves_from, nodes_after, with_claim, with_claims}
+use Rattle.cert_claims.specs.Leaves.{AreAllDue, LeafAt, claimed, extra_of, extra_of_all, leaf_of, leaves_from, with_claim, with_claims}
 use Rattle.cert_claims.specs.Stating.{without_claim, without_claims}
 use Rattle.cert_claims.proofs.LeafLemmas.{claim_with, due_is, due_with, sound_with, stated_is, sum_with}
 

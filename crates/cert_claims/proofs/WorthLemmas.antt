@@ -1,19 +1,17 @@
 -- The claim that a count gives.
-use Rattle.std.proofs.Common.{◌≡◌, ℕ, zero, suc, ◌+◌, ◌<◌, ◌≤◌, List, [], ◌∷◌, length, take, refl, sym, ap, ◌∙◌, subst, arith, Option, Some, None}
-use Rattle.std.specs.Prelude.{ℤ, max, MatchOption}
+use Rattle.std.proofs.Common.{◌≡◌, ℕ, zero, suc, ◌<◌, ◌≤◌, List, [], ◌∷◌, length, take, refl, sym, ap, ◌∙◌, subst, arith, Some, None}
+use Rattle.std.specs.Prelude.{ℤ, max}
 use Rattle.elevator_model.specs.declared.Move.{Move}
 use Rattle.elevator_model.specs.declared.Stop.{Stop}
 use Rattle.elevator_model.specs.Snapshot.{Snapshot, IsAccepted, car_count}
 use Rattle.elevator_model.specs.Partial.{course_of}
-use Rattle.elevator_model.specs.Plans.{first_of}
 use Rattle.search_model.specs.declared.Leaf.{Leaf}
 use Rattle.search_model.specs.Nodes.{Node, IsNodeOf, allows, requires_of}
 use Rattle.search_model.specs.Certificates.{price_in, worth_in}
 use Rattle.search_model.specs.Kept.{kept_list}
 use Rattle.search_model.specs.Verdicts.{first_under, kept_at, tour_under_at}
-use Rattle.kept_count.specs.declared.counts.Count.{Count}
 use Rattle.kept_count.specs.declared.counts.Count.TheVariants.{Whole, Longer, Under}
-use Rattle.kept_count.specs.Counting.{HasLength, IsLonger, FindsUnder, IsCounted}
+use Rattle.kept_count.specs.Counting.{IsCounted}
 use Rattle.kept_count.proofs.WorthLemmas.{both_none, first_parts, none_of_worth}
 use Rattle.cert_claims.specs.Due.{claim_due}
 use Rattle.cert_claims.specs.Leaves.{HasWorths}

@@ -91,7 +91,13 @@ fn claims_of<R: Threads + Sync, G: Gate + Sync>(
     let tasks = leaves_of(runtime.alloc, snapshot, tree.twigs.as_slice())?;
     let cars = snapshot.building().cars().len() as u64;
     let worths = (tasks.len() as u64).saturating_mul(cars);
-    claims_of_all(runtime, snapshot, tasks.as_slice(), limit.saturating_sub(worths), workers)
+    claims_of_all(
+        runtime,
+        snapshot,
+        tasks.as_slice(),
+        limit.saturating_sub(worths),
+        workers,
+    )
 }
 
 impl LastResort {

@@ -96,7 +96,15 @@ fn printed<G: Gate + Sync>(
         });
     }
     let resort = start_leaf(runtime.alloc, snapshot)?;
-    state_claims(runtime, snapshot, stated, tree, resort, options.claims, options.workers)
+    state_claims(
+        runtime,
+        snapshot,
+        stated,
+        tree,
+        resort,
+        options.claims,
+        options.workers,
+    )
 }
 
 /// Appends the certificate, where one is wanted.
@@ -166,7 +174,11 @@ fn solution_of<G: Gate + Sync>(
         gate,
     };
     let claimed = printed(&runtime, options, snapshot, &found.stated, found.tree)?;
-    let ending = Ending::of(found.why, options.claims, found.stated.cost == claimed.bound);
+    let ending = Ending::of(
+        found.why,
+        options.claims,
+        found.stated.cost == claimed.bound,
+    );
     let stated = Stated {
         bound: claimed.bound,
         ..found.stated

@@ -114,9 +114,7 @@ impl NumberOption {
         match self {
             NumberOption::Rounds => make_setting("rounds", 1, MOST, 2000),
             NumberOption::Moves => make_setting("moves", 1, MOST, 75000),
-            NumberOption::Claims => {
-                make_setting("claims", 1, 10_000_000_000, 1_000_000_000)
-            }
+            NumberOption::Claims => { make_setting("claims", 1, 10_000_000_000, 1_000_000_000) }
             NumberOption::Workers => make_setting("workers", 1, 16, 1),
             NumberOption::Number => make_setting("number", 0, u64::MAX, 1),
             NumberOption::Floors => make_setting("floors", 2, 64, 12),

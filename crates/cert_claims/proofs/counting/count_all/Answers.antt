@@ -1,4 +1,4 @@
-use Rattle.std.proofs.Common.{◌≡◌, ◌+◌, ◌*◌, ◌<◌, ◌≤◌, arith, drop, length, map, rules, subst, take, Bool, false, true}
+use Rattle.std.proofs.Common.{◌≡◌, ◌*◌, drop, length, map, rules, subst, take, false, true}
 use Rattle.cert_claims.specs.Leaves.{HasTaken, HasTakenAll, leaf_at}
 use Rattle.cert_claims.proofs.CountLemmas.{group_past, group_taken, taken_few}
 use Rattle.cert_claims.proofs.counting.count_all.Goals as goal

@@ -1,4 +1,4 @@
-use Rattle.std.proofs.Common.{◌≡◌, ◌<◌, ◌∙◌, ap, arith, length, rules, sym}
+use Rattle.std.proofs.Common.{◌<◌, ◌∙◌, ap, length, rules}
 use Rattle.cert_claims.specs.Leaves.{with_claim}
 use Rattle.cert_claims.proofs.LeafLemmas.{changed_one}
 use Rattle.cert_claims.proofs.leaves.with_claims.Goals as goal

@@ -1,7 +1,6 @@
-use Rattle.std.proofs.Common.{◌≡◌, ◌<◌, ◌≤◌, ◌∙◌, ap, arith, length, List, refl, subst, sym, take, Option, Some, None}
+use Rattle.std.proofs.Common.{arith, List, refl, subst, Some, None}
 use Rattle.std.proofs.lemmas.List.{take_all}
-use Rattle.elevator_model.specs.Snapshot.{Snapshot}
-use Rattle.cert_claims.specs.Leaves.{AreClaimsWithin, HasTakenAll, LeafAt}
+use Rattle.cert_claims.specs.Leaves.{HasTakenAll, LeafAt}
 use Rattle.cert_claims.proofs.CountLemmas.{answer_at, leaf_there, past_all, past_spare, taken_more}
 use Rattle.cert_claims.proofs.counting.Tally.take.Goals as goal
 
