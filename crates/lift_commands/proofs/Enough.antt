@@ -12,7 +12,7 @@ use Rattle.search_model.specs.declared.Twig.{Twig}
 use Rattle.search_model.specs.declared.Twig.TheVariants.{Split, Leaf as Tip}
 use Rattle.search_model.specs.declared.Turn.{Turn}
 use Rattle.search_model.specs.declared.StopReason.{StopReason}
-use Rattle.search_model.specs.declared.StopReason.TheVariants.{Solved}
+use Rattle.search_model.specs.declared.StopReason.TheVariants.{Solved, Rounds, Moves}
 use Rattle.search_model.specs.Certificates.{Place, Placed, placed_from, places_after, root_place, price_in, worth_in}
 use Rattle.search_model.specs.Kept.{is_kept}
 use Rattle.search_model.specs.Nodes.{allows, requires_of}
@@ -59,4 +59,5 @@ done_where_enough options s stated tree turns Solved answer bound certificate pr
     let same = printed_same options s stated tree bound certificate options.brief refl printed answer.twigs enough in
     let equal : (stated.cost == bound) ≡ true = eq-eqb stated.cost bound (answer.reason ∙ sym same) in
     is ∙ ap status_of_ending end_is ∙ ap (λ (b : Bool). status_of_ending (ending_of Solved options.claims b)) equal
-done_where_enough options s stated tree turns why answer bound certificate printed end status end_is is solved enough = absurd cc
+done_where_enough options s stated tree turns (Rounds done) answer bound certificate printed end status end_is is solved enough = absurd cc
+done_where_enough options s stated tree turns (Moves car count) answer bound certificate printed end status end_is is solved enough = absurd cc

@@ -5,6 +5,7 @@ pub mod Solutions
 pub mod SolvedCases
 pub mod SolvedTrees
 pub mod SaidYes
+pub mod Printed
 pub mod Enough
 pub mod Verdicts
 pub mod SolvedRows

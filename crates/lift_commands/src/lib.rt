@@ -87,6 +87,7 @@
 mod checking;
 mod codes;
 mod days;
+mod endings;
 mod making;
 mod planning;
 mod putting;

@@ -1,32 +1,42 @@
 //! The command `solve`.
-ghost use Rattle.std.specs.Prelude.{◌≡◌, ◌≤◌, ◌++◌, List, ℕ, Some, IfErr, IfOk, OnOk, IsErrOf};
+ghost use Rattle.std.specs.Prelude.{◌≡◌, ◌≤◌, ◌++◌, All, List, ℕ, Some, IfErr, IfOk, OnOk, IsErrOf, length};
 ghost use Rattle.std.specs.Io.KnownBytes.{IsAtEnd};
 ghost use Rattle.byte_streams.specs.Streams.{Rose};
 ghost use Rattle.elevator_model.specs.Snapshot.{IsAccepted};
 ghost use Rattle.lift_text.specs.Reading.{whole_text, reading};
 ghost use Rattle.case_text.specs.CaseTexts.{IsCaseText, IsLoneCaseFault, Tells};
-ghost use Rattle.search_model.specs.Verdicts.{moves_enough, rounds_enough};
+ghost use Rattle.search_model.specs.Certificates.{Proves};
+ghost use Rattle.search_model.specs.Solving.{floor_of_bound};
+ghost use Rattle.search_tree.specs.Sheets.{IsSizedLeaf, IsSizedTwig};
+ghost use Rattle.answer_text.specs.Texts.{answer_text};
+ghost use Rattle.answer_text.specs.Plans.{FitsSnapshot};
+ghost use Rattle.cert_claims.specs.Stating.{IsLastResort};
 ghost use Rattle.cert_text.specs.Trees.{AreTwigsKnown};
 ghost use Rattle.lift_words.specs.Taken.{AreSolveOptions};
-ghost use Rattle.lift_commands.specs.Outcome.{AnswersCases, CanBeChecked, Ends, IsCarOf, IsSaidYes};
+ghost use Rattle.lift_commands.specs.Outcome.{AnswersCases, AreEnough, CanBeChecked, Ends, IsCarOf, IsPrinted, IsSaidYes};
 ghost use Rattle.lift_commands.specs.Outcome.{IsSolution, Refuses, SolveDue, Solves, certificate_part};
 ghost use Rattle.lift_commands.specs.Outcome.{closing_line, streams};
 
+use crate::endings::Ending;
 use crate::putting::{Answer, put, put_fault};
-use crate::status::{Status, status_of};
+use crate::status::Status;
 use answer_text::write_answer;
+use assign_branch::Tree;
 use byte_streams::{Gate, Sink, Source};
 use call_state::Snapshot;
 use case_text::read_lone_case;
+use cert_claims::{Claimed, LastResort, state_claims};
 use cert_text::write_cert;
 use elevator_model::MOST_CALLS;
+use kept_count::sum_of_leaf;
 use lift_text::{LineReader, TextFault, put_line};
 use lift_words::SolveOptions;
-use search_model::{StopReason, Twig};
-use snapshot_solver::{Limits, solve as solve_within};
+use search_model::{Stated, Twig};
+use snapshot_solver::{Limits, solve as solve_within, start_leaf};
 use std::alloc::{AllocError, Global};
 use std::marker::Sync;
 use std::thread::Threads;
+use work_fan::Runtime;
 
 /// The snapshot that the whole input is the text of.
 fn read_input<S: Source>(alloc: Global, source: &mut S) -> Result<Snapshot, TextFault>
@@ -65,6 +75,22 @@ fn put_closing(snapshot: &Snapshot, ending: Ending, text: &mut Vec<u8>) -> Resul
     }
 }
 
+/// The leaf with which a search starts, as the last resort of a certificate.
+///
+/// Its bound is at most this one. It fails only where there is no memory left.
+fn last_resort(alloc: Global, snapshot: &Snapshot, most: u64) -> Result<LastResort, AllocError>
+    requires { floor_of_bound snapshot.now ≤ most }
+    ensures resort { IfOk result (λ last. IsLastResort snapshot.now last.bound last.leaf) }
+    ensures bound { IfOk result (λ last. last.bound ≡ floor_of_bound snapshot.now) }
+    ensures sized { IfOk result (λ last. IsSizedLeaf last.leaf) }
+{
+    // For the proof: the reader says that the snapshot is accepted, so the leaf's sums are small.
+    let _calls = snapshot.calls();
+    let leaf = start_leaf(alloc, snapshot)?;
+    let bound = (sum_of_leaf(&leaf) / 1000) as u64;
+    Ok(LastResort { leaf, bound })
+}
+
 /// What is printed after a search: its bound, and with a certificate the tree with its claims and the bound
 /// that this proves.
 ///
@@ -78,8 +104,7 @@ fn printed<G: Gate + Sync>(
 ) -> Result<Claimed, AllocError>
     requires options { AreSolveOptions options }
     requires proves { Proves snapshot.now stated.now.plan stated.now.cost stated.now.bound tree.twigs }
-    requires best_bound { pos stated.now.bound ≡ least_bound stated.now.cost tree.twigs }
-    requires least { pos (floor_of_bound snapshot.now) ≤ℤ pos stated.now.bound }
+    requires least { floor_of_bound snapshot.now ≤ stated.now.bound }
     requires sized { All IsSizedTwig tree.twigs }
     requires known { AreTwigsKnown snapshot.now tree.twigs }
     ensures printed { IfOk result (λ claimed.
@@ -95,7 +120,7 @@ fn printed<G: Gate + Sync>(
             cut: false,
         });
     }
-    let resort = start_leaf(runtime.alloc, snapshot)?;
+    let resort = last_resort(runtime.alloc, snapshot, stated.bound)?;
     state_claims(
         runtime,
         snapshot,
