@@ -1,6 +1,6 @@
 //! What tests and measurements of several crates make: draws, the texts of snapshots and the snapshots in
-//! them, tours and plans in short texts, what these cost (also where they may break a rule), counts of checks,
-//! and a gate that tells whether jobs are done side by side.
+//! them, tours and plans in short texts, what these cost (also where they may break a rule), counts of
+//! checks, and a gate that tells whether jobs are done side by side.
 //!
 //! What answers an `Option` or a `bool` says `None` or no when out of memory, so that a test fails then. With
 //! few early returns, and few values to drop at them, what calls it is proved fast.
