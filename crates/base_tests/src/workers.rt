@@ -3,24 +3,29 @@
 ghost use Rattle.std.specs.Prelude.{◌≤◌};
 
 use byte_streams::{Gate, OpenGate};
+use case_kit::Lookout;
 use std::alloc::{AllocError, Global};
 use std::marker::Sync;
-use std::sync::atomic::{AtomicBool, Ordering};
+use std::sync::atomic::{AtomicU32, Ordering};
 use std::thread::Threads;
 use work_fan::{JobLine, Jobs, fan};
 
 /// Whether each of two jobs is drawn and then none, in three draws.
-fn draws_two(alloc: Global) -> Option<bool> {
-    let (line, mut seat) = JobLine::begin(alloc, 2, 1).ok()?;
-    let is_drawn = line.draw(&mut seat) == Some(0)
-        && line.draw(&mut seat) == Some(1)
-        && line.draw(&mut seat).is_none();
-    Some(line.close(seat) == 3 && is_drawn)
+fn draws_two(alloc: Global) -> bool {
+    match JobLine::begin(alloc, 2, 1) {
+        Ok((line, mut seat)) => {
+            let is_drawn = line.draw(&mut seat) == Some(0)
+                && line.draw(&mut seat) == Some(1)
+                && line.draw(&mut seat).is_none();
+            line.close(seat) == 3 && is_drawn
+        }
+        Err(_) => false,
+    }
 }
 
 #[test]
 fn draws_each_job_and_then_none(rt: HostRuntime) {
-    assert!(rt; draws_two(rt.alloc()) == Some(true));
+    assert!(rt; draws_two(rt.alloc()));
 }
 
 // Job k is answered by 10 + k. Desks only count what was done at them.
@@ -52,58 +57,24 @@ impl Jobs for Tens {
     }
 }
 
-// Each of two or three jobs raises its flag. Then the one that looks out, or each where none is named, looks
-// for the flags of all others, for a while.
-#[derive(Drop)]
-struct Lookout {
-    begun: [AtomicBool; 3],
-    looker: Option<u32>,
-    missed: AtomicBool,
-}
-
-impl Lookout {
-    // The flag of a third job that is not there is raised.
-    fn of_jobs(jobs: u32, looker: Option<u32>) -> Self {
-        Lookout {
-            begun: [flag(), flag(), AtomicBool::new(jobs < 3)],
-            looker,
-            missed: flag(),
-        }
-    }
-
-    fn sees_all(&self) -> bool {
-        for _ in 0..100_000_000u32 {
-            if self.begun.iter().all(|flag| flag.load(Ordering::SeqCst)) {
-                return true;
-            }
-        }
-        false
-    }
-}
-
-impl Gate for Lookout {
-    fn enter(&self, job: u32) {
-        if let Some(flag) = self.begun.get(job as usize) {
-            flag.store(true, Ordering::SeqCst);
-        }
-        if self.looker.is_none_or(|looker| looker == job) && !self.sees_all() {
-            self.missed.store(true, Ordering::SeqCst);
-        }
-    }
-}
-
-// Three jobs that are their own gate. The gate raises a job's flag, and the job answers whether it found the
-// flag raised.
+// Three jobs that are their own gate. The gate notes each job that begins, and the job answers whether it was
+// noted.
 #[derive(Drop)]
 struct Told {
-    flags: [AtomicBool; 3],
+    begun: AtomicU32,
+}
+
+fn bit_of(job: u32) -> u32 {
+    match job {
+        0 => 1,
+        1 => 2,
+        _ => 4,
+    }
 }
 
 impl Gate for Told {
     fn enter(&self, job: u32) {
-        if let Some(flag) = self.flags.get(job as usize) {
-            flag.store(true, Ordering::SeqCst);
-        }
+        self.begun.fetch_or(bit_of(job), Ordering::SeqCst);
     }
 }
 
@@ -123,13 +94,8 @@ impl Jobs for Told {
     }
 
     fn work(&self, k: u32, _desk: &mut u32) -> Result<bool, AllocError> {
-        let flag = self.flags.get(k as usize);
-        Ok(flag.is_some_and(|flag| flag.load(Ordering::SeqCst)))
+        Ok(self.begun.load(Ordering::SeqCst) & bit_of(k) != 0)
     }
-}
-
-fn flag() -> AtomicBool {
-    AtomicBool::new(false)
 }
 
 /// Whether so many workers answer five jobs in their order.
@@ -159,7 +125,7 @@ fn answers_in_the_order_of_the_jobs(rt: HostRuntime) {
 /// Whether each of three jobs finds that the gate was told of it.
 fn is_told_before(rt: &(impl Threads + Sync), alloc: Global) -> bool {
     let told = Told {
-        flags: [flag(), flag(), flag()],
+        begun: AtomicU32::new(0),
     };
     match fan(rt, alloc, &told, &mut [0, 0], &told) {
         Ok(found) => found.as_slice() == [true, true, true].as_slice(),
@@ -174,9 +140,9 @@ fn the_gate_is_told_of_a_job_before_it_begins(rt: HostRuntime) {
 
 /// Whether two workers do so many jobs, and each that looks out is told of the others while it waits.
 fn see_others(rt: &(impl Threads + Sync), alloc: Global, count: u32, looker: Option<u32>) -> bool {
-    let gate = Lookout::of_jobs(count, looker);
+    let gate = Lookout::new(count == 3, looker);
     let is_done = fan(rt, alloc, &Tens { count }, &mut [0, 0], &gate).is_ok();
-    is_done && !gate.missed.load(Ordering::SeqCst)
+    is_done && gate.saw_all()
 }
 
 #[test]

@@ -1,6 +1,6 @@
 //! What tests and measurements of several crates make: draws, the texts of snapshots and the snapshots in
-//! them, tours and plans in short texts, what these cost (also where they may break a rule), and counts of
-//! checks.
+//! them, tours and plans in short texts, what these cost (also where they may break a rule), counts of
+//! checks, and a gate that tells whether jobs are done side by side.
 //!
 //! What answers an `Option` or a `bool` says `None` or no when out of memory, so that a test fails then. With
 //! few early returns, and few values to drop at them, what calls it is proved fast.
@@ -11,6 +11,7 @@ mod costs;
 mod draws;
 mod lending;
 mod lines;
+mod lookout;
 mod reading;
 mod written;
 
@@ -19,5 +20,6 @@ pub use costs::{boards_of, lawful_cost, plan_price};
 pub use draws::draws_of_case;
 pub use lending::is_so_of;
 pub use lines::{put_call, put_group, put_lines, put_state};
+pub use lookout::Lookout;
 pub use reading::{WORKED_CASE, snapshot_in};
 pub use written::{plan_in, tour_in};

@@ -6,14 +6,25 @@
 use crate::pieces::Text;
 use std::alloc::Global;
 
+/// The least and the greatest number of the range `{LOW..HIGH}`.
+fn range_of(word: &str) -> Option<(u64, u64)> {
+    let (low, high) = word.strip_prefix("{")?.strip_suffix("}")?.split_once("..")?;
+    Some((low.parse().ok()?, high.parse().ok()?))
+}
+
 /// Whether a word is a number in the range `{LOW..HIGH}`.
 fn is_in_range(range: &str, word: &str) -> bool {
-    let (low, high) = range.split_once("..").unwrap_or(("", ""));
-    let low = low.strip_prefix("{").unwrap_or("");
-    let high = high.strip_suffix("}").unwrap_or("");
-    match word.parse::<u64>() {
-        Ok(found) => low.parse().unwrap_or(u64::MAX) <= found && found <= high.parse().unwrap_or(0),
-        Err(_) => false,
+    match (range_of(range), word.parse::<u64>()) {
+        (Some((low, high)), Ok(found)) => low <= found && found <= high,
+        _ => false,
+    }
+}
+
+/// Whether a word is there and is as is due.
+fn is_due(wanted: &str, word: Option<&str>) -> bool {
+    match word {
+        Some(word) => word == wanted || is_in_range(wanted, word),
+        None => false,
     }
 }
 
@@ -24,9 +35,8 @@ fn fits(due: &str, line: &str) -> bool {
         if wanted == "..." {
             return true;
         }
-        match words.next() {
-            Some(word) if word == wanted || is_in_range(wanted, word) => {}
-            _ => return false,
+        if !is_due(wanted, words.next()) {
+            return false;
         }
     }
     words.next().is_none()

@@ -14,12 +14,12 @@ mod runs;
 mod steps;
 mod tables;
 
+use due::lines_of;
 use runs::Bench;
-use std::alloc::AllocError;
 use std::marker::Sync;
 use std::process::ExitCode;
 use std::thread::Threads;
-use std::{env, fs, io};
+use std::{env, fs};
 
 /// Whether a block begins with this line.
 fn is_head(line: &str) -> bool {
@@ -37,35 +37,51 @@ impl<R: Threads + Sync> Bench<'_, R> {
         }
     }
 
-    /// Runs the cases of the text of a file.
-    fn run_text(&mut self, text: &str) -> Result<(), AllocError> {
-        let file: Vec<&str> = text.split('\n').collect(self.alloc)?;
+    /// Runs the cases of a file.
+    fn run_lines<'a>(&mut self, file: &'a [&'a str]) {
         for block in file.chunk_by(|_, line| !is_head(line)) {
-            self.run_block(&file, block);
+            self.run_block(file, block);
         }
-        Ok(())
+    }
+
+    /// Runs the cases of the text of a file. False out of memory.
+    fn run_text(&mut self, text: &str) -> bool {
+        match lines_of(self.alloc, text.as_bytes()) {
+            Some(file) => {
+                self.run_lines(&file);
+                true
+            }
+            None => false,
+        }
     }
 }
 
-/// Runs the cases of the files that the words name, prints what differs, and how many cases there were. Says
-/// whether all are as is due.
-fn run_files<R: Threads + Sync>(rt: &HostRuntime, bench: &mut Bench<'_, R>) -> io::Result<bool> {
-    for name in env::args(rt)?.skip(1) {
-        bench.run_text(&fs::read_to_string(rt, name)?)?;
+/// Runs the cases of the file with this name. False out of memory, and where it is not read.
+fn run_file<R: Threads + Sync>(rt: &HostRuntime, bench: &mut Bench<'_, R>, name: &str) -> bool {
+    match fs::read_to_string(rt, name) {
+        Ok(text) => bench.run_text(&text),
+        Err(_) => false,
     }
-    let report = &bench.report;
-    println!(rt;
-        "{}{} cases, {} differ",
-        report.text, report.cases, report.differing
-    )?;
-    Ok(report.differing == 0)
+}
+
+/// Runs the cases of the files that the words name. False where not all of them were run.
+fn run_files<R: Threads + Sync>(rt: &HostRuntime, bench: &mut Bench<'_, R>) -> bool {
+    let Ok(words) = env::args(rt) else {
+        return false;
+    };
+    let mut are_run = true;
+    for name in words.skip(1) {
+        are_run &= run_file(rt, bench, &name);
+    }
+    are_run
 }
 
 fn main(rt: HostRuntime) -> ExitCode {
     let mut bench = Bench::new(&rt, rt.alloc());
-    match run_files(&rt, &mut bench) {
-        Ok(true) => ExitCode::SUCCESS,
-        Ok(false) => ExitCode::FAILURE,
-        Err(_) => ExitCode::from(2),
+    let are_run = run_files(&rt, &mut bench);
+    let is_told = bench.report.print(&rt).is_ok();
+    if !are_run || !is_told {
+        return ExitCode::from(2);
     }
+    ExitCode::from(u8::from(bench.report.differing != 0))
 }

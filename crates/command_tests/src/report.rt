@@ -3,6 +3,7 @@
 use crate::runs::Ran;
 use std::alloc::Global;
 use std::fmt::Write;
+use std::io;
 
 /// How many cases there were, how many of them differ, and a line for each of these.
 #[derive(Drop)]
@@ -19,6 +20,14 @@ impl Report {
             cases: 0,
             differing: 0,
         }
+    }
+
+    /// Prints what differs, and how many cases there were.
+    pub(crate) fn print(&self, rt: &HostRuntime) -> io::Result<()> {
+        println!(rt;
+            "{}{} cases, {} differ",
+            self.text, self.cases, self.differing
+        )
     }
 
     /// Counts a case.

@@ -153,14 +153,22 @@ impl<R: Threads + Sync> Bench<'_, R> {
         is_due
     }
 
-    /// Runs the first step of a case with all its words. Each line of words is counted as a case.
+    /// Runs the step with the words of a line, if it has some, and counts that as a case.
+    fn run_words_of(&mut self, step: Step<'_>, line: &str) -> bool {
+        match line.strip_prefix("words ") {
+            Some(words) => {
+                self.report.count();
+                self.run_line(step, words)
+            }
+            None => true,
+        }
+    }
+
+    /// Runs the first step of a case with all its words.
     pub(crate) fn run_step(&mut self, step: Step<'_>) -> bool {
         let mut is_due = true;
         for line in step.lines {
-            if let Some(words) = line.strip_prefix("words ") {
-                self.report.count();
-                is_due &= self.run_line(step, words);
-            }
+            is_due &= self.run_words_of(step, line);
         }
         is_due
     }

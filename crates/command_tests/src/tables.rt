@@ -118,20 +118,28 @@ impl<R: Threads + Sync> Bench<'_, R> {
         }
     }
 
+    /// Runs the row, or the fronts, that a line says, if it says any.
+    fn run_row_of(&mut self, table: Table<'_>, line: &str) {
+        match line.strip_prefix("fronts ") {
+            Some(code) => self.run_fronts(
+                Table {
+                    way: Way::Front,
+                    ..table
+                },
+                code,
+            ),
+            None => {
+                if let Some(row) = Row::of_line(line) {
+                    self.run_row(table, row);
+                }
+            }
+        }
+    }
+
     /// Runs the rows of a table. Each is counted as a case, and other lines are passed over.
     fn run_rows(&mut self, table: Table<'_>, lines: &[&str]) {
         for line in lines {
-            if let Some(code) = line.strip_prefix("fronts ") {
-                self.run_fronts(
-                    Table {
-                        way: Way::Front,
-                        ..table
-                    },
-                    code,
-                );
-            } else if let Some(row) = Row::of_line(line) {
-                self.run_row(table, row);
-            }
+            self.run_row_of(table, line);
         }
     }
 

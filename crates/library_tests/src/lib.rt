@@ -23,8 +23,6 @@ mod sized;
 #[cfg(test)]
 mod snapshots;
 #[cfg(test)]
-mod tables;
-#[cfg(test)]
 mod whole_trees;
 #[cfg(test)]
 mod words;

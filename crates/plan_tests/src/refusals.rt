@@ -1,13 +1,13 @@
 //! What is refused, and at which item. Which fault comes first is said by the definitions, whose worked cases
 //! have each kind; here the answers come from the builds.
 
-use crate::cases::snapshot_of;
+use crate::cases::LOW_CAR;
 use call_sets::FloorSet;
 use call_state::{
     Building, BuildingParts, Call, CarSpec, CarState, Fault, Snapshot, SnapshotParts, StateFault,
     Travel,
 };
-use case_kit::is_so_of;
+use case_kit::{is_so_of, snapshot_in};
 use std::alloc::{AllocError, Global};
 
 fn bad(fault: Fault, item: u32) -> Option<StateFault> {
@@ -103,7 +103,7 @@ fn fault_of_parts(alloc: Global, parts: SnapshotParts) -> Option<StateFault> {
 }
 
 /// The same of the snapshot with other states of its cars and other calls.
-pub(crate) fn fault_with(
+fn fault_with(
     alloc: Global,
     snapshot: &Snapshot,
     states: &[CarState],
@@ -133,17 +133,10 @@ fn coming(floor: u32) -> CarState {
     }
 }
 
-/// A building whose car lacks the top floor.
-const LOW_CAR: &str = "building 1 / speed 2000 / accel 1000 / weights 1 1 / floors 0 4000 8000 12000
-    car 9 8 1000 1000 500 500 0 1 2";
-
-/// A person is aboard the car.
-const ABOARD: &str = "now 5000 / car 9 idle 0 5000 / aboard 9 9 2 1 0";
-
 /// Whether the snapshot with a person aboard is refused so with another state of its car and another call.
 fn is_refused(alloc: Global, state: CarState, call: Call, fault: Option<StateFault>) -> bool {
     is_so_of(
-        snapshot_of(alloc, LOW_CAR, &[], ABOARD),
+        snapshot_in(alloc, LOW_CAR.as_bytes()),
         &|snapshot: &Snapshot| -> bool { fault_with(alloc, snapshot, &[state], &[call]) == fault },
     )
 }

@@ -1,7 +1,7 @@
 use Rattle.std.proofs.Common.{◌≤◌, ◌+◌, ◌*◌, ◌-◌, ◌++◌, ◌∷◌, [], length}
 use Rattle.std.specs.Option.{IfSome}
 use Rattle.elevator_model.specs.Partial.{IsLawful}
-use Rattle.tour_compare.proofs.walks.walk_from.Given as goal
+use Rattle.plan_tests.proofs.walks.walk_from.Given as goal
 
 abbrev pub invariant-loop-seen : goal.invariant-loop-seen
 invariant-loop-seen l = record {

@@ -3,7 +3,7 @@
 ghost use Rattle.std.specs.Prelude.{◌≤◌};
 
 use byte_streams::MemorySource;
-use lift_text::{LineReader, NumberFault, RawLine, TextCode, TextFault};
+use lift_text::{LineReader, NumberFault, RawLine};
 use std::alloc::{AllocError, Global};
 
 /// What a word is as a number of -5 to 99.
@@ -14,12 +14,11 @@ enum Word {
     Other(usize, NumberFault),
 }
 
-/// The words of a text, each with the number of its line, and the line and the answer at which they end.
+/// The words of a text, each with the number of its line, and the line at which they end.
 #[derive(Clone, Copy)]
 struct Words<'a> {
     words: &'a [(u64, Word)],
     last: u64,
-    end: Result<bool, TextFault>,
 }
 
 /// The lines of a text as they stand: number, answer and size in bytes.
@@ -50,7 +49,7 @@ fn reads_words(lines: &mut LineReader<MemorySource>, due: Words) -> bool {
         }
         compared = compared.saturating_add(1);
     }
-    compared == lines.words() && lines.next_line() == due.end && lines.line() == due.last
+    compared == lines.words() && lines.next_line() == Ok(false) && lines.line() == due.last
 }
 
 fn reads_raw(lines: &mut LineReader<MemorySource>, due: RawLines) -> bool {
@@ -141,99 +140,7 @@ fn lines_are_the_same_in_any_pieces(rt: HostRuntime) {
     let mixed = Words {
         words: &MIXED_WORDS,
         last: 6,
-        end: Ok(false),
     };
     assert!(rt; is_read(rt.alloc(), MIXED, Expected::Words(mixed)));
     assert!(rt; is_read(rt.alloc(), MIXED, Expected::Raw(&MIXED_LINES)));
-}
-
-/// Whether the text has one word of one byte, which is no number, in this line, and the words end so.
-fn has_letter(
-    alloc: Global,
-    bytes: &[u8],
-    line: u64,
-    last: u64,
-    end: Result<bool, TextFault>,
-) -> bool {
-    let words = [(line, Word::Other(1, NumberFault::NoNumber))];
-    let due = Words {
-        words: &words,
-        last,
-        end,
-    };
-    is_read(alloc, bytes, Expected::Words(due))
-}
-
-#[test]
-fn bytes_that_no_line_has(rt: HostRuntime) {
-    let alloc = rt.alloc();
-    let bad = Err(TextFault::Bad {
-        line: 2,
-        code: TextCode::ForbiddenByte,
-    });
-    assert!(rt; has_letter(alloc, b"a\n\x1f\n", 1, 2, bad));
-    assert!(rt; has_letter(alloc, b"#\x7f\n~", 2, 2, Ok(false)));
-    let none = Words {
-        words: &[],
-        last: 2,
-        end: bad,
-    };
-    assert!(rt; is_read(alloc, b"\na\r", Expected::Words(none)));
-    let raw = [(1, RawLine::Line, 2), (1, RawLine::End, 0)];
-    assert!(rt; is_read(alloc, b"a\r\r\n", Expected::Raw(&raw)));
-}
-
-/// A text whose fourth line has so many bytes.
-fn wide(alloc: Global, size: usize) -> Result<Vec<u8>, AllocError>
-    requires { size ≤ 200000 }
-{
-    let mut bytes = Vec::from_slice(alloc, b"#\xff\r\n\n\t7\n")?;
-    bytes.resize(8 + size, b'x')?;
-    bytes.extend_from_slice(b"\r\ny")?;
-    Ok(bytes)
-}
-
-const WIDEST: [(u64, Word); 3] = [
-    (3, Word::Number(7)),
-    (4, Word::Other(4096, NumberFault::NoNumber)),
-    (5, Word::Other(1, NumberFault::NoNumber)),
-];
-
-const OVER_WIDE: [(u64, RawLine, usize); 6] = [
-    (1, RawLine::Line, 2),
-    (2, RawLine::Line, 0),
-    (3, RawLine::Line, 2),
-    (4, RawLine::Long, 0),
-    (5, RawLine::Line, 1),
-    (5, RawLine::End, 0),
-];
-
-/// Whether the text whose fourth line has so many bytes is read so.
-fn is_wide_read(alloc: Global, size: usize, due: Expected) -> bool
-    requires { size ≤ 200000 }
-{
-    match wide(alloc, size) {
-        Ok(text) => is_read(alloc, &text, due),
-        Err(_) => false,
-    }
-}
-
-#[test]
-fn longest_lines_are_taken(rt: HostRuntime) {
-    let widest = Words {
-        words: &WIDEST,
-        last: 5,
-        end: Ok(false),
-    };
-    assert!(rt; is_wide_read(rt.alloc(), 4096, Expected::Words(widest)));
-    let refused = Words {
-        words: &WIDEST[..1],
-        last: 4,
-        end: Err(TextFault::Bad {
-            line: 4,
-            code: TextCode::OverLong,
-        }),
-    };
-    assert!(rt; is_wide_read(rt.alloc(), 4097, Expected::Words(refused)));
-    assert!(rt; is_wide_read(rt.alloc(), 200_000, Expected::Raw(&OVER_WIDE)));
 }

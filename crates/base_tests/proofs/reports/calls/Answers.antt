@@ -1,6 +1,6 @@
 use Rattle.std.proofs.Common.{arith}
-use Rattle.text_tests.proofs.DayLemmas.{small_day}
-use Rattle.text_tests.proofs.reports.calls.Goals as goal
+use Rattle.base_tests.proofs.DayLemmas.{small_day}
+use Rattle.base_tests.proofs.reports.calls.Goals as goal
 
 pub returns : goal.returns
 returns c = small_day c.loop-released.served.items c.loop-released.invariant.0 (omega (arith, c.requires, c.loop-released.invariant.1))

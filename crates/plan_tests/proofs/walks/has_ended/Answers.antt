@@ -3,7 +3,7 @@ use Rattle.std.proofs.Common.{◌≡◌, ◌-◌, ◌∙◌, sym, subst, length,
 use Rattle.std.specs.List.{slice_get}
 use Rattle.elevator_model.specs.declared.Move.{Move}
 use Rattle.partial_tours.proofs.Search.{ended_last, ended_none}
-use Rattle.tour_compare.proofs.walks.has_ended.Goals as goal
+use Rattle.plan_tests.proofs.walks.has_ended.Goals as goal
 
 pub returns-in-Some : goal.returns-in-Some
 returns-in-Some c =

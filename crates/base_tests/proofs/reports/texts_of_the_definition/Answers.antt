@@ -1,7 +1,7 @@
 use Rattle.std.proofs.Common.{refl}
 use Rattle.std.specs.Fmt.{digits}
 use Rattle.service_report.specs.ReportTexts.{report_text}
-use Rattle.text_tests.proofs.reports.texts_of_the_definition.Goals as goal
+use Rattle.base_tests.proofs.reports.texts_of_the_definition.Goals as goal
 
 pub returns : goal.returns
 unfolding report_text digits

@@ -1,4 +1,6 @@
-//! Snapshots as texts, and the counts of their partial tours.
+//! Snapshots as texts, and the counts of their partial tours. How many there are, how many of them end and
+//! what these cost was counted by a program of its own, written from the definitions alone, which tries all
+//! lists of stops and judges each from its start. It is not kept here: the counts are.
 
 ghost use Rattle.std.specs.Prelude.{◌≤◌};
 
