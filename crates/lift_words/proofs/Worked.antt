@@ -30,14 +30,14 @@ two one other unlike r = by_places r.first r.second r.order r.within r.repeats
     by_places zero (suc (suc k)) order within same = absurd (omega arith)
     by_places (suc j) k order within same = absurd (omega arith)
 
-pub solve_by_defaults : AreTaken (codes "lift" ∷ codes "solve" ∷ codes "--brief" ∷ []) (Solve (record { rounds = 2000; moves = 75000; workers = 1; brief = true }))
+pub solve_by_defaults : AreTaken (codes "lift" ∷ codes "solve" ∷ codes "--brief" ∷ []) (Solve (record { rounds = 2000; moves = 75000; workers = 1; claims = 1000000000; brief = true }))
 unfolding clap_on_literals
 solve_by_defaults = record {
   command = refl;
   unrepeated = alone (codes "--brief");
   no_dashes = only;
   accepted = refl;
-  asks = record { brief = (λ _. refl, λ _. refl); rounds = refl; moves = refl; workers = refl };
+  asks = record { brief = (λ _. refl, λ _. refl); rounds = refl; moves = refl; workers = refl; claims = refl };
 }
   where
     only : Contains (codes "--brief" ∷ []) (codes "--") → ⊥
@@ -76,14 +76,14 @@ run_with_five_rounds = record {
     only (suc zero, lt, same) = absurd cc
     only (suc (suc k), lt, same) = absurd (omega arith)
 
-pub solve_with_certificate : AreTaken (codes "lift" ∷ codes "solve" ∷ codes "--rounds=5" ∷ []) (Solve (record { rounds = 5; moves = 75000; workers = 1; brief = false }))
+pub solve_with_certificate : AreTaken (codes "lift" ∷ codes "solve" ∷ codes "--rounds=5" ∷ []) (Solve (record { rounds = 5; moves = 75000; workers = 1; claims = 1000000000; brief = false }))
 unfolding clap_on_literals
 solve_with_certificate = record {
   command = refl;
   unrepeated = alone (codes "--rounds=5");
   no_dashes = only;
   accepted = refl;
-  asks = record { brief = (λ e. absurd cc, λ e. absurd cc); rounds = refl; moves = refl; workers = refl };
+  asks = record { brief = (λ e. absurd cc, λ e. absurd cc); rounds = refl; moves = refl; workers = refl; claims = refl };
 }
   where
     only : Contains (codes "--rounds=5" ∷ []) (codes "--") → ⊥
