@@ -1,11 +1,10 @@
 -- With limits that are enough an answer ends solved.
-use Rattle.std.proofs.Common.{◌≡◌, ℕ, ◌+◌, ◌*◌, ◌<◌, ◌≤◌, ◌==◌, Bool, true, false, List, [], ◌∷◌, length, refl, sym, ap, ◌∙◌, subst, arith}
-use Rattle.std.specs.Prelude.{sum_by, if◌then◌else◌, max}
+use Rattle.std.proofs.Common.{◌≡◌, ℕ, ◌+◌, ◌*◌, ◌≤◌, ◌==◌, Bool, true, false, List, [], ◌∷◌, length, refl, sym, ap, ◌∙◌, arith}
+use Rattle.std.specs.Prelude.{sum_by}
 use Rattle.std.proofs.lemmas.Bool.{eq-eqb}
 use Rattle.std.proofs.lemmas.List.Sums.{sum_by-cons}
 use Rattle.std.proofs.Math.Nat.{mul-le-mul_left}
 use Rattle.call_sets.proofs.Sums.{sum_below-each}
-use Rattle.elevator_model.specs.declared.Stop.{Stop}
 use Rattle.elevator_model.specs.Snapshot.{Snapshot, car_count}
 use Rattle.search_model.specs.declared.Stated.{Stated}
 use Rattle.search_model.specs.declared.Twig.{Twig}
@@ -17,14 +16,14 @@ use Rattle.search_model.specs.Certificates.{Place, Placed, placed_from, places_a
 use Rattle.search_model.specs.Kept.{is_kept}
 use Rattle.search_model.specs.Nodes.{allows, requires_of}
 use Rattle.search_model.specs.Solving.{IsSolveAnswer}
-use Rattle.search_model.specs.Verdicts.{kept_at, moves_enough}
+use Rattle.search_model.specs.Verdicts.{moves_enough}
 use Rattle.search_model.proofs.ManyLemmas.{tested_lists-few}
 use Rattle.cert_claims.specs.Due.{claim_due, due_at, due_of_tree, most_of_tree}
 use Rattle.lift_words.specs.declared.request.SolveOptions.{SolveOptions}
 use Rattle.lift_commands.specs.declared.status.Status.{Status}
 use Rattle.lift_commands.specs.declared.status.Status.TheVariants.{Done}
 use Rattle.lift_commands.specs.declared.endings.Ending.{Ending}
-use Rattle.lift_commands.specs.Outcome.{AreEnough, IsCertified, IsPrinted, ending_of, status_of_ending}
+use Rattle.lift_commands.specs.Outcome.{AreEnough, IsPrinted, ending_of, status_of_ending}
 
 module _ (s : Snapshot) where
   due_most : (place : Place) (twig : Twig) → due_at s place twig ≤ car_count s * moves_enough s
@@ -49,14 +48,14 @@ due_enough options s tree few enough =
     let more = mul-le-mul_left (car_count s * moves_enough s) few in
     omega (arith, due, more, enough)
 
-printed_same : (options : SolveOptions) (s : Snapshot) (stated : Stated) (tree : List Twig) (bound : ℕ) (certificate : List Twig) (brief : Bool) → options.brief ≡ brief → (if brief then bound ≡ stated.bound else IsCertified s options.claims stated tree bound certificate) → length tree ≤ 8 * options.rounds + 1 → AreEnough options s → bound ≡ stated.bound
-printed_same options s stated tree bound certificate true is printed few enough = printed
-printed_same options s stated tree bound certificate false is printed few enough = (printed.whole (due_enough options s tree few (enough.claims is))).0
+printed_same : (options : SolveOptions) (s : Snapshot) (stated : Stated) (tree : List Twig) (bound : ℕ) (certificate : List Twig) → IsPrinted options s stated tree bound certificate → (brief : Bool) → options.brief ≡ brief → length tree ≤ 8 * options.rounds + 1 → AreEnough options s → bound ≡ stated.bound
+printed_same options s stated tree bound certificate printed true is few enough = printed.brief is
+printed_same options s stated tree bound certificate printed false is few enough = ((printed.certified is).whole (due_enough options s tree few (enough.claims is))).0
 
 pub done_where_enough : (options : SolveOptions) (s : Snapshot) (stated : Stated) (tree : List Twig) (turns : List Turn) (why : StopReason) → IsSolveAnswer s options.rounds options.moves stated.plan stated.cost stated.bound tree turns why
     → (bound : ℕ) (certificate : List Twig) → IsPrinted options s stated tree bound certificate → (end : Ending) (status : Status) → end ≡ ending_of why options.claims (stated.cost == bound) → status ≡ status_of_ending end → why ≡ Solved → AreEnough options s → status ≡ Done
 done_where_enough options s stated tree turns Solved answer bound certificate printed end status end_is is solved enough =
-    let same = printed_same options s stated tree bound certificate options.brief refl printed answer.twigs enough in
+    let same = printed_same options s stated tree bound certificate printed options.brief refl answer.twigs enough in
     let equal : (stated.cost == bound) ≡ true = eq-eqb stated.cost bound (answer.reason ∙ sym same) in
     is ∙ ap status_of_ending end_is ∙ ap (λ (b : Bool). status_of_ending (ending_of Solved options.claims b)) equal
 done_where_enough options s stated tree turns (Rounds done) answer bound certificate printed end status end_is is solved enough = absurd cc

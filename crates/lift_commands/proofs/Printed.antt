@@ -1,17 +1,16 @@
 -- What is printed after a search.
-use Rattle.std.proofs.Common.{◌≡◌, ℕ, ◌*◌, ◌^◌, ◌<◌, ◌≤◌, Bool, true, false, List, [], ◌∷◌, length, map, refl, sym, ap, ◌∙◌, subst, arith}
-use Rattle.std.specs.Prelude.{All, IsTrue, ◌≤ℤ◌, pos, if◌then◌else◌}
+use Rattle.std.proofs.Common.{◌≡◌, ℕ, ◌≤◌, Bool, true, false, List, [], ◌∷◌, length, map, refl, sym, ap, ◌∙◌, subst, arith}
+use Rattle.std.specs.Prelude.{All}
 use Rattle.std.proofs.lemmas.Int.{ints}
 use Rattle.std.proofs.lemmas.List.{length-map}
 use Rattle.std.proofs.lemmas.List.Elements.{All-nil, All-cons, All-head, All-tail}
-use Rattle.elevator_model.specs.Snapshot.{Snapshot, IsAccepted, car_count}
+use Rattle.elevator_model.specs.Snapshot.{Snapshot, IsAccepted}
 use Rattle.search_model.specs.declared.WorthOf.{WorthOf}
 use Rattle.search_model.specs.declared.Leaf.{Leaf}
 use Rattle.search_model.specs.declared.Stated.{Stated}
 use Rattle.search_model.specs.declared.Twig.{Twig}
 use Rattle.search_model.specs.declared.Twig.TheVariants.{Split, Leaf as Tip}
-use Rattle.search_model.specs.Nodes.{root_of}
-use Rattle.search_model.specs.Certificates.{Proves, is_whole, sum_needed}
+use Rattle.search_model.specs.Certificates.{is_whole}
 use Rattle.search_model.specs.Solving.{floor_of_bound}
 use Rattle.search_tree.specs.Sheets.{IsSizedLeaf, IsSizedTwig}
 use Rattle.assign_branch.specs.Pricings.{IsWorthSize}
@@ -111,8 +110,8 @@ module _ (s : Snapshot) (accepted : IsAccepted s) (stated : Stated) (tree : List
 
 -- with a certificate
 pub printed_so : (options : SolveOptions) (s : Snapshot) (stated : Stated) (tree : List Twig) (bound : ℕ) (certificate : List Twig) → options.brief ≡ false → IsCertified s options.claims stated tree bound certificate → IsPrinted options s stated tree bound certificate
-printed_so options s stated tree bound certificate e is = subst (λ (b : Bool). if b then bound ≡ stated.bound else IsCertified s options.claims stated tree bound certificate) (sym e) is
+printed_so options s stated tree bound certificate e is = record { brief = λ t. absurd (let clash : false ≡ true = sym e ∙ t in cc); certified = λ f. is }
 
 -- without one
 pub printed_brief : (options : SolveOptions) (s : Snapshot) (stated : Stated) (tree : List Twig) (certificate : List Twig) → options.brief ≡ true → IsPrinted options s stated tree stated.bound certificate
-printed_brief options s stated tree certificate e = subst (λ (b : Bool). if b then stated.bound ≡ stated.bound else IsCertified s options.claims stated tree stated.bound certificate) (sym e) refl
+printed_brief options s stated tree certificate e = record { brief = λ t. refl; certified = λ f. absurd (let clash : true ≡ false = sym e ∙ f in cc) }

@@ -1,14 +1,12 @@
 -- What `solve` writes behind a case is taken by `check`, which says yes.
 use Rattle.std.proofs.Common.{◌≡◌, ℕ, ◌*◌, ◌^◌, ◌<◌, ◌≤◌, ◌==◌, Bool, true, false, not, List, [], ◌∷◌, ◌++◌, length, map, append-nil, append_assoc, length-append, refl, sym, ap, ◌∙◌, subst, arith, lit<}
-use Rattle.std.specs.Prelude.{pos, ◌≤ℤ◌, IsTrue, All, codes, decimal, if◌then◌else◌}
+use Rattle.std.specs.Prelude.{IsTrue, All, codes, decimal, if◌then◌else◌}
 use Rattle.std.specs.List.{flat_map, list_all, AllByRecursion}
 use Rattle.std.specs.Io.BufRead.{ends_with_byte}
 use Rattle.std.proofs.lemmas.Bool.{and_parts}
 use Rattle.std.proofs.lemmas.Fmt.{length-decimal-le}
-use Rattle.std.proofs.lemmas.Int.{ints}
 use Rattle.std.proofs.lemmas.List.{length-map}
 use Rattle.std.proofs.lemmas.List.Elements.{All-append, All-cons, All-nil, All-weaker}
-use Rattle.elevator_model.specs.declared.Stop.{Stop}
 use Rattle.elevator_model.specs.Snapshot.{Snapshot, IsAccepted, car_count, spec_of}
 use Rattle.search_model.specs.declared.Twig.{Twig}
 use Rattle.search_model.specs.declared.Twig.TheVariants.{Split, Leaf as Tip}
@@ -17,10 +15,9 @@ use Rattle.search_model.specs.declared.StopReason.{StopReason}
 use Rattle.search_model.specs.declared.StopReason.TheVariants.{Solved, Rounds, Moves}
 use Rattle.search_model.specs.declared.Verdict.TheVariants.{Yes}
 use Rattle.search_model.specs.Certificates.{Place, Placed, Proves, placed_twigs}
-use Rattle.search_model.specs.Solving.{IsReason, IsSolveAnswer, least_bound}
+use Rattle.search_model.specs.Solving.{IsReason, IsSolveAnswer}
 use Rattle.search_model.specs.Verdicts.{FitsClaims, verdict_of}
 use Rattle.search_tree.specs.Sheets.{IsSizedTwig}
-use Rattle.node_search.proofs.SearchEnd.{least-cost}
 use Rattle.lift_text.specs.Text.{line, word, words}
 use Rattle.text_sections.specs.Canonical.{IsWordByte}
 use Rattle.text_sections.proofs.CanonicalLemmas.{decimal_word}
@@ -29,7 +26,6 @@ use Rattle.answer_text.specs.Plans.{plan_by_index, stated_by_index, stop_by_inde
 use Rattle.answer_text.specs.Texts.{answer_text}
 use Rattle.answer_text.proofs.FitsLemmas.{feasible_fits}
 use Rattle.case_text.specs.CaseTexts.{IsCaseText}
-use Rattle.cert_text.specs.Trees.{AreTwigsKnown}
 use Rattle.cert_text.specs.Texts.{cert_text}
 use Rattle.cert_text.specs.Written.{HasText}
 use Rattle.cert_checker.proofs.VerdictLaws.{verdict_holds}
@@ -39,6 +35,7 @@ use Rattle.check_text.specs.Laws.{IsClosing}
 use Rattle.check_text.proofs.AgainLemmas.{again_holds}
 use Rattle.lift_words.specs.declared.request.SolveOptions.{SolveOptions}
 use Rattle.cert_claims.specs.Due.{StatesDue, claims_of_tree}
+use Rattle.lift_commands.specs.declared.endings.Ending.{Ending}
 use Rattle.lift_commands.specs.Outcome.{CanBeChecked, IsCertified, IsPrinted, IsSaidYes, certificate_part, closing_line, ending_of}
 use Rattle.lift_commands.proofs.SearchBounds.{bound_low}
 use Rattle.lift_commands.proofs.SolvedTrees.{tree_short, tree_within, worths_few}
@@ -157,17 +154,13 @@ module _ (s : Snapshot) (accepted : IsAccepted s) (limit : ℕ) (stated : Stated
 behind_input : (input a b c : List ℕ) → input ++ a ++ b ++ c ≡ input ++ (a ++ b ++ c)
 behind_input input a b c = ap (λ (x : List ℕ). x ++ c) (append_assoc input a b) ∙ append_assoc input (a ++ b) c
 
--- what is printed with a certificate
-certified_of : (options : SolveOptions) (s : Snapshot) (stated : Stated) (tree : List Twig) (bound : ℕ) (certificate : List Twig) → options.brief ≡ false → IsPrinted options s stated tree bound certificate → IsCertified s options.claims stated tree bound certificate
-certified_of options s stated tree bound certificate brief printed = subst (λ (b : Bool). if b then bound ≡ stated.bound else IsCertified s options.claims stated tree bound certificate) brief printed
-
 -- what `solve` writes, where that is so
 pub said_yes : (options : SolveOptions) (s : Snapshot) → IsAccepted s → (stated : Stated) (tree : List Twig) (turns : List Turn) (why : StopReason)
     → IsSolveAnswer s options.rounds options.moves stated.plan stated.cost stated.bound tree turns why → (bound : ℕ) (certificate : List Twig) → IsPrinted options s stated tree bound certificate → All IsSizedTwig certificate → length certificate ≤ length tree
     → (input text : List ℕ) → IsCaseText input s → CanBeChecked options input → (solved : Bool)
     → text ≡ answer_text s (record { plan = stated.plan; cost = stated.cost; bound = bound }) ++ certificate_part options s certificate ++ closing_line s (ending_of why options.claims solved) → IsSaidYes (input ++ text) s
 said_yes options s accepted stated tree turns why answer bound certificate printed sized shorter input text case can solved is =
-    let certified = certified_of options s stated tree bound certificate can.certificate printed in
+    let certified = printed.certified can.certificate in
     let shown : Stated = record { plan = stated.plan; cost = stated.cost; bound = bound } in
     let closing = closing_line s (ending_of why options.claims solved) in
     let there : text ≡ answer_text s shown ++ cert_text s certificate ++ closing = is ∙ ap (λ (part : List ℕ). answer_text s shown ++ part ++ closing) (certificate_there options s certificate can.certificate) in
@@ -177,3 +170,11 @@ said_yes options s accepted stated tree turns why answer bound certificate print
     let low = bound_low s options.rounds options.moves stated.plan stated.cost stated.bound tree turns why answer in
     let lower = certified.low in
     subst (λ (x : List ℕ). IsSaidYes x s) one (yes_behind s accepted options.claims stated tree bound certificate certified sized input closing case can.ended can.short (omega (arith, low, lower)) (omega (arith, shorter, twigs, rounds)) can.claims (λ ids. closes s options.rounds options.moves options.claims stated.cost stated.bound bound tree why ids can.rounds can.moves can.claims answer.reason solved))
+
+-- the same, with the ending as it was found
+pub said_yes_as : (options : SolveOptions) (s : Snapshot) → IsAccepted s → (stated : Stated) (tree : List Twig) (turns : List Turn) (why : StopReason)
+    → IsSolveAnswer s options.rounds options.moves stated.plan stated.cost stated.bound tree turns why → (bound : ℕ) (certificate : List Twig) → IsPrinted options s stated tree bound certificate → All IsSizedTwig certificate → length certificate ≤ length tree
+    → (input text : List ℕ) → IsCaseText input s → CanBeChecked options input → (solved : Bool) (end : Ending) → end ≡ ending_of why options.claims solved
+    → text ≡ answer_text s (record { plan = stated.plan; cost = stated.cost; bound = bound }) ++ certificate_part options s certificate ++ closing_line s end → IsSaidYes (input ++ text) s
+said_yes_as options s accepted stated tree turns why answer bound certificate printed sized shorter input text case can solved end end_is is =
+    said_yes options s accepted stated tree turns why answer bound certificate printed sized shorter input text case can solved (is ∙ ap (λ (e : Ending). answer_text s (record { plan = stated.plan; cost = stated.cost; bound = bound }) ++ certificate_part options s certificate ++ closing_line s e) end_is)

@@ -1,6 +1,6 @@
 -- What is written of what a search answers.
 use Rattle.std.proofs.Common.{◌≡◌, ℕ, ◌≤◌, ◌==◌, Bool, true, false, List, ◌++◌, refl, sym, ap, ◌∙◌, subst, inl, inr, arith}
-use Rattle.std.specs.Prelude.{◌⊎◌, Option, if◌then◌else◌}
+use Rattle.std.specs.Prelude.{◌⊎◌, Option}
 use Rattle.std.proofs.lemmas.Bool.{eqb-true}
 use Rattle.elevator_model.specs.declared.Stop.{Stop}
 use Rattle.elevator_model.specs.Snapshot.{Snapshot, IsAccepted, car_count}
@@ -20,7 +20,7 @@ use Rattle.lift_commands.specs.declared.status.Status.{Status}
 use Rattle.lift_commands.specs.declared.status.Status.TheVariants.{Done, Stopped, Memory}
 use Rattle.lift_commands.specs.declared.endings.Ending.{Ending}
 use Rattle.lift_commands.specs.declared.endings.Ending.TheVariants.{IsSolved, OfRounds, OfMoves, OfClaims}
-use Rattle.lift_commands.specs.Outcome.{Streams, Ends, Puts, SolveDue, AnswerIsDue, AreEnough, IsAnswered, IsCertified, IsPrinted, IsSolution, certificate_part, closing_line, ending_of, status_of, status_of_ending}
+use Rattle.lift_commands.specs.Outcome.{Streams, Ends, Puts, SolveDue, AnswerIsDue, AreEnough, IsAnswered, IsPrinted, IsSolution, certificate_part, closing_line, ending_of, status_of, status_of_ending}
 use Rattle.lift_commands.proofs.Outcomes.{ends_put}
 use Rattle.lift_commands.proofs.SearchBounds.{bound_low}
 
@@ -52,9 +52,9 @@ solved_where_done (Rounds done) limit false e = absurd (cc e)
 solved_where_done (Moves car count) limit false e = absurd (cc e)
 
 -- the bound that is printed is at most that of the search, also without a certificate
-printed_low : (options : SolveOptions) (s : Snapshot) (stated : Stated) (tree : List Twig) (bound : ℕ) (certificate : List Twig) (brief : Bool) → (if brief then bound ≡ stated.bound else IsCertified s options.claims stated tree bound certificate) → bound ≤ stated.bound
-printed_low options s stated tree bound certificate true printed = omega (arith, printed)
-printed_low options s stated tree bound certificate false printed = printed.low
+printed_low : (options : SolveOptions) (s : Snapshot) (stated : Stated) (tree : List Twig) (bound : ℕ) (certificate : List Twig) → IsPrinted options s stated tree bound certificate → (brief : Bool) → options.brief ≡ brief → bound ≤ stated.bound
+printed_low options s stated tree bound certificate printed true e = (let same = printed.brief e in omega (arith, same))
+printed_low options s stated tree bound certificate printed false e = (printed.certified e).low
 
 module _ (options : SolveOptions) (s : Snapshot) (stated : Stated) (tree : List Twig) (turns : List Turn) (why : StopReason) (accepted : IsAccepted s) (answer : IsSolveAnswer s options.rounds options.moves stated.plan stated.cost stated.bound tree turns why)
     (bound : ℕ) (certificate : List Twig) (printed : IsPrinted options s stated tree bound certificate) where
@@ -68,7 +68,7 @@ module _ (options : SolveOptions) (s : Snapshot) (stated : Stated) (tree : List 
   best : stated.cost ≡ bound → IsOptimal s stated.plan
   best same =
       let low = bound_low s options.rounds options.moves stated.plan stated.cost stated.bound tree turns why answer in
-      let lower = printed_low options s stated tree bound certificate options.brief printed in
+      let lower = printed_low options s stated tree bound certificate printed options.brief refl in
       best_plan s stated.plan stated.cost stated.bound tree accepted answer.proves (omega (arith, low, lower, same))
 
   pub is_solution : (end : Ending) (status : Status) (text : List ℕ) → end ≡ ending → status ≡ status_of_ending end → text ≡ answer_text s shown ++ certificate_part options s certificate ++ closing_line s end → IsSolution options s status text

@@ -177,7 +177,7 @@ module _ (s : Snapshot) (accepted : IsAccepted s) (bound : ℕ) where
   tree_known tree whole sound sized =
       twigs_known (root_place s ∷ []) tree (root_is_node s accepted, tt) (are_known s bound (root_place s ∷ []) tree whole sound sized)
 
-  Due : Placed → Type 0
+  abbrev pub Due : Placed → Type 0
   Due p = StatesDue s p.place p.twig
 
   -- within what is left of the claims

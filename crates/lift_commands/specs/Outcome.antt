@@ -166,10 +166,10 @@ pub record IsCertified (s : Snapshot) (limit : ℕ) (stated : Stated) (tree : Li
   pub few : claims_of_tree certificate ≤ most_of_tree limit certificate
   pub whole : due_of_tree s tree ≤ most_of_tree limit tree → (bound ≡ stated.bound) × DifferInClaims certificate tree
 
--- the bound and the certificate that are printed after a search: without a certificate, the bound of the search
-abbrev pub IsPrinted : SolveOptions → Snapshot → Stated → (tree : List Twig) → (bound : ℕ) → (certificate : List Twig) → Type 0
-IsPrinted options s stated tree bound certificate =
-    if options.brief then bound ≡ stated.bound else IsCertified s options.claims stated tree bound certificate
+-- The bound and the certificate that are printed after a search; without a certificate, the bound of the search.
+pub record IsPrinted (options : SolveOptions) (s : Snapshot) (stated : Stated) (tree : List Twig) (bound : ℕ) (certificate : List Twig) : Type 0 where
+  pub brief : options.brief ≡ true → bound ≡ stated.bound
+  pub certified : options.brief ≡ false → IsCertified s options.claims stated tree bound certificate
 
 -- A plan, its cost and a bound as a search of the snapshot answers them within these limits, with the certificate of what
 -- is printed and why it ends so; where the cost is the bound, the plan is optimal.

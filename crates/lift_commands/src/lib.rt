@@ -9,8 +9,9 @@
 //! **`solve`.** Status 0: the whole input was read and is the text of an accepted snapshot, and what was
 //! written is an **optimal** plan of it, its cost and an equal bound, for 1 to 16 workers, and without
 //! `--brief` the certificate that proves them. Status 3: the same of a feasible plan, a bound that no
-//! feasible plan's cost is below, and the limit of rounds or moves that was reached, which a tree of the
-//! search proves; never where the limits are enough. Status 5: the input is no such text, and the line
+//! feasible plan's cost is below, and the limit that was reached: of rounds or moves, which a tree of the
+//! search proves, or of claims, where those that are due in it go beyond that; never where the limits are
+//! enough. Status 5: the input is no such text, and the line
 //! written tells its first bad line with its one code, or that it is too long. A case and no fault give
 //! status 0, 3 or 8; any other input and no fault give 5 or 8. Where the input ends with LF and has at most
 //! 1,000,000 bytes, and the limits are at most the defaults, the input followed by all that was written is an
@@ -48,8 +49,10 @@
 //!
 //! - `ends` says for each status what was read and written, by words of other commands than `day` and
 //!   `report`. A text is *due* with a status (`RunDue`). By words of `solve` the input is the text of an
-//!   accepted snapshot (`IsCaseText`), and the text written is due as a search answers it (`IsSolution`),
-//!   with the tree of that search as a certificate unless `--brief` is given. Where the input ends with LF,
+//!   accepted snapshot (`IsCaseText`), and the text written is due as a search answers it (`IsSolution`), with
+//!   a certificate unless `--brief` is given: the tree of that search with the claims that are due or,
+//!   exactly where these go beyond their limit, another one with the bound that it proves (`IsCertified`).
+//!   Where the input ends with LF,
 //!   has at most 1,000,000 bytes and the limits are at most the defaults (`CanBeChecked`), input and text
 //!   together are an input of `check` whose verdict is yes (`IsSaidYes`). By words of `check`, Done and
 //!   Refused come with the text of the verdict (`VerdictIsDue`): the input is the text of an accepted

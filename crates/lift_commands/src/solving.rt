@@ -120,6 +120,8 @@ fn printed<G: Gate + Sync>(
             cut: false,
         });
     }
+    // For the proof: the reader says that the snapshot is accepted.
+    let _calls = snapshot.calls();
     let resort = last_resort(runtime.alloc, snapshot, stated.bound)?;
     state_claims(
         runtime,
@@ -174,12 +176,12 @@ fn text_of(
 
 /// The text of a plan with its cost and a bound, with its certificate unless none is wanted, and why the
 /// search for it ended.
-fn solution_of<G: Gate + Sync>(
-    rt: &(impl Threads + Sync),
+fn solution_of<'a, G: Gate + Sync>(
+    rt: &'a (impl Threads + Sync),
     alloc: Global,
     options: SolveOptions,
     snapshot: &Snapshot,
-    gate: &G,
+    gate: &'a G,
 ) -> Result<Answer, AllocError>
     requires options { AreSolveOptions options }
     ensures solution { IfOk result (λ answer. IsSolution options snapshot.now answer.status answer.text.items) }
@@ -198,7 +200,8 @@ fn solution_of<G: Gate + Sync>(
         alloc,
         gate,
     };
-    let claimed = printed(&runtime, options, snapshot, &found.stated, found.tree)?;
+    let tree = found.tree;
+    let claimed = printed(&runtime, options, snapshot, &found.stated, tree)?;
     let ending = Ending::of(
         found.why,
         options.claims,

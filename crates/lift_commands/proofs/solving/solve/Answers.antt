@@ -39,7 +39,7 @@ returns-clause-ends g c =
 pub returns-clause-solves : goal.returns-clause-solves
 returns-clause-solves g c = λ input s given case reads writes.
     (let memory = fault_memory c.in-Err.fault c.put_fault.result _ _ _ _ c.put_fault.ensures (c.in-Err.ensures.takes input s given case) (λ e. reads (c.in-Err.ensures.read (ap Err e))) in
-    record { ended = inr (inr memory); enough = λ rounds moves. inr memory })
+    record { ended = inr (inr memory); enough = λ all. inr memory })
 
 pub returns-clause-refuses : goal.returns-clause-refuses
 returns-clause-refuses g c = λ input given none reads writes.
