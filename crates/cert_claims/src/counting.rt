@@ -1,6 +1,7 @@
 //! The claims of many leaves, which workers share.
 
-ghost use Rattle.std.specs.Prelude.{◌≡◌, ◌+◌, ◌≤◌, ◌<◌, ◌^◌, ◌*◌, All, IfOk, List, ℕ, [], drop, length, map, option_map, take};
+ghost use Rattle.std.specs.Prelude.{◌≡◌, ◌+◌, ◌≤◌, ◌<◌, ◌^◌, ◌*◌, All, IfOk, List, ℕ, []};
+ghost use Rattle.std.specs.Prelude.{drop, length, map, option_map, take};
 ghost use Rattle.elevator_model.specs.Snapshot.{Snapshot as SnapshotValue};
 ghost use Rattle.cert_claims.specs.Leaves.{AreAllWithin, AreAnswers, HasTaken, IsProvedTask, LeafAt, leaf_at};
 

@@ -13,8 +13,9 @@ ghost use Rattle.answer_text.specs.Plans.{FitsSnapshot};
 ghost use Rattle.cert_claims.specs.Stating.{IsLastResort};
 ghost use Rattle.cert_text.specs.Trees.{AreTwigsKnown};
 ghost use Rattle.lift_words.specs.Taken.{AreSolveOptions};
-ghost use Rattle.lift_commands.specs.Outcome.{AnswersCases, AreEnough, CanBeChecked, Ends, IsCarOf, IsPrinted, IsSaidYes};
-ghost use Rattle.lift_commands.specs.Outcome.{IsSolution, Refuses, SolveDue, Solves, certificate_part};
+ghost use Rattle.lift_commands.specs.Outcome.{AnswersCases, AreEnough, CanBeChecked, Ends, IsCarOf};
+ghost use Rattle.lift_commands.specs.Outcome.{IsPrinted, IsSaidYes, IsSolution, Refuses, SolveDue, Solves};
+ghost use Rattle.lift_commands.specs.Outcome.{certificate_part};
 ghost use Rattle.lift_commands.specs.Outcome.{closing_line, streams};
 
 use crate::endings::Ending;
