@@ -15,6 +15,7 @@ fn are_same(options: SolveOptions, due: SolveOptions) -> bool {
     options.rounds == due.rounds
         && options.moves == due.moves
         && options.workers == due.workers
+        && options.claims == due.claims
         && options.brief == due.brief
 }
 
@@ -37,6 +38,7 @@ fn a_request_has_its_numbers(rt: HostRuntime) {
         rounds: 11,
         moves: 7,
         workers: 3,
+        claims: 29,
         brief: true,
     };
     let words = [
@@ -44,6 +46,7 @@ fn a_request_has_its_numbers(rt: HostRuntime) {
         "solve",
         "--brief",
         "--moves=7",
+        "--claims=29",
         "--workers",
         "3",
         "--rounds=011",
