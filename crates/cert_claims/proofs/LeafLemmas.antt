@@ -38,7 +38,7 @@ module _ {X : Type 0} where
       let other = sum_by-cons h x xs in
       omega (arith, here, rest, one, other)
 
-  keys-map : (g : X → X) (key : X → ℕ) (xs : List X) → ((x : X) → key (g x) ≡ key x) → map key (map g xs) ≡ map key xs
+  pub keys-map : (g : X → X) (key : X → ℕ) (xs : List X) → ((x : X) → key (g x) ≡ key x) → map key (map g xs) ≡ map key xs
   keys-map g key [] same = refl
   keys-map g key (x ∷ xs) same = ap (λ (k : ℕ). k ∷ map key (map g xs)) (same x) ∙ ap (λ (l : List ℕ). key x ∷ l) (keys-map g key xs same)
 

@@ -4,3 +4,4 @@ mod CountLemmas
 mod WorthLemmas
 mod CarLemmas
 mod StatingLemmas
+pub mod LoweringLemmas

@@ -7,10 +7,13 @@ ghost use Rattle.search_model.specs.Nodes.{root_of};
 ghost use Rattle.cert_claims.specs.Due.{HasCars, worths_of_tree};
 ghost use Rattle.cert_claims.specs.Leaves.{AreAllWithin, claimed, claimed_here};
 ghost use Rattle.cert_claims.specs.Leaves.{IsProvedTree, claims_after, leaves_from};
+ghost use Rattle.cert_claims.specs.Lowered.{IsCut, IsSizedTree, IsTried};
+ghost use Rattle.cert_claims.specs.Lowering.{IsSizedTwig, lesser_bounds as lesser_bounds_lem};
 ghost use Rattle.cert_claims.specs.Stating.{IsClaimed, IsLastResort};
 
 use crate::counting::claims_of_all;
 use crate::leaves::{Claims, with_claims};
+use crate::lowering::lowered_tree;
 use crate::tasks::leaves_of;
 use assign_branch::Tree;
 use byte_streams::Gate;
@@ -119,11 +122,84 @@ impl LastResort {
     }
 }
 
+/// The bounds that are tried where the claims go past the limit, the greatest one first: a 64th, a 16th and
+/// a quarter of the way down to the least.
+fn lesser_bounds(bound: u64, least: u64) -> [u64; 3]
+    requires { least ≤ bound }
+    ensures { result ≡ lesser_bounds_lem bound least }
+{
+    let gap = bound - least;
+    [
+        bound - gap.div_ceil(64),
+        bound - gap.div_ceil(16),
+        bound - gap.div_ceil(4),
+    ]
+}
+
+/// The tree with worths lowered to what proves this bound, and its claims: None where they go further than
+/// the limit allows.
+///
+/// It fails only where there is no memory left.
+fn claimed_at<R: Threads + Sync, G: Gate + Sync>(
+    runtime: &Runtime<R, G>,
+    snapshot: &Snapshot,
+    tree: &Tree,
+    bound: u64,
+    limit: u64,
+    workers: u32,
+) -> Result<Option<Claimed>, AllocError>
+    requires tree { IsSizedTree snapshot.now bound tree.now.twigs }
+    requires limit { limit < 2 ^ 63 }
+    requires workers { (1 ≤ workers) × (workers ≤ MOST_WORKERS) }
+    ensures { IfOk result (IsTried snapshot.now bound limit tree.now.twigs) }
+{
+    // For the proof: the reader says that the snapshot is accepted, so a leaf's sum is small.
+    let _calls = snapshot.calls();
+    let lowered = lowered_tree(runtime.alloc, tree.twigs.as_slice(), bound)?;
+    match claims_of(runtime, snapshot, &lowered, limit, workers)? {
+        Some(all) => Ok(Some(Claimed {
+            tree: write_claims(runtime.alloc, lowered, all.as_slice())?,
+            bound,
+            cut: true,
+        })),
+        None => Ok(None),
+    }
+}
+
+/// The tree with worths lowered to the first of the lesser bounds at which the claims go no further than the
+/// limit allows; or the last resort.
+///
+/// It fails only where there is no memory left.
+fn cut<R: Threads + Sync, G: Gate + Sync>(
+    runtime: &Runtime<R, G>,
+    snapshot: &Snapshot,
+    tree: &Tree,
+    bound: u64,
+    resort: LastResort,
+    limit: u64,
+    workers: u32,
+) -> Result<Claimed, AllocError>
+    requires tree { IsSizedTree snapshot.now bound tree.now.twigs }
+    requires resort { IsLastResort snapshot.now resort.bound resort.leaf }
+    requires least { resort.bound ≤ bound }
+    requires limit { limit < 2 ^ 63 }
+    requires workers { (1 ≤ workers) × (workers ≤ MOST_WORKERS) }
+    ensures { IfOk result (IsCut snapshot.now bound tree.now.twigs resort limit) }
+{
+    let bounds = lesser_bounds(bound, resort.bound);
+    for lesser in bounds.as_slice() {
+        match claimed_at(runtime, snapshot, tree, *lesser, limit, workers)? {
+            Some(claimed) => return Ok(claimed),
+            None => {}
+        }
+    }
+    resort.into_claimed(runtime.alloc)
+}
+
 /// States the claims of a tree that proves what is stated: for each worth the one that is due.
 ///
-/// Where these go further than the limit allows, the answer is the last resort. The leaves are shared by
-/// `workers` workers, and `runtime.gate` is told of each before it begins. It fails only where there is no
-/// memory left.
+/// Where these go further than the limit allows, worths are lowered. The leaves are shared by `workers`
+/// workers, and `runtime.gate` is told of each before it begins. It fails only where there is no memory left.
 pub fn state_claims<R: Threads + Sync, G: Gate + Sync>(
     runtime: &Runtime<R, G>,
     snapshot: &Snapshot,
@@ -135,11 +211,12 @@ pub fn state_claims<R: Threads + Sync, G: Gate + Sync>(
 ) -> Result<Claimed, AllocError>
     requires proves { Proves snapshot.now stated.now.plan stated.now.cost stated.now.bound tree.twigs }
     requires cars { All HasCars tree.twigs }
+    requires sizes { All IsSizedTwig tree.twigs }
     requires resort { IsLastResort snapshot.now resort.bound resort.leaf }
     requires least { resort.bound ≤ stated.now.bound }
     requires limit { limit ≤ 10 ^ 10 }
     requires workers { (1 ≤ workers) × (workers ≤ MOST_WORKERS) }
-    ensures { IfOk result (IsClaimed snapshot.now stated.now tree.twigs resort.leaf limit) }
+    ensures { IfOk result (IsClaimed snapshot.now stated.now tree.twigs resort limit) }
 {
     match claims_of(runtime, snapshot, &tree, limit, workers)? {
         Some(all) => Ok(Claimed {
@@ -147,6 +224,14 @@ pub fn state_claims<R: Threads + Sync, G: Gate + Sync>(
             bound: stated.bound,
             cut: false,
         }),
-        None => resort.into_claimed(runtime.alloc),
+        None => cut(
+            runtime,
+            snapshot,
+            &tree,
+            stated.bound,
+            resort,
+            limit,
+            workers,
+        ),
     }
 }

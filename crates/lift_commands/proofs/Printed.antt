@@ -1,5 +1,5 @@
 -- What is printed after a search.
-use Rattle.std.proofs.Common.{◌≡◌, ℕ, ◌≤◌, Bool, true, false, List, [], ◌∷◌, length, map, refl, sym, ap, ◌∙◌, subst, arith}
+use Rattle.std.proofs.Common.{◌≡◌, ℕ, ◌≤◌, Bool, true, false, List, [], ◌∷◌, length, map, refl, sym, ap, ◌∙◌, subst, inl, inr, arith}
 use Rattle.std.specs.Prelude.{All}
 use Rattle.std.proofs.lemmas.Int.{ints}
 use Rattle.std.proofs.lemmas.List.{length-map}
@@ -17,6 +17,9 @@ use Rattle.assign_branch.specs.Pricings.{IsWorthSize}
 use Rattle.snapshot_solver.specs.Starts.{IsStartLeaf}
 use Rattle.cert_text.specs.Trees.{AreTwigsKnown}
 use Rattle.cert_claims.specs.declared.stating.Claimed.{Claimed}
+use Rattle.cert_claims.specs.declared.stating.LastResort.{LastResort}
+use Rattle.cert_claims.specs.Lowering.{IsSizedTwig as HasSizes, lowered_tree, lowered_twig}
+use Rattle.cert_claims.proofs.LoweringLemmas.{worths_below}
 use Rattle.cert_claims.specs.Due.{HasCars, due_of_tree, most_of_tree}
 use Rattle.cert_claims.specs.Stating.{DifferInClaims, IsClaimed, IsLastResort, without_claim, without_claims}
 use Rattle.lift_words.specs.declared.request.SolveOptions.{SolveOptions}
@@ -63,6 +66,25 @@ pub tree_cars : (tree : List Twig) → All IsSizedTwig tree → All HasCars tree
 tree_cars [] all = All-nil HasCars
 tree_cars (twig ∷ tree) all = All-cons HasCars twig tree (cars_of twig (All-head IsSizedTwig twig tree all)) (tree_cars tree (All-tail IsSizedTwig twig tree all))
 
+-- ---- sizes of lesser worths
+
+sizes_of_twig : (twig : Twig) → IsSizedTwig twig → HasSizes twig
+sizes_of_twig (Split j part) small = tt
+sizes_of_twig (Tip leaf) sized = record { prices = sized.prices; worths = sized.worths }
+
+pub tree_sizes : (tree : List Twig) → All IsSizedTwig tree → All HasSizes tree
+tree_sizes [] all = All-nil HasSizes
+tree_sizes (twig ∷ tree) all = All-cons HasSizes twig tree (sizes_of_twig twig (All-head IsSizedTwig twig tree all)) (tree_sizes tree (All-tail IsSizedTwig twig tree all))
+
+twig_below : (bound : ℕ) (twig : Twig) → IsSizedTwig twig → IsSizedTwig (lowered_twig bound twig)
+twig_below bound (Split j part) small = small
+twig_below bound (Tip leaf) sized = record { prices = sized.prices; worths = worths_below bound leaf sized.worths }
+
+sized_below : (bound : ℕ) (tree : List Twig) → All IsSizedTwig tree → All IsSizedTwig (lowered_tree bound tree)
+sized_below bound [] all = All-nil IsSizedTwig
+sized_below bound (twig ∷ tree) all =
+    All-cons IsSizedTwig (lowered_twig bound twig) (lowered_tree bound tree) (twig_below bound twig (All-head IsSizedTwig twig tree all)) (sized_below bound tree (All-tail IsSizedTwig twig tree all))
+
 -- ---- the last resort
 
 pub start_is_last : (s : Snapshot) (leaf : Leaf) (bound : ℕ) → bound ≡ floor_of_bound s → IsStartLeaf s leaf → IsLastResort s bound leaf
@@ -74,7 +96,7 @@ start_is_last s leaf bound is start = record {
 
 -- ---- what the pass answers
 
-module _ (s : Snapshot) (accepted : IsAccepted s) (stated : Stated) (tree : List Twig) (resort : Leaf) (limit : ℕ) (claimed : Claimed) (is : IsClaimed s stated tree resort limit claimed) where
+module _ (s : Snapshot) (accepted : IsAccepted s) (stated : Stated) (tree : List Twig) (resort : LastResort) (limit : ℕ) (claimed : Claimed) (is : IsClaimed s stated tree resort limit claimed) where
   pub certified : IsCertified s limit stated tree claimed.bound claimed.tree.twigs
   certified = record { proves = is.proves; low = is.low; due = is.due; few = is.few; whole = λ few. by_cut claimed.cut refl few }
     where
@@ -82,13 +104,22 @@ module _ (s : Snapshot) (accepted : IsAccepted s) (stated : Stated) (tree : List
       by_cut true e few = absurd (let over = is.cut.0 e in omega (arith, over, few))
       by_cut false e few = is.whole e
 
-  module _ (sized : All IsSizedTwig tree) (resort_sized : IsSizedLeaf resort) (whole : is_whole s tree ≡ true) where
+  module _ (sized : All IsSizedTwig tree) (resort_sized : IsSizedLeaf resort.leaf) (whole : is_whole s tree ≡ true) where
+    -- the same sizes, but for claims
+    sized_as : (other : List Twig) → DifferInClaims claimed.tree.twigs other → All IsSizedTwig other → All IsSizedTwig claimed.tree.twigs
+    sized_as other differ all = tree_back claimed.tree.twigs (subst (All IsSizedTwig) (sym differ) (tree_there other all))
+
+    -- as many twigs
+    length_as : (other : List Twig) → DifferInClaims claimed.tree.twigs other → length claimed.tree.twigs ≡ length other
+    length_as other differ = sym (length-map claimed.tree.twigs without_claims) ∙ ap (λ (l : List Twig). length l) differ ∙ length-map other without_claims
+
     pub claimed_sized : All IsSizedTwig claimed.tree.twigs
     claimed_sized = by_cut claimed.cut refl
       where
         by_cut : (b : Bool) → claimed.cut ≡ b → All IsSizedTwig claimed.tree.twigs
-        by_cut true e = subst (All IsSizedTwig) (sym (is.last e)) (All-cons IsSizedTwig (Tip resort) [] resort_sized (All-nil IsSizedTwig))
-        by_cut false e = tree_back claimed.tree.twigs (subst (All IsSizedTwig) (sym (is.whole e).1) (tree_there tree sized))
+        by_cut true e =
+            elim (is.lesser e) [ inl lowered ↦ sized_as (lowered_tree claimed.bound tree) lowered.tree_is (sized_below claimed.bound tree sized) | inr last ↦ subst (All IsSizedTwig) (sym last.tree_is) (All-cons IsSizedTwig (Tip resort.leaf) [] resort_sized (All-nil IsSizedTwig)) ]
+        by_cut false e = sized_as tree (is.whole e).1 sized
 
     pub claimed_short : length claimed.tree.twigs ≤ length tree
     claimed_short = by_cut claimed.cut refl
@@ -98,12 +129,9 @@ module _ (s : Snapshot) (accepted : IsAccepted s) (stated : Stated) (tree : List
         some (twig ∷ twigs) h = omega arith
 
         by_cut : (b : Bool) → claimed.cut ≡ b → length claimed.tree.twigs ≤ length tree
-        by_cut true e = (let one = ap (λ (l : List Twig). length l) (is.last e) in let more = some tree whole in omega (arith, one, more))
-        by_cut false e =
-            let same = ap (λ (l : List Twig). length l) (is.whole e).1 in
-            let here = length-map claimed.tree.twigs without_claims in
-            let there = length-map tree without_claims in
-            omega (arith, same, here, there)
+        by_cut true e =
+            elim (is.lesser e) [ inl lowered ↦ (let same = length_as (lowered_tree claimed.bound tree) lowered.tree_is in let there = length-map tree (lowered_twig claimed.bound) in omega (arith, same, there)) | inr last ↦ (let one = ap (λ (l : List Twig). length l) last.tree_is in let more = some tree whole in omega (arith, one, more)) ]
+        by_cut false e = (let same = length_as tree (is.whole e).1 in omega (arith, same))
 
     pub claimed_known : AreTwigsKnown s claimed.tree.twigs
     claimed_known = tree_known s accepted claimed.bound claimed.tree.twigs is.proves.whole is.proves.sound claimed_sized
