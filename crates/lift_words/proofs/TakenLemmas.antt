@@ -14,7 +14,7 @@ use Rattle.lift_words.specs.Taken.{AreTaken, Asks, AsksBy, AsksForBrief, AsksFor
 use Rattle.lift_words.specs.declared.table.CommandWord.{CommandWord}
 use Rattle.lift_words.specs.declared.table.CommandWord.TheVariants as command
 use Rattle.lift_words.specs.declared.request.Request.{Request}
-use Rattle.lift_words.specs.declared.request.Request.TheVariants.{Solve, Check, Day, Report, Make, Run}
+use Rattle.lift_words.specs.declared.request.Request.TheVariants.{Solve, Check, Day, Report, Make, Run, Table}
 use Rattle.lift_words.specs.declared.request.SolveOptions.{SolveOptions}
 use Rattle.lift_words.specs.declared.request.CheckOptions.{CheckOptions}
 use Rattle.lift_words.specs.declared.request.DayOptions.{DayOptions}
@@ -43,8 +43,11 @@ named_word word named is = by_solve (bytes_eq word (codes "solve")) refl is
     names : (command : CommandWord) → bytes_eq word (word_of command) ≡ true → Some command ≡ Some named → word ≡ word_of named
     names command e same = (bytes_eq-Decides word (word_of command)).0 e ∙ ap word_of (only same)
 
+    from_table : Option CommandWord
+    from_table = cond (bytes_eq word (codes "table")) (Some command.Table) None
+
     from_make : Option CommandWord
-    from_make = cond (bytes_eq word (codes "make")) (Some command.Make) None
+    from_make = cond (bytes_eq word (codes "make")) (Some command.Make) from_table
 
     from_report : Option CommandWord
     from_report = cond (bytes_eq word (codes "report")) (Some command.Report) from_make
@@ -55,9 +58,13 @@ named_word word named is = by_solve (bytes_eq word (codes "solve")) refl is
     from_check : Option CommandWord
     from_check = cond (bytes_eq word (codes "check")) (Some command.Check) from_day
 
-    by_make : (b : Bool) → bytes_eq word (codes "make") ≡ b → cond b (Some command.Make) None ≡ Some named → word ≡ word_of named
+    by_table : (b : Bool) → bytes_eq word (codes "table") ≡ b → cond b (Some command.Table) None ≡ Some named → word ≡ word_of named
+    by_table true e same = names command.Table e same
+    by_table false e same = absurd cc
+
+    by_make : (b : Bool) → bytes_eq word (codes "make") ≡ b → cond b (Some command.Make) from_table ≡ Some named → word ≡ word_of named
     by_make true e same = names command.Make e same
-    by_make false e same = absurd cc
+    by_make false e same = by_table (bytes_eq word (codes "table")) refl same
 
     by_report : (b : Bool) → bytes_eq word (codes "report") ≡ b → cond b (Some command.Report) from_make ≡ Some named → word ≡ word_of named
     by_report true e same = names command.Report e same
@@ -85,6 +92,7 @@ word_names command.Check = refl
 word_names command.Day = refl
 word_names command.Report = refl
 word_names command.Make = refl
+word_names command.Table = refl
 
 -- ---- what is asked
 
@@ -139,36 +147,49 @@ asks_of_one rows (Solve a) (Day b) same x y = absurd cc
 asks_of_one rows (Solve a) (Report b) same x y = absurd cc
 asks_of_one rows (Solve a) (Make b) same x y = absurd cc
 asks_of_one rows (Solve a) (Run b) same x y = absurd cc
+asks_of_one rows (Solve a) Table same x y = absurd cc
 asks_of_one rows (Check a) (Solve b) same x y = absurd cc
 asks_of_one rows (Check a) (Check b) same x y = ap Check (asks_to_check_one rows a b x y)
 asks_of_one rows (Check a) (Day b) same x y = absurd cc
 asks_of_one rows (Check a) (Report b) same x y = absurd cc
 asks_of_one rows (Check a) (Make b) same x y = absurd cc
 asks_of_one rows (Check a) (Run b) same x y = absurd cc
+asks_of_one rows (Check a) Table same x y = absurd cc
 asks_of_one rows (Day a) (Solve b) same x y = absurd cc
 asks_of_one rows (Day a) (Check b) same x y = absurd cc
 asks_of_one rows (Day a) (Day b) same x y = ap Day (asks_for_day_one rows a b x y)
 asks_of_one rows (Day a) (Report b) same x y = absurd cc
 asks_of_one rows (Day a) (Make b) same x y = absurd cc
 asks_of_one rows (Day a) (Run b) same x y = absurd cc
+asks_of_one rows (Day a) Table same x y = absurd cc
 asks_of_one rows (Report a) (Solve b) same x y = absurd cc
 asks_of_one rows (Report a) (Check b) same x y = absurd cc
 asks_of_one rows (Report a) (Day b) same x y = absurd cc
 asks_of_one rows (Report a) (Report b) same x y = ap Report (asks_for_day_one rows a b x y)
 asks_of_one rows (Report a) (Make b) same x y = absurd cc
 asks_of_one rows (Report a) (Run b) same x y = absurd cc
+asks_of_one rows (Report a) Table same x y = absurd cc
 asks_of_one rows (Make a) (Solve b) same x y = absurd cc
 asks_of_one rows (Make a) (Check b) same x y = absurd cc
 asks_of_one rows (Make a) (Day b) same x y = absurd cc
 asks_of_one rows (Make a) (Report b) same x y = absurd cc
 asks_of_one rows (Make a) (Make b) same x y = ap Make (asks_for_sizes_one rows a b x.case y.case)
 asks_of_one rows (Make a) (Run b) same x y = absurd (x.no_run y.run)
+asks_of_one rows (Make a) Table same x y = absurd cc
 asks_of_one rows (Run a) (Solve b) same x y = absurd cc
 asks_of_one rows (Run a) (Check b) same x y = absurd cc
 asks_of_one rows (Run a) (Day b) same x y = absurd cc
 asks_of_one rows (Run a) (Report b) same x y = absurd cc
 asks_of_one rows (Run a) (Make b) same x y = absurd (y.no_run x.run)
 asks_of_one rows (Run a) (Run b) same x y = ap Run (asks_to_run_one rows a b x y)
+asks_of_one rows (Run a) Table same x y = absurd cc
+asks_of_one rows Table (Solve b) same x y = absurd cc
+asks_of_one rows Table (Check b) same x y = absurd cc
+asks_of_one rows Table (Day b) same x y = absurd cc
+asks_of_one rows Table (Report b) same x y = absurd cc
+asks_of_one rows Table (Make b) same x y = absurd cc
+asks_of_one rows Table (Run b) same x y = absurd cc
+asks_of_one rows Table Table same x y = refl
 
 pub asks_one : (named : CommandWord) (rows : List Row) (a b : Request) → AsksBy named rows a → AsksBy named rows b → a ≡ b
 asks_one named rows a b x y = asks_of_one rows a b (x.0 ∙ sym y.0) x.1 y.1

@@ -20,7 +20,7 @@ use Rattle.clap.proofs.OnLiterals.{clap_on_literals}
 use Rattle.lift_words.specs.Table.{app}
 use Rattle.lift_words.proofs.ParseLemmas.{simple}
 use Rattle.lift_words.specs.declared.table.CommandWord.{CommandWord}
-use Rattle.lift_words.specs.declared.table.CommandWord.TheVariants.{Solve, Check, Day, Report, Make}
+use Rattle.lift_words.specs.declared.table.CommandWord.TheVariants.{Solve, Check, Day, Report, Make, Table}
 use Rattle.clap.specs.declared.builder.action.ArgAction.{ArgAction}
 use Rattle.clap.specs.declared.builder.action.ArgAction.TheVariants as action
 use Rattle.clap.specs.declared.builder.value_parser.ValueParser.{ValueParser}
@@ -296,6 +296,7 @@ no_subcommand Check = refl
 no_subcommand Day = refl
 no_subcommand Report = refl
 no_subcommand Make = refl
+no_subcommand Table = refl
 
 defaults_pass : (command : CommandWord) → list_all default_passes (built (app command)).top.rules ≡ true
 unfolding clap_on_literals
@@ -304,6 +305,7 @@ defaults_pass Check = refl
 defaults_pass Day = refl
 defaults_pass Report = refl
 defaults_pass Make = refl
+defaults_pass Table = refl
 
 is_free : (command : CommandWord) → list_all (λ a. a.is_free) (built (app command)).top.rules ≡ true
 unfolding clap_on_literals
@@ -312,6 +314,7 @@ is_free Check = refl
 is_free Day = refl
 is_free Report = refl
 is_free Make = refl
+is_free Table = refl
 
 -- where `clap` finds no fault in the words of a command, it takes them
 pub takes_where_no_fault : (command : CommandWord) (words : List Text) → fault_of (app command) words ≡ [] → takes (app command) words ≡ true

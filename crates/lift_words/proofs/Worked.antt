@@ -7,7 +7,7 @@ use Rattle.clap.specs.Walk.{Text}
 use Rattle.lift_words.specs.Repeats.{IsRepeated, Repeats}
 use Rattle.lift_words.specs.Taken.{AreTaken}
 use Rattle.lift_words.specs.declared.request.Request.{Request}
-use Rattle.lift_words.specs.declared.request.Request.TheVariants.{Solve, Check, Day, Report, Make, Run}
+use Rattle.lift_words.specs.declared.request.Request.TheVariants.{Solve, Check, Day, Report, Make, Run, Table}
 
 -- one word alone repeats none
 alone : (word : Text) → IsRepeated (word ∷ []) → ⊥
@@ -132,6 +132,26 @@ report_with_three = record {
     only (zero, lt, same) = absurd cc
     only (suc k, lt, same) = absurd (omega arith)
 
+pub table_alone : AreTaken (codes "lift" ∷ codes "table" ∷ []) Table
+unfolding clap_on_literals
+table_alone = record {
+  command = refl;
+  unrepeated = λ r. let within = r.within in absurd (omega (arith, within));
+  no_dashes = λ d. let lt = d.1 in absurd (omega (arith, lt));
+  accepted = refl;
+  asks = tt;
+}
+
+pub table_with_a_word : (request : Request) → AreTaken (codes "lift" ∷ codes "table" ∷ codes "x" ∷ []) request → ⊥
+unfolding clap_on_literals
+table_with_a_word (Solve options) t = let bytes : 116 ≡ 115 = ap first_byte t.command in absurd (omega (arith, bytes))
+table_with_a_word (Check options) t = let bytes : 116 ≡ 99 = ap first_byte t.command in absurd (omega (arith, bytes))
+table_with_a_word (Day options) t = let other = t.command in absurd cc
+table_with_a_word (Report options) t = let other = t.command in absurd cc
+table_with_a_word (Make sizes) t = let other = t.command in absurd cc
+table_with_a_word (Run options) t = let other = t.command in absurd cc
+table_with_a_word Table t = let refused = t.accepted in absurd cc
+
 pub check_of_rounds : (request : Request) → AreTaken (codes "lift" ∷ codes "check" ∷ codes "--rounds=5" ∷ []) request → ⊥
 unfolding clap_on_literals
 check_of_rounds (Check options) t = let refused = t.accepted in absurd cc
@@ -140,6 +160,7 @@ check_of_rounds (Day options) t = let other = t.command in absurd cc
 check_of_rounds (Report options) t = let other = t.command in absurd cc
 check_of_rounds (Make sizes) t = let other = t.command in absurd cc
 check_of_rounds (Run options) t = let other = t.command in absurd cc
+check_of_rounds Table t = let bytes : 99 ≡ 116 = ap first_byte t.command in absurd (omega (arith, bytes))
 
 pub no_rounds : (request : Request) → AreTaken (codes "lift" ∷ codes "solve" ∷ codes "--brief" ∷ codes "--rounds" ∷ codes "0" ∷ []) request → ⊥
 unfolding clap_on_literals
@@ -149,6 +170,7 @@ no_rounds (Day options) t = let other = t.command in absurd cc
 no_rounds (Report options) t = let other = t.command in absurd cc
 no_rounds (Make sizes) t = let other = t.command in absurd cc
 no_rounds (Run options) t = let other = t.command in absurd cc
+no_rounds Table t = let bytes : 115 ≡ 116 = ap first_byte t.command in absurd (omega (arith, bytes))
 
 pub shortened : (request : Request) → AreTaken (codes "lift" ∷ codes "make" ∷ codes "--floor" ∷ codes "4" ∷ []) request → ⊥
 unfolding clap_on_literals
@@ -158,6 +180,7 @@ shortened (Report options) t = let other = t.command in absurd cc
 shortened (Make sizes) t = let refused = t.accepted in absurd cc
 shortened (Solve options) t = let other = t.command in absurd cc
 shortened (Run options) t = let refused = t.accepted in absurd cc
+shortened Table t = let other = t.command in absurd cc
 
 pub brief_day : (request : Request) → AreTaken (codes "lift" ∷ codes "day" ∷ codes "--brief" ∷ []) request → ⊥
 unfolding clap_on_literals
@@ -167,6 +190,7 @@ brief_day (Day options) t = let refused = t.accepted in absurd cc
 brief_day (Report options) t = let other = t.command in absurd cc
 brief_day (Make sizes) t = let other = t.command in absurd cc
 brief_day (Run options) t = let other = t.command in absurd cc
+brief_day Table t = let other = t.command in absurd cc
 
 pub report_by_many : (request : Request) → AreTaken (codes "lift" ∷ codes "report" ∷ codes "--workers=17" ∷ []) request → ⊥
 unfolding clap_on_literals
@@ -176,6 +200,7 @@ report_by_many (Day options) t = let other = t.command in absurd cc
 report_by_many (Report options) t = let none = t.asks.workers in absurd cc
 report_by_many (Make sizes) t = let other = t.command in absurd cc
 report_by_many (Run options) t = let other = t.command in absurd cc
+report_by_many Table t = let other = t.command in absurd cc
 
 pub run_of_no_rounds : (request : Request) → AreTaken (codes "lift" ∷ codes "make" ∷ codes "--rounds" ∷ codes "0" ∷ []) request → ⊥
 unfolding clap_on_literals
@@ -185,6 +210,7 @@ run_of_no_rounds (Report options) t = let other = t.command in absurd cc
 run_of_no_rounds (Make sizes) t = let none = t.asks.rounds in absurd cc
 run_of_no_rounds (Solve options) t = let other = t.command in absurd cc
 run_of_no_rounds (Run options) t = let none = t.asks.rounds in absurd cc
+run_of_no_rounds Table t = let other = t.command in absurd cc
 
 pub run_with_value : (request : Request) → AreTaken (codes "lift" ∷ codes "make" ∷ codes "--run=1" ∷ []) request → ⊥
 unfolding clap_on_literals
@@ -194,6 +220,7 @@ run_with_value (Report options) t = let other = t.command in absurd cc
 run_with_value (Make sizes) t = let refused = t.accepted in absurd cc
 run_with_value (Solve options) t = let other = t.command in absurd cc
 run_with_value (Run options) t = let refused = t.accepted in absurd cc
+run_with_value Table t = let other = t.command in absurd cc
 
 pub brief_twice : (request : Request) → AreTaken (codes "lift" ∷ codes "solve" ∷ codes "--brief" ∷ codes "--brief" ∷ []) request → ⊥
 brief_twice request t = t.unrepeated (record { first = 0; second = 1; order = lit< tt; within = lit< tt; repeats = record { first_option = refl; second_option = refl; same = refl } })

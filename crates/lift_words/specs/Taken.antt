@@ -12,7 +12,7 @@ use Rattle.lift_words.specs.declared.table.CommandWord.TheVariants as command
 use Rattle.lift_words.specs.declared.table.NumberOption.{NumberOption}
 use Rattle.lift_words.specs.declared.table.NumberOption.TheVariants.{Rounds, Moves, Claims, Workers, Number, Floors, Cars, Calls}
 use Rattle.lift_words.specs.declared.request.Request.{Request}
-use Rattle.lift_words.specs.declared.request.Request.TheVariants.{Solve, Check, Day, Report, Make, Run}
+use Rattle.lift_words.specs.declared.request.Request.TheVariants.{Solve, Check, Day, Report, Make, Run, Table}
 use Rattle.lift_words.specs.declared.request.SolveOptions.{SolveOptions}
 use Rattle.lift_words.specs.declared.request.CheckOptions.{CheckOptions}
 use Rattle.lift_words.specs.declared.request.DayOptions.{DayOptions}
@@ -85,6 +85,7 @@ command_asked (Day options) = command.Day
 command_asked (Report options) = command.Report
 command_asked (Make sizes) = command.Make
 command_asked (Run options) = command.Make
+command_asked Table = command.Table
 
 abbrev pub Asks : List Row → Request → Type 0
 Asks rows (Solve options) = AsksToSolve rows options
@@ -93,6 +94,7 @@ Asks rows (Day options) = AsksForDay rows options
 Asks rows (Report options) = AsksForDay rows options
 Asks rows (Make sizes) = AsksToMake rows sizes
 Asks rows (Run options) = AsksToRun rows options
+Asks rows Table = Unit {0}
 
 -- the request is one of this command, and has the numbers that were found
 abbrev pub AsksBy : CommandWord → List Row → Request → Type 0
@@ -157,3 +159,4 @@ IsWithin (Day options) = AreDayOptions options
 IsWithin (Report options) = AreDayOptions options
 IsWithin (Make sizes) = AreCaseSizes sizes
 IsWithin (Run options) = AreRunOptions options
+IsWithin Table = Unit {0}

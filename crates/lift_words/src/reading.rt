@@ -67,6 +67,7 @@ fn asked(command: CommandWord, matches: &ArgMatches<'_>) -> Option<Request>
         CommandWord::Day => Some(Request::Day(day_options(matches)?)),
         CommandWord::Report => Some(Request::Report(day_options(matches)?)),
         CommandWord::Make => asked_of_make(matches),
+        CommandWord::Table => Some(Request::Table),
     }
 }
 

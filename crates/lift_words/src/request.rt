@@ -22,6 +22,8 @@ pub enum Request {
     Make(CaseSizes),
     /// `make --run`: a generated case is to be solved.
     Run(RunOptions),
+    /// `table`: the table of travel times of the input is to be judged.
+    Table,
 }
 
 /// The options of `solve`.

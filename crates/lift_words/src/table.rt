@@ -10,6 +10,7 @@ pub(crate) enum CommandWord {
     Day,
     Report,
     Make,
+    Table,
 }
 
 /// An option that takes a number.
@@ -49,6 +50,7 @@ impl CommandWord {
             "day" => Some(CommandWord::Day),
             "report" => Some(CommandWord::Report),
             "make" => Some(CommandWord::Make),
+            "table" => Some(CommandWord::Table),
             _ => None,
         }
     }
@@ -63,6 +65,7 @@ impl CommandWord {
             CommandWord::Day => "day",
             CommandWord::Report => "report",
             CommandWord::Make => "make",
+            CommandWord::Table => "table",
         }
     }
 
@@ -91,6 +94,7 @@ impl CommandWord {
                 NumberOption::Rounds,
                 NumberOption::Moves,
             ],
+            CommandWord::Table => &[],
         }
     }
 
@@ -100,7 +104,7 @@ impl CommandWord {
     {
         match self {
             CommandWord::Solve => &["brief"],
-            CommandWord::Check | CommandWord::Day | CommandWord::Report => &[],
+            CommandWord::Check | CommandWord::Day | CommandWord::Report | CommandWord::Table => &[],
             CommandWord::Make => &["run"],
         }
     }
