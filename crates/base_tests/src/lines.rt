@@ -62,7 +62,7 @@ fn reads_raw(lines: &mut LineReader<MemorySource>, due: RawLines) -> bool {
     true
 }
 
-/// A source that gives these bytes, so many in a read.
+/// A source of these bytes, with at most `each` of them in a read.
 fn source_of(alloc: Global, bytes: &[u8], each: usize) -> Result<MemorySource, AllocError>
     requires { 1 ≤ each }
 {

@@ -44,7 +44,7 @@ impl Write for Interrupted {
     }
 }
 
-/// Whether a read after so many interrupted ones gives nothing, or fails and the one after it gives nothing.
+/// Whether a read after this many interrupted ones gives nothing, or fails and the next one gives nothing.
 fn reads_after(times: u32, fails: bool) -> bool {
     let mut into = [0; 4];
     let mut source = StdSource::new(Interrupted { times });

@@ -98,7 +98,7 @@ impl Jobs for Told {
     }
 }
 
-/// Whether so many workers answer five jobs in their order.
+/// Whether this many workers answer five jobs in their order.
 fn answer_in_order(rt: &(impl Threads + Sync), alloc: Global, workers: usize) -> bool
     requires { (1 ≤ workers) × (workers ≤ 16) }
 {
@@ -138,7 +138,7 @@ fn the_gate_is_told_of_a_job_before_it_begins(rt: HostRuntime) {
     assert!(rt; is_told_before(&rt, rt.alloc()));
 }
 
-/// Whether two workers do so many jobs, and each that looks out is told of the others while it waits.
+/// Whether two workers do `count` jobs, and each that looks out is told of the others while it waits.
 fn see_others(rt: &(impl Threads + Sync), alloc: Global, count: u32, looker: Option<u32>) -> bool {
     let gate = Lookout::new(count == 3, looker);
     let is_done = fan(rt, alloc, &Tens { count }, &mut [0, 0], &gate).is_ok();

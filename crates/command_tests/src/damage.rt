@@ -11,7 +11,7 @@ use std::thread::Threads;
 /// What is done to an answer.
 #[derive(Clone, Copy)]
 enum Damage {
-    /// A line is written so often before the next one, and is put after it, or not.
+    /// A line is written `before` times before the next one, and is put after it, or not.
     Line { before: usize, is_after: bool },
     /// This is added to a digit.
     Digit { step: u8 },
@@ -36,7 +36,7 @@ const DAMAGES: [Damage; 5] = [
 ];
 
 impl Text {
-    /// Appends lines of which the first stands so often before the second, and after it, or not.
+    /// Appends lines of which the first stands `before` times before the second, and after it, or not.
     fn put_moved(&mut self, text: &[u8], before: usize, is_after: bool) {
         let mut lines = text.lines_with_terminator();
         let line = lines.next().unwrap_or(&[]);

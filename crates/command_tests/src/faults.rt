@@ -7,7 +7,7 @@ use memchr::memchr_iter;
 use std::marker::Sync;
 use std::thread::Threads;
 
-/// How many lines stand whole in the first bytes of a text, so many of them.
+/// How many lines stand whole in the first `taken` bytes of a text.
 fn whole_lines(text: &[u8], taken: usize) -> usize {
     memchr_iter(b'\n', text.get(..taken).unwrap_or(text)).count()
 }

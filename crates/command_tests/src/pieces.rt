@@ -56,7 +56,7 @@ impl Text {
         }
     }
 
-    /// Appends `COUNT TEXT` so often, each time with this end.
+    /// Appends the text of `COUNT TEXT` as often as the count says, each time with this end.
     fn put_many(&mut self, many: &str, end: &[u8]) {
         let (count, text) = many.split_once(" ").unwrap_or((many, ""));
         let Ok(count) = count.parse::<u32>() else {

@@ -21,7 +21,7 @@ pub(crate) struct Streams {
 }
 
 impl Streams {
-    /// Streams that do not fail, with reads of so many bytes.
+    /// Streams that do not fail, with reads of up to `reads` bytes.
     pub(crate) fn of_reads(reads: usize) -> Streams {
         Streams {
             reads,

@@ -41,7 +41,7 @@ impl Step<'_> {
         }
     }
 
-    /// How the input comes in reads of so many bytes, and how the output goes.
+    /// How the input comes, in reads of up to this many bytes, and how the output goes.
     fn streams(self, reads: &str) -> Option<Streams> {
         let plain = Streams::of_reads(reads.parse().ok()?);
         Some(Streams {

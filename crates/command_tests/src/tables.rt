@@ -84,7 +84,7 @@ impl Text {
 }
 
 impl<R: Threads + Sync> Bench<'_, R> {
-    /// Whether the input is refused as is due, in reads of so many bytes.
+    /// Whether the input is refused as is due, in reads of up to `reads` bytes.
     fn is_refused(&mut self, table: Table<'_>, reads: usize) -> bool {
         self.ends(table.words, Streams::of_reads(reads), 5, usize::MAX)
     }

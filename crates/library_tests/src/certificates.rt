@@ -62,7 +62,7 @@ fn next(
     }
 }
 
-/// So many twigs are handed out, and then this is said, and said again by the call after it.
+/// This many twigs are handed out, and then this is said, and said again by the call after it.
 #[derive(Clone, Copy)]
 struct HandsOut<'a> {
     snapshot: &'a Snapshot,
@@ -163,7 +163,7 @@ fn bad(line: u64, code: TextCode) -> Last {
     Last::Bad { line, code }
 }
 
-/// Whether each text gives so many twigs, and then this.
+/// Whether each text gives as many twigs as its row says, and then this.
 fn come_one_by_one(alloc: Global, snapshot: &Snapshot) -> bool {
     let deep: &[u8] = b"certificate 1\nsplit 22\nsplit 7 3\nleaf\nprice 4 1\nleaf\nleaf\nend";
     let table: [(&[u8], u64, Last); 6] = [

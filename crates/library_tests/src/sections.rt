@@ -85,7 +85,7 @@ fn read(lines: &mut LineReader<MemorySource>) -> Result<u64, TextFault> {
     }
 }
 
-/// This is read of the section, and so many words stand in the line behind it.
+/// This is read of the section, and the line behind it has this many words.
 #[derive(Clone, Copy)]
 struct IsRead {
     want: Result<u64, TextFault>,

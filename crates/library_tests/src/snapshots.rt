@@ -7,7 +7,7 @@ use lift_text::LineReader;
 use snapshot_text::{read_opening, read_snapshot, write_snapshot};
 use std::alloc::Global;
 
-/// The text of the snapshot that is read is this one, and so many words stand in the line behind it.
+/// The text of the snapshot that is read is this one, and the line behind it has this many words.
 #[derive(Clone, Copy)]
 struct Written {
     is_opening: bool,

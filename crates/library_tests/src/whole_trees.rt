@@ -51,7 +51,7 @@ struct Certified<'a> {
     twigs: &'a [Twig],
 }
 
-/// Whether so many workers say yes.
+/// Whether this many workers say yes.
 fn is_proved_by(
     rt: &(impl Threads + Sync),
     alloc: Global,

@@ -75,7 +75,7 @@ fn copy_case(
     }
 }
 
-/// Reads so many cases with their answers, one after another, appends the text of each, and counts their
+/// Reads this many cases with their answers, one after another, appends the text of each, and counts their
 /// calls. None where one of them is refused, or memory is wanting.
 fn copy_cases(
     alloc: Global,
@@ -118,9 +118,9 @@ fn repeated(alloc: Global, text: &[u8], cases: u32) -> Result<Vec<u8>, AllocErro
     Ok(all)
 }
 
-/// Makes a text of this many of these cases with an answer, reads it so often from memory, each time by one
-/// reader, writes what it read, and prints how many bytes there were and how many of the texts written were
-/// the text read. False where the text is none of a building, a snapshot and an answer.
+/// Makes a text of this many of these cases with an answer, reads it `rounds` times from memory, each time by
+/// one reader, writes what it read, and prints how many bytes there were and how many of the texts written
+/// were the text read. False where the text is none of a building, a snapshot and an answer.
 pub(crate) fn print_rounds(
     rt: &HostRuntime,
     case: &[u8],

@@ -17,11 +17,12 @@ use Rattle.day_runner.specs.declared.inputs.DayFault.TheVariants.{Opening, Rows}
 use Rattle.day_runner.specs.Inputs.{EndsUnlessFailed}
 use Rattle.day_runner.proofs.StepLemmas.{rose-before}
 use Rattle.lift_words.specs.declared.request.DayOptions.{DayOptions}
-use Rattle.lift_commands.specs.declared.status.Status.{Status}
-use Rattle.lift_commands.specs.declared.status.Status.TheVariants.{Done, Stopped, Input, Memory}
-use Rattle.lift_commands.specs.Outcome.{Streams, Puts, PutsFault, PutsRefusal, IsRefusalLine}
+use Rattle.command_ends.specs.declared.status.Status.{Status}
+use Rattle.command_ends.specs.declared.status.Status.TheVariants.{Done, Stopped, Input, Memory}
+use Rattle.command_ends.specs.Ends.{Streams, Puts, PutsFault, PutsRefusal, IsRefusalLine}
+use Rattle.command_ends.proofs.EndLemmas.{ends_fault, ends_put, put_whole}
 use Rattle.lift_commands.specs.DayOutcome.{RanBy, ToldBy, DayDone, DayEnds, PutsRowsFault, ReportDue, ReportsDay, RunsDay, status_of_unsolved}
-use Rattle.lift_commands.proofs.Outcomes.{ends_fault, ends_put, fault_memory, put_whole}
+use Rattle.lift_commands.proofs.Outcomes.{ran_out_of_memory}
 
 abbrev BeginsDay : Streams → Type 0
 BeginsDay old = IsSomeAnd (option_map whole_text old.left) IsDayText
@@ -109,7 +110,7 @@ pub report-unopened : (options : DayOptions) (old new : Streams) (fault : TextFa
     → PutsFault fault result old.taken new.taken old.write_faults new.write_faults → ReportsDay options old new result
 report-unopened options old new fault result refused never rose put = record {
   ends = ends_fault (ReportDue options old.left new.left) fault old new result (λ text is_line. no-day-line old.left new.left options fault text refused is_line) rose put;
-  completes = λ begins reads writes. inr (inr (fault_memory fault result old.taken new.taken old.write_faults new.write_faults put (never begins) (λ e. reads (rose e))));
+  completes = λ begins reads writes. inr (inr (ran_out_of_memory fault result old.taken new.taken old.write_faults new.write_faults put (never begins) (λ e. reads (rose e))));
 }
 
 pub report-stopped : (options : DayOptions) (old new : Streams) (fault : RunFault) (result : Status) → ToldBy options old.left new.left (Err fault) → (BeginsDay old → EndsUnlessFailed (Err (Rows fault))) → (fault ≡ RowsUnread → Rose old.read_faults new.read_faults) → (fault ≡ RowsUnwritten → ⊥)

@@ -20,8 +20,8 @@ use Rattle.search_model.specs.Verdicts.{moves_enough}
 use Rattle.search_model.proofs.ManyLemmas.{tested_lists-few}
 use Rattle.cert_claims.specs.Due.{claim_due, due_at, due_of_tree, most_of_tree}
 use Rattle.lift_words.specs.declared.request.SolveOptions.{SolveOptions}
-use Rattle.lift_commands.specs.declared.status.Status.{Status}
-use Rattle.lift_commands.specs.declared.status.Status.TheVariants.{Done}
+use Rattle.command_ends.specs.declared.status.Status.{Status}
+use Rattle.command_ends.specs.declared.status.Status.TheVariants.{Done}
 use Rattle.lift_commands.specs.declared.endings.Ending.{Ending}
 use Rattle.lift_commands.specs.Outcome.{AreEnough, IsPrinted, ending_of, status_of_ending}
 

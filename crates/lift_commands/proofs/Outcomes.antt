@@ -1,21 +1,22 @@
--- How a run ends, from what was read and put.
-use Rattle.std.proofs.Common.{◌≡◌, ◌⊎◌, ℕ, Option, Some, List, Result, option_map, refl, sym, subst, inl, inr}
-use Rattle.byte_streams.specs.Streams.{Rose}
+-- What is due of a command, from what was read, and of a run.
+use Rattle.std.proofs.Common.{◌≡◌, ℕ, Option, Some, List, Result, option_map, refl, subst, inl, inr}
 use Rattle.elevator_model.specs.Snapshot.{Snapshot}
 use Rattle.lift_text.specs.Reading.{TextState, reading, whole_text}
 use Rattle.lift_text.specs.declared.faults.TextFault.{TextFault}
-use Rattle.lift_text.specs.declared.faults.TextFault.TheVariants.{Read as FailedRead, TooLong, Bad, NoMemory}
+use Rattle.lift_text.specs.declared.faults.TextFault.TheVariants.{Read as FailedRead}
 use Rattle.case_text.specs.CaseTexts.{IsLoneCaseFault, TakesLoneCases, Tells}
-use Rattle.check_text.specs.CheckTexts.{IsRefusedCheck}
+use Rattle.check_text.specs.CheckTexts.{IsCheckFault, IsRefusedCheck}
 use Rattle.lift_words.specs.Taken.{AreTaken}
 use Rattle.lift_words.specs.declared.request.Request.TheVariants.{Solve, Check, Make, Run}
 use Rattle.lift_words.specs.declared.request.SolveOptions.{SolveOptions}
 use Rattle.lift_words.specs.declared.request.CheckOptions.{CheckOptions}
 use Rattle.lift_words.specs.declared.request.CaseSizes.{CaseSizes}
 use Rattle.lift_words.specs.declared.request.RunOptions.{RunOptions}
-use Rattle.lift_commands.specs.declared.status.Status.{Status}
-use Rattle.lift_commands.specs.declared.status.Status.TheVariants.{Done, Words, Stopped, Refused, Input, Read, Write, Memory}
-use Rattle.lift_commands.specs.Outcome.{Streams, Due, Wrote, Ends, Puts, PutsFault, PutsRefusal, IsRefusalLine, AnswersCases, RefusalIsDue, CheckRefusalIsDue, SolveDue, CheckDue, MakeDue, SolvedCaseDue, RunDue}
+use Rattle.command_ends.specs.declared.status.Status.{Status}
+use Rattle.command_ends.specs.declared.status.Status.TheVariants.{Done, Words, Stopped, Refused, Input, Read, Write, Memory}
+use Rattle.command_ends.specs.Ends.{PutsFault, IsRefusalLine}
+use Rattle.command_ends.proofs.EndLemmas.{fault_memory, told_by_line}
+use Rattle.lift_commands.specs.Outcome.{AnswersCases, RefusalIsDue, CheckRefusalIsDue, SolveDue, CheckDue, MakeDue, SolvedCaseDue, RunDue}
 
 -- what a reader of the whole text says of the input
 pub answers_cases : (left : Option (List ℕ)) (before : Option TextState) (answer : Result Snapshot TextFault) → before ≡ option_map whole_text left → TakesLoneCases before answer → AnswersCases left answer
@@ -23,76 +24,31 @@ answers_cases left before answer is takes input s given case =
     let whole : before ≡ Some (whole_text input) = cc in
     (subst (λ (text : Option TextState). TakesLoneCases text answer) whole takes) s case
 
--- a text that is due was put
-pub ends_put : (due : Due) (old new : Streams) (text : List ℕ) (status result : Status) → due status text → (Wrote due old new status → Ends due old new status) → Puts text status result old.taken new.taken old.write_faults new.write_faults → Ends due old new result
-ends_put due old new text status result is_due as_end (inl put) =
-    subst (Ends due old new) (sym put.0) (as_end (record { text = text; is_due = is_due; written = put.1 }))
-ends_put due old new text status result is_due as_end (inr put) =
-    subst (Ends due old new) (sym put.1) (record { status = status; text = text; is_due = is_due; count = put.0; within = put.2; rose = put.3; written = put.4 })
+-- ---- by what a reader tells of its fault
 
--- unless the sink failed, that status is the answer
-pub put_whole : (text : List ℕ) (status result : Status) (old new : Option (List ℕ)) (before after : ℕ) → Puts text status result old new before after → (Rose before after → ⊥) → result ≡ status
-put_whole text status result old new before after (inl put) sure = put.0
-put_whole text status result old new before after (inr put) sure = absurd (sure put.3)
+-- where no text can be at fault, memory ran out
+pub ran_out_of_memory : (fault : TextFault) (result : Status) (old new : Option (List ℕ)) (before after : ℕ) → PutsFault fault result old new before after → Tells fault ⊥ → (fault ≡ FailedRead → ⊥) → result ≡ Memory
+ran_out_of_memory = fault_memory (λ (fault : TextFault). Tells fault ⊥) (λ number code never. never) (λ never. never)
 
--- ---- an input that was not taken
-
-ends_refusal : (due : Due) (fault : TextFault) (old new : Streams) (result : Status) → ((text : List ℕ) → IsRefusalLine fault text → due Input text)
-    → PutsRefusal fault result old.taken new.taken old.write_faults new.write_faults → Ends due old new result
-ends_refusal due fault old new result as_due (inl put) = ends_put due old new put.0 Input result (as_due put.0 put.1) (λ wrote. wrote) put.2
-ends_refusal due fault old new result as_due (inr none) = subst (Ends due old new) (sym none.0) none.1
-
--- the refusal line is due where it was put, and after a failed read nothing was written
-pub ends_fault : (due : Due) (fault : TextFault) (old new : Streams) (result : Status) → ((text : List ℕ) → IsRefusalLine fault text → due Input text)
-    → (fault ≡ FailedRead → Rose old.read_faults new.read_faults) → PutsFault fault result old.taken new.taken old.write_faults new.write_faults → Ends due old new result
-ends_fault due (Bad number code) old new result as_due rose put = ends_refusal due (Bad number code) old new result as_due put
-ends_fault due TooLong old new result as_due rose put = ends_refusal due TooLong old new result as_due put
-ends_fault due FailedRead old new result as_due rose put = subst (Ends due old new) (sym put.0) (record { rose = rose refl; unwritten = put.1 })
-ends_fault due NoMemory old new result as_due rose put = subst (Ends due old new) (sym put.0) put.1
-
-refusal_status : (fault : TextFault) (result : Status) (old new : Option (List ℕ)) (before after : ℕ) → PutsRefusal fault result old new before after → (Rose before after → ⊥) → (result ≡ Input) ⊎ (result ≡ Memory)
-refusal_status fault result old new before after (inl put) sure = inl (put_whole put.0 Input result old new before after put.2 sure)
-refusal_status fault result old new before after (inr none) sure = inr none.0
-
--- unless the source or the sink failed, the input was refused
-pub fault_status : (fault : TextFault) (result : Status) (old new : Option (List ℕ)) (before after : ℕ) → PutsFault fault result old new before after → (fault ≡ FailedRead → ⊥) → (Rose before after → ⊥) → (result ≡ Input) ⊎ (result ≡ Memory)
-fault_status (Bad number code) result old new before after put read sure = refusal_status (Bad number code) result old new before after put sure
-fault_status TooLong result old new before after put read sure = refusal_status TooLong result old new before after put sure
-fault_status FailedRead result old new before after put read sure = absurd (read refl)
-fault_status NoMemory result old new before after put read sure = inr put.0
-
--- where no text can be at fault, memory was wanting
-pub fault_memory : (fault : TextFault) (result : Status) (old new : Option (List ℕ)) (before after : ℕ) → PutsFault fault result old new before after → Tells fault ⊥ → (fault ≡ FailedRead → ⊥) → result ≡ Memory
-fault_memory (Bad number code) result old new before after put never read = absurd never
-fault_memory TooLong result old new before after put never read = absurd never
-fault_memory FailedRead result old new before after put never read = absurd (read refl)
-fault_memory NoMemory result old new before after put never read = put.0
+line_tells : (IsFault : TextFault → Type 0) (fault : TextFault) (text : List ℕ) → IsRefusalLine fault text → Tells fault (IsFault fault) → IsFault fault
+line_tells IsFault = told_by_line (λ (fault : TextFault). Tells fault (IsFault fault)) IsFault (λ number code told. told) (λ told. told)
 
 -- a refusal line tells what was said of the input
 pub refusal_due : (left : Option (List ℕ)) (fault : TextFault) (text : List ℕ) → IsRefusalLine fault text
     → ((input : List ℕ) → left ≡ Some input → Tells fault (IsLoneCaseFault (reading (whole_text input)) fault)) → RefusalIsDue left text
-refusal_due left (Bad number code) text is_line refused = record { fault = Bad number code; is_line = is_line; read = refused }
-refusal_due left TooLong text is_line refused = record { fault = TooLong; is_line = is_line; read = refused }
-refusal_due left FailedRead text is_line refused = absurd is_line
-refusal_due left NoMemory text is_line refused = absurd is_line
+refusal_due left fault text is_line refused = record {
+  fault = fault;
+  is_line = is_line;
+  read = λ input given. line_tells (IsLoneCaseFault (reading (whole_text input))) fault text is_line (refused input given);
+}
 
 -- and so of `check`
 pub check_refusal_due : (left : Option (List ℕ)) (fault : TextFault) (text : List ℕ) → IsRefusalLine fault text → IsRefusedCheck (option_map whole_text left) fault → CheckRefusalIsDue left text
-check_refusal_due left (Bad number code) text is_line refused = record { fault = Bad number code; is_line = is_line; read = λ input given. subst (λ (x : Option (List ℕ)). IsRefusedCheck (option_map whole_text x) (Bad number code)) given refused }
-check_refusal_due left TooLong text is_line refused = record { fault = TooLong; is_line = is_line; read = λ input given. subst (λ (x : Option (List ℕ)). IsRefusedCheck (option_map whole_text x) TooLong) given refused }
-check_refusal_due left FailedRead text is_line refused = absurd is_line
-check_refusal_due left NoMemory text is_line refused = absurd is_line
-
--- whoever has more texts that may be due ends so too
-pub ends_more : (due more : Due) (old new : Streams) (status : Status) → ((status : Status) (text : List ℕ) → due status text → more status text) → Ends due old new status → Ends more old new status
-ends_more due more old new Done as_more end = record { text = end.text; is_due = as_more Done end.text end.is_due; written = end.written }
-ends_more due more old new Words as_more end = record { text = end.text; is_due = as_more Words end.text end.is_due; written = end.written }
-ends_more due more old new Stopped as_more end = record { text = end.text; is_due = as_more Stopped end.text end.is_due; written = end.written }
-ends_more due more old new Refused as_more end = record { text = end.text; is_due = as_more Refused end.text end.is_due; written = end.written }
-ends_more due more old new Input as_more end = record { text = end.text; is_due = as_more Input end.text end.is_due; written = end.written }
-ends_more due more old new Read as_more end = end
-ends_more due more old new Write as_more end = record { status = end.status; text = end.text; is_due = as_more end.status end.text end.is_due; count = end.count; within = end.within; rose = end.rose; written = end.written }
-ends_more due more old new Memory as_more end = end
+check_refusal_due left fault text is_line refused = record {
+  fault = fault;
+  is_line = is_line;
+  read = λ input given. line_tells (IsCheckFault (reading (whole_text input))) fault text is_line (subst (λ (x : Option (List ℕ)). IsRefusedCheck (option_map whole_text x) fault) given refused);
+}
 
 -- ---- by the words
 

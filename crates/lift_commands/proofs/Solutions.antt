@@ -16,12 +16,13 @@ use Rattle.call_state.proofs.PossibleLemmas.{most_cars-le}
 use Rattle.search_model.specs.declared.Stated.{Stated}
 use Rattle.answer_text.specs.Texts.{answer_text}
 use Rattle.lift_words.specs.declared.request.SolveOptions.{SolveOptions}
-use Rattle.lift_commands.specs.declared.status.Status.{Status}
-use Rattle.lift_commands.specs.declared.status.Status.TheVariants.{Done, Stopped, Memory}
+use Rattle.command_ends.specs.declared.status.Status.{Status}
+use Rattle.command_ends.specs.declared.status.Status.TheVariants.{Done, Stopped, Memory}
 use Rattle.lift_commands.specs.declared.endings.Ending.{Ending}
 use Rattle.lift_commands.specs.declared.endings.Ending.TheVariants.{IsSolved, OfRounds, OfMoves, OfClaims}
-use Rattle.lift_commands.specs.Outcome.{Streams, Ends, Puts, SolveDue, AnswerIsDue, AreEnough, IsAnswered, IsPrinted, IsSolution, certificate_part, closing_line, ending_of, status_of, status_of_ending}
-use Rattle.lift_commands.proofs.Outcomes.{ends_put}
+use Rattle.command_ends.specs.Ends.{Streams, Ends, Puts}
+use Rattle.command_ends.proofs.EndLemmas.{ends_either}
+use Rattle.lift_commands.specs.Outcome.{SolveDue, AnswerIsDue, AreEnough, IsAnswered, IsPrinted, IsSolution, certificate_part, closing_line, ending_of, status_of, status_of_ending}
 use Rattle.lift_commands.proofs.SearchBounds.{bound_low}
 
 pub cars-le : (s : Snapshot) → IsAccepted s → car_count s ≤ 16
@@ -111,4 +112,5 @@ is_answered options s t status result text same put solution enough =
     second e = inr (inl e)
 
 pub ends_answered : (options : SolveOptions) (left left' : Option (List ℕ)) (old new : Streams) (text : List ℕ) (status result : Status) → AnswerIsDue options left left' status text → Puts text status result old.taken new.taken old.write_faults new.write_faults → Ends (SolveDue options left left') old new result
-ends_answered options left left' old new text status result due put = elim (ended_by due.solution.ending status due.solution.status_is) [ inl done ↦ ends_put (SolveDue options left left') old new text Done result (subst (λ (x : Status). AnswerIsDue options left left' x text) done due) (λ wrote. wrote) (subst (λ (x : Status). Puts text x result old.taken new.taken old.write_faults new.write_faults) done put) | inr stopped ↦ ends_put (SolveDue options left left') old new text Stopped result (subst (λ (x : Status). AnswerIsDue options left left' x text) stopped due) (λ wrote. wrote) (subst (λ (x : Status). Puts text x result old.taken new.taken old.write_faults new.write_faults) stopped put) ]
+ends_answered options left left' old new text status result due put =
+    ends_either (SolveDue options left left') old new text Done Stopped status result (λ (x : Status). AnswerIsDue options left left' x text) (λ due. due) (λ wrote. wrote) (λ due. due) (λ wrote. wrote) (ended_by due.solution.ending status due.solution.status_is) due put

@@ -14,10 +14,11 @@ use Rattle.search_model.specs.Verdicts.{rounds_enough, moves_enough}
 use Rattle.building_text.proofs.TravelLemmas.{same_travel}
 use Rattle.lift_words.specs.declared.request.CaseSizes.{CaseSizes}
 use Rattle.lift_words.specs.declared.request.RunOptions.{RunOptions}
-use Rattle.lift_commands.specs.declared.status.Status.{Status}
-use Rattle.lift_commands.specs.declared.status.Status.TheVariants.{Done, Stopped, Memory}
-use Rattle.lift_commands.specs.Outcome.{Streams, Ends, Puts, Wrote, IsCaseOf, IsCaseSolved, IsSolvedCase, SolvedCaseDue, run_text, status_of}
-use Rattle.lift_commands.proofs.Outcomes.{ends_put}
+use Rattle.command_ends.specs.declared.status.Status.{Status}
+use Rattle.command_ends.specs.declared.status.Status.TheVariants.{Done, Stopped, Memory}
+use Rattle.command_ends.specs.Ends.{Streams, Ends, Puts}
+use Rattle.command_ends.proofs.EndLemmas.{ends_either}
+use Rattle.lift_commands.specs.Outcome.{IsCaseOf, IsCaseSolved, IsSolvedCase, SolvedCaseDue, run_text, status_of}
 use Rattle.lift_commands.proofs.Solutions.{optimal}
 
 -- ---- the number and the sizes have one case
@@ -95,7 +96,5 @@ module _ (options : RunOptions) (status : Status) (text : List ℕ) (solved : Is
       second e = inr (inl e)
 
   pub ends_solved : (old new : Streams) (result : Status) → Puts text status result old.taken new.taken old.write_faults new.write_faults → Ends (SolvedCaseDue options) old new result
-  ends_solved old new result put = elim is_ended [ inl done ↦ with_status Done done (λ wrote. wrote) (subst (λ (x : Status). IsSolvedCase options x text) done solved) | inr stopped ↦ with_status Stopped stopped (λ wrote. wrote) (subst (λ (x : Status). IsSolvedCase options x text) stopped solved) ]
-    where
-      with_status : (x : Status) → status ≡ x → (Wrote (SolvedCaseDue options) old new x → Ends (SolvedCaseDue options) old new x) → SolvedCaseDue options x text → Ends (SolvedCaseDue options) old new result
-      with_status x same as_end due = ends_put (SolvedCaseDue options) old new text x result due as_end (subst (λ (y : Status). Puts text y result old.taken new.taken old.write_faults new.write_faults) same put)
+  ends_solved old new result put =
+      ends_either (SolvedCaseDue options) old new text Done Stopped status result (λ (x : Status). IsSolvedCase options x text) (λ due. due) (λ wrote. wrote) (λ due. due) (λ wrote. wrote) is_ended solved put

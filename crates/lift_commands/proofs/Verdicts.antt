@@ -16,10 +16,11 @@ use Rattle.cert_checker.proofs.VerdictLaws.{verdict_holds, sufficient_holds, yes
 use Rattle.check_text.specs.declared.checked.Checked.{Checked}
 use Rattle.check_text.specs.CheckTexts.{IsCheckAlone, IsChecked, IsCheckOf, IsCheckText, IsAnsweredCheck, TakesChecks}
 use Rattle.check_text.specs.VerdictTexts.{verdict_text}
-use Rattle.lift_commands.specs.declared.status.Status.{Status}
-use Rattle.lift_commands.specs.declared.status.Status.TheVariants.{Done, Refused}
-use Rattle.lift_commands.specs.Outcome.{Streams, Ends, Puts, CheckDue, VerdictIsDue, IsJudged, status_of_verdict}
-use Rattle.lift_commands.proofs.Outcomes.{ends_put}
+use Rattle.command_ends.specs.declared.status.Status.{Status}
+use Rattle.command_ends.specs.declared.status.Status.TheVariants.{Done, Refused}
+use Rattle.command_ends.specs.Ends.{Streams, Ends, Puts}
+use Rattle.command_ends.proofs.EndLemmas.{ends_either}
+use Rattle.lift_commands.specs.Outcome.{CheckDue, VerdictIsDue, IsJudged, status_of_verdict}
 
 -- ---- of what was read
 
@@ -65,7 +66,9 @@ either_status Yes status is = inl is
 either_status (No reason) status is = inr is
 
 pub ends_judged : (left left' : Option (List ℕ)) (old new : Streams) (text : List ℕ) (status result : Status) → VerdictIsDue left left' status text → Puts text status result old.taken new.taken old.write_faults new.write_faults → Ends (CheckDue left left') old new result
-ends_judged left left' old new text status result due put = elim (either_status (verdict_of due.snapshot due.stated.plan due.stated.cost due.stated.bound due.tree) status due.status_is) [ inl done ↦ ends_put (CheckDue left left') old new text Done result (subst (λ (x : Status). VerdictIsDue left left' x text) done due) (λ wrote. wrote) (subst (λ (x : Status). Puts text x result old.taken new.taken old.write_faults new.write_faults) done put) | inr refused ↦ ends_put (CheckDue left left') old new text Refused result (subst (λ (x : Status). VerdictIsDue left left' x text) refused due) (λ wrote. wrote) (subst (λ (x : Status). Puts text x result old.taken new.taken old.write_faults new.write_faults) refused put) ]
+ends_judged left left' old new text status result due put =
+    let either = either_status (verdict_of due.snapshot due.stated.plan due.stated.cost due.stated.bound due.tree) status due.status_is in
+    ends_either (CheckDue left left') old new text Done Refused status result (λ (x : Status). VerdictIsDue left left' x text) (λ due. due) (λ wrote. wrote) (λ due. due) (λ wrote. wrote) either due put
 
 pub is_judged : (left : Option (List ℕ)) (input : List ℕ) (s : Snapshot) (stated : Stated) (tree : List Twig) (checked : Checked) (status result : Status) → IsCheckText input s stated tree
     → IsChecked (option_map whole_text left) checked → IsCheckOf s stated tree checked → status ≡ status_of_verdict checked.verdict → result ≡ status → IsJudged s stated tree result

@@ -24,9 +24,9 @@ use Rattle.day_runner.specs.declared.rows.RunFault.TheVariants.{TooLong, Read as
 use Rattle.lift_words.specs.declared.request.DayOptions.{DayOptions}
 use Rattle.lift_words.specs.Taken.{AreTaken}
 use Rattle.lift_words.specs.declared.request.Request.TheVariants.{Day, Report}
-use Rattle.lift_commands.specs.Outcome.{Streams, Ends, Puts, IsRefusalLine}
-use Rattle.lift_commands.specs.declared.status.Status.{Status}
-use Rattle.lift_commands.specs.declared.status.Status.TheVariants.{Done, Words, Stopped, Refused, Input, Read, Write, Memory}
+use Rattle.command_ends.specs.Ends.{Streams, Ends, Puts, IsRefusalLine}
+use Rattle.command_ends.specs.declared.status.Status.{Status}
+use Rattle.command_ends.specs.declared.status.Status.TheVariants.{Done, Words, Stopped, Refused, Input, Read, Write, Memory}
 
 -- ---- plans
 

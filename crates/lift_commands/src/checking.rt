@@ -6,13 +6,14 @@ ghost use Rattle.lift_text.specs.Reading.{whole_text};
 ghost use Rattle.check_text.specs.CheckTexts.{IsChecked, IsRefusedCheck, TakesChecks};
 ghost use Rattle.check_text.specs.VerdictTexts.{IsToldOf, verdict_text};
 ghost use Rattle.lift_words.specs.Taken.{AreCheckOptions};
-ghost use Rattle.lift_commands.specs.Outcome.{CheckDue, Checks, Ends, RefusesChecks};
-ghost use Rattle.lift_commands.specs.Outcome.{status_of_verdict as status_of_verdict_lem, streams};
+ghost use Rattle.command_ends.specs.Ends.{Ends, streams};
+ghost use Rattle.lift_commands.specs.Outcome.{CheckDue, Checks, RefusesChecks};
+ghost use Rattle.lift_commands.specs.Outcome.{status_of_verdict as status_of_verdict_lem};
 
-use crate::putting::{Answer, put, put_fault};
-use crate::status::{Status, status_of_verdict};
+use crate::status::status_of_verdict;
 use byte_streams::{Gate, Sink, Source};
 use check_text::{Checked, read_check, write_verdict};
+use command_ends::{Answer, Status, put, put_fault};
 use lift_text::{LineReader, TextFault};
 use lift_words::CheckOptions;
 use std::alloc::{AllocError, Global};

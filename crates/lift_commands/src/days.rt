@@ -7,15 +7,14 @@ ghost use Rattle.search_model.specs.Reports.{report_of as report_of_lem};
 ghost use Rattle.service_report.specs.ReportTexts.{report_text as report_text_lem};
 ghost use Rattle.day_runner.specs.Inputs.{DayAnswered, EndsUnlessFailed, IsDayText, IsUnread, IsUnwritten};
 ghost use Rattle.lift_words.specs.Taken.{AreDayOptions};
-ghost use Rattle.lift_commands.specs.Outcome.{Ends, streams};
+ghost use Rattle.command_ends.specs.Ends.{streams};
 ghost use Rattle.lift_commands.specs.DayOutcome.{IsSolvedRow, PutsRowsFault, ReportsDay, RunsDay};
 ghost use Rattle.lift_commands.specs.DayOutcome.{status_of_unsolved as status_of_unsolved_lem};
 
 use crate::planning::plan_within;
-use crate::putting::{TOO_LONG, put, put_fault};
-use crate::status::Status;
 use byte_streams::{Gate, Sink, SinkFault, Source};
 use call_state::Snapshot;
+use command_ends::{Status, put, put_fault, put_too_long};
 use day_runner::{DayFault, Ended, RunFault, run_day_text};
 use lift_text::{LineReader, TextFault};
 use lift_words::DayOptions;
@@ -89,7 +88,7 @@ fn put_rows_fault<K: Sink>(fault: RunFault, sink: &mut K) -> Status
     ensures counted { K.faults sink.old ≤ K.faults sink.new }
 {
     match fault {
-        RunFault::TooLong => put(sink, TOO_LONG, Status::Input),
+        RunFault::TooLong => put_too_long(sink),
         RunFault::Read => Status::Read,
         RunFault::Write => Status::Write,
         RunFault::NoMemory => Status::Memory,

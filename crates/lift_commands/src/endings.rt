@@ -3,7 +3,7 @@
 ghost use Rattle.std.specs.Prelude.{◌≡◌};
 ghost use Rattle.lift_commands.specs.Outcome.{ending_of, status_of_ending};
 
-use crate::status::Status;
+use command_ends::Status;
 use search_model::StopReason;
 
 /// Why an answer ends as it does.

@@ -3,8 +3,9 @@
 //!
 //! # What is promised
 //!
-//! Ten clauses of `run`, over the definitions in `specs/Outcome.antt` and `specs/DayOutcome.antt`. What they
-//! say of the input holds where the source tells what it has left.
+//! Ten clauses of `run`, over the definitions in `specs/Outcome.antt` and `specs/DayOutcome.antt`, and in
+//! `specs/Ends.antt` of `command_ends`. What they say of the input holds where the source tells what it has
+//! left.
 //!
 //! **`solve`.** Status 0: the whole input was read and is the text of an accepted snapshot, and what was
 //! written is an **optimal** plan of it, its cost and an equal bound, for 1 to 16 workers, and without
@@ -85,18 +86,20 @@
 //! the tree of a search within the default limits has a text of less than 60,000,000 bytes, and the verdict
 //! on it is yes. `day` and `report` run one day (`run_input`) whose planner is a search within the limits
 //! (`plan_within`), the one over the sink, the other over a sink that keeps nothing.
+//!
+//! A further command has its words in `lift_words` and its function in a crate of its own on `command_ends`,
+//! which says how any command ends. Here it takes one arm of `run` and a clause of its own by its words, as
+//! `day` has (`DaysByWords`), and its words are left out of `ends` as those of `day` are (`AskNoDay`).
 #![tactic(auto)]
 
 mod checking;
-mod codes;
 mod days;
 mod endings;
 mod making;
 mod planning;
-mod putting;
 mod running;
 mod solving;
 mod status;
 
+pub use command_ends::Status;
 pub use running::run;
-pub use status::Status;

@@ -1,18 +1,17 @@
 //! The top call of the program.
 
 ghost use Rattle.std.specs.Prelude.{map, string_bytes};
+ghost use Rattle.command_ends.specs.Ends.{Ends, streams};
 ghost use Rattle.lift_commands.specs.DayOutcome.{AskNoDay, DaysByWords, ReportsByWords};
-ghost use Rattle.lift_commands.specs.Outcome.{Ends, RunDue, SolvesByWords, RefusesByWords, ChecksByWords};
+ghost use Rattle.lift_commands.specs.Outcome.{RunDue, SolvesByWords, RefusesByWords, ChecksByWords};
 ghost use Rattle.lift_commands.specs.Outcome.{RefusesChecksByWords, MakesByWords, RunsByWords, RefusesWords};
-ghost use Rattle.lift_commands.specs.Outcome.{streams};
 
 use crate::checking::check;
 use crate::days::{day, report};
 use crate::making::{write_made_case, write_solved_case};
-use crate::putting::put;
 use crate::solving::solve;
-use crate::status::Status;
 use byte_streams::{Gate, Sink, Source};
+use command_ends::{Status, put};
 use lift_words::{Request, WordsFault, read_words};
 use std::alloc::Global;
 use std::marker::Sync;

@@ -41,7 +41,7 @@ abbrev pub IsPooled : Snapshot → TourPool → Turn → Type 0
 IsPooled s pool turn =
     (c : ℕ) (tour : List Stop) → c < car_count s → (turn_of_car turn c).tour ≡ Some tour → Contains (tours_of_car pool c) tour
 
--- no plan that is made of tours of the pool is cheaper, where so many tries are enough
+-- where `most_tours` tries are enough, no plan that is made of tours of the pool is cheaper
 abbrev pub IsCheapestOf : Snapshot → (most_tours : ℕ) → TourPool → (cost : ℕ) → Type 0
 IsCheapestOf s most_tours pool cost = 34 ^ car_count s ≤ most_tours → (plan : List (List Stop)) → IsMadeOf pool plan → cost ≤ plan_cost_of s plan
 
@@ -108,7 +108,7 @@ pub record HasTurned (old new : Root) : Type 0 where
   pub rises : sum_of_sheet (leaf_of_root old).sheet ≤ℤ sum_of_sheet (leaf_of_root new).sheet
   pub cheaper : new.best.cost ≤ old.best.cost
 
--- so many turns were made, and fewer only where the root's bound is not below the cost
+-- `most` turns were made, and fewer only where the root's bound is not below the cost
 pub record IsEnough (most : ℕ) (root : Root) : Type 0 where
   pub few : length root.turns.items ≤ most
   pub due : bound_of_sheet (leaf_of_root root).sheet <ℤ pos root.best.cost → length root.turns.items ≡ most

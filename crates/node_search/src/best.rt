@@ -123,8 +123,8 @@ impl<'a> Best<'a> {
         Ok(())
     }
 
-    /// Takes the cheapest plan that the pool's tours make, where it is cheaper and found in at most `limit`
-    /// tries. It fails only where there is no memory left.
+    /// Takes the cheapest plan of the pool's tours that `limit` tries find, where it is cheaper. It fails
+    /// only where there is no memory left.
     pub(crate) fn select(
         &mut self,
         alloc: Global,

@@ -63,7 +63,8 @@ struct Begun<'a> {
     turns: Vec<Turn>,
 }
 
-/// The car whose pricing reached the limit last in the first such leaf whose bound is below the cost.
+/// The car that reached the limit in a leaf's last pricing, in the first such leaf whose bound is below the
+/// cost.
 fn spent_car(branches: &[Branch], cost: u64) -> Option<u32>
     ensures { MatchOption result
         ((k : ℕ) → IsBelow cost branches.now k → (at_place branches.now k).spent ≡ None)
@@ -80,7 +81,7 @@ fn spent_car(branches: &[Branch], cost: u64) -> Option<u32>
 }
 
 impl<'a> Search<'a> {
-    /// Why it ended, where each pricing may try so many partial tours.
+    /// Why it ended, where each pricing may try up to `most_tours` partial tours.
     fn reason(&self, calls: usize, most_tours: u64) -> StopReason
         requires { calls ≤ MOST_CALLS }
         ensures { (s : SnapshotOf) → call_count s ≡ calls → IsReasonOf s most_tours self.now result }

@@ -7,10 +7,10 @@
 //! # What is promised
 //!
 //! - `find_plan`, for any `Pricer`, start plan, first leaf, limits and 1 to 16 workers: a feasible plan and
-//!   its cost, a bound, a tree that proves them, of at most 8 twigs a round and one; turns at the root by
-//!   their rule of steps, none of whose bounds is greater, and no cheaper plan made of their tours (`IsFound`
-//!   of `search_model`). And why it ended: solved, the rounds used up, or a car with as many partial tours as
-//!   the limit in a node in which each call has one car left. It states no claims.
+//!   its cost, a bound, a tree that proves them, of at most 8 twigs a round and one more; turns at the root
+//!   by their rule of steps, none of whose bounds is greater, and no cheaper plan made of their tours
+//!   (`IsFound` of `search_model`). And why it ended: solved, the rounds used up, or a car with as many
+//!   partial tours as the limit in a node in which each call has one car left. It states no claims.
 //!
 //! # How it goes
 //!

@@ -15,7 +15,7 @@ pub struct Lacks {
 }
 
 impl Lacks {
-    /// Where there is no tour, of so many calls.
+    /// Of this many calls, before any tour is noted.
     pub fn new(calls: usize) -> Self {
         let mut per_call = [0; MOST_CALLS];
         for call in 0..calls.min(MOST_CALLS) {

@@ -26,7 +26,7 @@ pub fn adjust(prices: &mut [Price], counts: &[u32], step: i128)
     }
 }
 
-/// The price after a move, where so many tours take the call.
+/// The price after a move, where `count` tours take the call.
 fn moved(price: Price, count: u32, step: i128) -> Price
     requires count { count ≤ MOST_CARS }
     requires low { pos 0 ≤ℤ step }

@@ -16,7 +16,7 @@ pub struct Pace {
     pub moves: u32,
     /// How many parts make one.
     pub one: i64,
-    /// The newest reading makes one in so many of the direction.
+    /// The weight of the newest reading in the direction is 1 over this.
     pub newest_share: i64,
     /// How the direction is rounded.
     pub rounding: Rounding,
@@ -60,7 +60,7 @@ impl Pace {
     }
 }
 
-/// So many percent of a number, rounded towards 0.
+/// This percentage of a number, rounded towards 0.
 pub fn percent_of(percent: i64, number: i64) -> i64 {
     number.saturating_mul(percent) / 100
 }

@@ -37,7 +37,7 @@ impl Aim<'_> {
         boards.minus(self.allowed()).is_empty() && required.minus(boards).is_empty()
     }
 
-    /// What a tour is worth that costs so much and in which these calls board, in thousandths of a cost unit.
+    /// What a tour of this cost is worth in which these calls board, in thousandths of a cost unit.
     fn value(&self, cost: u64, boards: CallSet) -> i128 {
         let mut value = 1000 * i128::from(cost);
         for call in boards.iter() {

@@ -7,7 +7,7 @@ use crate::aims::Aim;
 use partial_tours::Prefix;
 use std::alloc::{AllocError, Global};
 
-/// A walk that comes to so many partial tours stops.
+/// A walk stops once it has come to this many partial tours.
 const TOO_MANY: u32 = 200_000;
 
 /// Whether the partial tour is kept at a worth.

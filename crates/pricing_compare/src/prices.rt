@@ -31,7 +31,8 @@ impl Pricing {
         Pricing::Extreme,
     ];
 
-    /// The next price in thousandths, where a call costs so much. `is_chosen` is true of one call of a list.
+    /// The next price in thousandths, where a call costs about `mean`. `is_chosen` is true of one call of a
+    /// list.
     fn next(self, draws: &mut Draws, mean: u64, is_chosen: bool) -> i128 {
         // About as many thousandths as the mean has, and no two alike.
         let about = i128::from(mean).wrapping_mul(i128::from(850 + draws.pick(301)));
@@ -50,7 +51,7 @@ impl Pricing {
         }
     }
 
-    /// A price for each of so many calls. A list that is shorter has a price that is none.
+    /// A price for each of this many calls. The list is shorter where a number that was drawn is no price.
     pub(crate) fn list(
         self,
         alloc: Global,

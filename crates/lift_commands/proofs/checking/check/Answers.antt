@@ -1,6 +1,8 @@
 use Rattle.std.proofs.Common.{Ok, Err, ap, inr}
-use Rattle.lift_commands.specs.Outcome.{CheckDue, streams}
-use Rattle.lift_commands.proofs.Outcomes.{check_refusal_due, ends_fault, fault_memory, fault_status, put_whole}
+use Rattle.command_ends.specs.Ends.{streams}
+use Rattle.command_ends.proofs.EndLemmas.{ends_fault, fault_status, put_whole}
+use Rattle.lift_commands.specs.Outcome.{CheckDue}
+use Rattle.lift_commands.proofs.Outcomes.{check_refusal_due, ran_out_of_memory}
 use Rattle.lift_commands.proofs.Verdicts.{ends_judged, is_judged, none_checked, takes_input, verdict_due}
 use Rattle.lift_commands.proofs.checking.check.Goals as goal
 
@@ -31,7 +33,7 @@ returns-clause-ends g c =
 
 pub returns-clause-checks : goal.returns-clause-checks
 returns-clause-checks g c = λ input s stated tree given case reads writes.
-    (let memory = fault_memory c.in-Err.fault c.put_fault.result _ _ _ _ c.put_fault.ensures (takes_input (g.S.Source.left c.args.source.now) input s stated tree (Err c.in-Err.fault) given case c.in-Err.ensures.takes) (λ e. reads (c.in-Err.ensures.read (ap Err e))) in
+    (let memory = ran_out_of_memory c.in-Err.fault c.put_fault.result _ _ _ _ c.put_fault.ensures (takes_input (g.S.Source.left c.args.source.now) input s stated tree (Err c.in-Err.fault) given case c.in-Err.ensures.takes) (λ e. reads (c.in-Err.ensures.read (ap Err e))) in
     record { ended = inr memory; enough = λ proves claims. inr memory })
 
 pub returns-clause-refuses : goal.returns-clause-refuses

@@ -1,4 +1,4 @@
-use Rattle.lift_commands.specs.Outcome.{streams}
+use Rattle.command_ends.specs.Ends.{streams}
 use Rattle.lift_commands.proofs.DayOutcomes.{day-done, day-stopped, day-unopened}
 use Rattle.lift_commands.proofs.days.day.Goals as goal
 

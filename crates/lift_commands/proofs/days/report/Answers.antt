@@ -1,5 +1,5 @@
 use Rattle.std.proofs.Common.{refl}
-use Rattle.lift_commands.specs.Outcome.{streams}
+use Rattle.command_ends.specs.Ends.{streams}
 use Rattle.lift_commands.proofs.DayOutcomes.{no-faults, report-done, report-short, report-stopped, report-unopened}
 use Rattle.lift_commands.proofs.days.report.Goals as goal
 

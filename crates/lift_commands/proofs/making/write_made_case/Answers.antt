@@ -1,6 +1,7 @@
-use Rattle.lift_commands.specs.declared.status.Status.TheVariants.{Done}
-use Rattle.lift_commands.specs.Outcome.{MakeDue, streams}
-use Rattle.lift_commands.proofs.Outcomes.{ends_put}
+use Rattle.command_ends.specs.declared.status.Status.TheVariants.{Done}
+use Rattle.command_ends.specs.Ends.{streams}
+use Rattle.command_ends.proofs.EndLemmas.{ends_put}
+use Rattle.lift_commands.specs.Outcome.{MakeDue}
 use Rattle.lift_commands.proofs.making.write_made_case.Goals as goal
 
 pub returns-in-Ok-clause-ends : goal.returns-in-Ok-clause-ends

@@ -1,5 +1,5 @@
-use Rattle.lift_commands.specs.Outcome.{streams}
-use Rattle.lift_commands.proofs.Outcomes.{put_whole}
+use Rattle.command_ends.specs.Ends.{streams}
+use Rattle.command_ends.proofs.EndLemmas.{put_whole}
 use Rattle.lift_commands.proofs.SolvedCases.{ends_solved, is_case_solved}
 use Rattle.lift_commands.proofs.making.write_solved_case.Goals as goal
 

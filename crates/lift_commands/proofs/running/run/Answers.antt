@@ -4,10 +4,12 @@ use Rattle.lift_words.specs.declared.request.RunOptions.{RunOptions}
 use Rattle.lift_words.specs.declared.request.DayOptions.{DayOptions}
 use Rattle.lift_words.specs.declared.request.SolveOptions.{SolveOptions}
 use Rattle.lift_words.specs.declared.request.Request.TheVariants.{Solve, Check, Day, Report, Make, Run}
-use Rattle.lift_commands.specs.declared.status.Status.TheVariants.{Words}
-use Rattle.lift_commands.specs.Outcome.{IsAnswered, IsCaseSolved, SolveDue, CheckDue, MakeDue, SolvedCaseDue, RunDue, UsageIsDue, usage_line, streams}
+use Rattle.command_ends.specs.declared.status.Status.TheVariants.{Words}
+use Rattle.command_ends.specs.Ends.{streams}
+use Rattle.command_ends.proofs.EndLemmas.{ends_put, ends_more}
+use Rattle.lift_commands.specs.Outcome.{IsAnswered, IsCaseSolved, SolveDue, CheckDue, MakeDue, SolvedCaseDue, RunDue, UsageIsDue, usage_line}
 use Rattle.lift_commands.specs.DayOutcome.{ReportsDay, RunsDay}
-use Rattle.lift_commands.proofs.Outcomes.{ends_put, ends_more, solve_due, check_due, make_due, solved_case_due, not_run_and_make}
+use Rattle.lift_commands.proofs.Outcomes.{solve_due, check_due, make_due, solved_case_due, not_run_and_make}
 use Rattle.lift_commands.proofs.running.run.Goals as goal
 
 pub returns-in-Ok-Solve-clause-ends : goal.returns-in-Ok-Solve-clause-ends

@@ -1,6 +1,8 @@
 use Rattle.std.proofs.Common.{Err, ap, inr}
-use Rattle.lift_commands.specs.Outcome.{SolveDue, AnswerIsDue, streams}
-use Rattle.lift_commands.proofs.Outcomes.{ends_fault, fault_memory, fault_status, put_whole, refusal_due}
+use Rattle.command_ends.specs.Ends.{streams}
+use Rattle.command_ends.proofs.EndLemmas.{ends_fault, fault_status, put_whole}
+use Rattle.lift_commands.specs.Outcome.{SolveDue, AnswerIsDue}
+use Rattle.lift_commands.proofs.Outcomes.{ran_out_of_memory, refusal_due}
 use Rattle.lift_commands.proofs.Solutions.{is_answered, ends_answered}
 use Rattle.lift_commands.proofs.solving.solve.Goals as goal
 
@@ -38,7 +40,7 @@ returns-clause-ends g c =
 
 pub returns-clause-solves : goal.returns-clause-solves
 returns-clause-solves g c = λ input s given case reads writes.
-    (let memory = fault_memory c.in-Err.fault c.put_fault.result _ _ _ _ c.put_fault.ensures (c.in-Err.ensures.takes input s given case) (λ e. reads (c.in-Err.ensures.read (ap Err e))) in
+    (let memory = ran_out_of_memory c.in-Err.fault c.put_fault.result _ _ _ _ c.put_fault.ensures (c.in-Err.ensures.takes input s given case) (λ e. reads (c.in-Err.ensures.read (ap Err e))) in
     record { ended = inr (inr memory); enough = λ all. inr memory })
 
 pub returns-clause-refuses : goal.returns-clause-refuses

@@ -1,6 +1,6 @@
 //! The numbers that are printed for what is wrong with a line.
 ghost use Rattle.std.specs.Prelude.{◌≡◌};
-ghost use Rattle.lift_commands.specs.Codes.{number_of};
+ghost use Rattle.command_ends.specs.Codes.{number_of};
 
 use lift_text::TextCode;
 

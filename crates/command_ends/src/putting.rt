@@ -1,8 +1,8 @@
 //! Writing what is due.
-ghost use Rattle.std.specs.Prelude.{◌≡◌, ◌∷◌, [], ◌++◌, ◌≤◌, IfOk, codes};
+ghost use Rattle.std.specs.Prelude.{◌≡◌, ℕ, List, ◌∷◌, [], ◌++◌, ◌≤◌, IfOk, codes};
 ghost use Rattle.lift_text.specs.Text.{words, line as line_of};
-ghost use Rattle.lift_commands.specs.Codes.{number_of};
-ghost use Rattle.lift_commands.specs.Outcome.{Puts, PutsFault};
+ghost use Rattle.command_ends.specs.Codes.{number_of};
+ghost use Rattle.command_ends.specs.Ends.{IsRefusalLine, Puts, PutsFault};
 
 use crate::codes::number_of;
 use crate::status::Status;
@@ -10,18 +10,15 @@ use byte_streams::{Sink, put_all};
 use lift_text::{TextCode, TextFault, put_line, put_words};
 use std::alloc::{AllocError, Global};
 
-/// What is written where the input is longer than any that is read.
-pub(crate) const TOO_LONG: &[u8] = b"refused long\n";
-
 /// A text that answers the input, and the status with which it is written.
 #[derive(Drop)]
-pub(crate) struct Answer {
-    pub(crate) status: Status,
-    pub(crate) text: Vec<u8>,
+pub struct Answer {
+    pub status: Status,
+    pub text: Vec<u8>,
 }
 
 /// Writes the text and answers the status, or `Write` where the sink fails.
-pub(crate) fn put<K: Sink>(sink: &mut K, text: &[u8], status: Status) -> Status
+pub fn put<K: Sink>(sink: &mut K, text: &[u8], status: Status) -> Status
     ensures put { Puts text.now status result (K.taken sink.old) (K.taken sink.new) (K.faults sink.old)
         (K.faults sink.new) }
     ensures counted { K.faults sink.old ≤ K.faults sink.new }
@@ -30,6 +27,16 @@ pub(crate) fn put<K: Sink>(sink: &mut K, text: &[u8], status: Status) -> Status
         Ok(()) => status,
         Err(_) => Status::Write,
     }
+}
+
+/// Writes that the input is longer than any that is read.
+pub fn put_too_long<K: Sink>(sink: &mut K) -> Status
+    ensures put { (text : List ℕ) × IsRefusalLine TextFault.TooLong text
+        × Puts text Status.Input result (K.taken sink.old) (K.taken sink.new) (K.faults sink.old)
+        (K.faults sink.new) }
+    ensures counted { K.faults sink.old ≤ K.faults sink.new }
+{
+    put(sink, b"refused long\n", Status::Input)
 }
 
 /// What is written where a line of the input is bad.
@@ -44,7 +51,7 @@ fn refusal_line(alloc: Global, line: u64, code: TextCode) -> Result<Vec<u8>, All
 }
 
 /// Writes what is wrong with an input. After a failed read, and when out of memory, nothing is written.
-pub(crate) fn put_fault<K: Sink>(alloc: Global, fault: TextFault, sink: &mut K) -> Status
+pub fn put_fault<K: Sink>(alloc: Global, fault: TextFault, sink: &mut K) -> Status
     ensures { PutsFault fault result (K.taken sink.old) (K.taken sink.new) (K.faults sink.old)
         (K.faults sink.new) }
 {
@@ -53,7 +60,7 @@ pub(crate) fn put_fault<K: Sink>(alloc: Global, fault: TextFault, sink: &mut K) 
             Ok(text) => put(sink, text.as_slice(), Status::Input),
             Err(_) => Status::Memory,
         },
-        TextFault::TooLong => put(sink, TOO_LONG, Status::Input),
+        TextFault::TooLong => put_too_long(sink),
         TextFault::Read => Status::Read,
         TextFault::NoMemory => Status::Memory,
     }

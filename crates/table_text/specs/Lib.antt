@@ -1,0 +1,4 @@
+pub mod Order
+pub mod Drafts
+pub mod TableTexts
+pub mod Worked
