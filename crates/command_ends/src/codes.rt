@@ -5,7 +5,7 @@ ghost use Rattle.command_ends.specs.Codes.{number_of};
 use lift_text::TextCode;
 
 /// The number that is printed for what is wrong with a line.
-pub(crate) fn number_of(code: TextCode) -> u8
+pub fn number_of(code: TextCode) -> u8
     ensures { result ≡ number_of code }
 {
     match code {

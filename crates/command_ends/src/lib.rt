@@ -12,12 +12,14 @@
 //! `specs/Ends.antt`): with a status of a text, a text that is due was written whole; after a failed write, a
 //! part of one; after a failed read and when out of memory, nothing. `proofs/EndLemmas.antt` shows this, and
 //! what the status is, for any command that reads its input and then puts its answer or what is wrong: each of
-//! its returns takes one lemma. `specs/Codes.antt` has the numbers that are printed for a bad line.
+//! its returns takes one lemma. `specs/Codes.antt` has the numbers that are printed for a bad line, which
+//! `number_of` gives.
 #![tactic(auto)]
 
 mod codes;
 mod putting;
 mod status;
 
+pub use codes::number_of;
 pub use putting::{Answer, put, put_fault, put_too_long};
 pub use status::Status;

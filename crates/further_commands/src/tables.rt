@@ -8,14 +8,11 @@ ghost use Rattle.table_text.specs.TableTexts.{IsReadAlone, IsRefusedAlone, Takes
 ghost use Rattle.further_commands.specs.TableOutcome.{IsToldOf, RefusesTables, TableDue, Tables};
 
 use byte_streams::{Sink, Source};
-use command_ends::{Answer, Status, put, put_fault};
-use lift_text::{LineReader, TextFault, put_line};
+use command_ends::{Answer, Status, number_of, put, put_fault};
+use lift_text::{LineReader, TextCode, TextFault, put_line};
 use motion_table::Triple;
 use std::alloc::{AllocError, Global};
 use table_text::{Table, read_lone_table};
-
-/// What is printed for `TextCode::ShorterWay`.
-const SHORTER_WAY: u64 = 52;
 
 /// The table that the whole input states.
 fn read_input<S: Source>(alloc: Global, source: &mut S) -> Result<Table, TextFault>
@@ -49,8 +46,9 @@ fn table_answer(alloc: Global, table: &Table) -> Result<Answer, AllocError>
             })
         }
         Err(Triple { f, g, h }) => {
-            let floors = [SHORTER_WAY, u64::from(f), u64::from(g), u64::from(h)];
-            put_line(&mut text, b"no", &floors)?;
+            let code = u64::from(number_of(TextCode::ShorterWay));
+            let numbers = [code, u64::from(f), u64::from(g), u64::from(h)];
+            put_line(&mut text, b"no", &numbers)?;
             Ok(Answer {
                 status: Status::Refused,
                 text,

@@ -149,11 +149,6 @@ pub record ReportsDay (options : DayOptions) (old new : Streams) (status : Statu
 abbrev pub ReportsByWords : List (List ℕ) → (old new : Streams) → Status → Type 0
 ReportsByWords words old new status = (options : DayOptions) → AreTaken words (Report options) → ReportsDay options old new status
 
--- the words are neither those of `day` nor those of `report`
-pub record AskNoDay (words : List (List ℕ)) : Type 0 where
-  pub no_day : (options : DayOptions) → AreTaken words (Day options) → ⊥
-  pub no_report : (options : DayOptions) → AreTaken words (Report options) → ⊥
-
 -- ---- how rows that were not run to their end are answered
 
 -- where the input is too long, the refusal line was put; otherwise nothing more

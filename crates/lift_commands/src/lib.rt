@@ -89,7 +89,7 @@
 //!
 //! A further command has its words in `lift_words` and its function in a crate of its own on `command_ends`,
 //! which says how any command ends. Here it takes one arm of `run` and a clause of its own by its words, as
-//! `day` has (`DaysByWords`), and its words are left out of `ends` as those of `day` are (`AskNoDay`).
+//! `day` has (`DaysByWords`), and its words are left out of `ends` as those of `day` are (`AskOthers`).
 #![tactic(auto)]
 
 mod checking;

@@ -2,7 +2,8 @@
 
 ghost use Rattle.std.specs.Prelude.{map, string_bytes};
 ghost use Rattle.command_ends.specs.Ends.{Ends, streams};
-ghost use Rattle.lift_commands.specs.DayOutcome.{AskNoDay, DaysByWords, ReportsByWords};
+ghost use Rattle.lift_commands.specs.DayOutcome.{DaysByWords, ReportsByWords};
+ghost use Rattle.lift_commands.specs.Further.{AskOthers, TablesByWords};
 ghost use Rattle.lift_commands.specs.Outcome.{RunDue, SolvesByWords, RefusesByWords, ChecksByWords};
 ghost use Rattle.lift_commands.specs.Outcome.{RefusesChecksByWords, MakesByWords, RunsByWords, RefusesWords};
 
@@ -12,6 +13,7 @@ use crate::making::{write_made_case, write_solved_case};
 use crate::solving::solve;
 use byte_streams::{Gate, Sink, Source};
 use command_ends::{Status, put};
+use further_commands::table;
 use lift_words::{Request, WordsFault, read_words};
 use std::alloc::Global;
 use std::marker::Sync;
@@ -33,6 +35,8 @@ const USAGE: &[u8] = b"usage: lift solve/check/day/report/make [options]\n";
 ///   accepted call was delivered. The lines of a row are written before more of the source is read than what
 ///   its line takes.
 /// - `report` reads the same and writes how long the calls waited and rode.
+/// - `table` reads a table of travel times, and writes whether no way over a third floor is shorter, or the
+///   first three floors for which one is.
 /// - `make` writes a generated case, and `make --run` the cost and the bound of such a case; they read nothing.
 ///
 /// All write what is wrong with an input that they do not take: its first bad line with its code, or that it
@@ -45,8 +49,9 @@ pub fn run<S: Source, K: Sink, G: Gate + Sync>(
     sink: &mut K,
     gate: &G,
 ) -> Status
-    // What was read and written, and why it ended, by words of other commands than `day` and `report`.
-    ensures ends { AskNoDay (map string_bytes words.now)
+    // What was read and written, and why it ended, by words of other commands than `day`, `report`
+    // and `table`.
+    ensures ends { AskOthers (map string_bytes words.now)
         → Ends (RunDue (map string_bytes words.now) (S.left source.old) (S.left source.new))
         (streams (S.left source.old) (K.taken sink.old) (S.faults source.old) (K.faults sink.old))
         (streams (S.left source.new) (K.taken sink.new) (S.faults source.new)
@@ -90,6 +95,13 @@ pub fn run<S: Source, K: Sink, G: Gate + Sync>(
         (streams (S.left source.new) (K.taken sink.new) (S.faults source.new)
         (K.faults sink.new)) result }
 
+    // `table`: a table is judged, and whatever else is read is refused, unless the source or the sink fails or
+    // memory runs out.
+    ensures tables { TablesByWords (map string_bytes words.now)
+        (streams (S.left source.old) (K.taken sink.old) (S.faults source.old) (K.faults sink.old))
+        (streams (S.left source.new) (K.taken sink.new) (S.faults source.new)
+        (K.faults sink.new)) result }
+
     // `make`: a case is written, unless the sink fails or memory runs out.
     ensures makes { MakesByWords (map string_bytes words.now)
         (streams (S.left source.old) (K.taken sink.old) (S.faults source.old) (K.faults sink.old))
@@ -115,6 +127,7 @@ pub fn run<S: Source, K: Sink, G: Gate + Sync>(
         Ok(Request::Report(options)) => report(rt, alloc, options, source, sink, gate),
         Ok(Request::Make(sizes)) => write_made_case(alloc, sizes, sink),
         Ok(Request::Run(options)) => write_solved_case(rt, alloc, options, sink, gate),
+        Ok(Request::Table) => table(alloc, source, sink),
         Err(WordsFault::NotTaken) => put(sink, USAGE, Status::Words),
         Err(WordsFault::NoMemory) => Status::Memory,
     }

@@ -3,7 +3,7 @@ use Rattle.lift_words.specs.Taken.{AreTaken}
 use Rattle.lift_words.specs.declared.request.RunOptions.{RunOptions}
 use Rattle.lift_words.specs.declared.request.DayOptions.{DayOptions}
 use Rattle.lift_words.specs.declared.request.SolveOptions.{SolveOptions}
-use Rattle.lift_words.specs.declared.request.Request.TheVariants.{Solve, Check, Day, Report, Make, Run}
+use Rattle.lift_words.specs.declared.request.Request.TheVariants.{Solve, Check, Day, Report, Make, Run, Table}
 use Rattle.command_ends.specs.declared.status.Status.TheVariants.{Words}
 use Rattle.command_ends.specs.Ends.{streams}
 use Rattle.command_ends.proofs.EndLemmas.{ends_put, ends_more}
@@ -141,6 +141,19 @@ returns-in-Ok-Report-clause-reports g c options taken =
     let old = streams (g.S.Source.left c.args.source.now) (g.K.Sink.taken c.args.sink.now) (g.S.Source.faults c.args.source.now) (g.K.Sink.faults c.args.sink.now) in
     let new = streams (g.S.Source.left c.report.new.source) (g.K.Sink.taken c.report.new.sink) (g.S.Source.faults c.report.new.source) (g.K.Sink.faults c.report.new.sink) in
     subst (λ (o : DayOptions). ReportsDay o old new c.report.result) (sym is) c.report.ensures
+
+pub returns-in-Ok-Table-clause-ends : goal.returns-in-Ok-Table-clause-ends
+returns-in-Ok-Table-clause-ends g c = λ none.
+    absurd (none.no_table (subst (AreTaken (map string_bytes c.args.words.now)) c.in-Ok-Table.field-0-is c.in-Ok-Table.ensures.taken))
+
+pub returns-in-Ok-Table-clause-tables : goal.returns-in-Ok-Table-clause-tables
+returns-in-Ok-Table-clause-tables g c taken =
+    let ensures = c.table.ensures in
+    record { ends = ensures.ends; tables = ensures.tables; refuses = ensures.refuses }
+
+pub returns-in-Err-NotTaken-clause-tables : goal.returns-in-Err-NotTaken-clause-tables
+returns-in-Err-NotTaken-clause-tables g c = λ taken.
+    absurd (c.in-Err-NotTaken.ensures.refused c.in-Err-NotTaken.field-0-is Table taken)
 
 pub returns-in-Err-NotTaken-clause-days : goal.returns-in-Err-NotTaken-clause-days
 returns-in-Err-NotTaken-clause-days g c = λ options taken.

@@ -1,0 +1,24 @@
+-- The commands of which each has one clause of its own.
+use Rattle.std.specs.Prelude.{ℕ, List}
+use Rattle.lift_words.specs.declared.request.DayOptions.{DayOptions}
+use Rattle.lift_words.specs.Taken.{AreTaken}
+use Rattle.lift_words.specs.declared.request.Request.TheVariants.{Day, Report, Table}
+use Rattle.command_ends.specs.Ends.{Streams, Ends}
+use Rattle.command_ends.specs.declared.status.Status.{Status}
+use Rattle.further_commands.specs.TableOutcome.{RefusesTables, TableDue, Tables}
+
+-- what was read and written, and that a table is judged and anything else refused
+pub record RunsTable (old new : Streams) (status : Status) : Type 0 where
+  pub ends : Ends (TableDue old.left new.left) old new status
+  pub tables : Tables old new status
+  pub refuses : RefusesTables old new status
+
+-- words of `table` judge a table
+abbrev pub TablesByWords : List (List ℕ) → (old new : Streams) → Status → Type 0
+TablesByWords words old new status = AreTaken words Table → RunsTable old new status
+
+-- the words are none of these commands
+pub record AskOthers (words : List (List ℕ)) : Type 0 where
+  pub no_day : (options : DayOptions) → AreTaken words (Day options) → ⊥
+  pub no_report : (options : DayOptions) → AreTaken words (Report options) → ⊥
+  pub no_table : AreTaken words Table → ⊥
