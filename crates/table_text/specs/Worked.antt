@@ -1,8 +1,10 @@
 -- Worked rows of the lines of a table.
 use Rattle.std.specs.Prelude.{◌≡◌, ℕ, List, [], ◌∷◌, refl, codes}
 use Rattle.lift_text.specs.Reading.{Reading, line_with, finished}
+use Rattle.lift_text.specs.declared.faults.TextFault.TheVariants.{Bad}
 use Rattle.lift_text.specs.declared.codes.TextCode.TheVariants.{NoLineWord, Missing, TooMany, NoNumber, OutOfRange, OutOfOrder, CutShort, NoTime}
 use Rattle.text_sections.specs.Sections.{Line, outcome, accepted, refused}
+use Rattle.case_text.specs.CaseTexts.{IsFaultBehind}
 use Rattle.table_text.specs.declared.order.Due.TheVariants.{End}
 use Rattle.table_text.specs.Drafts.{no_draft, after}
 
@@ -99,3 +101,8 @@ long_end_row = refl
 
 cut_row : outcome after (both_rows (finished 12)) no_draft ≡ refused 13 CutShort
 cut_row = refl
+
+-- ---- behind the end
+
+late_row : IsFaultBehind (line_with 10 end_line (finished 11)) (Bad 10 OutOfOrder)
+late_row = refl
