@@ -9,7 +9,7 @@ pub enum Status {
     Words = 2,
     /// A limit was reached; the whole answer was written.
     Stopped = 3,
-    /// The verdict of a check is no; its reason was written.
+    /// The verdict of a check is no, or a table has a shorter way; the reason was written.
     Refused = 4,
     /// The input is no accepted case; the refusal line was written.
     Input = 5,

@@ -147,7 +147,7 @@ row_taken floors times words next e =
     let made : with_rows whole.0.0 (times ++ whole.0.1) ≡ next = cc in
     record { name_is = line.0; count = count.0; decided = count.1; row = row.0; read = row.1; is = ap (λ (p : ℕ × List ℕ). with_rows p.0 (times ++ p.1)) pair ∙ made }
 
--- a line of so many times is taken as they are
+-- a line of this many times is taken as they are
 pub row_given : (floors : Option ℕ) (n floor : ℕ) (times : List ℕ) (words : Line) (row : List ℕ) → columns floors words ≡ Ok n → length times / n ≡ floor → IsRowLine n floor words row
     → after (record { due = Times floors; times = times }) words ≡ goes_on (with_rows n (times ++ row))
 row_given floors n floor times words row decided at is =

@@ -81,7 +81,7 @@ next_row n floor times words next size some e =
     let known = floors_known n t.count words t.decided in
     row_said (Some n) n floor times words next size some known.0 t known.1
 
--- the lines of times that go on up to the end, of which the first was read and so many more are due
+-- the lines of times that go on up to the end, of which the first was read and this many more are due
 rows_from : (left floor n : ℕ) (times : List ℕ) (words : Line) (lines : List Line) (next end : Draft) (m : ℕ) → 0 < n → floor + suc left ≡ n → length times ≡ floor * n → RowSaid n floor times words next → Goes after lines next end → end.due ≡ End m
     → (later : List ℕ) × AreRowLines n floor (words ∷ lines) later × (record { due = End n; times = times ++ later } ≡ end)
 rows_from zero floor n times words lines next end m some floors size said goes ends =

@@ -25,7 +25,7 @@ HasFloors Head = Unit {0}
 HasFloors (Times floors) = AreFloors floors
 HasFloors (End floors) = AreFloors (Some floors)
 
--- with so many floors and these times
+-- with this many floors and these times
 abbrev pub with_rows : ℕ → List ℕ → Draft
 with_rows floors times = record { due = after_rows floors (length times); times = times }
 

@@ -13,7 +13,7 @@ name_of Head = codes "table"
 name_of (Times floors) = codes "times"
 name_of (End floors) = codes "end"
 
--- what is due after so many times: the end, once each floor has its line
+-- what is due after this many times: the end, once each floor has its line
 abbrev pub after_rows : (floors times : ℕ) → Due
 after_rows floors times = if times == floors * floors then End floors else Times (Some floors)
 
