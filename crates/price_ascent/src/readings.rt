@@ -1,6 +1,8 @@
 //! What tours say at prices.
 
-ghost use Rattle.std.specs.Prelude.{◌≤◌, length};
+ghost use Rattle.std.specs.Prelude.{◌≡◌, ◌≤◌, ◌+ℤ◌, length};
+ghost use Rattle.std.specs.Int.{saturate_signed, w128};
+ghost use Rattle.price_scale.specs.Scale.{price_sum};
 
 use crate::lacking::Lacks;
 use call_sets::CallSet;
@@ -19,6 +21,7 @@ impl Reading {
     /// Before any tour is noted.
     pub fn new(prices: &[Price]) -> Self
         requires { length prices.now ≤ MOST_CALLS }
+        ensures { result.sum ≡ price_sum prices.now }
     {
         Reading {
             sum: sum_prices(prices),
@@ -27,7 +30,9 @@ impl Reading {
     }
 
     /// Notes the cheapest tour of a car, by its value and its calls.
-    pub fn note(&mut self, value: i128, calls: CallSet) {
+    pub fn note(&mut self, value: i128, calls: CallSet)
+        ensures { self.new.sum ≡ saturate_signed w128 (self.old.sum +ℤ value) }
+    {
         self.sum = self.sum.saturating_add(value);
         self.lacks.note(calls);
     }

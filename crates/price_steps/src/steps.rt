@@ -181,8 +181,8 @@ impl Steps {
     }
 
     /// Whether the node is to be split, where its leaf's sum is below the cost of the best known plan by this
-    /// much, in thousandths of a cost unit: its last pricings together closed less than a tenth of the gap,
-    /// or it had as many as a node may have.
+    /// much, in thousandths of a cost unit: its last four pricings together closed less than a tenth of the
+    /// gap, or it had as many as a node may have.
     pub fn is_due(&self, gap: i128) -> bool {
         let mut gained: i128 = 0;
         for gain in &self.gains {
