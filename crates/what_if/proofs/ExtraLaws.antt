@@ -74,6 +74,15 @@ extra-closed s rounds moves before after c extra one other closed is =
       is = is;
     }
 
+-- a car has one extra cost
+extra-same : (s : Snapshot) (c : ℕ) (one other : ℤ) → IsExtraCost s c one → IsExtraCost s c other → other ≡ one
+extra-same s c one other x y =
+    let first = least-same (without_last s) x.before y.before x.least_before y.least_before in
+    let second = least-same (with_pin s c) x.after y.after x.least_after y.least_after in
+    let e = x.is in
+    let f = y.is in
+    omega (arith, ints, first, second, e, f)
+
 extra-between : (s : Snapshot) (rounds moves : ℕ) (before after : Searched) (c : ℕ) (extra : ℤ) → IsSearched (without_last s) rounds moves before → IsSearched (with_pin s c) rounds moves after → IsExtraCost s c extra → ((pos after.bound -ℤ pos before.cost) ≤ℤ extra) × (extra ≤ℤ (pos after.cost -ℤ pos before.bound))
 extra-between s rounds moves before after c extra one other is =
     let first = least-within (without_last s) rounds moves before is.before one is.least_before in
@@ -93,7 +102,8 @@ apart-if-open before after first second (inr below) = omega (arith, ints, first,
 pub extra-told : (s : Snapshot) (rounds moves : ℕ) (before after : Searched) (c : ℕ) (x : Extra) → takes_asked s c ≡ true → IsSearched (without_last s) rounds moves before → IsSearched (with_pin s c) rounds moves after → Tells before after x → IsExtraOf s rounds moves before c x
 extra-told s rounds moves before after c NoExtra takes one other told = absurd told
 extra-told s rounds moves before after c (Exact extra) takes one other told =
-    (takes, record { after = after; searched = other; closed = told.0; is = told.1; extra_cost = extra-closed s rounds moves before after c extra one other told.0 told.1 })
+    let exact = extra-closed s rounds moves before after c extra one other told.0 told.1 in
+    (takes, record { after = after; searched = other; closed = told.0; is = told.1; extra_cost = exact; only = λ more is. extra-same s c extra more exact is })
 extra-told s rounds moves before after c (Between low high) takes one other told = (
   takes,
   record {
@@ -111,12 +121,8 @@ extra-told s rounds moves before after c (Between low high) takes one other told
 pub extra-within : (s : Snapshot) (rounds moves : ℕ) (before : Searched) (c : ℕ) (x : Extra) (extra : ℤ) → takes_asked s c ≡ true → IsExtraOf s rounds moves before c x → IsExtraCost s c extra → (low_of x ≤ℤ extra) × (extra ≤ℤ high_of x)
 extra-within s rounds moves before c NoExtra extra takes of is = absurd (never (takes_asked s c) of takes)
 extra-within s rounds moves before c (Exact exact) extra takes of is =
-    let one = of.1.extra_cost in
-    let first = least-same (without_last s) one.before is.before one.least_before is.least_before in
-    let second = least-same (with_pin s c) one.after is.after one.least_after is.least_after in
-    let e = one.is in
-    let f = is.is in
-    (omega (arith, ints, first, second, e, f), omega (arith, ints, first, second, e, f))
+    let same = of.1.only extra is in
+    (omega (arith, ints, same), omega (arith, ints, same))
 extra-within s rounds moves before c (Between low high) extra takes of is = of.1.holds extra is
 
 -- a car of which something is said can take the call, and the other way round

@@ -3,3 +3,4 @@ pub mod FirstLeast
 pub mod NearestLaws
 pub mod ExtraLaws
 pub mod RegretLaws
+pub mod ExtraLists

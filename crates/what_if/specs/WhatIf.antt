@@ -99,6 +99,7 @@ pub record IsExact (s : Snapshot) (rounds moves : ℕ) (before : Searched) (c : 
   pub closed : AreClosed before after
   pub is : extra ≡ pos after.cost -ℤ pos before.cost
   pub extra_cost : IsExtraCost s c extra
+  pub only : (other : ℤ) → IsExtraCost s c other → other ≡ extra
 
 pub record IsBetween (s : Snapshot) (rounds moves : ℕ) (before : Searched) (c : ℕ) (low high : ℤ) : Type 0 where
   pub after : Searched
