@@ -1,7 +1,7 @@
 //! Tests of snapshots, their plans and the worlds of days, of what no whole command shows: which plans, tours
-//! and moments are found, how many partial tours there are, what the builds of parts refuse, and what has
-//! happened by a moment. The crates below have few tests of their own, since a crate with tests is proved
-//! twice.
+//! and moments are found, what one more call costs, how many partial tours there are, what the builds of parts
+//! refuse, and what has happened by a moment. The crates below have few tests of their own, since a crate with
+//! tests is proved twice.
 //!
 //! A helper that says whether something is so says no when out of memory, so that its test fails. With few
 //! early returns, and few values to drop at them, the tests are proved fast.
@@ -13,6 +13,8 @@ mod cases;
 mod counts;
 #[cfg(test)]
 mod days;
+#[cfg(test)]
+mod extras;
 #[cfg(test)]
 mod faults;
 #[cfg(test)]

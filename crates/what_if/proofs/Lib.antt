@@ -1,0 +1,6 @@
+pub mod VariantLaws
+pub mod FirstLeast
+pub mod NearestLaws
+pub mod ExtraLaws
+pub mod RegretLaws
+pub mod ExtraLists

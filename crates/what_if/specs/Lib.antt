@@ -1,0 +1,3 @@
+pub mod WhatIf
+pub mod Ends
+pub mod Worked
