@@ -1,17 +1,28 @@
 -- Worked cases, against which the definitions are checked.
-use Rattle.std.specs.Prelude.{◌≡◌, ℕ, pos, negsuc, ◌-ℤ◌, List, [], ◌∷◌, Some, None}
-use Rattle.elevator_model.specs.declared.CarState.TheVariants.{Idle, Coming}
+use Rattle.std.specs.Prelude.{◌≡◌, ℕ, pos, negsuc, ◌-ℤ◌, List, [], ◌∷◌, Some, None, true, false}
+use Rattle.elevator_model.specs.declared.CarState.TheVariants.{Idle, Coming, Moving}
 use Rattle.elevator_model.specs.declared.Stop.{Stop}
 use Rattle.elevator_model.specs.declared.Rule.TheVariants.{Car}
 use Rattle.elevator_model.specs.Snapshot.{Snapshot}
 use Rattle.elevator_model.specs.Plans.{first_bad, plan_cost_of}
 use Rattle.elevator_model.specs.Worked.{call, car_for, four_floors, stop}
-use Rattle.search_model.specs.Uneven.{called, halt, uneven_pair, uneven_plan}
-use Rattle.what_if.specs.WhatIf.{distance, with_pin, without_last}
+use Rattle.search_model.specs.Uneven.{called, halt, large_car, small_car, uneven_building, uneven_pair, uneven_plan}
+use Rattle.what_if.specs.WhatIf.{asked, distance, takes_asked, with_pin, without_last}
 
 -- the uneven case without its third call: the small car stops where it comes to, and no more
 abbrev pub uneven_rest : List (List Stop)
 uneven_rest = (halt 0 [] ∷ halt 1 (0 ∷ 1 ∷ []) ∷ halt 3 [] ∷ []) ∷ (halt 0 [] ∷ []) ∷ []
+
+-- the same calls, with the large car a floor below the third and the small one on its way from the top floor
+abbrev pub uneven_moving : Snapshot
+uneven_moving = record {
+  version = 2;
+  building = uneven_building (large_car ∷ small_car ∷ []);
+  moment = 1000;
+  states = Idle 1 5000 ∷ Moving 3 false 700 ∷ [];
+  aboard = [];
+  calls = uneven_pair.calls;
+}
 
 pub record AreUnevenRows : Type 0 where
   pub without : (without_last uneven_pair).calls ≡ called 5 1 3 2 900 ∷ called 2 1 3 1 950 ∷ []
@@ -20,6 +31,13 @@ pub record AreUnevenRows : Type 0 where
   -- the large car stands where the call begins, the small one comes to the lowest floor
   pub near : distance uneven_pair 0 ≡ 0
   pub far : distance uneven_pair 1 ≡ 9000
+  -- of a moving car the floor that it left counts
+  pub idle_below : distance uneven_moving 0 ≡ 6000
+  pub moving : distance uneven_moving 1 ≡ 1000
+  pub last : asked uneven_pair ≡ 2
+  pub either : takes_asked uneven_pair 0 ≡ true
+  pub not_elsewhere : takes_asked (with_pin uneven_pair 1) 0 ≡ false
+  pub pinned_here : takes_asked (with_pin uneven_pair 1) 1 ≡ true
   pub with_it : first_bad (with_pin uneven_pair 1) uneven_plan ≡ None
   pub other_car : first_bad (with_pin uneven_pair 0) uneven_plan ≡ Some (record { car = 1; stop = 2; rule = Car })
   pub without_it : first_bad (without_last uneven_pair) uneven_rest ≡ None
