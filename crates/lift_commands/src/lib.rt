@@ -3,9 +3,9 @@
 //!
 //! # What is promised
 //!
-//! Ten clauses of `run`, over the definitions in `specs/Outcome.antt` and `specs/DayOutcome.antt`, and in
-//! `specs/Ends.antt` of `command_ends`. What they say of the input holds where the source tells what it has
-//! left.
+//! Eleven clauses of `run`, over the definitions in `specs/Outcome.antt`, `specs/DayOutcome.antt` and
+//! `specs/Further.antt`, and in `specs/Ends.antt` of `command_ends` and `specs/TableOutcome.antt` of
+//! `further_commands`. What they say of the input holds where the source tells what it has left.
 //!
 //! **`solve`.** Status 0: the whole input was read and is the text of an accepted snapshot, and what was
 //! written is an **optimal** plan of it, its cost and an equal bound, for 1 to 16 workers, and without
@@ -38,6 +38,10 @@
 //! **`report`.** Of the same day, and with the same statuses, the report of the definition over the served
 //! calls, and nothing else.
 //!
+//! **`table`.** As `further_commands` says: the table of the input has no shorter way over a third floor
+//! (status 0), or has one, with the first three floors (4); any other input is refused with its first bad
+//! line (5).
+//!
 //! **`make`.** The text of the generated case, which is read as that snapshot again; nothing is read. `make
 //! --run`: the numbers of the case with the cost and the bound that a search of it with one worker answers;
 //! status 0 exactly where they are equal, and then the cost is the least one; status 3 exactly where the
@@ -48,8 +52,8 @@
 //!
 //! # The clauses
 //!
-//! - `ends` says for each status what was read and written, by words of other commands than `day` and
-//!   `report`. A text is *due* with a status (`RunDue`). By words of `solve` the input is the text of an
+//! - `ends` says for each status what was read and written, by words of other commands than `day`, `report`
+//!   and `table`. A text is *due* with a status (`RunDue`). By words of `solve` the input is the text of an
 //!   accepted snapshot (`IsCaseText`), and the text written is due as a search answers it (`IsSolution`), with
 //!   a certificate unless `--brief` is given: the tree of that search with the claims that are due or,
 //!   exactly where these go beyond their limit, another one with the bound that it proves (`IsCertified`).
@@ -80,6 +84,8 @@
 //!   its end unless the source or the sink fails or memory runs out (`Completes`).
 //! - `reports`: by words of `report`, the same day without a log, and with Done and Stopped the text of its
 //!   report (`ReportDue`).
+//! - `tables`: by words of `table`, what was read and written with each status, that a table is judged and any
+//!   other input refused, unless the source or the sink fails or memory runs out (`RunsTable`).
 //! - `refuses_words`: all other words and no fault of the sink give Words or Memory.
 //!
 //! `proofs/SolvedTrees.antt` and `proofs/SaidYes.antt` show that what `solve` writes is checked with a yes:
