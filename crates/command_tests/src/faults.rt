@@ -13,9 +13,27 @@ fn whole_lines(text: &[u8], taken: usize) -> usize {
 }
 
 impl<R: Threads + Sync> Bench<'_, R> {
+    /// Whether a run is as the one without a fault where a read after the one at the input's end would fail:
+    /// then that read is not asked for.
+    fn reads_no_further(&mut self, words: &str) -> bool {
+        let at_end = self.input.bytes.len().saturating_add(1);
+        let mut is_like = self.run(words, "0", Streams::of_reads(1));
+        for further in 1..3 {
+            let streams = Streams {
+                failing_read: at_end.saturating_add(further),
+                ..Streams::of_reads(1)
+            };
+            is_like &= self.run(words, "0", streams)
+                && self
+                    .ran
+                    .is(self.before.status, &self.before.text.bytes, usize::MAX);
+        }
+        is_like
+    }
+
     /// Reads give one byte each, and the first fails, then the second alone, and so on to the one at the
-    /// input's end: whether all of these runs are as is due. A line `after N` among the pieces says that
-    /// those after it come with the N-th line.
+    /// input's end: whether all of these runs are as is due, and no read after it is asked for. A line `after
+    /// N` among the pieces says that those after it come with the N-th line.
     pub(crate) fn fits_each_failing_read(&mut self, step: Step<'_>, words: &str) -> bool {
         let pieces = section(step.lines, "output", "");
         for taken in 0..=self.input.bytes.len() {
@@ -29,7 +47,7 @@ impl<R: Threads + Sync> Bench<'_, R> {
                 return false;
             }
         }
-        true
+        self.reads_no_further(words)
     }
 
     /// Writes take one byte each, and the first fails, then the second alone, and so on: whether all of these
