@@ -23,7 +23,7 @@ use Rattle.building_text.proofs.AgainLemmas.{all_low, range_within, range_length
 abbrev IsTen : ℕ → Type 0
 IsTen = IsFrom 0 4294967295
 
--- words that make at most so many bytes behind a name
+-- words that make at most this many bytes behind a name
 record AreShort (words : Line) (most : ℕ) : Type 0 where
   each : AllByRecursion IsWord words
   short : length (later_words words) ≤ most

@@ -144,7 +144,7 @@ more_rows d new times few is = by_test (length times == length d.heights * lengt
 pub at_floor : (floor floors : ℕ) (times : List ℕ) → length times ≡ floor * floors → 0 < floors → length times / floors ≡ floor
 at_floor floor floors times size some = ap (λ k. k / floors) size ∙ mul-div_cancel floor some
 
--- what is read where so many floors are left behind this one
+-- what is read where this many floors are left behind this one
 rows_read : (left floor : ℕ) (d : Draft) (lines : List Line) (end : Draft) → 0 < length d.heights → floor + suc left ≡ length d.heights → length d.times ≡ floor * length d.heights → Reads (record d { due = Times }) lines end
     → RowsRead floor d lines end
 rows_read zero floor d lines end some floors size reads =

@@ -44,7 +44,7 @@ unfoldable pub set_of : ℕ → List ℕ → Option ℕ
 set_of set [] = Some set
 set_of set (f ∷ fs) = if nat_lt f 64 && nat_lt (set + 2 ^ f) (2 ^ 64) then set_of (set + 2 ^ f) fs else None
 
--- the set of served floors of a building with so many floors
+-- the set of served floors of a building with this many floors
 abbrev pub served_of : ℕ → Line → Judged (Option ℕ)
 served_of floors words =
     if is_word words 7 (codes "all") then Ok (Some (2 ^ floors - 1))
@@ -58,7 +58,7 @@ faultless car (Some fault) = Err (Item fault)
 abbrev pub with_floors : CarSpec → ℕ → CarSpec
 with_floors car set = record car { serves = set }
 
--- a car after those before it, judged in a building with so many floors and at most so many cars
+-- a car after those before it, judged in a building with this many floors and at most this many cars
 abbrev pub judged_car : (floors most : ℕ) → List CarSpec → CarSpec → Option ℕ → Judged CarSpec
 judged_car floors most before car (Some set) = faultless (with_floors car set) (fault_of_spec floors most before (with_floors car set))
 judged_car floors most before car None =

@@ -80,7 +80,7 @@ sum_below-times (suc n) f g times h =
     let e : times * (sum_below n g + g n) ≡ times * sum_below n g + times * g n = omega arith in
     omega (arith, r, here, e)
 
--- a sum of values each of which is so many times another at most, over fewer numbers
+-- a sum of values, each at most this many times another, over fewer numbers
 pub sum_where-times : (n : ℕ) (t u : ℕ → Bool) (f g : ℕ → ℕ) (times : ℕ) → ((k : ℕ) → k < n → t k ≡ true → u k ≡ true) → ((k : ℕ) → k < n → t k ≡ true → f k ≤ times * g k) → sum_where n t f ≤ times * sum_where n u g
 sum_where-times n t u f g times less h =
     sum_below-times n (λ k. cond (t k) (f k) 0) (λ k. cond (u k) (g k) 0) times (λ k b. cond_times (t k) (u k) (f k) (g k) times (less k b) (h k b))

@@ -21,7 +21,7 @@ ends_at s g j = nat_lt j (call_count s) && ((call_of s j).destination == g)
 abbrev pub is_earlier : Snapshot → (k j : ℕ) → Bool
 is_earlier s k j = nat_lt j (call_count s) && is_later_in_queue (call_of s k) (call_of s j)
 
--- call j has at most so many persons
+-- call j has at most this many persons
 abbrev pub fits_in : Snapshot → (room j : ℕ) → Bool
 fits_in s room j = nat_lt j (call_count s) && nat_le (call_of s j).persons room
 

@@ -48,7 +48,7 @@ fn car_of(floors: u32, car: u32) -> CarSpec
     }
 }
 
-/// So many cars.
+/// This many cars.
 fn cars_of(alloc: Global, floors: u32, cars: u32) -> Result<Vec<CarSpec>, AllocError>
     requires { floors ≤ 64 }
     ensures { IfOk result (λ specs. specs.items ≡ map (case_car floors) (range_with_len 0 cars)) }

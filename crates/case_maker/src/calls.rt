@@ -38,7 +38,7 @@ fn call_of(draws: &mut Draws, floors: u32, id: u32) -> Call
     }
 }
 
-/// So many calls, with the ids from 1 on.
+/// This many calls, with the ids from 1 on.
 pub(crate) fn calls_of(
     alloc: Global,
     draws: &mut Draws,

@@ -98,7 +98,7 @@ abbrev pub leaves_of : Twig → ℕ
 leaves_of (Split j part) = 0
 leaves_of (Tip leaf) = 1
 
--- a leaf has at most so many prices and worths
+-- a leaf has at most as many prices and worths as there are calls and cars
 abbrev pub HasAtMost : (prices worths : ℕ) → Twig → Type 0
 HasAtMost prices worths (Split j part) = Unit {0}
 HasAtMost prices worths (Tip leaf) = (length leaf.prices ≤ prices) × (length leaf.worths ≤ worths)

@@ -10,7 +10,7 @@ use Rattle.search_model.specs.declared.Twig.{Twig}
 use Rattle.search_model.specs.declared.Twig.TheVariants.{Split, Leaf as Tip}
 use Rattle.search_model.specs.Certificates.{is_whole}
 
--- how many places are open after these twigs, of so many before them: a split fills one and opens two, a leaf
+-- how many places are open after these twigs, of this many before them: a split fills one and opens two, a leaf
 -- fills one
 abbrev pub places_left : ℕ → List Twig → Option ℕ
 places_left places [] = Some places

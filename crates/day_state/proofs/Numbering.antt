@@ -43,7 +43,7 @@ length-passing t (suc n) =
     let e : length (passing t n) + length (cond (t n) (n ∷ []) []) ≡ rank t n + cond (t n) 1 0 = omega (arith, last, before) in
     ap length (passing-more t n) ∙ joined ∙ e
 
--- the number at a place is the one that so many pass before
+-- the number at a place is the one before which this many pass
 pub record IsPassing (t : ℕ → Bool) (n j x : ℕ) : Type 0 where
   pub below : x < n
   pub passes : t x ≡ true

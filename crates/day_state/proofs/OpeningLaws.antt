@@ -49,7 +49,7 @@ pub least-found : (n : ℕ) (t : ℕ → Bool) (f : ℕ → ℕ) → any_below n
 least-found zero t f h = absurd (false≢true h)
 least-found (suc n) t f h = least-step n t f (least-found n t f) (t n) (any_below n t) refl refl h
 
--- so many floors ahead is that floor
+-- the floor that is this many floors ahead
 ahead-there : (up : Bool) (from k : ℕ) → cond up (ltb from k) (ltb k from) ≡ true → cond up (from + difference from k) (from - difference from k) ≡ k
 ahead-there true from k h = let lt = ltb-true from k h in omega arith
 ahead-there false from k h = let lt = ltb-true k from h in omega arith

@@ -9,7 +9,7 @@ use Rattle.search_model.specs.Advancing.{World, done_by, progress_at, riders_aft
 use Rattle.day_state.specs.declared.rides.Reached.{Reached}
 use Rattle.day_state.specs.Riding.{Rides}
 
--- The car has done so many stops by the moment t, and is where they lead.
+-- The car has done this many stops by the moment t, and is where they lead.
 pub record IsReached (w : World) (t c : ℕ) (reached : Reached) : Type 0 where
   pub done : reached.done ≡ length (done_by w t c)
   pub within : reached.done ≤ length (tour_of w.plan c)

@@ -177,7 +177,7 @@ impl<'a> Moving<'a> {
         Ok(true)
     }
 
-    /// Keeps the drafts that were tried, which cost so much.
+    /// Keeps the drafts that were tried, with their cost.
     fn keep(&mut self, cost: u64) -> Result<(), AllocError> {
         let tried = self.tried.as_slice();
         copy_drafts(self.kept.as_mut_slice(), tried, self.changed)?;

@@ -275,7 +275,7 @@ fits_128 (negsuc n) low high = record { sfits = omega (arith, ints, low) }
 pub stored : (z : ℤ) → neg_ℤ (pos (10 ^ 30)) ≤ℤ z → z ≤ℤ pos (10 ^ 30) → to_z w128 (of_z w128 z) ≡ z
 stored z low high = to_z-of_z w128 z (fits_128 z low high)
 
--- the sum of the first k items, of which each is of absolute value at most so much
+-- the sum of the first k items, each of an absolute value of at most this
 pub record SumsTo {X : Type 0} (f : X → ℤ) (xs : List X) (most k : ℕ) (sum : ℤ) : Type 0 where
   pub sum_is : sum ≡ int_sum_by f (take k xs)
   pub low : neg_ℤ (pos (most * k)) ≤ℤ sum

@@ -64,7 +64,7 @@ end_shows_first current unread left (inr (inr long)) = inr (inr (long_first (cur
     long_first [] none long = absurd (omega arith)
     long_first (x ∷ bytes) none long = omega (arith, ap (λ l. length (get_or l 0 [])) (pieces_of-last x bytes none))
 
--- the line behind so many lines
+-- the line behind this many lines
 pub end_shows_behind : (front current unread : List ℕ) (count : ℕ) (left : Option (List ℕ)) → AreLines front count ⊎ IsAtEnd left
     → IsWholeLine current ⊎ (IsAtEnd left ⊎ (NoLineFeed (current ++ unread) × (4097 < length (current ++ unread))))
     → EndShows (get_or (pieces_of (front ++ (current ++ unread))) count []) left

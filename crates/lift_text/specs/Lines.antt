@@ -12,7 +12,7 @@ pieces_of (b ∷ bs) = if b == 10 then (b ∷ []) ∷ pieces_of bs else onto_fir
 abbrev pub HasWholeLine : List ℕ → Type 0
 HasWholeLine bytes = Contains bytes 10
 
--- so many whole lines
+-- this many whole lines
 abbrev pub AreLines : List ℕ → ℕ → Type 0
 AreLines front count = (tail : List ℕ) → drop count (pieces_of (front ++ tail)) ≡ pieces_of tail
 

@@ -156,7 +156,7 @@ abbrev pub Continues : Option TextState → Option TextState → Type 0
 Continues None after = Unit {0}
 Continues (Some before) after = IsSomeAnd after (λ text. (reading before ≡ reading text) × Passed before text)
 
--- from one state to a later one, over so many lines: the bytes that were taken, and those that were passed
+-- from one state to a later one, over this many lines: the bytes that were taken, and those that were passed
 -- over, which are whole lines where the source is not at its end
 pub record Crossed (old new : PageState) (left left' : Option (List ℕ)) : Type 0 where
   pub taken : List ℕ

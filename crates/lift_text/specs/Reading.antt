@@ -36,7 +36,7 @@ judged line text after =
 abbrev pub cut_short : ℕ → ℕ → Reading
 cut_short line limit = if nat_lt (line_limit + 1) limit then bad_line line OverLong else past_limit
 
--- what is read of lines with their ends, after so many lines, where at most `limit` bytes may be read
+-- what is read of lines with their ends, after this many lines, where at most `limit` bytes may be read
 abbrev pub reading_of : ℕ → ℕ → List (List ℕ) → Reading
 reading_of line limit [] = finished line
 reading_of line limit (piece ∷ pieces) =
@@ -137,7 +137,7 @@ abbrev pub EndShows : List ℕ → Option (List ℕ) → Type 0
 EndShows piece left = IsTrue (ends_with_byte 10 piece) ⊎ (IsAtEnd left ⊎ (line_limit + 1 < length piece))
 
 -- where the answer is the first error and says that a line is bad, that line's end shows in the bytes that
--- were taken behind so many lines; `left` is what the source has left behind them
+-- were taken behind this many lines; `left` is what the source has left behind them
 abbrev pub BadLineShows : Option TextFault → Result Bool TextFault → ℕ → List ℕ → Option (List ℕ) → Type 0
 BadLineShows None (Ok answer) lines bytes left = Unit {0}
 BadLineShows None (Err (Bad number code)) lines bytes left = (lines < number) × EndShows (slice_index_or (pieces_of bytes) (number - (lines + 1)) []) left

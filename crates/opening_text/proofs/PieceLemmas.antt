@@ -21,7 +21,7 @@ joined_again (b ∷ bytes) = at (joined_again bytes) (eqb b 10)
 pub same_bytes : (xs ys : List ℕ) → pieces_of xs ≡ pieces_of ys → xs ≡ ys
 same_bytes xs ys same = sym (joined_again xs) ∙ ap concat same ∙ joined_again ys
 
--- behind a line so much less may be read
+-- behind a line as many bytes less may be read as it has
 pub limit_behind : (before now : TextState) (piece : List ℕ) → pieces_of before.bytes ≡ piece ∷ pieces_of now.bytes → Passed before now → now.limit ≡ before.limit - length piece
 limit_behind before now piece pieces passed =
     let bytes : before.bytes ≡ piece ++ now.bytes = sym (joined_again before.bytes) ∙ ap concat pieces ∙ ap (λ (xs : List ℕ). piece ++ xs) (joined_again now.bytes) in

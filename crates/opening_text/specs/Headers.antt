@@ -28,7 +28,7 @@ pub record IsBehindPiece (line limit : ℕ) (piece : List ℕ) (pieces : List (L
   pub limit_is : behind.limit ≡ limit - length piece
   pub pieces_are : pieces_of behind.bytes ≡ pieces
 
--- Of the lines with their ends, after so many others, where at most `limit` bytes may be read, the first that is not
+-- Of the lines with their ends, after this many others, where at most `limit` bytes may be read, the first that is not
 -- empty is the header, and the text goes on right behind it.
 abbrev pub HeaderFirst : (line limit : ℕ) → List (List ℕ) → TextState → Type 0
 HeaderFirst line limit [] behind = ⊥

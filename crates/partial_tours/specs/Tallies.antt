@@ -25,7 +25,7 @@ pub record IsPunctual (s : Snapshot) (c : ℕ) (p : Progress) : Type 0 where
   pub floor : p.begun ≡ false → p.floor ≡ floor_of (state_of s c)
   pub leaves : p.begun ≡ false → p.leaves ≡ moment_of (state_of s c)
 
--- the tally stands for where so many moves lead
+-- the tally stands for where the first moves, this many, lead
 pub record IsTally (s : Snapshot) (c count : ℕ) (tally : Tally) (x : Course) : Type 0 where
   pub counts : Counts s c tally (reached s c x)
   pub timely : tally.opened ≤ tally.leaves

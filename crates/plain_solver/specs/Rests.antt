@@ -64,7 +64,7 @@ abbrev pub AreChoicesFrom : Snapshot → ℕ → List Choices → Type 0
 AreChoicesFrom s c [] = c ≡ car_count s
 AreChoicesFrom s c (x ∷ choices) = (c < car_count s) × AreChoices s c x.tours.items x.sums.items × AreChoicesFrom s (c + 1) choices
 
--- the tours of so many cars cost at most 10^18 each
+-- the tours of this many cars cost at most 10^18 each
 abbrev pub IsSmallCost : ℕ → Option Chosen → Type 0
 IsSmallCost cars None = Unit {0}
 IsSmallCost cars (Some x) = x.cost ≤ 1000000000000000000 * cars

@@ -107,7 +107,7 @@ impl Rest {
         tours
     }
 
-    /// The tours with one before them that costs so much.
+    /// The tours with one before them, which has this cost.
     fn with(self, tour: Tour, cost: u64) -> Result<Self, AllocError>
         requires { cost + self.cost < 2 ^ 64 }
         ensures { IfOk result (λ rest. rest ≡ begun_with tour cost self) }

@@ -142,7 +142,7 @@ price_read s rates j rate h lt is =
 pub rate_read : (s : Snapshot) (rates : List Rate) (j : ℕ) (rate : Rate) → AreRates s rates → j < call_count s → rate ≡ get_or rates j rate → IsRate s j rate
 rate_read s rates j rate h lt is = subst (IsRate s j) (sym is) (h.each j rate lt)
 
--- so many rates
+-- this many rates
 pub record AreFirstRates (s : Snapshot) (n : ℕ) (rates : List Rate) : Type 0 where
   pub size : length rates ≡ n
   pub each : (j : ℕ) (d : Rate) → j < n → IsRate s j (get_or rates j d)

@@ -42,7 +42,7 @@ pub struct Sums {
 }
 
 impl Sums {
-    /// A call boards that adds so much to the bound, at this price, and these wait.
+    /// A call boards that adds this to the bound, at this price, and these wait.
     fn with_board(&self, more: i128, price: i128, waiting: Waiting) -> Sums
         requires bound { IsBoundSize self.now.bound }
         requires paid { IsPriceSum self.now.paid }

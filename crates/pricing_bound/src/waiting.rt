@@ -87,7 +87,7 @@ impl Waiting {
         }
     }
 
-    /// Without a call that adds so much and grows by so much.
+    /// Without a call that adds this to the sum and this to its growth.
     pub(crate) fn without(&self, call: u32, term: i128, slope: u64) -> Waiting
         requires less { slope ≤ self.now.growth.slope }
         requires low { neg_ℤ (pos (256 * 10 ^ 24)) ≤ℤ self.now.sum }

@@ -40,7 +40,7 @@ all_from P c (x ∷ choices) each =
       all_from P (c + 1) choices (λ i d lt. let on : c + suc i ≡ c + 1 + i = omega arith in subst (λ (k : ℕ). P k (get_or choices i d)) on (each (suc i) d (omega (arith, lt)))),
     )
 
--- the tours of so many cars from one on
+-- the tours of this many cars from one on
 tours_from : (ℕ → List Stop) → ℕ → List CarChoice → List (List Stop)
 tours_from tour c [] = []
 tours_from tour c (x ∷ choices) = tour c ∷ tours_from tour (c + 1) choices

@@ -60,7 +60,7 @@ abbrev pub excess_sum : ℕ → List CarChoice → (pick : ℕ → ℕ) → ℤ
 excess_sum c [] pick = pos 0
 excess_sum c (x ∷ cars) pick = (candidate_at x.candidates.items (pick c)).excess +ℤ excess_sum (c + 1) cars pick
 
--- Whatever completes what is taken costs at least so many thousandths, and its excess more.
+-- Whatever completes what is taken costs at least this many thousandths, and its excess more.
 abbrev pub IsBound : (all taken : ℕ → Bool) → ℕ → List CarChoice → ℤ → Type 0
 IsBound all taken c cars bound = (pick : ℕ → ℕ) → Completes all taken c cars pick → (bound +ℤ excess_sum c cars pick) ≤ℤ scaled (picked_cost c cars pick)
 

@@ -39,7 +39,7 @@ line_rises (piece ∷ pieces) n limit m words rest is = by_case (λ e. line_rise
 
 -- ---- from line to line
 
--- so many lines were read, where the source tells what it has left
+-- this many lines were read, where the source tells what it has left
 abbrev pub Counted : Option TextState → ℕ → Option TextState → Type 0
 Counted None count now = Unit {0}
 Counted (Some text) count now = IfSome now (λ here. count ≤ here.line)

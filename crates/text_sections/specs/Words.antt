@@ -15,15 +15,15 @@ word_at words k = slice_index_or words k []
 abbrev pub is_word : List (List ℕ) → ℕ → List ℕ → Bool
 is_word words k text = bytes_eq (word_at words k) text
 
--- there are at least so many words
+-- there are at least this many words
 abbrev pub at_least : List (List ℕ) → ℕ → Judged Unit
 at_least words count = if nat_lt (length words) count then Err Missing else Ok tt
 
--- there are at most so many words
+-- there are at most this many words
 abbrev pub at_most : List (List ℕ) → ℕ → Judged Unit
 at_most words count = if nat_lt count (length words) then Err TooMany else Ok tt
 
--- there are exactly so many words
+-- there are exactly this many words
 abbrev pub exactly : List (List ℕ) → ℕ → Judged Unit
 exactly words count = at_least words count >>= λ _. at_most words count
 

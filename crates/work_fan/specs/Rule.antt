@@ -10,7 +10,7 @@ use Rattle.work_fan.specs.Line.{times, times_below, past, EachOnce}
 abbrev pub share : List ℕ → ℕ → Share
 share drawn allowance = record { drawn = drawn; allowance = allowance }
 
--- each share fits its allowance: it has drawn at most so many numbers at or past the count, and none where it has no allowance
+-- each share fits its allowance: it has drawn at most that many numbers at or past the count, and none where it has no allowance
 abbrev pub Fitting : ℕ → List Share → Type 0
 Fitting count shares =
     (id : ℕ) (s : Share)

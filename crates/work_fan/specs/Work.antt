@@ -13,7 +13,7 @@ module _ {A : Type 0} where
   abbrev pub jobs_of : List (Done A) → List ℕ
   jobs_of done = map (λ (d : Done A). d.job) done
 
-  -- the worker draws from this line, stands for so many workers, and has drawn and done nothing
+  -- the worker draws from this line, stands for this many workers, and has drawn and done nothing
   abbrev pub Starts : LineView → ℕ → Worker A → Type 0
   Starts line allowance worker =
       (worker.seat.line ≡ line.name)
