@@ -53,6 +53,10 @@ pub record IsDeskOf (s : Snapshot) (prefix : PartialTour) (rates : Rated) (found
 
 -- ---- pricings
 
+-- the completion bound of the car's empty partial tour in the node
+abbrev pub bound_of_empty : Snapshot → Node → ℕ → List ℤ → ℤ
+bound_of_empty s node c prices = completion_bound s c (price_at prices) (allows node c) (requires_of node c) (course_start s c)
+
 -- The answer of a pricing of a car in a node, with the moves found.
 pub record IsPriced (s : Snapshot) (node : Node) (c : ℕ) (prices : List ℤ) (most : ℕ) (found : List Move) (has_priced : Bool) (answer : Priced) : Type 0 where
   pub held : HoldsPricing s found has_priced (record { car = c; node = node; prices = prices; answer = answer })
@@ -63,4 +67,4 @@ pub record IsPriced (s : Snapshot) (node : Node) (c : ℕ) (prices : List ℤ) (
   pub exact : answer.spent ≡ false → ReachesLeast s node c (price_at prices) answer.worth
   pub spent : answer.spent ≡ true → (answer.visits ≡ most) × HasPartialTours s node c most
   -- the worth is no less than the completion bound of the empty partial tour
-  pub least : completion_bound s c (price_at prices) (allows node c) (requires_of node c) (course_start s c) ≤ℤ answer.worth
+  pub least : bound_of_empty s node c prices ≤ℤ answer.worth

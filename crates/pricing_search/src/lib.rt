@@ -4,7 +4,8 @@
 //!
 //! - `Searcher` is a `Pricer`: the worth is the least value of the car's tours in the node where the limit
 //!   was not reached, and else one that none of them undercuts. It is spent only where the visits are the
-//!   limit and the car has that many partial tours. `price` takes no memory.
+//!   limit and the car has that many partial tours. `price` takes no memory, and says beside that the worth
+//!   is never less than the completion bound of the empty partial tour (`bound_of_empty`).
 //!
 //! First a dive goes from each partial tour to the follower that promises most, to a first tour (`dive`;
 //! there always is a follower, by `step_forth`). Then `visit` walks depth first in the order of moves and

@@ -1,10 +1,12 @@
 //! Searchers and their desks.
 
-ghost use Rattle.std.specs.Prelude.{◌≡◌, ◌<◌, ◌≤◌, ◌^◌, length};
+ghost use Rattle.std.specs.Prelude.{◌≡◌, ◌<◌, ◌≤◌, ◌^◌, ◌≤ℤ◌, false, length, true};
 ghost use Rattle.elevator_model.specs.Snapshot.{car_count, call_count};
 ghost use Rattle.search_model.specs.Nodes.{IsNodeOf};
-ghost use Rattle.search_model.specs.Prices.{price_at};
-ghost use Rattle.pricing_search.specs.Searches.{HoldsPricing, IsDeskOf, IsPriced};
+ghost use Rattle.search_model.specs.Prices.{IsWorth, price_at};
+ghost use Rattle.search_model.specs.Solving.{HasPartialTours, ReachesLeast};
+ghost use Rattle.assign_branch.specs.Pricings.{IsWorthSize};
+ghost use Rattle.pricing_search.specs.Searches.{HoldsPricing, IsDeskOf, IsPriced, bound_of_empty};
 
 use crate::progress::Progress;
 use crate::search::search;
@@ -42,8 +44,7 @@ impl<'a> Searcher<'a> {
         Searcher { snapshot }
     }
 
-    /// What `price` does. Beside what a pricer promises, the worth is no less than the completion bound of
-    /// the empty partial tour.
+    /// What `price` does.
     fn price_car(
         &self,
         car: u32,
@@ -96,6 +97,8 @@ impl<'a> Pricer for Searcher<'a> {
         })
     }
 
+    /// Beside what every pricer promises, the worth, whether the limit was reached or not, is no less than
+    /// the completion bound of the empty partial tour (`bound`).
     fn price(
         &self,
         car: u32,
@@ -103,7 +106,26 @@ impl<'a> Pricer for Searcher<'a> {
         prices: &[Price],
         limit: u64,
         desk: &mut Desk<'a>,
-    ) -> Priced {
+    ) -> Priced
+        requires own { IsDeskOf self.now.snapshot.now desk.old.prefix desk.old.rates
+            desk.old.progress.found desk.old.has_priced }
+        requires car { car < car_count self.now.snapshot.now }
+        requires node { IsNodeOf self.now.snapshot.now node.now }
+        requires prices { length prices.now ≡ call_count self.now.snapshot.now }
+        requires limit { (1 ≤ limit) × (limit ≤ 10 ^ 18) }
+        ensures own { IsDeskOf self.now.snapshot.now desk.new.prefix desk.new.rates
+            desk.new.progress.found desk.new.has_priced }
+        ensures held { HoldsPricing self.now.snapshot.now desk.new.progress.found desk.new.has_priced
+            (record { car = car; node = node.now; prices = prices.now; answer = result }) }
+        ensures worth { IsWorth self.now.snapshot.now node.now car (price_at prices.now) result.worth }
+        ensures size { IsWorthSize result.worth }
+        ensures visits { (1 ≤ result.visits) × (result.visits ≤ limit) }
+        ensures least { result.spent ≡ false
+            → ReachesLeast self.now.snapshot.now node.now car (price_at prices.now) result.worth }
+        ensures spent { result.spent ≡ true
+            → (result.visits ≡ limit) × HasPartialTours self.now.snapshot.now node.now car limit }
+        ensures bound { bound_of_empty self.now.snapshot.now node.now car prices.now ≤ℤ result.worth }
+    {
         self.price_car(car, node, prices, limit, desk)
     }
 
