@@ -1,5 +1,5 @@
 -- How `day` and `report` end, from what became of the text and what was put.
-use Rattle.std.proofs.Common.{rules, ◌≡◌, ℕ, zero, suc, ◌≤◌, List, refl, sym, subst, ap, ◌∙◌, inl, inr, arith, Option, Ok, Err}
+use Rattle.std.proofs.Common.{rules, ◌≡◌, ℕ, zero, suc, ◌≤◌, List, refl, sym, subst, ap, ◌∙◌, inl, inr, arith, Option, None, Ok, Err}
 use Rattle.std.specs.Prelude.{IsSomeAnd, option_map, take}
 use Rattle.std.specs.Io.KnownBytes.{append_known}
 use Rattle.byte_streams.specs.Streams.{Rose}
@@ -22,6 +22,7 @@ use Rattle.command_ends.specs.declared.status.Status.TheVariants.{Done, Stopped,
 use Rattle.command_ends.specs.Ends.{Streams, Puts, PutsFault, PutsRefusal, IsRefusalLine}
 use Rattle.command_ends.proofs.EndLemmas.{ends_fault, ends_put, put_whole}
 use Rattle.lift_commands.specs.DayOutcome.{RanBy, ToldBy, DayDone, DayEnds, PutsRowsFault, ReportDue, ReportsDay, RunsDay, status_of_unsolved}
+use Rattle.lift_commands.proofs.EnoughRows.{stopped-day}
 use Rattle.lift_commands.proofs.Outcomes.{ran_out_of_memory}
 
 abbrev BeginsDay : Streams → Type 0
@@ -35,7 +36,7 @@ day-done-at options old new (suc n) done = record { ends = done; completes = λ 
 
 pub day-done : (options : DayOptions) (old new : Streams) (ended : Ended) (result : Status) → result ≡ status_of_unsolved ended.unsolved → RanBy options old new new.taken (Ok ended) → RunsDay options old new result
 day-done options old new ended result is ran =
-    subst (RunsDay options old new) (sym is) (day-done-at options old new ended.unsolved (record { ended = ended; ran = ran; status_is = refl }))
+    subst (RunsDay options old new) (sym is) (day-done-at options old new ended.unsolved (record { ended = ended; ran = ran; status_is = refl; stopped = λ is. stopped-day options (option_map whole_text old.left) new.left old.taken new.taken ended ran is }))
 
 day-short : (options : DayOptions) (old new : Streams) (result : Status) → result ≡ Memory → DayEnds options old new Memory → RunsDay options old new result
 day-short options old new result is ends = subst (RunsDay options old new) (sym is) (record { ends = ends; completes = λ begins reads writes. inr (inr refl) })
@@ -93,8 +94,10 @@ report-put-at options old new (suc n) result text due put =
     record { ends = ends_put (ReportDue options old.left new.left) old new text Stopped result due (λ wrote. wrote) put; completes = λ begins reads writes. inr (inl (put_whole text Stopped result old.taken new.taken old.write_faults new.write_faults put writes)) }
 
 due-at : (options : DayOptions) (left left' : Option (List ℕ)) (ended : Ended) (text : List ℕ) (n : ℕ) → n ≡ ended.unsolved → ToldBy options left left' (Ok ended) → text ≡ report_text (report_of ended.served.items) → ReportDue options left left' (status_of_unsolved n) text
-due-at options left left' ended text zero is ran says = record { ended = ended; ran = ran; status_is = ap status_of_unsolved is; is_text = says }
-due-at options left left' ended text (suc n) is ran says = record { ended = ended; ran = ran; status_is = ap status_of_unsolved is; is_text = says }
+due-at options left left' ended text zero is ran says =
+    record { ended = ended; ran = ran; status_is = ap status_of_unsolved is; stopped = λ e. stopped-day options (option_map whole_text left) left' None None ended ran (sym (ap status_of_unsolved is) ∙ e); is_text = says }
+due-at options left left' ended text (suc n) is ran says =
+    record { ended = ended; ran = ran; status_is = ap status_of_unsolved is; stopped = λ e. stopped-day options (option_map whole_text left) left' None None ended ran (sym (ap status_of_unsolved is) ∙ e); is_text = says }
 
 pub report-done : (options : DayOptions) (old new : Streams) (ended : Ended) (status result : Status) (text : List ℕ) → status ≡ status_of_unsolved ended.unsolved → ToldBy options old.left new.left (Ok ended) → text ≡ report_text (report_of ended.served.items) → Puts text status result old.taken new.taken old.write_faults new.write_faults → ReportsDay options old new result
 report-done options old new ended status result text is ran says put =

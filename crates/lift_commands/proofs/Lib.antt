@@ -9,4 +9,5 @@ pub mod Printed
 pub mod Enough
 pub mod Verdicts
 pub mod SolvedRows
+pub mod EnoughRows
 pub mod DayOutcomes
