@@ -10,4 +10,5 @@ pub mod Enough
 pub mod Verdicts
 pub mod SolvedRows
 pub mod EnoughRows
+pub mod KeptRows
 pub mod DayOutcomes
