@@ -1,5 +1,5 @@
 -- How `day` and `report` end, from what became of the text and what was put.
-use Rattle.std.proofs.Common.{rules, ◌≡◌, ℕ, zero, suc, ◌≤◌, List, refl, sym, subst, ap, ◌∙◌, inl, inr, arith, Option, Ok, Err}
+use Rattle.std.proofs.Common.{rules, ◌≡◌, ℕ, zero, suc, ◌≤◌, List, refl, sym, subst, ap, ◌∙◌, inl, inr, arith, Option, None, Result, Ok, Err}
 use Rattle.std.specs.Prelude.{IsSomeAnd, option_map, take}
 use Rattle.std.specs.Io.KnownBytes.{append_known}
 use Rattle.byte_streams.specs.Streams.{Rose}
@@ -9,7 +9,7 @@ use Rattle.lift_text.specs.declared.faults.TextFault.TheVariants.{Read as Failed
 use Rattle.opening_text.specs.DayOpenings.{IsDayOpeningRefused}
 use Rattle.search_model.specs.Reports.{report_of}
 use Rattle.service_report.specs.ReportTexts.{report_text}
-use Rattle.day_runner.specs.Inputs.{IsDayText}
+use Rattle.day_runner.specs.Inputs.{DayRan, IsDayText}
 use Rattle.day_runner.specs.declared.days.Ended.{Ended}
 use Rattle.day_runner.specs.declared.rows.RunFault.{RunFault}
 use Rattle.day_runner.specs.declared.rows.RunFault.TheVariants.{TooLong, Read as RowsUnread, Write as RowsUnwritten, NoMemory}
@@ -21,11 +21,17 @@ use Rattle.command_ends.specs.declared.status.Status.{Status}
 use Rattle.command_ends.specs.declared.status.Status.TheVariants.{Done, Stopped, Input, Memory}
 use Rattle.command_ends.specs.Ends.{Streams, Puts, PutsFault, PutsRefusal, IsRefusalLine}
 use Rattle.command_ends.proofs.EndLemmas.{ends_fault, ends_put, put_whole}
-use Rattle.lift_commands.specs.DayOutcome.{RanBy, ToldBy, DayDone, DayEnds, PutsRowsFault, ReportDue, ReportsDay, RunsDay, status_of_unsolved}
+use Rattle.lift_commands.specs.DayOutcome.{IsSolvedRow, RanBy, ToldBy, DayDone, DayEnds, PutsRowsFault, ReportDue, ReportsDay, RunsDay, status_of_unsolved}
+use Rattle.lift_commands.proofs.EnoughRows.{stopped-day}
+use Rattle.lift_commands.proofs.KeptRows.{ran-within}
 use Rattle.lift_commands.proofs.Outcomes.{ran_out_of_memory}
 
 abbrev BeginsDay : Streams → Type 0
 BeginsDay old = IsSomeAnd (option_map whole_text old.left) IsDayText
+
+-- a day was run, with what is right at each row
+abbrev RanRight : DayOptions → (left left' taken taken' : Option (List ℕ)) → Result Ended RunFault → Type 0
+RanRight options left left' taken taken' result = DayRan (IsSolvedRow options) (option_map whole_text left) left' taken taken' result
 
 -- ---- `day`
 
@@ -33,9 +39,9 @@ day-done-at : (options : DayOptions) (old new : Streams) (n : ℕ) → DayDone o
 day-done-at options old new zero done = record { ends = done; completes = λ begins reads writes. inl refl }
 day-done-at options old new (suc n) done = record { ends = done; completes = λ begins reads writes. inr (inl refl) }
 
-pub day-done : (options : DayOptions) (old new : Streams) (ended : Ended) (result : Status) → result ≡ status_of_unsolved ended.unsolved → RanBy options old new new.taken (Ok ended) → RunsDay options old new result
+pub day-done : (options : DayOptions) (old new : Streams) (ended : Ended) (result : Status) → result ≡ status_of_unsolved ended.unsolved → RanRight options old.left new.left old.taken new.taken (Ok ended) → RunsDay options old new result
 day-done options old new ended result is ran =
-    subst (RunsDay options old new) (sym is) (day-done-at options old new ended.unsolved (record { ended = ended; ran = ran; status_is = refl }))
+    subst (RunsDay options old new) (sym is) (day-done-at options old new ended.unsolved (record { ended = ended; ran = ran-within options old.left new.left old.taken new.taken (Ok ended) ran; status_is = refl; stopped = λ is. stopped-day options (option_map whole_text old.left) new.left old.taken new.taken ended ran is }))
 
 day-short : (options : DayOptions) (old new : Streams) (result : Status) → result ≡ Memory → DayEnds options old new Memory → RunsDay options old new result
 day-short options old new result is ends = subst (RunsDay options old new) (sym is) (record { ends = ends; completes = λ begins reads writes. inr (inr refl) })
@@ -72,17 +78,23 @@ day-cut options old new result mid before text counted ran never is_line (inr pu
 rose-after : (a b c : ℕ) → b ≤ c → Rose a b → Rose a c
 rose-after a b c more rose = search (rules, arith)
 
--- The rows were not run to their end.
-pub day-stopped : (options : DayOptions) (old new : Streams) (fault : RunFault) (result : Status) (mid : Option (List ℕ)) (before : ℕ) → old.write_faults ≤ before → before ≤ new.write_faults → RanBy options old new mid (Err fault) → (BeginsDay old → EndsUnlessFailed (Err (Rows fault)))
+-- the rows were not run to their end
+day-stopped-within : (options : DayOptions) (old new : Streams) (fault : RunFault) (result : Status) (mid : Option (List ℕ)) (before : ℕ) → old.write_faults ≤ before → before ≤ new.write_faults → RanBy options old new mid (Err fault) → (BeginsDay old → EndsUnlessFailed (Err (Rows fault)))
     → (fault ≡ RowsUnread → Rose old.read_faults new.read_faults) → (fault ≡ RowsUnwritten → Rose old.write_faults before) → PutsRowsFault fault result mid new.taken before new.write_faults → RunsDay options old new result
-day-stopped options old new TooLong result mid before counted later ran never read write line = day-cut options old new result mid before line.0 counted ran never line.1 line.2
-day-stopped options old new RowsUnread result mid before counted later ran never read write put =
+day-stopped-within options old new TooLong result mid before counted later ran never read write line = day-cut options old new result mid before line.0 counted ran never line.1 line.2
+day-stopped-within options old new RowsUnread result mid before counted later ran never read write put =
     subst (RunsDay options old new) (sym put.0) (record { ends = (read refl, inr (subst (λ (k : Option (List ℕ)). RanBy options old new k (Err RowsUnread)) (sym put.1) ran)); completes = λ begins reads writes. absurd (reads (read refl)) })
-day-stopped options old new RowsUnwritten result mid before counted later ran never read write put =
+day-stopped-within options old new RowsUnwritten result mid before counted later ran never read write put =
     let rose = rose-after old.write_faults before new.write_faults later (write refl) in
     subst (RunsDay options old new) (sym put.0) (record { ends = (rose, inr (inl (subst (λ (k : Option (List ℕ)). RanBy options old new k (Err RowsUnwritten)) (sym put.1) ran))); completes = λ begins reads writes. absurd (writes rose) })
-day-stopped options old new NoMemory result mid before counted later ran never read write put =
+day-stopped-within options old new NoMemory result mid before counted later ran never read write put =
     day-short options old new result put.0 (inr (subst (λ (k : Option (List ℕ)). RanBy options old new k (Err NoMemory)) (sym put.1) ran))
+
+-- The rows were not run to their end.
+pub day-stopped : (options : DayOptions) (old new : Streams) (fault : RunFault) (result : Status) (mid : Option (List ℕ)) (before : ℕ) → old.write_faults ≤ before → before ≤ new.write_faults → RanRight options old.left new.left old.taken mid (Err fault) → (BeginsDay old → EndsUnlessFailed (Err (Rows fault)))
+    → (fault ≡ RowsUnread → Rose old.read_faults new.read_faults) → (fault ≡ RowsUnwritten → Rose old.write_faults before) → PutsRowsFault fault result mid new.taken before new.write_faults → RunsDay options old new result
+day-stopped options old new fault result mid before counted later ran =
+    day-stopped-within options old new fault result mid before counted later (ran-within options old.left new.left old.taken mid (Err fault) ran)
 
 -- ---- `report`
 
@@ -93,12 +105,14 @@ report-put-at options old new (suc n) result text due put =
     record { ends = ends_put (ReportDue options old.left new.left) old new text Stopped result due (λ wrote. wrote) put; completes = λ begins reads writes. inr (inl (put_whole text Stopped result old.taken new.taken old.write_faults new.write_faults put writes)) }
 
 due-at : (options : DayOptions) (left left' : Option (List ℕ)) (ended : Ended) (text : List ℕ) (n : ℕ) → n ≡ ended.unsolved → ToldBy options left left' (Ok ended) → text ≡ report_text (report_of ended.served.items) → ReportDue options left left' (status_of_unsolved n) text
-due-at options left left' ended text zero is ran says = record { ended = ended; ran = ran; status_is = ap status_of_unsolved is; is_text = says }
-due-at options left left' ended text (suc n) is ran says = record { ended = ended; ran = ran; status_is = ap status_of_unsolved is; is_text = says }
+due-at options left left' ended text zero is ran says =
+    record { ended = ended; ran = ran; status_is = ap status_of_unsolved is; stopped = λ e. stopped-day options (option_map whole_text left) left' None None ended ran.ran (sym (ap status_of_unsolved is) ∙ e); is_text = says }
+due-at options left left' ended text (suc n) is ran says =
+    record { ended = ended; ran = ran; status_is = ap status_of_unsolved is; stopped = λ e. stopped-day options (option_map whole_text left) left' None None ended ran.ran (sym (ap status_of_unsolved is) ∙ e); is_text = says }
 
-pub report-done : (options : DayOptions) (old new : Streams) (ended : Ended) (status result : Status) (text : List ℕ) → status ≡ status_of_unsolved ended.unsolved → ToldBy options old.left new.left (Ok ended) → text ≡ report_text (report_of ended.served.items) → Puts text status result old.taken new.taken old.write_faults new.write_faults → ReportsDay options old new result
+pub report-done : (options : DayOptions) (old new : Streams) (ended : Ended) (status result : Status) (text : List ℕ) → status ≡ status_of_unsolved ended.unsolved → RanRight options old.left new.left None None (Ok ended) → text ≡ report_text (report_of ended.served.items) → Puts text status result old.taken new.taken old.write_faults new.write_faults → ReportsDay options old new result
 report-done options old new ended status result text is ran says put =
-    report-put-at options old new ended.unsolved result text (due-at options old.left new.left ended text ended.unsolved refl ran says) (subst (λ (s : Status). Puts text s result old.taken new.taken old.write_faults new.write_faults) is put)
+    report-put-at options old new ended.unsolved result text (due-at options old.left new.left ended text ended.unsolved refl (ran-within options old.left new.left None None (Ok ended) ran) says) (subst (λ (s : Status). Puts text s result old.taken new.taken old.write_faults new.write_faults) is put)
 
 pub report-short : (options : DayOptions) (old new : Streams) (result : Status) → result ≡ Memory → new.taken ≡ old.taken → ReportsDay options old new result
 report-short options old new result is same = subst (ReportsDay options old new) (sym is) (record { ends = same; completes = λ begins reads writes. inr (inr refl) })
@@ -113,16 +127,20 @@ report-unopened options old new fault result refused never rose put = record {
   completes = λ begins reads writes. inr (inr (ran_out_of_memory fault result old.taken new.taken old.write_faults new.write_faults put (never begins) (λ e. reads (rose e))));
 }
 
-pub report-stopped : (options : DayOptions) (old new : Streams) (fault : RunFault) (result : Status) → ToldBy options old.left new.left (Err fault) → (BeginsDay old → EndsUnlessFailed (Err (Rows fault))) → (fault ≡ RowsUnread → Rose old.read_faults new.read_faults) → (fault ≡ RowsUnwritten → ⊥)
+report-stopped-within : (options : DayOptions) (old new : Streams) (fault : RunFault) (result : Status) → ToldBy options old.left new.left (Err fault) → (BeginsDay old → EndsUnlessFailed (Err (Rows fault))) → (fault ≡ RowsUnread → Rose old.read_faults new.read_faults) → (fault ≡ RowsUnwritten → ⊥)
     → PutsRowsFault fault result old.taken new.taken old.write_faults new.write_faults → ReportsDay options old new result
-report-stopped options old new TooLong result ran never read write line = record {
+report-stopped-within options old new TooLong result ran never read write line = record {
   ends = ends_put (ReportDue options old.left new.left) old new line.0 Input result (inr (record { ran = ran; is_line = line.1 })) (λ wrote. wrote) line.2;
   completes = λ begins reads writes. absurd (never begins);
 }
-report-stopped options old new RowsUnread result ran never read write put =
+report-stopped-within options old new RowsUnread result ran never read write put =
     subst (ReportsDay options old new) (sym put.0) (record { ends = record { rose = read refl; unwritten = put.1 }; completes = λ begins reads writes. absurd (reads (read refl)) })
-report-stopped options old new RowsUnwritten result ran never read write put = absurd (write refl)
-report-stopped options old new NoMemory result ran never read write put = report-short options old new result put.0 put.1
+report-stopped-within options old new RowsUnwritten result ran never read write put = absurd (write refl)
+report-stopped-within options old new NoMemory result ran never read write put = report-short options old new result put.0 put.1
+
+pub report-stopped : (options : DayOptions) (old new : Streams) (fault : RunFault) (result : Status) → RanRight options old.left new.left None None (Err fault) → (BeginsDay old → EndsUnlessFailed (Err (Rows fault))) → (fault ≡ RowsUnread → Rose old.read_faults new.read_faults) → (fault ≡ RowsUnwritten → ⊥)
+    → PutsRowsFault fault result old.taken new.taken old.write_faults new.write_faults → ReportsDay options old new result
+report-stopped options old new fault result ran = report-stopped-within options old new fault result (ran-within options old.left new.left None None (Err fault) ran)
 
 -- a sink that counts no fault has none
 pub no-faults : Rose 0 0 → ⊥

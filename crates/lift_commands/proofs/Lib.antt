@@ -9,4 +9,6 @@ pub mod Printed
 pub mod Enough
 pub mod Verdicts
 pub mod SolvedRows
+pub mod EnoughRows
+pub mod KeptRows
 pub mod DayOutcomes

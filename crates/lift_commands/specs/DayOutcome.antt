@@ -1,9 +1,9 @@
 -- What `day` and `report` leave: what was read and written, and why it ended.
-use Rattle.std.specs.Prelude.{◌≡◌, ℕ, ◌≤◌, ◌⊎◌, List, [], length, take, zero, suc, Option, None, IsSomeAnd, option_map, Result, Ok, Err}
+use Rattle.std.specs.Prelude.{◌≡◌, ℕ, ◌≤◌, ◌⊎◌, List, [], length, take, zero, suc, Option, None, IfSome, IsSomeAnd, option_map, Result, Ok, Err}
 use Rattle.std.specs.Io.KnownBytes.{append_known}
 use Rattle.elevator_model.specs.Snapshot.{Snapshot, IsAccepted}
 use Rattle.byte_streams.specs.Streams.{Rose}
-use Rattle.lift_text.specs.Reading.{whole_text}
+use Rattle.lift_text.specs.Reading.{TextState, whole_text}
 use Rattle.lift_text.specs.declared.faults.TextFault.{TextFault}
 use Rattle.lift_text.specs.declared.faults.TextFault.TheVariants.{TooLong as LongText}
 use Rattle.opening_text.specs.DayOpenings.{IsDayOpeningRefused}
@@ -15,8 +15,10 @@ use Rattle.search_model.specs.declared.StopReason.TheVariants.{Solved}
 use Rattle.search_model.specs.Solving.{IsSolveAnswer}
 use Rattle.day_simulator.specs.Planning.{IsRightPlan}
 use Rattle.search_model.specs.Verdicts.{rounds_enough, moves_enough}
+use Rattle.search_model.specs.Days.{opening_day}
 use Rattle.search_model.specs.Reports.{report_of}
 use Rattle.service_report.specs.ReportTexts.{report_text}
+use Rattle.day_runner.specs.Runs.{rows_of}
 use Rattle.day_runner.specs.Inputs.{DayRan, IsDayText}
 use Rattle.day_runner.specs.declared.days.Ended.{Ended}
 use Rattle.day_runner.specs.declared.rows.RunFault.{RunFault}
@@ -27,6 +29,7 @@ use Rattle.lift_words.specs.declared.request.Request.TheVariants.{Day, Report}
 use Rattle.command_ends.specs.Ends.{Streams, Ends, Puts, IsRefusalLine}
 use Rattle.command_ends.specs.declared.status.Status.{Status}
 use Rattle.command_ends.specs.declared.status.Status.TheVariants.{Done, Words, Stopped, Refused, Input, Read, Write, Memory}
+use Rattle.lift_commands.specs.DayRows.{AreRowsKept, IsStoppedIn}
 
 -- ---- plans
 
@@ -42,11 +45,20 @@ pub record IsSolvedRow (options : DayOptions) (s : Snapshot) (stated : Stated) (
   pub answer : IsSolveAnswer s options.rounds options.moves stated.plan stated.cost stated.bound tree turns why
   pub enough : rounds_enough s ≤ options.rounds → moves_enough s ≤ options.moves → why ≡ Solved
 
+-- the limits are enough for a search of the snapshot
+pub record AreEnoughFor (options : DayOptions) (s : Snapshot) : Type 0 where
+  pub rounds : rounds_enough s ≤ options.rounds
+  pub moves : moves_enough s ≤ options.moves
+
 -- ---- days
 
 abbrev pub status_of_unsolved : ℕ → Status
 status_of_unsolved zero = Done
 status_of_unsolved (suc n) = Stopped
+
+-- Of the rows that were done one was accepted where the limits are not enough, and its bound is below its cost.
+abbrev pub IsDayStopped : {options : DayOptions} {before : Option TextState} {left taken taken' : Option (List ℕ)} {result : Result Ended RunFault} → DayRan (IsSolvedRow options) before left taken taken' result → Type 0
+IsDayStopped {options} ran = IsStoppedIn (IsSolvedRow options) (AreEnoughFor options) (opening_day ran.opening) (rows_of ran.ran.passed) ran.ran.day ran.ran.text
 
 -- ---- how they end
 
@@ -70,19 +82,26 @@ pub record IsNoDayLine (left : Option (List ℕ)) (text : List ℕ) : Type 0 whe
   pub is_line : IsRefusalLine fault text
   pub no_day : IsDayOpeningRefused (option_map whole_text left) fault
 
--- a day of `day` with the limits of the words
+-- A day was run with the limits of the words, and where the source tells what it has left, no accepted call is lost after
+-- any of the rows that were done.
+pub record RanWithin (options : DayOptions) (left left' taken taken' : Option (List ℕ)) (result : Result Ended RunFault) : Type 0 where
+  pub ran : DayRan (IsSolvedRow options) (option_map whole_text left) left' taken taken' result
+  pub kept : IfSome left (λ input. AreRowsKept (IsSolvedRow options) (opening_day ran.opening) (rows_of ran.ran.passed) ran.ran.day ran.ran.text)
+
+-- a day of `day`
 abbrev pub RanBy : DayOptions → (old new : Streams) → (taken' : Option (List ℕ)) → Result Ended RunFault → Type 0
-RanBy options old new taken' result = DayRan (IsSolvedRow options) (option_map whole_text old.left) new.left old.taken taken' result
+RanBy options old new taken' result = RanWithin options old.left new.left old.taken taken' result
 
 -- a day of `report`, which writes no log
 abbrev pub ToldBy : DayOptions → (left left' : Option (List ℕ)) → Result Ended RunFault → Type 0
-ToldBy options left left' result = DayRan (IsSolvedRow options) (option_map whole_text left) left' None None result
+ToldBy options left left' result = RanWithin options left left' None None result
 
 -- The day came to its end, and its log was written.
 pub record DayDone (options : DayOptions) (old new : Streams) (status : Status) : Type 0 where
   pub ended : Ended
   pub ran : RanBy options old new new.taken (Ok ended)
   pub status_is : status ≡ status_of_unsolved ended.unsolved
+  pub stopped : status ≡ Stopped → IsDayStopped ran.ran
 
 -- The rows that end within the most bytes were done and their lines of the log written; then the refusal line is due.
 pub record DayCut (options : DayOptions) (old new : Streams) (Then : (before after : Option (List ℕ)) → Type 0) : Type 0 where
@@ -108,6 +127,7 @@ pub record IsReport (options : DayOptions) (left left' : Option (List ℕ)) (sta
   pub ended : Ended
   pub ran : ToldBy options left left' (Ok ended)
   pub status_is : status ≡ status_of_unsolved ended.unsolved
+  pub stopped : status ≡ Stopped → IsDayStopped ran.ran
   pub is_text : text ≡ report_text (report_of ended.served.items)
 
 -- the refusal line of an input that is too long

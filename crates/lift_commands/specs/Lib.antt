@@ -1,3 +1,5 @@
 pub mod Outcome
 pub mod DayOutcome
+pub mod DayRows
 pub mod Further
+pub mod Unread

@@ -3,9 +3,10 @@
 //!
 //! # What is promised
 //!
-//! Eleven clauses of `run`, over the definitions in `specs/Outcome.antt`, `specs/DayOutcome.antt` and
-//! `specs/Further.antt`, and in `specs/Ends.antt` of `command_ends` and `specs/TableOutcome.antt` of
-//! `further_commands`. What they say of the input holds where the source tells what it has left.
+//! Twelve clauses of `run`, over the definitions in `specs/Outcome.antt`, `specs/DayOutcome.antt`,
+//! `specs/DayRows.antt`, `specs/Further.antt` and `specs/Unread.antt`, and in `specs/Ends.antt` of
+//! `command_ends` and `specs/TableOutcome.antt` of `further_commands`. What they say of the input holds where
+//! the source tells what it has left.
 //!
 //! **`solve`.** Status 0: the whole input was read and is the text of an accepted snapshot, and what was
 //! written is an **optimal** plan of it, its cost and an equal bound, for 1 to 16 workers, and without
@@ -28,12 +29,13 @@
 //! **`day`.** Where the input begins with a building, an opening snapshot of it and the header of rows, the
 //! rows after it are done and the log says so: each does exactly its step of the day, with a feasible plan,
 //! its cost and a bound that no feasible plan's cost is below where it is accepted, as a search within the
-//! limits answers them, for 1 to 16 workers; no accepted call is lost, and at the end each is delivered.
-//! Status 0: no accepted row has a bound below its cost; 3: some has. Status 5: the input does not begin so,
-//! and the line tells its first bad line with its one code; or its rows do not end within the limit, told
-//! after the log of those that do. Status 6: a read failed, and the rows done are those whose lines are whole
-//! among the bytes taken; 7: a write failed, and what was written is a beginning; 8: out of memory, and what
-//! was written is a beginning. Such an input that is not too long and no fault give status 0, 3 or 8.
+//! limits answers them, for 1 to 16 workers; after each row no accepted call is lost, and at the end each is
+//! delivered. Status 0: no accepted row has a bound below its cost; 3: some has, and there the limits are not
+//! enough for the state. Status 5: the input does not begin so, and the line tells its first bad line with its
+//! one code; or its rows do not end within the limit, told after the log of those that do. Status 6: a read
+//! failed, and the rows done are those whose lines are whole among the bytes taken; 7: a write failed, and
+//! what was written is a beginning; 8: out of memory, and what was written is a beginning. Such an input that
+//! is not too long and no fault give status 0, 3 or 8.
 //!
 //! **`report`.** Of the same day, and with the same statuses, the report of the definition over the served
 //! calls, and nothing else.
@@ -47,8 +49,9 @@
 //! status 0 exactly where they are equal, and then the cost is the least one; status 3 exactly where the
 //! bound is below the cost, never where the limits are enough; nothing is read.
 //!
-//! Status 2 comes exactly where the words are not taken, with the usage line, and nothing is read. Each other
-//! status comes exactly when it is due, and says what was written.
+//! Status 2 comes exactly where the words are not taken, with the usage line. Each other status comes exactly
+//! when it is due, and says what was written. By words that ask for no input, those of `make` and such as are
+//! not taken, the source is left as it was, whatever the status.
 //!
 //! # The clauses
 //!
@@ -78,15 +81,19 @@
 //!   are enough for the case.
 //! - `days`: by words of `day`, what was read, done and written with each status (`DayEnds`): with Done and
 //!   Stopped the log of the whole day, where a planner's plan is what a search within the limits answers
-//!   (`IsSolvedRow`), and Stopped exactly where an accepted row has a bound below its cost; with Input the
-//!   refusal line alone, or after the log of the rows that end within the limit; with Read, Write and Memory
-//!   which rows were done and how much of their log was written. And the day of an opening and rows comes to
-//!   its end unless the source or the sink fails or memory runs out (`Completes`).
+//!   (`IsSolvedRow`), and Stopped exactly where an accepted row has a bound below its cost; there the limits
+//!   are not enough for the snapshot (`IsDayStopped`); with Input the refusal line alone, or after the log of
+//!   the rows that end within the limit; with Read, Write and Memory which rows were done and how much of
+//!   their log was written. After each row that was done every accepted call is open, aboard or delivered
+//!   (`RanWithin`). And the day of an opening and rows comes to its end unless the source or the sink fails or
+//!   memory runs out (`Completes`).
 //! - `reports`: by words of `report`, the same day without a log, and with Done and Stopped the text of its
 //!   report (`ReportDue`).
 //! - `tables`: by words of `table`, what was read and written with each status, that a table is judged and any
 //!   other input refused, unless the source or the sink fails or memory runs out (`RunsTable`).
 //! - `refuses_words`: all other words and no fault of the sink give Words or Memory.
+//! - `unread`: words that ask for no input (`AskForNoInput`) leave the source as it was, its count of faults
+//!   too, with every status.
 //!
 //! `proofs/SolvedTrees.antt` and `proofs/SaidYes.antt` show that what `solve` writes is checked with a yes:
 //! the tree of a search within the default limits has a text of less than 60,000,000 bytes, and the verdict

@@ -1,11 +1,12 @@
 //! The top call of the program.
 
-ghost use Rattle.std.specs.Prelude.{map, string_bytes};
+ghost use Rattle.std.specs.Prelude.{◌≡◌, map, string_bytes};
 ghost use Rattle.command_ends.specs.Ends.{Ends, streams};
 ghost use Rattle.lift_commands.specs.DayOutcome.{DaysByWords, ReportsByWords};
 ghost use Rattle.lift_commands.specs.Further.{AskOthers, TablesByWords};
 ghost use Rattle.lift_commands.specs.Outcome.{RunDue, SolvesByWords, RefusesByWords, ChecksByWords};
 ghost use Rattle.lift_commands.specs.Outcome.{RefusesChecksByWords, MakesByWords, RunsByWords, RefusesWords};
+ghost use Rattle.lift_commands.specs.Unread.{AskForNoInput};
 
 use crate::checking::check;
 use crate::days::{day, report};
@@ -119,6 +120,9 @@ pub fn run<S: Source, K: Sink, G: Gate + Sync>(
         (streams (S.left source.old) (K.taken sink.old) (S.faults source.old) (K.faults sink.old))
         (streams (S.left source.new) (K.taken sink.new) (S.faults source.new)
         (K.faults sink.new)) result }
+
+    // Words that ask for no input, as those of `make` do, leave the source as it was, whatever the status.
+    ensures unread { AskForNoInput (map string_bytes words.now) → source.new ≡ source.old }
 {
     match read_words(alloc, words) {
         Ok(Request::Solve(options)) => solve(rt, alloc, options, source, sink, gate),

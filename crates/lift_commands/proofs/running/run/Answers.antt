@@ -162,3 +162,23 @@ returns-in-Err-NotTaken-clause-days g c = λ options taken.
 pub returns-in-Err-NotTaken-clause-reports : goal.returns-in-Err-NotTaken-clause-reports
 returns-in-Err-NotTaken-clause-reports g c = λ options taken.
     absurd (c.in-Err-NotTaken.ensures.refused c.in-Err-NotTaken.field-0-is (Report options) taken)
+
+pub returns-in-Ok-Solve-clause-unread : goal.returns-in-Ok-Solve-clause-unread
+returns-in-Ok-Solve-clause-unread g c = λ none.
+    absurd (none (Solve c.in-Ok-Solve.options) (subst (AreTaken (map string_bytes c.args.words.now)) c.in-Ok-Solve.field-0-is c.in-Ok-Solve.ensures.taken))
+
+pub returns-in-Ok-Check-clause-unread : goal.returns-in-Ok-Check-clause-unread
+returns-in-Ok-Check-clause-unread g c = λ none.
+    absurd (none (Check c.in-Ok-Check.options) (subst (AreTaken (map string_bytes c.args.words.now)) c.in-Ok-Check.field-0-is c.in-Ok-Check.ensures.taken))
+
+pub returns-in-Ok-Day-clause-unread : goal.returns-in-Ok-Day-clause-unread
+returns-in-Ok-Day-clause-unread g c = λ none.
+    absurd (none (Day c.in-Ok-Day.options) (subst (AreTaken (map string_bytes c.args.words.now)) c.in-Ok-Day.field-0-is c.in-Ok-Day.ensures.taken))
+
+pub returns-in-Ok-Report-clause-unread : goal.returns-in-Ok-Report-clause-unread
+returns-in-Ok-Report-clause-unread g c = λ none.
+    absurd (none (Report c.in-Ok-Report.options) (subst (AreTaken (map string_bytes c.args.words.now)) c.in-Ok-Report.field-0-is c.in-Ok-Report.ensures.taken))
+
+pub returns-in-Ok-Table-clause-unread : goal.returns-in-Ok-Table-clause-unread
+returns-in-Ok-Table-clause-unread g c = λ none.
+    absurd (none Table (subst (AreTaken (map string_bytes c.args.words.now)) c.in-Ok-Table.field-0-is c.in-Ok-Table.ensures.taken))
