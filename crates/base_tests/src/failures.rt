@@ -1,4 +1,4 @@
-//! Reads that fail: the reader answers so ever after.
+//! Reads that fail: the reader answers so ever after, and asks for none after the end.
 
 use byte_streams::MemorySource;
 use lift_text::{LineReader, RawLine, TextFault};
@@ -72,13 +72,7 @@ fn is_answered(alloc: Global, failure: Failure, raw: bool) -> bool {
 
 #[test]
 fn a_failed_read_is_answered_ever_after(rt: HostRuntime) {
-    for (read, lines, lines_with_words) in [
-        (1, 0, 0),
-        (4, 1, 1),
-        (7, 3, 1),
-        (10, 3, 1),
-        (11, 4, 2),
-    ] {
+    for (read, lines, lines_with_words) in [(1, 0, 0), (4, 1, 1), (7, 3, 1), (10, 3, 1)] {
         let failure = Failure {
             read,
             lines,
@@ -90,4 +84,31 @@ fn a_failed_read_is_answered_ever_after(rt: HostRuntime) {
             "at read {read}, as it stands"
         );
     }
+}
+
+/// Whether all lines come, and then the end for good.
+fn ends_for_good(lines: &mut LineReader<MemorySource>) -> bool {
+    for _ in 0..2 {
+        if lines.next_line() != Ok(true) {
+            return false;
+        }
+    }
+    lines.next_line() == Ok(false) && lines.raw_line() == Ok(RawLine::End) && lines.line() == 4
+}
+
+fn ends_over(alloc: Global, source: &mut MemorySource) -> bool {
+    match LineReader::new(alloc, source) {
+        Ok(mut lines) => ends_for_good(&mut lines),
+        Err(_) => false,
+    }
+}
+
+// The 10th read is the one that finds the end, behind a last line without an LF.
+#[test]
+fn a_source_is_not_asked_after_its_end(rt: HostRuntime) {
+    let is_left_alone = match source_of(rt.alloc(), 11) {
+        Ok(mut source) => ends_over(rt.alloc(), &mut source),
+        Err(_) => false,
+    };
+    assert!(rt; is_left_alone);
 }

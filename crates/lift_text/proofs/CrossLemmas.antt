@@ -1,36 +1,34 @@
 -- Reading on over lines without words, by what was taken.
-use Rattle.std.proofs.Common.{◌≡◌, ℕ, ◌+◌, ◌-◌, ◌⊎◌, inl, inr, Bool, List, [], ◌∷◌, ◌++◌, Option, None, Some, Ok, Err, true, length, drop, get_or, arith, ap, sym, ◌∙◌, refl, subst, append_assoc, append-nil, length-append}
+use Rattle.std.proofs.Common.{◌≡◌, ℕ, ◌+◌, ◌-◌, ◌⊎◌, inl, inr, Bool, List, [], ◌∷◌, ◌++◌, All, IfSome, Option, None, Some, Ok, Err, true, false, length, take, drop, get_or, arith, ap, sym, ◌∙◌, refl, subst, append_assoc, append-nil, length-append, take_at}
 use Rattle.std.specs.Io.KnownBytes.{prepend_known, IsAtEnd}
 use Rattle.std.specs.Prelude.{IsErrOf}
 use Rattle.std.specs.List.{concat}
 use Rattle.std.proofs.lemmas.List.{drop-drop}
-use Rattle.std.proofs.lemmas.List.Elements.{All-nil, All-push}
+use Rattle.std.proofs.lemmas.Bool.{false≢true}
+use Rattle.std.proofs.lemmas.List.Elements.{All-nil, All-push, All-weaker}
 use Rattle.std.proofs.lemmas.List.Folds.{concat-append}
-use Rattle.lift_text.specs.Lines.{pieces_of, AreLines}
+use Rattle.lift_text.specs.Lines.{pieces_of, HasWholeLine}
 use Rattle.byte_streams.specs.Streams.{Took}
+use Rattle.byte_streams.proofs.KnownBytes.{given_more}
 use Rattle.lift_text.specs.Front.{IsWholeLine}
-use Rattle.lift_text.specs.Reading.{TextState, Passed, NextLine, BadLineShows, EndShows, HasWholeAnswer, IsPassedOver, StoppedBehind, past_quota}
-use Rattle.lift_text.specs.Page.{PageState, PageTook, StepEnds, Crossed, Continues, ReadLine}
+use Rattle.lift_text.specs.Reading.{TextState, Passed, NextLine, BadLineShows, EndShows, HasWholeAnswer, IsPassedOver, StoppedBehind, HaveLineFeeds, past_quota}
+use Rattle.lift_text.specs.Page.{PageState, PageTook, StepEnds, Crossed, Continues, ReadLine, limit_of, text_at}
 use Rattle.lift_text.specs.declared.page.Step.{Step}
 use Rattle.lift_text.specs.declared.page.Step.TheVariants.{WithWords, Blank}
 use Rattle.lift_text.specs.declared.faults.TextFault.{TextFault}
 use Rattle.lift_text.specs.declared.faults.TextFault.TheVariants.{Read, TooLong, Bad, NoMemory}
 use Rattle.lift_text.proofs.PageLemmas.{state}
 use Rattle.lift_text.proofs.TakenLemmas.{took_nothing, took_more}
-use Rattle.lift_text.proofs.EndLemmas.{are_lines-none, are_lines-more, at_end_more, end_shows_behind, pieces_of-whole}
+use Rattle.lift_text.proofs.EndLemmas.{are_lines, end_shows_after, pieces_of-whole, pieces_of-wholes, whole_has}
 
 pub crossed_none : (page : PageState) (left : Option (List ℕ)) → Crossed page page left left
 crossed_none page left = record {
   taken = [];
-  front = [];
-  count = 0;
+  passed = [];
   took = took_nothing page.quota left;
   held = append-nil page.unread;
   line = omega arith;
-  lines = inl are_lines-none;
-  passed = [];
-  joined = refl;
-  number = refl;
+  whole = inl (All-nil IsWholeLine);
   each = All-nil IsPassedOver;
 }
 
@@ -38,15 +36,11 @@ crossed_none page left = record {
 pub crossed_cleared : (old new page : PageState) (left left' : Option (List ℕ)) → page ≡ record new { current = []; words = []; raw = [] } → Crossed old new left left' → Crossed old page left left'
 crossed_cleared old new page left left' cleared crossed = subst (λ (p : PageState). Crossed old p left left') (sym cleared) (record {
   taken = crossed.taken;
-  front = crossed.front;
-  count = crossed.count;
+  passed = crossed.passed;
   took = crossed.took;
   held = crossed.held;
   line = crossed.line;
-  lines = crossed.lines;
-  passed = crossed.passed;
-  joined = crossed.joined;
-  number = crossed.number;
+  whole = crossed.whole;
   each = crossed.each;
 })
 
@@ -55,81 +49,112 @@ held_behind : (first taken more front mid held : List ℕ) → first ++ taken �
 held_behind first taken more front mid held before after =
     sym (append_assoc first taken more) ∙ ap (λ l. l ++ more) before ∙ append_assoc front mid more ∙ ap (λ l. front ++ l) after
 
-lines_more : (front piece : List ℕ) (count : ℕ) (left left' : Option (List ℕ)) (taken : List ℕ) → left ≡ prepend_known taken left' → AreLines front count ⊎ IsAtEnd left → IsWholeLine piece ⊎ IsAtEnd left'
-    → AreLines (front ++ piece) (count + 1) ⊎ IsAtEnd left'
-lines_more front piece count left left' taken given (inl lines) (inl whole) = inl (are_lines-more front piece count lines whole)
-lines_more front piece count left left' taken given (inl lines) (inr end) = inr end
-lines_more front piece count left left' taken given (inr end) ends = inr (at_end_more left left' taken given end)
+concat-push : (passed : List (List ℕ)) (piece : List ℕ) → concat (passed ++ piece ∷ []) ≡ concat passed ++ piece
+concat-push passed piece = concat-append passed (piece ∷ []) ∙ ap (λ l. concat passed ++ l) (append-nil piece)
 
-lines_kept : (front : List ℕ) (count : ℕ) (left left' : Option (List ℕ)) (taken : List ℕ) → left ≡ prepend_known taken left' → AreLines front count ⊎ IsAtEnd left → AreLines front count ⊎ IsAtEnd left'
-lines_kept front count left left' taken given (inl lines) = inl lines
-lines_kept front count left left' taken given (inr end) = inr (at_end_more left left' taken given end)
+-- the bytes that are held, where the current line is one of those that were passed
+held_with : (first taken more : List ℕ) (passed : List (List ℕ)) (mid current unread : List ℕ) → first ++ taken ≡ concat passed ++ mid → mid ++ more ≡ current ++ unread
+    → first ++ (taken ++ more) ≡ concat (passed ++ current ∷ []) ++ unread
+held_with first taken more passed mid current unread before after =
+    held_behind first taken more (concat passed) mid (current ++ unread) before after ∙ sym (append_assoc (concat passed) current unread) ∙ ap (λ l. l ++ unread) (sym (concat-push passed current))
+
+whole_more : (passed : List (List ℕ)) (piece : List ℕ) (before after : Bool) → (before ≡ true → after ≡ true) → All IsWholeLine passed ⊎ (before ≡ true) → IsWholeLine piece ⊎ (after ≡ true)
+    → All IsWholeLine (passed ++ piece ∷ []) ⊎ (after ≡ true)
+whole_more passed piece before after stays (inl whole) (inl last) = inl (All-push IsWholeLine passed piece whole last)
+whole_more passed piece before after stays (inl whole) (inr end) = inr end
+whole_more passed piece before after stays (inr end) last = inr (stays end)
 
 -- one more line
 pub crossed_more : (old mid new : PageState) (left left' left'' : Option (List ℕ)) (taken : List ℕ) → Crossed old mid left left' → PageTook 0 mid new taken left' left''
-    → StepEnds (Ok Blank) mid new left'' → Crossed old new left left''
-crossed_more old mid new left left' left'' taken crossed more ends = record {
+    → (mid.ended ≡ true → new.ended ≡ true) → StepEnds (Ok Blank) mid new → Crossed old new left left''
+crossed_more old mid new left left' left'' taken crossed more stays ends = record {
   taken = crossed.taken ++ taken;
-  front = crossed.front ++ new.current;
-  count = crossed.count + 1;
-  took = took_more 0 old.quota mid.quota new.quota crossed.taken taken left left' left'' crossed.took more.took;
-  held = held_behind old.unread crossed.taken taken crossed.front mid.unread (new.current ++ new.unread) crossed.held (more.kept refl) ∙ sym (append_assoc crossed.front new.current new.unread);
-  line = omega (arith, crossed.line, ends.0);
-  lines = lines_more crossed.front new.current crossed.count left' left'' taken more.took.given crossed.lines ends.1;
   passed = crossed.passed ++ new.current ∷ [];
-  joined = ap (λ l. l ++ new.current) crossed.joined ∙ ap (λ l. concat crossed.passed ++ l) (sym (append-nil new.current)) ∙ sym (concat-append crossed.passed (new.current ∷ []));
-  number = omega (arith, crossed.number, length-append crossed.passed (new.current ∷ []));
+  took = took_more 0 old.quota mid.quota new.quota crossed.taken taken left left' left'' crossed.took more.took;
+  held = held_with old.unread crossed.taken taken crossed.passed mid.unread new.current new.unread crossed.held (more.kept refl);
+  line = omega (arith, crossed.line, ends.0, length-append crossed.passed (new.current ∷ []));
+  whole = whole_more crossed.passed new.current mid.ended new.ended stays crossed.whole ends.1;
   each = All-push IsPassedOver crossed.passed new.current crossed.each ends.2;
 }
 
+-- where the source has not said that it is at its end, all lines that were passed over have their LF
+still_whole : (passed : List (List ℕ)) (before after : Bool) → (before ≡ true → after ≡ true) → after ≡ false → All IsWholeLine passed ⊎ (before ≡ true) → All IsWholeLine passed
+still_whole passed before after stays not (inl whole) = whole
+still_whole passed before after stays not (inr end) = absurd (false≢true (sym not ∙ stays end))
+
 -- where a read failed, no whole line stands behind the lines that were passed over
 stopped : (old mid new : PageState) (left left' left'' : Option (List ℕ)) (taken : List ℕ) (crossed : Crossed old mid left left') → PageTook 0 mid new taken left' left''
-    → StepEnds (Err Read) mid new left'' → StoppedBehind old.line new.line (old.unread ++ (crossed.taken ++ taken)) left''
-stopped old mid new left left' left'' taken crossed more ends =
-    let rest = new.current ++ new.unread in
-    let held = held_behind old.unread crossed.taken taken crossed.front mid.unread rest crossed.held (more.kept refl) in
-    let lines = lines_kept crossed.front crossed.count left' left'' taken more.took.given crossed.lines in
-    record {
-      passed = crossed.passed;
-      rest = rest;
-      held = held ∙ ap (λ front. front ++ rest) crossed.joined;
-      each = crossed.each;
-      whole = subst (λ front. AreLines front (length crossed.passed) ⊎ IsAtEnd left'') crossed.joined (subst (λ count. AreLines crossed.front count ⊎ IsAtEnd left'') crossed.number lines);
-      line = omega (arith, crossed.line, crossed.number, ends.0);
-      none = ends.1;
-    }
+    → (mid.ended ≡ true → new.ended ≡ true) → StepEnds (Err Read) mid new → StoppedBehind old.line new.line (old.unread ++ (crossed.taken ++ taken))
+stopped old mid new left left' left'' taken crossed more stays ends = record {
+  passed = crossed.passed;
+  rest = new.current ++ new.unread;
+  held = held_behind old.unread crossed.taken taken (concat crossed.passed) mid.unread (new.current ++ new.unread) crossed.held (more.kept refl);
+  each = crossed.each;
+  whole = are_lines crossed.passed (still_whole crossed.passed mid.ended new.ended stays ends.2 crossed.whole);
+  line = omega (arith, crossed.line, ends.0);
+  none = ends.1;
+}
 
 -- the text ended, or the next line has words
 pub crossed_ok : (old mid new : PageState) (left left' left'' : Option (List ℕ)) (taken : List ℕ) (answer : Bool) → Crossed old mid left left' → PageTook 0 mid new taken left' left''
     → (taken : List ℕ) × Took 0 old.quota new.quota taken left left'' × BadLineShows None (Ok answer) old.line (old.unread ++ taken) left''
-    × (IsErrOf {T = Bool} (Ok answer) Read → StoppedBehind old.line new.line (old.unread ++ taken) left'')
+    × (IsErrOf {T = Bool} (Ok answer) Read → StoppedBehind old.line new.line (old.unread ++ taken))
 crossed_ok old mid new left left' left'' taken answer crossed more =
     (crossed.taken ++ taken, took_more 0 old.quota mid.quota new.quota crossed.taken taken left left' left'' crossed.took more.took, tt, λ is. absurd cc)
 
 -- the next line is bad, or there is none to be had
 pub crossed_err : (fault : TextFault) (old mid new : PageState) (left left' left'' : Option (List ℕ)) (taken : List ℕ) → Crossed old mid left left'
-    → PageTook (past_quota {A = Step} None (Err fault)) mid new taken left' left'' → StepEnds (Err fault) mid new left''
+    → PageTook (past_quota {A = Step} None (Err fault)) mid new taken left' left'' → (mid.ended ≡ true → new.ended ≡ true) → (new.ended ≡ true → IsAtEnd left'') → StepEnds (Err fault) mid new
     → (taken : List ℕ) × Took (past_quota {A = Bool} None (Err fault)) old.quota new.quota taken left left'' × BadLineShows None (Err fault) old.line (old.unread ++ taken) left''
-    × (IsErrOf {T = Bool} (Err fault) Read → StoppedBehind old.line new.line (old.unread ++ taken) left'')
-crossed_err (Bad number code) old mid new left left' left'' taken crossed more ends =
-    let held = held_behind old.unread crossed.taken taken crossed.front mid.unread (new.current ++ new.unread) crossed.held (more.kept refl) in
-    let index : number - (old.line + 1) ≡ crossed.count = omega (arith, crossed.line, ends.0) in
-    let shows = end_shows_behind crossed.front new.current new.unread crossed.count left'' (lines_kept crossed.front crossed.count left' left'' taken more.took.given crossed.lines) ends.1 in (
+    × (IsErrOf {T = Bool} (Err fault) Read → StoppedBehind old.line new.line (old.unread ++ taken))
+crossed_err (Bad number code) old mid new left left' left'' taken crossed more stays at_end ends =
+    let held = held_behind old.unread crossed.taken taken (concat crossed.passed) mid.unread (new.current ++ new.unread) crossed.held (more.kept refl) in
+    let index : number - (old.line + 1) ≡ length crossed.passed = omega (arith, crossed.line, ends.0) in
+    let shows = end_shows_after crossed.passed new.current new.unread mid.ended new.ended left'' stays at_end crossed.whole ends.1 in (
       crossed.taken ++ taken,
       took_more 0 old.quota mid.quota new.quota crossed.taken taken left left' left'' crossed.took more.took,
       (
         omega (arith, crossed.line, ends.0),
         subst (λ bytes. EndShows (get_or (pieces_of bytes) (number - (old.line + 1)) []) left'') (sym held)
-            (subst (λ k. EndShows (get_or (pieces_of (crossed.front ++ (new.current ++ new.unread))) k []) left'') (sym index) shows),
+            (subst (λ k. EndShows (get_or (pieces_of (concat crossed.passed ++ (new.current ++ new.unread))) k []) left'') (sym index) shows),
       ),
       λ is. absurd cc,
     )
-crossed_err TooLong old mid new left left' left'' taken crossed more ends =
+crossed_err TooLong old mid new left left' left'' taken crossed more stays at_end ends =
     (crossed.taken ++ taken, took_more 1 old.quota mid.quota new.quota crossed.taken taken left left' left'' crossed.took more.took, tt, λ is. absurd cc)
-crossed_err Read old mid new left left' left'' taken crossed more ends =
-    (crossed.taken ++ taken, took_more 0 old.quota mid.quota new.quota crossed.taken taken left left' left'' crossed.took more.took, tt, λ _. stopped old mid new left left' left'' taken crossed more ends)
-crossed_err NoMemory old mid new left left' left'' taken crossed more ends =
+crossed_err Read old mid new left left' left'' taken crossed more stays at_end ends =
+    (crossed.taken ++ taken, took_more 0 old.quota mid.quota new.quota crossed.taken taken left left' left'' crossed.took more.took, tt, λ _. stopped old mid new left left' left'' taken crossed more stays ends)
+crossed_err NoMemory old mid new left left' left'' taken crossed more stays at_end ends =
     (crossed.taken ++ taken, took_more 0 old.quota mid.quota new.quota crossed.taken taken left left' left'' crossed.took more.took, tt, λ is. absurd cc)
+
+-- whole lines at the front of a text are its next lines
+feeds_in_front : (first taken : List ℕ) (left left' : Option (List ℕ)) (passed : List (List ℕ)) (unread : List ℕ) (line limit count : ℕ) → left ≡ prepend_known taken left'
+    → first ++ taken ≡ concat passed ++ unread → count ≡ length passed → All IsWholeLine passed
+    → IfSome (state line limit (prepend_known first left)) (λ text. All HasWholeLine (take count (pieces_of text.bytes)))
+feeds_in_front first taken left None passed unread line limit count given held size whole =
+    subst (λ l. IfSome (state line limit (prepend_known first l)) (λ text. All HasWholeLine (take count (pieces_of text.bytes)))) (sym given) tt
+feeds_in_front first taken left (Some rest) passed unread line limit count given held size whole =
+    let bytes : first ++ (taken ++ rest) ≡ concat passed ++ (unread ++ rest) = sym (append_assoc first taken rest) ∙ ap (λ l. l ++ rest) held ∙ append_assoc (concat passed) unread rest in
+    let lines = ap pieces_of bytes ∙ pieces_of-wholes passed (unread ++ rest) whole in
+    let front = ap (take count) lines ∙ take_at passed (pieces_of (unread ++ rest)) count (sym size) in
+    subst (λ l. IfSome (state line limit (prepend_known first l)) (λ text. All HasWholeLine (take count (pieces_of text.bytes)))) (sym given)
+    (subst (All HasWholeLine) (sym front) (All-weaker IsWholeLine HasWholeLine whole_has passed whole))
+
+feeds_or_ended : (old new : PageState) (left left' : Option (List ℕ)) (taken : List ℕ) (passed : List (List ℕ)) → left ≡ prepend_known taken left' → old.unread ++ taken ≡ concat passed ++ new.unread
+    → new.line - old.line ≡ length passed → All IsWholeLine passed ⊎ (new.ended ≡ true) → HaveLineFeeds (text_at old left) (new.line - old.line) new.ended
+feeds_or_ended old new left left' taken passed given held size (inl whole) =
+    inl (feeds_in_front old.unread taken left left' passed new.unread old.line (limit_of old) (new.line - old.line) given held size whole)
+feeds_or_ended old new left left' taken passed given held size (inr end) = inr end
+
+-- the lines that were passed over and the one with words have their LF each, or the reader has ended
+pub feeds_read : (old mid new : PageState) (left left' left'' : Option (List ℕ)) (taken : List ℕ) → Crossed old mid left left' → PageTook 0 mid new taken left' left''
+    → (mid.ended ≡ true → new.ended ≡ true) → StepEnds (Ok WithWords) mid new → HaveLineFeeds (text_at old left) (new.line - old.line) new.ended
+feeds_read old mid new left left' left'' taken crossed more stays ends =
+    feeds_or_ended old new left left'' (crossed.taken ++ taken) (crossed.passed ++ new.current ∷ [])
+    (given_more left left' left'' crossed.taken taken crossed.took.given more.took.given)
+    (held_with old.unread crossed.taken taken crossed.passed mid.unread new.current new.unread crossed.held (more.kept refl))
+    (omega (arith, crossed.line, ends.0, length-append crossed.passed (new.current ∷ [])))
+    (whole_more crossed.passed new.current mid.ended new.ended stays crossed.whole ends.1)
 
 pub passed_more : (before mid after : TextState) → Passed before mid → Passed mid after → Passed before after
 passed_more before mid after first second =

@@ -1,11 +1,12 @@
 -- Passing over a line of any length.
-use Rattle.std.proofs.Common.{◌≡◌, Bool, true, false, cond, eqb, Ok, Err, ℕ, suc, ◌+◌, ◌-◌, ◌<◌, ◌≤◌, List, [], ◌∷◌, ◌++◌, Option, None, Some, length, take, drop, get_or, arith, ap, sym, ◌∙◌, refl, subst, append_assoc, append-nil, length-append, length-drop, drop-cons, add-one, inl, inr}
+use Rattle.std.proofs.Common.{◌≡◌, Bool, true, false, cond, eqb, Ok, Err, ℕ, suc, ◌+◌, ◌-◌, ◌<◌, ◌≤◌, List, [], ◌∷◌, ◌++◌, Option, None, Some, length, take, drop, get_or, arith, ap, sym, ◌∙◌, refl, subst, append_assoc, append-nil, length-append, length-drop, drop-cons, add-one, inl, inr, IfSome}
 use Rattle.std.specs.Prelude.{IsSomeAnd}
 use Rattle.std.specs.List.{onto_first}
 use Rattle.std.specs.Io.KnownBytes.{prepend_known, IsAtEnd}
 use Rattle.std.proofs.lemmas.List.{take-append-drop, length-take-le, get_or-take, get_or-append_right, get_or_append_left}
+use Rattle.std.proofs.lemmas.List.Elements.{Contains-append_left, Contains-append_right}
 use Rattle.std.proofs.lemmas.Bool.{cases_lt}
-use Rattle.lift_text.specs.Lines.{pieces_of}
+use Rattle.lift_text.specs.Lines.{pieces_of, HasWholeLine}
 use Rattle.lift_text.specs.Front.{NoLineFeed, NoLineFeedBelow, SkippedIn}
 use Rattle.lift_text.specs.Reading.{TextState}
 use Rattle.lift_text.specs.Page.{SkippedLine}
@@ -62,6 +63,12 @@ skipped_cut before None front b quota limit none known used unread = subst (λ k
 skipped_cut before (Some rest) front b quota limit none known used unread =
     let first = pieces_of-front front b rest none in
     subst (λ k. SkippedIn Cut k limit unread (Some rest) quota) (sym known) (front ++ b ∷ first.0, first.1, first.2, omega (arith, length-append front (b ∷ first.0)))
+
+-- an LF behind a front
+pub has_in_known : (before left : Option (List ℕ)) (front unread : List ℕ) → before ≡ prepend_known (front ++ unread) left → HasWholeLine unread → IfSome before HasWholeLine
+has_in_known before None front unread known has = subst (λ b. IfSome b HasWholeLine) (sym known) tt
+has_in_known before (Some rest) front unread known has =
+    subst (λ b. IfSome b HasWholeLine) (sym known) (Contains-append_left (front ++ unread) rest 10 (Contains-append_right front unread 10 has))
 
 -- a search that finds nothing went over all
 pub all_searched : (place len size : ℕ) → len ≤ place → place ≤ size → len ≡ size → place ≡ size

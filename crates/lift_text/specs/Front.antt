@@ -1,6 +1,6 @@
 -- What is found at the front of the bytes that are read and not used yet. No public clause cites this
 -- module.
-use Rattle.std.specs.Prelude.{◌≡◌, ◌≢◌, ℕ, ◌+◌, ◌<◌, ◌≤◌, List, [], ◌∷◌, ◌++◌, length, take, drop, ◌⊎◌, Option, IfSome, IsSomeAnd, Result, Ok, Err, slice_index}
+use Rattle.std.specs.Prelude.{◌≡◌, ◌≢◌, ℕ, ◌+◌, ◌<◌, ◌≤◌, Bool, true, List, [], ◌∷◌, ◌++◌, length, take, drop, ◌⊎◌, Option, IfSome, IsSomeAnd, Result, Ok, Err, slice_index}
 use Rattle.std.specs.Io.KnownBytes.{prepend_known, IsAtEnd}
 use Rattle.lift_text.specs.Lines.{pieces_of, line_of}
 use Rattle.byte_streams.specs.Streams.{Took}
@@ -92,8 +92,8 @@ FoundWhole (Ok End) unread = ⊥
 FoundWhole (Err fault) unread = ⊥
 
 -- how the end of the line that was found shows: by its LF, by the end of the source, or by its size
-abbrev pub FoundShows : Front → List ℕ → Option (List ℕ) → Type 0
-FoundShows (Line line size) unread left = IsWholeLine (take size unread) ⊎ IsAtEnd left
-FoundShows Long unread left = NoLineFeed unread × (4097 < length unread)
-FoundShows Cut unread left = Unit {0}
-FoundShows End unread left = Unit {0}
+abbrev pub FoundShows : Front → List ℕ → (ended : Bool) → Type 0
+FoundShows (Line line size) unread ended = IsWholeLine (take size unread) ⊎ (ended ≡ true)
+FoundShows Long unread ended = NoLineFeed unread × (4097 < length unread)
+FoundShows Cut unread ended = Unit {0}
+FoundShows End unread ended = Unit {0}

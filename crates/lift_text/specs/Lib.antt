@@ -7,4 +7,5 @@ pub mod Front
 pub mod Reading
 pub mod Page
 pub mod Judge
+pub mod Reader
 pub mod LineReader

@@ -1,5 +1,5 @@
 -- What clauses see of a reader of lines.
-use Rattle.std.specs.Prelude.{ℕ, List, Option}
+use Rattle.std.specs.Prelude.{ℕ, Bool, List, Option}
 use Rattle.lift_text.specs.Reading.{TextState}
 use Rattle.lift_text.specs.Page.{text_at}
 use Rattle.lift_text.specs.declared.faults.TextFault.{TextFault}
@@ -33,3 +33,7 @@ module _ {S : Type 0} where
   -- the bytes behind the line that was read that are taken from the source already
   abbrev pub unread : LineReader S → List ℕ
   unread reader = reader.page.unread
+
+  -- whether the source has said that it is at its end
+  abbrev pub has_ended : LineReader S → Bool
+  has_ended reader = reader.page.ended

@@ -2,8 +2,8 @@
 -- module.
 use Rattle.std.specs.Prelude.{◌≡◌, ℕ, Bool, true, false, ◌+◌, ◌*◌, ◌<◌, ◌≤◌, List, [], ◌∷◌, ◌++◌, length, take, drop, All, ◌⊎◌, Option, None, Some, option_map, IfSome, IsSomeAnd, Result, Ok, Err}
 use Rattle.std.specs.List.{concat}
-use Rattle.std.specs.Io.KnownBytes.{prepend_known, IsAtEnd}
-use Rattle.lift_text.specs.Lines.{pieces_of, line_of, AreLines, HasWholeLine}
+use Rattle.std.specs.Io.KnownBytes.{prepend_known}
+use Rattle.lift_text.specs.Lines.{pieces_of, line_of, HasWholeLine}
 use Rattle.lift_text.specs.Window.{WindowState}
 use Rattle.byte_streams.specs.Streams.{Took}
 use Rattle.lift_text.specs.Front.{Gathered, IsOneLine, IsWholeLine, NoLineFeed}
@@ -23,7 +23,8 @@ use Rattle.lift_text.specs.declared.window.Front.{Front}
 use Rattle.lift_text.specs.declared.window.Front.TheVariants.{Line, Long, Cut, End}
 
 -- the bytes of the current line with its end, the bytes behind it, how many more may be taken, the number of
--- lines read, the words and the raw text of the current line, and the fault that is answered from now on
+-- lines read, the words and the raw text of the current line, the fault that is answered from now on, and
+-- whether the source has said that it is at its end
 pub record PageState : Type 0 where
   pub current : List ℕ
   pub unread : List ℕ
@@ -32,6 +33,7 @@ pub record PageState : Type 0 where
   pub words : List (List ℕ)
   pub raw : List ℕ
   pub failure : Option TextFault
+  pub ended : Bool
 
 -- what a page keeps: the current line at the front of the window, its raw text and its words in it, room for
 -- the words of a longest line, and no more lines than bytes
@@ -83,11 +85,11 @@ abbrev pub PageTook : ℕ → PageState → PageState → List ℕ → Option (L
 PageTook past old new taken left left' = Gathered past old.quota new.quota old.unread (new.current ++ new.unread) taken left left'
 
 -- how the end of the line that was found shows, by the state after it
-abbrev pub LineEnds : Front → PageState → Option (List ℕ) → Type 0
-LineEnds (Line line size) page left = IsWholeLine page.current ⊎ IsAtEnd left
-LineEnds Long page left = NoLineFeed page.unread × (4097 < length page.unread)
-LineEnds Cut page left = Unit {0}
-LineEnds End page left = Unit {0}
+abbrev pub LineEnds : Front → PageState → Type 0
+LineEnds (Line line size) page = IsWholeLine page.current ⊎ (page.ended ≡ true)
+LineEnds Long page = NoLineFeed page.unread × (4097 < length page.unread)
+LineEnds Cut page = Unit {0}
+LineEnds End page = Unit {0}
 
 -- a line was found that has its LF, and it is the current one
 abbrev pub CurrentWhole : Result Front SourceFault → List ℕ → Type 0
@@ -139,36 +141,31 @@ ReadLine (Some before) (Err TooLong) words after = reading before ≡ past_limit
 ReadLine (Some before) (Err Read) words after = Unit {0}
 ReadLine (Some before) (Err NoMemory) words after = ⊥
 
--- how the end of a line shows that has no words or is bad, and that it is the next one; and that no line is
--- whole where a read failed
-abbrev pub StepEnds : Result Step TextFault → PageState → PageState → Option (List ℕ) → Type 0
-StepEnds (Ok WithWords) old new left = Unit {0}
-StepEnds (Ok Blank) old new left = (new.line ≡ old.line + 1) × (IsWholeLine new.current ⊎ IsAtEnd left) × IsPassedOver new.current
-StepEnds (Ok AtEnd) old new left = Unit {0}
-StepEnds (Err (Bad line code)) old new left = (line ≡ old.line + 1)
-    × (IsWholeLine new.current ⊎ (IsAtEnd left ⊎ (NoLineFeed (new.current ++ new.unread) × (4097 < length (new.current ++ new.unread)))))
-StepEnds (Err TooLong) old new left = Unit {0}
-StepEnds (Err Read) old new left = (new.line ≡ old.line) × (¬ HasWholeLine (new.current ++ new.unread))
-StepEnds (Err NoMemory) old new left = Unit {0}
+-- how the end of a line shows, and that it is the next one; and that no line is whole where a read failed
+abbrev pub StepEnds : Result Step TextFault → PageState → PageState → Type 0
+StepEnds (Ok WithWords) old new = (new.line ≡ old.line + 1) × (IsWholeLine new.current ⊎ (new.ended ≡ true))
+StepEnds (Ok Blank) old new = (new.line ≡ old.line + 1) × (IsWholeLine new.current ⊎ (new.ended ≡ true)) × IsPassedOver new.current
+StepEnds (Ok AtEnd) old new = Unit {0}
+StepEnds (Err (Bad line code)) old new = (line ≡ old.line + 1)
+    × (IsWholeLine new.current ⊎ ((new.ended ≡ true) ⊎ (NoLineFeed (new.current ++ new.unread) × (4097 < length (new.current ++ new.unread)))))
+StepEnds (Err TooLong) old new = Unit {0}
+StepEnds (Err Read) old new = (new.line ≡ old.line) × (¬ HasWholeLine (new.current ++ new.unread)) × (new.ended ≡ false)
+StepEnds (Err NoMemory) old new = Unit {0}
 
 -- from one state to a later one, over lines without words
 abbrev pub Continues : Option TextState → Option TextState → Type 0
 Continues None after = Unit {0}
 Continues (Some before) after = IsSomeAnd after (λ text. (reading before ≡ reading text) × Passed before text)
 
--- from one state to a later one, over this many lines: the bytes that were taken, and those that were passed
--- over, which are whole lines where the source is not at its end
+-- from one state to a later one, over lines without words: the bytes that were taken, and the lines that were
+-- passed over, which have their LF where the source has not said that it is at its end
 pub record Crossed (old new : PageState) (left left' : Option (List ℕ)) : Type 0 where
   pub taken : List ℕ
-  pub front : List ℕ
-  pub count : ℕ
   pub passed : List (List ℕ)
   pub took : Took 0 old.quota new.quota taken left left'
-  pub held : old.unread ++ taken ≡ front ++ new.unread
-  pub line : new.line ≡ old.line + count
-  pub lines : AreLines front count ⊎ IsAtEnd left'
-  pub joined : front ≡ concat passed
-  pub number : count ≡ length passed
+  pub held : old.unread ++ taken ≡ concat passed ++ new.unread
+  pub line : new.line ≡ old.line + length passed
+  pub whole : All IsWholeLine passed ⊎ (new.ended ≡ true)
   pub each : All IsPassedOver passed
 
 -- what was passed over of a line, by the answer and the state after it

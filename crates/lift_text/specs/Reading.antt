@@ -1,5 +1,5 @@
 -- What is read of a text, line by line.
-use Rattle.std.specs.Prelude.{◌≡◌, ℕ, ◌+◌, ◌-◌, ◌≤◌, ◌<◌, Bool, true, false, nat_lt, List, [], ◌∷◌, ◌++◌, length, drop, All, slice_index_or, ◌⊎◌, IsTrue, Option, None, Some, IsSomeAnd, Result, Ok, Err, if◌then◌else◌}
+use Rattle.std.specs.Prelude.{◌≡◌, ℕ, ◌+◌, ◌-◌, ◌≤◌, ◌<◌, Bool, true, false, nat_lt, List, [], ◌∷◌, ◌++◌, length, take, drop, All, slice_index_or, ◌⊎◌, IsTrue, Option, None, Some, IfSome, IsSomeAnd, Result, Ok, Err, if◌then◌else◌}
 use Rattle.std.specs.List.{concat}
 use Rattle.std.specs.Io.KnownBytes.{IsAtEnd}
 use Rattle.std.specs.Io.BufRead.{ends_with_byte}
@@ -103,16 +103,20 @@ abbrev pub HasWholeAnswer : List (List ℕ) → Type 0
 HasWholeAnswer [] = ⊥
 HasWholeAnswer (piece ∷ pieces) = IsTrue (ends_with_byte 10 piece) × (IsBlankLine (line_of piece) → HasWholeAnswer pieces)
 
--- bytes that were taken before a read failed: lines that were passed over, each counted, and then no whole
--- line; `left` is what the source has left behind them
-pub record StoppedBehind (lines lines' : ℕ) (bytes : List ℕ) (left : Option (List ℕ)) : Type 0 where
+-- bytes that were taken before a read failed: lines that were passed over, each counted and with its LF, and
+-- then no whole line
+pub record StoppedBehind (lines lines' : ℕ) (bytes : List ℕ) : Type 0 where
   pub passed : List (List ℕ)
   pub rest : List ℕ
   pub held : bytes ≡ concat passed ++ rest
   pub each : All IsPassedOver passed
-  pub whole : AreLines (concat passed) (length passed) ⊎ IsAtEnd left
+  pub whole : AreLines (concat passed) (length passed)
   pub line : lines' ≡ lines + length passed
   pub none : ¬ HasWholeLine rest
+
+-- the next lines of a text, this many, have their LF each, or its reader has ended
+abbrev pub HaveLineFeeds : Option TextState → ℕ → (ended : Bool) → Type 0
+HaveLineFeeds before count ended = IfSome before (λ text. All HasWholeLine (take count (pieces_of text.bytes))) ⊎ (ended ≡ true)
 
 -- how many lines are counted with an answer
 abbrev pub lines_counted : Result RawLine TextFault → ℕ

@@ -5,7 +5,8 @@
 //! - `LineReader`: each call is its definition over the bytes of the source, in whatever pieces they come,
 //!   with exact causes of refusal. It says how many bytes were taken from the source with each answer, and
 //!   that the end of a bad line showed in them. The source is not asked where the bytes read before have the
-//!   whole line, and after a failed read they hold no line that was still due.
+//!   whole line, nor once it has said that it is at its end; so after a failed read each line that was answered
+//!   has its LF among the bytes that were taken, and they hold no line that was still due.
 //! - `put_number`, `put_word`, `put_words`, `put_line`: what is appended; when out of memory, a front of it.
 //! - `number_in`: what a word writes as a number in a range, or why it writes none, for words that are in no
 //!   text.

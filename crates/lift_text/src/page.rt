@@ -56,6 +56,7 @@ impl Model for Page {
       words = parts_of p.window.unread p.spans.items;
       raw = take p.raw p.window.unread;
       failure = p.failure;
+      ended = p.window.ended;
     } };
 
     ghost invariant = { λ p. IsPage p.window p.size p.raw p.line (vec_len p.spans)
@@ -63,7 +64,7 @@ impl Model for Page {
 }
 
 impl Page {
-    ghost use Rattle.std.specs.Prelude.{◌≡◌, ◌≢◌, ℕ, ◌+◌, ◌<◌, ◌≤◌, List, [], ◌∷◌, ◌++◌, Some, None, true};
+    ghost use Rattle.std.specs.Prelude.{◌≡◌, ◌≢◌, ℕ, ◌+◌, ◌-◌, ◌<◌, ◌≤◌, List, [], ◌∷◌, ◌++◌, Some, None, true};
     ghost use Rattle.std.specs.Prelude.{false, length, take, drop, IfOk, IfErr, IfSome, OnOk, OnErr, IsErrOf};
     ghost use Rattle.std.specs.Prelude.{slice_index_or};
     ghost use Rattle.std.specs.Io.KnownBytes.{IsAtEnd};
@@ -71,7 +72,7 @@ impl Page {
     ghost use Rattle.lift_text.specs.Lines.{pieces_of, HasWholeLine};
     ghost use Rattle.lift_text.specs.Front.{IsWholeLine, past_found};
     ghost use Rattle.lift_text.specs.Reading.{NextLine, NextRaw, BadLineShows, HasWholeAnswer, StoppedBehind};
-    ghost use Rattle.lift_text.specs.Reading.{lines_counted, past_quota};
+    ghost use Rattle.lift_text.specs.Reading.{lines_counted, past_quota, HaveLineFeeds};
     ghost use Rattle.lift_text.specs.Page.{text_at, limit_of, Advanced, CurrentOne, CurrentWhole, Forward};
     ghost use Rattle.lift_text.specs.Page.{IfBad, JudgedAs, LineEnds, PageTook, ReadLine, SkippedLine};
     ghost use Rattle.lift_text.specs.Page.{StepEnds};
@@ -84,6 +85,7 @@ impl Page {
         ensures words { IfOk result (λ page. page.words ≡ []) }
         ensures raw { IfOk result (λ page. page.raw ≡ []) }
         ensures failure { IfOk result (λ page. page.failure ≡ None) }
+        ensures ended { IfOk result (λ page. page.ended ≡ false) }
     {
         let window = Window::new(alloc, TEXT_LIMIT)?;
         let spans = Vec::with_capacity(alloc, MOST_WORDS)?;
@@ -112,6 +114,7 @@ impl Page {
         requires current { self.old.current ≡ [] }
         requires words { self.old.words ≡ [] }
         requires raw { self.old.raw ≡ [] }
+        requires at_end { self.old.ended ≡ true → IsAtEnd (S.left source.old) }
         ensures words { self.new.words ≡ [] }
         ensures raw { self.new.raw ≡ [] }
         ensures failure { self.new.failure ≡ self.old.failure }
@@ -120,13 +123,17 @@ impl Page {
         ensures forward { IfOk result (λ found. Forward found self.old self.new) }
         ensures taken { (taken : List ℕ) × PageTook (past_found result) self.old self.new taken
             (S.left source.old) (S.left source.new) }
-        ensures shows { IfOk result (λ found. LineEnds found self.new (S.left source.new)) }
+        ensures shows { IfOk result (λ found. LineEnds found self.new) }
         ensures unasked { HasWholeLine self.old.unread → (source.new ≡ source.old)
             × (self.old.unread ≡ self.new.current ++ self.new.unread) × CurrentWhole result self.new.current }
         ensures one { IfOk result (λ found. CurrentOne found self.new.current) }
         ensures none { OnErr result ((self.new.line ≡ self.old.line)
             × (¬ HasWholeLine (self.new.current ++ self.new.unread))) }
         ensures end { result ≡ Ok Front.End → IsAtEnd (S.left source.new) }
+        ensures at_end { self.new.ended ≡ true → IsAtEnd (S.left source.new) }
+        ensures stays_ended { self.old.ended ≡ true → (self.new.ended ≡ true) × (source.new ≡ source.old) }
+        ensures ended { result ≡ Ok Front.End → self.new.ended ≡ true }
+        ensures not_ended { OnErr result (self.new.ended ≡ false) }
         ensures counted { S.faults source.old ≤ S.faults source.new }
         ensures fault { OnErr result (Rose (S.faults source.old) (S.faults source.new)) }
     {
@@ -157,15 +164,20 @@ impl Page {
         requires current { self.old.current ≡ [] }
         requires words { self.old.words ≡ [] }
         requires raw { self.old.raw ≡ [] }
+        requires at_end { self.old.ended ≡ true → IsAtEnd (S.left source.old) }
         ensures ok { ReadLine (text_at self.old (S.left source.old)) result self.new.words
             (text_at self.new (S.left source.new)) }
         ensures words { result ≢ Ok Step.WithWords → self.new.words ≡ [] }
         ensures some { result ≡ Ok Step.WithWords → 0 < length self.new.words }
         ensures end { result ≡ Ok Step.AtEnd → IsAtEnd (S.left source.new) }
+        ensures at_end { self.new.ended ≡ true → IsAtEnd (S.left source.new) }
+        ensures stays_ended { self.old.ended ≡ true → (self.new.ended ≡ true) × (source.new ≡ source.old) }
+        ensures ended { result ≡ Ok Step.AtEnd → self.new.ended ≡ true }
+        ensures not_ended { IsErrOf result TextFault.Read → self.new.ended ≡ false }
         ensures less { result ≡ Ok Step.Blank → limit_of self.new < limit_of self.old }
         ensures taken { (taken : List ℕ) × PageTook (past_quota None result) self.old self.new taken
             (S.left source.old) (S.left source.new) }
-        ensures shows { StepEnds result self.old self.new (S.left source.new) }
+        ensures shows { StepEnds result self.old self.new }
         ensures unasked { HasWholeLine self.old.unread → (source.new ≡ source.old)
             × (self.old.unread ≡ self.new.current ++ self.new.unread) × IsWholeLine self.new.current }
         ensures bad { IfErr result (λ fault. IfBad fault (λ line. self.new.line ≡ line)) }
@@ -194,16 +206,23 @@ impl Page {
 
     /// Reads the next line that has a word, and answers false at the end of the text.
     fn read_on<S: Source>(&mut self, source: &mut S) -> Result<bool, TextFault>
+        requires at_end { self.old.ended ≡ true → IsAtEnd (S.left source.old) }
         ensures next { NextLine (text_at self.old (S.left source.old)) result self.new.words self.new.line
             (text_at self.new (S.left source.new)) }
         ensures words { result ≢ Ok true → self.new.words ≡ [] }
         ensures some { result ≡ Ok true → 0 < length self.new.words }
         ensures end { result ≡ Ok false → IsAtEnd (S.left source.new) }
+        ensures at_end { self.new.ended ≡ true → IsAtEnd (S.left source.new) }
+        ensures stays_ended { self.old.ended ≡ true → (self.new.ended ≡ true) × (source.new ≡ source.old) }
+        ensures ended { result ≡ Ok false → self.new.ended ≡ true }
+        ensures not_ended { IsErrOf result TextFault.Read → self.new.ended ≡ false }
+        ensures line_feeds { OnOk result (HaveLineFeeds (text_at self.old (S.left source.old))
+            (self.new.line - self.old.line) self.new.ended) }
         ensures taken { (taken : List ℕ) × Took (past_quota None result) self.old.quota self.new.quota taken
             (S.left source.old) (S.left source.new)
             × BadLineShows None result self.old.line (self.old.unread ++ taken) (S.left source.new)
             × (IsErrOf result TextFault.Read
-            → StoppedBehind self.old.line self.new.line (self.old.unread ++ taken) (S.left source.new)) }
+            → StoppedBehind self.old.line self.new.line (self.old.unread ++ taken)) }
         ensures unasked { HasWholeAnswer (pieces_of self.old.unread) → source.new ≡ source.old }
         ensures raw { self.new.raw ≡ [] }
         ensures failure { self.new.failure ≡ self.old.failure }
@@ -225,18 +244,25 @@ impl Page {
     /// Reads the next line that has a word, and answers false at the end of the text. An `Err` is
     /// answered from then on.
     pub(crate) fn next_line<S: Source>(&mut self, source: &mut S) -> Result<bool, TextFault>
+        requires at_end { self.old.ended ≡ true → IsAtEnd (S.left source.old) }
         ensures next { self.old.failure ≡ None → NextLine (text_at self.old (S.left source.old)) result self.new.words
             self.new.line (text_at self.new (S.left source.new)) }
         ensures again { IfSome self.old.failure (λ fault. result ≡ Err fault) }
         ensures words { result ≢ Ok true → self.new.words ≡ [] }
         ensures some { result ≡ Ok true → 0 < length self.new.words }
         ensures end { result ≡ Ok false → IsAtEnd (S.left source.new) }
+        ensures at_end { self.new.ended ≡ true → IsAtEnd (S.left source.new) }
+        ensures stays_ended { self.old.ended ≡ true → (self.new.ended ≡ true) × (source.new ≡ source.old) }
+        ensures ended { result ≡ Ok false → self.new.ended ≡ true }
+        ensures not_ended { self.old.failure ≡ None → IsErrOf result TextFault.Read → self.new.ended ≡ false }
+        ensures line_feeds { OnOk result (HaveLineFeeds (text_at self.old (S.left source.old))
+            (self.new.line - self.old.line) self.new.ended) }
         ensures taken { (taken : List ℕ) × Took (past_quota self.old.failure result) self.old.quota self.new.quota taken
             (S.left source.old) (S.left source.new)
             × IfSome self.old.failure (λ _. taken ≡ [])
             × BadLineShows self.old.failure result self.old.line (self.old.unread ++ taken) (S.left source.new)
             × (self.old.failure ≡ None → IsErrOf result TextFault.Read
-            → StoppedBehind self.old.line self.new.line (self.old.unread ++ taken) (S.left source.new)) }
+            → StoppedBehind self.old.line self.new.line (self.old.unread ++ taken)) }
         ensures unasked { HasWholeAnswer (pieces_of self.old.unread) → source.new ≡ source.old }
         ensures again_line { IfSome self.old.failure (λ _. self.new.line ≡ self.old.line) }
         ensures raw { self.new.raw ≡ [] }
@@ -265,6 +291,7 @@ impl Page {
         ensures line { count ≤ 4096 → (result ≡ RawLine.Line)
             × (self.new ≡ record self.old { raw = take count self.old.current }) }
         ensures long { 4096 < count → (result ≡ RawLine.Long) × (self.new ≡ self.old) }
+        ensures ended { self.new.ended ≡ self.old.ended }
         ensures end { result ≢ RawLine.End }
     {
         if count > LINE_LIMIT {
@@ -280,8 +307,14 @@ impl Page {
         requires current { self.old.current ≡ [] }
         requires words { self.old.words ≡ [] }
         requires raw { self.old.raw ≡ [] }
+        requires at_end { self.old.ended ≡ true → IsAtEnd (S.left source.old) }
         ensures skipped { SkippedLine (text_at self.old (S.left source.old)) result
             (text_at self.new (S.left source.new)) }
+        ensures at_end { self.new.ended ≡ true → IsAtEnd (S.left source.new) }
+        ensures stays_ended { self.old.ended ≡ true → (self.new.ended ≡ true) × (source.new ≡ source.old) }
+        ensures not_ended { IsErrOf result TextFault.Read → self.new.ended ≡ false }
+        ensures line_feed { OnOk result
+            (HaveLineFeeds (text_at self.old (S.left source.old)) 1 self.new.ended) }
         ensures taken { (taken : List ℕ) × Took (past_quota None result) self.old.quota self.new.quota taken
             (S.left source.old) (S.left source.new)
             × (IsErrOf result TextFault.Read → ¬ HasWholeLine (self.old.unread ++ taken)) }
@@ -309,10 +342,17 @@ impl Page {
         requires current { self.old.current ≡ [] }
         requires words { self.old.words ≡ [] }
         requires raw { self.old.raw ≡ [] }
+        requires at_end { self.old.ended ≡ true → IsAtEnd (S.left source.old) }
         ensures next { NextRaw (text_at self.old (S.left source.old)) result self.new.raw
             (text_at self.new (S.left source.new)) }
         ensures raw { result ≢ Ok RawLine.Line → self.new.raw ≡ [] }
         ensures end { result ≡ Ok RawLine.End → IsAtEnd (S.left source.new) }
+        ensures at_end { self.new.ended ≡ true → IsAtEnd (S.left source.new) }
+        ensures stays_ended { self.old.ended ≡ true → (self.new.ended ≡ true) × (source.new ≡ source.old) }
+        ensures ended { result ≡ Ok RawLine.End → self.new.ended ≡ true }
+        ensures not_ended { IsErrOf result TextFault.Read → self.new.ended ≡ false }
+        ensures line_feed { OnOk result
+            (HaveLineFeeds (text_at self.old (S.left source.old)) 1 self.new.ended) }
         ensures taken { (taken : List ℕ) × Took (past_quota None result) self.old.quota self.new.quota taken
             (S.left source.old) (S.left source.new)
             × (IsErrOf result TextFault.Read → ¬ HasWholeLine (self.old.unread ++ taken)) }
@@ -336,11 +376,18 @@ impl Page {
 
     /// Reads the next line as it stands. An `Err` is answered from then on.
     pub(crate) fn raw_line<S: Source>(&mut self, source: &mut S) -> Result<RawLine, TextFault>
+        requires at_end { self.old.ended ≡ true → IsAtEnd (S.left source.old) }
         ensures next { self.old.failure ≡ None → NextRaw (text_at self.old (S.left source.old)) result self.new.raw
             (text_at self.new (S.left source.new)) }
         ensures again { IfSome self.old.failure (λ fault. result ≡ Err fault) }
         ensures raw { result ≢ Ok RawLine.Line → self.new.raw ≡ [] }
         ensures end { result ≡ Ok RawLine.End → IsAtEnd (S.left source.new) }
+        ensures at_end { self.new.ended ≡ true → IsAtEnd (S.left source.new) }
+        ensures stays_ended { self.old.ended ≡ true → (self.new.ended ≡ true) × (source.new ≡ source.old) }
+        ensures ended { result ≡ Ok RawLine.End → self.new.ended ≡ true }
+        ensures not_ended { self.old.failure ≡ None → IsErrOf result TextFault.Read → self.new.ended ≡ false }
+        ensures line_feed { OnOk result
+            (HaveLineFeeds (text_at self.old (S.left source.old)) 1 self.new.ended) }
         ensures taken { (taken : List ℕ) × Took (past_quota self.old.failure result) self.old.quota self.new.quota taken
             (S.left source.old) (S.left source.new)
             × IfSome self.old.failure (λ _. taken ≡ [])

@@ -1,18 +1,20 @@
 //! Reading a text line by line.
-ghost use Rattle.std.specs.Prelude.{◌≡◌, ◌≢◌, ℕ, ◌+◌, ◌<◌, ◌≤◌, List, [], ◌++◌, Some, None, true, false};
+ghost use Rattle.std.specs.Prelude.{◌≡◌, ◌≢◌, ℕ, ◌+◌, ◌-◌, ◌<◌, ◌≤◌, List, [], ◌++◌, Some, None, true};
+ghost use Rattle.std.specs.Prelude.{false};
 ghost use Rattle.std.specs.Prelude.{length, IfOk, IfErr, IfSome, OnOk, IsErrOf, option_map, slice_index_or};
 ghost use Rattle.std.specs.Io.KnownBytes.{IsAtEnd};
 ghost use Rattle.byte_streams.specs.Streams.{Rose, Took};
 ghost use Rattle.lift_text.specs.Lines.{pieces_of, HasWholeLine};
 ghost use Rattle.lift_text.specs.Numbers.{read_number};
 ghost use Rattle.lift_text.specs.Reading.{NextLine, NextRaw, BadLineShows, HasWholeAnswer, StoppedBehind};
-ghost use Rattle.lift_text.specs.Reading.{lines_counted, past_quota, whole_text};
+ghost use Rattle.lift_text.specs.Reading.{HaveLineFeeds, lines_counted, past_quota, whole_text};
 
 use crate::faults::{RawLine, TextFault};
 use crate::numbers::{NumberFault, number_in};
 use crate::page::{Page, TEXT_LIMIT};
 use byte_streams::Source;
 use std::alloc::{AllocError, Global};
+use std::marker::Model;
 
 /// Reads the lines of a source.
 ///
@@ -20,17 +22,30 @@ use std::alloc::{AllocError, Global};
 /// line is a comment and may hold any bytes. Outside comments a line holds the bytes from the space
 /// to `~` and tabs, and spaces and tabs separate its words. A line has at most 4,096 bytes without its
 /// end, and a text has at most 67,108,864 bytes: that many are taken from the source at most, and one more
-/// with the first `TooLong`. The answers are the same whatever pieces the source gives.
+/// with the first `TooLong`. The answers are the same whatever pieces the source gives. A source that has
+/// said that it is at its end, by a read of 0 bytes, is not asked again.
 ///
 /// The memory that it needs is taken when it is made.
 #[derive(Drop)]
-pub struct LineReader<'a, S> {
+pub struct LineReader<'a, S: Source> {
     source: &'a mut S,
     page: Page,
 }
 
+impl<'a, S: Source> Model for LineReader<'a, S> {
+    ghost use Rattle.std.specs.Prelude.{◌≡◌, true};
+    ghost use Rattle.std.specs.Io.KnownBytes.{IsAtEnd};
+    ghost use Rattle.lift_text.specs.Reader.{ReaderState};
+
+    ghost Value = { ReaderState S };
+
+    ghost view = { λ r. record { source = r.source; page = r.page } };
+
+    ghost invariant = { λ r. r.page.ended ≡ true → IsAtEnd (S.left r.source.now) };
+}
+
 impl<'a, S: Source> LineReader<'a, S> {
-    ghost use Rattle.lift_text.specs.LineReader.{text, line, words, raw, failure, quota, unread};
+    ghost use Rattle.lift_text.specs.LineReader.{text, line, words, raw, failure, quota, unread, has_ended};
 
     /// A reader before the first line. The only error is that memory runs out.
     pub fn new(alloc: Global, source: &'a mut S) -> Result<LineReader<'a, S>, AllocError>
@@ -45,6 +60,7 @@ impl<'a, S: Source> LineReader<'a, S> {
         ensures words { IfOk result (λ reader. words reader ≡ []) }
         ensures raw { IfOk result (λ reader. raw reader ≡ []) }
         ensures failure { IfOk result (λ reader. failure reader ≡ None) }
+        ensures ended { IfOk result (λ reader. has_ended reader ≡ false) }
     {
         let page = Page::new(alloc)?;
         Ok(LineReader { source, page })
@@ -55,8 +71,8 @@ impl<'a, S: Source> LineReader<'a, S> {
     /// A line is bad with `OverLong` where it is over 4,096 bytes, and else with `ForbiddenByte` where a
     /// byte outside its comment is not allowed; this is answered only when its LF, the end of the source or
     /// more than 4,097 of its bytes were seen. `Read` comes only where a read of the source failed, which
-    /// is asked only where the line is not whole among the bytes that were read. An `Err` is answered
-    /// from then on, and nothing more is taken from the source.
+    /// is asked only where the line is not whole among the bytes that were read and the source has not said
+    /// that it is at its end. An `Err` is answered from then on, and nothing more is taken from the source.
     pub fn next_line(&mut self) -> Result<bool, TextFault>
         ensures same_source { self.new.source.ghost_name ≡ self.old.source.ghost_name }
         ensures next { failure self.old ≡ None → NextLine (text S.left self.old) result (words self.new)
@@ -77,11 +93,20 @@ impl<'a, S: Source> LineReader<'a, S> {
             × BadLineShows (failure self.old) result (line self.old) (unread self.old ++ taken)
             (S.left self.new.source.now)
             × (failure self.old ≡ None → IsErrOf result TextFault.Read
-            → StoppedBehind (line self.old) (line self.new) (unread self.old ++ taken)
-            (S.left self.new.source.now)) }
+            → StoppedBehind (line self.old) (line self.new) (unread self.old ++ taken)) }
         ensures unasked { HasWholeAnswer (pieces_of (unread self.old))
             → self.new.source.now ≡ self.old.source.now }
         ensures again_line { IfSome (failure self.old) (λ _. line self.new ≡ line self.old) }
+
+        // The reader has ended once the source has said that it is at its end.
+        ensures at_end { has_ended self.new ≡ true → IsAtEnd (S.left self.new.source.now) }
+        ensures stays_ended { has_ended self.old ≡ true → (has_ended self.new ≡ true)
+            × (self.new.source.now ≡ self.old.source.now) }
+        ensures ended { result ≡ Ok false → has_ended self.new ≡ true }
+        ensures not_ended { failure self.old ≡ None → IsErrOf result TextFault.Read
+            → has_ended self.new ≡ false }
+        ensures line_feeds { OnOk result
+            (HaveLineFeeds (text S.left self.old) (line self.new - line self.old) (has_ended self.new)) }
 
         ensures ok { OnOk result (failure self.new ≡ None) }
         ensures err { IfErr result (λ fault. failure self.new ≡ Some fault) }
@@ -127,8 +152,8 @@ impl<'a, S: Source> LineReader<'a, S> {
     }
 
     /// Reads the next line as it stands. `Read` comes only where a read of the source failed, which is
-    /// asked only where no whole line is among the bytes that were read. An `Err` is answered from then
-    /// on, and nothing more is taken from the source.
+    /// asked only where no whole line is among the bytes that were read and it has not said that it is at its
+    /// end. An `Err` is answered from then on, and nothing more is taken from the source.
     pub fn raw_line(&mut self) -> Result<RawLine, TextFault>
         ensures same_source { self.new.source.ghost_name ≡ self.old.source.ghost_name }
         ensures next { failure self.old ≡ None → NextRaw (text S.left self.old) result (raw self.new)
@@ -150,6 +175,16 @@ impl<'a, S: Source> LineReader<'a, S> {
         ensures unasked { HasWholeLine (unread self.old)
             → self.new.source.now ≡ self.old.source.now }
         ensures line { line self.new ≡ line self.old + lines_counted result }
+
+        // The reader has ended once the source has said that it is at its end.
+        ensures at_end { has_ended self.new ≡ true → IsAtEnd (S.left self.new.source.now) }
+        ensures stays_ended { has_ended self.old ≡ true → (has_ended self.new ≡ true)
+            × (self.new.source.now ≡ self.old.source.now) }
+        ensures ended { result ≡ Ok RawLine.End → has_ended self.new ≡ true }
+        ensures not_ended { failure self.old ≡ None → IsErrOf result TextFault.Read
+            → has_ended self.new ≡ false }
+        ensures line_feed { OnOk result
+            (HaveLineFeeds (text S.left self.old) 1 (has_ended self.new)) }
 
         ensures ok { OnOk result (failure self.new ≡ None) }
         ensures err { IfErr result (λ fault. failure self.new ≡ Some fault) }

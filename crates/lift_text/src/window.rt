@@ -1,6 +1,6 @@
 //! The bytes of a source that are read and not used yet.
 ghost use Rattle.std.specs.Prelude.{◌≡◌, ◌≢◌, ℕ, ◌+◌, ◌<◌, ◌≤◌, List, [], ◌∷◌, ◌++◌, length, take, drop};
-ghost use Rattle.std.specs.Prelude.{IfOk, OnErr, slice_index};
+ghost use Rattle.std.specs.Prelude.{IfOk, IfSome, OnErr, slice_index, true, false, ◌⊎◌};
 ghost use Rattle.std.specs.Io.KnownBytes.{prepend_known, IsAtEnd};
 ghost use Rattle.std.specs.Io.BufRead.{strip_last};
 ghost use Rattle.byte_streams.specs.Streams.{Rose, Took};
@@ -56,6 +56,8 @@ pub(crate) struct Window {
     start: usize,
     end: usize,
     quota: usize,
+    /// Whether the source has said that it is at its end.
+    ended: bool,
 }
 
 impl Model for Window {
@@ -68,6 +70,7 @@ impl Model for Window {
       unread = slice_range w.bytes.items w.start w.end;
       quota = w.quota;
       room = 69634 - w.end;
+      ended = w.ended;
     } };
 
     ghost invariant = { λ w. (w.start ≤ w.end) × (w.end ≤ 69634) × (vec_len w.bytes ≡ 69634) };
@@ -78,12 +81,14 @@ impl Window {
     pub(crate) fn new(alloc: Global, quota: usize) -> Result<Window, AllocError>
         ensures empty { IfOk result (λ window. window.unread ≡ []) }
         ensures quota { IfOk result (λ window. window.quota ≡ quota) }
+        ensures ended { IfOk result (λ window. window.ended ≡ false) }
     {
         Ok(Window {
             bytes: vec![in alloc; 0; SIZE]?,
             start: 0,
             end: 0,
             quota,
+            ended: false,
         })
     }
 
@@ -97,6 +102,7 @@ impl Window {
         requires { count ≤ length self.old.unread }
         ensures unread { self.new.unread ≡ drop count self.old.unread }
         ensures quota { self.new.quota ≡ self.old.quota }
+        ensures ended { self.new.ended ≡ self.old.ended }
     {
         self.start += count;
     }
@@ -106,6 +112,7 @@ impl Window {
         requires { length self.old.unread < 4098 }
         ensures unread { self.new.unread ≡ self.old.unread }
         ensures quota { self.new.quota ≡ self.old.quota }
+        ensures ended { self.new.ended ≡ self.old.ended }
         ensures room { 0 < self.new.room }
     {
         if SIZE - self.end < LONGEST {
@@ -125,6 +132,7 @@ impl Window {
             × (S.left source.old ≡ prepend_known more (S.left source.new))) }
         ensures quota { IfOk result (λ count. self.new.quota + count ≡ self.old.quota) }
         ensures end { IfOk result (λ count. count ≡ 0 → IsAtEnd (S.left source.new)) }
+        ensures ended { self.new.ended ≡ self.old.ended }
         ensures err { OnErr result ((self.new.unread ≡ self.old.unread) × (self.new.quota ≡ self.old.quota)
             × (S.left source.new ≡ S.left source.old)) }
         ensures counted { S.faults source.old ≤ S.faults source.new }
@@ -138,8 +146,8 @@ impl Window {
         Ok(count)
     }
 
-    /// Reads more after the unread bytes, of which there are too few to be a longest line.
-    fn fill<S: Source>(&mut self, source: &mut S) -> Result<Fill, SourceFault>
+    /// Asks the source for more after the unread bytes, of which there are too few to be a longest line.
+    fn ask<S: Source>(&mut self, source: &mut S) -> Result<Fill, SourceFault>
         requires { length self.old.unread < 4098 }
         ensures more { result ≡ Ok Fill.More → (more : List ℕ) × (0 < length more)
             × (self.new.unread ≡ self.old.unread ++ more)
@@ -150,6 +158,7 @@ impl Window {
         ensures kept { result ≢ Ok Fill.More → self.new.unread ≡ self.old.unread }
         ensures ok { IfOk result (λ fill. Filled fill (S.left source.old) (S.left source.new)) }
         ensures limit { result ≡ Ok Fill.Limit → self.new.quota ≡ 0 }
+        ensures ended { self.new.ended ≡ self.old.ended }
         ensures err { OnErr result (S.left source.new ≡ S.left source.old) }
         ensures counted { S.faults source.old ≤ S.faults source.new }
         ensures fault { OnErr result (Rose (S.faults source.old) (S.faults source.new)) }
@@ -165,16 +174,55 @@ impl Window {
         }
     }
 
+    /// Reads more after the unread bytes, of which there are too few to be a longest line. A source that has
+    /// said that it is at its end is not asked again.
+    fn fill<S: Source>(&mut self, source: &mut S) -> Result<Fill, SourceFault>
+        requires few { length self.old.unread < 4098 }
+        requires at_end { self.old.ended ≡ true → IsAtEnd (S.left source.old) }
+        ensures more { result ≡ Ok Fill.More → (more : List ℕ) × (0 < length more)
+            × (self.new.unread ≡ self.old.unread ++ more)
+            × (S.left source.old ≡ prepend_known more (S.left source.new)) }
+        ensures quota { self.new.quota + length self.new.unread
+            ≡ self.old.quota + length self.old.unread }
+        ensures less { result ≡ Ok Fill.More → self.new.quota < self.old.quota }
+        ensures kept { result ≢ Ok Fill.More → self.new.unread ≡ self.old.unread }
+        ensures ok { IfOk result (λ fill. Filled fill (S.left source.old) (S.left source.new)) }
+        ensures limit { result ≡ Ok Fill.Limit → self.new.quota ≡ 0 }
+        ensures at_end { self.new.ended ≡ true → IsAtEnd (S.left source.new) }
+        ensures stays_ended { self.old.ended ≡ true → (self.new.ended ≡ true) × (source.new ≡ source.old) }
+        ensures ended { result ≡ Ok Fill.End → self.new.ended ≡ true }
+        ensures not_ended { result ≢ Ok Fill.End → self.new.ended ≡ false }
+        ensures err { OnErr result (S.left source.new ≡ S.left source.old) }
+        ensures counted { S.faults source.old ≤ S.faults source.new }
+        ensures fault { OnErr result (Rose (S.faults source.old) (S.faults source.new)) }
+    {
+        if self.ended {
+            return Ok(Fill::End);
+        }
+        match self.ask(source)? {
+            Fill::More => Ok(Fill::More),
+            Fill::End => {
+                self.ended = true;
+                Ok(Fill::End)
+            }
+            Fill::Limit => Ok(Fill::Limit),
+        }
+    }
+
     /// Finds what stands at the front of what is left.
     pub(crate) fn find<S: Source>(&mut self, source: &mut S) -> Result<Front, SourceFault>
+        requires at_end { self.old.ended ≡ true → IsAtEnd (S.left source.old) }
         ensures ok { IfOk result (λ found. FoundIn found (prepend_known self.old.unread (S.left source.old))
             self.new.unread (S.left source.new) self.new.quota) }
         ensures quota { self.new.quota + length self.new.unread
             ≡ self.old.quota + length self.old.unread }
         ensures taken { (taken : List ℕ) × Gathered (past_found result) self.old.quota self.new.quota
             self.old.unread self.new.unread taken (S.left source.old) (S.left source.new) }
-        ensures shows { IfOk result
-            (λ found. FoundShows found self.new.unread (S.left source.new)) }
+        ensures shows { IfOk result (λ found. FoundShows found self.new.unread self.new.ended) }
+        ensures at_end { self.new.ended ≡ true → IsAtEnd (S.left source.new) }
+        ensures stays_ended { self.old.ended ≡ true → (self.new.ended ≡ true) × (source.new ≡ source.old) }
+        ensures ended { result ≡ Ok Front.End → self.new.ended ≡ true }
+        ensures not_ended { OnErr result (self.new.ended ≡ false) }
         ensures unasked { HasWholeLine self.old.unread → (source.new ≡ source.old)
             × (self.new.unread ≡ self.old.unread) × FoundWhole result self.new.unread }
         ensures one { IfOk result (λ found. FoundOne found self.new.unread) }
@@ -205,7 +253,8 @@ impl Window {
 
     /// Passes over the line at the front, however long it is.
     pub(crate) fn skip_line<S: Source>(&mut self, source: &mut S) -> Result<Skipped, SourceFault>
-        requires { 0 < length self.old.unread }
+        requires some { 0 < length self.old.unread }
+        requires at_end { self.old.ended ≡ true → IsAtEnd (S.left source.old) }
         ensures ok { IfOk result (λ skipped. SkippedIn skipped (prepend_known self.old.unread (S.left source.old))
             (self.old.quota + length self.old.unread) self.new.unread (S.left source.new) self.new.quota) }
         ensures less { self.new.quota + length self.new.unread
@@ -215,6 +264,11 @@ impl Window {
         ensures taken { (taken : List ℕ) × Took (past_skipped result) self.old.quota self.new.quota taken
             (S.left source.old) (S.left source.new)
             × OnErr result (¬ HasWholeLine (self.old.unread ++ taken)) }
+        ensures line_feed { result ≡ Ok Skipped.Whole
+            → IfSome (prepend_known self.old.unread (S.left source.old)) HasWholeLine ⊎ (self.new.ended ≡ true) }
+        ensures at_end { self.new.ended ≡ true → IsAtEnd (S.left source.new) }
+        ensures stays_ended { self.old.ended ≡ true → (self.new.ended ≡ true) × (source.new ≡ source.old) }
+        ensures not_ended { OnErr result (self.new.ended ≡ false) }
         ensures counted { S.faults source.old ≤ S.faults source.new }
         ensures fault { OnErr result (Rose (S.faults source.old) (S.faults source.new)) }
     {

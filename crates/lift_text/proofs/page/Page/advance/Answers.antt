@@ -84,13 +84,17 @@ returns-in_default g c =
             (sym (ap (λ (p : PageState). p.quota) c.self.view_is))
             (sym (ap (λ (p : PageState). p.unread) c.self.view_is) ∙ ap (λ n. drop n page.window.unread) zero),
       );
-      shows = line_ends_other found _ (left c.find.new.source) c.in_default.not-Line
-          (subst (λ n. FoundShows found (drop n window.unread) (left c.find.new.source)) (sym zero) c.in_ok-found.ensures.shows);
+      shows = line_ends_other found _ c.in_default.not-Line
+          (subst (λ n. FoundShows found (drop n window.unread) window.ended) (sym zero) c.in_ok-found.ensures.shows);
       unasked = λ has. absurd (no_other_whole found window.unread c.in_default.not-Line
           (c.in_ok-found.ensures.unasked (subst HasWholeLine (sym (ap (λ (p : PageState). p.unread) c.self.view_is) ∙ ap (λ n. drop n page.window.unread) zero) has)).2);
       one = current_one_other found _ c.in_default.not-Line;
       none = tt;
       end = λ is. (let same : found ≡ End = cc in at_end found _ _ _ _ c.in_ok-found.ensures.ok same);
+      at_end = c.in_ok-found.ensures.at_end;
+      stays_ended = λ was. c.in_ok-found.ensures.stays_ended (ap (λ (p : PageState). p.ended) c.self.view_is ∙ was);
+      ended = c.in_ok-found.ensures.ended;
+      not_ended = tt;
       counted = omega arith;
       fault = tt;
     }

@@ -1,7 +1,9 @@
-use Rattle.std.proofs.Common.{◌++◌, inl, inr, refl, ap, sym, subst, ◌∙◌, append_assoc}
+use Rattle.std.proofs.Common.{◌++◌, inl, inr, OnOk, refl, ap, sym, subst, ◌∙◌, append_assoc}
 use Rattle.std.proofs.lemmas.Bool.{cases_lt}
 use Rattle.lift_text.specs.Lines.{HasWholeLine}
 use Rattle.lift_text.specs.Page.{text_at}
+use Rattle.lift_text.specs.Reading.{HaveLineFeeds}
+use Rattle.lift_text.proofs.EndLemmas.{found_feed}
 use Rattle.lift_text.proofs.ReadLemmas.{raw_line_found, raw_long_found}
 use Rattle.lift_text.proofs.TakenLemmas.{took_more}
 use Rattle.lift_text.proofs.page.Page.read_raw.Goals as goal
@@ -25,3 +27,27 @@ returns-in-Ok-Line-clause-next g c =
       | inl long ↦ let kept = c.keep_raw.ensures.long long in rw (kept.0, kept.1) (raw_long_found before after page.current page.raw line c.in-Ok-Line.field-0-1 found.forward.0 long found.ok)
       | inr short ↦ let kept = c.keep_raw.ensures.line short in rw (kept.0, kept.1) (raw_line_found before after page.current line c.in-Ok-Line.field-0-1 short found.ok)
     ]
+
+pub returns-in-Ok-Line-clause-line_feed : goal.returns-in-Ok-Line-clause-line_feed
+returns-in-Ok-Line-clause-line_feed g c =
+    let page = c.advance.new.self in
+    let before = text_at c.args.self.now (g.S.Source.left c.args.source.now) in
+    let after = text_at page (g.S.Source.left c.advance.new.source) in
+    let found = rw c.in-Ok-Line.field-0-is at c.in-Ok-Line.ensures in
+    subst (λ ended. HaveLineFeeds before 1 ended) (sym c.keep_raw.ensures.ended) (found_feed before after page.current c.in-Ok-Line.line c.in-Ok-Line.field-0-1 page.ended found.ok found.shows)
+
+pub returns-in-Ok-Long-clause-line_feed : goal.returns-in-Ok-Long-clause-line_feed
+returns-in-Ok-Long-clause-line_feed g c =
+    let first = rw c.in-Ok-Long.field-0-is at c.in-Ok-Long.ensures in
+    subst (λ text. OnOk c.skip_long.result (HaveLineFeeds text 1 c.skip_long.new.self.ended)) first.ok.1 c.skip_long.ensures.line_feed
+
+pub returns-in-Ok-End-clause-line_feed : goal.returns-in-Ok-End-clause-line_feed
+returns-in-Ok-End-clause-line_feed g c =
+    let first = rw c.in-Ok-End.field-0-is at c.in-Ok-End.ensures in
+    inr (first.ended refl)
+
+pub returns-in-Ok-Long-clause-stays_ended : goal.returns-in-Ok-Long-clause-stays_ended
+returns-in-Ok-Long-clause-stays_ended g c =
+    λ was. (let first = c.in-Ok-Long.ensures.stays_ended was in
+    let rest = c.skip_long.ensures.stays_ended first.0 in
+    (rest.0, rest.1 ∙ first.1))

@@ -1,10 +1,12 @@
-use Rattle.std.proofs.Common.{◌≡◌, ◌+◌, Ok, Err, None, length, take, drop, arith, ap, sym, subst, ◌∙◌}
+use Rattle.std.proofs.Common.{◌≡◌, ◌+◌, Ok, Err, None, length, take, drop, arith, ap, sym, subst, ◌∙◌, refl}
 use Rattle.std.specs.Io.KnownBytes.{prepend_known}
 use Rattle.lift_text.specs.Front.{SkippedIn}
 use Rattle.lift_text.specs.Page.{PageState, SkippedLine, text_at}
+use Rattle.lift_text.specs.Reading.{HaveLineFeeds}
 use Rattle.lift_text.specs.declared.faults.RawLine.TheVariants.{Long}
 use Rattle.lift_text.specs.declared.faults.TextFault.TheVariants.{TooLong}
 use Rattle.lift_text.proofs.PageLemmas.{state, empty_front}
+use Rattle.lift_text.proofs.EndLemmas.{first_feed}
 use Rattle.lift_text.proofs.SkipLemmas.{skipped_text, cut_text}
 use Rattle.lift_text.proofs.page.Page.skip_long.Goals as goal
 
@@ -43,3 +45,15 @@ returns-in-Err-clause-raw g c =
     let zero = empty_front page.size page.window.unread c.self.invariant.size_within (ap (λ (p : PageState). p.current) c.self.view_is ∙ c.requires.current) in
     let none : page.raw ≡ 0 = omega (arith, zero, c.self.invariant.raw_within) in
     ap (λ n. take n c.skip_line.new.self.unread) none
+
+pub returns-in-Ok-Whole-clause-line_feed : goal.returns-in-Ok-Whole-clause-line_feed
+returns-in-Ok-Whole-clause-line_feed g c =
+    let page = c.self.inside in
+    let before = g.S.Source.left c.args.source.now in
+    let start = page.window.unread in
+    let ended = c.skip_line.new.self.ended in
+    let zero = empty_front page.size start c.self.invariant.size_within (ap (λ (p : PageState). p.current) c.self.view_is ∙ c.requires.current) in
+    let skipped = rw c.in-Ok-Whole.field-0-is at c.in-Ok-Whole.ensures in
+    let feed = first_feed page.line (page.window.quota + length start) (prepend_known start before) ended (skipped.line_feed refl) in
+    subst (λ (p : PageState). HaveLineFeeds (text_at p before) 1 ended) c.self.view_is
+    (subst (λ n. HaveLineFeeds (state page.line (page.window.quota + length (drop n start)) (prepend_known (drop n start) before)) 1 ended) (sym zero) feed)

@@ -81,6 +81,8 @@ search-preserved g c =
         sym (append_assoc c.args.self.now.unread before.taken.0 more.0) ∙ ap (λ l. l ++ more.0) before.taken.2 ∙ sym more.2,
       );
       counted = search rules;
+      at_end = filled.at_end;
+      stays = λ was. (let kept = filled.stays_ended (before.stays was).0 in (kept.0, kept.1 ∙ (before.stays was).1));
       unasked = λ has. absurd (no_whole_front c.args.self.now.unread before.taken.0 c.search.self.unread c.line_feed_from-place.result before.taken.2 (omega arith) place.none has);
     }
 
@@ -102,3 +104,21 @@ pub returns-in-Limit-clause-unasked : goal.returns-in-Limit-clause-unasked
 returns-in-Limit-clause-unasked g c =
     let before = c.search.invariant.taken in
     λ has. absurd (no_whole_front c.args.self.now.unread before.0 c.search.self.unread c.line_feed_from-place.result before.2 (omega arith) c.line_feed_from-place.ensures.none has)
+
+pub returns-in-End-clause-stays_ended : goal.returns-in-End-clause-stays_ended
+returns-in-End-clause-stays_ended g c =
+    λ was. (let before = c.search.invariant.stays was in
+    let kept = c.in_ok-fill.ensures.stays_ended before.0 in
+    (kept.0, kept.1 ∙ before.1))
+
+pub returns-in-Limit-clause-stays_ended : goal.returns-in-Limit-clause-stays_ended
+returns-in-Limit-clause-stays_ended g c =
+    λ was. (let before = c.search.invariant.stays was in
+    let kept = c.in_ok-fill.ensures.stays_ended before.0 in
+    (kept.0, kept.1 ∙ before.1))
+
+pub returns-in_err-fill-clause-stays_ended : goal.returns-in_err-fill-clause-stays_ended
+returns-in_err-fill-clause-stays_ended g c =
+    λ was. (let before = c.search.invariant.stays was in
+    let kept = c.in_err-fill.ensures.stays_ended before.0 in
+    (kept.0, kept.1 ∙ before.1))

@@ -1,5 +1,5 @@
-use Rattle.std.proofs.Common.{◌≡◌, ◌≢◌, ℕ, List, ◌++◌, ◌+◌, ◌<◌, ◌≤◌, length, get_or}
-use Rattle.std.specs.Io.KnownBytes.{prepend_known}
+use Rattle.std.proofs.Common.{◌≡◌, ◌≢◌, ℕ, List, ◌++◌, ◌+◌, ◌<◌, ◌≤◌, length, get_or, true}
+use Rattle.std.specs.Io.KnownBytes.{prepend_known, IsAtEnd}
 use Rattle.lift_text.specs.Lines.{HasWholeLine}
 use Rattle.lift_text.proofs.window.Window.find.Given as goal
 
@@ -14,6 +14,8 @@ invariant-search g l = record {
   taken : (taken : List ℕ) × (g.S.Source.left l.initial.source ≡ prepend_known taken (g.S.Source.left l.source))
       × (l.initial.self.unread ++ taken ≡ l.self.unread);
   counted : g.S.Source.faults l.initial.source ≤ g.S.Source.faults l.source;
+  at_end : l.self.ended ≡ true → IsAtEnd (g.S.Source.left l.source);
+  stays : l.initial.self.ended ≡ true → (l.self.ended ≡ true) × (l.source ≡ l.initial.source);
   unasked : HasWholeLine l.initial.self.unread → (l.source ≡ l.initial.source) × (l.self.unread ≡ l.initial.self.unread);
 }
 

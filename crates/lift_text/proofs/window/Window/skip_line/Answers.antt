@@ -1,6 +1,7 @@
-use Rattle.std.proofs.Common.{◌≢◌, ◌+◌, ◌<◌, ◌++◌, ℕ, [], ◌∷◌, length, drop, get_or, arith, ap, sym, subst, ◌∙◌, length-append, refl, rules, append_assoc, append-nil}
+use Rattle.std.proofs.Common.{◌≢◌, ◌+◌, ◌<◌, ◌++◌, inl, inr, ℕ, [], ◌∷◌, length, drop, get_or, arith, ap, sym, subst, ◌∙◌, length-append, refl, rules, append_assoc, append-nil}
 use Rattle.std.proofs.Math.Seq.{drop-length}
 use Rattle.std.specs.Io.KnownBytes.{prepend_known}
+use Rattle.std.proofs.lemmas.List.{get_or_default}
 use Rattle.std.proofs.lemmas.Result.{err_from_is_err_and}
 use Rattle.lift_text.specs.Lines.{HasWholeLine}
 use Rattle.lift_text.proofs.PieceLemmas.{no_whole_line}
@@ -8,7 +9,7 @@ use Rattle.lift_text.specs.Front.{SkippedIn}
 use Rattle.lift_text.specs.declared.window.Skipped.TheVariants.{Whole}
 use Rattle.byte_streams.proofs.KnownBytes.{given_more, prepend_known-nil}
 use Rattle.lift_text.proofs.TakenLemmas.{took_last}
-use Rattle.lift_text.proofs.SkipLemmas.{skipped_line, skipped_end, skipped_cut, no_line_feed-append, all_searched}
+use Rattle.lift_text.proofs.SkipLemmas.{skipped_line, skipped_end, skipped_cut, no_line_feed-append, all_searched, has_in_known}
 use Rattle.lift_text.proofs.window.Window.skip_line.Goals as goal
 
 pub returns-then-place-len-clause-ok : goal.returns-then-place-len-clause-ok
@@ -46,6 +47,10 @@ skip-preserved g c =
         omega (arith, c.skip.invariant.taken.2, filled.quota, c.consume-in-skip.ensures.quota, ap length same, length-append c.skip.invariant.taken.0 more.0, ap length empty),
       );
       joined = sym (append_assoc c.args.self.now.unread c.skip.invariant.taken.0 more.0) ∙ ap (λ l. l ++ more.0) c.skip.invariant.joined ∙ ap (λ l. (front.0 ++ unread) ++ l) (sym same);
+      at_end = filled.at_end;
+      stays = λ was. (let before = c.skip.invariant.stays was in
+          let kept = filled.stays_ended (c.consume-in-skip.ensures.ended ∙ before.0) in
+          (kept.0, kept.1 ∙ before.1));
       counted = omega (arith, filled.counted);
     }
 
@@ -55,6 +60,8 @@ skip-init g c = record {
   front = ([], λ k below. absurd (omega arith), refl, omega arith);
   taken = ([], prepend_known-nil _, omega arith);
   joined = append-nil _;
+  at_end = c.requires.at_end;
+  stays = λ was. (was, refl);
   counted = omega arith;
 }
 
@@ -119,3 +126,33 @@ returns-in-Limit-clause-taken g c =
       took_last _ _ _ _ _ _ _ before.1 filled.ok.1 (omega (arith, before.2, filled.quota, c.consume-in-skip.ensures.quota, ap length same)) (filled.limit refl),
       tt,
     )
+
+pub returns-in-End-clause-stays_ended : goal.returns-in-End-clause-stays_ended
+returns-in-End-clause-stays_ended g c =
+    λ was. (let before = c.skip.invariant.stays was in
+    let kept = c.in_ok-fill.ensures.stays_ended (c.consume-in-skip.ensures.ended ∙ before.0) in
+    (kept.0, kept.1 ∙ before.1))
+
+pub returns-in-Limit-clause-stays_ended : goal.returns-in-Limit-clause-stays_ended
+returns-in-Limit-clause-stays_ended g c =
+    λ was. (let before = c.skip.invariant.stays was in
+    let kept = c.in_ok-fill.ensures.stays_ended (c.consume-in-skip.ensures.ended ∙ before.0) in
+    (kept.0, kept.1 ∙ before.1))
+
+pub returns-in_err-fill-clause-stays_ended : goal.returns-in_err-fill-clause-stays_ended
+returns-in_err-fill-clause-stays_ended g c =
+    λ was. (let before = c.skip.invariant.stays was in
+    let kept = c.in_err-fill.ensures.stays_ended (c.consume-in-skip.ensures.ended ∙ before.0) in
+    (kept.0, kept.1 ∙ before.1))
+
+pub returns-then-place-len-clause-line_feed : goal.returns-then-place-len-clause-line_feed
+returns-then-place-len-clause-line_feed g c =
+    let front = c.skip.invariant.front in
+    let place = c.line_feed_from-place in
+    let inside : place.result < length c.skip.self.unread = omega arith in
+    λ _. inl (has_in_known _ (g.S.Source.left c.skip.source) front.0 c.skip.self.unread front.2 (place.result, inside, get_or_default c.skip.self.unread place.result 10 0 inside ∙ place.ensures.found inside))
+
+pub returns-in-End-clause-line_feed : goal.returns-in-End-clause-line_feed
+returns-in-End-clause-line_feed g c =
+    let filled = rw c.in-End.is at c.in_ok-fill.ensures in
+    λ _. inr (filled.ended refl)

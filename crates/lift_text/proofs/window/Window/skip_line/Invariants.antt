@@ -1,5 +1,5 @@
-use Rattle.std.proofs.Common.{◌≡◌, ℕ, List, ◌+◌, ◌<◌, ◌≤◌, ◌++◌, length}
-use Rattle.std.specs.Io.KnownBytes.{prepend_known}
+use Rattle.std.proofs.Common.{◌≡◌, ℕ, List, ◌+◌, ◌<◌, ◌≤◌, ◌++◌, length, true}
+use Rattle.std.specs.Io.KnownBytes.{prepend_known, IsAtEnd}
 use Rattle.lift_text.specs.Front.{NoLineFeed}
 use Rattle.lift_text.proofs.window.Window.skip_line.Given as goal
 
@@ -13,6 +13,8 @@ invariant-skip g l = record {
   taken : (taken : List ℕ) × (g.S.Source.left l.initial.source ≡ prepend_known taken (g.S.Source.left l.source))
       × (l.self.quota + length taken ≡ l.initial.self.quota);
   joined : l.initial.self.unread ++ taken.0 ≡ front.0 ++ l.self.unread;
+  at_end : l.self.ended ≡ true → IsAtEnd (g.S.Source.left l.source);
+  stays : l.initial.self.ended ≡ true → (l.self.ended ≡ true) × (l.source ≡ l.initial.source);
   counted : g.S.Source.faults l.initial.source ≤ g.S.Source.faults l.source;
 }
 
