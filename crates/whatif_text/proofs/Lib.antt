@@ -1,0 +1,4 @@
+pub mod CallLemmas
+pub mod EndLemmas
+pub mod AskedLemmas
+pub mod Worked
