@@ -1,6 +1,7 @@
 -- How a command ends that reads its whole input and then puts its answer, or what is wrong with the input. Behind `put`,
 -- `ends_put` or `ends_either` shows the clause `Ends`, and `put_whole` the status, unless the sink failed. Behind
 -- `put_fault` it is `ends_fault`, and of the status `fault_memory`, where the input is a right one, or `fault_status`.
+-- Behind another line that refuses the input it is `ends_line`, and of the status `line_status`.
 use Rattle.std.proofs.Common.{◌≡◌, ◌⊎◌, ℕ, Option, List, refl, sym, subst, inl, inr}
 use Rattle.byte_streams.specs.Streams.{Rose}
 use Rattle.lift_text.specs.declared.codes.TextCode.{TextCode}
@@ -8,7 +9,7 @@ use Rattle.lift_text.specs.declared.faults.TextFault.{TextFault}
 use Rattle.lift_text.specs.declared.faults.TextFault.TheVariants.{Read as FailedRead, TooLong, Bad, NoMemory}
 use Rattle.command_ends.specs.declared.status.Status.{Status}
 use Rattle.command_ends.specs.declared.status.Status.TheVariants.{Done, Words, Stopped, Refused, Input, Read, Write, Memory}
-use Rattle.command_ends.specs.Ends.{Streams, Due, Wrote, Ends, Puts, PutsFault, PutsRefusal, IsRefusalLine}
+use Rattle.command_ends.specs.Ends.{Streams, Due, Wrote, Ends, Puts, PutsFault, PutsLine, IsRefusalLine}
 
 -- ---- a text that is due
 
@@ -36,27 +37,29 @@ put_whole text status result old new before after (inr put) sure = absurd (sure 
 
 -- ---- an input that was not taken
 
-ends_refusal : (due : Due) (fault : TextFault) (old new : Streams) (result : Status) → ((text : List ℕ) → IsRefusalLine fault text → due Input text)
-    → PutsRefusal fault result old.taken new.taken old.write_faults new.write_faults → Ends due old new result
-ends_refusal due fault old new result as_due (inl put) = ends_put due old new put.0 Input result (as_due put.0 put.1) (λ wrote. wrote) put.2
-ends_refusal due fault old new result as_due (inr none) = subst (Ends due old new) (sym none.0) none.1
+-- a line that refuses the input is due where it was put
+pub ends_line : (due : Due) (IsLine : List ℕ → Type 0) (old new : Streams) (result : Status) → ((text : List ℕ) → IsLine text → due Input text)
+    → PutsLine IsLine result old.taken new.taken old.write_faults new.write_faults → Ends due old new result
+ends_line due IsLine old new result as_due (inl put) = ends_put due old new put.0 Input result (as_due put.0 put.1) (λ wrote. wrote) put.2
+ends_line due IsLine old new result as_due (inr none) = subst (Ends due old new) (sym none.0) none.1
 
 -- the refusal line is due where it was put, and after a failed read nothing was written
 pub ends_fault : (due : Due) (fault : TextFault) (old new : Streams) (result : Status) → ((text : List ℕ) → IsRefusalLine fault text → due Input text)
     → (fault ≡ FailedRead → Rose old.read_faults new.read_faults) → PutsFault fault result old.taken new.taken old.write_faults new.write_faults → Ends due old new result
-ends_fault due (Bad number code) old new result as_due rose put = ends_refusal due (Bad number code) old new result as_due put
-ends_fault due TooLong old new result as_due rose put = ends_refusal due TooLong old new result as_due put
+ends_fault due (Bad number code) old new result as_due rose put = ends_line due (IsRefusalLine (Bad number code)) old new result as_due put
+ends_fault due TooLong old new result as_due rose put = ends_line due (IsRefusalLine TooLong) old new result as_due put
 ends_fault due FailedRead old new result as_due rose put = subst (Ends due old new) (sym put.0) (record { rose = rose refl; unwritten = put.1 })
 ends_fault due NoMemory old new result as_due rose put = subst (Ends due old new) (sym put.0) put.1
 
-refusal_status : (fault : TextFault) (result : Status) (old new : Option (List ℕ)) (before after : ℕ) → PutsRefusal fault result old new before after → (Rose before after → ⊥) → (result ≡ Input) ⊎ (result ≡ Memory)
-refusal_status fault result old new before after (inl put) sure = inl (put_whole put.0 Input result old new before after put.2 sure)
-refusal_status fault result old new before after (inr none) sure = inr none.0
+-- unless the sink failed, the input was refused
+pub line_status : (IsLine : List ℕ → Type 0) (result : Status) (old new : Option (List ℕ)) (before after : ℕ) → PutsLine IsLine result old new before after → (Rose before after → ⊥) → (result ≡ Input) ⊎ (result ≡ Memory)
+line_status IsLine result old new before after (inl put) sure = inl (put_whole put.0 Input result old new before after put.2 sure)
+line_status IsLine result old new before after (inr none) sure = inr none.0
 
 -- unless the source or the sink failed, the input was refused
 pub fault_status : (fault : TextFault) (result : Status) (old new : Option (List ℕ)) (before after : ℕ) → PutsFault fault result old new before after → (fault ≡ FailedRead → ⊥) → (Rose before after → ⊥) → (result ≡ Input) ⊎ (result ≡ Memory)
-fault_status (Bad number code) result old new before after put read sure = refusal_status (Bad number code) result old new before after put sure
-fault_status TooLong result old new before after put read sure = refusal_status TooLong result old new before after put sure
+fault_status (Bad number code) result old new before after put read sure = line_status (IsRefusalLine (Bad number code)) result old new before after put sure
+fault_status TooLong result old new before after put read sure = line_status (IsRefusalLine TooLong) result old new before after put sure
 fault_status FailedRead result old new before after put read sure = absurd (read refl)
 fault_status NoMemory result old new before after put read sure = inr put.0
 

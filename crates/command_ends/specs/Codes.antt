@@ -22,3 +22,7 @@ number_of NoHeader = 27
 number_of ShorterWay = 52
 number_of NoTime = 53
 number_of (Item fault) = code_of fault
+
+-- of the line after which no call is there that can be asked about
+abbrev pub nothing_asked : ℕ
+nothing_asked = 54

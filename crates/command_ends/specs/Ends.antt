@@ -5,7 +5,7 @@ use Rattle.byte_streams.specs.Streams.{Rose}
 use Rattle.lift_text.specs.Text.{words, line}
 use Rattle.lift_text.specs.declared.faults.TextFault.{TextFault}
 use Rattle.lift_text.specs.declared.faults.TextFault.TheVariants.{Read as FailedRead, TooLong, Bad, NoMemory}
-use Rattle.command_ends.specs.Codes.{number_of}
+use Rattle.command_ends.specs.Codes.{nothing_asked, number_of}
 use Rattle.command_ends.specs.declared.status.Status.{Status}
 use Rattle.command_ends.specs.declared.status.Status.TheVariants.{Done, Words, Stopped, Refused, Input, Read, Write, Memory}
 
@@ -64,17 +64,31 @@ Puts text status result old new before after =
 
 -- ---- what is wrong with an input
 
+-- the line that tells a line of the input and the code of what is wrong with it
+abbrev pub refusal_text : (number code : ℕ) → List ℕ
+refusal_text number code = words (codes "refused line") (number ∷ []) ++ line (codes " code") (code ∷ [])
+
 -- the line that tells the first bad line and its code, or that the input is too long
 abbrev pub IsRefusalLine : TextFault → List ℕ → Type 0
-IsRefusalLine (Bad number code) text = text ≡ words (codes "refused line") (number ∷ []) ++ line (codes " code") (number_of code ∷ [])
+IsRefusalLine (Bad number code) text = text ≡ refusal_text number (number_of code)
 IsRefusalLine TooLong text = text ≡ codes "refused long" ++ 10 ∷ []
 IsRefusalLine FailedRead text = ⊥
 IsRefusalLine NoMemory text = ⊥
 
--- the refusal line was put, or memory was wanting
+-- a line that refuses the input was put, or memory was wanting
+abbrev pub PutsLine : (IsLine : List ℕ → Type 0) → (result : Status) → (old new : Option (List ℕ)) → (before after : ℕ) → Type 0
+PutsLine IsLine result old new before after =
+    ((text : List ℕ) × IsLine text × Puts text Input result old new before after) ⊎ ((result ≡ Memory) × (new ≡ old))
+
 abbrev pub PutsRefusal : TextFault → (result : Status) → (old new : Option (List ℕ)) → (before after : ℕ) → Type 0
-PutsRefusal fault result old new before after =
-    ((text : List ℕ) × IsRefusalLine fault text × Puts text Input result old new before after) ⊎ ((result ≡ Memory) × (new ≡ old))
+PutsRefusal fault result old new before after = PutsLine (IsRefusalLine fault) result old new before after
+
+-- the line that tells that behind this one no call is there that can be asked about
+abbrev pub IsNothingAskedLine : (number : ℕ) → List ℕ → Type 0
+IsNothingAskedLine number text = text ≡ refusal_text number nothing_asked
+
+abbrev pub PutsNothingAsked : (number : ℕ) → (result : Status) → (old new : Option (List ℕ)) → (before after : ℕ) → Type 0
+PutsNothingAsked number result old new before after = PutsLine (IsNothingAskedLine number) result old new before after
 
 -- How an input is answered that was not taken.
 abbrev pub PutsFault : TextFault → (result : Status) → (old new : Option (List ℕ)) → (before after : ℕ) → Type 0

@@ -4,6 +4,9 @@ ghost use Rattle.command_ends.specs.Codes.{number_of};
 
 use lift_text::TextCode;
 
+/// The number that is printed where a case has no call that can be asked about.
+pub(crate) const NOTHING_ASKED: u8 = 54;
+
 /// The number that is printed for what is wrong with a line.
 pub fn number_of(code: TextCode) -> u8
     ensures { result ≡ number_of code }

@@ -1,13 +1,12 @@
 //! Writing what is due.
-ghost use Rattle.std.specs.Prelude.{◌≡◌, ℕ, List, ◌∷◌, [], ◌++◌, ◌≤◌, IfOk, codes};
-ghost use Rattle.lift_text.specs.Text.{words, line as line_of};
-ghost use Rattle.command_ends.specs.Codes.{number_of};
-ghost use Rattle.command_ends.specs.Ends.{IsRefusalLine, Puts, PutsFault};
+ghost use Rattle.std.specs.Prelude.{◌≡◌, ℕ, List, ◌≤◌, IfOk};
+ghost use Rattle.command_ends.specs.Ends.{IsRefusalLine, Puts, PutsFault, PutsLine, PutsNothingAsked};
+ghost use Rattle.command_ends.specs.Ends.{refusal_text};
 
-use crate::codes::number_of;
+use crate::codes::{NOTHING_ASKED, number_of};
 use crate::status::Status;
 use byte_streams::{Sink, put_all};
-use lift_text::{TextCode, TextFault, put_line, put_words};
+use lift_text::{TextFault, put_line, put_words};
 use std::alloc::{AllocError, Global};
 
 /// A text that answers the input, and the status with which it is written.
@@ -39,15 +38,34 @@ pub fn put_too_long<K: Sink>(sink: &mut K) -> Status
     put(sink, b"refused long\n", Status::Input)
 }
 
-/// What is written where a line of the input is bad.
-fn refusal_line(alloc: Global, line: u64, code: TextCode) -> Result<Vec<u8>, AllocError>
-    ensures { IfOk result (λ text. text.items
-        ≡ words (codes "refused line") (line ∷ []) ++ line_of (codes " code") (number_of code ∷ [])) }
+/// What is written where a line of the input is refused with this code.
+fn refusal_line(alloc: Global, line: u64, code: u8) -> Result<Vec<u8>, AllocError>
+    ensures { IfOk result (λ text. text.items ≡ refusal_text line code) }
 {
     let mut text = Vec::new(alloc);
     put_words(&mut text, b"refused line", &[line])?;
-    put_line(&mut text, b" code", &[u64::from(number_of(code))])?;
+    put_line(&mut text, b" code", &[u64::from(code)])?;
     Ok(text)
+}
+
+/// Writes that a line of the input is refused with this code.
+fn put_refusal<K: Sink>(alloc: Global, line: u64, code: u8, sink: &mut K) -> Status
+    ensures { PutsLine (λ text. text ≡ refusal_text line code) result (K.taken sink.old)
+        (K.taken sink.new) (K.faults sink.old) (K.faults sink.new) }
+{
+    match refusal_line(alloc, line, code) {
+        Ok(text) => put(sink, text.as_slice(), Status::Input),
+        Err(_) => Status::Memory,
+    }
+}
+
+/// Writes that the case that ends with this line has no call that can be asked about. When out of memory,
+/// nothing is written.
+pub fn put_nothing_asked<K: Sink>(alloc: Global, line: u64, sink: &mut K) -> Status
+    ensures { PutsNothingAsked line result (K.taken sink.old) (K.taken sink.new) (K.faults sink.old)
+        (K.faults sink.new) }
+{
+    put_refusal(alloc, line, NOTHING_ASKED, sink)
 }
 
 /// Writes what is wrong with an input. After a failed read, and when out of memory, nothing is written.
@@ -56,10 +74,7 @@ pub fn put_fault<K: Sink>(alloc: Global, fault: TextFault, sink: &mut K) -> Stat
         (K.faults sink.new) }
 {
     match fault {
-        TextFault::Bad { line, code } => match refusal_line(alloc, line, code) {
-            Ok(text) => put(sink, text.as_slice(), Status::Input),
-            Err(_) => Status::Memory,
-        },
+        TextFault::Bad { line, code } => put_refusal(alloc, line, number_of(code), sink),
         TextFault::TooLong => put_too_long(sink),
         TextFault::Read => Status::Read,
         TextFault::NoMemory => Status::Memory,

@@ -1,1 +1,3 @@
 pub mod TableOutcome
+pub mod WhatIfOutcome
+pub mod WorkedTexts

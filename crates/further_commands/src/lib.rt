@@ -8,11 +8,25 @@
 //! with its one code, or that it is too long. A table and no fault give status 0 or 4, as it is one or the
 //! other, or 8; any other input and no fault give 5 or 8. Each status says what was read and written.
 //!
-//! `specs/TableOutcome.antt` has the definitions: `ends` says for each status what was read and written
-//! (`TableDue`), `tables` that a table is answered (`Tables`), `refuses` that any other input is refused
-//! (`RefusesTables`).
+//! **`whatif`.** Status 0: the whole input was read and is the text of a case whose last call is asked about,
+//! and the text tells for each car what that call costs with it, exactly, or that the car cannot take it, and
+//! how much more it costs with the nearest car than with the best one. Status 3: the same, but some extra
+//! cost, and so what the nearest car costs more, is told by two ends between which it lies; never where the
+//! limits are enough. Status 5: the input is no such text, and the line tells its first bad line with its one
+//! code, that it is too long, or that it has no call that can be asked about. Such a case and no fault give
+//! status 0, 3 or 8; any other input and no fault give 5 or 8. Each status says what was read and written.
+//!
+//! `specs/TableOutcome.antt` has the definitions of `table`: `ends` says for each status what was read and
+//! written (`TableDue`), `tables` that a table is answered (`Tables`), `refuses` that any other input is
+//! refused (`RefusesTables`). `specs/WhatIfOutcome.antt` has those of `whatif`: its text (`what_if_text`,
+//! worked in `specs/WorkedTexts.antt`), `ends` (`WhatIfDue`), `answers` (`AnswersAsked`), that such a case is
+//! answered, and `refuses` (`RefusesUnasked`).
 #![tactic(auto)]
 
+mod asking;
 mod tables;
+mod worked;
+mod writing;
 
+pub use asking::whatif;
 pub use tables::table;

@@ -9,11 +9,11 @@ use Rattle.search_model.specs.declared.StopReason.TheVariants.{Solved}
 use Rattle.search_model.specs.Solving.{IsSolveAnswer}
 use Rattle.search_model.specs.Verdicts.{rounds_enough, moves_enough}
 use Rattle.search_model.proofs.TreeLemmas.{proves-bound}
-use Rattle.lift_words.specs.declared.request.DayOptions.{DayOptions}
+use Rattle.lift_words.specs.declared.request.SearchOptions.{SearchOptions}
 use Rattle.lift_commands.specs.DayOutcome.{IsSolvedRow}
 use Rattle.lift_commands.proofs.Solutions.{cars-le}
 
-pub solved-row : (options : DayOptions) (s : Snapshot) (stated : Stated) (proof : List ℕ) (tree : List Twig) (turns : List Turn) (why : StopReason) → IsAccepted s → proof ≡ [] → IsSolveAnswer s options.rounds options.moves stated.plan stated.cost stated.bound tree turns why
+pub solved-row : (options : SearchOptions) (s : Snapshot) (stated : Stated) (proof : List ℕ) (tree : List Twig) (turns : List Turn) (why : StopReason) → IsAccepted s → proof ≡ [] → IsSolveAnswer s options.rounds options.moves stated.plan stated.cost stated.bound tree turns why
     → (rounds_enough s ≤ options.rounds → moves_enough s ≤ options.moves → why ≡ Solved) → IsSolvedRow options s stated proof
 solved-row options s stated proof tree turns why accepted written answer enough =
     record {
@@ -32,6 +32,6 @@ solved-row options s stated proof tree turns why accepted written answer enough 
     }
 
 -- and so is what states the same
-pub still-solved : (options : DayOptions) (s t : Snapshot) (one other : Stated) (said written : List ℕ) → IsSolvedRow options s one said → s ≡ t → one ≡ other → said ≡ written → IsSolvedRow options t other written
+pub still-solved : (options : SearchOptions) (s t : Snapshot) (one other : Stated) (said written : List ℕ) → IsSolvedRow options s one said → s ≡ t → one ≡ other → said ≡ written → IsSolvedRow options t other written
 still-solved options s t one other said written solved here same as_written =
     subst (λ (p : List ℕ). IsSolvedRow options t other p) as_written (subst (λ (x : Stated). IsSolvedRow options t x said) same (subst (λ (x : Snapshot). IsSolvedRow options x one said) here solved))

@@ -23,7 +23,7 @@ use Rattle.day_runner.specs.Inputs.{DayRan, IsDayText}
 use Rattle.day_runner.specs.declared.days.Ended.{Ended}
 use Rattle.day_runner.specs.declared.rows.RunFault.{RunFault}
 use Rattle.day_runner.specs.declared.rows.RunFault.TheVariants.{TooLong, Read as RowsUnread, Write as RowsUnwritten, NoMemory}
-use Rattle.lift_words.specs.declared.request.DayOptions.{DayOptions}
+use Rattle.lift_words.specs.declared.request.SearchOptions.{SearchOptions}
 use Rattle.lift_words.specs.Taken.{AreTaken}
 use Rattle.lift_words.specs.declared.request.Request.TheVariants.{Day, Report}
 use Rattle.command_ends.specs.Ends.{Streams, Ends, Puts, IsRefusalLine}
@@ -35,7 +35,7 @@ use Rattle.lift_commands.specs.DayRows.{AreRowsKept, IsStoppedIn}
 
 -- A right plan of an accepted snapshot, its cost and a bound as a search answers them within these limits, written in full.
 -- Where the limits are enough for the snapshot, none was reached.
-pub record IsSolvedRow (options : DayOptions) (s : Snapshot) (stated : Stated) (proof : List ℕ) : Type 0 where
+pub record IsSolvedRow (options : SearchOptions) (s : Snapshot) (stated : Stated) (proof : List ℕ) : Type 0 where
   pub accepted : IsAccepted s
   pub right_plan : IsRightPlan s stated
   pub written : proof ≡ []
@@ -46,7 +46,7 @@ pub record IsSolvedRow (options : DayOptions) (s : Snapshot) (stated : Stated) (
   pub enough : rounds_enough s ≤ options.rounds → moves_enough s ≤ options.moves → why ≡ Solved
 
 -- the limits are enough for a search of the snapshot
-pub record AreEnoughFor (options : DayOptions) (s : Snapshot) : Type 0 where
+pub record AreEnoughFor (options : SearchOptions) (s : Snapshot) : Type 0 where
   pub rounds : rounds_enough s ≤ options.rounds
   pub moves : moves_enough s ≤ options.moves
 
@@ -57,7 +57,7 @@ status_of_unsolved zero = Done
 status_of_unsolved (suc n) = Stopped
 
 -- Of the rows that were done one was accepted where the limits are not enough, and its bound is below its cost.
-abbrev pub IsDayStopped : {options : DayOptions} {before : Option TextState} {left taken taken' : Option (List ℕ)} {result : Result Ended RunFault} → DayRan (IsSolvedRow options) before left taken taken' result → Type 0
+abbrev pub IsDayStopped : {options : SearchOptions} {before : Option TextState} {left taken taken' : Option (List ℕ)} {result : Result Ended RunFault} → DayRan (IsSolvedRow options) before left taken taken' result → Type 0
 IsDayStopped {options} ran = IsStoppedIn (IsSolvedRow options) (AreEnoughFor options) (opening_day ran.opening) (rows_of ran.ran.passed) ran.ran.day ran.ran.text
 
 -- ---- how they end
@@ -84,33 +84,33 @@ pub record IsNoDayLine (left : Option (List ℕ)) (text : List ℕ) : Type 0 whe
 
 -- A day was run with the limits of the words, and where the source tells what it has left, no accepted call is lost after
 -- any of the rows that were done.
-pub record RanWithin (options : DayOptions) (left left' taken taken' : Option (List ℕ)) (result : Result Ended RunFault) : Type 0 where
+pub record RanWithin (options : SearchOptions) (left left' taken taken' : Option (List ℕ)) (result : Result Ended RunFault) : Type 0 where
   pub ran : DayRan (IsSolvedRow options) (option_map whole_text left) left' taken taken' result
   pub kept : IfSome left (λ input. AreRowsKept (IsSolvedRow options) (opening_day ran.opening) (rows_of ran.ran.passed) ran.ran.day ran.ran.text)
 
 -- a day of `day`
-abbrev pub RanBy : DayOptions → (old new : Streams) → (taken' : Option (List ℕ)) → Result Ended RunFault → Type 0
+abbrev pub RanBy : SearchOptions → (old new : Streams) → (taken' : Option (List ℕ)) → Result Ended RunFault → Type 0
 RanBy options old new taken' result = RanWithin options old.left new.left old.taken taken' result
 
 -- a day of `report`, which writes no log
-abbrev pub ToldBy : DayOptions → (left left' : Option (List ℕ)) → Result Ended RunFault → Type 0
+abbrev pub ToldBy : SearchOptions → (left left' : Option (List ℕ)) → Result Ended RunFault → Type 0
 ToldBy options left left' result = RanWithin options left left' None None result
 
 -- The day came to its end, and its log was written.
-pub record DayDone (options : DayOptions) (old new : Streams) (status : Status) : Type 0 where
+pub record DayDone (options : SearchOptions) (old new : Streams) (status : Status) : Type 0 where
   pub ended : Ended
   pub ran : RanBy options old new new.taken (Ok ended)
   pub status_is : status ≡ status_of_unsolved ended.unsolved
   pub stopped : status ≡ Stopped → IsDayStopped ran.ran
 
 -- The rows that end within the most bytes were done and their lines of the log written; then the refusal line is due.
-pub record DayCut (options : DayOptions) (old new : Streams) (Then : (before after : Option (List ℕ)) → Type 0) : Type 0 where
+pub record DayCut (options : SearchOptions) (old new : Streams) (Then : (before after : Option (List ℕ)) → Type 0) : Type 0 where
   pub between : Option (List ℕ)
   pub ran : RanBy options old new between (Err TooLong)
   pub then : Then between new.taken
 
 -- How `day` ends.
-abbrev pub DayEnds : DayOptions → (old new : Streams) → Status → Type 0
+abbrev pub DayEnds : SearchOptions → (old new : Streams) → Status → Type 0
 DayEnds options old new Done = DayDone options old new Done
 DayEnds options old new Words = ⊥
 DayEnds options old new Stopped = DayDone options old new Stopped
@@ -123,7 +123,7 @@ DayEnds options old new Write =
 DayEnds options old new Memory = (new.taken ≡ old.taken) ⊎ RanBy options old new new.taken (Err NoMemory)
 
 -- the text of the report of a day that came to its end
-pub record IsReport (options : DayOptions) (left left' : Option (List ℕ)) (status : Status) (text : List ℕ) : Type 0 where
+pub record IsReport (options : SearchOptions) (left left' : Option (List ℕ)) (status : Status) (text : List ℕ) : Type 0 where
   pub ended : Ended
   pub ran : ToldBy options left left' (Ok ended)
   pub status_is : status ≡ status_of_unsolved ended.unsolved
@@ -131,12 +131,12 @@ pub record IsReport (options : DayOptions) (left left' : Option (List ℕ)) (sta
   pub is_text : text ≡ report_text (report_of ended.served.items)
 
 -- the refusal line of an input that is too long
-pub record IsLongLine (options : DayOptions) (left left' : Option (List ℕ)) (text : List ℕ) : Type 0 where
+pub record IsLongLine (options : SearchOptions) (left left' : Option (List ℕ)) (text : List ℕ) : Type 0 where
   pub ran : ToldBy options left left' (Err TooLong)
   pub is_line : IsRefusalLine LongText text
 
 -- Which text of `report` is due with a status.
-abbrev pub ReportDue : DayOptions → (left left' : Option (List ℕ)) → Status → List ℕ → Type 0
+abbrev pub ReportDue : SearchOptions → (left left' : Option (List ℕ)) → Status → List ℕ → Type 0
 ReportDue options left left' Done text = IsReport options left left' Done text
 ReportDue options left left' Words text = ⊥
 ReportDue options left left' Stopped text = IsReport options left left' Stopped text
@@ -154,20 +154,20 @@ Completes old new status = IsSomeAnd (option_map whole_text old.left) IsDayText
 -- ---- by the words
 
 -- words of `day` run a day
-pub record RunsDay (options : DayOptions) (old new : Streams) (status : Status) : Type 0 where
+pub record RunsDay (options : SearchOptions) (old new : Streams) (status : Status) : Type 0 where
   pub ends : DayEnds options old new status
   pub completes : Completes old new status
 
 abbrev pub DaysByWords : List (List ℕ) → (old new : Streams) → Status → Type 0
-DaysByWords words old new status = (options : DayOptions) → AreTaken words (Day options) → RunsDay options old new status
+DaysByWords words old new status = (options : SearchOptions) → AreTaken words (Day options) → RunsDay options old new status
 
 -- words of `report` report one
-pub record ReportsDay (options : DayOptions) (old new : Streams) (status : Status) : Type 0 where
+pub record ReportsDay (options : SearchOptions) (old new : Streams) (status : Status) : Type 0 where
   pub ends : Ends (ReportDue options old.left new.left) old new status
   pub completes : Completes old new status
 
 abbrev pub ReportsByWords : List (List ℕ) → (old new : Streams) → Status → Type 0
-ReportsByWords words old new status = (options : DayOptions) → AreTaken words (Report options) → ReportsDay options old new status
+ReportsByWords words old new status = (options : SearchOptions) → AreTaken words (Report options) → ReportsDay options old new status
 
 -- ---- how rows that were not run to their end are answered
 

@@ -1,6 +1,6 @@
 -- The commands of which each has one clause of its own.
 use Rattle.std.specs.Prelude.{ℕ, List}
-use Rattle.lift_words.specs.declared.request.DayOptions.{DayOptions}
+use Rattle.lift_words.specs.declared.request.SearchOptions.{SearchOptions}
 use Rattle.lift_words.specs.Taken.{AreTaken}
 use Rattle.lift_words.specs.declared.request.Request.TheVariants.{Day, Report, Table}
 use Rattle.command_ends.specs.Ends.{Streams, Ends}
@@ -19,6 +19,6 @@ TablesByWords words old new status = AreTaken words Table → RunsTable old new 
 
 -- the words are none of these commands
 pub record AskOthers (words : List (List ℕ)) : Type 0 where
-  pub no_day : (options : DayOptions) → AreTaken words (Day options) → ⊥
-  pub no_report : (options : DayOptions) → AreTaken words (Report options) → ⊥
+  pub no_day : (options : SearchOptions) → AreTaken words (Day options) → ⊥
+  pub no_report : (options : SearchOptions) → AreTaken words (Report options) → ⊥
   pub no_table : AreTaken words Table → ⊥

@@ -6,7 +6,7 @@ ghost use Rattle.lift_text.specs.Reading.{whole_text};
 ghost use Rattle.search_model.specs.Reports.{report_of as report_of_lem};
 ghost use Rattle.service_report.specs.ReportTexts.{report_text as report_text_lem};
 ghost use Rattle.day_runner.specs.Inputs.{DayAnswered, EndsUnlessFailed, IsDayText, IsUnread, IsUnwritten};
-ghost use Rattle.lift_words.specs.Taken.{AreDayOptions};
+ghost use Rattle.lift_words.specs.Taken.{AreSearchOptions};
 ghost use Rattle.command_ends.specs.Ends.{streams};
 ghost use Rattle.lift_commands.specs.DayOutcome.{IsSolvedRow, PutsRowsFault, ReportsDay, RunsDay};
 ghost use Rattle.lift_commands.specs.DayOutcome.{status_of_unsolved as status_of_unsolved_lem};
@@ -17,7 +17,7 @@ use call_state::Snapshot;
 use command_ends::{Status, put, put_fault, put_too_long};
 use day_runner::{DayFault, Ended, RunFault, run_day_text};
 use lift_text::{LineReader, TextFault};
-use lift_words::DayOptions;
+use lift_words::SearchOptions;
 use service_report::{report_of, write_report};
 use std::alloc::{AllocError, Global};
 use std::marker::Sync;
@@ -43,12 +43,12 @@ impl Sink for Nowhere {
 fn run_input<S: Source, K: Sink, G: Gate + Sync>(
     rt: &(impl Threads + Sync),
     alloc: Global,
-    options: DayOptions,
+    options: SearchOptions,
     source: &mut S,
     sink: &mut K,
     gate: &G,
 ) -> Result<Ended, DayFault>
-    requires { AreDayOptions options }
+    requires { AreSearchOptions options }
     ensures answered { DayAnswered (IsSolvedRow options) (option_map whole_text (S.left source.old))
         (S.left source.new) (K.taken sink.old) (K.taken sink.new) result }
     ensures ends { IsSomeAnd (option_map whole_text (S.left source.old)) IsDayText → EndsUnlessFailed result }
@@ -58,7 +58,7 @@ fn run_input<S: Source, K: Sink, G: Gate + Sync>(
     ensures sink_counted { K.faults sink.old ≤ K.faults sink.new }
 {
     let plan = |snapshot: &Snapshot|
-        requires { AreDayOptions options }
+        requires { AreSearchOptions options }
         ensures { IfOk result (λ planned. IsSolvedRow options snapshot.now planned.stated planned.proof.items) }
     { plan_within(rt, alloc, options, snapshot, gate) };
     let mut lines = match LineReader::new(alloc, source) {
@@ -100,12 +100,12 @@ fn put_rows_fault<K: Sink>(fault: RunFault, sink: &mut K) -> Status
 pub(crate) fn day<S: Source, K: Sink, G: Gate + Sync>(
     rt: &(impl Threads + Sync),
     alloc: Global,
-    options: DayOptions,
+    options: SearchOptions,
     source: &mut S,
     sink: &mut K,
     gate: &G,
 ) -> Status
-    requires { AreDayOptions options }
+    requires { AreSearchOptions options }
     ensures { RunsDay options
         (streams (S.left source.old) (K.taken sink.old) (S.faults source.old) (K.faults sink.old))
         (streams (S.left source.new) (K.taken sink.new) (S.faults source.new)
@@ -133,12 +133,12 @@ fn report_text(alloc: Global, ended: &Ended) -> Result<Vec<u8>, AllocError>
 pub(crate) fn report<S: Source, K: Sink, G: Gate + Sync>(
     rt: &(impl Threads + Sync),
     alloc: Global,
-    options: DayOptions,
+    options: SearchOptions,
     source: &mut S,
     sink: &mut K,
     gate: &G,
 ) -> Status
-    requires { AreDayOptions options }
+    requires { AreSearchOptions options }
     ensures { ReportsDay options
         (streams (S.left source.old) (K.taken sink.old) (S.faults source.old) (K.faults sink.old))
         (streams (S.left source.new) (K.taken sink.new) (S.faults source.new)

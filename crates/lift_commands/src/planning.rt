@@ -1,13 +1,13 @@
 //! By what a day is planned.
 
 ghost use Rattle.std.specs.Prelude.{IfOk};
-ghost use Rattle.lift_words.specs.Taken.{AreDayOptions};
+ghost use Rattle.lift_words.specs.Taken.{AreSearchOptions};
 ghost use Rattle.lift_commands.specs.DayOutcome.{IsSolvedRow};
 
 use byte_streams::Gate;
 use call_state::Snapshot;
 use day_simulator::Planned;
-use lift_words::DayOptions;
+use lift_words::SearchOptions;
 use snapshot_solver::{Limits, solve};
 use std::alloc::{AllocError, Global};
 use std::marker::Sync;
@@ -17,11 +17,11 @@ use std::thread::Threads;
 pub(crate) fn plan_within<G: Gate + Sync>(
     rt: &(impl Threads + Sync),
     alloc: Global,
-    options: DayOptions,
+    options: SearchOptions,
     snapshot: &Snapshot,
     gate: &G,
 ) -> Result<Planned, AllocError>
-    requires { AreDayOptions options }
+    requires { AreSearchOptions options }
     ensures { IfOk result (λ planned. IsSolvedRow options snapshot.now planned.stated planned.proof.items) }
 {
     // For the proof: a reader tells that the snapshot keeps the rules.

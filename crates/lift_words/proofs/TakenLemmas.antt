@@ -10,14 +10,14 @@ use Rattle.clap.specs.Simple.{matches_of}
 use Rattle.clap.specs.Takes.{takes}
 use Rattle.lift_words.specs.Table.{app, command_of, word_of}
 use Rattle.lift_words.specs.Repeats.{IsRepeated}
-use Rattle.lift_words.specs.Taken.{AreTaken, Asks, AsksBy, AsksForBrief, AsksForDay, AsksForSizes, AsksToCheck, AsksToRun, AsksToSolve, IsSecond, command_asked}
+use Rattle.lift_words.specs.Taken.{AreTaken, Asks, AsksBy, AsksForBrief, AsksForSearch, AsksForSizes, AsksToCheck, AsksToRun, AsksToSolve, IsSecond, command_asked}
 use Rattle.lift_words.specs.declared.table.CommandWord.{CommandWord}
 use Rattle.lift_words.specs.declared.table.CommandWord.TheVariants as command
 use Rattle.lift_words.specs.declared.request.Request.{Request}
-use Rattle.lift_words.specs.declared.request.Request.TheVariants.{Solve, Check, Day, Report, Make, Run, Table}
+use Rattle.lift_words.specs.declared.request.Request.TheVariants.{Solve, Check, Day, Report, Make, Run, Table, WhatIf}
 use Rattle.lift_words.specs.declared.request.SolveOptions.{SolveOptions}
 use Rattle.lift_words.specs.declared.request.CheckOptions.{CheckOptions}
-use Rattle.lift_words.specs.declared.request.DayOptions.{DayOptions}
+use Rattle.lift_words.specs.declared.request.SearchOptions.{SearchOptions}
 use Rattle.lift_words.specs.declared.request.CaseSizes.{CaseSizes}
 use Rattle.lift_words.specs.declared.request.RunOptions.{RunOptions}
 
@@ -43,8 +43,11 @@ named_word word named is = by_solve (bytes_eq word (codes "solve")) refl is
     names : (command : CommandWord) → bytes_eq word (word_of command) ≡ true → Some command ≡ Some named → word ≡ word_of named
     names command e same = (bytes_eq-Decides word (word_of command)).0 e ∙ ap word_of (only same)
 
+    from_whatif : Option CommandWord
+    from_whatif = cond (bytes_eq word (codes "whatif")) (Some command.WhatIf) None
+
     from_table : Option CommandWord
-    from_table = cond (bytes_eq word (codes "table")) (Some command.Table) None
+    from_table = cond (bytes_eq word (codes "table")) (Some command.Table) from_whatif
 
     from_make : Option CommandWord
     from_make = cond (bytes_eq word (codes "make")) (Some command.Make) from_table
@@ -58,9 +61,13 @@ named_word word named is = by_solve (bytes_eq word (codes "solve")) refl is
     from_check : Option CommandWord
     from_check = cond (bytes_eq word (codes "check")) (Some command.Check) from_day
 
-    by_table : (b : Bool) → bytes_eq word (codes "table") ≡ b → cond b (Some command.Table) None ≡ Some named → word ≡ word_of named
+    by_whatif : (b : Bool) → bytes_eq word (codes "whatif") ≡ b → cond b (Some command.WhatIf) None ≡ Some named → word ≡ word_of named
+    by_whatif true e same = names command.WhatIf e same
+    by_whatif false e same = absurd cc
+
+    by_table : (b : Bool) → bytes_eq word (codes "table") ≡ b → cond b (Some command.Table) from_whatif ≡ Some named → word ≡ word_of named
     by_table true e same = names command.Table e same
-    by_table false e same = absurd cc
+    by_table false e same = by_whatif (bytes_eq word (codes "whatif")) refl same
 
     by_make : (b : Bool) → bytes_eq word (codes "make") ≡ b → cond b (Some command.Make) from_table ≡ Some named → word ≡ word_of named
     by_make true e same = names command.Make e same
@@ -93,6 +100,7 @@ word_names command.Day = refl
 word_names command.Report = refl
 word_names command.Make = refl
 word_names command.Table = refl
+word_names command.WhatIf = refl
 
 -- ---- what is asked
 
@@ -117,8 +125,8 @@ asks_to_check_one rows a b x y =
     let workers = only (sym x ∙ y) in
     λ i. record { workers = workers i }
 
-asks_for_day_one : (rows : List Row) (a b : DayOptions) → AsksForDay rows a → AsksForDay rows b → a ≡ b
-asks_for_day_one rows a b x y =
+asks_for_search_one : (rows : List Row) (a b : SearchOptions) → AsksForSearch rows a → AsksForSearch rows b → a ≡ b
+asks_for_search_one rows a b x y =
     let rounds = only (sym x.rounds ∙ y.rounds) in
     let moves = only (sym x.moves ∙ y.moves) in
     let workers = only (sym x.workers ∙ y.workers) in
@@ -148,6 +156,7 @@ asks_of_one rows (Solve a) (Report b) same x y = absurd cc
 asks_of_one rows (Solve a) (Make b) same x y = absurd cc
 asks_of_one rows (Solve a) (Run b) same x y = absurd cc
 asks_of_one rows (Solve a) Table same x y = absurd cc
+asks_of_one rows (Solve a) (WhatIf b) same x y = absurd cc
 asks_of_one rows (Check a) (Solve b) same x y = absurd cc
 asks_of_one rows (Check a) (Check b) same x y = ap Check (asks_to_check_one rows a b x y)
 asks_of_one rows (Check a) (Day b) same x y = absurd cc
@@ -155,20 +164,23 @@ asks_of_one rows (Check a) (Report b) same x y = absurd cc
 asks_of_one rows (Check a) (Make b) same x y = absurd cc
 asks_of_one rows (Check a) (Run b) same x y = absurd cc
 asks_of_one rows (Check a) Table same x y = absurd cc
+asks_of_one rows (Check a) (WhatIf b) same x y = absurd cc
 asks_of_one rows (Day a) (Solve b) same x y = absurd cc
 asks_of_one rows (Day a) (Check b) same x y = absurd cc
-asks_of_one rows (Day a) (Day b) same x y = ap Day (asks_for_day_one rows a b x y)
+asks_of_one rows (Day a) (Day b) same x y = ap Day (asks_for_search_one rows a b x y)
 asks_of_one rows (Day a) (Report b) same x y = absurd cc
 asks_of_one rows (Day a) (Make b) same x y = absurd cc
 asks_of_one rows (Day a) (Run b) same x y = absurd cc
 asks_of_one rows (Day a) Table same x y = absurd cc
+asks_of_one rows (Day a) (WhatIf b) same x y = absurd cc
 asks_of_one rows (Report a) (Solve b) same x y = absurd cc
 asks_of_one rows (Report a) (Check b) same x y = absurd cc
 asks_of_one rows (Report a) (Day b) same x y = absurd cc
-asks_of_one rows (Report a) (Report b) same x y = ap Report (asks_for_day_one rows a b x y)
+asks_of_one rows (Report a) (Report b) same x y = ap Report (asks_for_search_one rows a b x y)
 asks_of_one rows (Report a) (Make b) same x y = absurd cc
 asks_of_one rows (Report a) (Run b) same x y = absurd cc
 asks_of_one rows (Report a) Table same x y = absurd cc
+asks_of_one rows (Report a) (WhatIf b) same x y = absurd cc
 asks_of_one rows (Make a) (Solve b) same x y = absurd cc
 asks_of_one rows (Make a) (Check b) same x y = absurd cc
 asks_of_one rows (Make a) (Day b) same x y = absurd cc
@@ -176,6 +188,7 @@ asks_of_one rows (Make a) (Report b) same x y = absurd cc
 asks_of_one rows (Make a) (Make b) same x y = ap Make (asks_for_sizes_one rows a b x.case y.case)
 asks_of_one rows (Make a) (Run b) same x y = absurd (x.no_run y.run)
 asks_of_one rows (Make a) Table same x y = absurd cc
+asks_of_one rows (Make a) (WhatIf b) same x y = absurd cc
 asks_of_one rows (Run a) (Solve b) same x y = absurd cc
 asks_of_one rows (Run a) (Check b) same x y = absurd cc
 asks_of_one rows (Run a) (Day b) same x y = absurd cc
@@ -183,6 +196,7 @@ asks_of_one rows (Run a) (Report b) same x y = absurd cc
 asks_of_one rows (Run a) (Make b) same x y = absurd (y.no_run x.run)
 asks_of_one rows (Run a) (Run b) same x y = ap Run (asks_to_run_one rows a b x y)
 asks_of_one rows (Run a) Table same x y = absurd cc
+asks_of_one rows (Run a) (WhatIf b) same x y = absurd cc
 asks_of_one rows Table (Solve b) same x y = absurd cc
 asks_of_one rows Table (Check b) same x y = absurd cc
 asks_of_one rows Table (Day b) same x y = absurd cc
@@ -190,6 +204,15 @@ asks_of_one rows Table (Report b) same x y = absurd cc
 asks_of_one rows Table (Make b) same x y = absurd cc
 asks_of_one rows Table (Run b) same x y = absurd cc
 asks_of_one rows Table Table same x y = refl
+asks_of_one rows Table (WhatIf b) same x y = absurd cc
+asks_of_one rows (WhatIf a) (Solve b) same x y = absurd cc
+asks_of_one rows (WhatIf a) (Check b) same x y = absurd cc
+asks_of_one rows (WhatIf a) (Day b) same x y = absurd cc
+asks_of_one rows (WhatIf a) (Report b) same x y = absurd cc
+asks_of_one rows (WhatIf a) (Make b) same x y = absurd cc
+asks_of_one rows (WhatIf a) (Run b) same x y = absurd cc
+asks_of_one rows (WhatIf a) Table same x y = absurd cc
+asks_of_one rows (WhatIf a) (WhatIf b) same x y = ap WhatIf (asks_for_search_one rows a b x y)
 
 pub asks_one : (named : CommandWord) (rows : List Row) (a b : Request) → AsksBy named rows a → AsksBy named rows b → a ≡ b
 asks_one named rows a b x y = asks_of_one rows a b (x.0 ∙ sym y.0) x.1 y.1

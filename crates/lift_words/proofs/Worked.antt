@@ -7,7 +7,7 @@ use Rattle.clap.specs.Walk.{Text}
 use Rattle.lift_words.specs.Repeats.{IsRepeated, Repeats}
 use Rattle.lift_words.specs.Taken.{AreTaken}
 use Rattle.lift_words.specs.declared.request.Request.{Request}
-use Rattle.lift_words.specs.declared.request.Request.TheVariants.{Solve, Check, Day, Report, Make, Run, Table}
+use Rattle.lift_words.specs.declared.request.Request.TheVariants.{Solve, Check, Day, Report, Make, Run, Table, WhatIf}
 
 -- one word alone repeats none
 alone : (word : Text) → IsRepeated (word ∷ []) → ⊥
@@ -151,6 +151,32 @@ table_with_a_word (Report options) t = let other = t.command in absurd cc
 table_with_a_word (Make sizes) t = let other = t.command in absurd cc
 table_with_a_word (Run options) t = let other = t.command in absurd cc
 table_with_a_word Table t = let refused = t.accepted in absurd cc
+table_with_a_word (WhatIf options) t = let other = t.command in absurd cc
+
+pub whatif_of_five_moves : AreTaken (codes "lift" ∷ codes "whatif" ∷ codes "--moves=5" ∷ []) (WhatIf (record { rounds = 2000; moves = 5; workers = 1 }))
+unfolding clap_on_literals
+whatif_of_five_moves = record {
+  command = refl;
+  unrepeated = alone (codes "--moves=5");
+  no_dashes = only;
+  accepted = refl;
+  asks = record { rounds = refl; moves = refl; workers = refl };
+}
+  where
+    only : Contains (codes "--moves=5" ∷ []) (codes "--") → ⊥
+    only (zero, lt, same) = absurd cc
+    only (suc k, lt, same) = absurd (omega arith)
+
+pub brief_whatif : (request : Request) → AreTaken (codes "lift" ∷ codes "whatif" ∷ codes "--brief" ∷ []) request → ⊥
+unfolding clap_on_literals
+brief_whatif (Solve options) t = let other = t.command in absurd cc
+brief_whatif (Check options) t = let other = t.command in absurd cc
+brief_whatif (Day options) t = let other = t.command in absurd cc
+brief_whatif (Report options) t = let bytes : 119 ≡ 114 = ap first_byte t.command in absurd (omega (arith, bytes))
+brief_whatif (Make sizes) t = let other = t.command in absurd cc
+brief_whatif (Run options) t = let other = t.command in absurd cc
+brief_whatif Table t = let other = t.command in absurd cc
+brief_whatif (WhatIf options) t = let refused = t.accepted in absurd cc
 
 pub check_of_rounds : (request : Request) → AreTaken (codes "lift" ∷ codes "check" ∷ codes "--rounds=5" ∷ []) request → ⊥
 unfolding clap_on_literals
@@ -161,6 +187,7 @@ check_of_rounds (Report options) t = let other = t.command in absurd cc
 check_of_rounds (Make sizes) t = let other = t.command in absurd cc
 check_of_rounds (Run options) t = let other = t.command in absurd cc
 check_of_rounds Table t = let bytes : 99 ≡ 116 = ap first_byte t.command in absurd (omega (arith, bytes))
+check_of_rounds (WhatIf options) t = let other = t.command in absurd cc
 
 pub no_rounds : (request : Request) → AreTaken (codes "lift" ∷ codes "solve" ∷ codes "--brief" ∷ codes "--rounds" ∷ codes "0" ∷ []) request → ⊥
 unfolding clap_on_literals
@@ -171,6 +198,7 @@ no_rounds (Report options) t = let other = t.command in absurd cc
 no_rounds (Make sizes) t = let other = t.command in absurd cc
 no_rounds (Run options) t = let other = t.command in absurd cc
 no_rounds Table t = let bytes : 115 ≡ 116 = ap first_byte t.command in absurd (omega (arith, bytes))
+no_rounds (WhatIf options) t = let other = t.command in absurd cc
 
 pub shortened : (request : Request) → AreTaken (codes "lift" ∷ codes "make" ∷ codes "--floor" ∷ codes "4" ∷ []) request → ⊥
 unfolding clap_on_literals
@@ -181,6 +209,7 @@ shortened (Make sizes) t = let refused = t.accepted in absurd cc
 shortened (Solve options) t = let other = t.command in absurd cc
 shortened (Run options) t = let refused = t.accepted in absurd cc
 shortened Table t = let other = t.command in absurd cc
+shortened (WhatIf options) t = let other = t.command in absurd cc
 
 pub brief_day : (request : Request) → AreTaken (codes "lift" ∷ codes "day" ∷ codes "--brief" ∷ []) request → ⊥
 unfolding clap_on_literals
@@ -191,6 +220,7 @@ brief_day (Report options) t = let other = t.command in absurd cc
 brief_day (Make sizes) t = let other = t.command in absurd cc
 brief_day (Run options) t = let other = t.command in absurd cc
 brief_day Table t = let other = t.command in absurd cc
+brief_day (WhatIf options) t = let other = t.command in absurd cc
 
 pub report_by_many : (request : Request) → AreTaken (codes "lift" ∷ codes "report" ∷ codes "--workers=17" ∷ []) request → ⊥
 unfolding clap_on_literals
@@ -201,6 +231,7 @@ report_by_many (Report options) t = let none = t.asks.workers in absurd cc
 report_by_many (Make sizes) t = let other = t.command in absurd cc
 report_by_many (Run options) t = let other = t.command in absurd cc
 report_by_many Table t = let other = t.command in absurd cc
+report_by_many (WhatIf options) t = let bytes : 114 ≡ 119 = ap first_byte t.command in absurd (omega (arith, bytes))
 
 pub run_of_no_rounds : (request : Request) → AreTaken (codes "lift" ∷ codes "make" ∷ codes "--rounds" ∷ codes "0" ∷ []) request → ⊥
 unfolding clap_on_literals
@@ -211,6 +242,7 @@ run_of_no_rounds (Make sizes) t = let none = t.asks.rounds in absurd cc
 run_of_no_rounds (Solve options) t = let other = t.command in absurd cc
 run_of_no_rounds (Run options) t = let none = t.asks.rounds in absurd cc
 run_of_no_rounds Table t = let other = t.command in absurd cc
+run_of_no_rounds (WhatIf options) t = let other = t.command in absurd cc
 
 pub run_with_value : (request : Request) → AreTaken (codes "lift" ∷ codes "make" ∷ codes "--run=1" ∷ []) request → ⊥
 unfolding clap_on_literals
@@ -221,6 +253,7 @@ run_with_value (Make sizes) t = let refused = t.accepted in absurd cc
 run_with_value (Solve options) t = let other = t.command in absurd cc
 run_with_value (Run options) t = let refused = t.accepted in absurd cc
 run_with_value Table t = let other = t.command in absurd cc
+run_with_value (WhatIf options) t = let other = t.command in absurd cc
 
 pub brief_twice : (request : Request) → AreTaken (codes "lift" ∷ codes "solve" ∷ codes "--brief" ∷ codes "--brief" ∷ []) request → ⊥
 brief_twice request t = t.unrepeated (record { first = 0; second = 1; order = lit< tt; within = lit< tt; repeats = record { first_option = refl; second_option = refl; same = refl } })

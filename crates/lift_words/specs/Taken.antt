@@ -12,10 +12,10 @@ use Rattle.lift_words.specs.declared.table.CommandWord.TheVariants as command
 use Rattle.lift_words.specs.declared.table.NumberOption.{NumberOption}
 use Rattle.lift_words.specs.declared.table.NumberOption.TheVariants.{Rounds, Moves, Claims, Workers, Number, Floors, Cars, Calls}
 use Rattle.lift_words.specs.declared.request.Request.{Request}
-use Rattle.lift_words.specs.declared.request.Request.TheVariants.{Solve, Check, Day, Report, Make, Run, Table}
+use Rattle.lift_words.specs.declared.request.Request.TheVariants.{Solve, Check, Day, Report, Make, Run, Table, WhatIf}
 use Rattle.lift_words.specs.declared.request.SolveOptions.{SolveOptions}
 use Rattle.lift_words.specs.declared.request.CheckOptions.{CheckOptions}
-use Rattle.lift_words.specs.declared.request.DayOptions.{DayOptions}
+use Rattle.lift_words.specs.declared.request.SearchOptions.{SearchOptions}
 use Rattle.lift_words.specs.declared.request.CaseSizes.{CaseSizes}
 use Rattle.lift_words.specs.declared.request.RunOptions.{RunOptions}
 
@@ -49,8 +49,8 @@ pub record AsksToSolve (rows : List Row) (options : SolveOptions) : Type 0 where
 abbrev pub AsksToCheck : List Row → CheckOptions → Type 0
 AsksToCheck rows options = number_of rows Workers ≡ Some options.workers
 
--- by the words of `day` or of `report`
-pub record AsksForDay (rows : List Row) (options : DayOptions) : Type 0 where
+-- by the words of `day`, `report` or `whatif`
+pub record AsksForSearch (rows : List Row) (options : SearchOptions) : Type 0 where
   pub rounds : number_of rows Rounds ≡ Some options.rounds
   pub moves : number_of rows Moves ≡ Some options.moves
   pub workers : number_of rows Workers ≡ Some options.workers
@@ -86,15 +86,17 @@ command_asked (Report options) = command.Report
 command_asked (Make sizes) = command.Make
 command_asked (Run options) = command.Make
 command_asked Table = command.Table
+command_asked (WhatIf options) = command.WhatIf
 
 abbrev pub Asks : List Row → Request → Type 0
 Asks rows (Solve options) = AsksToSolve rows options
 Asks rows (Check options) = AsksToCheck rows options
-Asks rows (Day options) = AsksForDay rows options
-Asks rows (Report options) = AsksForDay rows options
+Asks rows (Day options) = AsksForSearch rows options
+Asks rows (Report options) = AsksForSearch rows options
 Asks rows (Make sizes) = AsksToMake rows sizes
 Asks rows (Run options) = AsksToRun rows options
 Asks rows Table = Unit {0}
+Asks rows (WhatIf options) = AsksForSearch rows options
 
 -- the request is one of this command, and has the numbers that were found
 abbrev pub AsksBy : CommandWord → List Row → Request → Type 0
@@ -136,7 +138,7 @@ pub record AreSolveOptions (options : SolveOptions) : Type 0 where
 pub record AreCheckOptions (options : CheckOptions) : Type 0 where
   pub workers : IsInRange Workers options.workers
 
-pub record AreDayOptions (options : DayOptions) : Type 0 where
+pub record AreSearchOptions (options : SearchOptions) : Type 0 where
   pub rounds : IsInRange Rounds options.rounds
   pub moves : IsInRange Moves options.moves
   pub workers : IsInRange Workers options.workers
@@ -155,8 +157,9 @@ pub record AreRunOptions (options : RunOptions) : Type 0 where
 abbrev pub IsWithin : Request → Type 0
 IsWithin (Solve options) = AreSolveOptions options
 IsWithin (Check options) = AreCheckOptions options
-IsWithin (Day options) = AreDayOptions options
-IsWithin (Report options) = AreDayOptions options
+IsWithin (Day options) = AreSearchOptions options
+IsWithin (Report options) = AreSearchOptions options
 IsWithin (Make sizes) = AreCaseSizes sizes
 IsWithin (Run options) = AreRunOptions options
 IsWithin Table = Unit {0}
+IsWithin (WhatIf options) = AreSearchOptions options

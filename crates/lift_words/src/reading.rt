@@ -2,8 +2,9 @@
 ghost use Rattle.std.specs.Prelude.{◌≡◌, ◌≤◌, IfErr, IfOk, IfSome, None, length, IsTrue, ◌↔◌, Some, codes};
 ghost use Rattle.std.specs.Prelude.{map, option_map, string_bytes};
 ghost use Rattle.clap.specs.Words.{first_of, found_of, rows_of};
-ghost use Rattle.lift_words.specs.Taken.{AreCaseSizes, AreCheckOptions, AreDayOptions, AreSolveOptions};
-ghost use Rattle.lift_words.specs.Taken.{AreTaken, AsksBy, AsksForDay, AsksForSizes, AsksToCheck};
+ghost use Rattle.lift_words.specs.Taken.{AreCaseSizes, AreCheckOptions, AreSearchOptions};
+ghost use Rattle.lift_words.specs.Taken.{AreSolveOptions};
+ghost use Rattle.lift_words.specs.Taken.{AreTaken, AsksBy, AsksForSearch, AsksForSizes, AsksToCheck};
 ghost use Rattle.lift_words.specs.Taken.{AsksToSolve, ExactlyWhere, IsInRange, IsSecond, IsWithin};
 ghost use Rattle.lift_words.specs.Taken.{number_in_range, number_of};
 ghost use Rattle.lift_words.specs.declared.request.Request.{Request};
@@ -12,7 +13,7 @@ ghost use Rattle.lift_words.specs.declared.table.CommandWord.{CommandWord};
 use crate::parsing::parse;
 use crate::repeats::{has_lone_dashes, has_repeats};
 use crate::request::{
-    CaseSizes, CheckOptions, DayOptions, Request, RunOptions, SolveOptions, WordsFault,
+    CaseSizes, CheckOptions, Request, RunOptions, SearchOptions, SolveOptions, WordsFault,
 };
 use crate::table::{CommandWord, NumberOption};
 use clap::ArgMatches;
@@ -64,10 +65,11 @@ fn asked(command: CommandWord, matches: &ArgMatches<'_>) -> Option<Request>
     match command {
         CommandWord::Solve => Some(Request::Solve(solve_options(matches)?)),
         CommandWord::Check => Some(Request::Check(check_options(matches)?)),
-        CommandWord::Day => Some(Request::Day(day_options(matches)?)),
-        CommandWord::Report => Some(Request::Report(day_options(matches)?)),
+        CommandWord::Day => Some(Request::Day(search_options(matches)?)),
+        CommandWord::Report => Some(Request::Report(search_options(matches)?)),
         CommandWord::Make => asked_of_make(matches),
         CommandWord::Table => Some(Request::Table),
+        CommandWord::WhatIf => Some(Request::WhatIf(search_options(matches)?)),
     }
 }
 
@@ -77,7 +79,7 @@ fn solve_options(matches: &ArgMatches<'_>) -> Option<SolveOptions>
         ExactlyWhere (AsksToSolve rows) result }
     ensures within { IfSome result AreSolveOptions }
 {
-    let limits = day_options(matches)?;
+    let limits = search_options(matches)?;
     Some(SolveOptions {
         rounds: limits.rounds,
         moves: limits.moves,
@@ -99,16 +101,16 @@ fn check_options(matches: &ArgMatches<'_>) -> Option<CheckOptions>
     })
 }
 
-/// The options of `day` and of `report`.
-fn day_options(matches: &ArgMatches<'_>) -> Option<DayOptions>
+/// The options of `day`, `report` and `whatif`.
+fn search_options(matches: &ArgMatches<'_>) -> Option<SearchOptions>
     ensures asked { let rows = rows_of (found_of matches.now) in
-        ExactlyWhere (AsksForDay rows) result }
-    ensures within { IfSome result AreDayOptions }
+        ExactlyWhere (AsksForSearch rows) result }
+    ensures within { IfSome result AreSearchOptions }
 {
     let rounds = number(matches, NumberOption::Rounds)?;
     let moves = number(matches, NumberOption::Moves)?;
     let workers = number(matches, NumberOption::Workers)?;
-    Some(DayOptions {
+    Some(SearchOptions {
         rounds,
         moves,
         workers: workers as u32,

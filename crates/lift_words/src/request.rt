@@ -15,15 +15,17 @@ pub enum Request {
     /// `check`: the answer of the input is to be checked.
     Check(CheckOptions),
     /// `day`: the day of the input is to be run.
-    Day(DayOptions),
+    Day(SearchOptions),
     /// `report`: the service of the day of the input is to be reported.
-    Report(DayOptions),
+    Report(SearchOptions),
     /// `make`: a generated case is to be written.
     Make(CaseSizes),
     /// `make --run`: a generated case is to be solved.
     Run(RunOptions),
     /// `table`: the table of travel times of the input is to be judged.
     Table,
+    /// `whatif`: it is to be said what the last call of the input costs with each car.
+    WhatIf(SearchOptions),
 }
 
 /// The options of `solve`.
@@ -48,10 +50,10 @@ pub struct CheckOptions {
     pub workers: u32,
 }
 
-/// The options of `day` and of `report`.
+/// The options of `day`, `report` and `whatif`: the limits of each search, and the workers.
 #[derive(Clone, Copy)]
-pub struct DayOptions {
-    /// `--rounds`: at most this many rounds at each accepted call, 1 to 10^18. The default is 2000.
+pub struct SearchOptions {
+    /// `--rounds`: at most this many rounds, 1 to 10^18. The default is 2000.
     pub rounds: u64,
     /// `--moves`: at most this many partial tours in one pricing, 1 to 10^18. The default is 75000.
     pub moves: u64,

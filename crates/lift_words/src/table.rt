@@ -11,6 +11,7 @@ pub(crate) enum CommandWord {
     Report,
     Make,
     Table,
+    WhatIf,
 }
 
 /// An option that takes a number.
@@ -51,6 +52,7 @@ impl CommandWord {
             "report" => Some(CommandWord::Report),
             "make" => Some(CommandWord::Make),
             "table" => Some(CommandWord::Table),
+            "whatif" => Some(CommandWord::WhatIf),
             _ => None,
         }
     }
@@ -66,6 +68,7 @@ impl CommandWord {
             CommandWord::Report => "report",
             CommandWord::Make => "make",
             CommandWord::Table => "table",
+            CommandWord::WhatIf => "whatif",
         }
     }
 
@@ -80,7 +83,7 @@ impl CommandWord {
                 NumberOption::Workers,
                 NumberOption::Claims,
             ],
-            CommandWord::Day | CommandWord::Report => &[
+            CommandWord::Day | CommandWord::Report | CommandWord::WhatIf => &[
                 NumberOption::Rounds,
                 NumberOption::Moves,
                 NumberOption::Workers,
@@ -104,7 +107,11 @@ impl CommandWord {
     {
         match self {
             CommandWord::Solve => &["brief"],
-            CommandWord::Check | CommandWord::Day | CommandWord::Report | CommandWord::Table => &[],
+            CommandWord::Check
+            | CommandWord::Day
+            | CommandWord::Report
+            | CommandWord::Table
+            | CommandWord::WhatIf => &[],
             CommandWord::Make => &["run"],
         }
     }

@@ -95,7 +95,7 @@ pub(crate) fn extra_between(before: Searched, after: Searched) -> Extra
 }
 
 /// The extra of a car, and none where the list lacks it.
-pub(crate) fn extra_at(extras: &[Extra], car: usize) -> Extra
+pub fn extra_at(extras: &[Extra], car: usize) -> Extra
     ensures { result ≡ extra_at_lem extras.now car }
 {
     extras.get(car).copied().unwrap_or(Extra::None)

@@ -13,6 +13,7 @@
 //!   lies, from the costs and bounds that the searches answered. Where the limits are enough it is exact.
 //! - It says how much more the call costs with the nearest car than with the best one, exactly or by two ends
 //!   (`IsRegret`).
+//! - `extra_at` reads what is said of a car, and `are_settled` tells whether all of it is exact.
 //!
 //! An extra cost is a number with a sign: no law says that a call makes no plan cheaper.
 #![tactic(auto)]
@@ -25,7 +26,7 @@ mod variants;
 mod worked;
 
 pub use asking::{ExtraCosts, what_if};
-pub use extras::Extra;
+pub use extras::{Extra, extra_at};
 pub use nearest::nearest_car;
-pub use regrets::Regret;
+pub use regrets::{Regret, are_settled};
 pub use variants::{with_pin, without_last};

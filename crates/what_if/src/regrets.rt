@@ -42,7 +42,7 @@ fn cheapest_of(extras: &[Extra]) -> Option<usize>
 }
 
 /// Whether no extra is known by its ends alone.
-fn are_settled(extras: &[Extra]) -> bool
+pub fn are_settled(extras: &[Extra]) -> bool
     ensures { IsTrue result ↔ AreSettled extras.now }
 {
     for extra in extras {

@@ -1,7 +1,7 @@
 use Rattle.std.proofs.Common.{map, string_bytes, subst, refl, sym, ◌≡◌, ◌∙◌}
 use Rattle.lift_words.specs.Taken.{AreTaken}
 use Rattle.lift_words.specs.declared.request.RunOptions.{RunOptions}
-use Rattle.lift_words.specs.declared.request.DayOptions.{DayOptions}
+use Rattle.lift_words.specs.declared.request.SearchOptions.{SearchOptions}
 use Rattle.lift_words.specs.declared.request.SolveOptions.{SolveOptions}
 use Rattle.lift_words.specs.declared.request.Request.TheVariants.{Solve, Check, Day, Report, Make, Run, Table}
 use Rattle.command_ends.specs.declared.status.Status.TheVariants.{Words}
@@ -128,7 +128,7 @@ returns-in-Ok-Day-clause-days g c options taken =
     let is : options ≡ c.in-Ok-Day.options = cc same in
     let old = streams (g.S.Source.left c.args.source.now) (g.K.Sink.taken c.args.sink.now) (g.S.Source.faults c.args.source.now) (g.K.Sink.faults c.args.sink.now) in
     let new = streams (g.S.Source.left c.day.new.source) (g.K.Sink.taken c.day.new.sink) (g.S.Source.faults c.day.new.source) (g.K.Sink.faults c.day.new.sink) in
-    subst (λ (o : DayOptions). RunsDay o old new c.day.result) (sym is) c.day.ensures
+    subst (λ (o : SearchOptions). RunsDay o old new c.day.result) (sym is) c.day.ensures
 
 pub returns-in-Ok-Report-clause-ends : goal.returns-in-Ok-Report-clause-ends
 returns-in-Ok-Report-clause-ends g c = λ none.
@@ -140,7 +140,7 @@ returns-in-Ok-Report-clause-reports g c options taken =
     let is : options ≡ c.in-Ok-Report.options = cc same in
     let old = streams (g.S.Source.left c.args.source.now) (g.K.Sink.taken c.args.sink.now) (g.S.Source.faults c.args.source.now) (g.K.Sink.faults c.args.sink.now) in
     let new = streams (g.S.Source.left c.report.new.source) (g.K.Sink.taken c.report.new.sink) (g.S.Source.faults c.report.new.source) (g.K.Sink.faults c.report.new.sink) in
-    subst (λ (o : DayOptions). ReportsDay o old new c.report.result) (sym is) c.report.ensures
+    subst (λ (o : SearchOptions). ReportsDay o old new c.report.result) (sym is) c.report.ensures
 
 pub returns-in-Ok-Table-clause-ends : goal.returns-in-Ok-Table-clause-ends
 returns-in-Ok-Table-clause-ends g c = λ none.
