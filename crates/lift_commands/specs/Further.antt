@@ -2,10 +2,11 @@
 use Rattle.std.specs.Prelude.{ℕ, List}
 use Rattle.lift_words.specs.declared.request.SearchOptions.{SearchOptions}
 use Rattle.lift_words.specs.Taken.{AreTaken}
-use Rattle.lift_words.specs.declared.request.Request.TheVariants.{Day, Report, Table}
+use Rattle.lift_words.specs.declared.request.Request.TheVariants.{Day, Report, Table, WhatIf}
 use Rattle.command_ends.specs.Ends.{Streams, Ends}
 use Rattle.command_ends.specs.declared.status.Status.{Status}
 use Rattle.further_commands.specs.TableOutcome.{RefusesTables, TableDue, Tables}
+use Rattle.further_commands.specs.WhatIfOutcome.{AnswersAsked, RefusesUnasked, WhatIfDue}
 
 -- what was read and written, and that a table is judged and anything else refused
 pub record RunsTable (old new : Streams) (status : Status) : Type 0 where
@@ -17,8 +18,19 @@ pub record RunsTable (old new : Streams) (status : Status) : Type 0 where
 abbrev pub TablesByWords : List (List ℕ) → (old new : Streams) → Status → Type 0
 TablesByWords words old new status = AreTaken words Table → RunsTable old new status
 
+-- what was read and written, and that a case whose last call is asked about is answered and anything else refused
+pub record RunsWhatIf (options : SearchOptions) (old new : Streams) (status : Status) : Type 0 where
+  pub ends : Ends (WhatIfDue options.rounds options.moves old.left new.left) old new status
+  pub answers : AnswersAsked options.rounds options.moves old new status
+  pub refuses : RefusesUnasked old new status
+
+-- words of `whatif` tell what the last call of a case costs
+abbrev pub WhatIfByWords : List (List ℕ) → (old new : Streams) → Status → Type 0
+WhatIfByWords words old new status = (options : SearchOptions) → AreTaken words (WhatIf options) → RunsWhatIf options old new status
+
 -- the words are none of these commands
 pub record AskOthers (words : List (List ℕ)) : Type 0 where
   pub no_day : (options : SearchOptions) → AreTaken words (Day options) → ⊥
   pub no_report : (options : SearchOptions) → AreTaken words (Report options) → ⊥
   pub no_table : AreTaken words Table → ⊥
+  pub no_what_if : (options : SearchOptions) → AreTaken words (WhatIf options) → ⊥

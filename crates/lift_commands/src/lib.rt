@@ -3,10 +3,10 @@
 //!
 //! # What is promised
 //!
-//! Twelve clauses of `run`, over the definitions in `specs/Outcome.antt`, `specs/DayOutcome.antt`,
+//! Thirteen clauses of `run`, over the definitions in `specs/Outcome.antt`, `specs/DayOutcome.antt`,
 //! `specs/DayRows.antt`, `specs/Further.antt` and `specs/Unread.antt`, and in `specs/Ends.antt` of
-//! `command_ends` and `specs/TableOutcome.antt` of `further_commands`. What they say of the input holds where
-//! the source tells what it has left.
+//! `command_ends` and `specs/TableOutcome.antt` and `specs/WhatIfOutcome.antt` of `further_commands`. What they
+//! say of the input holds where the source tells what it has left.
 //!
 //! **`solve`.** Status 0: the whole input was read and is the text of an accepted snapshot, and what was
 //! written is an **optimal** plan of it, its cost and an equal bound, for 1 to 16 workers, and without
@@ -44,6 +44,11 @@
 //! (status 0), or has one, with the first three floors (4); any other input is refused with its first bad
 //! line (5).
 //!
+//! **`whatif`.** As `further_commands` says: what the last call of a case costs with each car, and how much
+//! more it costs with the nearest car than with the best one, all exactly (status 0), or some by two ends
+//! between which it lies (3), never where the limits are enough for each of the searches; any other input is
+//! refused with its first bad line, or because no call can be asked about (5).
+//!
 //! **`make`.** The text of the generated case, which is read as that snapshot again; nothing is read. `make
 //! --run`: the numbers of the case with the cost and the bound that a search of it with one worker answers;
 //! status 0 exactly where they are equal, and then the cost is the least one; status 3 exactly where the
@@ -55,21 +60,20 @@
 //!
 //! # The clauses
 //!
-//! - `ends` says for each status what was read and written, by words of other commands than `day`, `report`
-//!   and `table`. A text is *due* with a status (`RunDue`). By words of `solve` the input is the text of an
-//!   accepted snapshot (`IsCaseText`), and the text written is due as a search answers it (`IsSolution`), with
-//!   a certificate unless `--brief` is given: the tree of that search with the claims that are due or,
-//!   exactly where these go beyond their limit, another one with the bound that it proves (`IsCertified`).
-//!   Where the input ends with LF,
-//!   has at most 1,000,000 bytes and the limits are at most the defaults (`CanBeChecked`), input and text
-//!   together are an input of `check` whose verdict is yes (`IsSaidYes`). By words of `check`, Done and
-//!   Refused come with the text of the verdict (`VerdictIsDue`): the input is the text of an accepted
-//!   snapshot, an answer and a certificate (`IsCheckText`), and the verdict is that of the definition. By
-//!   words of `make`, the text is that of the generated case; or the six lines of `make --run`
-//!   (`IsSolvedCase`). With Input the refusal line, with what is wrong with the input (`IsLoneCaseFault`, of
-//!   `check` `IsCheckFault`). With Words the usage line, where no request is taken from the words. With Write
-//!   a part of a text that is due was written, and the sink's count of faults rose; with Read the source's
-//!   rose, and nothing was written; with Memory nothing was written.
+//! - `ends` says for each status what was read and written, by words of other commands than `day`, `report`,
+//!   `table` and `whatif`. A text is *due* with a status (`RunDue`). By words of `solve` the input is the
+//!   text of an accepted snapshot (`IsCaseText`), and the text written is due as a search answers it
+//!   (`IsSolution`), with a certificate unless `--brief` is given: the tree of that search with the claims
+//!   that are due or, exactly where these go beyond their limit, another one with the bound that it proves
+//!   (`IsCertified`). Where the input ends with LF, has at most 1,000,000 bytes and the limits are at most
+//!   the defaults (`CanBeChecked`), input and text together are an input of `check` whose verdict is yes
+//!   (`IsSaidYes`). By words of `check`, Done and Refused come with the text of the verdict (`VerdictIsDue`):
+//!   the input is the text of an accepted snapshot, an answer and a certificate (`IsCheckText`), and the
+//!   verdict is that of the definition. By words of `make`, the text is that of the generated case; or the
+//!   six lines of `make --run` (`IsSolvedCase`). With Input the refusal line, with what is wrong with the
+//!   input (`IsLoneCaseFault`, of `check` `IsCheckFault`). With Words the usage line, where no request is
+//!   taken from the words. With Write a part of a text that is due was written, and the sink's count of
+//!   faults rose; with Read the source's rose, and nothing was written; with Memory nothing was written.
 //! - `solves`: by words of `solve`, the text of an accepted snapshot and no fault give Done, Stopped or
 //!   Memory, and never Stopped where the limits are enough for the snapshot. `refuses`: any other input and
 //!   no fault give Input or Memory.
@@ -91,6 +95,9 @@
 //!   report (`ReportDue`).
 //! - `tables`: by words of `table`, what was read and written with each status, that a table is judged and any
 //!   other input refused, unless the source or the sink fails or memory runs out (`RunsTable`).
+//! - `what_if`: by words of `whatif`, what was read and written with each status (`WhatIfDue`), that a case
+//!   whose last call is asked about is answered, and any other input refused, unless the source or the sink
+//!   fails or memory runs out (`RunsWhatIf`).
 //! - `refuses_words`: all other words and no fault of the sink give Words or Memory.
 //! - `unread`: words that ask for no input (`AskForNoInput`) leave the source as it was, its count of faults
 //!   too, with every status.
@@ -105,6 +112,7 @@
 //! `day` has (`DaysByWords`), and its words are left out of `ends` as those of `day` are (`AskOthers`).
 #![tactic(auto)]
 
+mod asking;
 mod checking;
 mod days;
 mod endings;

@@ -3,12 +3,13 @@ use Rattle.lift_words.specs.Taken.{AreTaken}
 use Rattle.lift_words.specs.declared.request.RunOptions.{RunOptions}
 use Rattle.lift_words.specs.declared.request.SearchOptions.{SearchOptions}
 use Rattle.lift_words.specs.declared.request.SolveOptions.{SolveOptions}
-use Rattle.lift_words.specs.declared.request.Request.TheVariants.{Solve, Check, Day, Report, Make, Run, Table}
+use Rattle.lift_words.specs.declared.request.Request.TheVariants.{Solve, Check, Day, Report, Make, Run, Table, WhatIf}
 use Rattle.command_ends.specs.declared.status.Status.TheVariants.{Words}
 use Rattle.command_ends.specs.Ends.{streams}
 use Rattle.command_ends.proofs.EndLemmas.{ends_put, ends_more}
 use Rattle.lift_commands.specs.Outcome.{IsAnswered, IsCaseSolved, SolveDue, CheckDue, MakeDue, SolvedCaseDue, RunDue, UsageIsDue, usage_line}
 use Rattle.lift_commands.specs.DayOutcome.{ReportsDay, RunsDay}
+use Rattle.lift_commands.specs.Further.{RunsWhatIf}
 use Rattle.lift_commands.proofs.Outcomes.{solve_due, check_due, make_due, solved_case_due, not_run_and_make}
 use Rattle.lift_commands.proofs.running.run.Goals as goal
 
@@ -151,6 +152,22 @@ returns-in-Ok-Table-clause-tables g c taken =
     let ensures = c.table.ensures in
     record { ends = ensures.ends; tables = ensures.tables; refuses = ensures.refuses }
 
+pub returns-in-Ok-WhatIf-clause-ends : goal.returns-in-Ok-WhatIf-clause-ends
+returns-in-Ok-WhatIf-clause-ends g c = λ none.
+    absurd (none.no_what_if c.in-Ok-WhatIf.options (subst (AreTaken (map string_bytes c.args.words.now)) c.in-Ok-WhatIf.field-0-is c.in-Ok-WhatIf.ensures.taken))
+
+pub returns-in-Ok-WhatIf-clause-what_if : goal.returns-in-Ok-WhatIf-clause-what_if
+returns-in-Ok-WhatIf-clause-what_if g c options taken =
+    let same : WhatIf options ≡ WhatIf c.in-Ok-WhatIf.options = c.in-Ok-WhatIf.ensures.one (WhatIf options) taken ∙ c.in-Ok-WhatIf.field-0-is in
+    let is : options ≡ c.in-Ok-WhatIf.options = cc same in
+    let old = streams (g.S.Source.left c.args.source.now) (g.K.Sink.taken c.args.sink.now) (g.S.Source.faults c.args.source.now) (g.K.Sink.faults c.args.sink.now) in
+    let new = streams (g.S.Source.left c.ask.new.source) (g.K.Sink.taken c.ask.new.sink) (g.S.Source.faults c.ask.new.source) (g.K.Sink.faults c.ask.new.sink) in
+    subst (λ (o : SearchOptions). RunsWhatIf o old new c.ask.result) (sym is) c.ask.ensures
+
+pub returns-in-Err-NotTaken-clause-what_if : goal.returns-in-Err-NotTaken-clause-what_if
+returns-in-Err-NotTaken-clause-what_if g c = λ options taken.
+    absurd (c.in-Err-NotTaken.ensures.refused c.in-Err-NotTaken.field-0-is (WhatIf options) taken)
+
 pub returns-in-Err-NotTaken-clause-tables : goal.returns-in-Err-NotTaken-clause-tables
 returns-in-Err-NotTaken-clause-tables g c = λ taken.
     absurd (c.in-Err-NotTaken.ensures.refused c.in-Err-NotTaken.field-0-is Table taken)
@@ -182,3 +199,7 @@ returns-in-Ok-Report-clause-unread g c = λ none.
 pub returns-in-Ok-Table-clause-unread : goal.returns-in-Ok-Table-clause-unread
 returns-in-Ok-Table-clause-unread g c = λ none.
     absurd (none Table (subst (AreTaken (map string_bytes c.args.words.now)) c.in-Ok-Table.field-0-is c.in-Ok-Table.ensures.taken))
+
+pub returns-in-Ok-WhatIf-clause-unread : goal.returns-in-Ok-WhatIf-clause-unread
+returns-in-Ok-WhatIf-clause-unread g c = λ none.
+    absurd (none (WhatIf c.in-Ok-WhatIf.options) (subst (AreTaken (map string_bytes c.args.words.now)) c.in-Ok-WhatIf.field-0-is c.in-Ok-WhatIf.ensures.taken))

@@ -1,0 +1,43 @@
+//! The command `whatif`.
+
+ghost use Rattle.lift_words.specs.Taken.{AreSearchOptions};
+ghost use Rattle.command_ends.specs.Ends.{streams};
+ghost use Rattle.lift_commands.specs.Further.{RunsWhatIf};
+
+use byte_streams::{Gate, Sink, Source};
+use command_ends::Status;
+use further_commands::whatif;
+use lift_words::SearchOptions;
+use snapshot_solver::Limits;
+use std::alloc::Global;
+use std::marker::Sync;
+use std::thread::Threads;
+use work_fan::Runtime;
+
+/// Reads a case, and writes what its last call costs with each car, as searches within the limits of the
+/// options tell it, or what is wrong with the input.
+pub(crate) fn ask<S: Source, K: Sink, G: Gate + Sync>(
+    rt: &(impl Threads + Sync),
+    alloc: Global,
+    options: SearchOptions,
+    source: &mut S,
+    sink: &mut K,
+    gate: &G,
+) -> Status
+    requires { AreSearchOptions options }
+    ensures { RunsWhatIf options
+        (streams (S.left source.old) (K.taken sink.old) (S.faults source.old) (K.faults sink.old))
+        (streams (S.left source.new) (K.taken sink.new) (S.faults source.new)
+        (K.faults sink.new)) result }
+{
+    let runtime = Runtime {
+        threads: rt,
+        alloc,
+        gate,
+    };
+    let limits = Limits {
+        rounds: options.rounds,
+        most_tours: options.moves,
+    };
+    whatif(&runtime, limits, options.workers, source, sink)
+}
