@@ -13,3 +13,4 @@ pub mod SearchStart
 pub mod SearchEnd
 pub mod RootDue
 pub mod RootStart
+pub mod ReasonLaws

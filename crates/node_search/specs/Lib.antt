@@ -3,3 +3,4 @@ pub mod Turns
 pub mod Roots
 pub mod Searches
 pub mod Found
+pub mod Reasons

@@ -6,6 +6,7 @@ ghost use Rattle.elevator_model.specs.Snapshot.{Snapshot as SnapshotOf, IsAccept
 ghost use Rattle.elevator_model.specs.Plans.{IsFeasiblePlan};
 ghost use Rattle.search_model.specs.Sums.{rounded_up};
 ghost use Rattle.search_model.specs.Nodes.{root_of};
+ghost use Rattle.search_model.specs.declared.StopReason.TheVariants.{Solved};
 ghost use Rattle.search_model.specs.Solving.{IsFound};
 ghost use Rattle.search_tree.specs.Sheets.{IsSizedTwig, PriceSheet, sum_of_sheet};
 ghost use Rattle.search_tree.specs.Branches.{at_place};
@@ -16,6 +17,7 @@ ghost use Rattle.node_search.specs.Roots.{IsRoot};
 ghost use Rattle.node_search.specs.Searches.{IsSplit};
 ghost use Rattle.node_search.specs.Found.{IsAnswerOf, IsBegun, IsBelow, IsEnded, IsKeptRoot, IsOpenRoot};
 ghost use Rattle.node_search.specs.Found.{IsReasonOf, IsTurned, least_of};
+ghost use Rattle.node_search.specs.Reasons.{HasLastState, HasReason};
 
 use crate::best::Best;
 use crate::choosing::first_wanted;
@@ -223,6 +225,10 @@ fn end<P: Pricer>(
         begun.entry.turns.items begun.entry.search
         → IsFound start.prices (rounded_up (sum_of_sheet start)) (P.snapshot pricer.now)
         limits.rounds limits.most_tours f.stated.plan f.stated.cost f.stated.bound f.tree.twigs f.turns f.why) }
+    ensures why { IfOk result (λ f. (start : PriceSheet)
+        → IsEnded (P.snapshot pricer.now) limits.rounds limits.most_tours start
+        begun.entry.turns.items begun.entry.search
+        → HasLastState (P.snapshot pricer.now) limits.rounds limits.most_tours start f) }
     ensures sized { IfOk result (λ f. All IsSizedTwig f.tree.twigs) }
 {
     let Begun { search, turns } = begun;
@@ -247,6 +253,7 @@ fn close<P: Pricer>(
         → IsTurned (P.snapshot pricer.now) limits.rounds limits.most_tours start
         root.entry → IsFound start.prices (rounded_up (sum_of_sheet start)) (P.snapshot pricer.now)
         limits.rounds limits.most_tours f.stated.plan f.stated.cost f.stated.bound f.tree.twigs f.turns f.why) }
+    ensures why { IfOk result (λ f. f.why ≡ Solved) }
     ensures sized { IfOk result (λ f. All IsSizedTwig f.tree.twigs) }
 {
     let Root {
@@ -303,6 +310,7 @@ fn find_at<P: Pricer, R: Threads + Sync, G: Gate + Sync>(
     requires desks { Serving (P.owns pricer.now) desks.old }
     ensures found { IfOk result (λ f. IsFound sheet.prices (rounded_up (sum_of_sheet sheet)) snapshot.now
         limits.rounds limits.most_tours f.stated.plan f.stated.cost f.stated.bound f.tree.twigs f.turns f.why) }
+    ensures why { IfOk result (HasReason snapshot.now limits.rounds limits.most_tours sheet) }
     ensures sized { IfOk result (λ f. All IsSizedTwig f.tree.twigs) }
 {
     let root = turned(runtime, snapshot, pricer, start, sheet, limits, desks)?;
@@ -319,9 +327,10 @@ fn find_at<P: Pricer, R: Threads + Sync, G: Gate + Sync>(
 /// The plan that it answers costs `cost`, and no feasible plan costs less than `bound`, as the tree proves.
 /// It starts with turns at the root: up to 20 pricings of all cars, at prices that move from turn to turn.
 /// Then rounds each price a few leaves of the tree, which are split in time, until cost and bound are the
-/// same, as many rounds were done as `limits` allows, or nothing is left to split. Each price and each worth
-/// of the tree lies in its range. `workers` is 1 to 16, and `gate` is told of each pricing before it begins.
-/// It fails only where there is no memory left.
+/// same, as many rounds were done as `limits` allows, or nothing is left to split. Where the last two come
+/// together, the reason is that nothing is left: `Moves`. Each price and each worth of the tree lies in its
+/// range. `workers` is 1 to 16, and `gate` is told of each pricing before it begins. It fails only where
+/// there is no memory left.
 pub fn find_plan<P: Pricer, R: Threads + Sync, G: Gate + Sync>(
     runtime: &Runtime<R, G>,
     snapshot: &Snapshot,
@@ -340,6 +349,7 @@ pub fn find_plan<P: Pricer, R: Threads + Sync, G: Gate + Sync>(
     requires workers { (1 ≤ workers) × (workers ≤ MOST_WORKERS) }
     ensures found { IfOk result (λ f. IsFound sheet.prices (rounded_up (sum_of_sheet sheet)) snapshot.now
         limits.rounds limits.most_tours f.stated.plan f.stated.cost f.stated.bound f.tree.twigs f.turns f.why) }
+    ensures why { IfOk result (HasReason snapshot.now limits.rounds limits.most_tours sheet) }
     ensures sized { IfOk result (λ f. All IsSizedTwig f.tree.twigs) }
 {
     let mut desks = desks_for(runtime.alloc, pricer, workers)?;

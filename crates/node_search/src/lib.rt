@@ -10,7 +10,9 @@
 //!   its cost, a bound, a tree that proves them, of at most 8 twigs a round and one more; turns at the root
 //!   by their rule of steps, none of whose bounds is greater, and no cheaper plan made of their tours
 //!   (`IsFound` of `search_model`). And why it ended: solved, the rounds used up, or a car with as many
-//!   partial tours as the limit in a node in which each call has one car left. It states no claims.
+//!   partial tours as the limit in a node in which each call has one car left; where that holds of the last
+//!   state and nothing is left to price, it is the car, also where the rounds are used up (`HasReason`). It
+//!   states no claims.
 //!
 //! # How it goes
 //!

@@ -18,3 +18,8 @@ returns-clause-found g c =
     let s = g.P.Pricer.snapshot c.args.pricer.now in
     let root = c.args.root in
     if_ok c.answer.result (IsAnswerOf root.tree.branches root.best root.turns.items Solved) _ (λ f is start turned. answer_found start.prices (bound_of_sheet start) s c.args.limits.rounds c.args.limits.most_tours root.tree.branches root.best root.turns.items Solved f is (found_solved s c.args.limits.rounds c.args.limits.most_tours start root f.stated.bound c.requires.accepted.building.cars_low turned c.requires.closed is.bound)) c.answer.ensures.answer
+
+pub returns-clause-why : goal.returns-clause-why
+returns-clause-why g c =
+    let root = c.args.root in
+    if_ok c.answer.result (IsAnswerOf root.tree.branches root.best root.turns.items Solved) _ (λ f is. is.why_is) c.answer.ensures.answer

@@ -1,0 +1,22 @@
+-- Why a search ended, by the state in which it did.
+use Rattle.std.specs.Prelude.{◌≡◌, ℕ, ◌⊎◌, map}
+use Rattle.elevator_model.specs.Snapshot.{Snapshot}
+use Rattle.search_model.specs.declared.StopReason.TheVariants.{Solved}
+use Rattle.search_tree.specs.Sheets.{PriceSheet}
+use Rattle.search_tree.specs.Branches.{twig_of}
+use Rattle.node_search.specs.declared.found.Found.{Found}
+use Rattle.node_search.specs.declared.search.Search.{Search}
+use Rattle.node_search.specs.Found.{IsEnded, IsReasonOf}
+
+-- The state after the last round, whose tree and cost these are, gives the reason: where no leaf may be priced any more
+-- and a car reached the limit in one whose bound is below the cost, that is `Moves`, also where the rounds are used up.
+pub record HasLastState (s : Snapshot) (rounds most_tours : ℕ) (start : PriceSheet) (f : Found) : Type 0 where
+  pub last : Search
+  pub ended : IsEnded s rounds most_tours start f.turns last
+  pub cost : f.stated.cost ≡ last.best.cost
+  pub tree : f.tree.twigs ≡ map twig_of last.tree.branches
+  pub reason : IsReasonOf s most_tours last f.why
+
+-- it was solved at the root, or the state after the last round gives the reason
+abbrev pub HasReason : Snapshot → (rounds most_tours : ℕ) → PriceSheet → Found → Type 0
+HasReason s rounds most_tours start f = (f.why ≡ Solved) ⊎ HasLastState s rounds most_tours start f
