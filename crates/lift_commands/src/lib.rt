@@ -31,11 +31,11 @@
 //! its cost and a bound that no feasible plan's cost is below where it is accepted, as a search within the
 //! limits answers them, for 1 to 16 workers; after each row no accepted call is lost, and at the end each is
 //! delivered. Status 0: no accepted row has a bound below its cost; 3: some has, and there the limits are not
-//! enough for the state. Status 5: the input does not begin so, and the line tells its first bad line with its
-//! one code; or its rows do not end within the limit, told after the log of those that do. Status 6: a read
-//! failed, and the rows done are those whose lines are whole among the bytes taken; 7: a write failed, and
-//! what was written is a beginning; 8: out of memory, and what was written is a beginning. Such an input that
-//! is not too long and no fault give status 0, 3 or 8.
+//! enough for the state. Status 5: the input does not begin so, and the line tells its first bad line with
+//! its one code; or its rows do not end within the limit, told after the log of those that do. Status 6: a
+//! read failed, and the rows done are those whose lines are whole among the bytes taken; 7: a write failed,
+//! and what was written is a beginning; 8: out of memory, and what was written is a beginning. Such an input
+//! that is not too long and no fault give status 0, 3 or 8.
 //!
 //! **`report`.** Of the same day, and with the same statuses, the report of the definition over the served
 //! calls, and nothing else.
@@ -89,8 +89,8 @@
 //!   are not enough for the snapshot (`IsDayStopped`); with Input the refusal line alone, or after the log of
 //!   the rows that end within the limit; with Read, Write and Memory which rows were done and how much of
 //!   their log was written. After each row that was done every accepted call is open, aboard or delivered
-//!   (`RanWithin`). And the day of an opening and rows comes to its end unless the source or the sink fails or
-//!   memory runs out (`Completes`).
+//!   (`RanWithin`). And the day of an opening and rows comes to its end unless the source or the sink fails
+//!   or memory runs out (`Completes`).
 //! - `reports`: by words of `report`, the same day without a log, and with Done and Stopped the text of its
 //!   report (`ReportDue`).
 //! - `tables`: by words of `table`, what was read and written with each status, that a table is judged and any
@@ -109,7 +109,8 @@
 //!
 //! A further command has its words in `lift_words` and its function in a crate of its own on `command_ends`,
 //! which says how any command ends. Here it takes one arm of `run` and a clause of its own by its words, as
-//! `day` has (`DaysByWords`), and its words are left out of `ends` as those of `day` are (`AskOthers`).
+//! `day` has (`DaysByWords`); its words are left out of `ends` as those of `day` are (`AskOthers`), and
+//! `ReadsNothing` says whether they ask for input.
 #![tactic(auto)]
 
 mod asking;
