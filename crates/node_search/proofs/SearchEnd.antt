@@ -141,14 +141,14 @@ module _ (s : Snapshot) (rounds most_tours : ℕ) (start : PriceSheet) (turns : 
       if_leaf (IsResting s x.best.cost (at_place x.tree.branches k)) (at_place x.tree.branches k).split below.leaf (stand-at (IsRestingAt s x.best.cost) k (root_place s ∷ []) x.tree.branches below.in_tree ended.begun.searching.under_way.tree.resting).1
 
   -- a leaf that is left below the cost was spent
-  left_spent : (k : ℕ) → IsBelow x.best.cost x.tree.branches k → IsAtRest s x → (at_place x.tree.branches k).spent ≡ None → ⊥
+  pub left_spent : (k : ℕ) → IsBelow x.best.cost x.tree.branches k → IsAtRest s x → (at_place x.tree.branches k).spent ≡ None → ⊥
   left_spent k below rest none =
       let left = rest k below.in_tree in
       let high = (resting_at k below).single (left.single below.leaf below.below) (left.was below.leaf below.below) none in
       let low = below.below in
       omega (arith, ints, high, low)
 
-  below_at : (bound : ℕ) → pos bound ≡ least_of x.best.cost x.tree.branches → bound < x.best.cost → (k : ℕ) × IsBelow x.best.cost x.tree.branches k
+  pub below_at : (bound : ℕ) → pos bound ≡ least_of x.best.cost x.tree.branches → bound < x.best.cost → (k : ℕ) × IsBelow x.best.cost x.tree.branches k
   below_at bound bound_is lt =
       let at = some_below x.best.cost bound x.tree.branches bound_is lt in
       (at.0, record { in_tree = at.1.in_tree; leaf = at.1.leaf; below = at.1.below })

@@ -1,19 +1,21 @@
 -- Why a search ended, by the state in which it did.
-use Rattle.std.specs.Prelude.{◌≡◌, ℕ, ◌⊎◌, map}
+use Rattle.std.specs.Prelude.{◌≡◌, ℕ, ◌⊎◌, pos, map}
 use Rattle.elevator_model.specs.Snapshot.{Snapshot}
 use Rattle.search_model.specs.declared.StopReason.TheVariants.{Solved}
 use Rattle.search_tree.specs.Sheets.{PriceSheet}
 use Rattle.search_tree.specs.Branches.{twig_of}
 use Rattle.node_search.specs.declared.found.Found.{Found}
 use Rattle.node_search.specs.declared.search.Search.{Search}
-use Rattle.node_search.specs.Found.{IsEnded, IsReasonOf}
+use Rattle.node_search.specs.Found.{IsEnded, IsReasonOf, least_of}
 
--- The state after the last round, whose tree and cost these are, gives the reason: where no leaf may be priced any more
--- and a car reached the limit in one whose bound is below the cost, that is `Moves`, also where the rounds are used up.
+-- The state after the last round, whose tree, cost and bound these are, gives the reason. Where the bound is below the
+-- cost and no leaf may be priced any more, that is `Moves`, also where the rounds are used up (`names_moves` of
+-- `proofs/ReasonLaws.antt`).
 pub record HasLastState (s : Snapshot) (rounds most_tours : ℕ) (start : PriceSheet) (f : Found) : Type 0 where
   pub last : Search
   pub ended : IsEnded s rounds most_tours start f.turns last
   pub cost : f.stated.cost ≡ last.best.cost
+  pub bound : pos f.stated.bound ≡ least_of last.best.cost last.tree.branches
   pub tree : f.tree.twigs ≡ map twig_of last.tree.branches
   pub reason : IsReasonOf s most_tours last f.why
 
