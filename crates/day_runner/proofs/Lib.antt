@@ -1,5 +1,4 @@
 pub mod RunLemmas
-pub mod WholeLemmas
 pub mod ReadLemmas
 pub mod StepLemmas
 pub mod DayLemmas

@@ -1,5 +1,5 @@
 -- Lines of a text: what a run reads of them.
-use Rattle.std.proofs.Common.{◌≡◌, ℕ, zero, suc, ◌-◌, ◌<◌, Bool, true, false, cond, eqb, List, [], ◌∷◌, ◌++◌, length, take, refl, sym, ap, ◌∙◌, subst, arith, Option, Some, None, Result, Ok, Err, inl}
+use Rattle.std.proofs.Common.{◌≡◌, ℕ, zero, suc, ◌-◌, ◌<◌, Bool, true, false, cond, eqb, List, [], ◌∷◌, ◌++◌, length, take, refl, sym, ap, ◌∙◌, subst, arith, Option, Some, None, Result, Ok, Err}
 use Rattle.std.specs.Prelude.{IsErrOf, OnOk, OnErr}
 use Rattle.std.specs.List.{concat, onto_first}
 use Rattle.std.specs.Io.BufRead.{strip_last}
@@ -119,7 +119,7 @@ pub stops-cut : (page : PageState) (before left : Option (List ℕ)) (taken : Li
 stops-cut page before None taken given none = subst (λ (known : Option (List ℕ)). StopsAt (Err Read) (text_at page known) None) (sym given) tt
 stops-cut page before (Some later) taken given none =
     subst (λ (known : Option (List ℕ)). StopsAt (Err Read) (text_at page known) (Some later)) (sym given)
-    (record { taken = page.unread ++ taken; held = sym (append-assoc page.unread taken later); none = none; whole = inl (All-nil HasWholeLine) })
+    (record { taken = page.unread ++ taken; held = sym (append-assoc page.unread taken later); none = none; whole = All-nil HasWholeLine })
 
 -- ---- one line
 

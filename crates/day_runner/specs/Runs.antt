@@ -1,5 +1,5 @@
 -- Rows as they come: which rows lines bring, what they do to a day, and what the log says of them.
-use Rattle.std.specs.Prelude.{◌≡◌, ℕ, ◌+◌, ◌≤◌, ◌<◌, nat_lt, List, [], ◌∷◌, ◌++◌, length, take, Option, None, IfSome, IsSomeAnd, Result, Ok, Err, if◌then◌else◌, All, ◌⊎◌}
+use Rattle.std.specs.Prelude.{◌≡◌, ℕ, ◌+◌, ◌≤◌, ◌<◌, nat_lt, List, [], ◌∷◌, ◌++◌, length, take, Option, None, IfSome, IsSomeAnd, Result, Ok, Err, if◌then◌else◌, All}
 use Rattle.std.specs.List.{concat}
 use Rattle.std.specs.Io.KnownBytes.{append_known, IsAtEnd}
 use Rattle.elevator_model.specs.Snapshot.{Snapshot}
@@ -79,12 +79,12 @@ pub record IsTooLong (before : TextState) (passed behind : List (List ℕ)) : Ty
   pub long : before.limit < bytes_of passed + length piece
 
 -- A read failed: of the bytes that were taken behind the lines none is the end of a line, and each of the lines has its
--- own end, or the source is at its end. So the lines are those that are whole among all bytes that were taken.
+-- own end. So the lines are those that are whole among all bytes that were taken.
 pub record IsCutOff (before : TextState) (passed : List (List ℕ)) (left : Option (List ℕ)) : Type 0 where
   pub taken : List ℕ
   pub held : IfSome left (λ later. before.bytes ≡ concat passed ++ (taken ++ later))
   pub none : HasWholeLine taken → ⊥
-  pub whole : All HasWholeLine passed ⊎ IsAtEnd left
+  pub whole : All HasWholeLine passed
 
 -- Memory was wanting for what the next line says.
 pub record IsNextLeft (behind : List (List ℕ)) : Type 0 where

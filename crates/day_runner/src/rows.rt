@@ -1,13 +1,14 @@
 //! Rows as they come.
 
 ghost use Rattle.std.specs.Prelude.{◌≡◌, ◌≤◌, ◌<◌, ◌+◌, ◌^◌, [], ◌∷◌, None, IsTrue, IfOk, IfErr, OnErr, OnOk};
-ghost use Rattle.std.specs.Prelude.{IsErrOf, length, take, ℕ};
+ghost use Rattle.std.specs.Prelude.{IsErrOf, length, take, ℕ, true, false};
 ghost use Rattle.std.specs.Io.KnownBytes.{append_known};
 ghost use Rattle.std.specs.Fn.{FnReturnsAt};
 ghost use Rattle.byte_streams.specs.Streams.{Rose};
 ghost use Rattle.day_simulator.specs.Planning.{PlannerLaw};
 ghost use Rattle.day_simulator.specs.Rows.{right_by};
-ghost use Rattle.lift_text.specs.LineReader.{text, line, failure};
+ghost use Rattle.lift_text.specs.LineReader.{text, line, failure, has_ended};
+ghost use Rattle.lift_text.specs.Reading.{HaveLineFeeds};
 ghost use Rattle.search_model.specs.Days.{day_after_refused, loses_none};
 ghost use Rattle.search_model.specs.declared.RowFault.TheVariants.{NoRow};
 ghost use Rattle.day_simulator.specs.Standing.{row_number};
@@ -176,6 +177,10 @@ where
         (text S.left lines.new) (S.left lines.new.source.now) }
     ensures none_lost { IsTrue (loses_none day.new) }
     ensures unfailed { OnOk result (failure lines.new ≡ None) }
+    ensures line_feed { result ≡ Ok NextRow.More
+        → HaveLineFeeds (text S.left lines.old) 1 (has_ended lines.new) }
+    ensures stays_ended { has_ended lines.old ≡ true → has_ended lines.new ≡ true }
+    ensures not_ended { IsErrOf result RunFault.Read → has_ended lines.new ≡ false }
     ensures line { result ≡ Ok NextRow.More → line lines.new ≡ line lines.old + 1 }
     ensures number { result ≡ Ok NextRow.More → row_number day.new ≤ line lines.new + 1 }
     ensures number_at_end { result ≡ Ok NextRow.End → row_number day.new ≤ line lines.new + 1 }
@@ -213,6 +218,10 @@ where
         (text S.left lines.new) (S.left lines.new.source.now) (K.taken sink.old) (K.taken sink.new) }
     ensures none_lost { IsTrue (loses_none day.new) }
     ensures unfailed { OnOk result (failure lines.new ≡ None) }
+    ensures line_feed { result ≡ Ok NextRow.More
+        → HaveLineFeeds (text S.left lines.old) 1 (has_ended lines.new) }
+    ensures stays_ended { has_ended lines.old ≡ true → has_ended lines.new ≡ true }
+    ensures not_ended { IsErrOf result RunFault.Read → has_ended lines.new ≡ false }
     ensures line { result ≡ Ok NextRow.More → line lines.new ≡ line lines.old + 1 }
     ensures number { result ≡ Ok NextRow.More → row_number day.new ≤ line lines.new + 1 }
     ensures number_at_end { result ≡ Ok NextRow.End → row_number day.new ≤ line lines.new + 1 }

@@ -3,7 +3,7 @@ use Rattle.day_simulator.specs.Rows.{right_by}
 use Rattle.std.proofs.Common.{◌≡◌, ◌+◌, ◌≤◌, None}
 use Rattle.std.specs.Prelude.{IsTrue}
 use Rattle.search_model.specs.Days.{loses_none}
-use Rattle.lift_text.specs.LineReader.{text, line, failure}
+use Rattle.lift_text.specs.LineReader.{text, line, failure, has_ended}
 use Rattle.day_simulator.specs.Standing.{row_number}
 use Rattle.day_runner.proofs.StepLemmas.{SoFar}
 use Rattle.day_runner.proofs.rows.run_rows.Given as goal
@@ -15,7 +15,7 @@ invariant-lines g l = record {
   unfailed : failure l.lines ≡ None;
   numbered : row_number l.day ≤ line l.lines + 1;
   lost_none : IsTrue (loses_none l.day);
-  so_far : SoFar (right_by (FnReturnsAt g.F.Fn l.fn.plan)) l.initial.day l.day (text g.S.Source.left l.initial.lines) (text g.S.Source.left l.lines) (g.K.Sink.taken l.initial.sink) (g.K.Sink.taken l.sink);
+  so_far : SoFar (right_by (FnReturnsAt g.F.Fn l.fn.plan)) l.initial.day l.day (text g.S.Source.left l.initial.lines) (text g.S.Source.left l.lines) (has_ended l.lines) (g.K.Sink.taken l.initial.sink) (g.K.Sink.taken l.sink);
   counted_lines : line l.lines ≡ line l.initial.lines + l.counter;
   counted : g.S.Source.faults l.initial.lines.source.now ≤ g.S.Source.faults l.lines.source.now;
   counted_in_sink : g.K.Sink.faults l.initial.sink ≤ g.K.Sink.faults l.sink;
