@@ -210,7 +210,7 @@ refused-stands day is room = record {
 }
 
 -- no item of a list has an id that is above all of theirs
-count-above : {X : Type 0} (id : X → ℕ) (n : ℕ) (xs : List X) → All (λ x. id x < n) xs → count_by (λ x. id x == n) xs ≡ 0
+pub count-above : {X : Type 0} (id : X → ℕ) (n : ℕ) (xs : List X) → All (λ x. id x < n) xs → count_by (λ x. id x == n) xs ≡ 0
 count-above id n [] all = refl
 count-above id n (x ∷ xs) all =
     let first = count_of-cons (λ y. id y == n) x xs in
