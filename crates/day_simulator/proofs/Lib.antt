@@ -5,7 +5,7 @@ pub mod EarlyLemmas
 pub mod NoneLost
 pub mod BoardCounts
 pub mod EventMoments
-pub mod ServedLemmas
 pub mod LineLemmas
 pub mod LoggedLemmas
 pub mod RowLemmas
+pub mod ServedLemmas

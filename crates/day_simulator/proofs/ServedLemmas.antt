@@ -1,8 +1,8 @@
 -- What all events so far tell of each accepted call: it boards once and is delivered once, in time.
-use Rattle.std.proofs.Common.{◌==◌, ◌≡◌, ℕ, ◌+◌, ◌<◌, ◌≤◌, Bool, true, false, cond, eqb, List, [], ◌∷◌, ◌++◌, map, length, length-append, refl, sym, ap, ◌∙◌, subst, inl, inr, arith, Option, Some, None}
+use Rattle.std.proofs.Common.{◌==◌, ◌≡◌, ℕ, ◌+◌, ◌<◌, ◌≤◌, Bool, true, false, cond, eqb, ltb, List, [], ◌∷◌, ◌++◌, map, length, length-append, refl, sym, ap, ◌∙◌, subst, inl, inr, arith, Option, Some, None}
 use Rattle.std.specs.Prelude.{All, Contains, unwrap_or}
 use Rattle.std.specs.List.{count_by, flat_map}
-use Rattle.std.proofs.lemmas.Bool.{or_cases, or_left, false≢true, eqb-true, eq-eqb, false_from_ne_true}
+use Rattle.std.proofs.lemmas.Bool.{or_cases, or_left, false≢true, eqb-true, eq-eqb, false_from_ne_true, ltb-false}
 use Rattle.std.proofs.lemmas.List.{length-map}
 use Rattle.std.proofs.lemmas.List.Concat.{flat_map-append}
 use Rattle.std.proofs.lemmas.List.Elements.{All-nil, All-cons, All-append, All-map, All-head, All-tail, All-weaker, All-contains}
@@ -10,21 +10,26 @@ use Rattle.elevator_model.specs.declared.Aboard.{Aboard}
 use Rattle.elevator_model.specs.declared.Call.{Call}
 use Rattle.search_model.specs.declared.Event.{Event}
 use Rattle.search_model.specs.declared.Event.TheVariants.{Board, Deliver}
+use Rattle.search_model.specs.declared.RowFault.{RowFault}
+use Rattle.search_model.specs.declared.RowFault.TheVariants.{BeforeNow, NoRow}
 use Rattle.search_model.specs.declared.Served.{Served}
 use Rattle.search_model.specs.declared.Stated.{Stated}
 use Rattle.call_sets.specs.Counting.{is_among}
 use Rattle.elevator_model.specs.Snapshot.{Snapshot, IsAccepted}
 use Rattle.elevator_model.specs.Plans.{IsFeasiblePlan, tour_of}
 use Rattle.search_model.specs.Advancing.{World, advanced, done_by, events_by, last_events}
-use Rattle.search_model.specs.Days.{Day, DayCall, Row, noted_in, calls_after, call_of_row, day_after_accepted, day_after_refused, opening_day, calls_at_end}
-use Rattle.day_state.specs.Openings.{IsOpeningSnapshot}
+use Rattle.search_model.specs.Days.{Day, DayCall, Row, noted_in, calls_after, call_of_row, day_after_accepted, day_after_refused, fault_of_good_row, fault_of_new_call, fault_of_row, is_row, opening_day, opening_world, calls_at_end}
+use Rattle.day_state.specs.Openings.{IsOpeningSnapshot, taken}
+use Rattle.day_state.proofs.AdvanceLaws.{accepted-there}
+use Rattle.day_state.proofs.TakenLaws.{has-place, taken-accepted}
 use Rattle.day_state.proofs.Renaming.{same_test}
 use Rattle.day_simulator.specs.Once.{IsServedOnce, board_moment, delivery_moment, moments_boarded, moments_delivered}
-use Rattle.day_simulator.specs.Standing.{IsStanding, row_number}
+use Rattle.day_simulator.specs.Standing.{row_number}
 use Rattle.day_simulator.proofs.Counts.{count_of-cons, count_of-append}
 use Rattle.day_simulator.proofs.RiderCounts.{delivers}
 use Rattle.day_simulator.proofs.Conserved.{places, conserved, all-delivered, done-fine, tour-fine}
-use Rattle.day_simulator.proofs.NoneLost.{noted_by, calls-noted, noted-id, noted_by-id, later-calls-known, later-aboard-known, count-above}
+use Rattle.day_simulator.proofs.NoneLost.{noted_by, calls-noted, noted-id, noted_by-id, later-calls-known, later-aboard-known, count-above, weaker-calls, weaker-groups, weaker-day-calls}
+use Rattle.day_simulator.proofs.RowLemmas.{call-is-new, is-good}
 use Rattle.day_simulator.proofs.BoardCounts.{boards, opens, boards-kept, all-boarded}
 use Rattle.day_simulator.proofs.EventMoments.{IsBoardedAt, IsDeliveredAt, IsReleasedBy, HasBoardedBy, HasGotOn, told-front, told-back, told-either, boards-released, delivers-boarded, later-got-on, later-open}
 
@@ -296,43 +301,98 @@ module _ (n : ℕ) (s : Snapshot) (call : Call) (calls : List DayCall) (past : L
 
 -- ---- the day
 
--- of each accepted call, by the events of the rows that came
-abbrev pub AreDayTold : Day → (past : List Event) → Type 0
-AreDayTold day past = AreTold (row_number day) day.world.snapshot day.calls past
+-- what holds between two rows of the next of which this is the number, by the events of the rows that came
+pub record IsServing (number : ℕ) (w : World) (calls : List DayCall) (past : List Event) : Type 0 where
+  pub accepted : IsAccepted w.snapshot
+  pub feasible : IsFeasiblePlan w.snapshot w.plan
+  pub known : All (λ (x : DayCall). x.id < number) calls
+  pub open_known : All (λ (call : Call). call.id < number) w.snapshot.calls
+  pub aboard_known : All (λ (group : Aboard). group.id < number) w.snapshot.aboard
+  pub told : AreTold number w.snapshot calls past
 
-pub opening-told : (s : Snapshot) → IsOpeningSnapshot s → AreDayTold (opening_day s) []
-opening-told s o = record {
-  each = All-nil (IsTold s []);
-  aboard = nobody s.aboard o.aboard;
-  order = λ n m h. absurd (false≢true h);
-  known = λ n m h. absurd (false≢true h);
+abbrev pub IsDayServing : Day → (past : List Event) → Type 0
+IsDayServing day past = IsServing (row_number day) day.world day.calls past
+
+pub opening-serves : (s : Snapshot) → IsAccepted s → IsOpeningSnapshot s → IsFeasiblePlan s (opening_world s).plan → IsDayServing (opening_day s) []
+opening-serves s a o f = record {
+  accepted = a;
+  feasible = f;
+  known = All-nil (λ (x : DayCall). x.id < 1);
+  open_known = subst (All (λ (call : Call). call.id < 1)) (sym (empty s.calls o.calls)) (All-nil (λ (call : Call). call.id < 1));
+  aboard_known = subst (All (λ (group : Aboard). group.id < 1)) (sym (empty s.aboard o.aboard)) (All-nil (λ (group : Aboard). group.id < 1));
+  told = record {
+    each = All-nil (IsTold s []);
+    aboard = subst (All (λ (group : Aboard). IsBoardedAt group.id group.boarded [])) (sym (empty s.aboard o.aboard)) (All-nil (λ (group : Aboard). IsBoardedAt group.id group.boarded []));
+    order = λ n m h. absurd (false≢true h);
+    known = λ n m h. absurd (false≢true h);
+  };
 }
   where
-    nobody : (groups : List Aboard) → length groups ≡ 0 → All (λ (group : Aboard). IsBoardedAt group.id group.boarded []) groups
-    nobody [] e = All-nil (λ (group : Aboard). IsBoardedAt group.id group.boarded [])
-    nobody (x ∷ xs) e = absurd (omega (arith, e))
+    empty : {X : Type 0} (xs : List X) → length xs ≡ 0 → xs ≡ []
+    empty [] e = refl
+    empty (x ∷ xs) e = absurd (omega (arith, e))
 
-pub refused-told : (day : Day) (past : List Event) → AreDayTold day past → AreDayTold (day_after_refused day) past
-refused-told day past told = record { each = told.each; aboard = told.aboard; order = told.order; known = λ n m h. (let below = told.known n m h in omega (arith, below)) }
+pub refused-serves : (day : Day) (past : List Event) → IsDayServing day past → IsDayServing (day_after_refused day) past
+refused-serves day past is =
+    let n = row_number day in
+    let more : n ≤ row_number (day_after_refused day) = omega arith in
+    let told = is.told in
+    record {
+      accepted = is.accepted;
+      feasible = is.feasible;
+      known = weaker-day-calls n (row_number (day_after_refused day)) day.calls more is.known;
+      open_known = weaker-calls n (row_number (day_after_refused day)) day.world.snapshot.calls more is.open_known;
+      aboard_known = weaker-groups n (row_number (day_after_refused day)) day.world.snapshot.aboard more is.aboard_known;
+      told = record { each = told.each; aboard = told.aboard; order = told.order; known = λ i m h. (let below = told.known i m h in omega (arith, below, more)) };
+    }
 
-pub accepted-told : (day : Day) (row : Row) (printed : Stated) (past : List Event) → IsStanding day → AreDayTold day past → AreDayTold (day_after_accepted day (row_number day) row printed) (past ++ events_by day.world row.time)
-accepted-told day row printed past is told =
+-- the snapshot with the call of a row that is not refused
+accepted-next : (w : World) (n : ℕ) (row : Row) → IsAccepted w.snapshot → IsFeasiblePlan w.snapshot w.plan → All (λ (call : Call). call.id < n) w.snapshot.calls → All (λ (group : Aboard). group.id < n) w.snapshot.aboard → fault_of_row w n (Some row) ≡ None → IsAccepted (taken (advanced w row.time).snapshot (call_of_row n row))
+accepted-next w n row a f open_known aboard_known none =
+    let there = (advanced w row.time).snapshot in
+    let call = call_of_row n row in
+    let good = first (is_row w.snapshot.building row) (fault_of_good_row w n row) none in
+    let in_time = second (ltb row.time w.snapshot.moment) (fault_of_new_call there call) good.1 in
+    let place = has-place there call in_time.1 in
+    taken-accepted there call (accepted-there w row.time a f (ltb-false row.time w.snapshot.moment in_time.0) (is-good w.snapshot.building row good.0).time) (call-is-new w n row a f open_known aboard_known good.0) place.room place.car
+  where
+    first : (b : Bool) (o : Option RowFault) → cond {A = Option RowFault} b o (Some NoRow) ≡ None → (b ≡ true) × (o ≡ None)
+    first true o h = (refl, h)
+    first false o h = absurd cc
+
+    second : (b : Bool) (o : Option RowFault) → cond {A = Option RowFault} b (Some BeforeNow) o ≡ None → (b ≡ false) × (o ≡ None)
+    second true o h = absurd cc
+    second false o h = (refl, h)
+
+pub accepted-serves : (day : Day) (row : Row) (printed : Stated) (past : List Event) → IsDayServing day past → fault_of_row day.world (row_number day) (Some row) ≡ None → IsFeasiblePlan (day_after_accepted day (row_number day) row printed).world.snapshot printed.plan → IsDayServing (day_after_accepted day (row_number day) row printed) (past ++ events_by day.world row.time)
+accepted-serves day row printed past is none feasible =
     let n = row_number day in
     let w = day.world in
     let there = (advanced w row.time).snapshot in
     let events = events_by w row.time in
     let call = call_of_row n row in
+    let new = new_call n call in
     let noted : List DayCall = map (noted_by events) day.calls in
     let next = day_after_accepted day n row printed in
-    let calls = sym (calls-noted day.calls events) in
-    let later = told-later w.snapshot events there (advance-leads w row.time is.accepted is.feasible) past n day.calls is.open_known told in
-    let known_noted : All (λ (x : DayCall). x.id < n) noted = All-map (λ (x : DayCall). x.id < n) (noted_by events) day.calls (All-weaker (λ (x : DayCall). x.id < n) (λ (x : DayCall). (noted_by events x).id < n) (λ x h. subst (λ (i : ℕ). i < n) (sym (noted_by-id events x)) h) day.calls is.known) in
-    let all = one-more n there call noted (past ++ events) refl later (later-calls-known w row.time n is.open_known) (later-aboard-known w row.time n is.accepted is.feasible is.open_known is.aboard_known) known_noted in
-    let size = length-append (calls_after day.calls events) (new_call n call ∷ []) in
-    let same = ap length calls in
+    let same = sym (calls-noted day.calls events) in
+    let told = told-later w.snapshot events there (advance-leads w row.time is.accepted is.feasible) past n day.calls is.open_known is.told in
+    let known : All (λ (x : DayCall). x.id < n) noted = All-map (λ (x : DayCall). x.id < n) (noted_by events) day.calls (All-weaker (λ (x : DayCall). x.id < n) (λ (x : DayCall). (noted_by events x).id < n) (λ x h. subst (λ (i : ℕ). i < n) (sym (noted_by-id events x)) h) day.calls is.known) in
+    let calls = later-calls-known w row.time n is.open_known in
+    let groups = later-aboard-known w row.time n is.accepted is.feasible is.open_known is.aboard_known in
+    let size = length-append (calls_after day.calls events) (new ∷ []) in
+    let kept = ap length same in
     let mapped = length-map day.calls (noted_by events) in
-    let number : n + 1 ≡ row_number next = omega (arith, size, same, mapped) in
-    subst (λ (bound : ℕ). AreTold bound next.world.snapshot next.calls (past ++ events)) number (subst (λ (xs : List DayCall). AreTold (n + 1) next.world.snapshot (xs ++ new_call n call ∷ []) (past ++ events)) calls all)
+    let number : n + 1 ≡ row_number next = omega (arith, size, kept, mapped) in
+    let more : n ≤ n + 1 = omega arith in
+    let all : IsServing (n + 1) next.world (noted ++ new ∷ []) (past ++ events) = record {
+      accepted = accepted-next w n row is.accepted is.feasible is.open_known is.aboard_known none;
+      feasible = feasible;
+      known = All-append (λ (x : DayCall). x.id < n + 1) noted (new ∷ []) (weaker-day-calls n (n + 1) noted more known) (All-cons (λ (x : DayCall). x.id < n + 1) new [] (omega arith) (All-nil (λ (x : DayCall). x.id < n + 1)));
+      open_known = All-append (λ (c : Call). c.id < n + 1) there.calls (call ∷ []) (weaker-calls n (n + 1) there.calls more calls) (All-cons (λ (c : Call). c.id < n + 1) call [] (omega arith) (All-nil (λ (c : Call). c.id < n + 1)));
+      aboard_known = weaker-groups n (n + 1) there.aboard more groups;
+      told = one-more n there call noted (past ++ events) refl told calls groups known;
+    } in
+    subst (λ (bound : ℕ). IsServing bound next.world next.calls (past ++ events)) number (subst (λ (xs : List DayCall). IsServing (n + 1) next.world (xs ++ new ∷ []) (past ++ events)) same all)
 
 -- ---- the end
 
@@ -359,9 +419,15 @@ served-call s past x order told =
     }
 
 -- Once the plan is run to its end each accepted call boarded once and was delivered once, in time.
-pub end-served : (day : Day) (past : List Event) → IsStanding day → AreDayTold day past → All (IsServedOnce (past ++ last_events day.world)) (calls_at_end day)
-end-served day past is told =
+pub end-served : (day : Day) (past : List Event) → IsDayServing day past → All (IsServedOnce (past ++ last_events day.world)) (calls_at_end day)
+end-served day past is =
     let s = day.world.snapshot in
     let last = last_events day.world in
-    let later = told-later s last (emptied s) (end-leads day.world is.accepted is.feasible) past (row_number day) day.calls is.open_known told in
+    let later = told-later s last (emptied s) (end-leads day.world is.accepted is.feasible) past (row_number day) day.calls is.open_known is.told in
     subst (All (IsServedOnce (past ++ last))) (sym (calls-noted day.calls last)) (All-weaker (IsTold (emptied s) (past ++ last)) (IsServedOnce (past ++ last)) (λ x each. served-call s (past ++ last) x later.order each) (map (noted_by last) day.calls) later.each)
+
+-- of no calls there is nothing to tell
+pub none-served : (day : Day) (events : List Event) → day.calls ≡ [] → All (IsServedOnce events) (calls_at_end day)
+none-served day events none =
+    let last = last_events day.world in
+    subst (All (IsServedOnce events)) (sym (calls-noted day.calls last ∙ ap (map (noted_by last)) none)) (All-nil (IsServedOnce events))
