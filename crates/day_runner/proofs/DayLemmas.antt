@@ -4,8 +4,10 @@ use Rattle.std.specs.Prelude.{IfOk, IfSome, IsTrue}
 use Rattle.std.specs.Io.KnownBytes.{append_known, IsAtEnd}
 use Rattle.std.proofs.Math.Seq.{take-append-add}
 use Rattle.std.proofs.lemmas.List.{length-map, length-append, take-append-le}
-use Rattle.elevator_model.specs.Snapshot.{Snapshot}
+use Rattle.elevator_model.specs.Snapshot.{Snapshot, IsAccepted}
 use Rattle.search_model.specs.Days.{Day, opening_day, loses_none, served_of, served_from, calls_at_end}
+use Rattle.day_state.specs.Openings.{IsOpeningSnapshot}
+use Rattle.day_simulator.specs.Planning.{PlannerLaw}
 use Rattle.day_simulator.specs.Standing.{row_number}
 use Rattle.day_simulator.proofs.NoneLost.{end-length}
 use Rattle.lift_text.specs.Reading.{TextState}
@@ -16,6 +18,7 @@ use Rattle.day_runner.specs.declared.days.Ended.{Ended}
 use Rattle.day_runner.specs.declared.rows.RunFault.{RunFault}
 use Rattle.day_runner.specs.declared.rows.RunFault.TheVariants.{TooLong, Read, Write, NoMemory}
 use Rattle.day_runner.proofs.StepLemmas.{append_known-more, left_lines, nothing-read}
+use Rattle.day_runner.proofs.ServedRows.{served-none, served-rows}
 
 -- the log of the rows behind the first line
 rows-written : (sink sink' sink'' : Option (List ℕ)) (text : List ℕ) → sink' ≡ append_known sink first_line → sink'' ≡ append_known sink' text → sink'' ≡ append_known sink (rows_log text)
@@ -68,12 +71,12 @@ pub day-unopened : (right : Right) (opening : Snapshot) (fault : RunFault) (befo
     → RanDay right opening (Err fault) before left sink sink'
 day-unopened right opening fault before left sink sink' is wrote =
     subst (λ (f : RunFault). RanDay right opening (Err f) before left sink sink') (sym is)
-    (record { passed = []; behind = left_lines before; day = opening_day opening; text = []; done = (refl, refl); none_lost = refl; read = nothing-read-write before left; wrote = first-begun (opening_day opening) wrote.0 sink sink' wrote.1 wrote.2; cut = inl wrote })
+    (record { passed = []; behind = left_lines before; day = opening_day opening; text = []; done = (refl, refl); none_lost = refl; once = served-none right opening; read = nothing-read-write before left; wrote = first-begun (opening_day opening) wrote.0 sink sink' wrote.1 wrote.2; cut = inl wrote })
 
 -- memory was wanting for the day
 pub day-unmade : (right : Right) (opening : Snapshot) (before : Option TextState) (left sink sink' : Option (List ℕ)) → sink' ≡ append_known sink first_line → RanDay right opening (Err NoMemory) before left sink sink'
 day-unmade right opening before left sink sink' wrote =
-    record { passed = []; behind = left_lines before; day = opening_day opening; text = []; done = (refl, refl); none_lost = refl; read = nothing-read-memory before left; wrote = wrote; cut = tt }
+    record { passed = []; behind = left_lines before; day = opening_day opening; text = []; done = (refl, refl); none_lost = refl; once = served-none right opening; read = nothing-read-memory before left; wrote = wrote; cut = tt }
 
 -- ---- over the rows
 
@@ -103,15 +106,16 @@ cut-rows Write text before behind left sink sink' sink'' first wrote = inl (rows
 cut-rows NoMemory text before behind left sink sink' sink'' first wrote = tt
 
 -- a fault among the rows
-pub day-stopped : (right : Right) (opening : Snapshot) (start day : Day) (fault : RunFault) (before : Option TextState) (left sink sink' sink'' : Option (List ℕ)) → start ≡ opening_day opening → sink' ≡ append_known sink first_line → IsTrue (loses_none day)
+pub day-stopped : (right : Right) (law : PlannerLaw right) (opening : Snapshot) (start day : Day) (fault : RunFault) (before : Option TextState) (left sink sink' sink'' : Option (List ℕ)) → IsAccepted opening → IsOpeningSnapshot opening → start ≡ opening_day opening → sink' ≡ append_known sink first_line → IsTrue (loses_none day)
     → Ran right start day (Err fault) before left sink' sink'' → RanDay right opening (Err fault) before left sink sink''
-day-stopped right opening start day fault before left sink sink' sink'' is first none_lost ran = record {
+day-stopped right law opening start day fault before left sink sink' sink'' a o is first none_lost ran = record {
   passed = ran.passed;
   behind = ran.behind;
   day = day;
   text = ran.text;
   done = from-opening right opening start day ran.passed ran.text is ran.done;
   none_lost = none_lost;
+  once = served-rows right law opening (rows_of ran.passed) day ran.text a o (from-opening right opening start day ran.passed ran.text is ran.done);
   read = reads-day fault before ran.passed ran.behind left ran.read;
   wrote = wrote-day fault ran.text day sink sink' sink'' first ran.wrote;
   cut = cut-rows fault ran.text before ran.behind left sink sink' sink'' first ran.wrote;
@@ -147,15 +151,16 @@ cut-end (Err Read) unit text before passed behind left sink sink' read = tt
 cut-end (Err Write) unit text before passed behind left sink sink' read = inr (all-read unit before passed behind left read)
 cut-end (Err NoMemory) unit text before passed behind left sink sink' read = tt
 
-pub day-ended : (right : Right) (opening : Snapshot) (start day : Day) (unit : Unit {0}) (result : Result Ended RunFault) (before : Option TextState) (left sink sink' sink'' sink''' : Option (List ℕ)) → start ≡ opening_day opening → sink' ≡ append_known sink first_line → IsTrue (loses_none day)
+pub day-ended : (right : Right) (law : PlannerLaw right) (opening : Snapshot) (start day : Day) (unit : Unit {0}) (result : Result Ended RunFault) (before : Option TextState) (left sink sink' sink'' sink''' : Option (List ℕ)) → IsAccepted opening → IsOpeningSnapshot opening → start ≡ opening_day opening → sink' ≡ append_known sink first_line → IsTrue (loses_none day)
     → Ran right start day (Ok unit) before left sink' sink'' → EndedAs day result sink'' sink''' → RanDay right opening result before left sink sink'''
-day-ended right opening start day unit result before left sink sink' sink'' sink''' is first none_lost ran end = record {
+day-ended right law opening start day unit result before left sink sink' sink'' sink''' a o is first none_lost ran end = record {
   passed = ran.passed;
   behind = ran.behind;
   day = day;
   text = ran.text;
   done = from-opening right opening start day ran.passed ran.text is ran.done;
   none_lost = none_lost;
+  once = served-rows right law opening (rows_of ran.passed) day ran.text a o (from-opening right opening start day ran.passed ran.text is ran.done);
   read = read-whole result unit day sink'' sink''' before ran.passed ran.behind left end ran.read;
   wrote = wrote-end result ran.text day sink sink'' sink''' (rows-written sink sink' sink'' ran.text first ran.wrote) end;
   cut = cut-end result unit ran.text before ran.passed ran.behind left sink sink''' ran.read;

@@ -1,14 +1,17 @@
 -- Whoever calls right whatever another does is answered so too.
-use Rattle.std.proofs.Common.{◌≡◌, ℕ, List, [], ◌∷◌, ◌++◌, Option, Ok, Err, Result}
+use Rattle.std.proofs.Common.{◌≡◌, ℕ, List, [], ◌∷◌, ◌++◌, All, Option, Ok, Err, Result, refl, sym, ap, subst}
 use Rattle.elevator_model.specs.Snapshot.{Snapshot}
 use Rattle.search_model.specs.declared.Stated.{Stated}
-use Rattle.search_model.specs.Advancing.{World}
-use Rattle.search_model.specs.Days.{Day, Row, RowLog, IsRightLog}
+use Rattle.search_model.specs.declared.Event.{Event}
+use Rattle.search_model.specs.Advancing.{World, last_events}
+use Rattle.search_model.specs.Days.{Day, Row, RowLog, IsRightLog, calls_at_end, opening_day}
 use Rattle.search_model.specs.Days.RowLog.{Refused, Accepted}
 use Rattle.lift_text.specs.Reading.{TextState}
 use Rattle.day_simulator.specs.declared.days.RowAnswer.{RowAnswer}
-use Rattle.day_simulator.specs.Rows.{DoesRow, IsRowDone}
-use Rattle.day_runner.specs.Runs.{Right, AreRowsDone}
+use Rattle.day_simulator.specs.Once.{IsServedOnce}
+use Rattle.day_simulator.specs.Rows.{IsRowDone, next_step}
+use Rattle.day_runner.specs.Runs.{Right, AreRowsDone, rows_of}
+use Rattle.day_runner.specs.Served.{events_of_log, events_of_rows}
 use Rattle.day_runner.specs.Days.{RanDay}
 use Rattle.day_runner.specs.Inputs.{DayAnswered, DayRan}
 use Rattle.day_runner.specs.declared.days.Ended.{Ended}
@@ -24,14 +27,20 @@ log-wider : (narrow wide : Right) (proof : List ℕ) (w : World) (log : RowLog) 
 log-wider narrow wide proof w (Refused n fault) wider right = tt
 log-wider narrow wide proof w (Accepted n events printed) wider right = wider w.snapshot printed proof right
 
-row-wider : (narrow wide : Right) (old : Day) (said : Option Row) (new : Day) (before after : List ℕ) (answer : RowAnswer) → IsWider narrow wide → IsRowDone narrow old said new before after answer → IsRowDone wide old said new before after answer
+abbrev row-wider : (narrow wide : Right) (old : Day) (said : Option Row) (new : Day) (before after : List ℕ) (answer : RowAnswer) → IsWider narrow wide → IsRowDone narrow old said new before after answer → IsRowDone wide old said new before after answer
 row-wider narrow wide old said new before after answer wider done =
     (done.0, done.1, record { day = done.2.day; text = done.2.text; right_plan = log-wider narrow wide done.1 new.world _ wider done.2.right_plan; answer_is = done.2.answer_is })
 
-rows-wider : (narrow wide : Right) (old : Day) (rows : List (Option Row)) (new : Day) (text : List ℕ) → IsWider narrow wide → AreRowsDone narrow old rows new text → AreRowsDone wide old rows new text
+abbrev rows-wider : (narrow wide : Right) (old : Day) (rows : List (Option Row)) (new : Day) (text : List ℕ) → IsWider narrow wide → AreRowsDone narrow old rows new text → AreRowsDone wide old rows new text
 rows-wider narrow wide old [] new text wider done = done
 rows-wider narrow wide old (said ∷ rows) new text wider done =
     (done.0, done.1, done.2, done.3, row-wider narrow wide old said done.0 [] done.1 done.3 wider done.4, rows-wider narrow wide done.0 rows new done.2 wider done.5, done.6)
+
+-- the events are the same
+same-events : (narrow wide : Right) (old : Day) (rows : List (Option Row)) (new : Day) (text : List ℕ) (wider : IsWider narrow wide) (done : AreRowsDone narrow old rows new text) → events_of_rows wide old rows new text (rows-wider narrow wide old rows new text wider done) ≡ events_of_rows narrow old rows new text done
+same-events narrow wide old [] new text wider done = refl
+same-events narrow wide old (said ∷ rows) new text wider done =
+    ap (λ (events : List Event). events_of_log (next_step old said done.4.0).log ++ events) (same-events narrow wide done.0 rows new done.2 wider done.5)
 
 day-wider : (narrow wide : Right) (opening : Snapshot) (result : Result Ended RunFault) (before : Option TextState) (left sink sink' : Option (List ℕ)) → IsWider narrow wide → RanDay narrow opening result before left sink sink' → RanDay wide opening result before left sink sink'
 day-wider narrow wide opening result before left sink sink' wider ran = record {
@@ -39,8 +48,9 @@ day-wider narrow wide opening result before left sink sink' wider ran = record {
   behind = ran.behind;
   day = ran.day;
   text = ran.text;
-  done = rows-wider narrow wide _ _ ran.day ran.text wider ran.done;
+  done = rows-wider narrow wide (opening_day opening) (rows_of ran.passed) ran.day ran.text wider ran.done;
   none_lost = ran.none_lost;
+  once = subst (λ (events : List Event). All (IsServedOnce (events ++ last_events ran.day.world)) (calls_at_end ran.day)) (sym (same-events narrow wide (opening_day opening) (rows_of ran.passed) ran.day ran.text wider ran.done)) ran.once;
   read = ran.read;
   wrote = ran.wrote;
   cut = ran.cut;

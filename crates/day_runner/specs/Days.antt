@@ -6,6 +6,7 @@ use Rattle.search_model.specs.Days.{Day, opening_day, served_of, delivered_count
 use Rattle.lift_text.specs.Reading.{TextState}
 use Rattle.day_simulator.specs.Texts.{end_text}
 use Rattle.day_runner.specs.Runs.{Right, AreRowsDone, ReadLines, IsTooLong, IsCutOff, rows_of, IsBegun}
+use Rattle.day_runner.specs.Served.{AreServedOnce}
 use Rattle.day_runner.specs.declared.days.Ended.{Ended}
 use Rattle.day_runner.specs.declared.rows.RunFault.{RunFault}
 use Rattle.day_runner.specs.declared.rows.RunFault.TheVariants.{TooLong, Read, Write, NoMemory}
@@ -48,7 +49,8 @@ IsCutIn (Err Read) text before behind left old new = Unit {0}
 IsCutIn (Err NoMemory) text before behind left old new = Unit {0}
 IsCutIn (Err Write) text before behind left old new = IsBegun (rows_log text) old new ⊎ IfSome before (λ from. (behind ≡ []) × IsAtEnd left)
 
--- A day went over the rows of lines in front, none of its accepted calls was lost, and its log was written.
+-- A day went over the rows of lines in front. None of its accepted calls was lost, by the end of the last plan each boards
+-- once and is delivered once, in time, and its log was written.
 pub record RanDay (right : Right) (opening : Snapshot) (result : Result Ended RunFault) (before : Option TextState) (left sink sink' : Option (List ℕ)) : Type 0 where
   pub passed : List (List ℕ)
   pub behind : List (List ℕ)
@@ -56,6 +58,7 @@ pub record RanDay (right : Right) (opening : Snapshot) (result : Result Ended Ru
   pub text : List ℕ
   pub done : AreRowsDone right (opening_day opening) (rows_of passed) day text
   pub none_lost : IsTrue (loses_none day)
+  pub once : AreServedOnce right (opening_day opening) (rows_of passed) day text done
   pub read : IfSome before (λ from. ReadLines from passed behind × ReadsDay result from passed behind left)
   pub wrote : WroteDay result text day sink sink'
   pub cut : IsCutIn result text before behind left sink sink'

@@ -1,3 +1,4 @@
 pub mod Runs
+pub mod Served
 pub mod Days
 pub mod Inputs

@@ -85,6 +85,8 @@ where
         Ok(()) => {}
         Err(fault) => return Err(fault),
     }
+    // For the proof: a reader of the snapshot tells that it keeps the rules.
+    let _moment = opening.now();
     let Ok(mut day) = Day::new(alloc, opening) else {
         return Err(RunFault::NoMemory);
     };

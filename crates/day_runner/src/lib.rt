@@ -11,12 +11,14 @@
 //! `run_day_text` reads what comes before the rows (`opening_text`); `run_day` writes the first line of the
 //! log, reads line by line, lets the day do what each says, writes its lines of the log before it reads on,
 //! and at the end runs the last plan out. One record says of every outcome which lines were read, that their
-//! rows did what the definition says (`AreRowsDone`), that no accepted call was lost, and what the sink has
-//! taken (`RanDay`). After a failed read those are exactly the lines that are whole, with their LF, among the
-//! bytes taken (`IsCutOff`); after a failed write a beginning of the log was written, and of its end only
-//! where no line was left (`IsCutIn`); an input that is too long stops before the line that does not end
-//! within the limit. Where the text is an opening and rows, only a failed read or write and running out of
-//! memory keep the day from its end (`EndsUnlessFailed`).
+//! rows did what the definition says (`AreRowsDone`), that no accepted call was lost, that by the events in
+//! the rows' lines and those of the end each accepted call boards once and is delivered once, not before its
+//! release and not before it boards (`AreServedOnce`), and what the sink has taken (`RanDay`). After a failed
+//! read the lines are exactly those that are whole, with their LF, among the bytes taken (`IsCutOff`); after a
+//! failed write a beginning of the log was written, and of its end only where no line was left (`IsCutIn`); an
+//! input that is too long stops before the line that does not end within the limit. Where the text is an
+//! opening and rows, only a failed read or write and running out of memory keep the day from its end
+//! (`EndsUnlessFailed`).
 #![tactic(auto)]
 
 mod days;

@@ -34,10 +34,10 @@ places s x = count_by (λ (call : Call). call.id == x) s.calls + count_by (λ (g
 
 -- ---- riders by their ids
 
-id-of-call : (s : Snapshot) (j : ℕ) → j < call_count s → id_of_rider s j ≡ (call_of s j).id
+pub id-of-call : (s : Snapshot) (j : ℕ) → j < call_count s → id_of_rider s j ≡ (call_of s j).id
 id-of-call s j below = ap (λ (b : Bool). cond b (call_of s j).id (group_of s (j - call_count s)).id) (is_call s j below)
 
-id-of-group : (s : Snapshot) (k : ℕ) → id_of_rider s (call_count s + k) ≡ (group_of s k).id
+pub id-of-group : (s : Snapshot) (k : ℕ) → id_of_rider s (call_count s + k) ≡ (group_of s k).id
 id-of-group s k = ap (λ (b : Bool). cond b (call_of s (call_count s + k)).id (group_of s (call_count s + k - call_count s)).id) (is_no_call s k) ∙ ap (λ (i : ℕ). (group_of s i).id) (group_index s k)
 
 numbered : (s : Snapshot) (x : ℕ) → sum_below (rider_count s) (λ r. cond (has_id s x r) 1 0) ≡ places s x
@@ -78,7 +78,7 @@ module _ (s : Snapshot) (stops : ℕ → List Stop) (fine : (c : ℕ) → c < ca
       let lists = lists-start s c in
       count-test r (riders_at_start s c) (lists.once r) ∙ ap {B = ℕ} (λ (b : Bool). cond b 1 0) (lists.among r)
 
-  on-is : (c r : ℕ) → c < car_count s → count_by (λ y. y == r) (taken_on s (stops c)) ≡ cond ((end_of c).boarded r) 1 0
+  pub on-is : (c r : ℕ) → c < car_count s → count_by (λ y. y == r) (taken_on s (stops c)) ≡ cond ((end_of c).boarded r) 1 0
   on-is c r below = let e = boarded-along s c (start_of s c) (stops c) r (fine c below) in omega (arith, e)
 
   -- of all cars together
@@ -97,7 +97,7 @@ module _ (s : Snapshot) (stops : ℕ → List Stop) (fine : (c : ℕ) → c < ca
   call-aboard r low = sum_below-same (car_count s) (λ c. cond (is_aboard s c r) 1 0) (λ c. 0) (λ c b. ap {B = ℕ} (λ (x : Bool). cond x 1 0) (is_aboard-call s c r low)) ∙ sum_below-zero (car_count s)
 
   -- and no group boards
-  group-boards : (r : ℕ) → call_count s ≤ r → sum_below (car_count s) (λ c. cond ((end_of c).boarded r) 1 0) ≡ 0
+  pub group-boards : (r : ℕ) → call_count s ≤ r → sum_below (car_count s) (λ c. cond ((end_of c).boarded r) 1 0) ≡ 0
   group-boards r high = sum_below-same (car_count s) (λ c. cond ((end_of c).boarded r) 1 0) (λ c. 0) (λ c b. ap {B = ℕ} (λ (x : Bool). cond x 1 0) (no-call-boarded c r b high)) ∙ sum_below-zero (car_count s)
 
   -- a group is aboard its car
@@ -153,7 +153,7 @@ from-there n r high = (r - n, omega arith)
 -- ---- by a moment
 
 module _ (w : World) (t : ℕ) (a : IsAccepted w.snapshot) (f : IsFeasiblePlan w.snapshot w.plan) where
-  done-fine : (c : ℕ) → c < car_count w.snapshot → AllFine w.snapshot c (start_of w.snapshot c) (done_by w t c)
+  pub done-fine : (c : ℕ) → c < car_count w.snapshot → AllFine w.snapshot c (start_of w.snapshot c) (done_by w t c)
   done-fine c below = (planned w t c f below).done
 
   abbrev gone : List ℕ
@@ -167,11 +167,11 @@ module _ (w : World) (t : ℕ) (a : IsAccepted w.snapshot) (f : IsFeasiblePlan w
   parts r =
       count-append r (waiting w t) (map (λ (x : Seat). x.rider) (seats w t)) ∙ ap (λ (n : ℕ). count_by (λ y. y == r) (waiting w t) + n) (ap (count_by (λ y. y == r)) (seat-riders w t) ∙ count-append r (map (λ k. call_count w.snapshot + k) (staying_groups w t)) (flat_map (new_riders w t) (range_with_len 0 (car_count w.snapshot))) ∙ ap (λ (n : ℕ). count_by (λ y. y == r) (map (λ k. call_count w.snapshot + k) (staying_groups w t)) + n) (count_of-ranges (λ y. y == r) (new_riders w t) (car_count w.snapshot)))
 
-  waiting-is : (r : ℕ) → r < call_count w.snapshot → count_by (λ y. y == r) (waiting w t) ≡ cond (is_waiting w t r) 1 0
+  pub waiting-is : (r : ℕ) → r < call_count w.snapshot → count_by (λ y. y == r) (waiting w t) ≡ cond (is_waiting w t r) 1 0
   waiting-is r low =
       count-test r (waiting w t) (count-chosen (is_waiting w t) 0 (call_count w.snapshot) r) ∙ ap {B = ℕ} (λ (b : Bool). cond b 1 0) (same_test (is_among r (waiting w t)) (is_waiting w t r) (λ h. (among_chosen (is_waiting w t) 0 (call_count w.snapshot) r h).2) (λ h. chosen_has (is_waiting w t) 0 (call_count w.snapshot) r (omega arith) (omega (arith, low)) h))
 
-  waiting-none : (r : ℕ) → call_count w.snapshot ≤ r → count_by (λ y. y == r) (waiting w t) ≡ 0
+  pub waiting-none : (r : ℕ) → call_count w.snapshot ≤ r → count_by (λ y. y == r) (waiting w t) ≡ 0
   waiting-none r high = count-none r (waiting w t) (false_from_ne_true (is_among r (waiting w t)) (λ h. let found = (among_chosen (is_waiting w t) 0 (call_count w.snapshot) r h).1 in omega (arith, found, high)))
 
   staying-is : (k : ℕ) → k < length w.snapshot.aboard → count_by (λ y. y == k) (staying_groups w t) ≡ cond (rides_on w t k) 1 0
@@ -179,7 +179,7 @@ module _ (w : World) (t : ℕ) (a : IsAccepted w.snapshot) (f : IsFeasiblePlan w
       count-test k (staying_groups w t) (count-chosen (rides_on w t) 0 (length w.snapshot.aboard) k) ∙ ap {B = ℕ} (λ (b : Bool). cond b 1 0) (same_test (is_among k (staying_groups w t)) (rides_on w t k) (λ h. (among_chosen (rides_on w t) 0 (length w.snapshot.aboard) k h).2) (λ h. chosen_has (rides_on w t) 0 (length w.snapshot.aboard) k (omega arith) (omega (arith, low)) h))
 
   -- the call waits, or boarded one car
-  waits-or-boarded : (n : ℕ) (b : ℕ → Bool) → ((c d : ℕ) → c < d → d < n → b c ≡ true → b d ≡ true → ⊥) → cond (not (any_below n b)) 1 0 + sum_below n (λ c. cond (b c) 1 0) ≡ 1
+  pub waits-or-boarded : (n : ℕ) (b : ℕ → Bool) → ((c d : ℕ) → c < d → d < n → b c ≡ true → b d ≡ true → ⊥) → cond (not (any_below n b)) 1 0 + sum_below n (λ c. cond (b c) 1 0) ≡ 1
   waits-or-boarded zero b apart = refl
   waits-or-boarded (suc n) b apart = last (any_below n b) (b n) refl refl (waits-or-boarded n b (λ c d low high. apart c d low (omega arith)))
     where
@@ -298,7 +298,7 @@ module _ (w : World) (a : IsAccepted w.snapshot) (f : IsFeasiblePlan w.snapshot 
   abbrev tours : ℕ → List Stop
   tours = tour_of w.plan
 
-  tour-fine : (c : ℕ) → c < car_count w.snapshot → AllFine w.snapshot c (start_of w.snapshot c) (tours c)
+  pub tour-fine : (c : ℕ) → c < car_count w.snapshot → AllFine w.snapshot c (start_of w.snapshot c) (tours c)
   tour-fine c below = AllFine-feasible w.snapshot c (start_of w.snapshot c) 1 (tours c) (f.tours c below)
 
   -- at the end of a feasible tour nobody is carried
@@ -323,14 +323,15 @@ module _ (w : World) (a : IsAccepted w.snapshot) (f : IsFeasiblePlan w.snapshot 
   none-riding : (r : ℕ) → r < rider_count w.snapshot → sum_below (car_count w.snapshot) (λ c. count_by (λ y. y == r) (riders_after_all w.snapshot (riders_at_start w.snapshot c) (tours c))) ≡ 0
   none-riding r low = sum_below-same (car_count w.snapshot) (λ c. count_by (λ y. y == r) (riders_after_all w.snapshot (riders_at_start w.snapshot c) (tours c))) (λ c. 0) (λ c b. riding-is w.snapshot tours tour-fine c r b ∙ ap {B = ℕ} (λ (x : Bool). cond x 1 0) (none-carried c r b low)) ∙ sum_below-zero (car_count w.snapshot)
 
+  -- each call has boarded one car
+  pub board-once : (r : ℕ) → r < call_count w.snapshot → sum_below (car_count w.snapshot) (λ c. cond ((after_stops w.snapshot c (start_of w.snapshot c) (tours c)).boarded r) 1 0) ≡ 1
+  board-once r low =
+      sum_below-same (car_count w.snapshot) (λ c. cond ((after_stops w.snapshot c (start_of w.snapshot c) (tours c)).boarded r) 1 0) (λ c. cond (is_boarded_in (tours c) r) 1 0) (λ c b. ap {B = ℕ} (λ (x : Bool). cond x 1 0) (boarded-is c r b low)) ∙ ap (λ (n : ℕ). sum_below n (λ c. cond (is_boarded_in (tours c) r) 1 0)) (sym f.cars) ∙ f.serves_once r low
+
   gone-once : (r : ℕ) → r < rider_count w.snapshot → count_by (λ y. y == r) all_gone ≡ 1
   gone-once r below =
-      elim (cases_lt r (call_count w.snapshot)) [ inl low ↦ (let kept = call-kept w.snapshot tours tour-fine r low in let none = none-riding r below in let off = all_gone-is r in let one = served r low in omega (arith, kept, none, off, one)) | inr high ↦ (let at = from-there (call_count w.snapshot) r high in let e = at.1 in subst (λ (y : ℕ). count_by (λ x. x == y) all_gone ≡ 1) at.1 (of_group at.0 (omega (arith, e, below)))) ]
+      elim (cases_lt r (call_count w.snapshot)) [ inl low ↦ (let kept = call-kept w.snapshot tours tour-fine r low in let none = none-riding r below in let off = all_gone-is r in let one = board-once r low in omega (arith, kept, none, off, one)) | inr high ↦ (let at = from-there (call_count w.snapshot) r high in let e = at.1 in subst (λ (y : ℕ). count_by (λ x. x == y) all_gone ≡ 1) at.1 (of_group at.0 (omega (arith, e, below)))) ]
     where
-      served : (r : ℕ) → r < call_count w.snapshot → sum_below (car_count w.snapshot) (λ c. cond ((after_stops w.snapshot c (start_of w.snapshot c) (tours c)).boarded r) 1 0) ≡ 1
-      served r low =
-          sum_below-same (car_count w.snapshot) (λ c. cond ((after_stops w.snapshot c (start_of w.snapshot c) (tours c)).boarded r) 1 0) (λ c. cond (is_boarded_in (tours c) r) 1 0) (λ c b. ap {B = ℕ} (λ (x : Bool). cond x 1 0) (boarded-is c r b low)) ∙ ap (λ (n : ℕ). sum_below n (λ c. cond (is_boarded_in (tours c) r) 1 0)) (sym f.cars) ∙ f.serves_once r low
-
       of_group : (k : ℕ) → k < length w.snapshot.aboard → count_by (λ x. x == call_count w.snapshot + k) all_gone ≡ 1
       of_group k low =
           let kept = group-kept w.snapshot tours tour-fine k low (a.groups k low).car in

@@ -3,6 +3,9 @@ pub mod RiderCounts
 pub mod Conserved
 pub mod EarlyLemmas
 pub mod NoneLost
+pub mod BoardCounts
+pub mod EventMoments
 pub mod LineLemmas
 pub mod LoggedLemmas
 pub mod RowLemmas
+pub mod ServedLemmas

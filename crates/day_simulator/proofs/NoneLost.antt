@@ -186,13 +186,13 @@ opening-stands s a o f = record {
 weaker-ids : (n : ℕ) (xs : List DayCall) → All (λ (x : DayCall). x.id < n) xs → All (λ (x : DayCall). x.id < n + 1) xs
 weaker-ids n xs all = All-weaker (λ (x : DayCall). x.id < n) (λ (x : DayCall). x.id < n + 1) (λ x h. omega (arith, h)) xs all
 
-weaker-calls : (n m : ℕ) (xs : List Call) → n ≤ m → All (λ (x : Call). x.id < n) xs → All (λ (x : Call). x.id < m) xs
+pub weaker-calls : (n m : ℕ) (xs : List Call) → n ≤ m → All (λ (x : Call). x.id < n) xs → All (λ (x : Call). x.id < m) xs
 weaker-calls n m xs le all = All-weaker (λ (x : Call). x.id < n) (λ (x : Call). x.id < m) (λ x h. omega (arith, h, le)) xs all
 
-weaker-groups : (n m : ℕ) (xs : List Aboard) → n ≤ m → All (λ (x : Aboard). x.id < n) xs → All (λ (x : Aboard). x.id < m) xs
+pub weaker-groups : (n m : ℕ) (xs : List Aboard) → n ≤ m → All (λ (x : Aboard). x.id < n) xs → All (λ (x : Aboard). x.id < m) xs
 weaker-groups n m xs le all = All-weaker (λ (x : Aboard). x.id < n) (λ (x : Aboard). x.id < m) (λ x h. omega (arith, h, le)) xs all
 
-weaker-day-calls : (n m : ℕ) (xs : List DayCall) → n ≤ m → All (λ (x : DayCall). x.id < n) xs → All (λ (x : DayCall). x.id < m) xs
+pub weaker-day-calls : (n m : ℕ) (xs : List DayCall) → n ≤ m → All (λ (x : DayCall). x.id < n) xs → All (λ (x : DayCall). x.id < m) xs
 weaker-day-calls n m xs le all = All-weaker (λ (x : DayCall). x.id < n) (λ (x : DayCall). x.id < m) (λ x h. omega (arith, h, le)) xs all
 
 pub refused-stands : (day : Day) → IsStanding day → row_number day < 2 ^ 32 → IsStanding (day_after_refused day)
@@ -210,7 +210,7 @@ refused-stands day is room = record {
 }
 
 -- no item of a list has an id that is above all of theirs
-count-above : {X : Type 0} (id : X → ℕ) (n : ℕ) (xs : List X) → All (λ x. id x < n) xs → count_by (λ x. id x == n) xs ≡ 0
+pub count-above : {X : Type 0} (id : X → ℕ) (n : ℕ) (xs : List X) → All (λ x. id x < n) xs → count_by (λ x. id x == n) xs ≡ 0
 count-above id n [] all = refl
 count-above id n (x ∷ xs) all =
     let first = count_of-cons (λ y. id y == n) x xs in

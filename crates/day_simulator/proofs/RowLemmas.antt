@@ -4,7 +4,7 @@ use Rattle.std.specs.Borrow.{Bor}
 use Rattle.std.specs.Fn.{FnReturnsAt, Shared}
 use Rattle.std.specs.declared.alloc.AllocError.{AllocError}
 use Rattle.day_simulator.specs.declared.planners.Planned.{Planned}
-use Rattle.std.proofs.Common.{length, length-append}
+use Rattle.std.proofs.Common.{All, length, length-append}
 use Rattle.std.proofs.lemmas.List.{length-map}
 use Rattle.std.proofs.Common.{◌≡◌, ℕ, ◌+◌, ◌<◌, ◌≤◌, Bool, true, false, cond, not, ◌&&◌, eqb, ltb, leb, List, [], ◌∷◌, ◌++◌, refl, sym, ap, ◌∙◌, subst, arith, Option, Some, None}
 use Rattle.std.proofs.lemmas.Bool.{ltb-true, leb-true, lt-ltb, eq-eqb, both_ways, false_from_ne_true, not-true}
@@ -124,15 +124,13 @@ is-good b row h =
     parts_of true true true true false u h = absurd cc
     parts_of true true true true true false h = absurd cc
 
--- The call of the next row is a new one in the world at its time.
-pub new-call : (day : Day) (row : Row) → IsStanding day → is_row day.world.snapshot.building row ≡ true → IsNewCall (advanced day.world row.time).snapshot (call_of_row (row_number day) row)
-new-call day row is h =
-    let n = row_number day in
-    let w = day.world in
+-- The call of a row is a new one in the world at its time, where all ids are below its number.
+pub call-is-new : (w : World) (n : ℕ) (row : Row) → IsAccepted w.snapshot → IsFeasiblePlan w.snapshot w.plan → All (λ (call : Call). call.id < n) w.snapshot.calls → All (λ (group : Aboard). group.id < n) w.snapshot.aboard → is_row w.snapshot.building row ≡ true → IsNewCall (advanced w row.time).snapshot (call_of_row n row)
+call-is-new w n row a f open_known aboard_known h =
     let there = (advanced w row.time).snapshot in
     let good = is-good w.snapshot.building row h in
-    let calls = later-calls-known w row.time n is.open_known in
-    let groups = later-aboard-known w row.time n is.accepted is.feasible is.open_known is.aboard_known in
+    let calls = later-calls-known w row.time n open_known in
+    let groups = later-aboard-known w row.time n a f open_known aboard_known in
     record {
       id = λ j low same. let below = All-get_or (λ (call : Call). call.id < n) there.calls j no_call low calls in omega (arith, below, same);
       group_id = λ k low same. let below = All-get_or (λ (group : Aboard). group.id < n) there.aboard k no_group low groups in omega (arith, below, same);
@@ -144,6 +142,10 @@ new-call day row is h =
       travels = good.travels;
       pin = refl;
     }
+
+-- That of the next row is.
+pub new-call : (day : Day) (row : Row) → IsStanding day → is_row day.world.snapshot.building row ≡ true → IsNewCall (advanced day.world row.time).snapshot (call_of_row (row_number day) row)
+new-call day row is h = call-is-new day.world (row_number day) row is.accepted is.feasible is.open_known is.aboard_known h
 
 -- ---- taking a call
 

@@ -3,3 +3,4 @@ pub mod Texts
 pub mod Logged
 pub mod Standing
 pub mod Rows
+pub mod Once

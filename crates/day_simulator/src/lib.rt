@@ -21,9 +21,11 @@
 //! `IsStanding` is the type's invariant: the plan is feasible, ids rise and are below the number of the next
 //! row, and no accepted call is lost. That this stays so is counted (`proofs/Conserved.antt`): each rider of
 //! a world is once among those who are there later and those who were let off, so an id is there as often as
-//! before, less the deliveries among the events; by the end of the plan each is delivered. What may be
-//! refused is tried on a copy of the world (`brought`), and a row whose call finds no room takes its text out
-//! of the log again. An event finds its call by binary search, since the calls are in the order of their ids.
+//! before, less the deliveries among the events; by the end of the plan each is delivered. Counted in the
+//! same way, and by the moments of the stops, by all events of a day each accepted call boards once and is
+//! delivered once, in time (`IsServedOnce`, `proofs/ServedLemmas.antt`). What may be refused is tried on a
+//! copy of the world (`brought`), and a row whose call finds no room takes its text out of the log again. An
+//! event finds its call by binary search, since the calls are in the order of their ids.
 #![tactic(auto)]
 
 mod days;

@@ -25,8 +25,8 @@ returns-in-Ok-run_rows-clause-ran g c =
     let taken = g.K.Sink.taken in
     let ran = c.in-Ok-run_rows.ensures in
     let new = c.run_rows.new in
-    day-ended (right_by (FnReturnsAt g.F.Fn c.args.plan.now)) c.args.opening c.in-Ok-new.day new.day c.in-Ok-run_rows.field-0 c.end_day.result (text left c.args.lines.now) (left new.lines.source.now)
-    (taken c.args.sink.now) (taken c.put.new.sink) (taken new.sink) (taken c.end_day.new.sink) c.in-Ok-new.ensures c.in-Ok.ensures.ok ran.none_lost ran.ran c.end_day.ensures.ended
+    day-ended (right_by (FnReturnsAt g.F.Fn c.args.plan.now)) c.requires.sound c.args.opening c.in-Ok-new.day new.day c.in-Ok-run_rows.field-0 c.end_day.result (text left c.args.lines.now) (left new.lines.source.now)
+    (taken c.args.sink.now) (taken c.put.new.sink) (taken new.sink) (taken c.end_day.new.sink) c.now-moment.ensures.accepted c.requires.opening c.in-Ok-new.ensures c.in-Ok.ensures.ok ran.none_lost ran.ran c.end_day.ensures.ended
 
 pub returns-in-Err-run_rows-clause-ran : goal.returns-in-Err-run_rows-clause-ran
 returns-in-Err-run_rows-clause-ran g c =
@@ -34,8 +34,8 @@ returns-in-Err-run_rows-clause-ran g c =
     let taken = g.K.Sink.taken in
     let ran = c.in-Err-run_rows.ensures in
     let new = c.run_rows.new in
-    day-stopped (right_by (FnReturnsAt g.F.Fn c.args.plan.now)) c.args.opening c.in-Ok-new.day new.day c.in-Err-run_rows.fault (text left c.args.lines.now) (left new.lines.source.now)
-    (taken c.args.sink.now) (taken c.put.new.sink) (taken new.sink) c.in-Ok-new.ensures c.in-Ok.ensures.ok ran.none_lost ran.ran
+    day-stopped (right_by (FnReturnsAt g.F.Fn c.args.plan.now)) c.requires.sound c.args.opening c.in-Ok-new.day new.day c.in-Err-run_rows.fault (text left c.args.lines.now) (left new.lines.source.now)
+    (taken c.args.sink.now) (taken c.put.new.sink) (taken new.sink) c.now-moment.ensures.accepted c.requires.opening c.in-Ok-new.ensures c.in-Ok.ensures.ok ran.none_lost ran.ran
 
 pub returns-in-Ok-run_rows-clause-few : goal.returns-in-Ok-run_rows-clause-few
 returns-in-Ok-run_rows-clause-few g c =
