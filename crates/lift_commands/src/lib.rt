@@ -29,13 +29,13 @@
 //! **`day`.** Where the input begins with a building, an opening snapshot of it and the header of rows, the
 //! rows after it are done and the log says so: each does exactly its step of the day, with a feasible plan,
 //! its cost and a bound that no feasible plan's cost is below where it is accepted, as a search within the
-//! limits answers them, for 1 to 16 workers; after each row no accepted call is lost, and by the
-//! events each boards once and is delivered once, in time. Status 0: no accepted row has a bound below its cost; 3: some has, and there the limits are not
-//! enough for the state. Status 5: the input does not begin so, and the line tells its first bad line with
-//! its one code; or its rows do not end within the limit, told after the log of those that do. Status 6: a
-//! read failed, and the rows done are those whose lines are whole among the bytes taken; 7: a write failed,
-//! and what was written is a beginning; 8: out of memory, and what was written is a beginning. Such an input
-//! that is not too long and no fault give status 0, 3 or 8.
+//! limits answers them, for 1 to 16 workers; after each row no accepted call is lost, and by the events each
+//! boards once and is delivered once, in time. Status 0: no accepted row has a bound below its cost; 3: some
+//! has, and there the limits are not enough for the state. Status 5: the input does not begin so, and the
+//! line tells its first bad line with its one code; or its rows do not end within the limit, told after the
+//! log of those that do. Status 6: a read failed, and the rows done are those whose lines are whole among the
+//! bytes taken; 7: a write failed, and what was written is a beginning; 8: out of memory, and what was
+//! written is a beginning. Such an input that is not too long and no fault give status 0, 3 or 8.
 //!
 //! **`report`.** Of the same day, and with the same statuses, the report of the definition over the served
 //! calls, and nothing else.
