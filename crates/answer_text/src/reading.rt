@@ -1,7 +1,8 @@
 //! Reading answers.
 ghost use Rattle.std.specs.Prelude.{◌≡◌, ◌≤◌, None, Some, Ok, Err, IfErr, IfOk, IfSome, OnOk, IsErrOf};
 ghost use Rattle.byte_streams.specs.Streams.{Rose};
-ghost use Rattle.lift_text.specs.LineReader.{text, failure};
+ghost use Rattle.lift_text.specs.LineReader.{text, line, failure};
+ghost use Rattle.lift_text.specs.Shows.{AnswerShows, WentOn};
 ghost use Rattle.answer_text.specs.Answers.{IsReadAnswer, IsRefusedAnswer, IsSaid, IsWithin, ReadsLines};
 ghost use Rattle.answer_text.specs.Written.{ReadsText};
 
@@ -29,6 +30,10 @@ fn read<S: Source>(
         → ReadsLines (text S.left lines.old) snapshot.now result (text S.left lines.new) }
     ensures within { IfOk result (IsWithin snapshot.now) }
     ensures again { IfSome (failure lines.old) (λ fault. result ≡ Err fault) }
+    ensures went { failure lines.old ≡ None
+        → OnOk result (WentOn (text S.left lines.old) (text S.left lines.new)) }
+    ensures shows { failure lines.old ≡ None → AnswerShows (text S.left lines.old) result
+        (line lines.new) (S.left lines.new.source.now) }
     ensures ok { OnOk result (failure lines.new ≡ None) }
     ensures fault { IfSome (failure lines.new) (λ fault. result ≡ Err fault) }
     ensures read { failure lines.old ≡ None → IsErrOf result TextFault.Read
@@ -53,7 +58,8 @@ fn read<S: Source>(
 /// The first bad line decides, with one code, of which the first of these comes: `NoLineWord`, `OutOfOrder`,
 /// also for `end` where a tour is missing, `Missing`, `TooMany`, `NoNumber` and `OutOfRange`, `UnknownId`,
 /// and then `OutOfOrder` for a car that is not the next one due. `CutShort` comes where the input ends first.
-/// `Read` comes only where a read of the source failed.
+/// The end of the last line, or of the bad one, shows in the bytes that were taken. `Read` comes only where a
+/// read of the source failed.
 pub fn read_answer<S: Source>(
     alloc: Global,
     lines: &mut LineReader<S>,
@@ -72,6 +78,10 @@ pub fn read_answer<S: Source>(
         → ReadsText (text S.left lines.old) snapshot.now result (text S.left lines.new) }
     ensures within { IfOk result (IsWithin snapshot.now) }
     ensures again { IfSome (failure lines.old) (λ fault. result ≡ Err fault) }
+    ensures went { failure lines.old ≡ None
+        → OnOk result (WentOn (text S.left lines.old) (text S.left lines.new)) }
+    ensures shows { failure lines.old ≡ None → AnswerShows (text S.left lines.old) result
+        (line lines.new) (S.left lines.new.source.now) }
     ensures ok { OnOk result (failure lines.new ≡ None) }
     ensures fault { IfSome (failure lines.new) (λ fault. result ≡ Err fault) }
     ensures read { failure lines.old ≡ None → IsErrOf result TextFault.Read

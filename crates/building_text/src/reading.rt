@@ -1,7 +1,8 @@
 //! Reads a building from its lines.
 ghost use Rattle.std.specs.Prelude.{◌≡◌, ◌≤◌, None, Err, IfErr, IfOk, IfSome, OnOk, IsErrOf};
 ghost use Rattle.byte_streams.specs.Streams.{Rose};
-ghost use Rattle.lift_text.specs.LineReader.{text, failure};
+ghost use Rattle.lift_text.specs.LineReader.{text, line, failure};
+ghost use Rattle.lift_text.specs.Shows.{AnswerShows};
 ghost use Rattle.text_sections.specs.Between.{StandsBehind};
 ghost use Rattle.building_text.specs.BuildingText.{IsReadBuilding, IsRefusedBuilding, StandsInFront};
 ghost use Rattle.building_text.specs.BuildingText.{TakesBuildings};
@@ -18,8 +19,8 @@ use text_sections::read_section;
 /// It accepts exactly the lines that stand for a building, and gives that building; a building that was
 /// written is read as that building again, whatever follows. The first bad line
 /// decides, with its number and one code. `CutShort` comes where the input ends before the section does, at
-/// the line after the last. `Read` comes only where a read of the source failed. After an `Err` of a
-/// line the reader is after that line.
+/// the line after the last. The end of the last line, or of the bad one, shows in the bytes that were taken.
+/// `Read` comes only where a read of the source failed. After an `Err` of a line the reader is after that line.
 pub fn read_building<S: Source>(
     alloc: Global,
     lines: &mut LineReader<S>,
@@ -38,6 +39,8 @@ pub fn read_building<S: Source>(
     ensures again { IfSome (failure lines.old) (λ fault. result ≡ Err fault) }
     ensures behind { failure lines.old ≡ None
         → OnOk result (StandsBehind (text S.left lines.old) (text S.left lines.new)) }
+    ensures shows { failure lines.old ≡ None → AnswerShows (text S.left lines.old) result
+        (line lines.new) (S.left lines.new.source.now) }
     ensures ok { OnOk result (failure lines.new ≡ None) }
     ensures fault { IfSome (failure lines.new) (λ fault. result ≡ Err fault) }
     ensures read { failure lines.old ≡ None → IsErrOf result TextFault.Read
@@ -57,6 +60,8 @@ fn read_lines<S: Source>(alloc: Global, lines: &mut LineReader<S>) -> Result<Bui
     ensures again { IfSome (failure lines.old) (λ fault. result ≡ Err fault) }
     ensures behind { failure lines.old ≡ None
         → OnOk result (StandsBehind (text S.left lines.old) (text S.left lines.new)) }
+    ensures shows { failure lines.old ≡ None → AnswerShows (text S.left lines.old) result
+        (line lines.new) (S.left lines.new.source.now) }
     ensures ok { OnOk result (failure lines.new ≡ None) }
     ensures fault { IfSome (failure lines.new) (λ fault. result ≡ Err fault) }
     ensures read { failure lines.old ≡ None → IsErrOf result TextFault.Read

@@ -2,7 +2,8 @@
 ghost use Rattle.std.specs.Prelude.{◌≡◌, ◌≤◌, None, IfErr, IfOk, IfSome, OnOk, IsErrOf};
 ghost use Rattle.std.specs.Io.KnownBytes.{IsAtEnd};
 ghost use Rattle.byte_streams.specs.Streams.{Rose};
-ghost use Rattle.lift_text.specs.LineReader.{text, failure};
+ghost use Rattle.lift_text.specs.LineReader.{text, line, failure};
+ghost use Rattle.lift_text.specs.Shows.{AnswerShows, FaultShows, WentOn};
 ghost use Rattle.elevator_model.specs.Snapshot.{IsAccepted};
 ghost use Rattle.case_text.specs.CaseTexts.{IsReadCase, IsRefusedCase, TakesCases, IsReadAlone};
 ghost use Rattle.case_text.specs.CaseTexts.{IsRefusedAlone, TakesLoneCases, IsEnd, IsNoEnd};
@@ -16,7 +17,8 @@ use std::alloc::Global;
 /// Reads a building and a snapshot of it, up to the snapshot's `end`: what follows it stays unread.
 ///
 /// It accepts exactly the lines that stand for an accepted snapshot and its building. The first bad line
-/// decides, with its number and one code. `Read` comes only where a read of the source failed.
+/// decides, with its number and one code. The end of the last line, or of the bad one, shows in the bytes that
+/// were taken. `Read` comes only where a read of the source failed.
 pub fn read_case<S: Source>(alloc: Global, lines: &mut LineReader<S>) -> Result<Snapshot, TextFault>
     requires { failure lines.old ≡ None }
     ensures same_source { lines.new.source.ghost_name ≡ lines.old.source.ghost_name }
@@ -25,6 +27,9 @@ pub fn read_case<S: Source>(alloc: Global, lines: &mut LineReader<S>) -> Result<
     ensures refused { IfErr result (IsRefusedCase (text S.left lines.old)) }
     ensures takes { TakesCases (text S.left lines.old) result (text S.left lines.new) }
     ensures accepted { IfOk result IsAccepted }
+    ensures went { OnOk result (WentOn (text S.left lines.old) (text S.left lines.new)) }
+    ensures shows { AnswerShows (text S.left lines.old) result (line lines.new)
+        (S.left lines.new.source.now) }
     ensures ok { OnOk result (failure lines.new ≡ None) }
     ensures read { IsErrOf result TextFault.Read
         → Rose (S.faults lines.old.source.now) (S.faults lines.new.source.now) }
@@ -44,6 +49,8 @@ pub fn read_end<S: Source>(lines: &mut LineReader<S>) -> Result<(), TextFault>
     ensures end { OnOk result (IsEnd (text S.left lines.old)) }
     ensures refused { IfErr result (IsNoEnd (text S.left lines.old)) }
     ensures ended { OnOk result (IsAtEnd (S.left lines.new.source.now)) }
+    ensures shows { IfErr result (λ fault.
+        FaultShows (text S.left lines.old) fault (S.left lines.new.source.now)) }
     ensures read { IsErrOf result TextFault.Read
         → Rose (S.faults lines.old.source.now) (S.faults lines.new.source.now) }
     ensures counted { S.faults lines.old.source.now ≤ S.faults lines.new.source.now }
@@ -70,6 +77,8 @@ pub fn read_lone_case<S: Source>(
     ensures takes { TakesLoneCases (text S.left lines.old) result }
     ensures accepted { IfOk result IsAccepted }
     ensures ended { OnOk result (IsAtEnd (S.left lines.new.source.now)) }
+    ensures shows { IfErr result (λ fault.
+        FaultShows (text S.left lines.old) fault (S.left lines.new.source.now)) }
     ensures read { IsErrOf result TextFault.Read
         → Rose (S.faults lines.old.source.now) (S.faults lines.new.source.now) }
     ensures counted { S.faults lines.old.source.now ≤ S.faults lines.new.source.now }

@@ -4,6 +4,7 @@ ghost use Rattle.std.specs.Prelude.{[]};
 ghost use Rattle.byte_streams.specs.Streams.{Rose};
 ghost use Rattle.elevator_model.specs.Snapshot.{Snapshot as Model};
 ghost use Rattle.lift_text.specs.LineReader.{text, failure};
+ghost use Rattle.lift_text.specs.Shows.{FaultShows, WentOn};
 ghost use Rattle.cert_text.specs.Pieces.{leaf_begun, reader_behind};
 ghost use Rattle.cert_text.specs.Readers.{HasRead, HandsOut, IsRefusedFor, IsBegunFor, HandsOutFor};
 ghost use Rattle.cert_text.specs.Readers.{IsNoneAtEnd, failure_of};
@@ -42,8 +43,8 @@ impl TreeReader {
     /// Reads the first line of a certificate, `certificate 1`. The allocator comes first.
     ///
     /// Its first word must be `certificate`, or else the code is `NoLineWord`; then come `Missing`, `TooMany`,
-    /// and `NoNumber` and `OutOfRange` for the version. `CutShort` comes where the input ends before it. `Read`
-    /// comes only where a read of the source failed.
+    /// and `NoNumber` and `OutOfRange` for the version. `CutShort` comes where the input ends before it. The end
+    /// of the bad line shows in the bytes that were taken. `Read` comes only where a read of the source failed.
     pub fn begin<S: Source>(
         alloc: Global,
         lines: &mut LineReader<S>,
@@ -54,6 +55,10 @@ impl TreeReader {
         ensures refused { failure lines.old ≡ None
             → IfErr result (λ fault. IsRefusedFor (text S.left lines.old) fault) }
         ensures sound { IfOk result (λ reader. failure_of reader.begun ≡ None) }
+        ensures went { failure lines.old ≡ None
+            → OnOk result (WentOn (text S.left lines.old) (text S.left lines.new)) }
+        ensures shows { failure lines.old ≡ None → IfErr result (λ fault.
+            FaultShows (text S.left lines.old) fault (S.left lines.new.source.now)) }
         ensures again { IfSome (failure lines.old) (λ fault. result ≡ Err fault) }
         ensures ok { OnOk result (failure lines.new ≡ None) }
         ensures fault { IfSome (failure lines.new) (λ fault. result ≡ Err fault) }
@@ -101,6 +106,10 @@ impl TreeReader {
         ensures failed { IfErr result (λ fault. failure_of self.new.begun ≡ Some fault) }
         ensures sound { OnOk result (failure_of self.new.begun ≡ None) }
         ensures at_end { IsNoneAtEnd result self.new }
+        ensures went { failure lines.old ≡ None
+            → OnOk result (WentOn (text S.left lines.old) (text S.left lines.new)) }
+        ensures shows { failure lines.old ≡ None → IfErr result (λ fault.
+            FaultShows (text S.left lines.old) fault (S.left lines.new.source.now)) }
         ensures ok { OnOk result (failure lines.new ≡ None) }
         ensures fault { IfSome (failure lines.new) (λ fault. result ≡ Err fault) }
         ensures read { failure lines.old ≡ None → IsErrOf result TextFault.Read
@@ -136,8 +145,9 @@ impl TreeReader {
     /// first bad line decides, with one code, of which the first of these comes: `NoLineWord`, `OutOfOrder`
     /// for a price or worth without a leaf, for a twig after a complete tree and for an `end` before it,
     /// `Missing`, `TooMany`, `NoNumber` and `OutOfRange`, `UnknownId`, and then `ClaimsPast` for claims that
-    /// sum past 10^10. `CutShort` comes where the input ends first. `Read` comes only where a read of the
-    /// source failed. After an `Err` the same is answered from then on.
+    /// sum past 10^10. `CutShort` comes where the input ends first. The end of the bad line shows in the bytes
+    /// that were taken. `Read` comes only where a read of the source failed. After an `Err` the same is answered
+    /// from then on.
     pub fn next<S: Source>(
         &mut self,
         lines: &mut LineReader<S>,
@@ -151,6 +161,10 @@ impl TreeReader {
         ensures again { IfSome (failure_of self.old.begun) (λ fault. result ≡ Err fault) }
         ensures at_end { IsNoneAtEnd result self.new }
         ensures ended { self.old.begun ≡ Begun.End → result ≡ Ok None }
+        ensures went { failure lines.old ≡ None
+            → OnOk result (WentOn (text S.left lines.old) (text S.left lines.new)) }
+        ensures shows { failure lines.old ≡ None → failure_of self.old.begun ≡ None → IfErr result (λ fault.
+            FaultShows (text S.left lines.old) fault (S.left lines.new.source.now)) }
         ensures ok { failure lines.old ≡ None → OnOk result (failure lines.new ≡ None) }
         ensures fault { failure lines.old ≡ None → IfSome (failure lines.new) (λ fault. result ≡ Err fault) }
         ensures read { failure lines.old ≡ None → failure_of self.old.begun ≡ None → IsErrOf result TextFault.Read

@@ -4,6 +4,7 @@ ghost use Rattle.std.specs.Prelude.{IsErrOf};
 ghost use Rattle.byte_streams.specs.Streams.{Rose};
 ghost use Rattle.lift_text.specs.Reading.{TextState};
 ghost use Rattle.lift_text.specs.LineReader.{text, failure};
+ghost use Rattle.lift_text.specs.Shows.{FaultShows, WentOn};
 ghost use Rattle.cert_text.specs.Trees.{IsWithin};
 ghost use Rattle.cert_text.specs.Certs.{IsReadCert, IsRefusedCert, IsSaid, ReadsLines};
 ghost use Rattle.cert_text.specs.Written.{ReadsText};
@@ -28,6 +29,9 @@ fn read_twig<S: Source>(
     ensures adds { AddsFor snapshot.now reader.old tree.old (text S.left lines.old)
         result reader.new tree.new (text S.left lines.new) }
     ensures sound { OnOk result (failure_of reader.new.begun ≡ None) }
+    ensures went { OnOk result (WentOn (text S.left lines.old) (text S.left lines.new)) }
+    ensures shows { IfErr result (λ fault.
+        FaultShows (text S.left lines.old) fault (S.left lines.new.source.now)) }
     ensures ok { OnOk result (failure lines.new ≡ None) }
     ensures fault { IfSome (failure lines.new) (λ fault. result ≡ Err fault) }
     ensures read { IsErrOf result TextFault.Read
@@ -55,6 +59,9 @@ fn read_twigs<S: Source>(
     ensures same_source { lines.new.source.ghost_name ≡ lines.old.source.ghost_name }
     ensures tells { TellsFor snapshot.now reader.old tree.old (text S.left lines.old)
         result tree.new (text S.left lines.new) }
+    ensures went { OnOk result (WentOn (text S.left lines.old) (text S.left lines.new)) }
+    ensures shows { IfErr result (λ fault.
+        FaultShows (text S.left lines.old) fault (S.left lines.new.source.now)) }
     ensures ok { OnOk result (failure lines.new ≡ None) }
     ensures fault { IfSome (failure lines.new) (λ fault. result ≡ Err fault) }
     ensures read { IsErrOf result TextFault.Read
@@ -84,6 +91,10 @@ fn read<S: Source>(
     ensures refused { failure lines.old ≡ None → IfErr result (λ fault.
         IsRefused snapshot.now (text S.left lines.old) fault) }
     ensures again { IfSome (failure lines.old) (λ fault. result ≡ Err fault) }
+    ensures went { failure lines.old ≡ None
+        → OnOk result (WentOn (text S.left lines.old) (text S.left lines.new)) }
+    ensures shows { failure lines.old ≡ None → IfErr result (λ fault.
+        FaultShows (text S.left lines.old) fault (S.left lines.new.source.now)) }
     ensures ok { OnOk result (failure lines.new ≡ None) }
     ensures fault { IfSome (failure lines.new) (λ fault. result ≡ Err fault) }
     ensures read { failure lines.old ≡ None → IsErrOf result TextFault.Read
@@ -116,6 +127,10 @@ pub fn read_cert<S: Source>(
         → ReadsText (text S.left lines.old) snapshot.now result (text S.left lines.new) }
     ensures within { failure lines.old ≡ None → IfOk result (IsWithin snapshot.now) }
     ensures again { IfSome (failure lines.old) (λ fault. result ≡ Err fault) }
+    ensures went { failure lines.old ≡ None
+        → OnOk result (WentOn (text S.left lines.old) (text S.left lines.new)) }
+    ensures shows { failure lines.old ≡ None → IfErr result (λ fault.
+        FaultShows (text S.left lines.old) fault (S.left lines.new.source.now)) }
     ensures ok { OnOk result (failure lines.new ≡ None) }
     ensures fault { IfSome (failure lines.new) (λ fault. result ≡ Err fault) }
     ensures read { failure lines.old ≡ None → IsErrOf result TextFault.Read

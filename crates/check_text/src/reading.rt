@@ -6,6 +6,7 @@ ghost use Rattle.byte_streams.specs.Streams.{Rose};
 ghost use Rattle.elevator_model.specs.Snapshot.{car_count};
 ghost use Rattle.search_model.specs.declared.Stated.{Stated as StatedValue};
 ghost use Rattle.lift_text.specs.LineReader.{text, failure};
+ghost use Rattle.lift_text.specs.Shows.{FaultShows, WentOn};
 ghost use Rattle.cert_checker.specs.Judging.{HasSeen, IsCheckerOf};
 ghost use Rattle.cert_text.specs.Readers.{failure_of};
 ghost use Rattle.check_text.specs.CheckTexts.{IsChecked, IsRefusedCheck, TakesChecks};
@@ -48,6 +49,9 @@ fn read_twig<S: Source>(
     ensures reads { ReadsPieceFor snapshot.now reader.old piece.old
         (text S.left lines.old) result reader.new piece.new (text S.left lines.new) }
     ensures few { OnOk result (length piece.new ≤ length piece.old + 1) }
+    ensures went { OnOk result (WentOn (text S.left lines.old) (text S.left lines.new)) }
+    ensures shows { IfErr result (λ fault.
+        FaultShows (text S.left lines.old) fault (S.left lines.new.source.now)) }
     ensures sound { OnOk result (failure_of reader.new.begun ≡ None) }
     ensures ok { OnOk result (failure lines.new ≡ None) }
     ensures read { IsErrOf result TextFault.Read
@@ -77,6 +81,9 @@ fn read_piece<S: Source>(
     ensures reads { ReadsPieceFor snapshot.now reader.old []
         (text S.left lines.old) result reader.new piece.new (text S.left lines.new) }
     ensures few { OnOk result (length piece.new ≤ 256) }
+    ensures went { OnOk result (WentOn (text S.left lines.old) (text S.left lines.new)) }
+    ensures shows { IfErr result (λ fault.
+        FaultShows (text S.left lines.old) fault (S.left lines.new.source.now)) }
     ensures sound { OnOk result (failure_of reader.new.begun ≡ None) }
     ensures ok { OnOk result (failure lines.new ≡ None) }
     ensures read { IsErrOf result TextFault.Read
@@ -110,6 +117,9 @@ fn check_piece<S: Source, R: Threads + Sync, G: Gate + Sync>(
     ensures feeds { FeedsPieceFor snapshot.now reader.old checker.old
         (text S.left lines.old) result reader.new checker.new (text S.left lines.new) }
     ensures own { IsCheckerOf snapshot.now checker.new }
+    ensures went { OnOk result (WentOn (text S.left lines.old) (text S.left lines.new)) }
+    ensures shows { IfErr result (λ fault.
+        FaultShows (text S.left lines.old) fault (S.left lines.new.source.now)) }
     ensures sound { OnOk result (failure_of reader.new.begun ≡ None) }
     ensures ok { OnOk result (failure lines.new ≡ None) }
     ensures read { IsErrOf result TextFault.Read
@@ -144,6 +154,9 @@ fn check_tree<S: Source, R: Threads + Sync, G: Gate + Sync>(
     ensures same_source { lines.new.source.ghost_name ≡ lines.old.source.ghost_name }
     ensures feeds { (claims : StatedValue) → HasSeen snapshot.now claims [] checker.old
         → FeedsTree snapshot.now claims (text S.left lines.old) result checker.new (text S.left lines.new) }
+    ensures went { OnOk result (WentOn (text S.left lines.old) (text S.left lines.new)) }
+    ensures shows { IfErr result (λ fault.
+        FaultShows (text S.left lines.old) fault (S.left lines.new.source.now)) }
     ensures ok { OnOk result (failure lines.new ≡ None) }
     ensures read { IsErrOf result TextFault.Read
         → Rose (S.faults lines.old.source.now) (S.faults lines.new.source.now) }
@@ -175,6 +188,8 @@ fn judge_tree<S: Source, R: Threads + Sync, G: Gate + Sync>(
     ensures refused { IfErr result (IsRefusedTree (text S.left lines.old) snapshot.now) }
     ensures takes { TakesTrees (text S.left lines.old) snapshot.now stated.now result }
     ensures ended { OnOk result (IsAtEnd (S.left lines.new.source.now)) }
+    ensures shows { IfErr result (λ fault.
+        FaultShows (text S.left lines.old) fault (S.left lines.new.source.now)) }
     ensures read { IsErrOf result TextFault.Read
         → Rose (S.faults lines.old.source.now) (S.faults lines.new.source.now) }
     ensures counted { S.faults lines.old.source.now ≤ S.faults lines.new.source.now }
@@ -215,6 +230,8 @@ fn judge<S: Source, R: Threads + Sync, G: Gate + Sync>(
     ensures refused { IfErr result (IsRefusedCertified (text S.left lines.old) snapshot.now) }
     ensures takes { TakesCertified (text S.left lines.old) snapshot.now result }
     ensures ended { OnOk result (IsAtEnd (S.left lines.new.source.now)) }
+    ensures shows { IfErr result (λ fault.
+        FaultShows (text S.left lines.old) fault (S.left lines.new.source.now)) }
     ensures read { IsErrOf result TextFault.Read
         → Rose (S.faults lines.old.source.now) (S.faults lines.new.source.now) }
     ensures counted { S.faults lines.old.source.now ≤ S.faults lines.new.source.now }
@@ -241,7 +258,7 @@ fn judge<S: Source, R: Threads + Sync, G: Gate + Sync>(
 /// feasible.
 ///
 /// The first bad line decides, with its number and one code, also if it comes after what makes the verdict a
-/// no. `Read` comes only where a read of the source failed.
+/// no. Its end shows in the bytes that were taken. `Read` comes only where a read of the source failed.
 pub fn read_check<S: Source, G: Gate + Sync>(
     rt: &(impl Threads + Sync),
     alloc: Global,
@@ -257,6 +274,8 @@ pub fn read_check<S: Source, G: Gate + Sync>(
     ensures refused { IfErr result (IsRefusedCheck (text S.left lines.old)) }
     ensures takes { TakesChecks (text S.left lines.old) result }
     ensures ended { OnOk result (IsAtEnd (S.left lines.new.source.now)) }
+    ensures shows { IfErr result (λ fault.
+        FaultShows (text S.left lines.old) fault (S.left lines.new.source.now)) }
     ensures read { IsErrOf result TextFault.Read
         → Rose (S.faults lines.old.source.now) (S.faults lines.new.source.now) }
     ensures counted { S.faults lines.old.source.now ≤ S.faults lines.new.source.now }

@@ -1,7 +1,7 @@
 -- Lines of a text: what a run reads of them.
 use Rattle.std.proofs.Common.{◌≡◌, ℕ, zero, suc, ◌-◌, ◌<◌, Bool, true, false, cond, eqb, List, [], ◌∷◌, ◌++◌, length, take, refl, sym, ap, ◌∙◌, subst, arith, Option, Some, None, Result, Ok, Err}
 use Rattle.std.specs.Prelude.{IsErrOf, OnOk, OnErr}
-use Rattle.std.specs.List.{concat, onto_first}
+use Rattle.std.specs.List.{concat}
 use Rattle.std.specs.Io.BufRead.{strip_last}
 use Rattle.std.specs.Io.KnownBytes.{prepend_known, IsAtEnd}
 use Rattle.std.proofs.lemmas.List.{length-append, take-append-le, take_all}
@@ -18,6 +18,7 @@ use Rattle.lift_text.specs.declared.faults.TextFault.TheVariants.{Bad, TooLong a
 use Rattle.lift_text.specs.declared.faults.RawLine.{RawLine}
 use Rattle.lift_text.specs.declared.faults.RawLine.TheVariants.{Line, Long, End}
 use Rattle.lift_text.proofs.PieceLemmas.{ends_with_byte-push}
+use Rattle.lift_text.proofs.ShowLemmas.{concat-pieces}
 use Rattle.lift_text.proofs.SkipLemmas.{size_of, size_of-pieces}
 use Rattle.day_runner.specs.Runs.{Right, AreRowsDone, DidNext, IsLineDone, IsLineBetween, StopsAt, fault_of, rows_of_line, next_after}
 use Rattle.day_runner.specs.declared.rows.RunFault.{RunFault}
@@ -27,15 +28,6 @@ use Rattle.day_runner.specs.declared.rows.NextRow.TheVariants.{End as EndOfText}
 use Rattle.day_runner.proofs.RunLemmas.{append-assoc, long-row-done, long-rows}
 
 -- ---- the lines of a text, joined
-
-concat-step : (ends : Bool) (b : ℕ) (later : List (List ℕ)) → concat (cond ends ((b ∷ []) ∷ later) (onto_first b later)) ≡ b ∷ concat later
-concat-step true b later = refl
-concat-step false b [] = refl
-concat-step false b (piece ∷ pieces) = refl
-
-pub concat-pieces : (bytes : List ℕ) → concat (pieces_of bytes) ≡ bytes
-concat-pieces [] = refl
-concat-pieces (b ∷ bytes) = concat-step (eqb b 10) b (pieces_of bytes) ∙ ap (λ (r : List ℕ). b ∷ r) (concat-pieces bytes)
 
 -- a text is its first line and what stands behind it
 pub first-piece : (bytes piece later : List ℕ) → pieces_of bytes ≡ piece ∷ pieces_of later → bytes ≡ piece ++ later

@@ -3,6 +3,7 @@ use Rattle.std.specs.Prelude.{◌≡◌, ◌≤◌, List, ℕ, Option, Result, O
 use Rattle.elevator_model.specs.Snapshot.{Snapshot}
 use Rattle.lift_text.specs.Lines.{pieces_of}
 use Rattle.lift_text.specs.Reading.{TextState}
+use Rattle.lift_text.specs.Shows.{FaultShows}
 use Rattle.lift_text.specs.declared.faults.TextFault.{TextFault}
 use Rattle.lift_text.specs.declared.faults.TextFault.TheVariants.{Read as FailedRead}
 use Rattle.case_text.specs.CaseTexts.{Tells}
@@ -23,11 +24,12 @@ pub record DayRan (right : Right) (before : Option TextState) (left taken taken'
   pub read : IsDayOpeningRead before opening rows
   pub ran : RanDay right opening result rows left taken taken'
 
--- What became of the text; where it begins with no opening, nothing was written.
+-- What became of the text; where it begins with no opening, nothing was written, and the end of the line that is said to be
+-- bad shows in the bytes that were taken.
 abbrev pub DayAnswered : Right → (before : Option TextState) → (left taken taken' : Option (List ℕ)) → Result Ended DayFault → Type 0
 DayAnswered right before left taken taken' (Ok ended) = DayRan right before left taken taken' (Ok ended)
 DayAnswered right before left taken taken' (Err (Rows fault)) = DayRan right before left taken taken' (Err fault)
-DayAnswered right before left taken taken' (Err (Opening fault)) = (taken' ≡ taken) × IsDayOpeningRefused before fault
+DayAnswered right before left taken taken' (Err (Opening fault)) = (taken' ≡ taken) × IsDayOpeningRefused before fault × FaultShows before fault left
 
 -- the text is an opening and rows, and is not too long
 pub record IsDayText (text : TextState) : Type 0 where

@@ -5,6 +5,7 @@ use Rattle.elevator_model.specs.Travel.{Square}
 use Rattle.motion_table.specs.declared.triples.Triple.{Triple}
 use Rattle.motion_table.specs.Triples.{IsFirstTriple}
 use Rattle.lift_text.specs.Reading.{reading, whole_text}
+use Rattle.lift_text.specs.Shows.{FaultShows}
 use Rattle.lift_text.specs.declared.codes.TextCode.{TextCode}
 use Rattle.lift_text.specs.declared.faults.TextFault.{TextFault}
 use Rattle.lift_text.specs.declared.faults.TextFault.TheVariants.{TooLong, Bad}
@@ -40,8 +41,8 @@ abbrev IsWrong : Option (List ℕ) → TextFault → Type 0
 IsWrong left fault = (input : List ℕ) → left ≡ Some input → IsLoneTableFault (reading (whole_text input)) fault
 
 -- a refusal line tells what was said of the input
-pub refusal_due : (left : Option (List ℕ)) (fault : TextFault) (text : List ℕ) → IsRefusalLine fault text → IsRefusedAlone (option_map whole_text left) fault → TableRefusalIsDue left text
-refusal_due left fault text is_line refused = record { fault = fault; is_line = is_line; read = told_by_line (IsRefusedAlone (option_map whole_text left)) (IsWrong left) bad long fault text is_line refused }
+pub refusal_due : (left left' : Option (List ℕ)) (fault : TextFault) (text : List ℕ) → IsRefusalLine fault text → IsRefusedAlone (option_map whole_text left) fault → FaultShows (option_map whole_text left) fault left' → TableRefusalIsDue left left' text
+refusal_due left left' fault text is_line refused shows = record { fault = fault; is_line = is_line; read = told_by_line (IsRefusedAlone (option_map whole_text left)) (IsWrong left) bad long fault text is_line refused; shows = shows }
   where
     bad : (number : ℕ) (code : TextCode) → IsRefusedAlone (option_map whole_text left) (Bad number code) → IsWrong left (Bad number code)
     bad number code told input given = subst (λ (x : Option (List ℕ)). IsRefusedAlone (option_map whole_text x) (Bad number code)) given told

@@ -13,7 +13,7 @@ use Rattle.what_if.specs.declared.regrets.Regret.{Regret}
 use Rattle.what_if.specs.WhatIf.{AreEnough, AreExtras, AreSettled, IsRegret}
 use Rattle.whatif_text.specs.declared.faults.AskFault.{AskFault}
 use Rattle.whatif_text.specs.declared.faults.AskFault.TheVariants.{Text, NothingAsked}
-use Rattle.whatif_text.specs.AskedCases.{IsAnsweredAsked, IsAskedCaseText, IsAskFault, IsReadAsked, IsRefusedAsked, TakesAskedCases}
+use Rattle.whatif_text.specs.AskedCases.{IsAnsweredAsked, IsAskedCaseText, IsAskFault, IsReadAsked, IsRefusedAsked, TakesAskedCases, AskFaultShows}
 use Rattle.command_ends.specs.declared.status.Status.{Status}
 use Rattle.command_ends.specs.declared.status.Status.TheVariants.{Done, Words, Stopped, Refused, Input, Read, Write, Memory}
 use Rattle.command_ends.specs.Ends.{Streams, Ends, Puts, IsNothingAskedLine}
@@ -88,15 +88,15 @@ refusal_told left (Text fault) text is_line refused = told_by_line (λ (f : Text
     long : IsRefusedAsked (option_map whole_text left) (Text TooLong) → IsWrong left (Text TooLong)
     long told input given = subst (λ (x : Option (List ℕ)). IsRefusedAsked (option_map whole_text x) (Text TooLong)) given told
 
-refusal_due : (left : Option (List ℕ)) (fault : AskFault) (text : List ℕ) → IsAskRefusal fault text → IsRefusedAsked (option_map whole_text left) fault → RefusalIsDue left text
-refusal_due left fault text is_line refused = record { fault = fault; is_line = is_line; read = refusal_told left fault text is_line refused }
+refusal_due : (left left' : Option (List ℕ)) (fault : AskFault) (text : List ℕ) → IsAskRefusal fault text → IsRefusedAsked (option_map whole_text left) fault → AskFaultShows (option_map whole_text left) fault left' → RefusalIsDue left left' text
+refusal_due left left' fault text is_line refused shows = record { fault = fault; is_line = is_line; read = refusal_told left fault text is_line refused; shows = shows }
 
-pub ends_refused : (rounds moves : ℕ) (left left' : Option (List ℕ)) (fault : AskFault) (old new : Streams) (result : Status) → IsRefusedAsked (option_map whole_text left) fault → (fault ≡ Text FailedRead → Rose old.read_faults new.read_faults)
+pub ends_refused : (rounds moves : ℕ) (left left' : Option (List ℕ)) (fault : AskFault) (old new : Streams) (result : Status) → IsRefusedAsked (option_map whole_text left) fault → AskFaultShows (option_map whole_text left) fault left' → (fault ≡ Text FailedRead → Rose old.read_faults new.read_faults)
     → PutsAskFault fault result old.taken new.taken old.write_faults new.write_faults → Ends (WhatIfDue rounds moves left left') old new result
-ends_refused rounds moves left left' (Text fault) old new result refused rose put =
-    ends_fault (WhatIfDue rounds moves left left') fault old new result (λ text is_line. refusal_due left (Text fault) text is_line refused) (λ e. rose (ap Text e)) put
-ends_refused rounds moves left left' (NothingAsked line) old new result refused rose put =
-    ends_line (WhatIfDue rounds moves left left') (IsNothingAskedLine line) old new result (λ text is_line. refusal_due left (NothingAsked line) text is_line refused) put
+ends_refused rounds moves left left' (Text fault) old new result refused shows rose put =
+    ends_fault (WhatIfDue rounds moves left left') fault old new result (λ text is_line. refusal_due left left' (Text fault) text is_line refused shows) (λ e. rose (ap Text e)) put
+ends_refused rounds moves left left' (NothingAsked line) old new result refused shows rose put =
+    ends_line (WhatIfDue rounds moves left left') (IsNothingAskedLine line) old new result (λ text is_line. refusal_due left left' (NothingAsked line) text is_line refused shows) put
 
 -- ---- when
 

@@ -1,5 +1,5 @@
 -- What the command `table` leaves: what was read and written, and why it ended.
-use Rattle.std.specs.Prelude.{◌≡◌, ℕ, ◌⊎◌, List, [], ◌∷◌, codes, Option, Some}
+use Rattle.std.specs.Prelude.{◌≡◌, ℕ, ◌⊎◌, List, [], ◌∷◌, codes, Option, Some, option_map}
 use Rattle.std.specs.Io.KnownBytes.{IsAtEnd}
 use Rattle.byte_streams.specs.Streams.{Rose}
 use Rattle.call_state.specs.Squares.{AreRowsDirect}
@@ -7,6 +7,7 @@ use Rattle.elevator_model.specs.Travel.{Square, IsTravelSquare}
 use Rattle.motion_table.specs.declared.triples.Triple.{Triple}
 use Rattle.motion_table.specs.Triples.{IsFirstTriple, IsTable}
 use Rattle.lift_text.specs.Reading.{reading, whole_text}
+use Rattle.lift_text.specs.Shows.{FaultShows}
 use Rattle.lift_text.specs.Text.{line}
 use Rattle.lift_text.specs.declared.codes.TextCode.TheVariants.{ShorterWay}
 use Rattle.lift_text.specs.declared.faults.TextFault.{TextFault}
@@ -56,11 +57,13 @@ pub record TableAnswerIsDue (left left' : Option (List ℕ)) (status : Status) (
   pub ended : IsAtEnd left'
   pub told : IsToldOf table status text
 
--- The refusal line is due where the input is no such text, with what is wrong with it.
-pub record TableRefusalIsDue (left : Option (List ℕ)) (text : List ℕ) : Type 0 where
+-- The refusal line is due where the input is no such text, with what is wrong with it, and where the end of the line that
+-- it names shows in the bytes that were taken.
+pub record TableRefusalIsDue (left left' : Option (List ℕ)) (text : List ℕ) : Type 0 where
   pub fault : TextFault
   pub is_line : IsRefusalLine fault text
   pub read : (input : List ℕ) → left ≡ Some input → IsLoneTableFault (reading (whole_text input)) fault
+  pub shows : FaultShows (option_map whole_text left) fault left'
 
 -- the texts of `table`, by what the source had left before it and has left behind it
 abbrev pub TableDue : (left left' : Option (List ℕ)) → Due
@@ -68,7 +71,7 @@ TableDue left left' Done text = TableAnswerIsDue left left' Done text
 TableDue left left' Words text = ⊥
 TableDue left left' Stopped text = ⊥
 TableDue left left' Refused text = TableAnswerIsDue left left' Refused text
-TableDue left left' Input text = TableRefusalIsDue left text
+TableDue left left' Input text = TableRefusalIsDue left left' text
 TableDue left left' Read text = ⊥
 TableDue left left' Write text = ⊥
 TableDue left left' Memory text = ⊥

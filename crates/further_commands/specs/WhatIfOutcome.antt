@@ -1,5 +1,5 @@
 -- What the command `whatif` leaves: what was read and written, and why it ended.
-use Rattle.std.specs.Prelude.{◌≡◌, ℕ, zero, suc, ◌⊎◌, List, [], ◌∷◌, ◌++◌, codes, Option, Some}
+use Rattle.std.specs.Prelude.{◌≡◌, ℕ, zero, suc, ◌⊎◌, List, [], ◌∷◌, ◌++◌, codes, Option, Some, option_map}
 use Rattle.std.specs.Fmt.{signed_decimal}
 use Rattle.std.specs.Io.KnownBytes.{IsAtEnd}
 use Rattle.byte_streams.specs.Streams.{Rose}
@@ -12,7 +12,7 @@ use Rattle.what_if.specs.declared.regrets.Regret.{Regret}
 use Rattle.what_if.specs.WhatIf.{AreEnough, AreExtras, AreSettled, IsRegret, extra_at}
 use Rattle.whatif_text.specs.declared.faults.AskFault.{AskFault}
 use Rattle.whatif_text.specs.declared.faults.AskFault.TheVariants.{Text, NothingAsked}
-use Rattle.whatif_text.specs.AskedCases.{HasAskedCall, IsAskedCaseText, IsAskFault}
+use Rattle.whatif_text.specs.AskedCases.{HasAskedCall, IsAskedCaseText, IsAskFault, AskFaultShows}
 use Rattle.command_ends.specs.Ends.{Streams, Due, IsRefusalLine, IsNothingAskedLine, PutsFault, PutsNothingAsked}
 use Rattle.command_ends.specs.declared.status.Status.{Status}
 use Rattle.command_ends.specs.declared.status.Status.TheVariants.{Done, Words, Stopped, Refused, Input, Read, Write, Memory}
@@ -81,11 +81,13 @@ abbrev pub IsAskRefusal : AskFault → List ℕ → Type 0
 IsAskRefusal (Text fault) text = IsRefusalLine fault text
 IsAskRefusal (NothingAsked line) text = IsNothingAskedLine line text
 
--- The refusal line is due where the input is no such text, with what is wrong with it.
-pub record RefusalIsDue (left : Option (List ℕ)) (text : List ℕ) : Type 0 where
+-- The refusal line is due where the input is no such text, with what is wrong with it, and where the end of the line that
+-- it names shows in the bytes that were taken.
+pub record RefusalIsDue (left left' : Option (List ℕ)) (text : List ℕ) : Type 0 where
   pub fault : AskFault
   pub is_line : IsAskRefusal fault text
   pub read : (input : List ℕ) → left ≡ Some input → IsAskFault (reading (whole_text input)) fault
+  pub shows : AskFaultShows (option_map whole_text left) fault left'
 
 -- the texts of `whatif`, by what the source had left before it and has left behind it
 abbrev pub WhatIfDue : (rounds moves : ℕ) → (left left' : Option (List ℕ)) → Due
@@ -93,7 +95,7 @@ WhatIfDue rounds moves left left' Done text = AnswerIsDue rounds moves left left
 WhatIfDue rounds moves left left' Words text = ⊥
 WhatIfDue rounds moves left left' Stopped text = AnswerIsDue rounds moves left left' Stopped text
 WhatIfDue rounds moves left left' Refused text = ⊥
-WhatIfDue rounds moves left left' Input text = RefusalIsDue left text
+WhatIfDue rounds moves left left' Input text = RefusalIsDue left left' text
 WhatIfDue rounds moves left left' Read text = ⊥
 WhatIfDue rounds moves left left' Write text = ⊥
 WhatIfDue rounds moves left left' Memory text = ⊥

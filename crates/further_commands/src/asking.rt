@@ -5,7 +5,8 @@ ghost use Rattle.byte_streams.specs.Streams.{Rose};
 ghost use Rattle.elevator_model.specs.Snapshot.{IsAccepted};
 ghost use Rattle.lift_text.specs.Reading.{whole_text};
 ghost use Rattle.what_if.specs.WhatIf.{AreEnough};
-ghost use Rattle.whatif_text.specs.AskedCases.{HasAskedCall, IsReadAsked, IsRefusedAsked, TakesAskedCases};
+ghost use Rattle.whatif_text.specs.AskedCases.{AskFaultShows, HasAskedCall, IsReadAsked, IsRefusedAsked};
+ghost use Rattle.whatif_text.specs.AskedCases.{TakesAskedCases};
 ghost use Rattle.command_ends.specs.Ends.{Ends, streams};
 ghost use Rattle.further_commands.specs.WhatIfOutcome.{AnswersAsked, IsStatusOf, IsTold, PutsAskFault};
 ghost use Rattle.further_commands.specs.WhatIfOutcome.{RefusesUnasked, WhatIfDue};
@@ -31,6 +32,8 @@ fn read_input<S: Source>(alloc: Global, source: &mut S) -> Result<Snapshot, AskF
     ensures accepted { IfOk result IsAccepted }
     ensures asked { IfOk result HasAskedCall }
     ensures ended { OnOk result (IsAtEnd (S.left source.new)) }
+    ensures shows { IfErr result (λ fault.
+        AskFaultShows (option_map whole_text (S.left source.old)) fault (S.left source.new)) }
     ensures read { IsErrOf result (AskFault.Text TextFault.Read)
         → Rose (S.faults source.old) (S.faults source.new) }
 {

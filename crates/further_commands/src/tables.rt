@@ -4,6 +4,7 @@ ghost use Rattle.std.specs.Io.KnownBytes.{IsAtEnd};
 ghost use Rattle.byte_streams.specs.Streams.{Rose};
 ghost use Rattle.command_ends.specs.Ends.{Ends, streams};
 ghost use Rattle.lift_text.specs.Reading.{whole_text};
+ghost use Rattle.lift_text.specs.Shows.{FaultShows};
 ghost use Rattle.table_text.specs.TableTexts.{IsReadAlone, IsRefusedAlone, TakesLoneTables};
 ghost use Rattle.further_commands.specs.TableOutcome.{IsToldOf, RefusesTables, TableDue, Tables};
 
@@ -20,6 +21,8 @@ fn read_input<S: Source>(alloc: Global, source: &mut S) -> Result<Table, TextFau
     ensures refused { IfErr result (IsRefusedAlone (option_map whole_text (S.left source.old))) }
     ensures takes { TakesLoneTables (option_map whole_text (S.left source.old)) result }
     ensures ended { OnOk result (IsAtEnd (S.left source.new)) }
+    ensures shows { IfErr result (λ fault.
+        FaultShows (option_map whole_text (S.left source.old)) fault (S.left source.new)) }
     ensures read { IsErrOf result TextFault.Read
         → Rose (S.faults source.old) (S.faults source.new) }
 {

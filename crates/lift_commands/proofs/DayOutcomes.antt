@@ -21,6 +21,7 @@ use Rattle.command_ends.specs.declared.status.Status.{Status}
 use Rattle.command_ends.specs.declared.status.Status.TheVariants.{Done, Stopped, Input, Memory}
 use Rattle.command_ends.specs.Ends.{Streams, Puts, PutsFault, PutsRefusal, IsRefusalLine}
 use Rattle.command_ends.proofs.EndLemmas.{ends_fault, ends_put, put_whole}
+use Rattle.lift_text.specs.Shows.{FaultShows}
 use Rattle.lift_commands.specs.DayOutcome.{IsSolvedRow, RanBy, ToldBy, DayDone, DayEnds, PutsRowsFault, ReportDue, ReportsDay, RunsDay, status_of_unsolved}
 use Rattle.lift_commands.proofs.EnoughRows.{stopped-day}
 use Rattle.lift_commands.proofs.KeptRows.{ran-within}
@@ -47,26 +48,26 @@ day-short : (options : SearchOptions) (old new : Streams) (result : Status) → 
 day-short options old new result is ends = subst (RunsDay options old new) (sym is) (record { ends = ends; completes = λ begins reads writes. inr (inr refl) })
 
 -- the refusal line of what begins with no opening
-day-refusal : (options : SearchOptions) (old new : Streams) (fault : TextFault) (result : Status) (mid : Option (List ℕ)) (before : ℕ) (text : List ℕ) → mid ≡ old.taken → old.write_faults ≤ before → IsDayOpeningRefused (option_map whole_text old.left) fault → (BeginsDay old → ⊥) → IsRefusalLine fault text
+day-refusal : (options : SearchOptions) (old new : Streams) (fault : TextFault) (result : Status) (mid : Option (List ℕ)) (before : ℕ) (text : List ℕ) → mid ≡ old.taken → old.write_faults ≤ before → IsDayOpeningRefused (option_map whole_text old.left) fault → FaultShows (option_map whole_text old.left) fault new.left → (BeginsDay old → ⊥) → IsRefusalLine fault text
     → Puts text Input result mid new.taken before new.write_faults → RunsDay options old new result
-day-refusal options old new fault result mid before text same counted refused never is_line (inl put) =
-    subst (RunsDay options old new) (sym put.0) (record { ends = inl (record { text = text; due = record { fault = fault; is_line = is_line; no_day = refused }; written = subst (λ (k : Option (List ℕ)). new.taken ≡ append_known k text) same put.1 }); completes = λ begins reads writes. absurd (never begins) })
-day-refusal options old new fault result mid before text same counted refused never is_line (inr put) =
-    subst (RunsDay options old new) (sym put.1) (record { ends = (rose-before old.write_faults before new.write_faults counted put.3, inl (record { text = text; due = record { fault = fault; is_line = is_line; no_day = refused }; count = put.0; within = put.2; written = subst (λ (k : Option (List ℕ)). new.taken ≡ append_known k (take put.0 text)) same put.4 })); completes = λ begins reads writes. absurd (never begins) })
+day-refusal options old new fault result mid before text same counted refused shows never is_line (inl put) =
+    subst (RunsDay options old new) (sym put.0) (record { ends = inl (record { text = text; due = record { fault = fault; is_line = is_line; no_day = refused; shows = shows }; written = subst (λ (k : Option (List ℕ)). new.taken ≡ append_known k text) same put.1 }); completes = λ begins reads writes. absurd (never begins) })
+day-refusal options old new fault result mid before text same counted refused shows never is_line (inr put) =
+    subst (RunsDay options old new) (sym put.1) (record { ends = (rose-before old.write_faults before new.write_faults counted put.3, inl (record { text = text; due = record { fault = fault; is_line = is_line; no_day = refused; shows = shows }; count = put.0; within = put.2; written = subst (λ (k : Option (List ℕ)). new.taken ≡ append_known k (take put.0 text)) same put.4 })); completes = λ begins reads writes. absurd (never begins) })
 
-day-refused : (options : SearchOptions) (old new : Streams) (fault : TextFault) (result : Status) (mid : Option (List ℕ)) (before : ℕ) → mid ≡ old.taken → old.write_faults ≤ before → IsDayOpeningRefused (option_map whole_text old.left) fault → (BeginsDay old → ⊥)
+day-refused : (options : SearchOptions) (old new : Streams) (fault : TextFault) (result : Status) (mid : Option (List ℕ)) (before : ℕ) → mid ≡ old.taken → old.write_faults ≤ before → IsDayOpeningRefused (option_map whole_text old.left) fault → FaultShows (option_map whole_text old.left) fault new.left → (BeginsDay old → ⊥)
     → PutsRefusal fault result mid new.taken before new.write_faults → RunsDay options old new result
-day-refused options old new fault result mid before same counted refused never (inl line) = day-refusal options old new fault result mid before line.0 same counted refused never line.1 line.2
-day-refused options old new fault result mid before same counted refused never (inr none) = day-short options old new result none.0 (inl (none.1 ∙ same))
+day-refused options old new fault result mid before same counted refused shows never (inl line) = day-refusal options old new fault result mid before line.0 same counted refused shows never line.1 line.2
+day-refused options old new fault result mid before same counted refused shows never (inr none) = day-short options old new result none.0 (inl (none.1 ∙ same))
 
 -- The input begins with no opening, or could not be read so far.
-pub day-unopened : (options : SearchOptions) (old new : Streams) (fault : TextFault) (result : Status) (mid : Option (List ℕ)) (before : ℕ) → mid ≡ old.taken → old.write_faults ≤ before → IsDayOpeningRefused (option_map whole_text old.left) fault
+pub day-unopened : (options : SearchOptions) (old new : Streams) (fault : TextFault) (result : Status) (mid : Option (List ℕ)) (before : ℕ) → mid ≡ old.taken → old.write_faults ≤ before → IsDayOpeningRefused (option_map whole_text old.left) fault → FaultShows (option_map whole_text old.left) fault new.left
     → (BeginsDay old → EndsUnlessFailed (Err (Opening fault))) → (fault ≡ FailedRead → Rose old.read_faults new.read_faults) → PutsFault fault result mid new.taken before new.write_faults → RunsDay options old new result
-day-unopened options old new (Bad line code) result mid before same counted refused never rose put = day-refused options old new (Bad line code) result mid before same counted refused never put
-day-unopened options old new LongText result mid before same counted refused never rose put = day-refused options old new LongText result mid before same counted refused never put
-day-unopened options old new FailedRead result mid before same counted refused never rose put =
+day-unopened options old new (Bad line code) result mid before same counted refused shows never rose put = day-refused options old new (Bad line code) result mid before same counted refused shows never put
+day-unopened options old new LongText result mid before same counted refused shows never rose put = day-refused options old new LongText result mid before same counted refused shows never put
+day-unopened options old new FailedRead result mid before same counted refused shows never rose put =
     subst (RunsDay options old new) (sym put.0) (record { ends = (rose refl, inl (put.1 ∙ same)); completes = λ begins reads writes. absurd (reads (rose refl)) })
-day-unopened options old new NoRoom result mid before same counted refused never rose put = day-short options old new result put.0 (inl (put.1 ∙ same))
+day-unopened options old new NoRoom result mid before same counted refused shows never rose put = day-short options old new result put.0 (inl (put.1 ∙ same))
 
 day-cut : (options : SearchOptions) (old new : Streams) (result : Status) (mid : Option (List ℕ)) (before : ℕ) (text : List ℕ) → old.write_faults ≤ before → RanBy options old new mid (Err TooLong) → (BeginsDay old → ⊥) → IsRefusalLine LongText text
     → Puts text Input result mid new.taken before new.write_faults → RunsDay options old new result
@@ -117,13 +118,13 @@ report-done options old new ended status result text is ran says put =
 pub report-short : (options : SearchOptions) (old new : Streams) (result : Status) → result ≡ Memory → new.taken ≡ old.taken → ReportsDay options old new result
 report-short options old new result is same = subst (ReportsDay options old new) (sym is) (record { ends = same; completes = λ begins reads writes. inr (inr refl) })
 
-no-day-line : (left left' : Option (List ℕ)) (options : SearchOptions) (fault : TextFault) (text : List ℕ) → IsDayOpeningRefused (option_map whole_text left) fault → IsRefusalLine fault text → ReportDue options left left' Input text
-no-day-line left left' options fault text refused is_line = inl (record { fault = fault; is_line = is_line; no_day = refused })
+no-day-line : (left left' : Option (List ℕ)) (options : SearchOptions) (fault : TextFault) (text : List ℕ) → IsDayOpeningRefused (option_map whole_text left) fault → FaultShows (option_map whole_text left) fault left' → IsRefusalLine fault text → ReportDue options left left' Input text
+no-day-line left left' options fault text refused shows is_line = inl (record { fault = fault; is_line = is_line; no_day = refused; shows = shows })
 
-pub report-unopened : (options : SearchOptions) (old new : Streams) (fault : TextFault) (result : Status) → IsDayOpeningRefused (option_map whole_text old.left) fault → (BeginsDay old → EndsUnlessFailed (Err (Opening fault))) → (fault ≡ FailedRead → Rose old.read_faults new.read_faults)
+pub report-unopened : (options : SearchOptions) (old new : Streams) (fault : TextFault) (result : Status) → IsDayOpeningRefused (option_map whole_text old.left) fault → FaultShows (option_map whole_text old.left) fault new.left → (BeginsDay old → EndsUnlessFailed (Err (Opening fault))) → (fault ≡ FailedRead → Rose old.read_faults new.read_faults)
     → PutsFault fault result old.taken new.taken old.write_faults new.write_faults → ReportsDay options old new result
-report-unopened options old new fault result refused never rose put = record {
-  ends = ends_fault (ReportDue options old.left new.left) fault old new result (λ text is_line. no-day-line old.left new.left options fault text refused is_line) rose put;
+report-unopened options old new fault result refused shows never rose put = record {
+  ends = ends_fault (ReportDue options old.left new.left) fault old new result (λ text is_line. no-day-line old.left new.left options fault text refused shows is_line) rose put;
   completes = λ begins reads writes. inr (inr (ran_out_of_memory fault result old.taken new.taken old.write_faults new.write_faults put (never begins) (λ e. reads (rose e))));
 }
 

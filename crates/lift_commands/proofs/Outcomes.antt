@@ -16,6 +16,7 @@ use Rattle.command_ends.specs.declared.status.Status.{Status}
 use Rattle.command_ends.specs.declared.status.Status.TheVariants.{Done, Words, Stopped, Refused, Input, Read, Write, Memory}
 use Rattle.command_ends.specs.Ends.{PutsFault, IsRefusalLine}
 use Rattle.command_ends.proofs.EndLemmas.{fault_memory, told_by_line}
+use Rattle.lift_text.specs.Shows.{FaultShows}
 use Rattle.lift_commands.specs.Outcome.{AnswersCases, RefusalIsDue, CheckRefusalIsDue, SolveDue, CheckDue, MakeDue, SolvedCaseDue, RunDue}
 
 -- what a reader of the whole text says of the input
@@ -34,20 +35,22 @@ line_tells : (IsFault : TextFault → Type 0) (fault : TextFault) (text : List �
 line_tells IsFault = told_by_line (λ (fault : TextFault). Tells fault (IsFault fault)) IsFault (λ number code told. told) (λ told. told)
 
 -- a refusal line tells what was said of the input
-pub refusal_due : (left : Option (List ℕ)) (fault : TextFault) (text : List ℕ) → IsRefusalLine fault text
-    → ((input : List ℕ) → left ≡ Some input → Tells fault (IsLoneCaseFault (reading (whole_text input)) fault)) → RefusalIsDue left text
-refusal_due left fault text is_line refused = record {
+pub refusal_due : (left left' : Option (List ℕ)) (fault : TextFault) (text : List ℕ) → IsRefusalLine fault text
+    → ((input : List ℕ) → left ≡ Some input → Tells fault (IsLoneCaseFault (reading (whole_text input)) fault)) → FaultShows (option_map whole_text left) fault left' → RefusalIsDue left left' text
+refusal_due left left' fault text is_line refused shows = record {
   fault = fault;
   is_line = is_line;
   read = λ input given. line_tells (IsLoneCaseFault (reading (whole_text input))) fault text is_line (refused input given);
+  shows = shows;
 }
 
 -- and so of `check`
-pub check_refusal_due : (left : Option (List ℕ)) (fault : TextFault) (text : List ℕ) → IsRefusalLine fault text → IsRefusedCheck (option_map whole_text left) fault → CheckRefusalIsDue left text
-check_refusal_due left fault text is_line refused = record {
+pub check_refusal_due : (left left' : Option (List ℕ)) (fault : TextFault) (text : List ℕ) → IsRefusalLine fault text → IsRefusedCheck (option_map whole_text left) fault → FaultShows (option_map whole_text left) fault left' → CheckRefusalIsDue left left' text
+check_refusal_due left left' fault text is_line refused shows = record {
   fault = fault;
   is_line = is_line;
   read = λ input given. line_tells (IsCheckFault (reading (whole_text input))) fault text is_line (subst (λ (x : Option (List ℕ)). IsRefusedCheck (option_map whole_text x) fault) given refused);
+  shows = shows;
 }
 
 -- ---- by the words

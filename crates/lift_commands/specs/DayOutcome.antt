@@ -4,6 +4,7 @@ use Rattle.std.specs.Io.KnownBytes.{append_known}
 use Rattle.elevator_model.specs.Snapshot.{Snapshot, IsAccepted}
 use Rattle.byte_streams.specs.Streams.{Rose}
 use Rattle.lift_text.specs.Reading.{TextState, whole_text}
+use Rattle.lift_text.specs.Shows.{FaultShows}
 use Rattle.lift_text.specs.declared.faults.TextFault.{TextFault}
 use Rattle.lift_text.specs.declared.faults.TextFault.TheVariants.{TooLong as LongText}
 use Rattle.opening_text.specs.DayOpenings.{IsDayOpeningRefused}
@@ -76,11 +77,12 @@ pub record WrotePart (is_due : List ℕ → Type 0) (old new : Option (List ℕ)
   pub within : count ≤ length text
   pub written : new ≡ append_known old (take count text)
 
--- the line that refuses what begins with no opening
-pub record IsNoDayLine (left : Option (List ℕ)) (text : List ℕ) : Type 0 where
+-- the line that refuses what begins with no opening; the end of the line that it names shows in the bytes that were taken
+pub record IsNoDayLine (left left' : Option (List ℕ)) (text : List ℕ) : Type 0 where
   pub fault : TextFault
   pub is_line : IsRefusalLine fault text
   pub no_day : IsDayOpeningRefused (option_map whole_text left) fault
+  pub shows : FaultShows (option_map whole_text left) fault left'
 
 -- A day was run with the limits of the words, and where the source tells what it has left, no accepted call is lost after
 -- any of the rows that were done.
@@ -115,11 +117,11 @@ DayEnds options old new Done = DayDone options old new Done
 DayEnds options old new Words = ⊥
 DayEnds options old new Stopped = DayDone options old new Stopped
 DayEnds options old new Refused = ⊥
-DayEnds options old new Input = WroteText (IsNoDayLine old.left) old.taken new.taken ⊎ DayCut options old new (WroteText (IsRefusalLine LongText))
+DayEnds options old new Input = WroteText (IsNoDayLine old.left new.left) old.taken new.taken ⊎ DayCut options old new (WroteText (IsRefusalLine LongText))
 DayEnds options old new Read = Rose old.read_faults new.read_faults × ((new.taken ≡ old.taken) ⊎ RanBy options old new new.taken (Err RowsUnread))
 DayEnds options old new Write =
     Rose old.write_faults new.write_faults
-    × (WrotePart (IsNoDayLine old.left) old.taken new.taken ⊎ (RanBy options old new new.taken (Err RowsUnwritten) ⊎ DayCut options old new (WrotePart (IsRefusalLine LongText))))
+    × (WrotePart (IsNoDayLine old.left new.left) old.taken new.taken ⊎ (RanBy options old new new.taken (Err RowsUnwritten) ⊎ DayCut options old new (WrotePart (IsRefusalLine LongText))))
 DayEnds options old new Memory = (new.taken ≡ old.taken) ⊎ RanBy options old new new.taken (Err NoMemory)
 
 -- the text of the report of a day that came to its end
@@ -141,7 +143,7 @@ ReportDue options left left' Done text = IsReport options left left' Done text
 ReportDue options left left' Words text = ⊥
 ReportDue options left left' Stopped text = IsReport options left left' Stopped text
 ReportDue options left left' Refused text = ⊥
-ReportDue options left left' Input text = IsNoDayLine left text ⊎ IsLongLine options left left' text
+ReportDue options left left' Input text = IsNoDayLine left left' text ⊎ IsLongLine options left left' text
 ReportDue options left left' Read text = ⊥
 ReportDue options left left' Write text = ⊥
 ReportDue options left left' Memory text = ⊥

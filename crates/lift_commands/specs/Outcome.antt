@@ -1,11 +1,12 @@
 -- What a run of the program leaves: what was read and written, and why it ended.
-use Rattle.std.specs.Prelude.{◌≡◌, ℕ, ◌+◌, ◌*◌, ◌<◌, ◌≤◌, ◌==◌, ◌⊎◌, ◌↔◌, IsTrue, Bool, true, false, List, [], ◌∷◌, ◌++◌, All, length, codes, Option, Some, Result, if◌then◌else◌}
+use Rattle.std.specs.Prelude.{◌≡◌, ℕ, ◌+◌, ◌*◌, ◌<◌, ◌≤◌, ◌==◌, ◌⊎◌, ◌↔◌, IsTrue, Bool, true, false, List, [], ◌∷◌, ◌++◌, All, length, codes, Option, Some, option_map, Result, if◌then◌else◌}
 use Rattle.std.specs.Io.BufRead.{ends_with_byte}
 use Rattle.std.specs.Io.KnownBytes.{IsAtEnd}
 use Rattle.elevator_model.specs.declared.Stop.{Stop}
 use Rattle.elevator_model.specs.Snapshot.{Snapshot, IsAccepted, car_count, spec_of}
 use Rattle.elevator_model.specs.Plans.{IsBound, IsOptimal}
 use Rattle.lift_text.specs.Reading.{reading, whole_text}
+use Rattle.lift_text.specs.Shows.{FaultShows}
 use Rattle.lift_text.specs.Text.{line}
 use Rattle.lift_text.specs.declared.faults.TextFault.{TextFault}
 use Rattle.case_text.specs.CaseTexts.{IsCaseText, IsLoneCaseFault, IsAnsweredAlone, case_text}
@@ -144,11 +145,13 @@ pub record AnswerIsDue (options : SolveOptions) (left left' : Option (List ℕ))
   -- `check` takes the input with the answer behind it, and says yes
   pub checks : (input : List ℕ) → left ≡ Some input → CanBeChecked options input → IsSaidYes (input ++ text) snapshot
 
--- The refusal line is due where the input is no such text, with what is wrong with it.
-pub record RefusalIsDue (left : Option (List ℕ)) (text : List ℕ) : Type 0 where
+-- The refusal line is due where the input is no such text, with what is wrong with it, and where the end of the line that
+-- it names shows in the bytes that were taken.
+pub record RefusalIsDue (left left' : Option (List ℕ)) (text : List ℕ) : Type 0 where
   pub fault : TextFault
   pub is_line : IsRefusalLine fault text
   pub read : (input : List ℕ) → left ≡ Some input → IsLoneCaseFault (reading (whole_text input)) fault
+  pub shows : FaultShows (option_map whole_text left) fault left'
 
 -- the texts of `solve`, by what the source had left before it and has left behind it
 abbrev pub SolveDue : SolveOptions → (left left' : Option (List ℕ)) → Due
@@ -156,7 +159,7 @@ SolveDue options left left' Done text = AnswerIsDue options left left' Done text
 SolveDue options left left' Words text = ⊥
 SolveDue options left left' Stopped text = AnswerIsDue options left left' Stopped text
 SolveDue options left left' Refused text = ⊥
-SolveDue options left left' Input text = RefusalIsDue left text
+SolveDue options left left' Input text = RefusalIsDue left left' text
 SolveDue options left left' Read text = ⊥
 SolveDue options left left' Write text = ⊥
 SolveDue options left left' Memory text = ⊥
@@ -203,11 +206,13 @@ pub record VerdictIsDue (left left' : Option (List ℕ)) (status : Status) (text
   pub proves : status ≡ Done → Proves snapshot stated.plan stated.cost stated.bound tree
   pub bound : status ≡ Done → IsBound snapshot stated.bound
 
--- The refusal line is due where the input is no such text, with what is wrong with it.
-pub record CheckRefusalIsDue (left : Option (List ℕ)) (text : List ℕ) : Type 0 where
+-- The refusal line is due where the input is no such text, with what is wrong with it, and where the end of the line that
+-- it names shows in the bytes that were taken.
+pub record CheckRefusalIsDue (left left' : Option (List ℕ)) (text : List ℕ) : Type 0 where
   pub fault : TextFault
   pub is_line : IsRefusalLine fault text
   pub read : (input : List ℕ) → left ≡ Some input → IsCheckFault (reading (whole_text input)) fault
+  pub shows : FaultShows (option_map whole_text left) fault left'
 
 -- the texts of `check`
 abbrev pub CheckDue : (left left' : Option (List ℕ)) → Due
@@ -215,7 +220,7 @@ CheckDue left left' Done text = VerdictIsDue left left' Done text
 CheckDue left left' Words text = ⊥
 CheckDue left left' Stopped text = ⊥
 CheckDue left left' Refused text = VerdictIsDue left left' Refused text
-CheckDue left left' Input text = CheckRefusalIsDue left text
+CheckDue left left' Input text = CheckRefusalIsDue left left' text
 CheckDue left left' Read text = ⊥
 CheckDue left left' Write text = ⊥
 CheckDue left left' Memory text = ⊥
@@ -338,10 +343,10 @@ pub record SolvedCaseIsAsked (words : List (List ℕ)) (left left' : Option (Lis
   pub solved : IsSolvedCase options status text
 
 -- the words are those of `solve`, and the input is refused
-pub record RefusalIsAsked (words : List (List ℕ)) (left : Option (List ℕ)) (text : List ℕ) : Type 0 where
+pub record RefusalIsAsked (words : List (List ℕ)) (left left' : Option (List ℕ)) (text : List ℕ) : Type 0 where
   pub options : SolveOptions
   pub taken : AreTaken words (Solve options)
-  pub refusal : RefusalIsDue left text
+  pub refusal : RefusalIsDue left left' text
 
 -- the words are those of `check`, and a verdict is due
 pub record VerdictIsAsked (words : List (List ℕ)) (left left' : Option (List ℕ)) (status : Status) (text : List ℕ) : Type 0 where
@@ -350,10 +355,10 @@ pub record VerdictIsAsked (words : List (List ℕ)) (left left' : Option (List �
   pub verdict : VerdictIsDue left left' status text
 
 -- the words are those of `check`, and the input is refused
-pub record CheckRefusalIsAsked (words : List (List ℕ)) (left : Option (List ℕ)) (text : List ℕ) : Type 0 where
+pub record CheckRefusalIsAsked (words : List (List ℕ)) (left left' : Option (List ℕ)) (text : List ℕ) : Type 0 where
   pub options : CheckOptions
   pub taken : AreTaken words (Check options)
-  pub refusal : CheckRefusalIsDue left text
+  pub refusal : CheckRefusalIsDue left left' text
 
 -- the texts of a run
 abbrev pub RunDue : List (List ℕ) → (left left' : Option (List ℕ)) → Due
@@ -362,7 +367,7 @@ RunDue words left left' Done text =
 RunDue words left left' Words text = UsageIsDue words left left' text
 RunDue words left left' Stopped text = AnswerIsAsked words left left' Stopped text ⊎ SolvedCaseIsAsked words left left' Stopped text
 RunDue words left left' Refused text = VerdictIsAsked words left left' Refused text
-RunDue words left left' Input text = RefusalIsAsked words left text ⊎ CheckRefusalIsAsked words left text
+RunDue words left left' Input text = RefusalIsAsked words left left' text ⊎ CheckRefusalIsAsked words left left' text
 RunDue words left left' Read text = ⊥
 RunDue words left left' Write text = ⊥
 RunDue words left left' Memory text = ⊥

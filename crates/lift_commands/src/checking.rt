@@ -3,6 +3,7 @@ ghost use Rattle.std.specs.Prelude.{◌≡◌, IfErr, IfOk, OnOk, IsErrOf, optio
 ghost use Rattle.std.specs.Io.KnownBytes.{IsAtEnd};
 ghost use Rattle.byte_streams.specs.Streams.{Rose};
 ghost use Rattle.lift_text.specs.Reading.{whole_text};
+ghost use Rattle.lift_text.specs.Shows.{FaultShows};
 ghost use Rattle.check_text.specs.CheckTexts.{IsChecked, IsRefusedCheck, TakesChecks};
 ghost use Rattle.check_text.specs.VerdictTexts.{IsToldOf, verdict_text};
 ghost use Rattle.lift_words.specs.Taken.{AreCheckOptions};
@@ -34,6 +35,8 @@ fn read_input<S: Source, G: Gate + Sync>(
     ensures takes { TakesChecks (option_map whole_text (S.left source.old)) result }
     ensures told { IfOk result (λ checked. IsToldOf checked.snapshot checked.verdict) }
     ensures ended { OnOk result (IsAtEnd (S.left source.new)) }
+    ensures shows { IfErr result (λ fault.
+        FaultShows (option_map whole_text (S.left source.old)) fault (S.left source.new)) }
     ensures read { IsErrOf result TextFault.Read
         → Rose (S.faults source.old) (S.faults source.new) }
 {

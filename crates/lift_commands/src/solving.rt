@@ -1,9 +1,11 @@
 //! The command `solve`.
 ghost use Rattle.std.specs.Prelude.{◌≡◌, ◌≤◌, ◌++◌, All, List, ℕ, Some, IfErr, IfOk, OnOk, IsErrOf, length};
+ghost use Rattle.std.specs.Prelude.{option_map};
 ghost use Rattle.std.specs.Io.KnownBytes.{IsAtEnd};
 ghost use Rattle.byte_streams.specs.Streams.{Rose};
 ghost use Rattle.elevator_model.specs.Snapshot.{IsAccepted};
 ghost use Rattle.lift_text.specs.Reading.{whole_text, reading};
+ghost use Rattle.lift_text.specs.Shows.{FaultShows};
 ghost use Rattle.case_text.specs.CaseTexts.{IsCaseText, IsLoneCaseFault, Tells};
 ghost use Rattle.search_model.specs.Certificates.{Proves};
 ghost use Rattle.search_model.specs.Solving.{floor_of_bound};
@@ -48,6 +50,8 @@ fn read_input<S: Source>(alloc: Global, source: &mut S) -> Result<Snapshot, Text
     ensures takes { AnswersCases (S.left source.old) result }
     ensures accepted { IfOk result IsAccepted }
     ensures ended { OnOk result (IsAtEnd (S.left source.new)) }
+    ensures shows { IfErr result (λ fault.
+        FaultShows (option_map whole_text (S.left source.old)) fault (S.left source.new)) }
     ensures read { IsErrOf result TextFault.Read
         → Rose (S.faults source.old) (S.faults source.new) }
 {

@@ -11,3 +11,4 @@ pub mod EndLemmas
 pub mod CrossLemmas
 pub mod PrefixLemmas
 pub mod TextLemmas
+pub mod ShowLemmas

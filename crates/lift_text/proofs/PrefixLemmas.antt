@@ -12,7 +12,7 @@ take-nil : (n : ℕ) → take {A = ℕ} n [] ≡ []
 take-nil zero = refl
 take-nil (suc n) = refl
 
-size_of-append : (xs ys : List (List ℕ)) → size_of (xs ++ ys) ≡ size_of xs + size_of ys
+pub size_of-append : (xs ys : List (List ℕ)) → size_of (xs ++ ys) ≡ size_of xs + size_of ys
 size_of-append [] ys = omega arith
 size_of-append (x ∷ xs) ys = omega (arith, size_of-append xs ys)
 
@@ -60,7 +60,7 @@ pieces_of-take (b ∷ bytes) zero n =
 pieces_of-take (b ∷ bytes) (suc m) n = one_more (eqb b 10) b m n (pieces_of (take m bytes)) (pieces_of bytes) (λ k. pieces_of-take bytes m k)
 
 -- the same line in the front of a text and in the front of what is left of it
-same_piece : (all unread rest taken : List ℕ) (before : List ℕ) (line k : ℕ) → all ≡ before ++ (taken ++ rest) → pieces_of (unread ++ (taken ++ rest)) ≡ drop line (pieces_of all)
+pub same_piece : (all unread rest taken : List ℕ) (before : List ℕ) (line k : ℕ) → all ≡ before ++ (taken ++ rest) → pieces_of (unread ++ (taken ++ rest)) ≡ drop line (pieces_of all)
     → get_or (pieces_of (before ++ taken)) (line + k) [] ≡ get_or (pieces_of (unread ++ taken)) k []
 same_piece all unread rest taken before line k whole passed =
     let bytes = unread ++ (taken ++ rest) in

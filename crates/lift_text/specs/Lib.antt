@@ -9,3 +9,4 @@ pub mod Page
 pub mod Judge
 pub mod Reader
 pub mod LineReader
+pub mod Shows

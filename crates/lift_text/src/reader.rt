@@ -8,6 +8,7 @@ ghost use Rattle.lift_text.specs.Lines.{pieces_of, HasWholeLine};
 ghost use Rattle.lift_text.specs.Numbers.{read_number};
 ghost use Rattle.lift_text.specs.Reading.{NextLine, NextRaw, BadLineShows, HasWholeAnswer, StoppedBehind};
 ghost use Rattle.lift_text.specs.Reading.{HaveLineFeeds, lines_counted, past_quota, whole_text};
+ghost use Rattle.lift_text.specs.Shows.{LineShows, RawShows};
 
 use crate::faults::{RawLine, TextFault};
 use crate::numbers::{NumberFault, number_in};
@@ -108,6 +109,10 @@ impl<'a, S: Source> LineReader<'a, S> {
         ensures line_feeds { OnOk result
             (HaveLineFeeds (text S.left self.old) (line self.new - line self.old) (has_ended self.new)) }
 
+        // The end of the line that was read shows in the bytes that were taken.
+        ensures shows { failure self.old ≡ None → LineShows (text S.left self.old) result (line self.new)
+            (S.left self.new.source.now) }
+
         ensures ok { OnOk result (failure self.new ≡ None) }
         ensures err { IfErr result (λ fault. failure self.new ≡ Some fault) }
         ensures read { failure self.old ≡ None → IsErrOf result TextFault.Read
@@ -185,6 +190,10 @@ impl<'a, S: Source> LineReader<'a, S> {
             → has_ended self.new ≡ false }
         ensures line_feed { OnOk result
             (HaveLineFeeds (text S.left self.old) 1 (has_ended self.new)) }
+
+        // The end of the line that was read shows in the bytes that were taken.
+        ensures shows { failure self.old ≡ None → RawShows (text S.left self.old) result (line self.new)
+            (S.left self.new.source.now) }
 
         ensures ok { OnOk result (failure self.new ≡ None) }
         ensures err { IfErr result (λ fault. failure self.new ≡ Some fault) }

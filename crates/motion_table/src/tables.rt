@@ -2,7 +2,8 @@
 ghost use Rattle.std.specs.Prelude.{◌≡◌, ◌≤◌, ◌<◌, None, Some, Ok, Err, length, IfErr, IfOk, IfSome, OnOk};
 ghost use Rattle.std.specs.Prelude.{IsErrOf};
 ghost use Rattle.byte_streams.specs.Streams.{Rose};
-ghost use Rattle.lift_text.specs.LineReader.{text, words, failure};
+ghost use Rattle.lift_text.specs.LineReader.{text, line, words, failure};
+ghost use Rattle.lift_text.specs.Shows.{AnswerShows};
 ghost use Rattle.motion_table.specs.Tables.{AreFloors, columns, rests_at, row_judged, IsReadTable};
 ghost use Rattle.motion_table.specs.Tables.{IsRefusedTable, RowRead};
 
@@ -135,7 +136,8 @@ fn rests_at(floor: usize, times: &[u64]) -> bool
 /// The first bad line decides, with one code: `NoLineWord` where its first word is not `times`, `Missing` and
 /// `TooMany`, `NoNumber` and `OutOfRange` where a word is no number from 0 to 20,000,000, and then `NoTime`
 /// where a time is not 0 from a floor to itself or is 0 between two floors. `CutShort` comes where the input
-/// ends first. Whether a way over a third floor is shorter is not judged here.
+/// ends first. The end of the last line, or of the bad one, shows in the bytes that were taken. Whether a way
+/// over a third floor is shorter is not judged here.
 pub fn read_times<S: Source>(
     alloc: Global,
     lines: &mut LineReader<S>,
@@ -148,6 +150,8 @@ pub fn read_times<S: Source>(
     ensures refused { failure lines.old ≡ None → IfErr result (λ fault.
         IsRefusedTable (text S.left lines.old) floors fault (text S.left lines.new)) }
     ensures again { IfSome (failure lines.old) (λ fault. result ≡ Err fault) }
+    ensures shows { failure lines.old ≡ None → AnswerShows (text S.left lines.old) result
+        (line lines.new) (S.left lines.new.source.now) }
     ensures ok { OnOk result (failure lines.new ≡ None) }
     ensures fault { IfSome (failure lines.new) (λ fault. result ≡ Err fault) }
     ensures read { failure lines.old ≡ None → IsErrOf result TextFault.Read

@@ -2,6 +2,7 @@
 ghost use Rattle.std.specs.Prelude.{◌≡◌, ◌≤◌, ◌+◌, None, IfErr, OnOk, IsErrOf};
 ghost use Rattle.byte_streams.specs.Streams.{Rose};
 ghost use Rattle.lift_text.specs.LineReader.{text, line, failure};
+ghost use Rattle.lift_text.specs.Shows.{FaultShows, WentOn};
 ghost use Rattle.lift_text.specs.declared.faults.TextFault.TheVariants.{Bad};
 ghost use Rattle.opening_text.specs.Headers.{IsHeaderRead, IsLineRead};
 
@@ -23,6 +24,9 @@ fn read_line<S: Source>(alloc: Global, lines: &mut LineReader<S>) -> Result<bool
     ensures line { IsLineRead (text S.left lines.old) result (text S.left lines.new) }
     ensures number { OnOk result (line lines.new ≡ line lines.old + 1) }
     ensures bound { OnOk result (line lines.new ≤ TEXT_LIMIT) }
+    ensures went { OnOk result (WentOn (text S.left lines.old) (text S.left lines.new)) }
+    ensures shows { IfErr result (λ fault.
+        FaultShows (text S.left lines.old) fault (S.left lines.new.source.now)) }
     ensures ok { OnOk result (failure lines.new ≡ None) }
     ensures read { IsErrOf result TextFault.Read
         → Rose (S.faults lines.old.source.now) (S.faults lines.new.source.now) }
@@ -50,11 +54,13 @@ fn read_line<S: Source>(alloc: Global, lines: &mut LineReader<S>) -> Result<bool
 /// The line is bad with `NoHeader` where it is not the four names, as `row_text::is_header` has it, or is
 /// over 4,096 bytes. `CutShort` comes where the input ends before it, at the line after the last. `TooLong`
 /// comes where it does not end within the bytes that may be read, and `Read` only where a read of the source
-/// failed.
+/// failed. The end of a line that is bad shows in the bytes that were taken.
 pub fn read_header<S: Source>(alloc: Global, lines: &mut LineReader<S>) -> Result<(), TextFault>
     requires { failure lines.old ≡ None }
     ensures same_source { lines.new.source.ghost_name ≡ lines.old.source.ghost_name }
     ensures header { IsHeaderRead (text S.left lines.old) result (text S.left lines.new) }
+    ensures shows { IfErr result (λ fault.
+        FaultShows (text S.left lines.old) fault (S.left lines.new.source.now)) }
     ensures ok { OnOk result (failure lines.new ≡ None) }
     ensures read { IsErrOf result TextFault.Read
         → Rose (S.faults lines.old.source.now) (S.faults lines.new.source.now) }

@@ -2,6 +2,7 @@
 ghost use Rattle.std.specs.Prelude.{◌≡◌, ◌≤◌, None, IfErr, IfOk, OnOk, IsErrOf};
 ghost use Rattle.byte_streams.specs.Streams.{Rose};
 ghost use Rattle.lift_text.specs.LineReader.{text, failure};
+ghost use Rattle.lift_text.specs.Shows.{FaultShows};
 ghost use Rattle.elevator_model.specs.Snapshot.{IsAccepted};
 ghost use Rattle.opening_text.specs.DayOpenings.{IsDayOpeningRead, IsDayOpeningRefused, TakesDayOpenings};
 ghost use Rattle.opening_text.specs.DayOpenings.{IsEmptySnapshot};
@@ -17,7 +18,8 @@ use std::alloc::Global;
 /// no open call, and the header of the rows. The rows after the header stay unread, and are the next lines.
 ///
 /// The first bad line decides, with its number and one code: those of `read_building` and of `read_opening`,
-/// and then those of `read_header`. `Read` comes only where a read of the source failed.
+/// and then those of `read_header`. That line's end shows in the bytes that were taken. `Read` comes only where
+/// a read of the source failed.
 pub fn read_day_opening<S: Source>(
     alloc: Global,
     lines: &mut LineReader<S>,
@@ -30,6 +32,8 @@ pub fn read_day_opening<S: Source>(
     ensures takes { TakesDayOpenings (text S.left lines.old) result (text S.left lines.new) }
     ensures accepted { IfOk result IsAccepted }
     ensures empty { IfOk result IsEmptySnapshot }
+    ensures shows { IfErr result (λ fault.
+        FaultShows (text S.left lines.old) fault (S.left lines.new.source.now)) }
     ensures ok { OnOk result (failure lines.new ≡ None) }
     ensures read { IsErrOf result TextFault.Read
         → Rose (S.faults lines.old.source.now) (S.faults lines.new.source.now) }

@@ -2,7 +2,8 @@
 ghost use Rattle.std.specs.Prelude.{◌≡◌, ◌≤◌, false, true, None, Some, Ok, Err, IfErr, IfOk, IfSome, OnOk};
 ghost use Rattle.std.specs.Prelude.{IsErrOf};
 ghost use Rattle.byte_streams.specs.Streams.{Rose};
-ghost use Rattle.lift_text.specs.LineReader.{text, failure};
+ghost use Rattle.lift_text.specs.LineReader.{text, line, failure};
+ghost use Rattle.lift_text.specs.Shows.{AnswerShows};
 ghost use Rattle.elevator_model.specs.Snapshot.{IsAccepted};
 ghost use Rattle.text_sections.specs.Between.{StandsBehind};
 ghost use Rattle.snapshot_text.specs.Drafts.{snapshot_read};
@@ -46,6 +47,8 @@ fn read<S: Source>(
     ensures again { IfSome (failure lines.old) (FailsAs result) }
     ensures behind { failure lines.old ≡ None
         → OnOk result (StandsBehind (text S.left lines.old) (text S.left lines.new)) }
+    ensures shows { failure lines.old ≡ None → AnswerShows (text S.left lines.old) result
+        (line lines.new) (S.left lines.new.source.now) }
     ensures ok { OnOk result (failure lines.new ≡ None) }
     ensures fault { IfSome (failure lines.new) (FailsAs result) }
     ensures read { failure lines.old ≡ None → IsErrOf result TextFault.Read
@@ -78,7 +81,8 @@ fn read<S: Source>(
 /// The first bad line decides, with one code, of which the first of these comes: `NoLineWord` for an unknown
 /// first, third or fifth word, `OutOfOrder`, `Missing`, `TooMany`, `NoNumber` and `OutOfRange`, `UnknownId`,
 /// `NoState` where a car has no line, and then `Item` for what is wrong with the car, the group or the call.
-/// `CutShort` comes where the input ends first. `Read` comes only where a read of the source failed.
+/// `CutShort` comes where the input ends first. The end of the last line, or of the bad one, shows in the bytes
+/// that were taken. `Read` comes only where a read of the source failed.
 pub fn read_snapshot<S: Source>(
     alloc: Global,
     lines: &mut LineReader<S>,
@@ -99,6 +103,8 @@ pub fn read_snapshot<S: Source>(
     ensures again { IfSome (failure lines.old) (FailsAs result) }
     ensures behind { failure lines.old ≡ None
         → OnOk result (StandsBehind (text S.left lines.old) (text S.left lines.new)) }
+    ensures shows { failure lines.old ≡ None → AnswerShows (text S.left lines.old) result
+        (line lines.new) (S.left lines.new.source.now) }
     ensures ok { OnOk result (failure lines.new ≡ None) }
     ensures fault { IfSome (failure lines.new) (FailsAs result) }
     ensures read { failure lines.old ≡ None → IsErrOf result TextFault.Read
@@ -128,6 +134,8 @@ pub fn read_opening<S: Source>(
     ensures again { IfSome (failure lines.old) (FailsAs result) }
     ensures behind { failure lines.old ≡ None
         → OnOk result (StandsBehind (text S.left lines.old) (text S.left lines.new)) }
+    ensures shows { failure lines.old ≡ None → AnswerShows (text S.left lines.old) result
+        (line lines.new) (S.left lines.new.source.now) }
     ensures ok { OnOk result (failure lines.new ≡ None) }
     ensures fault { IfSome (failure lines.new) (FailsAs result) }
     ensures read { failure lines.old ≡ None → IsErrOf result TextFault.Read

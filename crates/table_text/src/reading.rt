@@ -2,7 +2,8 @@
 ghost use Rattle.std.specs.Prelude.{◌≡◌, ◌≤◌, None, IfErr, IfOk, OnOk, IsErrOf};
 ghost use Rattle.std.specs.Io.KnownBytes.{IsAtEnd};
 ghost use Rattle.byte_streams.specs.Streams.{Rose};
-ghost use Rattle.lift_text.specs.LineReader.{text, failure};
+ghost use Rattle.lift_text.specs.LineReader.{text, line, failure};
+ghost use Rattle.lift_text.specs.Shows.{AnswerShows, FaultShows, WentOn};
 ghost use Rattle.motion_table.specs.Triples.{IsTable};
 ghost use Rattle.table_text.specs.TableTexts.{IsReadTable, IsRefusedTable, TakesTables, IsReadAlone};
 ghost use Rattle.table_text.specs.TableTexts.{IsRefusedAlone, TakesLoneTables};
@@ -22,6 +23,9 @@ fn read_table<S: Source>(alloc: Global, lines: &mut LineReader<S>) -> Result<Tab
         IsReadTable (text S.left lines.old) table (text S.left lines.new)) }
     ensures refused { IfErr result (IsRefusedTable (text S.left lines.old)) }
     ensures takes { TakesTables (text S.left lines.old) result (text S.left lines.new) }
+    ensures went { OnOk result (WentOn (text S.left lines.old) (text S.left lines.new)) }
+    ensures shows { AnswerShows (text S.left lines.old) result (line lines.new)
+        (S.left lines.new.source.now) }
     ensures ok { OnOk result (failure lines.new ≡ None) }
     ensures read { IsErrOf result TextFault.Read
         → Rose (S.faults lines.old.source.now) (S.faults lines.new.source.now) }
@@ -42,8 +46,8 @@ fn read_table<S: Source>(alloc: Global, lines: &mut LineReader<S>) -> Result<Tab
 /// `OutOfOrder` for a line word that is not due, and for a line after `end`; `Missing` and `TooMany`;
 /// `NoNumber` and `OutOfRange` where a word is no number from 0 to 20,000,000, or the version is not 1; and
 /// then `NoTime` where a time is not 0 from a floor to itself or is 0 between two floors. `CutShort` comes
-/// where the input ends before `end`. Whether a way over a third floor is shorter is not judged here. `Read`
-/// comes only where a read of the source failed.
+/// where the input ends before `end`. Whether a way over a third floor is shorter is not judged here. The end
+/// of the bad line shows in the bytes that were taken. `Read` comes only where a read of the source failed.
 pub fn read_lone_table<S: Source>(
     alloc: Global,
     lines: &mut LineReader<S>,
@@ -55,6 +59,8 @@ pub fn read_lone_table<S: Source>(
     ensures takes { TakesLoneTables (text S.left lines.old) result }
     ensures accepted { IfOk result IsTable }
     ensures ended { OnOk result (IsAtEnd (S.left lines.new.source.now)) }
+    ensures shows { IfErr result (λ fault.
+        FaultShows (text S.left lines.old) fault (S.left lines.new.source.now)) }
     ensures read { IsErrOf result TextFault.Read
         → Rose (S.faults lines.old.source.now) (S.faults lines.new.source.now) }
     ensures counted { S.faults lines.old.source.now ≤ S.faults lines.new.source.now }

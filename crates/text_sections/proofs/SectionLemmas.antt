@@ -1,41 +1,15 @@
 -- Reading a section line by line.
-use Rattle.std.proofs.Common.{◌≡◌, ℕ, ◌+◌, ◌-◌, ◌<◌, ◌≤◌, Bool, true, false, cond, List, [], ◌∷◌, length, Option, None, Some, Ok, Err, ap, refl, arith, ◌∙◌}
-use Rattle.std.specs.Prelude.{nat_lt, IsSomeAnd, IfSome}
-use Rattle.lift_text.specs.Lines.{line_of, words_of, is_clean}
-use Rattle.lift_text.specs.Reading.{TextState, Reading, reading, reading_of, judged, cut_short, line_limit, line_with, bad_line, past_limit, NextLine}
+use Rattle.std.proofs.Common.{◌≡◌, ℕ, ◌+◌, ◌≤◌, Bool, true, false, Option, None, Some, Ok, Err, ap, refl, arith, ◌∙◌}
+use Rattle.std.specs.Prelude.{IsSomeAnd, IfSome}
+use Rattle.lift_text.specs.Reading.{TextState, reading, NextLine}
 use Rattle.lift_text.specs.declared.codes.TextCode.{TextCode}
-use Rattle.lift_text.specs.declared.codes.TextCode.TheVariants.{ForbiddenByte, OverLong, CutShort}
+use Rattle.lift_text.specs.declared.codes.TextCode.TheVariants.{CutShort}
 use Rattle.lift_text.specs.declared.faults.TextFault.{TextFault}
 use Rattle.lift_text.specs.declared.faults.TextFault.TheVariants.{Read, TooLong, Bad, NoMemory}
+use Rattle.lift_text.proofs.ShowLemmas.{line_rises}
 use Rattle.text_sections.specs.declared.faults.LineFault.TheVariants.{Bad as BadLine}
 use Rattle.text_sections.specs.declared.sections.AfterLine.TheVariants.{More, Whole}
 use Rattle.text_sections.specs.Sections.{Line, Step, continued, outcome, Did, ReadAs}
-
--- ---- line numbers rise
-
-judged_rises : (n m : ℕ) (over clean some : Bool) (found words : Line) (behind rest : Reading)
-    → cond over (bad_line n OverLong) (cond clean (cond some (line_with n found behind) behind) (bad_line n ForbiddenByte)) ≡ line_with m words rest
-    → (behind ≡ line_with m words rest → n ≤ m) → n ≤ m
-judged_rises n m true clean some found words behind rest is later = absurd cc
-judged_rises n m false false some found words behind rest is later = absurd cc
-judged_rises n m false true true found words behind rest is later = let same : n ≡ m = cc in omega arith
-judged_rises n m false true false found words behind rest is later = later is
-
-cut_rises : (n m : ℕ) (over : Bool) (words : Line) (rest : Reading) → cond over (bad_line n OverLong) past_limit ≡ line_with m words rest → n ≤ m
-cut_rises n m true words rest is = absurd cc
-cut_rises n m false words rest is = absurd cc
-
--- a line that is read has a greater number than the lines before it
-pub line_rises : (pieces : List (List ℕ)) (n limit m : ℕ) (words : Line) (rest : Reading) → reading_of n limit pieces ≡ line_with m words rest → n < m
-line_rises [] n limit m words rest is = absurd cc
-line_rises (piece ∷ pieces) n limit m words rest is = by_case (λ e. line_rises pieces (n + 1) (limit - length piece) m words rest e) (nat_lt limit (length piece)) is
-  where
-    by_case : (reading_of (n + 1) (limit - length piece) pieces ≡ line_with m words rest → n + 1 < m) → (past : Bool) → cond past (cut_short (n + 1) limit) (judged (n + 1) (line_of piece) (reading_of (n + 1) (limit - length piece) pieces)) ≡ line_with m words rest → n < m
-    by_case later true same = let up = cut_rises (n + 1) m (nat_lt (line_limit + 1) limit) words rest same in omega arith
-    by_case later false same =
-        let up = judged_rises (n + 1) m (nat_lt line_limit (length (line_of piece))) (is_clean (line_of piece)) (nat_lt 0 (length (words_of (line_of piece)))) (words_of (line_of piece)) words
-        (reading_of (n + 1) (limit - length piece) pieces) rest same (λ e. (let l : n + 1 < m = later e in omega arith)) in
-        omega arith
 
 -- ---- from line to line
 

@@ -5,7 +5,8 @@
 //! - `read_section` does what the definition of a section (`Section::after`) says of the lines that are read:
 //!   a line goes on, makes the section whole, or is bad with a code. It gives the state after the last line
 //!   with what follows unread, right after that line, byte for byte (`StandsBehind`), or the first bad line
-//!   with its one code (9 where the input ends first). The written lines of a section are read as it,
+//!   with its one code (9 where the input ends first). The end of the last line, or of the bad one, shows in
+//!   the bytes that were taken (`AnswerShows`). The written lines of a section are read as it,
 //!   whatever follows: this is a clause of the call, so "the text of a value is read as that value" needs
 //!   only that the lines of the value make it.
 //!

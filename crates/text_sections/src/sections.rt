@@ -1,7 +1,8 @@
 //! Reading a section line by line.
 ghost use Rattle.std.specs.Prelude.{◌≡◌, ◌<◌, ◌≤◌, None, Some, length, IfSome, OnOk, IsErrOf};
 ghost use Rattle.byte_streams.specs.Streams.{Rose};
-ghost use Rattle.lift_text.specs.LineReader.{text, words, failure};
+ghost use Rattle.lift_text.specs.LineReader.{text, line, words, failure};
+ghost use Rattle.lift_text.specs.Shows.{AnswerShows};
 ghost use Rattle.text_sections.specs.Sections.{Line, Step, Did, ReadAs, IsCutAtEnd};
 ghost use Rattle.text_sections.specs.Canonical.{IsMade, ReadsWritten};
 ghost use Rattle.text_sections.specs.Between.{StandsBehind};
@@ -34,8 +35,9 @@ pub trait Section {
 ///
 /// If a text begins with the written lines of a section, that section is read, whatever follows.
 /// The first bad line decides, with its number and one code. `CutShort` comes where the input ends
-/// before the section is whole, at the line after the last. `Read` comes only where a read of the source
-/// failed. After an `Err` nothing is known of the section.
+/// before the section is whole, at the line after the last. The end of the last line, or of the bad one, shows
+/// in the bytes that were taken. `Read` comes only where a read of the source failed. After an `Err` nothing is
+/// known of the section.
 pub fn read_section<S: Source, T: Section>(
     lines: &mut LineReader<S>,
     section: &mut T,
@@ -50,6 +52,8 @@ pub fn read_section<S: Source, T: Section>(
     ensures made { OnOk result (IsMade T.after section.old section.new) }
     ensures behind { failure lines.old ≡ None
         → OnOk result (StandsBehind (text S.left lines.old) (text S.left lines.new)) }
+    ensures shows { failure lines.old ≡ None → AnswerShows (text S.left lines.old) result
+        (line lines.new) (S.left lines.new.source.now) }
     ensures ok { OnOk result (failure lines.new ≡ None) }
     ensures fault { IfSome (failure lines.new) (λ fault. result ≡ Err fault) }
     ensures cut { failure lines.old ≡ None
@@ -73,6 +77,8 @@ fn read_lines<S: Source, T: Section>(
     ensures made { OnOk result (IsMade T.after section.old section.new) }
     ensures behind { failure lines.old ≡ None
         → OnOk result (StandsBehind (text S.left lines.old) (text S.left lines.new)) }
+    ensures shows { failure lines.old ≡ None → AnswerShows (text S.left lines.old) result
+        (line lines.new) (S.left lines.new.source.now) }
     ensures ok { OnOk result (failure lines.new ≡ None) }
     ensures fault { IfSome (failure lines.new) (λ fault. result ≡ Err fault) }
     ensures cut { failure lines.old ≡ None

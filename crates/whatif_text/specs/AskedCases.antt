@@ -2,6 +2,7 @@
 use Rattle.std.specs.Prelude.{◌≡◌, ℕ, ◌-◌, ◌≤◌, ◌⊎◌, List, [], ◌∷◌, ◌++◌, Option, None, Some, IfSome, IsSomeAnd, Result, Ok, Err, false}
 use Rattle.elevator_model.specs.Snapshot.{Snapshot, call_count, call_of}
 use Rattle.lift_text.specs.Reading.{TextState, Reading, reading, whole_text, line_with}
+use Rattle.lift_text.specs.Shows.{ShowsEnd, FaultShows}
 use Rattle.lift_text.specs.declared.faults.TextFault.{TextFault}
 use Rattle.text_sections.specs.Sections.{Line}
 use Rattle.text_sections.specs.Canonical.{BeginsWith}
@@ -82,3 +83,8 @@ IsAnsweredAsked s (Err (NothingAsked line)) = ⊥
 -- where the text is a case of which a call is asked about, that one is read
 abbrev pub TakesAskedCases : Option TextState → Result Snapshot AskFault → Type 0
 TakesAskedCases before answer = (s : Snapshot) → IfSome before (λ text. IsAskedCaseAlone (reading text) s → IsAnsweredAsked s answer)
+
+-- the end of the line that is named shows, by what is wrong
+abbrev pub AskFaultShows : Option TextState → AskFault → Option (List ℕ) → Type 0
+AskFaultShows before (Text fault) left = FaultShows before fault left
+AskFaultShows before (NothingAsked line) left = ShowsEnd before line left

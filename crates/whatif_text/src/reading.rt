@@ -3,10 +3,11 @@ ghost use Rattle.std.specs.Prelude.{◌≡◌, ◌≤◌, ◌↔◌, None, IfErr
 ghost use Rattle.std.specs.Io.KnownBytes.{IsAtEnd};
 ghost use Rattle.byte_streams.specs.Streams.{Rose};
 ghost use Rattle.lift_text.specs.LineReader.{text, line, failure};
+ghost use Rattle.lift_text.specs.Shows.{AnswerShows, WentOn};
 ghost use Rattle.elevator_model.specs.Snapshot.{IsAccepted};
 ghost use Rattle.case_text.specs.CaseTexts.{IsRefusedCase, TakesCases};
 ghost use Rattle.whatif_text.specs.AskedCases.{HasAskedCall, IsReadUpToEnd, IsReadAsked, IsRefusedAsked};
-ghost use Rattle.whatif_text.specs.AskedCases.{TakesAskedCases};
+ghost use Rattle.whatif_text.specs.AskedCases.{AskFaultShows, TakesAskedCases};
 
 use crate::faults::AskFault;
 use building_text::read_building;
@@ -38,6 +39,9 @@ fn read_up_to_end<S: Source>(
     ensures refused { IfErr result (IsRefusedCase (text S.left lines.old)) }
     ensures takes { TakesCases (text S.left lines.old) result (text S.left lines.new) }
     ensures accepted { IfOk result IsAccepted }
+    ensures went { OnOk result (WentOn (text S.left lines.old) (text S.left lines.new)) }
+    ensures shows { AnswerShows (text S.left lines.old) result (line lines.new)
+        (S.left lines.new.source.now) }
     ensures ok { OnOk result (failure lines.new ≡ None) }
     ensures read { IsErrOf result TextFault.Read
         → Rose (S.faults lines.old.source.now) (S.faults lines.new.source.now) }
@@ -54,7 +58,8 @@ fn read_up_to_end<S: Source>(
 ///
 /// The first fault decides: a bad line of the building or of the snapshot, with its number and one code; then
 /// that the snapshot has no such call, which is `NothingAsked` with the line of its `end`, whatever follows;
-/// and then a line after `end`, which is `OutOfOrder`. `Read` comes only where a read of the source failed.
+/// and then a line after `end`, which is `OutOfOrder`. The end of the line that is named shows in the bytes that
+/// were taken. `Read` comes only where a read of the source failed.
 pub fn read_asked_case<S: Source>(
     alloc: Global,
     lines: &mut LineReader<S>,
@@ -67,6 +72,8 @@ pub fn read_asked_case<S: Source>(
     ensures accepted { IfOk result IsAccepted }
     ensures asked { IfOk result HasAskedCall }
     ensures ended { OnOk result (IsAtEnd (S.left lines.new.source.now)) }
+    ensures shows { IfErr result (λ fault.
+        AskFaultShows (text S.left lines.old) fault (S.left lines.new.source.now)) }
     ensures read { IsErrOf result (AskFault.Text TextFault.Read)
         → Rose (S.faults lines.old.source.now) (S.faults lines.new.source.now) }
     ensures counted { S.faults lines.old.source.now ≤ S.faults lines.new.source.now }

@@ -4,6 +4,7 @@ use Rattle.lift_text.specs.LineReader.{text, failure}
 use Rattle.lift_text.specs.Reading.{reading}
 use Rattle.text_sections.specs.Sections.{ReadAs}
 use Rattle.text_sections.specs.Canonical.{IsMade, BeginsWith}
+use Rattle.text_sections.proofs.BetweenLemmas.{behind_went}
 use Rattle.search_model.specs.declared.Stated.{Stated}
 use Rattle.answer_text.specs.Drafts.{Draft, after, stated_read}
 use Rattle.answer_text.specs.Answers.{IsSaid, IsWithin}
@@ -57,3 +58,8 @@ returns-in-Err-clause-lines g c = λ none lines stated rest says.
     let end = c.read_section.new.section in
     let read = subst (λ (start : Draft). ReadAs after before start (Err c.in-Err.fault) end now) c.new-draft.ensures (c.in-Err.ensures.outcome none) in
     answer_err c.args.snapshot.now lines stated rest says before now c.in-Err.fault end read)
+
+pub returns-in-Ok-clause-went : goal.returns-in-Ok-clause-went
+returns-in-Ok-clause-went g c = λ none.
+    (let left = g.S.Source.left in
+    behind_went (text left c.args.lines.now) (text left c.read_section.new.lines) (c.in-Ok.ensures.behind none))

@@ -1,8 +1,9 @@
 use Rattle.std.proofs.Common.{subst, Ok}
-use Rattle.lift_text.specs.LineReader.{text, failure}
+use Rattle.lift_text.specs.LineReader.{text, line, failure}
 use Rattle.text_sections.specs.Sections.{ReadAs}
 use Rattle.text_sections.specs.Canonical.{IsMade}
 use Rattle.building_text.specs.Drafts.{Draft, after}
+use Rattle.lift_text.proofs.ShowLemmas.{memory_shows}
 use Rattle.building_text.proofs.LawLemmas.{made_whole, read_answer, refused_answer, again_answer}
 use Rattle.building_text.proofs.reading.read_lines.Goals as goal
 
@@ -24,3 +25,9 @@ returns-in-Ok-clause-refused g c = λ none.
 
 pub returns-in-Ok-clause-again : goal.returns-in-Ok-clause-again
 returns-in-Ok-clause-again g c = again_answer (failure c.args.lines.now) c.finish.result c.in-Ok.ensures.again
+
+pub returns-in-Ok-clause-shows : goal.returns-in-Ok-clause-shows
+returns-in-Ok-clause-shows g c = λ none.
+    (let left = g.S.Source.left in
+    let now = c.read_section.new.lines in
+    memory_shows (text left c.args.lines.now) c.finish.result (line now) (left now.source.now) (c.in-Ok.ensures.shows none) c.finish.ensures.failed)

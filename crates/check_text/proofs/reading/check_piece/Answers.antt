@@ -37,3 +37,13 @@ returns-clause-feeds g c =
     let left = g.S.Source.left in
     let sees = subst (λ (ts : List Twig). SeesMore c.args.snapshot.now c.args.checker.now ts c.feed.new.self) c.as_slice.ensures c.in_ok-feed.ensures.seen in
     fed_piece c.args.snapshot.now c.args.reader.now c.read_piece.new.reader c.read_piece.new.piece (text left c.args.lines.now) (text left c.read_piece.new.lines) c.in_ok-is_whole.is_whole c.args.checker.now c.feed.new.self c.in_ok-is_whole.ensures.reads c.in_ok-is_whole.ensures.few sees
+
+pub returns-in_err-is_whole-clause-shows : goal.returns-in_err-is_whole-clause-shows
+returns-in_err-is_whole-clause-shows g c =
+    let same = err_from_is_err_and c.from_residual.result c.from_residual.ensures.1 in
+    rw (same.1, same.2) c.in_err-is_whole.ensures.shows
+
+pub returns-in_err-feed-clause-shows : goal.returns-in_err-feed-clause-shows
+returns-in_err-feed-clause-shows g c =
+    let same = err_from_is_err_and c.from_residual-in_err-feed.result c.from_residual-in_err-feed.ensures.1 in
+    rw (same.1, same.2) tt

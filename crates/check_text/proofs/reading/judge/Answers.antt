@@ -1,5 +1,6 @@
 use Rattle.std.proofs.Common.{refl}
 use Rattle.lift_text.specs.LineReader.{text}
+use Rattle.lift_text.proofs.ShowLemmas.{fault_behind}
 use Rattle.check_text.proofs.LayerLemmas.{answer_refused, answer_taken, behind_answer, behind_taken, certified_alone, certified_taken}
 use Rattle.check_text.proofs.reading.judge.Goals as goal
 
@@ -44,3 +45,8 @@ pub returns-clause-takes : goal.returns-clause-takes
 returns-clause-takes g c =
     let left = g.S.Source.left in
     behind_taken c.args.snapshot.now c.in-Ok.stated (text left c.args.lines.now) (text left c.read_answer.new.lines) c.in-Err-judge_tree.fault (c.in-Ok.ensures.lines c.requires.whole) c.in-Err-judge_tree.ensures.takes
+
+pub returns-clause-shows : goal.returns-clause-shows
+returns-clause-shows g c =
+    let left = g.S.Source.left in
+    fault_behind (text left c.args.lines.now) (text left c.read_answer.new.lines) c.in-Err-judge_tree.fault (left c.judge_tree.new.lines.source.now) (c.in-Ok.ensures.went c.requires.whole) c.in-Err-judge_tree.ensures.shows

@@ -1,4 +1,5 @@
 use Rattle.lift_text.specs.LineReader.{text}
+use Rattle.lift_text.proofs.ShowLemmas.{fault_behind}
 use Rattle.check_text.proofs.LayerLemmas.{tree_alone, tree_refused, tree_late, tree_taken, tree_not_refused, tree_not_late}
 use Rattle.check_text.proofs.reading.judge_tree.Goals as goal
 
@@ -47,3 +48,8 @@ pub returns-in-Err-check_tree-clause-takes : goal.returns-in-Err-check_tree-clau
 returns-in-Err-check_tree-clause-takes g c =
     let left = g.S.Source.left in
     tree_not_refused c.args.snapshot.now c.args.stated.now (text left c.args.lines.now) c.in-Err-check_tree.fault (c.in-Err-check_tree.ensures.feeds c.args.stated.now c.in-Ok.ensures.seen)
+
+pub returns-in-Err-read_end-clause-shows : goal.returns-in-Err-read_end-clause-shows
+returns-in-Err-read_end-clause-shows g c =
+    let left = g.S.Source.left in
+    fault_behind (text left c.args.lines.now) (text left c.check_tree.new.lines) c.in-Err-read_end.fault (left c.read_end.new.lines.source.now) c.in-Ok-check_tree.ensures.went c.in-Err-read_end.ensures.shows

@@ -1,5 +1,6 @@
 use Rattle.std.proofs.Common.{sym, subst}
 use Rattle.lift_text.specs.LineReader.{text}
+use Rattle.lift_text.proofs.ShowLemmas.{fault_behind}
 use Rattle.check_text.specs.VerdictTexts.{IsToldOf}
 use Rattle.check_text.proofs.LayerLemmas.{behind_case, behind_case_taken, case_refused, case_taken, check_taken, checked_by}
 use Rattle.check_text.proofs.ToldLemmas.{verdict_told}
@@ -40,3 +41,8 @@ pub returns-in-Err-judge-clause-takes : goal.returns-in-Err-judge-clause-takes
 returns-in-Err-judge-clause-takes g c =
     let left = g.S.Source.left in
     behind_case_taken c.in-Ok.snapshot (text left c.args.lines.now) (text left c.read_case.new.lines) c.in-Err-judge.fault c.in-Ok.ensures.takes c.in-Err-judge.ensures.takes
+
+pub returns-in-Err-judge-clause-shows : goal.returns-in-Err-judge-clause-shows
+returns-in-Err-judge-clause-shows g c =
+    let left = g.S.Source.left in
+    fault_behind (text left c.args.lines.now) (text left c.read_case.new.lines) c.in-Err-judge.fault (left c.judge.new.lines.source.now) c.in-Ok.ensures.went c.in-Err-judge.ensures.shows

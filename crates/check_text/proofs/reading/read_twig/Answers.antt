@@ -35,3 +35,23 @@ returns-in-None-clause-reads g c =
     let left = g.S.Source.left in
     let told = rw c.in-None.is at c.in_ok-twig.ensures in
     piece_end c.args.snapshot.now c.args.reader.now c.next.new.self c.args.piece.now (text left c.args.lines.now) (text left c.next.new.lines) (told.twig c.requires.whole)
+
+pub returns-in_err-twig-clause-shows : goal.returns-in_err-twig-clause-shows
+returns-in_err-twig-clause-shows g c =
+    let same = err_from_is_err_and c.from_residual.result c.from_residual.ensures.1 in
+    rw (same.1, same.2) (c.in_err-twig.ensures.shows c.requires.whole c.requires.sound)
+
+pub returns-in_err-push-in-Some-clause-shows : goal.returns-in_err-push-in-Some-clause-shows
+returns-in_err-push-in-Some-clause-shows g c =
+    let same = err_from_is_err_and c.from_residual-in_err-push-in-Some.result c.from_residual-in_err-push-in-Some.ensures.1 in
+    rw (same.1, same.2) tt
+
+pub returns-in_ok-push-in-Some-clause-went : goal.returns-in_ok-push-in-Some-clause-went
+returns-in_ok-push-in-Some-clause-went g c =
+    let told = rw c.in-Some.is at c.in_ok-twig.ensures in
+    told.went c.requires.whole
+
+pub returns-in-None-clause-went : goal.returns-in-None-clause-went
+returns-in-None-clause-went g c =
+    let told = rw c.in-None.is at c.in_ok-twig.ensures in
+    told.went c.requires.whole

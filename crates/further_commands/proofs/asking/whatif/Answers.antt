@@ -38,7 +38,7 @@ returns-clause-ends g c =
     let left = g.S.Source.left in
     let old = streams (left c.args.source.now) (g.K.Sink.taken c.args.sink.now) (g.S.Source.faults c.args.source.now) (g.K.Sink.faults c.args.sink.now) in
     let new = streams (left c.read_input.new.source) (g.K.Sink.taken c.put_ask_fault.new.sink) (g.S.Source.faults c.read_input.new.source) (g.K.Sink.faults c.put_ask_fault.new.sink) in
-    ends_refused c.args.limits.rounds c.args.limits.most_tours (left c.args.source.now) (left c.read_input.new.source) c.in-Err.fault old new c.put_ask_fault.result c.in-Err.ensures.refused (λ e. c.in-Err.ensures.read (ap Err e)) c.put_ask_fault.ensures
+    ends_refused c.args.limits.rounds c.args.limits.most_tours (left c.args.source.now) (left c.read_input.new.source) c.in-Err.fault old new c.put_ask_fault.result c.in-Err.ensures.refused c.in-Err.ensures.shows (λ e. c.in-Err.ensures.read (ap Err e)) c.put_ask_fault.ensures
 
 pub returns-clause-answers : goal.returns-clause-answers
 returns-clause-answers g c = λ input s given is reads writes.

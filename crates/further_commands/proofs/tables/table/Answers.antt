@@ -34,7 +34,7 @@ returns-clause-ends g c =
     let old = streams (left c.args.source.now) (g.K.Sink.taken c.args.sink.now) (g.S.Source.faults c.args.source.now) (g.K.Sink.faults c.args.sink.now) in
     let new = streams (left c.read_input.new.source) (g.K.Sink.taken c.put_fault.new.sink) (g.S.Source.faults c.read_input.new.source) (g.K.Sink.faults c.put_fault.new.sink) in
     ends_fault (TableDue (left c.args.source.now) (left c.read_input.new.source)) c.in-Err.fault old new c.put_fault.result
-    (λ text is_line. refusal_due (left c.args.source.now) c.in-Err.fault text is_line c.in-Err.ensures.refused) (λ e. c.in-Err.ensures.read (ap Err e)) c.put_fault.ensures
+    (λ text is_line. refusal_due (left c.args.source.now) (left c.read_input.new.source) c.in-Err.fault text is_line c.in-Err.ensures.refused c.in-Err.ensures.shows) (λ e. c.in-Err.ensures.read (ap Err e)) c.put_fault.ensures
 
 pub returns-clause-tables : goal.returns-clause-tables
 returns-clause-tables g c = λ input t given is reads writes.

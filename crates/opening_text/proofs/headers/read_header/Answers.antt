@@ -1,5 +1,7 @@
-use Rattle.std.proofs.Common.{rules, ◌≡◌, sym, subst, arith, Err}
+use Rattle.std.proofs.Common.{rules, ◌≡◌, sym, subst, arith, Err, IfErr}
 use Rattle.lift_text.specs.LineReader.{text}
+use Rattle.lift_text.specs.Shows.{FaultShows}
+use Rattle.lift_text.proofs.ShowLemmas.{went_further, fault_behind}
 use Rattle.opening_text.specs.Headers.{IsHeaderRead}
 use Rattle.opening_text.proofs.HeaderLemmas.{leads_more, leads_found, leads_fault}
 use Rattle.opening_text.proofs.headers.read_header.Goals as goal
@@ -12,6 +14,7 @@ lines-preserved g c =
     record {
       same_source = search rules;
       no_failure = read.ok;
+      went = went_further (text left c.args.lines.now) (text left c.lines.lines) (text left c.read_line.new.lines) before.went read.went;
       leads = leads_more (text left c.args.lines.now) (text left c.lines.lines) (text left c.read_line.new.lines) before.leads read.line;
       numbered = let n = read.number in let m = before.numbered in omega (arith, n, m);
       bound = read.bound;
@@ -33,6 +36,22 @@ returns-in_err-is_found-clause-header g c =
 
 pub returns-clause-header : goal.returns-clause-header
 returns-clause-header g c =
+    let n = c.lines.invariant.numbered in
+    let b = c.lines.invariant.bound in
+    let all = c.lines-test.false in
+    absurd (omega (arith, n, b, all))
+
+pub returns-in_err-is_found-clause-shows : goal.returns-in_err-is_found-clause-shows
+returns-in_err-is_found-clause-shows g c =
+    let left = g.S.Source.left in
+    let before = text left c.args.lines.now in
+    let now = c.read_line.new.lines in
+    let same : c.from_residual.result ≡ Err c.in_err-is_found.field-0.0 = search rules in
+    let shows = fault_behind before (text left c.lines.lines) c.in_err-is_found.field-0.0 (left now.source.now) c.lines.invariant.went c.in_err-is_found.ensures.shows in
+    subst (λ answer. IfErr answer (λ fault. FaultShows before fault (left now.source.now))) (sym same) shows
+
+pub returns-clause-shows : goal.returns-clause-shows
+returns-clause-shows g c =
     let n = c.lines.invariant.numbered in
     let b = c.lines.invariant.bound in
     let all = c.lines-test.false in

@@ -1,5 +1,6 @@
 use Rattle.std.proofs.Common.{◌≡◌, ◌≤◌, ◌+◌, None}
 use Rattle.lift_text.specs.LineReader.{text, line, failure}
+use Rattle.lift_text.specs.Shows.{WentOn}
 use Rattle.opening_text.proofs.HeaderLemmas.{LeadsOn}
 use Rattle.opening_text.proofs.headers.read_header.Given as goal
 
@@ -8,6 +9,7 @@ abbrev pub invariant-lines : goal.invariant-lines
 invariant-lines g l = record {
   same_source : l.lines.source.ghost_name ≡ l.initial.lines.source.ghost_name;
   no_failure : failure l.lines ≡ None;
+  went : WentOn (text g.S.Source.left l.initial.lines) (text g.S.Source.left l.lines);
   leads : LeadsOn (text g.S.Source.left l.initial.lines) (text g.S.Source.left l.lines);
   numbered : line l.lines ≡ line l.initial.lines + l.counter;
   bound : line l.lines ≤ 67108864;

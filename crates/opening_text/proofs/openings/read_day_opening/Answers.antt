@@ -1,5 +1,7 @@
 use Rattle.std.proofs.Common.{Ok, Err}
 use Rattle.lift_text.specs.LineReader.{text}
+use Rattle.lift_text.proofs.ShowLemmas.{went_further, fault_behind}
+use Rattle.text_sections.proofs.BetweenLemmas.{behind_went}
 use Rattle.opening_text.proofs.OpeningLemmas.{opening_read, opening_refused, header_refused, takes_no_building, takes_no_snapshot, takes_snapshot}
 use Rattle.opening_text.proofs.openings.read_day_opening.Goals as goal
 
@@ -56,3 +58,22 @@ returns-in-Err-read_header-clause-takes g c =
     let second = c.in-Ok-read_opening.ensures in
     takes_snapshot (text left c.args.lines.now) (text left c.read_building.new.lines) (text left c.read_opening.new.lines) (text left c.read_header.new.lines) c.in-Ok.building c.in-Ok-read_opening.snapshot
     (Err c.in-Err-read_header.fault) (first.each c.requires) (first.behind c.requires) (second.lines first.ok) (second.behind first.ok) c.in-Err-read_header.ensures.header
+
+pub returns-in-Err-read_opening-clause-shows : goal.returns-in-Err-read_opening-clause-shows
+returns-in-Err-read_opening-clause-shows g c =
+    let left = g.S.Source.left in
+    let before = text left c.args.lines.now in
+    let middle = text left c.read_building.new.lines in
+    let first = c.in-Ok.ensures in
+    fault_behind before middle c.in-Err-read_opening.fault (left c.read_opening.new.lines.source.now) (behind_went before middle (first.behind c.requires)) (c.in-Err-read_opening.ensures.shows first.ok)
+
+pub returns-in-Err-read_header-clause-shows : goal.returns-in-Err-read_header-clause-shows
+returns-in-Err-read_header-clause-shows g c =
+    let left = g.S.Source.left in
+    let before = text left c.args.lines.now in
+    let middle = text left c.read_building.new.lines in
+    let behind = text left c.read_opening.new.lines in
+    let first = c.in-Ok.ensures in
+    let second = c.in-Ok-read_opening.ensures in
+    let went = went_further before middle behind (behind_went before middle (first.behind c.requires)) (behind_went middle behind (second.behind first.ok)) in
+    fault_behind before behind c.in-Err-read_header.fault (left c.read_header.new.lines.source.now) went c.in-Err-read_header.ensures.shows

@@ -3,6 +3,7 @@ use Rattle.elevator_model.specs.Travel.{Square}
 use Rattle.lift_text.specs.LineReader.{text}
 use Rattle.text_sections.specs.Sections.{ReadAs}
 use Rattle.text_sections.specs.Canonical.{IsMade}
+use Rattle.text_sections.proofs.BetweenLemmas.{behind_went}
 use Rattle.table_text.specs.Drafts.{Draft, after}
 use Rattle.table_text.specs.TableTexts.{IsReadTable, TakesTables}
 use Rattle.table_text.proofs.AnswerLemmas.{whole_of, read_table, refused_table, takes_read, takes_refused}
@@ -46,3 +47,8 @@ returns-in-Err-clause-takes g c =
     let end = c.read_section.new.section in
     let read = subst (λ (start : Draft). ReadAs after before start (Err c.in-Err.fault) end now) c.new-draft.ensures (c.in-Err.ensures.outcome c.requires) in
     takes_refused before now c.in-Err.fault end read
+
+pub returns-in-Ok-clause-went : goal.returns-in-Ok-clause-went
+returns-in-Ok-clause-went g c =
+    let left = g.S.Source.left in
+    behind_went (text left c.args.lines.now) (text left c.read_section.new.lines) (c.in-Ok.ensures.behind c.requires)

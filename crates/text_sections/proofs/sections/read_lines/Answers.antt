@@ -1,7 +1,10 @@
-use Rattle.std.proofs.Common.{◌≤◌, true, sym, ◌∙◌, arith, refl, subst, rules}
+use Rattle.std.proofs.Common.{◌≤◌, ◌+◌, true, sym, ◌∙◌, arith, refl, subst, rules}
+use Rattle.std.proofs.lemmas.Result.{err_from_is_err_and}
+use Rattle.lift_text.specs.Shows.{ShowsEnd}
+use Rattle.lift_text.proofs.ShowLemmas.{end_behind, fault_behind}
 use Rattle.lift_text.specs.LineReader.{text, line, words, failure}
 use Rattle.text_sections.proofs.SectionLemmas.{leads_more, counted_more, was_none}
-use Rattle.text_sections.proofs.BetweenLemmas.{behind_more}
+use Rattle.text_sections.proofs.BetweenLemmas.{behind_more, behind_went}
 use Rattle.text_sections.proofs.CanonicalLemmas.{gone_more, made_whole}
 use Rattle.text_sections.proofs.sections.read_lines.Goals as goal
 
@@ -37,3 +40,39 @@ returns-in-Ok-Whole-clause-behind g c =
     let before = c.lines.invariant in
     let read = rw c.if-not-found.false at c.in_ok-found.ensures in
     λ none. behind_more (text left c.args.lines.now) (text left c.lines.lines) (text left c.next_line.new.self) (words c.next_line.new.self) (line c.next_line.new.self) (before.behind none) (read.next (before.same_failure ∙ none))
+
+pub returns-in_err-found-clause-shows : goal.returns-in_err-found-clause-shows
+returns-in_err-found-clause-shows g c =
+    let left = g.S.Source.left in
+    let before = c.lines.invariant in
+    let read = c.in_err-found.ensures in
+    let same = err_from_is_err_and c.from_residual.result c.from_residual.ensures.1 in
+    rw (same.1, same.2)
+    (λ none. fault_behind (text left c.args.lines.now) (text left c.lines.lines) c.in_err-found.field-0.0 (left c.next_line.new.self.source.now) (behind_went _ _ (before.behind none)) (read.shows (before.same_failure ∙ none)))
+
+pub returns-then-not-found-clause-shows : goal.returns-then-not-found-clause-shows
+returns-then-not-found-clause-shows g c =
+    let left = g.S.Source.left in
+    let before = c.lines.invariant in
+    let read = rw c.if-not-found.true at c.in_ok-found.ensures in
+    let start = text left c.args.lines.now in
+    let behind = left c.next_line.new.self.source.now in
+    λ none. subst (λ n. ShowsEnd start (n + 1) behind) (sym c.line-line.ensures.value)
+    (end_behind start (text left c.lines.lines) (line c.next_line.new.self + 1) behind (behind_went _ _ (before.behind none)) (read.shows (before.same_failure ∙ none)))
+
+pub returns-in-Ok-Whole-clause-shows : goal.returns-in-Ok-Whole-clause-shows
+returns-in-Ok-Whole-clause-shows g c =
+    let left = g.S.Source.left in
+    let before = c.lines.invariant in
+    let read = rw c.if-not-found.false at c.in_ok-found.ensures in
+    λ none. end_behind (text left c.args.lines.now) (text left c.lines.lines) (line c.next_line.new.self) (left c.next_line.new.self.source.now) (behind_went _ _ (before.behind none)) (read.shows (before.same_failure ∙ none))
+
+pub returns-in-Err-Bad-clause-shows : goal.returns-in-Err-Bad-clause-shows
+returns-in-Err-Bad-clause-shows g c =
+    let left = g.S.Source.left in
+    let before = c.lines.invariant in
+    let read = rw c.if-not-found.false at c.in_ok-found.ensures in
+    let start = text left c.args.lines.now in
+    let behind = left c.next_line.new.self.source.now in
+    λ none. subst (λ n. ShowsEnd start n behind) (sym c.line-line.ensures.value)
+    (end_behind start (text left c.lines.lines) (line c.next_line.new.self) behind (behind_went _ _ (before.behind none)) (read.shows (before.same_failure ∙ none)))

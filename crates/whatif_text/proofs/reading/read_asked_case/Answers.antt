@@ -1,5 +1,7 @@
 use Rattle.std.proofs.Common.{ℕ, Err, ap, sym, subst}
 use Rattle.lift_text.specs.LineReader.{text, line}
+use Rattle.lift_text.specs.Shows.{ShowsEnd}
+use Rattle.lift_text.proofs.ShowLemmas.{fault_behind}
 use Rattle.case_text.proofs.CaseLemmas.{takes_alone, takes_none_alone, takes_late}
 use Rattle.whatif_text.specs.declared.faults.AskFault.TheVariants.{NothingAsked}
 use Rattle.whatif_text.specs.AskedCases.{IsRefusedAsked}
@@ -78,3 +80,14 @@ returns-in-Err-read_end-clause-read g c = λ is.
     let first = c.in-Ok.ensures.counted in
     let second = c.in-Err-read_end.ensures.read (ap Err (read_failed c.in-Err-read_end.fault is)) in
     rose_before (faults c.args.lines.now.source.now) (faults c.read_up_to_end.new.lines.source.now) (faults c.read_end.new.lines.source.now) first second)
+
+-- the end of the line that is named shows
+pub returns-then-not-has_asked_call-clause-shows : goal.returns-then-not-has_asked_call-clause-shows
+returns-then-not-has_asked_call-clause-shows g c =
+    let left = g.S.Source.left in
+    subst (λ (n : ℕ). ShowsEnd (text left c.args.lines.now) n (left c.read_up_to_end.new.lines.source.now)) (sym c.line.ensures.value) c.in-Ok.ensures.shows
+
+pub returns-in-Err-read_end-clause-shows : goal.returns-in-Err-read_end-clause-shows
+returns-in-Err-read_end-clause-shows g c =
+    let left = g.S.Source.left in
+    fault_behind (text left c.args.lines.now) (text left c.read_up_to_end.new.lines) c.in-Err-read_end.fault (left c.read_end.new.lines.source.now) c.in-Ok.ensures.went c.in-Err-read_end.ensures.shows

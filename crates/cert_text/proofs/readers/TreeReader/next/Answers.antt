@@ -1,5 +1,6 @@
 use Rattle.std.proofs.Common.{◌∙◌, sym}
 use Rattle.lift_text.specs.LineReader.{text, failure}
+use Rattle.lift_text.proofs.ShowLemmas.{went_nowhere}
 use Rattle.cert_text.proofs.LoopLemmas.{no_fault, next_split, next_end}
 use Rattle.cert_text.proofs.readers.TreeReader.next.Goals as goal
 
@@ -20,3 +21,9 @@ returns-in-End-clause-twig g c = λ none.
 
 pub returns-in-End-clause-fault : goal.returns-in-End-clause-fault
 returns-in-End-clause-fault g c = λ none. no_fault (failure c.args.lines.now) _ none
+
+pub returns-in-Split-clause-went : goal.returns-in-Split-clause-went
+returns-in-Split-clause-went g c = λ none. went_nowhere (text g.S.Source.left c.args.lines.now)
+
+pub returns-in-End-clause-went : goal.returns-in-End-clause-went
+returns-in-End-clause-went g c = λ none. went_nowhere (text g.S.Source.left c.args.lines.now)

@@ -1,6 +1,7 @@
 use Rattle.std.proofs.Common.{◌∙◌, sym, ap, subst, None, Ok, Err, Option, refl}
 use Rattle.search_model.specs.declared.Twig.{Twig}
 use Rattle.lift_text.specs.LineReader.{text}
+use Rattle.text_sections.proofs.BetweenLemmas.{behind_went}
 use Rattle.cert_text.specs.declared.kinds.Begun.TheVariants.{Nothing}
 use Rattle.cert_text.specs.Pieces.{Reader, TwigDraft, leaf_begun, reader_behind}
 use Rattle.cert_text.specs.Readers.{failure_of, HandsOutFor, IsNoneAtEnd}
@@ -46,3 +47,8 @@ returns-in-Ok-clause-at_end g c =
     let p : TwigDraft = record { snapshot = s; places = c.self.inside.places; claims = c.self.inside.claims; leaf = c.args.leaf; ready = None; begun = Nothing } in
     subst (λ (r : Reader). IsNoneAtEnd (Ok c.behind-reader.result.1) r) (sym (c.reader.view_is ∙ c.behind-reader.ensures.reader))
     (subst (λ (o : Option Twig). IsNoneAtEnd (Ok o) (reader_behind end)) (sym c.behind-reader.ensures.twig) (none_end s p end c.in-Ok.ensures.made))
+
+pub returns-in-Ok-clause-went : goal.returns-in-Ok-clause-went
+returns-in-Ok-clause-went g c = λ none.
+    (let left = g.S.Source.left in
+    behind_went (text left c.args.lines.now) (text left c.read_section.new.lines) (c.in-Ok.ensures.behind none))
