@@ -14,7 +14,7 @@ use crate::points::Point;
 use call_sets::CallSet;
 use car_layout::Layout;
 use elevator_model::MOST_CALLS;
-use tour_rules::places::{Heading, CarPlace, at_start, persons_carried};
+use tour_rules::places::{CarPlace, Heading, at_start, persons_carried};
 
 impl Point {
     /// A partial tour without moves.

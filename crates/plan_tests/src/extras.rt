@@ -67,7 +67,12 @@ fn are_due(costs: &ExtraCosts, due: DueExtras) -> bool {
         && costs.nearest.high == due.regret
 }
 
-fn costs_so(rt: &(impl Threads + Sync), alloc: Global, snapshot: &Snapshot, due: DueExtras) -> bool {
+fn costs_so(
+    rt: &(impl Threads + Sync),
+    alloc: Global,
+    snapshot: &Snapshot,
+    due: DueExtras,
+) -> bool {
     if snapshot.calls().is_empty() {
         return false;
     }

@@ -9,7 +9,7 @@ ghost use Rattle.elevator_model.specs.Tours.{broken_at_end as broken_at_end_lem,
 ghost use Rattle.elevator_model.specs.Tours.{first_broken_from, start_of, none_taken};
 ghost use Rattle.tour_rules.specs.Places.{Tracks, HasBoards};
 
-use crate::places::{Heading, CarPlace, after_stop, any_carried, at_start};
+use crate::places::{CarPlace, Heading, after_stop, any_carried, at_start};
 use crate::rules::{
     any_elsewhere, any_foreign, any_overtakes, any_twice, is_overfull, is_useless, needs_use,
     starts_wrong, stays_put, turns_away,

@@ -15,7 +15,7 @@ ghost use Rattle.elevator_model.specs.Tours.{is_later_in_queue as is_later_in_qu
 ghost use Rattle.tour_rules.specs.Places.{call_in, Tracks, HasBoards};
 
 use crate::places::{
-    Heading, CarPlace, any_call_heads, any_carried, persons_boarding, persons_carried,
+    CarPlace, Heading, any_call_heads, any_carried, persons_boarding, persons_carried,
 };
 use call_sets::CallSet;
 use call_state::{Call, CarState, Snapshot, is_open};
@@ -145,7 +145,13 @@ fn has_leg(snapshot: &Snapshot, car: u32, place: &CarPlace) -> bool
 }
 
 /// Whether nobody gets off and no call boards where the stop has to be of use.
-pub fn is_useless(snapshot: &Snapshot, car: u32, place: &CarPlace, floor: u32, boards: CallSet) -> bool
+pub fn is_useless(
+    snapshot: &Snapshot,
+    car: u32,
+    place: &CarPlace,
+    floor: u32,
+    boards: CallSet,
+) -> bool
     requires { car < car_count snapshot.now }
     ensures { (p : Progress) (stop : Stop) → Tracks snapshot.now car place.now p
         → stop.floor ≡ floor → HasBoards snapshot.now boards stop

@@ -8,7 +8,7 @@ ghost use Rattle.elevator_model.specs.Tours.{Progress, start_of, stop_at, gets_o
 ghost use Rattle.tour_rules.specs.Places.{IsBoardSet};
 ghost use Rattle.tour_rules.specs.Walking.{Walks};
 
-use crate::places::{self, Heading, CarPlace};
+use crate::places::{self, CarPlace, Heading};
 use crate::riding;
 use call_sets::CallSet;
 use call_state::Snapshot;
