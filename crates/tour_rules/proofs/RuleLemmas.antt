@@ -5,7 +5,7 @@ use Rattle.elevator_model.specs.declared.Stop.{Stop}
 use Rattle.call_sets.specs.Counting.{any_below, has}
 use Rattle.elevator_model.specs.Snapshot.{Snapshot, call_count, call_of, spec_of, state_of, is_coming, is_idle}
 use Rattle.elevator_model.specs.Tours.{Progress, rider_count, destination_of, persons_where, boards_at, gets_off, stays_on, overtakes, turns_with, has_leg, is_later_in_queue, breaks, broken_at_end, first_rule, none_taken}
-use Rattle.elevator_model.specs.declared.Rule.TheVariants.{FirstStop, UselessStop, Delivery, QueueOrder, CallTwice, Capacity, Origin as AtPlace}
+use Rattle.elevator_model.specs.declared.Rule.TheVariants.{FirstStop, UselessStop, Delivery, QueueOrder, CallTwice, Capacity, Origin}
 use Rattle.elevator_model.specs.declared.Rule.{Rule}
 use Rattle.tour_rules.specs.declared.places.CarPlace.{CarPlace}
 use Rattle.tour_rules.specs.declared.places.Heading.TheVariants.{To, Elsewhere, Below, Above, Anywhere}
@@ -45,7 +45,7 @@ turns_same s c place p g leg low high t l a b =
 pub queue_same : (s : Snapshot) (c : ℕ) (place : CarPlace) (p : Progress) (set : ℕ) (stop : Stop) → Tracks s c place p → HasBoards s set stop → any_below (call_count s) (λ j. has set j && any_below (call_count s) (λ k. has place.boarded k && is_later_in_queue (call_in s.calls k) (call_in s.calls j))) ≡ breaks s c none_taken p stop QueueOrder
 queue_same s c place p set stop t h = boards_test s set stop _ (overtakes s p) h (λ j lt. overtakes_same s c place p t j)
 
-pub place_same : (s : Snapshot) (c : ℕ) (p : Progress) (set : ℕ) (stop : Stop) → HasBoards s set stop → any_below (call_count s) (λ j. has set j && not ((call_in s.calls j).origin == stop.floor)) ≡ breaks s c none_taken p stop AtPlace
+pub place_same : (s : Snapshot) (c : ℕ) (p : Progress) (set : ℕ) (stop : Stop) → HasBoards s set stop → any_below (call_count s) (λ j. has set j && not ((call_in s.calls j).origin == stop.floor)) ≡ breaks s c none_taken p stop Origin
 place_same s c p set stop h = boards_test s set stop _ (λ j. not ((call_of s j).origin == stop.floor)) h (λ j lt. refl)
 
 pub twice_same : (s : Snapshot) (c : ℕ) (place : CarPlace) (p : Progress) (set taken : ℕ) (stop : Stop) → Tracks s c place p → HasBoards s set stop → any_below (call_count s) (λ j. has set j && ((has place.boarded j || has taken j) || leb 2 (count_by (λ x. x == j) stop.boards))) ≡ breaks s c (has taken) p stop CallTwice
