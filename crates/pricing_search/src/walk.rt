@@ -78,15 +78,9 @@ fn visit_after<B: CompletionBound>(
         (B.bound guide.now.bound.now) limit progress.old progress.new }
 {
     let worth = progress.best;
-    let Some(sums) = step_below(
-        guide.bound,
-        guide.demand,
-        prefix,
-        sums,
-        departure,
-        next,
-        worth,
-    ) else {
+    let bound = guide.bound;
+    let demand = guide.demand;
+    let Some(sums) = step_below(bound, demand, prefix, sums, departure, next, worth) else {
         return;
     };
     visit(guide, limit, prefix, &sums, progress);
