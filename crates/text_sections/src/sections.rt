@@ -1,10 +1,11 @@
 //! Reading a section line by line.
 ghost use Rattle.std.specs.Prelude.{◌≡◌, ◌<◌, ◌≤◌, None, Some, length, IfSome, OnOk, IsErrOf};
 ghost use Rattle.byte_streams.specs.Streams.{Rose};
-ghost use Rattle.lift_text.specs.LineReader.{text, words, failure};
+ghost use Rattle.lift_text.specs.LineReader.{text, line, words, failure};
 ghost use Rattle.text_sections.specs.Sections.{Line, Step, Did, ReadAs, IsCutAtEnd};
 ghost use Rattle.text_sections.specs.Canonical.{IsMade, ReadsWritten};
 ghost use Rattle.text_sections.specs.Between.{StandsBehind};
+ghost use Rattle.text_sections.specs.Unfinished.{EndsBehind};
 
 use crate::faults::LineFault;
 use lift_text::{LINE_COUNT_BOUND, LineReader, Source, TextCode, TextFault};
@@ -35,7 +36,8 @@ pub trait Section {
 /// If a text begins with the written lines of a section, that section is read, whatever follows.
 /// The first bad line decides, with its number and one code. `CutShort` comes where the input ends
 /// before the section is whole, at the line after the last. `Read` comes only where a read of the source
-/// failed. After an `Err` nothing is known of the section.
+/// failed, and then the section ends behind the lines that were read. After an `Err` nothing is known of the
+/// section.
 pub fn read_section<S: Source, T: Section>(
     lines: &mut LineReader<S>,
     section: &mut T,
@@ -54,6 +56,8 @@ pub fn read_section<S: Source, T: Section>(
     ensures fault { IfSome (failure lines.new) (λ fault. result ≡ Err fault) }
     ensures cut { failure lines.old ≡ None
         → IsCutAtEnd result (failure lines.new) (words lines.new) (S.left lines.new.source.now) }
+    ensures unfinished { failure lines.old ≡ None → IsErrOf result TextFault.Read
+        → EndsBehind T.after (text S.left lines.old) section.old (line lines.new) }
     ensures read { failure lines.old ≡ None → IsErrOf result TextFault.Read
         → Rose (S.faults lines.old.source.now) (S.faults lines.new.source.now) }
     ensures counted { S.faults lines.old.source.now ≤ S.faults lines.new.source.now }
@@ -77,6 +81,8 @@ fn read_lines<S: Source, T: Section>(
     ensures fault { IfSome (failure lines.new) (λ fault. result ≡ Err fault) }
     ensures cut { failure lines.old ≡ None
         → IsCutAtEnd result (failure lines.new) (words lines.new) (S.left lines.new.source.now) }
+    ensures unfinished { failure lines.old ≡ None → IsErrOf result TextFault.Read
+        → EndsBehind T.after (text S.left lines.old) section.old (line lines.new) }
     ensures read { failure lines.old ≡ None → IsErrOf result TextFault.Read
         → Rose (S.faults lines.old.source.now) (S.faults lines.new.source.now) }
     ensures counted { S.faults lines.old.source.now ≤ S.faults lines.new.source.now }
