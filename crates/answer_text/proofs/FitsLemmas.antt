@@ -5,7 +5,7 @@ use Rattle.std.proofs.lemmas.Bool.{ltb-true, and_parts, false≢true}
 use Rattle.std.proofs.lemmas.List.{get_or_default}
 use Rattle.elevator_model.specs.declared.Broken.{Broken}
 use Rattle.elevator_model.specs.declared.Rule.{Rule}
-use Rattle.elevator_model.specs.declared.Rule.TheVariants.{FirstStop, SameFloorTwice, UselessStop, TurnWithPassengers, Capacity, QueueOrder, Car, Floor, CallTwice, Place}
+use Rattle.elevator_model.specs.declared.Rule.TheVariants.{FirstStop, SameFloorTwice, UselessStop, TurnWithPassengers, Capacity, QueueOrder, Car, Floor, CallTwice, Origin}
 use Rattle.elevator_model.specs.declared.Stop.{Stop}
 use Rattle.elevator_model.specs.Snapshot.{Snapshot, call_count, is_possible, call_of}
 use Rattle.elevator_model.specs.Tours.{Progress, start_of, make_stop, is_call_for, breaks, first_rule, broken_at, broken_or, first_broken_from, none_taken}
@@ -33,13 +33,13 @@ module _ (s : Snapshot) (c : ℕ) where
   boards_fit : (p : Progress) (stop : Stop) → broken_at s c none_taken p stop ≡ None → AreCalls s stop.boards
   boards_fit p stop e k d below =
       let broken : Rule → Bool = breaks s c none_taken p stop in
-      let first = no_rule broken FirstStop (SameFloorTwice ∷ UselessStop ∷ TurnWithPassengers ∷ Capacity ∷ QueueOrder ∷ Car ∷ Floor ∷ CallTwice ∷ Place ∷ []) e in
-      let second = no_rule broken SameFloorTwice (UselessStop ∷ TurnWithPassengers ∷ Capacity ∷ QueueOrder ∷ Car ∷ Floor ∷ CallTwice ∷ Place ∷ []) first.1 in
-      let third = no_rule broken UselessStop (TurnWithPassengers ∷ Capacity ∷ QueueOrder ∷ Car ∷ Floor ∷ CallTwice ∷ Place ∷ []) second.1 in
-      let fourth = no_rule broken TurnWithPassengers (Capacity ∷ QueueOrder ∷ Car ∷ Floor ∷ CallTwice ∷ Place ∷ []) third.1 in
-      let fifth = no_rule broken Capacity (QueueOrder ∷ Car ∷ Floor ∷ CallTwice ∷ Place ∷ []) fourth.1 in
-      let sixth = no_rule broken QueueOrder (Car ∷ Floor ∷ CallTwice ∷ Place ∷ []) fifth.1 in
-      let seventh = no_rule broken Car (Floor ∷ CallTwice ∷ Place ∷ []) sixth.1 in
+      let first = no_rule broken FirstStop (SameFloorTwice ∷ UselessStop ∷ TurnWithPassengers ∷ Capacity ∷ QueueOrder ∷ Car ∷ Floor ∷ CallTwice ∷ Origin ∷ []) e in
+      let second = no_rule broken SameFloorTwice (UselessStop ∷ TurnWithPassengers ∷ Capacity ∷ QueueOrder ∷ Car ∷ Floor ∷ CallTwice ∷ Origin ∷ []) first.1 in
+      let third = no_rule broken UselessStop (TurnWithPassengers ∷ Capacity ∷ QueueOrder ∷ Car ∷ Floor ∷ CallTwice ∷ Origin ∷ []) second.1 in
+      let fourth = no_rule broken TurnWithPassengers (Capacity ∷ QueueOrder ∷ Car ∷ Floor ∷ CallTwice ∷ Origin ∷ []) third.1 in
+      let fifth = no_rule broken Capacity (QueueOrder ∷ Car ∷ Floor ∷ CallTwice ∷ Origin ∷ []) fourth.1 in
+      let sixth = no_rule broken QueueOrder (Car ∷ Floor ∷ CallTwice ∷ Origin ∷ []) fifth.1 in
+      let seventh = no_rule broken Car (Floor ∷ CallTwice ∷ Origin ∷ []) sixth.1 in
       let j = get_or stop.boards k d in
       let may : is_call_for s c j ≡ true = not-false (is_call_for s c j) (list_any_at_false (λ i. not (is_call_for s c i)) stop.boards d k seventh.0 below) in
       ltb-true j (call_count s) (and_parts (nat_lt j (call_count s)) (is_possible s c (call_of s j)) may).0

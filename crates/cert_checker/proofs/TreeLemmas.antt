@@ -7,7 +7,7 @@ use Rattle.search_model.specs.declared.Twig.TheVariants.{Split, Leaf as Tip}
 use Rattle.search_model.specs.declared.Stated.{Stated}
 use Rattle.search_model.specs.declared.Reason.{Reason}
 use Rattle.search_model.specs.Nodes.{Node, root_of}
-use Rattle.search_model.specs.Certificates.{Place, places_after, placed_from, root_place}
+use Rattle.search_model.specs.Certificates.{TreePlace, places_after, placed_from, root_place}
 use Rattle.search_model.specs.Verdicts.{reason_of_tree, reason_of_plan, reason_of_cost}
 use Rattle.cert_checker.specs.declared.checker.State.{State}
 use Rattle.cert_checker.specs.declared.checker.State.TheVariants.{Found, Open}
@@ -25,10 +25,10 @@ first_none (Some x) = refl
 
 -- ---- nodes and places
 
-abbrev pub nodes_of : List Place → List Node
-nodes_of places = map (λ (p : Place). p.node) places
+abbrev pub nodes_of : List TreePlace → List Node
+nodes_of places = map (λ (p : TreePlace). p.node) places
 
-pub tree_is : (s : Snapshot) (bound k : ℕ) (places : List Place) (twigs : List Twig) → reason_of_tree s bound k (placed_from places twigs) ≡ reason_from s bound k (nodes_of places) twigs
+pub tree_is : (s : Snapshot) (bound k : ℕ) (places : List TreePlace) (twigs : List Twig) → reason_of_tree s bound k (placed_from places twigs) ≡ reason_from s bound k (nodes_of places) twigs
 tree_is s bound k [] [] = refl
 tree_is s bound k (place ∷ places) [] = refl
 tree_is s bound k [] (twig ∷ twigs) = refl

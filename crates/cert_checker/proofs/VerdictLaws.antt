@@ -27,7 +27,7 @@ use Rattle.search_model.specs.Kept.{is_kept, kept_list}
 use Rattle.search_model.specs.Nodes.{Node, set_of, is_part, rest_of, allows, requires_of, root_of, first_of_split, second_of_split}
 use Rattle.search_model.specs.Orders.{BeginsWith, Each, IsAmongLists}
 use Rattle.search_model.specs.Prices.{IsWorth, value_of}
-use Rattle.search_model.specs.Certificates.{Place, Placed, has_whole_lists, sum_of_leaf, sum_needed, price_in, worth_in, claim_in, places_after, placed_from, placed_twigs, root_place, IsSoundLeaf, IsSound}
+use Rattle.search_model.specs.Certificates.{TreePlace, Placed, has_whole_lists, sum_of_leaf, sum_needed, price_in, worth_in, claim_in, places_after, placed_from, placed_twigs, root_place, IsSoundLeaf, IsSound}
 use Rattle.search_model.specs.Verdicts.{tour_under_at, first_under, kept_at, reason_of_visit, reason_of_car, reason_of_cars, reason_of_leaf, reason_of_twig, reason_of_tree, reason_of_plan, reason_of_cost, verdict_for, verdict_of, FitsClaims, VerdictLaw, moves_enough}
 use Rattle.search_model.proofs.SetLemmas.{has-rest_of}
 use Rattle.search_model.proofs.NodeLemmas.{part-from, set_of-set, set_of-other}
@@ -148,7 +148,7 @@ second_within : (s : Snapshot) (node : Node) (j part : ℕ) → is_part (set_of 
 second_within s node j part is within =
     one_call s node j (rest_of (set_of node j) part) (part-index node j part is) within (λ c few e. (and_parts (has (set_of node j) c) (not (has part c)) (sym (has-rest_of (set_of node j) part c few) ∙ e)).0)
 
-abbrev AreWithinRoot : Snapshot → List Place → Type 0
+abbrev AreWithinRoot : Snapshot → List TreePlace → Type 0
 AreWithinRoot s [] = Unit {0}
 AreWithinRoot s (place ∷ places) = IsWithinRoot s place.node × AreWithinRoot s places
 
@@ -166,7 +166,7 @@ split_none : (k : ℕ) (b : Bool) → b ≡ true → cond b None (Some (BadSplit
 split_none k true e = refl
 split_none k false e = absurd cc
 
-tree_stands : (s : Snapshot) (bound k : ℕ) (places : List Place) (twigs : List Twig) → IsAccepted s → AreWithinRoot s places → reason_of_tree s bound k (placed_from places twigs) ≡ None → All (Sound s bound) (placed_from places twigs) × All (Fits s) (placed_from places twigs)
+tree_stands : (s : Snapshot) (bound k : ℕ) (places : List TreePlace) (twigs : List Twig) → IsAccepted s → AreWithinRoot s places → reason_of_tree s bound k (placed_from places twigs) ≡ None → All (Sound s bound) (placed_from places twigs) × All (Fits s) (placed_from places twigs)
 tree_stands s bound k [] [] ok within e = (All-nil (Sound s bound), All-nil (Fits s))
 tree_stands s bound k (place ∷ places) [] ok within e = (All-nil (Sound s bound), All-nil (Fits s))
 tree_stands s bound k [] (twig ∷ twigs) ok within e = (All-nil (Sound s bound), All-nil (Fits s))
@@ -187,7 +187,7 @@ tree_stands s bound k (place ∷ places) (Tip leaf ∷ twigs) ok within e =
     let rest = tree_stands s bound (k + 1) places twigs ok within.1 parts.1 in
     (All-cons (Sound s bound) here later is.sound rest.0, All-cons (Fits s) here later is.fits rest.1)
 
-tree_clear : (s : Snapshot) (bound k : ℕ) (places : List Place) (twigs : List Twig) → IsAccepted s → AreWithinRoot s places → All (Sound s bound) (placed_from places twigs) → All (Fits s) (placed_from places twigs) → reason_of_tree s bound k (placed_from places twigs) ≡ None
+tree_clear : (s : Snapshot) (bound k : ℕ) (places : List TreePlace) (twigs : List Twig) → IsAccepted s → AreWithinRoot s places → All (Sound s bound) (placed_from places twigs) → All (Fits s) (placed_from places twigs) → reason_of_tree s bound k (placed_from places twigs) ≡ None
 tree_clear s bound k [] [] ok within sound fits = refl
 tree_clear s bound k (place ∷ places) [] ok within sound fits = refl
 tree_clear s bound k [] (twig ∷ twigs) ok within sound fits = refl
@@ -246,7 +246,7 @@ verdict_holds s plan cost bound tree ok cars whole = record {
 
 -- ---- sufficient claims
 
-enough_fits : (s : Snapshot) (places : List Place) (twigs : List Twig) → All (HasEnough s) twigs → All (Fits s) (placed_from places twigs)
+enough_fits : (s : Snapshot) (places : List TreePlace) (twigs : List Twig) → All (HasEnough s) twigs → All (Fits s) (placed_from places twigs)
 enough_fits s [] [] enough = All-nil (Fits s)
 enough_fits s (place ∷ places) [] enough = All-nil (Fits s)
 enough_fits s [] (twig ∷ twigs) enough = All-nil (Fits s)

@@ -6,7 +6,7 @@ use Rattle.std.specs.declared.alloc.AllocError.{AllocError}
 use Rattle.std.proofs.lemmas.List.Sums.{sum_by-cons, sum_by-append, sum_by-take-le}
 use Rattle.elevator_model.specs.Snapshot.{Snapshot}
 use Rattle.cert_claims.specs.declared.leaves.Claims.{Claims}
-use Rattle.cert_claims.specs.declared.counting.Tally.{Tally}
+use Rattle.cert_claims.specs.declared.counting.ClaimsSoFar.{ClaimsSoFar}
 use Rattle.cert_claims.specs.declared.tasks.Task.{Task}
 use Rattle.cert_claims.specs.Leaves.{AreAllDue, AreAnswers, AreClaims, AreClaimsWithin, AreDue, HasTakenAll, LeafAt, extra_of, extra_of_all, leaf_at}
 
@@ -55,12 +55,12 @@ module _ (s : Snapshot) where
       let on : suc n + 1 ≡ suc (n + 1) = omega arith in
       ap (λ (m : ℕ). take m (leaf ∷ leaves)) on ∙ ap (λ (l : List LeafAt). leaf ∷ l) (extra-next n leaves at e)
 
-  module _ (leaves : List LeafAt) (old now : Tally) (n : ℕ) (at : LeafAt) (there : slice_get leaves n ≡ Some at) (so : HasTakenAll s (take n leaves) old now) where
+  module _ (leaves : List LeafAt) (old now : ClaimsSoFar) (n : ℕ) (at : LeafAt) (there : slice_get leaves n ≡ Some at) (so : HasTakenAll s (take n leaves) old now) where
     here : extra_of_all s (take (n + 1) leaves) ≡ extra_of_all s (take n leaves) + extra_of s at
     here = ap (extra_of_all s) (extra-next n leaves at there) ∙ extra-push (take n leaves) at
 
     -- its claims are taken
-    pub taken_more : (new : Tally) (claims : Claims) → AreClaims s at claims → claims.extra ≤ now.spare → new.claims.items ≡ now.claims.items ++ claims ∷ [] → new.spare ≡ now.spare - claims.extra → HasTakenAll s (take (n + 1) leaves) old new
+    pub taken_more : (new : ClaimsSoFar) (claims : Claims) → AreClaims s at claims → claims.extra ≤ now.spare → new.claims.items ≡ now.claims.items ++ claims ∷ [] → new.spare ≡ now.spare - claims.extra → HasTakenAll s (take (n + 1) leaves) old new
     taken_more new claims found fits pushed spare_is =
         let more = here in
         let before = so.spare in
@@ -87,7 +87,7 @@ module _ (s : Snapshot) where
         omega (arith, more, whole, over)
 
   -- those of one group after those of another
-  pub taken_both : (leaves more : List LeafAt) (old now new : Tally) → HasTakenAll s leaves old now → HasTakenAll s more now new → HasTakenAll s (leaves ++ more) old new
+  pub taken_both : (leaves more : List LeafAt) (old now new : ClaimsSoFar) → HasTakenAll s leaves old now → HasTakenAll s more now new → HasTakenAll s (leaves ++ more) old new
   taken_both leaves more old now new so next =
       let extra = extra-append leaves more in
       let before = so.spare in
@@ -169,12 +169,12 @@ drop_map zero tasks = refl
 drop_map (suc n) [] = refl
 drop_map (suc n) (task ∷ tasks) = drop_map n tasks
 
-module _ (s : Snapshot) (tasks some : List Task) (old now : Tally) (n step : ℕ) (is : some ≡ take step (drop n tasks)) (so : HasTakenAll s (take n (map leaf_at tasks)) old now) where
+module _ (s : Snapshot) (tasks some : List Task) (old now : ClaimsSoFar) (n step : ℕ) (is : some ≡ take step (drop n tasks)) (so : HasTakenAll s (take n (map leaf_at tasks)) old now) where
   both : take n (map leaf_at tasks) ++ map leaf_at some ≡ take (n + step) (map leaf_at tasks)
   both = ap (λ (l : List Task). take n (map leaf_at tasks) ++ map leaf_at l) is ∙ ap (λ (l : List LeafAt). take n (map leaf_at tasks) ++ l) (take_map step (drop n tasks) ∙ ap (take step) (drop_map n tasks)) ∙ take_both n step (map leaf_at tasks)
 
   -- a group more was taken
-  pub group_taken : (new : Tally) → old.claims.items ≡ [] → HasTakenAll s (map leaf_at some) now new → HasTakenAll s (take (length new.claims.items) (map leaf_at tasks)) old new
+  pub group_taken : (new : ClaimsSoFar) → old.claims.items ≡ [] → HasTakenAll s (map leaf_at some) now new → HasTakenAll s (take (length new.claims.items) (map leaf_at tasks)) old new
   group_taken new empty next =
       let joined = taken_both s (take n (map leaf_at tasks)) (map leaf_at some) old now new so next in
       let whole = subst (λ (l : List LeafAt). HasTakenAll s l old new) both joined in
@@ -182,7 +182,7 @@ module _ (s : Snapshot) (tasks some : List Task) (old now : Tally) (n step : ℕ
       let count : length new.claims.items ≡ length (take (n + step) (map leaf_at tasks)) = ap (λ (l : List Claims). length l) claims ∙ due-length s (take (n + step) (map leaf_at tasks)) whole.all whole.due in
       subst (λ (l : List LeafAt). HasTakenAll s l old new) (sym (ap (λ (k : ℕ). take k (map leaf_at tasks)) count ∙ take_length (n + step) (map leaf_at tasks))) whole
 
-  pub group_count : (new : Tally) → HasTakenAll s (map leaf_at some) now new → length new.claims.items ≡ length now.claims.items + length some
+  pub group_count : (new : ClaimsSoFar) → HasTakenAll s (map leaf_at some) now new → length new.claims.items ≡ length now.claims.items + length some
   group_count new next =
       let claims = ap (λ (l : List Claims). length l) next.claims in
       let parts = length-append now.claims.items next.all in
@@ -205,7 +205,7 @@ few_front (suc n) [] = omega arith
 few_front (suc n) (x ∷ xs) = (let rest = few_front n xs in omega (arith, rest))
 
 -- no more claims than leaves
-pub taken_few : (s : Snapshot) (tasks : List Task) (old new : Tally) → old.claims.items ≡ [] → HasTakenAll s (take (length new.claims.items) (map leaf_at tasks)) old new → length new.claims.items ≤ length tasks
+pub taken_few : (s : Snapshot) (tasks : List Task) (old new : ClaimsSoFar) → old.claims.items ≡ [] → HasTakenAll s (take (length new.claims.items) (map leaf_at tasks)) old new → length new.claims.items ≤ length tasks
 taken_few s tasks old new empty so =
     let claims = ap (λ (l : List Claims). length l) (so.claims ∙ ap (λ (l : List Claims). l ++ so.all) empty) in
     let due = due-length s (take (length new.claims.items) (map leaf_at tasks)) so.all so.due in

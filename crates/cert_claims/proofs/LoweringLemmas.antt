@@ -16,7 +16,7 @@ use Rattle.search_model.specs.declared.Twig.{Twig}
 use Rattle.search_model.specs.declared.Twig.TheVariants.{Split, Leaf as Tip}
 use Rattle.search_model.specs.Sums.{int_sum_by}
 use Rattle.search_model.specs.Nodes.{Node}
-use Rattle.search_model.specs.Certificates.{IsSound, IsSoundLeaf, Place, Placed, are_each_once, has_whole_lists, is_filled, placed_from, places_after, sum_needed, sum_of_leaf}
+use Rattle.search_model.specs.Certificates.{IsSound, IsSoundLeaf, TreePlace, Placed, are_each_once, has_whole_lists, is_filled, placed_from, places_after, sum_needed, sum_of_leaf}
 use Rattle.kept_count.specs.Leaves.{HasWorthSize}
 use Rattle.kept_count.proofs.EntryLemmas.{stored}
 use Rattle.kept_count.proofs.LeafLemmas.{whole_few}
@@ -214,7 +214,7 @@ module _ (s : Snapshot) (node : Node) (bound : ℕ) (leaf : Leaf) where
 -- ---- trees
 
 module _ (bound : ℕ) where
-  pub filled_lowered : (places : List Place) (twigs : List Twig) → is_filled places (lowered_tree bound twigs) ≡ is_filled places twigs
+  pub filled_lowered : (places : List TreePlace) (twigs : List Twig) → is_filled places (lowered_tree bound twigs) ≡ is_filled places twigs
   filled_lowered [] [] = refl
   filled_lowered (place ∷ places) [] = refl
   filled_lowered [] (twig ∷ twigs) = refl
@@ -247,7 +247,7 @@ module _ (bound : ℕ) where
     abbrev Sound : Placed → Type 0
     Sound p = IsSound s bound p.place p.twig
 
-    pub tree_lowered : (places : List Place) (twigs : List Twig) → All Sound (placed_from places twigs) → All Sound (placed_from places (lowered_tree bound twigs))
+    pub tree_lowered : (places : List TreePlace) (twigs : List Twig) → All Sound (placed_from places twigs) → All Sound (placed_from places (lowered_tree bound twigs))
     tree_lowered places [] sound = sound
     tree_lowered [] (twig ∷ twigs) sound = All-nil Sound
     tree_lowered (place ∷ places) (Split j part ∷ twigs) sound =
@@ -261,7 +261,7 @@ module _ (bound : ℕ) where
         All-cons Sound new (placed_from places (lowered_tree bound twigs)) (sound_lowered s place.node bound leaf (All-head Sound here later sound)) (tree_lowered places twigs (All-tail Sound here later sound))
 
     -- each leaf of a proved tree can be lowered
-    pub all_can : IsAccepted s → (places : List Place) (twigs : List Twig) → is_filled places twigs ≡ true → All Sound (placed_from places twigs) → All IsSizedTwig twigs → All (CanBeLowered bound) twigs
+    pub all_can : IsAccepted s → (places : List TreePlace) (twigs : List Twig) → is_filled places twigs ≡ true → All Sound (placed_from places twigs) → All IsSizedTwig twigs → All (CanBeLowered bound) twigs
     all_can ok places [] filled sound sized = All-nil (CanBeLowered bound)
     all_can ok [] (twig ∷ twigs) filled sound sized = absurd cc
     all_can ok (place ∷ places) (Split j part ∷ twigs) filled sound sized =
@@ -281,7 +281,7 @@ module _ (s : Snapshot) (from bound : ℕ) (le : bound ≤ from) where
   sound_less : (p : Placed) → IsSound s from p.place p.twig → IsSound s bound p.place p.twig
   sound_less p sound = of p.place p.twig sound
     where
-      of : (place : Place) (twig : Twig) → IsSound s from place twig → IsSound s bound place twig
+      of : (place : TreePlace) (twig : Twig) → IsSound s from place twig → IsSound s bound place twig
       of place (Split j part) is = is
       of place (Tip leaf) is = record { whole = is.whole; enough = (let enough = is.enough in omega (arith, ints, enough, le)); worths = is.worths }
 

@@ -13,7 +13,7 @@ use Rattle.search_model.specs.declared.Stated.{Stated}
 use Rattle.search_model.specs.declared.Twig.{Twig}
 use Rattle.search_model.specs.declared.Twig.TheVariants.{Split, Leaf as Tip}
 use Rattle.search_model.specs.Nodes.{IsNodeOf, root_of}
-use Rattle.search_model.specs.Certificates.{Place, Placed, Proves, claim_in, is_filled, is_whole, placed_from, placed_twigs, places_after, root_place}
+use Rattle.search_model.specs.Certificates.{TreePlace, Placed, Proves, claim_in, is_filled, is_whole, placed_from, placed_twigs, places_after, root_place}
 use Rattle.search_model.proofs.SnapshotNodes.{root_is_node, first_is_node, second_is_node}
 use Rattle.search_model.proofs.TreeLemmas.{part-index}
 use Rattle.cert_claims.specs.declared.leaves.Claims.{Claims}
@@ -27,15 +27,15 @@ use Rattle.cert_claims.specs.Lowering.{GoesBeyond, lesser_bounds, lowered_tree}
 use Rattle.cert_claims.specs.declared.stating.LastResort.{LastResort}
 use Rattle.cert_claims.proofs.LeafLemmas.{claims_by_car, length_worths}
 use Rattle.cert_claims.proofs.LoweringLemmas.{all_can, all_less, cars_lowered, filled_lowered, tree_lowered, worths_lowered}
-use Rattle.cert_claims.proofs.TreeLemmas.{Sound, Due, due-claimed, due-placed, filled-claimed, nodes_of, sound-claimed, split_leaves, stated-claimed, without-claimed, worths-claimed}
+use Rattle.cert_claims.proofs.TreeLemmas.{Sound, IsDue, due-claimed, due-placed, filled-claimed, nodes_of, sound-claimed, split_leaves, stated-claimed, without-claimed, worths-claimed}
 
 -- each place has a node
-abbrev HaveNodes : Snapshot → List Place → Type 0
+abbrev HaveNodes : Snapshot → List TreePlace → Type 0
 HaveNodes s [] = Unit {0}
 HaveNodes s (place ∷ places) = IsNodeOf s place.node × HaveNodes s places
 
 module _ (s : Snapshot) (accepted : IsAccepted s) (bound : ℕ) where
-  leaves_proved : (places : List Place) (twigs : List Twig) → HaveNodes s places → All (Sound s bound) (placed_from places twigs) → All HasCars twigs → All (IsProvedLeaf s) (leaves_from (nodes_of places) twigs)
+  leaves_proved : (places : List TreePlace) (twigs : List Twig) → HaveNodes s places → All (Sound s bound) (placed_from places twigs) → All HasCars twigs → All (IsProvedLeaf s) (leaves_from (nodes_of places) twigs)
   leaves_proved places [] nodes sound cars = All-nil (IsProvedLeaf s)
   leaves_proved [] (twig ∷ twigs) nodes sound cars = All-nil (IsProvedLeaf s)
   leaves_proved (place ∷ places) (Split j part ∷ twigs) nodes sound cars =
@@ -54,7 +54,7 @@ module _ (s : Snapshot) (accepted : IsAccepted s) (bound : ℕ) where
       All-cons (IsProvedLeaf s) (leaf_of place.node leaf) (leaves_from (nodes_of places) twigs) (record { node = nodes.0; whole = own.whole; worths = own.worths }) (leaves_proved places twigs nodes.1 (All-tail (Sound s bound) here later sound) (All-tail HasCars (Tip leaf) twigs cars))
 
   -- as many worths as leaves and cars
-  worths_count : (places : List Place) (twigs : List Twig) → is_filled places twigs ≡ true → All (Sound s bound) (placed_from places twigs) → length (leaves_from (nodes_of places) twigs) * car_count s ≡ worths_of_tree twigs
+  worths_count : (places : List TreePlace) (twigs : List Twig) → is_filled places twigs ≡ true → All (Sound s bound) (placed_from places twigs) → length (leaves_from (nodes_of places) twigs) * car_count s ≡ worths_of_tree twigs
   worths_count places [] filled sound = omega arith
   worths_count [] (twig ∷ twigs) filled sound = absurd cc
   worths_count (place ∷ places) (Split j part ∷ twigs) filled sound =
@@ -130,7 +130,7 @@ pub resort_certificate : (s : Snapshot) (bound : ℕ) (leaf : Leaf) (limit : ℕ
 resort_certificate s bound leaf limit last = record {
   whole = refl;
   sound = All-cons (Sound s bound) here [] last.sound (All-nil (Sound s bound));
-  due = All-cons (Due s bound) here [] one_each (All-nil (Due s bound));
+  due = All-cons (IsDue s bound) here [] one_each (All-nil (IsDue s bound));
   few = few_claims;
 }
   where

@@ -11,7 +11,7 @@ use Rattle.search_model.specs.declared.Twig.{Twig}
 use Rattle.search_model.specs.declared.Twig.TheVariants.{Split, Leaf as Tip}
 use Rattle.search_model.specs.Sums.{rounded_up}
 use Rattle.search_model.specs.Nodes.{Node, set_of, is_part, first_of_split, second_of_split}
-use Rattle.search_model.specs.Certificates.{IsSound, Place, Placed, is_filled, placed_from, places_after}
+use Rattle.search_model.specs.Certificates.{IsSound, TreePlace, Placed, is_filled, placed_from, places_after}
 use Rattle.search_model.specs.Solving.{bound_of_leaf, least_bound}
 use Rattle.cert_claims.specs.declared.leaves.Claims.{Claims}
 use Rattle.cert_claims.specs.Due.{StatesDue, claims_of, claims_of_tree, due_at, worths_of, worths_of_tree}
@@ -19,12 +19,12 @@ use Rattle.cert_claims.specs.Leaves.{AreAllDue, LeafAt, claimed, extra_of, extra
 use Rattle.cert_claims.specs.Stating.{without_claim, without_claims}
 use Rattle.cert_claims.proofs.LeafLemmas.{claim_with, due_is, due_with, sound_with, stated_is, sum_with}
 
-abbrev pub nodes_of : List Place → List Node
-nodes_of places = map (λ (p : Place). p.node) places
+abbrev pub nodes_of : List TreePlace → List Node
+nodes_of places = map (λ (p : TreePlace). p.node) places
 
 -- ---- what stays
 
-pub filled-claimed : (places : List Place) (twigs : List Twig) (all : List Claims) → is_filled places (claimed twigs all) ≡ is_filled places twigs
+pub filled-claimed : (places : List TreePlace) (twigs : List Twig) (all : List Claims) → is_filled places (claimed twigs all) ≡ is_filled places twigs
 filled-claimed places [] all = refl
 filled-claimed [] (twig ∷ twigs) all = refl
 filled-claimed (place ∷ places) (Split j part ∷ twigs) all = filled-claimed (places_after place (Split j part) places) twigs all
@@ -75,10 +75,10 @@ module _ (s : Snapshot) (bound : ℕ) where
   Sound p = IsSound s bound p.place p.twig
 
   -- the leaves after a split that divides
-  pub split_leaves : (place : Place) (j part : ℕ) (places : List Place) (twigs : List Twig) → is_part (set_of place.node j) part ≡ true → leaves_from (nodes_of (place ∷ places)) (Split j part ∷ twigs) ≡ leaves_from (nodes_of (places_after place (Split j part) places)) twigs
+  pub split_leaves : (place : TreePlace) (j part : ℕ) (places : List TreePlace) (twigs : List Twig) → is_part (set_of place.node j) part ≡ true → leaves_from (nodes_of (place ∷ places)) (Split j part ∷ twigs) ≡ leaves_from (nodes_of (places_after place (Split j part) places)) twigs
   split_leaves place j part places twigs is = ap (λ (b : Bool). leaves_from (cond b (first_of_split place.node j part ∷ second_of_split place.node j part ∷ nodes_of places) (nodes_of places)) twigs) is
 
-  pub sound-claimed : (places : List Place) (twigs : List Twig) (all : List Claims) → All Sound (placed_from places twigs) → All Sound (placed_from places (claimed twigs all))
+  pub sound-claimed : (places : List TreePlace) (twigs : List Twig) (all : List Claims) → All Sound (placed_from places twigs) → All Sound (placed_from places (claimed twigs all))
   sound-claimed places [] all sound = sound
   sound-claimed [] (twig ∷ twigs) all sound = All-nil Sound
   sound-claimed (place ∷ places) (Split j part ∷ twigs) all sound =
@@ -96,27 +96,27 @@ module _ (s : Snapshot) (bound : ℕ) where
       let own = All-head Sound here later sound in
       All-cons Sound new (placed_from places (claimed twigs all)) (sound_with s (leaf_of place.node leaf) claims.by_car own.whole bound own) (sound-claimed places twigs all (All-tail Sound here later sound))
 
-  abbrev pub Due : Placed → Type 0
-  Due p = StatesDue s p.place p.twig
+  abbrev pub IsDue : Placed → Type 0
+  IsDue p = StatesDue s p.place p.twig
 
-  pub due-claimed : (places : List Place) (twigs : List Twig) (all : List Claims) → All Sound (placed_from places twigs) → AreAllDue s (leaves_from (nodes_of places) twigs) all → All Due (placed_from places (claimed twigs all))
-  due-claimed places [] all sound due = All-nil Due
-  due-claimed [] (twig ∷ twigs) all sound due = All-nil Due
+  pub due-claimed : (places : List TreePlace) (twigs : List Twig) (all : List Claims) → All Sound (placed_from places twigs) → AreAllDue s (leaves_from (nodes_of places) twigs) all → All IsDue (placed_from places (claimed twigs all))
+  due-claimed places [] all sound due = All-nil IsDue
+  due-claimed [] (twig ∷ twigs) all sound due = All-nil IsDue
   due-claimed (place ∷ places) (Split j part ∷ twigs) all sound due =
       let here : Placed = record { place = place; twig = Split j part } in
       let later = placed_from (places_after place (Split j part) places) twigs in
       let is = All-head Sound here later sound in
-      All-cons Due here (placed_from (places_after place (Split j part) places) (claimed twigs all)) tt (due-claimed (places_after place (Split j part) places) twigs all (All-tail Sound here later sound) (subst (λ (l : List LeafAt). AreAllDue s l all) (split_leaves place j part places twigs is) due))
+      All-cons IsDue here (placed_from (places_after place (Split j part) places) (claimed twigs all)) tt (due-claimed (places_after place (Split j part) places) twigs all (All-tail Sound here later sound) (subst (λ (l : List LeafAt). AreAllDue s l all) (split_leaves place j part places twigs is) due))
   due-claimed (place ∷ places) (Tip leaf ∷ twigs) [] sound due = absurd due
   due-claimed (place ∷ places) (Tip leaf ∷ twigs) (claims ∷ all) sound due =
       let here : Placed = record { place = place; twig = Tip leaf } in
       let new : Placed = record { place = place; twig = Tip (with_claims claims.by_car leaf) } in
       let later = placed_from places twigs in
       let own = All-head Sound here later sound in
-      All-cons Due new (placed_from places (claimed twigs all)) (λ c lt. claim_with s (leaf_of place.node leaf) claims.by_car own.whole c lt ∙ due.0 c lt ∙ sym (due_with claims.by_car leaf s place.node c)) (due-claimed places twigs all (All-tail Sound here later sound) due.1)
+      All-cons IsDue new (placed_from places (claimed twigs all)) (λ c lt. claim_with s (leaf_of place.node leaf) claims.by_car own.whole c lt ∙ due.0 c lt ∙ sym (due_with claims.by_car leaf s place.node c)) (due-claimed places twigs all (All-tail Sound here later sound) due.1)
 
   -- what is stated, added up
-  pub stated-claimed : (places : List Place) (twigs : List Twig) (all : List Claims) → is_filled places twigs ≡ true → All Sound (placed_from places twigs) → AreAllDue s (leaves_from (nodes_of places) twigs) all → claims_of_tree (claimed twigs all) ≡ extra_of_all s (leaves_from (nodes_of places) twigs) + worths_of_tree twigs
+  pub stated-claimed : (places : List TreePlace) (twigs : List Twig) (all : List Claims) → is_filled places twigs ≡ true → All Sound (placed_from places twigs) → AreAllDue s (leaves_from (nodes_of places) twigs) all → claims_of_tree (claimed twigs all) ≡ extra_of_all s (leaves_from (nodes_of places) twigs) + worths_of_tree twigs
   stated-claimed places [] all filled sound due = refl
   stated-claimed [] (twig ∷ twigs) all filled sound due = absurd cc
   stated-claimed (place ∷ places) (Split j part ∷ twigs) all filled sound due =
@@ -142,7 +142,7 @@ module _ (s : Snapshot) (bound : ℕ) where
       omega (arith, rest, mine, one, other, extra)
 
   -- what is due, added up
-  pub due-placed : (places : List Place) (twigs : List Twig) → is_filled places twigs ≡ true → All Sound (placed_from places twigs) → sum_by (λ (p : Placed). due_at s p.place p.twig) (placed_from places twigs) ≡ extra_of_all s (leaves_from (nodes_of places) twigs) + worths_of_tree twigs
+  pub due-placed : (places : List TreePlace) (twigs : List Twig) → is_filled places twigs ≡ true → All Sound (placed_from places twigs) → sum_by (λ (p : Placed). due_at s p.place p.twig) (placed_from places twigs) ≡ extra_of_all s (leaves_from (nodes_of places) twigs) + worths_of_tree twigs
   due-placed places [] filled sound = refl
   due-placed [] (twig ∷ twigs) filled sound = absurd cc
   due-placed (place ∷ places) (Split j part ∷ twigs) filled sound =

@@ -7,7 +7,7 @@ use Rattle.search_model.specs.declared.Leaf.{Leaf}
 use Rattle.search_model.specs.declared.Twig.{Twig}
 use Rattle.search_model.specs.declared.Twig.TheVariants.{Split, Leaf as Tip}
 use Rattle.search_model.specs.Nodes.{Node}
-use Rattle.search_model.specs.Certificates.{Place, Placed, placed_twigs, claim_in}
+use Rattle.search_model.specs.Certificates.{TreePlace, Placed, placed_twigs, claim_in}
 use Rattle.search_model.specs.Verdicts.{kept_at}
 
 -- The claim that is due for a car at a leaf: as many as its kept list has, and at least 1.
@@ -15,7 +15,7 @@ abbrev pub claim_due : Snapshot → Node → Leaf → ℕ → ℕ
 claim_due s node leaf c = max 1 (length (kept_at s node leaf c))
 
 -- those of a leaf's cars, added up
-abbrev pub due_at : Snapshot → Place → Twig → ℕ
+abbrev pub due_at : Snapshot → TreePlace → Twig → ℕ
 due_at s place (Split j part) = 0
 due_at s place (Tip leaf) = sum_below (car_count s) (claim_due s place.node leaf)
 
@@ -24,7 +24,7 @@ abbrev pub due_of_tree : Snapshot → List Twig → ℕ
 due_of_tree s tree = sum_by (λ (p : Placed). due_at s p.place p.twig) (placed_twigs s tree)
 
 -- each claim of a leaf is the one that is due
-abbrev pub StatesDue : Snapshot → Place → Twig → Type 0
+abbrev pub StatesDue : Snapshot → TreePlace → Twig → Type 0
 StatesDue s place (Split j part) = Unit {0}
 StatesDue s place (Tip leaf) = (c : ℕ) → c < car_count s → claim_in leaf c ≡ claim_due s place.node leaf c
 

@@ -12,7 +12,7 @@ use Rattle.search_model.specs.Certificates.{IsSound, Placed, has_whole_lists, is
 use Rattle.cert_claims.specs.Due.{HasCars, claim_due}
 use Rattle.cert_claims.specs.declared.tasks.Task.{Task}
 use Rattle.cert_claims.specs.declared.leaves.Claims.{Claims}
-use Rattle.cert_claims.specs.declared.counting.Tally.{Tally}
+use Rattle.cert_claims.specs.declared.counting.ClaimsSoFar.{ClaimsSoFar}
 
 -- ---- leaves
 
@@ -106,14 +106,14 @@ abbrev pub AreAnswers : Snapshot → (spare : ℕ) → List LeafAt → List (Opt
 AreAnswers s spare leaves answers = (length answers ≡ length leaves) × ((k : ℕ) (at : LeafAt) (answer : Option Claims) → slice_get leaves k ≡ Some at → slice_get answers k ≡ Some answer → AreClaimsWithin s spare at answer)
 
 -- the claims of these leaves were taken into a tally
-pub record HasTakenAll (s : Snapshot) (leaves : List LeafAt) (old new : Tally) : Type 0 where
+pub record HasTakenAll (s : Snapshot) (leaves : List LeafAt) (old new : ClaimsSoFar) : Type 0 where
   pub all : List Claims
   pub claims : new.claims.items ≡ old.claims.items ++ all
   pub due : AreAllDue s leaves all
   pub spare : extra_of_all s leaves + new.spare ≡ old.spare
 
 -- or they go further beyond 1 than was spare
-abbrev pub HasTaken : Snapshot → List LeafAt → (old new : Tally) → (fits : Bool) → Type 0
+abbrev pub HasTaken : Snapshot → List LeafAt → (old new : ClaimsSoFar) → (fits : Bool) → Type 0
 HasTaken s leaves old new true = HasTakenAll s leaves old new
 HasTaken s leaves old new false = old.spare < extra_of_all s leaves
 

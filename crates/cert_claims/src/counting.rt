@@ -58,12 +58,12 @@ impl<'a> Jobs for Counting<'a> {
 
 /// The claims of the first leaves, and how far those of the others may go beyond 1.
 #[derive(Drop)]
-struct Tally {
+struct ClaimsSoFar {
     claims: Vec<Claims>,
     spare: u64,
 }
 
-impl Tally {
+impl ClaimsSoFar {
     /// Takes the answers of the next leaves: false where their claims go further beyond 1 than is spare.
     ///
     /// It fails only where there is no memory left.
@@ -93,7 +93,7 @@ fn count_some<'a, R: Threads + Sync, G: Gate + Sync>(
     snapshot: &'a Snapshot,
     tasks: &'a [Task<'a>],
     desks: &mut [Desk<'a>],
-    tally: &mut Tally,
+    tally: &mut ClaimsSoFar,
 ) -> Result<bool, AllocError>
     requires few { length tasks.now ≤ 64 }
     requires small { tally.old.spare < 2 ^ 63 }
@@ -136,7 +136,7 @@ fn count_all<'a, R: Threads + Sync, G: Gate + Sync>(
     snapshot: &'a Snapshot,
     tasks: &'a [Task<'a>],
     desks: &mut [Desk<'a>],
-    tally: &mut Tally,
+    tally: &mut ClaimsSoFar,
 ) -> Result<bool, AllocError>
     requires small { tally.old.spare < 2 ^ 63 }
     requires none { tally.old.claims.items ≡ [] }
@@ -173,7 +173,7 @@ pub(crate) fn claims_of_all<'a, R: Threads + Sync, G: Gate + Sync>(
         (option_map (λ claims. claims.items) found)) }
 {
     let mut desks = desks_for(runtime.alloc, snapshot, workers)?;
-    let mut tally = Tally {
+    let mut tally = ClaimsSoFar {
         claims: Vec::new(runtime.alloc),
         spare,
     };

@@ -5,7 +5,7 @@ use Rattle.search_model.specs.declared.WorthOf.{WorthOf}
 use Rattle.search_model.specs.declared.Leaf.{Leaf}
 use Rattle.search_model.specs.declared.Twig.{Twig}
 use Rattle.search_model.specs.declared.Twig.TheVariants.{Split, Leaf as Tip}
-use Rattle.search_model.specs.Certificates.{Place, places_after, is_filled}
+use Rattle.search_model.specs.Certificates.{TreePlace, places_after, is_filled}
 use Rattle.cert_text.specs.Trees.{places_left, claims_of, sum_of_claims}
 use Rattle.cert_text.specs.Drafts.{is_leaf, ends_with_leaf, changed, last_changed}
 
@@ -72,14 +72,14 @@ places_behind_leaf zero leaf xs m e = absurd cc
 places_behind_leaf (suc n) leaf xs m e = ap (λ (k : ℕ). places_left k xs) (omega arith) ∙ e
 
 -- only the number of the places matters to a whole tree
-pub filled : (places : List Place) (twigs : List Twig) → places_left (length places) twigs ≡ Some 0 → is_filled places twigs ≡ true
+pub filled : (places : List TreePlace) (twigs : List Twig) → places_left (length places) twigs ≡ Some 0 → is_filled places twigs ≡ true
 filled [] [] e = refl
 filled (place ∷ places) [] e = absurd cc
 filled [] (twig ∷ twigs) e = absurd cc
 filled (place ∷ places) (Split j part ∷ twigs) e = filled (places_after place (Split j part) places) twigs e
 filled (place ∷ places) (Tip leaf ∷ twigs) e = filled places twigs e
 
-pub filled_back : (places : List Place) (twigs : List Twig) → is_filled places twigs ≡ true → places_left (length places) twigs ≡ Some 0
+pub filled_back : (places : List TreePlace) (twigs : List Twig) → is_filled places twigs ≡ true → places_left (length places) twigs ≡ Some 0
 filled_back [] [] e = refl
 filled_back (place ∷ places) [] e = absurd cc
 filled_back [] (twig ∷ twigs) e = absurd cc

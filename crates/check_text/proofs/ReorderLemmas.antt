@@ -10,7 +10,7 @@ use Rattle.call_sets.proofs.Sums.{sum_below-same}
 use Rattle.call_sets.proofs.Counts.{count-same}
 use Rattle.elevator_model.specs.declared.Broken.{Broken}
 use Rattle.elevator_model.specs.declared.Rule.{Rule}
-use Rattle.elevator_model.specs.declared.Rule.TheVariants.{FirstStop, SameFloorTwice, UselessStop, TurnWithPassengers, Capacity, QueueOrder, Car, Floor, Delivery, CallTwice, Place, Unserved}
+use Rattle.elevator_model.specs.declared.Rule.TheVariants.{FirstStop, SameFloorTwice, UselessStop, TurnWithPassengers, Capacity, QueueOrder, Car, Floor, Delivery, CallTwice, Origin, Unserved}
 use Rattle.elevator_model.specs.declared.Stop.{Stop}
 use Rattle.elevator_model.specs.Snapshot.{Snapshot, call_count, car_count, state_of, is_idle, spec_of, call_of}
 use Rattle.elevator_model.specs.Tours.{Progress, start_of, stop_at, make_stop, after_stops, boards_at, gets_off, stays_on, persons_where, overtakes, is_call_for, breaks, first_rule, rules_of_stop, broken_at, broken_or, first_broken_from, rider_count, none_taken}
@@ -165,7 +165,7 @@ module _ (s : Snapshot) (c : ℕ) (stop : Stop) (calls : AreCalls s stop.boards)
   breaks_same taken p CallTwice =
       ap (λ (boards : ℕ → Bool). any_below (call_count s) (λ j. boards j && ((p.boarded j || taken j) || leb 2 (times_in j sorted.boards)))) boards_same
       ∙ ap (λ (count : ℕ → ℕ). any_below (call_count s) (λ j. boards_at s stop j && ((p.boarded j || taken j) || leb 2 (count j)))) counts_same
-  breaks_same taken p Place = ap (λ (boards : ℕ → Bool). any_below (call_count s) (λ j. boards j && not ((call_of s j).origin == stop.floor))) boards_same
+  breaks_same taken p Origin = ap (λ (boards : ℕ → Bool). any_below (call_count s) (λ j. boards j && not ((call_of s j).origin == stop.floor))) boards_same
   breaks_same taken p Unserved = refl
 
   broken_same : (taken : ℕ → Bool) (p : Progress) → broken_at s c taken p sorted ≡ broken_at s c taken p stop

@@ -17,7 +17,7 @@ use Rattle.search_model.specs.declared.Twig.{Twig}
 use Rattle.search_model.specs.declared.Twig.TheVariants.{Split, Leaf as Tip}
 use Rattle.search_model.specs.Nodes.{Node, set_of, is_part}
 use Rattle.search_model.specs.Prices.{value_of}
-use Rattle.search_model.specs.Certificates.{Place, Placed, placed_twigs, has_whole_lists, sum_of_leaf, sum_needed, price_in, worth_in, claim_in}
+use Rattle.search_model.specs.Certificates.{TreePlace, Placed, placed_twigs, has_whole_lists, sum_of_leaf, sum_needed, price_in, worth_in, claim_in}
 use Rattle.search_model.specs.Verdicts.{tour_under_at, first_under, kept_at, reason_of_visit, reason_of_car, reason_of_cars, reason_of_leaf, reason_of_twig, reason_of_tree, reason_of_plan, reason_of_cost, verdict_for, verdict_of}
 use Rattle.answer_text.specs.Plans.{BoardsCalls}
 use Rattle.answer_text.proofs.FitsLemmas.{stops_fit}
@@ -81,7 +81,7 @@ module _ (s : Snapshot) where
       own_if (not (has_whole_lists s leaf)) (Some (Lists k)) (cond small (Some (Sum k (sum_needed bound) (sum_of_leaf leaf))) cars) tt
       (own_if small (Some (Sum k (sum_needed bound) (sum_of_leaf leaf))) cars tt (cars_own k node leaf (car_count s)))
 
-  twig_own : (bound k : ℕ) (place : Place) (twig : Twig) → OwnReason (reason_of_twig s bound k place twig)
+  twig_own : (bound k : ℕ) (place : TreePlace) (twig : Twig) → OwnReason (reason_of_twig s bound k place twig)
   twig_own bound k place (Split j part) = own_if (is_part (set_of place.node j) part) None (Some (BadSplit k)) tt tt
   twig_own bound k place (Tip leaf) = leaf_own bound k place.node leaf
 

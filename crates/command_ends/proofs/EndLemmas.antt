@@ -9,19 +9,19 @@ use Rattle.lift_text.specs.declared.faults.TextFault.{TextFault}
 use Rattle.lift_text.specs.declared.faults.TextFault.TheVariants.{Read as FailedRead, TooLong, Bad, NoMemory}
 use Rattle.command_ends.specs.declared.status.Status.{Status}
 use Rattle.command_ends.specs.declared.status.Status.TheVariants.{Done, Words, Stopped, Refused, Input, Read, Write, Memory}
-use Rattle.command_ends.specs.Ends.{Streams, Due, Wrote, Ends, Puts, PutsFault, PutsLine, IsRefusalLine}
+use Rattle.command_ends.specs.Ends.{Streams, DueTexts, Wrote, Ends, Puts, PutsFault, PutsLine, IsRefusalLine}
 
 -- ---- a text that is due
 
 -- a text that is due was put, with a status of those texts
-pub ends_put : (due : Due) (old new : Streams) (text : List ℕ) (status result : Status) → due status text → (Wrote due old new status → Ends due old new status) → Puts text status result old.taken new.taken old.write_faults new.write_faults → Ends due old new result
+pub ends_put : (due : DueTexts) (old new : Streams) (text : List ℕ) (status result : Status) → due status text → (Wrote due old new status → Ends due old new status) → Puts text status result old.taken new.taken old.write_faults new.write_faults → Ends due old new result
 ends_put due old new text status result is_due as_end (inl put) =
     subst (Ends due old new) (sym put.0) (as_end (record { text = text; is_due = is_due; written = put.1 }))
 ends_put due old new text status result is_due as_end (inr put) =
     subst (Ends due old new) (sym put.1) (record { status = status; text = text; is_due = is_due; count = put.0; within = put.2; rose = put.3; written = put.4 })
 
 -- so of an answer that has one of two statuses
-pub ends_either : (due : Due) (old new : Streams) (text : List ℕ) (first second status result : Status) (IsAnswer : Status → Type 0)
+pub ends_either : (due : DueTexts) (old new : Streams) (text : List ℕ) (first second status result : Status) (IsAnswer : Status → Type 0)
     → (IsAnswer first → due first text) → (Wrote due old new first → Ends due old new first) → (IsAnswer second → due second text) → (Wrote due old new second → Ends due old new second)
     → (status ≡ first) ⊎ (status ≡ second) → IsAnswer status → Puts text status result old.taken new.taken old.write_faults new.write_faults → Ends due old new result
 ends_either due old new text first second status result IsAnswer due_first end_first due_second end_second either answer put =
@@ -38,13 +38,13 @@ put_whole text status result old new before after (inr put) sure = absurd (sure 
 -- ---- an input that was not taken
 
 -- a line that refuses the input is due where it was put
-pub ends_line : (due : Due) (IsLine : List ℕ → Type 0) (old new : Streams) (result : Status) → ((text : List ℕ) → IsLine text → due Input text)
+pub ends_line : (due : DueTexts) (IsLine : List ℕ → Type 0) (old new : Streams) (result : Status) → ((text : List ℕ) → IsLine text → due Input text)
     → PutsLine IsLine result old.taken new.taken old.write_faults new.write_faults → Ends due old new result
 ends_line due IsLine old new result as_due (inl put) = ends_put due old new put.0 Input result (as_due put.0 put.1) (λ wrote. wrote) put.2
 ends_line due IsLine old new result as_due (inr none) = subst (Ends due old new) (sym none.0) none.1
 
 -- the refusal line is due where it was put, and after a failed read nothing was written
-pub ends_fault : (due : Due) (fault : TextFault) (old new : Streams) (result : Status) → ((text : List ℕ) → IsRefusalLine fault text → due Input text)
+pub ends_fault : (due : DueTexts) (fault : TextFault) (old new : Streams) (result : Status) → ((text : List ℕ) → IsRefusalLine fault text → due Input text)
     → (fault ≡ FailedRead → Rose old.read_faults new.read_faults) → PutsFault fault result old.taken new.taken old.write_faults new.write_faults → Ends due old new result
 ends_fault due (Bad number code) old new result as_due rose put = ends_line due (IsRefusalLine (Bad number code)) old new result as_due put
 ends_fault due TooLong old new result as_due rose put = ends_line due (IsRefusalLine TooLong) old new result as_due put
@@ -86,7 +86,7 @@ module _ (Told : TextFault → Type 0) (bad : (number : ℕ) (code : TextCode) �
 -- ---- more texts
 
 -- whoever has more texts that may be due ends so too
-pub ends_more : (due more : Due) (old new : Streams) (status : Status) → ((status : Status) (text : List ℕ) → due status text → more status text) → Ends due old new status → Ends more old new status
+pub ends_more : (due more : DueTexts) (old new : Streams) (status : Status) → ((status : Status) (text : List ℕ) → due status text → more status text) → Ends due old new status → Ends more old new status
 ends_more due more old new Done as_more end = record { text = end.text; is_due = as_more Done end.text end.is_due; written = end.written }
 ends_more due more old new Words as_more end = record { text = end.text; is_due = as_more Words end.text end.is_due; written = end.written }
 ends_more due more old new Stopped as_more end = record { text = end.text; is_due = as_more Stopped end.text end.is_due; written = end.written }

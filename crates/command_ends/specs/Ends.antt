@@ -22,11 +22,11 @@ streams left taken read_faults write_faults = record { left = left; taken = take
 -- ---- how any command ends
 
 -- Which text is due with a status.
-abbrev pub Due : Type 1
-Due = Status → List ℕ → Type 0
+abbrev pub DueTexts : Type 1
+DueTexts = Status → List ℕ → Type 0
 
 -- A text that was due was written whole.
-pub record Wrote (due : Due) (old new : Streams) (status : Status) : Type 0 where
+pub record Wrote (due : DueTexts) (old new : Streams) (status : Status) : Type 0 where
   pub text : List ℕ
   pub is_due : due status text
   pub written : new.taken ≡ append_known old.taken text
@@ -37,7 +37,7 @@ pub record IsReadFault (old new : Streams) : Type 0 where
   pub unwritten : new.taken ≡ old.taken
 
 -- The sink failed in this call; what it took is the beginning of a text that was due.
-pub record IsWriteFault (due : Due) (old new : Streams) : Type 0 where
+pub record IsWriteFault (due : DueTexts) (old new : Streams) : Type 0 where
   pub status : Status
   pub text : List ℕ
   pub is_due : due status text
@@ -47,7 +47,7 @@ pub record IsWriteFault (due : Due) (old new : Streams) : Type 0 where
   pub written : new.taken ≡ append_known old.taken (take count text)
 
 -- How a command ends. Where memory was wanting, nothing was written.
-abbrev pub Ends : Due → Streams → Streams → Status → Type 0
+abbrev pub Ends : DueTexts → Streams → Streams → Status → Type 0
 Ends due old new Done = Wrote due old new Done
 Ends due old new Words = Wrote due old new Words
 Ends due old new Stopped = Wrote due old new Stopped

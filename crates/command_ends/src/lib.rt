@@ -9,7 +9,7 @@
 //!   `put_too_long` writes that an input is too long, and `put_nothing_asked` that a case has no call that
 //!   can be asked about, with a code of its own (`PutsNothingAsked`).
 //!
-//! A command says which text is due with which status (`Due`), and that it ends so (`Ends`, in
+//! A command says which text is due with which status (`DueTexts`), and that it ends so (`Ends`, in
 //! `specs/Ends.antt`): with a status of a text, a text that is due was written whole; after a failed write, a
 //! part of one; after a failed read and when out of memory, nothing. `proofs/EndLemmas.antt` shows this, and
 //! what the status is, for any command that reads its input and then puts its answer or what is wrong: each of

@@ -19,7 +19,7 @@ ghost use Rattle.search_model.specs.Advancing.{state_then as state_then_lem};
 use call_sets::{CallSet, FloorSet};
 use call_state::{Aboard, Building, Call, CarState, Snapshot, is_open};
 use elevator_model::{MOMENT_LIMIT, MOST_CALLS, Stop};
-use tour_rules::places::{Place, is_carried};
+use tour_rules::places::{CarPlace, is_carried};
 use tour_rules::walking::Walker;
 
 /// Whether a call of the set goes to a floor that is not open.
@@ -70,7 +70,7 @@ fn can_still_choose(
     snapshot: &Snapshot,
     car: u32,
     t: u64,
-    place: &Place,
+    place: &CarPlace,
     state: CarState,
     stop: &Stop,
 ) -> bool

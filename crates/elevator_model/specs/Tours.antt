@@ -5,7 +5,7 @@ use Rattle.elevator_model.specs.declared.Call.{Call}
 use Rattle.elevator_model.specs.declared.Stop.{Stop}
 use Rattle.elevator_model.specs.declared.Broken.{Broken}
 use Rattle.elevator_model.specs.declared.Rule.{Rule}
-use Rattle.elevator_model.specs.declared.Rule.TheVariants.{FirstStop, SameFloorTwice, UselessStop, TurnWithPassengers, Capacity, QueueOrder, Car, Floor, Delivery, CallTwice, Place}
+use Rattle.elevator_model.specs.declared.Rule.TheVariants.{FirstStop, SameFloorTwice, UselessStop, TurnWithPassengers, Capacity, QueueOrder, Car, Floor, Delivery, CallTwice, Origin}
 use Rattle.call_sets.specs.Counting.{any_below, sum_where, is_among}
 use Rattle.elevator_model.specs.Travel.{time_between}
 use Rattle.elevator_model.specs.Snapshot.{Snapshot, call_count, call_of, group_of, spec_of, state_of, floor_of, moment_of, is_coming, is_idle, is_possible, serves, may_stop_first}
@@ -143,7 +143,7 @@ breaks s c taken p stop Floor = not (serves s.building c stop.floor)
 breaks s c taken p stop Delivery = false
 breaks s c taken p stop CallTwice =
     any_below (call_count s) (λ j. boards_at s stop j && (p.boarded j || taken j || nat_le 2 (count_by (λ x. x == j) stop.boards)))
-breaks s c taken p stop Place = any_below (call_count s) (λ j. boards_at s stop j && not ((call_of s j).origin == stop.floor))
+breaks s c taken p stop Origin = any_below (call_count s) (λ j. boards_at s stop j && not ((call_of s j).origin == stop.floor))
 breaks s c taken p stop _ = false
 
 -- the first rule of a list that is broken
@@ -152,10 +152,10 @@ first_rule broken [] = None
 first_rule broken (rule ∷ rules) = if broken rule then Some rule else first_rule broken rules
 
 abbrev pub rules_but_useless : List Rule
-rules_but_useless = FirstStop ∷ SameFloorTwice ∷ TurnWithPassengers ∷ Capacity ∷ QueueOrder ∷ Car ∷ Floor ∷ CallTwice ∷ Place ∷ []
+rules_but_useless = FirstStop ∷ SameFloorTwice ∷ TurnWithPassengers ∷ Capacity ∷ QueueOrder ∷ Car ∷ Floor ∷ CallTwice ∷ Origin ∷ []
 
 abbrev pub rules_of_stop : List Rule
-rules_of_stop = FirstStop ∷ SameFloorTwice ∷ UselessStop ∷ TurnWithPassengers ∷ Capacity ∷ QueueOrder ∷ Car ∷ Floor ∷ CallTwice ∷ Place ∷ []
+rules_of_stop = FirstStop ∷ SameFloorTwice ∷ UselessStop ∷ TurnWithPassengers ∷ Capacity ∷ QueueOrder ∷ Car ∷ Floor ∷ CallTwice ∷ Origin ∷ []
 
 -- the lowest rule that the stop breaks
 abbrev pub broken_at : Snapshot → ℕ → (taken : ℕ → Bool) → Progress → Stop → Option Rule

@@ -12,7 +12,7 @@ use Rattle.elevator_model.specs.declared.Move.{Move}
 use Rattle.elevator_model.specs.declared.Move.TheVariants.{Board, Leave, End}
 use Rattle.elevator_model.specs.declared.Fault.{Fault}
 use Rattle.elevator_model.specs.declared.Rule.{Rule}
-use Rattle.elevator_model.specs.declared.Rule.TheVariants.{FirstStop, SameFloorTwice, UselessStop, TurnWithPassengers, Capacity, QueueOrder, Car, Floor, Delivery, CallTwice, Place, Unserved}
+use Rattle.elevator_model.specs.declared.Rule.TheVariants.{FirstStop, SameFloorTwice, UselessStop, TurnWithPassengers, Capacity, QueueOrder, Car, Floor, Delivery, CallTwice, Origin, Unserved}
 use Rattle.elevator_model.specs.Travel.{Square}
 use Rattle.elevator_model.specs.Building.{Building}
 use Rattle.elevator_model.specs.Snapshot.{Snapshot}
@@ -128,7 +128,7 @@ pub record AreBroken : Type 0 where
   pub delivery : Breaks one_call (stop 0 (0 ∷ []) ∷ []) 2 Delivery
   pub twice : Breaks one_call (stop 0 (0 ∷ 0 ∷ []) ∷ stop 1 [] ∷ []) 1 CallTwice
   pub again : Breaks one_call (stop 0 (0 ∷ []) ∷ stop 1 [] ∷ stop 0 (0 ∷ []) ∷ stop 1 [] ∷ []) 3 CallTwice
-  pub place : Breaks one_call (stop 2 (0 ∷ []) ∷ stop 1 [] ∷ []) 1 Place
+  pub place : Breaks one_call (stop 2 (0 ∷ []) ∷ stop 1 [] ∷ []) 1 Origin
 
 -- the case of one call in a building with patience
 abbrev pub impatient : (patience weight : ℕ) → Snapshot

@@ -279,7 +279,7 @@ pub enum Rule {
     /// A call boards a second time.
     CallTwice,
     /// A call boards at a floor that is not its origin.
-    Place,
+    Origin,
     /// A call that no tour boards.
     Unserved,
 }
@@ -303,7 +303,7 @@ impl Rule {
             Rule::Floor => 8,
             Rule::Delivery => 9,
             Rule::CallTwice => 10,
-            Rule::Place => 11,
+            Rule::Origin => 11,
             Rule::Unserved => 12,
         }
     }

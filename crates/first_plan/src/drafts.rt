@@ -1,4 +1,4 @@
-//! Draft tours: they are timed anew after each change.
+//! TourDraft tours: they are timed anew after each change.
 
 ghost use Rattle.std.specs.Prelude.{◌<◌};
 ghost use Rattle.elevator_model.specs.Snapshot.{car_count};
@@ -16,7 +16,7 @@ use std::mem;
 
 /// The draft of a car's tour.
 #[derive(Drop)]
-pub(crate) struct Draft {
+pub(crate) struct TourDraft {
     pub(crate) start: DraftRide,
     pub(crate) stops: Vec<DraftStop>,
     /// Room for the stops that are timed anew.
@@ -56,7 +56,7 @@ fn put_stop(stops: &mut Vec<DraftStop>, place: usize, stop: DraftStop) -> Result
     Ok(())
 }
 
-impl Draft {
+impl TourDraft {
     /// The draft with these stops.
     pub(crate) fn new(
         alloc: Global,

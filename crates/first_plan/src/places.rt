@@ -4,7 +4,7 @@
 //! and may not turn before the call's destination. So a draft of k stops has some k + 2 places, and each is
 //! judged by the stops on the way alone: from there on all is late by the same time.
 
-use crate::drafts::Draft;
+use crate::drafts::TourDraft;
 use crate::queues::Queues;
 use crate::ride::{travel_time, waiting_cost};
 use crate::stops::DraftStop;
@@ -32,7 +32,7 @@ pub(crate) struct Insertion {
 #[derive(Drop)]
 struct InsertionSearch<'a> {
     snapshot: &'a Snapshot,
-    draft: &'a Draft,
+    draft: &'a TourDraft,
     car: u32,
     spec: CarSpec,
     wanted: Call,
@@ -73,7 +73,7 @@ fn is_on_way(last: u32, floor: u32, destination: u32) -> bool {
 
 impl Approach {
     /// The car as it starts.
-    fn at_start(draft: &Draft) -> Self {
+    fn at_start(draft: &TourDraft) -> Self {
         Self {
             floor: draft.start.floor(),
             leaves: draft.start.leaves(),
@@ -381,7 +381,7 @@ fn cheaper(best: Option<Insertion>, place: Option<Insertion>) -> Option<Insertio
 fn search_in<'a>(
     snapshot: &'a Snapshot,
     queues: &Queues,
-    draft: &'a Draft,
+    draft: &'a TourDraft,
     car: u32,
     call: u32,
     wanted: Call,
@@ -412,7 +412,7 @@ fn search_in<'a>(
 pub(crate) fn best_place(
     snapshot: &Snapshot,
     queues: &Queues,
-    drafts: &[Draft],
+    drafts: &[TourDraft],
     call: u32,
     wanted: &Call,
     tried: &mut u64,

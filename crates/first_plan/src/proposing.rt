@@ -3,7 +3,7 @@
 ghost use Rattle.std.specs.Prelude.{◌<◌};
 ghost use Rattle.elevator_model.specs.Snapshot.{call_count, car_count};
 
-use crate::drafts::Draft;
+use crate::drafts::TourDraft;
 use crate::queues::Queues;
 use crate::reinsertion::{improved, put_call};
 use crate::stops::{stops_of, tour_of};
@@ -17,10 +17,10 @@ fn opening_drafts(
     alloc: Global,
     snapshot: &Snapshot,
     queues: &Queues,
-) -> Result<Vec<Draft>, AllocError> {
+) -> Result<Vec<TourDraft>, AllocError> {
     let mut drafts = Vec::new(alloc);
     for car in 0..snapshot.building().cars().len() as u32 {
-        drafts.push(Draft::opening(alloc, snapshot, queues, car)?)?;
+        drafts.push(TourDraft::opening(alloc, snapshot, queues, car)?)?;
     }
     Ok(drafts)
 }
@@ -32,20 +32,20 @@ fn drafts_of(
     snapshot: &Snapshot,
     queues: &Queues,
     plan: &Plan,
-) -> Result<Vec<Draft>, AllocError> {
+) -> Result<Vec<TourDraft>, AllocError> {
     let cars = snapshot.building().cars().len();
     let mut drafts = Vec::new(alloc);
     for (car, tour) in plan.tours().iter().enumerate() {
         if car < cars {
             let stops = stops_of(alloc, tour)?;
-            drafts.push(Draft::new(alloc, snapshot, queues, car as u32, stops)?)?;
+            drafts.push(TourDraft::new(alloc, snapshot, queues, car as u32, stops)?)?;
         }
     }
     Ok(drafts)
 }
 
 /// The plan that the drafts make.
-fn plan_of(alloc: Global, drafts: &[Draft]) -> Result<Plan, AllocError> {
+fn plan_of(alloc: Global, drafts: &[TourDraft]) -> Result<Plan, AllocError> {
     let mut tours = Vec::new(alloc);
     for draft in drafts {
         tours.push(tour_of(alloc, draft.stops.as_slice())?)?;
@@ -58,7 +58,7 @@ fn put_all(
     snapshot: &Snapshot,
     queues: &Queues,
     order: &[u32],
-    drafts: &mut [Draft],
+    drafts: &mut [TourDraft],
 ) -> Result<bool, AllocError> {
     let mut work = 0;
     for call in order {

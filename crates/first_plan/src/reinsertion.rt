@@ -5,7 +5,7 @@
 
 ghost use Rattle.std.specs.Prelude.{◌≤◌};
 
-use crate::drafts::Draft;
+use crate::drafts::TourDraft;
 use crate::neighbours::Neighbours;
 use crate::places::best_place;
 use crate::queues::Queues;
@@ -36,9 +36,9 @@ struct Moving<'a> {
     snapshot: &'a Snapshot,
     queues: &'a Queues,
     /// The best drafts, the last that were kept, and those that are tried.
-    best: Vec<Draft>,
-    kept: Vec<Draft>,
-    tried: Vec<Draft>,
+    best: Vec<TourDraft>,
+    kept: Vec<TourDraft>,
+    tried: Vec<TourDraft>,
     /// What the first two cost, in cost units.
     best_cost: u64,
     kept_cost: u64,
@@ -49,7 +49,7 @@ struct Moving<'a> {
 }
 
 /// What the drafts cost together.
-fn cost_of(drafts: &[Draft]) -> u64 {
+fn cost_of(drafts: &[TourDraft]) -> u64 {
     let mut cost = 0u64;
     for draft in drafts {
         cost = cost.saturating_add(draft.cost);
@@ -58,7 +58,7 @@ fn cost_of(drafts: &[Draft]) -> u64 {
 }
 
 /// A copy of the drafts.
-fn copies_of(alloc: Global, drafts: &[Draft]) -> Result<Vec<Draft>, AllocError> {
+fn copies_of(alloc: Global, drafts: &[TourDraft]) -> Result<Vec<TourDraft>, AllocError> {
     let mut copies = Vec::new(alloc);
     for draft in drafts {
         copies.push(draft.copy(alloc)?)?;
@@ -67,7 +67,7 @@ fn copies_of(alloc: Global, drafts: &[Draft]) -> Result<Vec<Draft>, AllocError> 
 }
 
 /// The drafts of these cars become like the others of the same cars.
-fn copy_drafts(to: &mut [Draft], from: &[Draft], cars: CarSet) -> Result<(), AllocError> {
+fn copy_drafts(to: &mut [TourDraft], from: &[TourDraft], cars: CarSet) -> Result<(), AllocError> {
     for car in cars.iter() {
         let place = car as usize;
         if let Some(target) = to.get_mut(place) {
@@ -80,7 +80,7 @@ fn copy_drafts(to: &mut [Draft], from: &[Draft], cars: CarSet) -> Result<(), All
 }
 
 /// All drafts become like the others.
-fn copy_all(to: &mut [Draft], from: &[Draft]) -> Result<(), AllocError> {
+fn copy_all(to: &mut [TourDraft], from: &[TourDraft]) -> Result<(), AllocError> {
     for (place, source) in from.iter().enumerate() {
         if let Some(target) = to.get_mut(place) {
             target.copy_from(source)?;
@@ -93,7 +93,7 @@ fn copy_all(to: &mut [Draft], from: &[Draft]) -> Result<(), AllocError> {
 pub(crate) fn put_call(
     snapshot: &Snapshot,
     queues: &Queues,
-    drafts: &mut [Draft],
+    drafts: &mut [TourDraft],
     call: u32,
     work: &mut u64,
 ) -> Result<Option<u32>, AllocError> {
@@ -122,7 +122,7 @@ impl<'a> Moving<'a> {
         alloc: Global,
         snapshot: &'a Snapshot,
         queues: &'a Queues,
-        drafts: Vec<Draft>,
+        drafts: Vec<TourDraft>,
     ) -> Result<Self, AllocError> {
         let cost = cost_of(drafts.as_slice());
         Ok(Self {
@@ -139,7 +139,7 @@ impl<'a> Moving<'a> {
     }
 
     /// The best drafts.
-    fn into_best(self) -> Vec<Draft> {
+    fn into_best(self) -> Vec<TourDraft> {
         let Self {
             snapshot: _,
             queues: _,
@@ -221,8 +221,8 @@ pub(crate) fn improved(
     snapshot: &Snapshot,
     queues: &Queues,
     order: &[u32],
-    drafts: Vec<Draft>,
-) -> Result<Vec<Draft>, AllocError> {
+    drafts: Vec<TourDraft>,
+) -> Result<Vec<TourDraft>, AllocError> {
     let neighbours = Neighbours::of_calls(alloc, snapshot.calls())?;
     let mut draws = Draws::from_number(SEED);
     let mut taken = Taken::new(alloc);

@@ -1,4 +1,4 @@
-//! Draft tours as stops, each with the calls that board there.
+//! TourDraft tours as stops, each with the calls that board there.
 
 use call_sets::CallSet;
 use elevator_model::{Boards, Stop, Tour};

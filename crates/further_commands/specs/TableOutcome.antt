@@ -13,7 +13,7 @@ use Rattle.lift_text.specs.declared.codes.TextCode.TheVariants.{ShorterWay}
 use Rattle.lift_text.specs.declared.faults.TextFault.{TextFault}
 use Rattle.table_text.specs.TableTexts.{IsTableText, IsLoneTableFault}
 use Rattle.command_ends.specs.Codes.{number_of}
-use Rattle.command_ends.specs.Ends.{Streams, Due, IsRefusalLine}
+use Rattle.command_ends.specs.Ends.{Streams, DueTexts, IsRefusalLine}
 use Rattle.command_ends.specs.declared.status.Status.{Status}
 use Rattle.command_ends.specs.declared.status.Status.TheVariants.{Done, Words, Stopped, Refused, Input, Read, Write, Memory}
 
@@ -38,7 +38,7 @@ pub record IsToldShorter (t : Square) (text : List ℕ) : Type 0 where
   pub is_text : text ≡ shorter_line triple
 
 -- which line is told of a table with a status
-abbrev pub IsToldOf : Square → Due
+abbrev pub IsToldOf : Square → DueTexts
 IsToldOf t Done text = IsToldDirect t text
 IsToldOf t Words text = ⊥
 IsToldOf t Stopped text = ⊥
@@ -66,7 +66,7 @@ pub record TableRefusalIsDue (left left' : Option (List ℕ)) (text : List ℕ) 
   pub shows : FaultShows (option_map whole_text left) fault left'
 
 -- the texts of `table`, by what the source had left before it and has left behind it
-abbrev pub TableDue : (left left' : Option (List ℕ)) → Due
+abbrev pub TableDue : (left left' : Option (List ℕ)) → DueTexts
 TableDue left left' Done text = TableAnswerIsDue left left' Done text
 TableDue left left' Words text = ⊥
 TableDue left left' Stopped text = ⊥

@@ -13,7 +13,7 @@ use Rattle.what_if.specs.WhatIf.{AreEnough, AreExtras, AreSettled, IsRegret, ext
 use Rattle.whatif_text.specs.declared.faults.AskFault.{AskFault}
 use Rattle.whatif_text.specs.declared.faults.AskFault.TheVariants.{Text, NothingAsked}
 use Rattle.whatif_text.specs.AskedCases.{HasAskedCall, IsAskedCaseText, IsAskFault, AskFaultShows}
-use Rattle.command_ends.specs.Ends.{Streams, Due, IsRefusalLine, IsNothingAskedLine, PutsFault, PutsNothingAsked}
+use Rattle.command_ends.specs.Ends.{Streams, DueTexts, IsRefusalLine, IsNothingAskedLine, PutsFault, PutsNothingAsked}
 use Rattle.command_ends.specs.declared.status.Status.{Status}
 use Rattle.command_ends.specs.declared.status.Status.TheVariants.{Done, Words, Stopped, Refused, Input, Read, Write, Memory}
 
@@ -90,7 +90,7 @@ pub record RefusalIsDue (left left' : Option (List ℕ)) (text : List ℕ) : Typ
   pub shows : AskFaultShows (option_map whole_text left) fault left'
 
 -- the texts of `whatif`, by what the source had left before it and has left behind it
-abbrev pub WhatIfDue : (rounds moves : ℕ) → (left left' : Option (List ℕ)) → Due
+abbrev pub WhatIfDue : (rounds moves : ℕ) → (left left' : Option (List ℕ)) → DueTexts
 WhatIfDue rounds moves left left' Done text = AnswerIsDue rounds moves left left' Done text
 WhatIfDue rounds moves left left' Words text = ⊥
 WhatIfDue rounds moves left left' Stopped text = AnswerIsDue rounds moves left left' Stopped text

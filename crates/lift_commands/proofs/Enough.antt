@@ -12,7 +12,7 @@ use Rattle.search_model.specs.declared.Twig.TheVariants.{Split, Leaf as Tip}
 use Rattle.search_model.specs.declared.Turn.{Turn}
 use Rattle.search_model.specs.declared.StopReason.{StopReason}
 use Rattle.search_model.specs.declared.StopReason.TheVariants.{Solved, Rounds, Moves}
-use Rattle.search_model.specs.Certificates.{Place, Placed, placed_from, places_after, root_place, price_in, worth_in}
+use Rattle.search_model.specs.Certificates.{TreePlace, Placed, placed_from, places_after, root_place, price_in, worth_in}
 use Rattle.search_model.specs.Kept.{is_kept}
 use Rattle.search_model.specs.Nodes.{allows, requires_of}
 use Rattle.search_model.specs.Solving.{IsSolveAnswer}
@@ -26,12 +26,12 @@ use Rattle.lift_commands.specs.declared.endings.Ending.{Ending}
 use Rattle.lift_commands.specs.Outcome.{AreEnough, IsPrinted, ending_of, status_of_ending}
 
 module _ (s : Snapshot) where
-  due_most : (place : Place) (twig : Twig) → due_at s place twig ≤ car_count s * moves_enough s
+  due_most : (place : TreePlace) (twig : Twig) → due_at s place twig ≤ car_count s * moves_enough s
   due_most place (Split j part) = omega arith
   due_most place (Tip leaf) =
       sum_below-each (car_count s) (claim_due s place.node leaf) (moves_enough s) (λ c lt. (let short = tested_lists-few s c (allows place.node c) (is_kept s c (price_in leaf) (allows place.node c) (requires_of place.node c) (worth_in leaf c)) lt in omega (arith, short)))
 
-  due_placed : (places : List Place) (twigs : List Twig) → sum_by (λ (p : Placed). due_at s p.place p.twig) (placed_from places twigs) ≤ length twigs * (car_count s * moves_enough s)
+  due_placed : (places : List TreePlace) (twigs : List Twig) → sum_by (λ (p : Placed). due_at s p.place p.twig) (placed_from places twigs) ≤ length twigs * (car_count s * moves_enough s)
   due_placed places [] = omega arith
   due_placed [] (twig ∷ twigs) = omega arith
   due_placed (place ∷ places) (twig ∷ twigs) =

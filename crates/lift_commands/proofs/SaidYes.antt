@@ -14,7 +14,7 @@ use Rattle.search_model.specs.declared.Turn.{Turn}
 use Rattle.search_model.specs.declared.StopReason.{StopReason}
 use Rattle.search_model.specs.declared.StopReason.TheVariants.{Solved, Rounds, Moves}
 use Rattle.search_model.specs.declared.Verdict.TheVariants.{Yes}
-use Rattle.search_model.specs.Certificates.{Place, Placed, Proves, placed_twigs}
+use Rattle.search_model.specs.Certificates.{TreePlace, Placed, Proves, placed_twigs}
 use Rattle.search_model.specs.Solving.{IsReason, IsSolveAnswer}
 use Rattle.search_model.specs.Verdicts.{FitsClaims, verdict_of}
 use Rattle.search_tree.specs.Sheets.{IsSizedTwig}
@@ -118,7 +118,7 @@ closes s rounds moves limit cost bound printed tree (Moves car count) ids few_ro
 -- ---- the verdict
 
 -- a claim that is due fits
-fits_twig : (s : Snapshot) (place : Place) (twig : Twig) → StatesDue s place twig → FitsClaims s place twig
+fits_twig : (s : Snapshot) (place : TreePlace) (twig : Twig) → StatesDue s place twig → FitsClaims s place twig
 fits_twig s place (Split j part) h = tt
 fits_twig s place (Tip leaf) h = λ c lt. (let due = h c lt in omega (arith, due))
 

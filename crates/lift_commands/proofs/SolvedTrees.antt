@@ -14,7 +14,7 @@ use Rattle.search_model.specs.declared.Leaf.{Leaf}
 use Rattle.search_model.specs.declared.Twig.{Twig}
 use Rattle.search_model.specs.declared.Twig.TheVariants.{Split, Leaf as Tip}
 use Rattle.search_model.specs.Nodes.{Node, IsNodeOf, set_of, set_where, is_part}
-use Rattle.search_model.specs.Certificates.{Place, Placed, IsSound, are_each_once, claim_in, is_filled, is_whole, placed_from, placed_twigs, places_after, root_place}
+use Rattle.search_model.specs.Certificates.{TreePlace, Placed, IsSound, are_each_once, claim_in, is_filled, is_whole, placed_from, placed_twigs, places_after, root_place}
 use Rattle.cert_claims.specs.Due.{StatesDue, claims_of as stated_claims, claims_of_tree, worths_of, worths_of_tree}
 use Rattle.search_model.proofs.NodeLemmas.{part-from}
 use Rattle.search_model.proofs.SetLemmas.{set_where-below}
@@ -32,18 +32,18 @@ use Rattle.cert_text.proofs.LengthLemmas.{HasAtMost, cert_length_of_answer, leav
 use Rattle.lift_commands.proofs.Solutions.{cars-le}
 
 -- what is known of a twig at its place
-pub record IsKnown (s : Snapshot) (bound : ℕ) (place : Place) (twig : Twig) : Type 0 where
+pub record IsKnown (s : Snapshot) (bound : ℕ) (place : TreePlace) (twig : Twig) : Type 0 where
   pub sound : IsSound s bound place twig
   pub sized : IsSizedTwig twig
 
 -- and of each, at the places that they fill
-abbrev pub AreKnown : Snapshot → (bound : ℕ) → List Place → List Twig → Type 0
+abbrev pub AreKnown : Snapshot → (bound : ℕ) → List TreePlace → List Twig → Type 0
 AreKnown s bound places [] = Unit {0}
 AreKnown s bound [] (twig ∷ twigs) = ⊥
 AreKnown s bound (place ∷ places) (twig ∷ twigs) = IsKnown s bound place twig × AreKnown s bound (places_after place twig places) twigs
 
 module _ (s : Snapshot) (bound : ℕ) where
-  pub are_known : (places : List Place) (twigs : List Twig) → is_filled places twigs ≡ true → All (λ (p : Placed). IsSound s bound p.place p.twig) (placed_from places twigs) → All IsSizedTwig twigs → AreKnown s bound places twigs
+  pub are_known : (places : List TreePlace) (twigs : List Twig) → is_filled places twigs ≡ true → All (λ (p : Placed). IsSound s bound p.place p.twig) (placed_from places twigs) → All IsSizedTwig twigs → AreKnown s bound places twigs
   are_known places [] filled sound sized = tt
   are_known [] (twig ∷ twigs) filled sound sized = absurd cc
   are_known (place ∷ places) (twig ∷ twigs) filled sound sized =
@@ -78,7 +78,7 @@ module _ (s : Snapshot) where
 
 -- ---- leaves
 
-module _ (s : Snapshot) (bound : ℕ) (place : Place) (leaf : Leaf) (known : IsKnown s bound place (Tip leaf)) where
+module _ (s : Snapshot) (bound : ℕ) (place : TreePlace) (leaf : Leaf) (known : IsKnown s bound place (Tip leaf)) where
   each_once : (are_each_once (call_count s) (map (λ (p : PriceOf). p.call) leaf.prices) ≡ true) × (are_each_once (car_count s) (map (λ (w : WorthOf). w.car) leaf.worths) ≡ true)
   each_once = and_parts (are_each_once (call_count s) (map (λ (p : PriceOf). p.call) leaf.prices)) (are_each_once (car_count s) (map (λ (w : WorthOf). w.car) leaf.worths)) known.sound.whole
 
@@ -155,12 +155,12 @@ same_claims (Tip leaf ∷ tree) =
     omega (arith, rest, one, other)
 
 -- each place has a node
-abbrev HaveNodes : Snapshot → List Place → Type 0
+abbrev HaveNodes : Snapshot → List TreePlace → Type 0
 HaveNodes s [] = Unit {0}
 HaveNodes s (place ∷ places) = IsNodeOf s place.node × HaveNodes s places
 
 module _ (s : Snapshot) (accepted : IsAccepted s) (bound : ℕ) where
-  twigs_known : (places : List Place) (twigs : List Twig) → HaveNodes s places → AreKnown s bound places twigs → AreTwigsKnown s twigs
+  twigs_known : (places : List TreePlace) (twigs : List Twig) → HaveNodes s places → AreKnown s bound places twigs → AreTwigsKnown s twigs
   twigs_known places [] nodes known = All-nil (IsKnownTwig s)
   twigs_known [] (twig ∷ twigs) nodes known = absurd known
   twigs_known (place ∷ places) (Split j part ∷ twigs) nodes known =
@@ -177,11 +177,11 @@ module _ (s : Snapshot) (accepted : IsAccepted s) (bound : ℕ) where
   tree_known tree whole sound sized =
       twigs_known (root_place s ∷ []) tree (root_is_node s accepted, tt) (are_known s bound (root_place s ∷ []) tree whole sound sized)
 
-  abbrev pub Due : Placed → Type 0
-  Due p = StatesDue s p.place p.twig
+  abbrev pub IsDue : Placed → Type 0
+  IsDue p = StatesDue s p.place p.twig
 
   -- within what is left of the claims
-  twigs_fit : (places : List Place) (twigs : List Twig) → HaveNodes s places → AreKnown s bound places twigs → All Due (placed_from places twigs) → claims_of_tree twigs ≤ 10000000000 → All (IsTwigWithin s) twigs
+  twigs_fit : (places : List TreePlace) (twigs : List Twig) → HaveNodes s places → AreKnown s bound places twigs → All IsDue (placed_from places twigs) → claims_of_tree twigs ≤ 10000000000 → All (IsTwigWithin s) twigs
   twigs_fit places [] nodes known due few = All-nil (IsTwigWithin s)
   twigs_fit [] (twig ∷ twigs) nodes known due few = absurd known
   twigs_fit (place ∷ places) (Split j part ∷ twigs) nodes known due few =
@@ -192,21 +192,21 @@ module _ (s : Snapshot) (accepted : IsAccepted s) (bound : ℕ) where
       let here : Placed = record { place = place; twig = Split j part } in
       let later = placed_from (places_after place (Split j part) places) twigs in
       let claims = sum_by-cons stated_claims (Split j part) twigs in
-      All-cons (IsTwigWithin s) (Split j part) twigs (split_fits s place.node j part is h small) (twigs_fit (places_after place (Split j part) places) twigs (first_is_node s place.node j part small is call h, (second_is_node s place.node j part is call h, nodes.1)) known.1 (All-tail Due here later due) (omega (arith, few, claims)))
+      All-cons (IsTwigWithin s) (Split j part) twigs (split_fits s place.node j part is h small) (twigs_fit (places_after place (Split j part) places) twigs (first_is_node s place.node j part small is call h, (second_is_node s place.node j part is call h, nodes.1)) known.1 (All-tail IsDue here later due) (omega (arith, few, claims)))
   twigs_fit (place ∷ places) (Tip leaf ∷ twigs) nodes known due few =
       let here : Placed = record { place = place; twig = Tip leaf } in
       let later = placed_from places twigs in
       let claims = sum_by-cons stated_claims (Tip leaf) twigs in
-      All-cons (IsTwigWithin s) (Tip leaf) twigs (leaf_fits s bound place leaf known.0 (All-head Due here later due) (omega (arith, few, claims))) (twigs_fit places twigs nodes.1 known.1 (All-tail Due here later due) (omega (arith, few, claims)))
+      All-cons (IsTwigWithin s) (Tip leaf) twigs (leaf_fits s bound place leaf known.0 (All-head IsDue here later due) (omega (arith, few, claims))) (twigs_fit places twigs nodes.1 known.1 (All-tail IsDue here later due) (omega (arith, few, claims)))
 
-  twigs_small : (places : List Place) (twigs : List Twig) → AreKnown s bound places twigs → All (HasAtMost 128 16) twigs
+  twigs_small : (places : List TreePlace) (twigs : List Twig) → AreKnown s bound places twigs → All (HasAtMost 128 16) twigs
   twigs_small places [] known = All-nil (HasAtMost 128 16)
   twigs_small [] (twig ∷ twigs) known = absurd known
   twigs_small (place ∷ places) (Split j part ∷ twigs) known = All-cons (HasAtMost 128 16) (Split j part) twigs tt (twigs_small (places_after place (Split j part) places) twigs known.1)
   twigs_small (place ∷ places) (Tip leaf ∷ twigs) known =
       All-cons (HasAtMost 128 16) (Tip leaf) twigs (leaf_small s bound place leaf known.0 accepted) (twigs_small places twigs known.1)
 
-  worths_in : (places : List Place) (twigs : List Twig) → AreKnown s bound places twigs → worths_of_tree twigs ≤ 16 * sum_by leaves_of twigs
+  worths_in : (places : List TreePlace) (twigs : List Twig) → AreKnown s bound places twigs → worths_of_tree twigs ≤ 16 * sum_by leaves_of twigs
   worths_in places [] known = omega arith
   worths_in [] (twig ∷ twigs) known = absurd known
   worths_in (place ∷ places) (Split j part ∷ twigs) known =
@@ -237,7 +237,7 @@ module _ (s : Snapshot) (accepted : IsAccepted s) (bound : ℕ) where
         let leaves = leaves_few short in
         omega (arith, worths, leaves)
 
-    pub tree_within : All Due (placed_twigs s tree) → claims_of_tree tree ≤ 10000000000 → IsWithin s tree
+    pub tree_within : All IsDue (placed_twigs s tree) → claims_of_tree tree ≤ 10000000000 → IsWithin s tree
     tree_within due few = whole_within s tree (twigs_fit (root_place s ∷ []) tree (root_is_node s accepted, tt) known due few) whole (omega (arith, few, same_claims tree))
 
     pub tree_short : length tree ≤ 16001 → HasText s tree → length (cert_text s tree) ≤ 60000000

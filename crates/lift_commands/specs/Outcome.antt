@@ -28,7 +28,7 @@ use Rattle.search_model.specs.Solving.{IsSolveAnswer}
 use Rattle.search_model.specs.Certificates.{Placed, Proves, placed_twigs}
 use Rattle.search_model.specs.Verdicts.{rounds_enough, moves_enough, verdict_of}
 use Rattle.search_model.specs.Cases.{IsCase}
-use Rattle.cert_claims.specs.Due.{StatesDue, claims_of_tree, due_of_tree, most_of_tree}
+use Rattle.cert_claims.specs.DueTexts.{StatesDue, claims_of_tree, due_of_tree, most_of_tree}
 use Rattle.cert_claims.specs.Stating.{DifferInClaims}
 use Rattle.lift_words.specs.Taken.{AreTaken}
 use Rattle.lift_words.specs.declared.request.Request.{Request}
@@ -40,7 +40,7 @@ use Rattle.lift_words.specs.declared.request.RunOptions.{RunOptions}
 use Rattle.byte_streams.specs.Streams.{Rose}
 use Rattle.command_ends.specs.declared.status.Status.{Status}
 use Rattle.command_ends.specs.declared.status.Status.TheVariants.{Done, Words, Stopped, Refused, Input, Read, Write, Memory}
-use Rattle.command_ends.specs.Ends.{Streams, Due, IsRefusalLine}
+use Rattle.command_ends.specs.Ends.{Streams, DueTexts, IsRefusalLine}
 
 -- ---- the command `solve`
 
@@ -154,7 +154,7 @@ pub record RefusalIsDue (left left' : Option (List ℕ)) (text : List ℕ) : Typ
   pub shows : FaultShows (option_map whole_text left) fault left'
 
 -- the texts of `solve`, by what the source had left before it and has left behind it
-abbrev pub SolveDue : SolveOptions → (left left' : Option (List ℕ)) → Due
+abbrev pub SolveDue : SolveOptions → (left left' : Option (List ℕ)) → DueTexts
 SolveDue options left left' Done text = AnswerIsDue options left left' Done text
 SolveDue options left left' Words text = ⊥
 SolveDue options left left' Stopped text = AnswerIsDue options left left' Stopped text
@@ -215,7 +215,7 @@ pub record CheckRefusalIsDue (left left' : Option (List ℕ)) (text : List ℕ) 
   pub shows : FaultShows (option_map whole_text left) fault left'
 
 -- the texts of `check`
-abbrev pub CheckDue : (left left' : Option (List ℕ)) → Due
+abbrev pub CheckDue : (left left' : Option (List ℕ)) → DueTexts
 CheckDue left left' Done text = VerdictIsDue left left' Done text
 CheckDue left left' Words text = ⊥
 CheckDue left left' Stopped text = ⊥
@@ -257,7 +257,7 @@ pub record IsMadeCase (sizes : CaseSizes) (text : List ℕ) : Type 0 where
   pub again : IsCaseText text snapshot
 
 -- the texts of `make`
-abbrev pub MakeDue : CaseSizes → Due
+abbrev pub MakeDue : CaseSizes → DueTexts
 MakeDue sizes Done text = IsMadeCase sizes text
 MakeDue sizes Words text = ⊥
 MakeDue sizes Stopped text = ⊥
@@ -294,7 +294,7 @@ pub record IsSolvedCase (options : RunOptions) (status : Status) (text : List �
   pub is_text : text ≡ run_text options.sizes cost bound
 
 -- the texts of `make --run`
-abbrev pub SolvedCaseDue : RunOptions → Due
+abbrev pub SolvedCaseDue : RunOptions → DueTexts
 SolvedCaseDue options Done text = IsSolvedCase options Done text
 SolvedCaseDue options Words text = ⊥
 SolvedCaseDue options Stopped text = IsSolvedCase options Stopped text
@@ -361,7 +361,7 @@ pub record CheckRefusalIsAsked (words : List (List ℕ)) (left left' : Option (L
   pub refusal : CheckRefusalIsDue left left' text
 
 -- the texts of a run
-abbrev pub RunDue : List (List ℕ) → (left left' : Option (List ℕ)) → Due
+abbrev pub RunDue : List (List ℕ) → (left left' : Option (List ℕ)) → DueTexts
 RunDue words left left' Done text =
     AnswerIsAsked words left left' Done text ⊎ VerdictIsAsked words left left' Done text ⊎ CaseIsAsked words left left' text ⊎ SolvedCaseIsAsked words left left' Done text
 RunDue words left left' Words text = UsageIsDue words left left' text

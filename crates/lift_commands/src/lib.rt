@@ -73,8 +73,9 @@
 //!   six lines of `make --run` (`IsSolvedCase`). With Input the refusal line, with what is wrong with the
 //!   input (`IsLoneCaseFault`, of `check` `IsCheckFault`); the end of the line that it names shows in the
 //!   bytes that were taken (`FaultShows`): they have its LF, or more than 4,097 of its bytes, or nothing of
-//!   the source is left. With Words the usage line, where no request is taken from the words. With Write a part of a text that is due was written, and the sink's count of
-//!   faults rose; with Read the source's rose, and nothing was written; with Memory nothing was written.
+//!   the source is left. With Words the usage line, where no request is taken from the words. With Write a
+//!   part of a text that is due was written, and the sink's count of faults rose; with Read the source's rose,
+//!   and nothing was written; with Memory nothing was written.
 //! - `solves`: by words of `solve`, the text of an accepted snapshot and no fault give Done, Stopped or
 //!   Memory, and never Stopped where the limits are enough for the snapshot. `refuses`: any other input and
 //!   no fault give Input or Memory.

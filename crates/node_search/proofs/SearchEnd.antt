@@ -18,7 +18,7 @@ use Rattle.search_model.specs.declared.Twig.{Twig}
 use Rattle.search_model.specs.declared.Twig.TheVariants.{Split, Leaf as Tip}
 use Rattle.search_model.specs.declared.StopReason.{StopReason}
 use Rattle.search_model.specs.declared.StopReason.TheVariants.{Solved, Rounds, Moves}
-use Rattle.search_model.specs.Certificates.{Place, places_after, root_place}
+use Rattle.search_model.specs.Certificates.{TreePlace, places_after, root_place}
 use Rattle.search_model.specs.Solving.{HasChoice, IsFound, IsReason, IsOutOfMoves, is_split, bound_of_leaf, least_bound, sum_of_turn}
 use Rattle.search_tree.specs.declared.branches.SplitAt.{SplitAt}
 use Rattle.search_tree.specs.declared.branches.Branch.{Branch}
@@ -166,7 +166,7 @@ module _ (s : Snapshot) (rounds most_tours : ℕ) (start : PriceSheet) (turns : 
       by_kind None leaf rests = λ below. spent leaf rests below b.spent refl
       by_kind (Some at) leaf rests = tt
 
-  stuck_all : (places : List Place) (bs : List Branch) → AllStand (IsRestingAt s x.best.cost) places bs → ((k : ℕ) → k < length bs → IsLeft s x.best.cost (at_place bs k)) → AllStand (IsStuckAt s x.best.cost) places bs
+  stuck_all : (places : List TreePlace) (bs : List Branch) → AllStand (IsRestingAt s x.best.cost) places bs → ((k : ℕ) → k < length bs → IsLeft s x.best.cost (at_place bs k)) → AllStand (IsStuckAt s x.best.cost) places bs
   stuck_all [] [] h left = tt
   stuck_all [] (b ∷ bs) h left = absurd h
   stuck_all (place ∷ places) [] h left = absurd h

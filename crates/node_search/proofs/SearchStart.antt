@@ -13,7 +13,7 @@ use Rattle.elevator_model.specs.Snapshot.{Snapshot, IsAccepted, car_count, call_
 use Rattle.elevator_model.specs.Plans.{IsFeasiblePlan, tour_of}
 use Rattle.search_model.specs.declared.Turn.{Turn}
 use Rattle.search_model.specs.Nodes.{IsNodeOf, root_of, set_of, is_part}
-use Rattle.search_model.specs.Certificates.{Place, places_after, root_place}
+use Rattle.search_model.specs.Certificates.{TreePlace, places_after, root_place}
 use Rattle.search_model.specs.Solving.{HasChoice, AreRootTurns, IsTourOfTurns, sum_of_turn, turn_of_car}
 use Rattle.search_model.proofs.SetLemmas.{has-single, has-set_where}
 use Rattle.search_model.proofs.SnapshotNodes.{set_of-root}
@@ -177,7 +177,7 @@ module _ (s : Snapshot) (rounds most_tours : ℕ) (start : PriceSheet) (root : R
       is_split : tree ≡ noted_split same split.call split.part (b ∷ []) 0
       is_split = split.split ∙ ap (λ (bs : List Branch). split_tree bs 0 split.call split.part) is.lone
 
-      parts : (Q : Holding) → ((place : Place) → IsBranchAt s most_tours place b → Q place b → Q place (split_at b split.call split.part) × Q (first_place place split.call split.part) (first_part b split.call split.part) × Q (second_place place split.call split.part) (second_part b split.call split.part)) → Q (root_place s) b → AllInTree Q s tree
+      parts : (Q : Holding) → ((place : TreePlace) → IsBranchAt s most_tours place b → Q place b → Q place (split_at b split.call split.part) × Q (first_place place split.call split.part) (first_part b split.call split.part) × Q (second_place place split.call split.part) (second_part b split.call split.part)) → Q (root_place s) b → AllInTree Q s tree
       parts Q f h =
           subst (AllInTree Q s) (sym is_split) (stand-split (IsBranchAt s most_tours) Q same split.call split.part 0 (root_place s ∷ []) (b ∷ []) (omega arith) is.leaf f (lone_stands (IsBranchAt s most_tours) s b is.leaf is.at) (lone_stands Q s b is.leaf h))
 

@@ -9,7 +9,7 @@ use Rattle.call_sets.proofs.BelowTests.{any_below-true}
 use Rattle.elevator_model.specs.Snapshot.{Snapshot, car_count, call_count}
 use Rattle.search_model.specs.declared.TurnOf.{TurnOf}
 use Rattle.search_model.specs.Nodes.{Node, IsNodeOf, set_of, is_part}
-use Rattle.search_model.specs.Certificates.{Place, places_after, root_place}
+use Rattle.search_model.specs.Certificates.{TreePlace, places_after, root_place}
 use Rattle.search_model.proofs.SetLemmas.{has-single}
 use Rattle.search_model.proofs.NodeLemmas.{part-from}
 use Rattle.search_tree.specs.declared.branches.Branch.{Branch}
@@ -104,10 +104,10 @@ module _ (s : Snapshot) (most_tours : ℕ) (few_cars : car_count s ≤ 16) (old 
   pub sheet-takes : sum_of_sheet (sheet_of_turn prices cars) ≤ℤ sum_of_sheet noted_b.sheet
   sheet-takes = sheet.takes
 
-  same_after : (place : Place) (rest : List Place) → places_after place (twig_of noted_b) rest ≡ places_after place (twig_of b) rest
+  same_after : (place : TreePlace) (rest : List TreePlace) → places_after place (twig_of noted_b) rest ≡ places_after place (twig_of b) rest
   same_after place rest = ap (λ (x : Option SplitAt). places_after place (twig_at x noted_b.sheet) rest) pricing.leaf ∙ ap (λ (x : Option SplitAt). places_after place (twig_at x b.sheet) rest) (sym pricing.leaf)
 
-  rises : (z : ℤ) (place : Place) → IsAtLeast z place b → z ≤ℤ sum_of_sheet noted_b.sheet
+  rises : (z : ℤ) (place : TreePlace) → IsAtLeast z place b → z ≤ℤ sum_of_sheet noted_b.sheet
   rises z place h =
       let was = if_leaf (z ≤ℤ sum_of_sheet b.sheet) b.split pricing.leaf h in
       let up = sheet.rises in

@@ -11,7 +11,7 @@ use Rattle.elevator_model.specs.Partial.{Course, course_start, may_stand, may_be
 use Rattle.car_layout.specs.Layouts.{is_earlier, ends_at, any_group_to}
 use Rattle.tour_rules.specs.Places.{Tracks, carries, group_carried}
 use Rattle.tour_rules.specs.Leaving.{IsKept}
-use Rattle.tour_rules.specs.declared.places.Place.{Place}
+use Rattle.tour_rules.specs.declared.places.CarPlace.{CarPlace}
 use Rattle.partial_tours.specs.declared.points.Point.{Point}
 use Rattle.partial_tours.specs.Courses.{TracksCourse, GoesOn, Stands, reached, is_after, is_passed, any_goes_to, empty_stop, with_call_on}
 use Rattle.tour_rules.proofs.BoundedTests.{AllClear-from, none-from}
@@ -45,7 +45,7 @@ pub record HasBoard (s : Snapshot) (point new : Point) (j : ℕ) : Type 0 where
   pub passed : (k : ℕ) → has new.passed k ≡ (has point.passed k || is_earlier s j k)
   pub bound_for : (f : ℕ) → has new.bound_for f ≡ (has point.bound_for f || eqb f (call_of s j).destination)
 
-carries_more : (s : Snapshot) (c : ℕ) (place new : Place) (j r : ℕ) → j < call_count s → new.visited ≡ place.visited → ((k : ℕ) → has new.carried k ≡ (has place.carried k || eqb k j)) → carries s c new.carried new.visited r ≡ (carries s c place.carried place.visited r || eqb r j)
+carries_more : (s : Snapshot) (c : ℕ) (place new : CarPlace) (j r : ℕ) → j < call_count s → new.visited ≡ place.visited → ((k : ℕ) → has new.carried k ≡ (has place.carried k || eqb k j)) → carries s c new.carried new.visited r ≡ (carries s c place.carried place.visited r || eqb r j)
 carries_more s c place new j r lt same more =
     elim (cases_Bool (ltb r (call_count s))) [ inl e ↦ ap (λ (b : Bool). cond b (has new.carried r) (group_carried s.aboard c new.visited (r - call_count s))) e ∙ more r ∙ ap (λ (b : Bool). b || eqb r j) (sym (ap (λ (b : Bool). cond b (has place.carried r) (group_carried s.aboard c place.visited (r - call_count s))) e)) | inr e ↦ (let le = ltb-false r (call_count s) e in ap (λ (b : Bool). cond b (has new.carried r) (group_carried s.aboard c new.visited (r - call_count s))) e ∙ ap (λ (v : ℕ). group_carried s.aboard c v (r - call_count s)) same ∙ or_false (group_carried s.aboard c place.visited (r - call_count s)) ∙ ap (λ (b : Bool). group_carried s.aboard c place.visited (r - call_count s) || b) (sym (ne_eqb r j (λ same. omega (arith, same, lt, le)))) ∙ ap (λ (b : Bool). b || eqb r j) (sym (ap (λ (b : Bool). cond b (has place.carried r) (group_carried s.aboard c place.visited (r - call_count s))) e))) ]
   where
@@ -120,7 +120,7 @@ tracks_board s c point new x y j t h b =
 pub tracks_end : (s : Snapshot) (c : ℕ) (point new : Point) (x y : Course) → TracksCourse s c point x → move_on s c x End ≡ Some y → new.place ≡ point.place → new.ended ≡ true → new.room ≡ point.room → new.bound_for ≡ point.bound_for → TracksCourse s c new y
 tracks_end s c point new x y t h place ended room bound =
     subst (TracksCourse s c new) (sym (ending_leads_to s c x y h)) (record {
-      place = subst (λ (p : Place). Tracks s c p (reached s c x)) (sym place) t.place;
+      place = subst (λ (p : CarPlace). Tracks s c p (reached s c x)) (sym place) t.place;
       ended = ended;
       kept = kept x.present;
       room = ap (λ (n : ℕ). n + persons_where s (reached s c x).carried) room ∙ t.room;
@@ -190,7 +190,7 @@ off_fits s c point x g t = let persons = persons_on s c (reached s c x) g in let
 
 -- ---- the car at a stop
 
-pub tracks_stop : (s : Snapshot) (c : ℕ) (place new : Place) (p : Progress) (g ending : ℕ) → Tracks s c place p → ((j : ℕ) → has ending j ≡ ends_at s g j) → new.begun ≡ true → new.floor ≡ g → new.boarded ≡ place.boarded → ((j : ℕ) → has new.carried j ≡ (has place.carried j && not (has ending j))) → ((f : ℕ) → has new.visited f ≡ (has place.visited f || eqb f g)) → Tracks s c new (make_stop s c p (empty_stop g))
+pub tracks_stop : (s : Snapshot) (c : ℕ) (place new : CarPlace) (p : Progress) (g ending : ℕ) → Tracks s c place p → ((j : ℕ) → has ending j ≡ ends_at s g j) → new.begun ≡ true → new.floor ≡ g → new.boarded ≡ place.boarded → ((j : ℕ) → has new.carried j ≡ (has place.carried j && not (has ending j))) → ((f : ℕ) → has new.visited f ≡ (has place.visited f || eqb f g)) → Tracks s c new (make_stop s c p (empty_stop g))
 tracks_stop s c place new p g ending t ends begun floor boarded carried visited =
     Tracks-stop s c place p g 0 new.carried new (boards_at s (empty_stop g)) t (record {
       begun = begun;

@@ -14,7 +14,7 @@ use crate::points::Point;
 use call_sets::CallSet;
 use car_layout::Layout;
 use elevator_model::MOST_CALLS;
-use tour_rules::places::{Heading, Place, at_start, persons_carried};
+use tour_rules::places::{CarPlace, Heading, at_start, persons_carried};
 
 impl Point {
     /// A partial tour without moves.
@@ -114,7 +114,7 @@ impl Point {
 }
 
 /// The car with one call more at its stop.
-fn with_board(place: &Place, call: u32) -> Place
+fn with_board(place: &CarPlace, call: u32) -> CarPlace
     requires { call < MOST_CALLS }
     ensures boarded { (j : ℕ) → has result.boarded j ≡ (has place.now.boarded j || (j == call)) }
     ensures carried { (j : ℕ) → has result.carried j ≡ (has place.now.carried j || (j == call)) }
@@ -122,7 +122,7 @@ fn with_board(place: &Place, call: u32) -> Place
     ensures floor { result.floor ≡ place.now.floor }
     ensures visited { result.visited ≡ place.now.visited }
 {
-    Place {
+    CarPlace {
         begun: place.begun,
         floor: place.floor,
         boarded: place.boarded.with(call),
@@ -132,14 +132,14 @@ fn with_board(place: &Place, call: u32) -> Place
 }
 
 /// The car after a stop where nobody boards and these calls get off if they are carried.
-fn with_stop(place: &Place, floor: u32, ending: CallSet) -> Place
+fn with_stop(place: &CarPlace, floor: u32, ending: CallSet) -> CarPlace
     requires { floor < 64 }
     ensures tracks { (s : Snapshot) (c : ℕ) (p : Progress) → Tracks s c place.now p
         → ((j : ℕ) → has ending j ≡ ends_at s floor j)
         → Tracks s c result (make_stop s c p (empty_stop floor)) }
     ensures floor { result.floor ≡ floor }
 {
-    Place {
+    CarPlace {
         begun: true,
         floor,
         boarded: place.boarded,

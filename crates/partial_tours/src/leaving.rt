@@ -13,7 +13,7 @@ use call_sets::{CallSet, FloorSet};
 use call_state::Snapshot;
 use car_layout::Layout;
 use elevator_model::MOMENT_LIMIT;
-use tour_rules::places::Place;
+use tour_rules::places::CarPlace;
 use tour_rules::riding;
 
 /// The most persons who get off at a stop: 128 calls of 8 and 64 who were aboard.
@@ -92,7 +92,7 @@ fn groups_leaving(layout: &Layout, visited: FloorSet, floor: u32, opened: u64) -
 /// at which the calls boarded.
 pub(crate) fn leaving_at(
     layout: &Layout,
-    place: &Place,
+    place: &CarPlace,
     floor: u32,
     opened: u64,
     moments: &[u64],

@@ -3,13 +3,13 @@
 ghost use Rattle.std.specs.Prelude.{◌≤◌, ◌<◌};
 
 use call_sets::{CallSet, FloorSet};
-use tour_rules::places::Place;
+use tour_rules::places::CarPlace;
 
 /// Where a partial tour is.
 #[derive(Clone, Copy)]
 pub struct Point {
     /// The car with the present stop made by those who boarded there so far.
-    pub place: Place,
+    pub place: CarPlace,
     /// Whether the tour has ended.
     pub ended: bool,
     /// Whether the present stop may be left: somebody got off or boards there, or it needs no use.

@@ -15,7 +15,7 @@ use crate::points::Point;
 use crate::tally::Tally;
 use car_layout::Layout;
 use elevator_model::{MOMENT_LIMIT, Move};
-use tour_rules::places::Place;
+use tour_rules::places::CarPlace;
 use tour_rules::riding;
 
 /// Where a partial tour is, and its moments and cost until there.
@@ -96,7 +96,7 @@ impl Step {
 
 /// The moment, in ms, at which the doors are open at a next stop at this floor, where the car leaves its
 /// place at the moment `leaves`.
-pub(crate) fn opened_at(layout: &Layout, place: &Place, leaves: u64, floor: u32) -> u64
+pub(crate) fn opened_at(layout: &Layout, place: &CarPlace, leaves: u64, floor: u32) -> u64
     requires from { place.now.floor < floor_count layout.now.snapshot.building }
     requires to { floor < floor_count layout.now.snapshot.building }
     requires early { leaves ≤ MOMENT_LIMIT }

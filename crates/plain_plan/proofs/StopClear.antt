@@ -3,7 +3,7 @@ use Rattle.std.proofs.Common.{◌==◌, ◌≡◌, ℕ, ◌+◌, ◌-◌, ◌<�
 use Rattle.std.specs.List.{count_by}
 use Rattle.std.proofs.lemmas.Bool.{or_from, or_left, and_parts, and_from, and_left, and_right, ltb-true, lt-ltb, le-ltb, leb-true, lt-leb, eqb-true, eq-eqb, ne_eqb, cases_Bool, not_from_true, cond-true}
 use Rattle.std.proofs.lemmas.List.Sums.{sum_by-cons}
-use Rattle.elevator_model.specs.declared.Rule.TheVariants.{FirstStop, SameFloorTwice, UselessStop, Capacity, QueueOrder, Car, Floor, CallTwice, Place}
+use Rattle.elevator_model.specs.declared.Rule.TheVariants.{FirstStop, SameFloorTwice, UselessStop, Capacity, QueueOrder, Car, Floor, CallTwice, Origin}
 use Rattle.call_sets.specs.Counting.{any_below}
 use Rattle.elevator_model.specs.Snapshot.{Snapshot, call_count, call_of, group_of, spec_of, state_of, is_idle, is_possible, serves, can_take, is_pinned_elsewhere}
 use Rattle.elevator_model.specs.Tours.{Progress, breaks, rules_of_stop, boards_at, persons_where, stays_on, gets_off, overtakes, is_call_for, is_later_in_queue, rider_count, persons_of, destination_of, turns_with, broken_at, none_taken, make_stop}
@@ -142,7 +142,7 @@ board_clear s c i p below possible fresh first to all =
     let car : breaks s c none_taken p st Car ≡ false = or_from (not (is_call_for s c i)) false (not_from_true _ (and_from (ltb i (call_count s)) (is_possible s c (call_of s i)) (lt-ltb i (call_count s) below) possible)) refl in
     let floor : breaks s c none_taken p st Floor ≡ false = not_from_true _ fits.1 in
     let twice : breaks s c none_taken p st CallTwice ≡ false = ap (λ (t : ℕ → Bool). any_below (call_count s) (λ j. t j && (p.boarded j || false || leb 2 (count_by (λ x. x == j) (i ∷ []))))) boards ∙ only (call_count s) i (λ j. p.boarded j || false || leb 2 (count_by (λ x. x == j) (i ∷ []))) (λ _. or_from (p.boarded i || false) _ (or_from (p.boarded i) false fresh refl) (lt-leb 2 _ (let one = count_one i i in omega arith))) in
-    let place : breaks s c none_taken p st Place ≡ false = ap (λ (t : ℕ → Bool). any_below (call_count s) (λ j. t j && not (eqb (call_of s j).origin g))) boards ∙ only (call_count s) i (λ j. not (eqb (call_of s j).origin g)) (λ _. not_from_true _ (eq-eqb g g refl)) in
+    let place : breaks s c none_taken p st Origin ≡ false = ap (λ (t : ℕ → Bool). any_below (call_count s) (λ j. t j && not (eqb (call_of s j).origin g))) boards ∙ only (call_count s) i (λ j. not (eqb (call_of s j).origin g)) (λ _. not_from_true _ (eq-eqb g g refl)) in
     first_rule-clear (breaks s c none_taken p st) rules_of_stop (first_clear s c p g (i ∷ []) to, (floor_clear s c p g (i ∷ []) to, (useful, (to.no_turn, (capacity, (queue, (car, (floor, (twice, (place, tt))))))))))
 
 -- ---- after the stop

@@ -46,7 +46,7 @@ end
 /// What is due: the extra cost with each of two cars, and how much more it is with the first than with the
 /// best one.
 #[derive(Clone, Copy)]
-struct Due {
+struct DueExtras {
     first: i128,
     second: i128,
     regret: i128,
@@ -59,7 +59,7 @@ fn is_exact(costs: &ExtraCosts, car: usize, due: i128) -> bool {
     }
 }
 
-fn are_due(costs: &ExtraCosts, due: Due) -> bool {
+fn are_due(costs: &ExtraCosts, due: DueExtras) -> bool {
     is_exact(costs, 0, due.first)
         && is_exact(costs, 1, due.second)
         && costs.nearest.car == 0
@@ -67,7 +67,12 @@ fn are_due(costs: &ExtraCosts, due: Due) -> bool {
         && costs.nearest.high == due.regret
 }
 
-fn costs_so(rt: &(impl Threads + Sync), alloc: Global, snapshot: &Snapshot, due: Due) -> bool {
+fn costs_so(
+    rt: &(impl Threads + Sync),
+    alloc: Global,
+    snapshot: &Snapshot,
+    due: DueExtras,
+) -> bool {
     if snapshot.calls().is_empty() {
         return false;
     }
@@ -81,7 +86,7 @@ fn costs_so(rt: &(impl Threads + Sync), alloc: Global, snapshot: &Snapshot, due:
     }
 }
 
-fn text_costs_so(rt: &(impl Threads + Sync), alloc: Global, text: &str, due: Due) -> bool {
+fn text_costs_so(rt: &(impl Threads + Sync), alloc: Global, text: &str, due: DueExtras) -> bool {
     match snapshot_in(alloc, text.as_bytes()) {
         Some(snapshot) => costs_so(rt, alloc, &snapshot, due),
         None => false,
@@ -90,7 +95,7 @@ fn text_costs_so(rt: &(impl Threads + Sync), alloc: Global, text: &str, due: Due
 
 #[test]
 fn a_call_costs_what_two_searches_differ_by(rt: HostRuntime) {
-    let due = Due {
+    let due = DueExtras {
         first: 7500,
         second: 15500,
         regret: 0,
@@ -100,7 +105,7 @@ fn a_call_costs_what_two_searches_differ_by(rt: HostRuntime) {
 
 #[test]
 fn the_nearest_car_is_not_always_the_best_one(rt: HostRuntime) {
-    let due = Due {
+    let due = DueExtras {
         first: 27500,
         second: 15500,
         regret: 12000,

@@ -7,7 +7,7 @@ use Rattle.elevator_model.specs.declared.Call.{Call}
 use Rattle.elevator_model.specs.declared.Stop.{Stop}
 use Rattle.elevator_model.specs.declared.Broken.{Broken}
 use Rattle.elevator_model.specs.declared.Rule.{Rule}
-use Rattle.elevator_model.specs.declared.Rule.TheVariants.{FirstStop, SameFloorTwice, UselessStop, TurnWithPassengers, Capacity, QueueOrder, Car, Floor, CallTwice, Place}
+use Rattle.elevator_model.specs.declared.Rule.TheVariants.{FirstStop, SameFloorTwice, UselessStop, TurnWithPassengers, Capacity, QueueOrder, Car, Floor, CallTwice, Origin}
 use Rattle.call_sets.specs.Counting.{has, is_among}
 use Rattle.call_sets.proofs.ListTests.{list_any-false}
 use Rattle.elevator_model.specs.Snapshot.{Snapshot, car_count, call_count, call_of, no_call, is_possible}
@@ -35,7 +35,7 @@ broken_or-later (Some rule) k later h = let found : Broken = record { stop = k; 
 boarded-after : (s : Snapshot) (c : ℕ) (p : Progress) (k : ℕ) (tour : List Stop) (j : ℕ) → first_broken_from s c none_taken p k tour ≡ None → is_boarded_in tour j ≡ true → is_call_for s c j ≡ true
 boarded-after s c p k [] j h boards = absurd (both_ways false refl boards)
 boarded-after s c p k (stop ∷ stops) j h boards =
-    elim (or_cases (is_among j stop.boards) (is_boarded_in stops j) boards) [ inl here ↦ not-false (is_call_for s c j) (list_any-false (λ i. not (is_call_for s c i)) stop.boards j (first_rule-none (breaks s c none_taken p stop) (FirstStop ∷ SameFloorTwice ∷ UselessStop ∷ TurnWithPassengers ∷ Capacity ∷ QueueOrder ∷ []) Car (Floor ∷ CallTwice ∷ Place ∷ []) (broken_or-here (broken_at s c none_taken p stop) k (first_broken_from s c none_taken (make_stop s c p stop) (k + 1) stops) h)) here) | inr later ↦ boarded-after s c (make_stop s c p stop) (k + 1) stops j (broken_or-later (broken_at s c none_taken p stop) k (first_broken_from s c none_taken (make_stop s c p stop) (k + 1) stops) h) later ]
+    elim (or_cases (is_among j stop.boards) (is_boarded_in stops j) boards) [ inl here ↦ not-false (is_call_for s c j) (list_any-false (λ i. not (is_call_for s c i)) stop.boards j (first_rule-none (breaks s c none_taken p stop) (FirstStop ∷ SameFloorTwice ∷ UselessStop ∷ TurnWithPassengers ∷ Capacity ∷ QueueOrder ∷ []) Car (Floor ∷ CallTwice ∷ Origin ∷ []) (broken_or-here (broken_at s c none_taken p stop) k (first_broken_from s c none_taken (make_stop s c p stop) (k + 1) stops) h)) here) | inr later ↦ boarded-after s c (make_stop s c p stop) (k + 1) stops j (broken_or-later (broken_at s c none_taken p stop) k (first_broken_from s c none_taken (make_stop s c p stop) (k + 1) stops) h) later ]
 
 -- a feasible tour boards calls of the snapshot of which the car is a possible car
 pub boarded-possible : (s : Snapshot) (c : ℕ) (tour : List Stop) (j : ℕ) → IsFeasible s c tour → is_boarded_in tour j ≡ true → is_call_for s c j ≡ true

@@ -46,34 +46,34 @@ sum_needed bound = (pos 1000 *ℤ (pos bound -ℤ pos 1)) +ℤ pos 1
 -- ---- trees in preorder
 
 -- where a node stands in the tree: its sets, and those of the split just above it; the root is its own
-pub record Place : Type 0 where
+pub record TreePlace : Type 0 where
   pub node : Node
   pub above : Node
 
 pub record Placed : Type 0 where
-  pub place : Place
+  pub place : TreePlace
   pub twig : Twig
 
 -- the places that are still to be filled, the next one first, after a twig at the place
-abbrev pub places_after : Place → Twig → List Place → List Place
+abbrev pub places_after : TreePlace → Twig → List TreePlace → List TreePlace
 places_after place (Split j part) places =
     record { node = first_of_split place.node j part; above = place.node } ∷ record { node = second_of_split place.node j part; above = place.node } ∷ places
 places_after place (Tip leaf) places = places
 
 -- the twigs at the places that they fill
-abbrev pub placed_from : List Place → List Twig → List Placed
+abbrev pub placed_from : List TreePlace → List Twig → List Placed
 placed_from places [] = []
 placed_from [] (twig ∷ twigs) = []
 placed_from (place ∷ places) (twig ∷ twigs) = record { place = place; twig = twig } ∷ placed_from (places_after place twig places) twigs
 
 -- the twigs fill all places, and no twig is left
-abbrev pub is_filled : List Place → List Twig → Bool
+abbrev pub is_filled : List TreePlace → List Twig → Bool
 is_filled [] [] = true
 is_filled (place ∷ places) [] = false
 is_filled [] (twig ∷ twigs) = false
 is_filled (place ∷ places) (twig ∷ twigs) = is_filled (places_after place twig places) twigs
 
-abbrev pub root_place : Snapshot → Place
+abbrev pub root_place : Snapshot → TreePlace
 root_place s = record { node = root_of s; above = root_of s }
 
 -- The twigs of a tree with their places.
@@ -91,7 +91,7 @@ pub record IsSoundLeaf (s : Snapshot) (bound : ℕ) (node : Node) (leaf : Leaf) 
   pub enough : sum_needed bound ≤ℤ sum_of_leaf leaf
   pub worths : (c : ℕ) → c < car_count s → IsWorth s node c (price_in leaf) (worth_in leaf c)
 
-abbrev pub IsSound : Snapshot → (bound : ℕ) → Place → Twig → Type 0
+abbrev pub IsSound : Snapshot → (bound : ℕ) → TreePlace → Twig → Type 0
 IsSound s bound place (Split j part) = IsTrue (is_part (set_of place.node j) part)
 IsSound s bound place (Tip leaf) = IsSoundLeaf s bound place.node leaf
 
@@ -104,7 +104,7 @@ pub record Proves (s : Snapshot) (plan : List (List Stop)) (cost bound : ℕ) (t
   pub sound : All (λ (p : Placed). IsSound s bound p.place p.twig) (placed_twigs s tree)
 
 -- a leaf in whose node the plan is
-abbrev pub is_leaf_with : List (List Stop) → Place → Twig → Bool
+abbrev pub is_leaf_with : List (List Stop) → TreePlace → Twig → Bool
 is_leaf_with plan place (Split j part) = false
 is_leaf_with plan place (Tip leaf) = is_plan_in place.node plan
 

@@ -21,7 +21,7 @@ use Rattle.search_model.specs.Sums.{int_sum_by, least_where, rounded_up}
 use Rattle.search_model.specs.Nodes.{Node, root_of, set_of, allows, IsTourIn}
 use Rattle.search_model.specs.Prices.{scaled, price_at, value_of, IsWorth}
 use Rattle.search_model.specs.Bounds.{cost_if_alone, cost_if_straight}
-use Rattle.search_model.specs.Certificates.{Place, Placed, placed_twigs, Proves, price_in, worth_in, sum_of_leaf}
+use Rattle.search_model.specs.Certificates.{TreePlace, Placed, placed_twigs, Proves, price_in, worth_in, sum_of_leaf}
 
 -- ---- bounds
 
@@ -146,7 +146,7 @@ pub record ReachesLeast (s : Snapshot) (node : Node) (c : ℕ) (price : ℕ → 
 
 -- The worths of a leaf are those of the node in which it was priced, that of the split just above it, unless
 -- the car has too many partial tours there.
-abbrev pub IsPriced : Snapshot → (moves : ℕ) → Place → Twig → Type 0
+abbrev pub IsPriced : Snapshot → (moves : ℕ) → TreePlace → Twig → Type 0
 IsPriced s moves place (Split j part) = Unit {0}
 IsPriced s moves place (Tip leaf) =
     (c : ℕ) → c < car_count s → ReachesLeast s place.above c (price_in leaf) (worth_in leaf c) ⊎ HasPartialTours s place.above c moves
@@ -163,12 +163,12 @@ pub record IsAtEnd (s : Snapshot) (node : Node) (count : ℕ) : Type 0 where
   pub is_car : car < car_count s
   pub many : HasPartialTours s node car count
 
-abbrev pub EndsThere : Snapshot → (cost count : ℕ) → Place → Twig → Type 0
+abbrev pub EndsThere : Snapshot → (cost count : ℕ) → TreePlace → Twig → Type 0
 EndsThere s cost count place (Split j part) = Unit {0}
 EndsThere s cost count place (Tip leaf) = bound_of_leaf leaf <ℤ pos cost → IsAtEnd s place.node count
 
 -- a leaf whose bound is below the cost, where the car has at least this many partial tours
-abbrev pub IsEndOf : Snapshot → (cost car count : ℕ) → Place → Twig → Type 0
+abbrev pub IsEndOf : Snapshot → (cost car count : ℕ) → TreePlace → Twig → Type 0
 IsEndOf s cost car count place (Split j part) = ⊥
 IsEndOf s cost car count place (Tip leaf) = (bound_of_leaf leaf <ℤ pos cost) × HasPartialTours s place.node car count
 

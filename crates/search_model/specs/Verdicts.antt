@@ -17,7 +17,7 @@ use Rattle.search_model.specs.declared.Verdict.{Verdict}
 use Rattle.search_model.specs.declared.Verdict.TheVariants.{Yes, No}
 use Rattle.search_model.specs.Nodes.{Node, set_of, is_part, allows, requires_of}
 use Rattle.search_model.specs.Prices.{value_of}
-use Rattle.search_model.specs.Certificates.{Place, Placed, is_whole, placed_twigs, has_whole_lists, sum_of_leaf, sum_needed, price_in, worth_in, claim_in, Proves}
+use Rattle.search_model.specs.Certificates.{TreePlace, Placed, is_whole, placed_twigs, has_whole_lists, sum_of_leaf, sum_needed, price_in, worth_in, claim_in, Proves}
 use Rattle.search_model.specs.Kept.{kept_list}
 
 -- the tour that the moves end, where its value is below the worth
@@ -55,7 +55,7 @@ reason_of_leaf s bound k node leaf =
     if not (has_whole_lists s leaf) then Some (Lists k) else (if int_lt (sum_of_leaf leaf) (sum_needed bound) then Some (Sum k (sum_needed bound) (sum_of_leaf leaf)) else reason_of_cars s k node leaf (car_count s))
 
 -- the reason at the node that has the number k
-abbrev pub reason_of_twig : Snapshot → (bound k : ℕ) → Place → Twig → Option Reason
+abbrev pub reason_of_twig : Snapshot → (bound k : ℕ) → TreePlace → Twig → Option Reason
 reason_of_twig s bound k place (Split j part) = if is_part (set_of place.node j) part then None else Some (BadSplit k)
 reason_of_twig s bound k place (Tip leaf) = reason_of_leaf s bound k place.node leaf
 
@@ -83,7 +83,7 @@ verdict_of s plan cost bound tree =
 -- ---- laws
 
 -- no kept list of a leaf is longer than its claim
-abbrev pub FitsClaims : Snapshot → Place → Twig → Type 0
+abbrev pub FitsClaims : Snapshot → TreePlace → Twig → Type 0
 FitsClaims s place (Split j part) = Unit {0}
 FitsClaims s place (Tip leaf) = (c : ℕ) → c < car_count s → length (kept_at s place.node leaf c) ≤ claim_in leaf c
 

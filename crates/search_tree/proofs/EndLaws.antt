@@ -9,7 +9,7 @@ use Rattle.elevator_model.specs.Plans.{IsFeasiblePlan, plan_cost_of}
 use Rattle.search_model.specs.Sums.{rounded_up}
 use Rattle.search_model.specs.Nodes.{Node, set_of, is_part}
 use Rattle.search_model.specs.Prices.{price_at, IsWorth}
-use Rattle.search_model.specs.Certificates.{Place, places_after, root_place, IsSound, IsSoundLeaf, Proves, price_in, worth_in, sum_needed}
+use Rattle.search_model.specs.Certificates.{TreePlace, places_after, root_place, IsSound, IsSoundLeaf, Proves, price_in, worth_in, sum_needed}
 use Rattle.search_model.specs.Solving.{ReachesLeast, HasPartialTours, least_bound, lesser_bound, bound_of_leaf, IsPriced, IsPricedTree}
 use Rattle.search_model.proofs.RoundLemmas.{rounded_up-least}
 use Rattle.search_tree.specs.declared.branches.SplitAt.{SplitAt}
@@ -23,10 +23,10 @@ use Rattle.search_tree.proofs.LeafFacts.{sum_of_leaf-sheet, price_in-sheet, wort
 -- ---- the bound
 
 -- it is at most the bound of each leaf
-abbrev pub IsAbove : ℤ → Place → Branch → Type 0
+abbrev pub IsAbove : ℤ → TreePlace → Branch → Type 0
 IsAbove z place b = IfLeaf b.split (z ≤ℤ bound_of_sheet b.sheet)
 
-above-lower : (z y : ℤ) → z ≤ℤ y → (place : Place) (b : Branch) → IsAbove y place b → IsAbove z place b
+above-lower : (z y : ℤ) → z ≤ℤ y → (place : TreePlace) (b : Branch) → IsAbove y place b → IsAbove z place b
 above-lower z y le place b h = by_kind b.split h
   where
     by_kind : (x : Option SplitAt) → IfLeaf x (y ≤ℤ bound_of_sheet b.sheet) → IfLeaf x (z ≤ℤ bound_of_sheet b.sheet)
@@ -39,7 +39,7 @@ min-first x y = omega (arith, ints, int_min_is x y)
 min-second : (x y : ℤ) → int_min x y ≤ℤ y
 min-second x y = omega (arith, ints, int_min_is x y)
 
-pub bound-of-leaves : (cost : ℕ) (P : Place → Branch → Type 0) (places : List Place) (tree : List Branch) → AllStand P places tree → AllStand (IsAbove (least_bound cost (map twig_of tree))) places tree
+pub bound-of-leaves : (cost : ℕ) (P : TreePlace → Branch → Type 0) (places : List TreePlace) (tree : List Branch) → AllStand P places tree → AllStand (IsAbove (least_bound cost (map twig_of tree))) places tree
 bound-of-leaves cost P [] [] h = tt
 bound-of-leaves cost P [] (b ∷ tree) h = absurd h
 bound-of-leaves cost P (place ∷ places) [] h = absurd h
@@ -72,7 +72,7 @@ enough bound sum le = by_test (int_lt sum (sum_needed bound)) refl
 -- ---- what the tree proves
 
 module _ (s : Snapshot) (most_tours : ℕ) where
-  leaf-sound : (bound : ℕ) (place : Place) (b : Branch) → b.node ≡ place.node → IsLeafIn s most_tours b.node b → pos bound ≤ℤ bound_of_sheet b.sheet → IsSoundLeaf s bound place.node (leaf_of b.sheet)
+  leaf-sound : (bound : ℕ) (place : TreePlace) (b : Branch) → b.node ≡ place.node → IsLeafIn s most_tours b.node b → pos bound ≤ℤ bound_of_sheet b.sheet → IsSoundLeaf s bound place.node (leaf_of b.sheet)
   leaf-sound bound place b e leaf le =
       record {
         whole = whole_lists-sheet 0 s b.sheet leaf.sheet.calls leaf.sheet.cars;
@@ -80,7 +80,7 @@ module _ (s : Snapshot) (most_tours : ℕ) where
         worths = λ c lt. subst (λ (n : Node). IsWorth s n c (price_in (leaf_of b.sheet)) (worth_in (leaf_of b.sheet) c)) e (subst (λ (p : ℕ → ℤ). IsWorth s b.node c p (worth_in (leaf_of b.sheet) c)) (sym (price_in-sheet 0 b.sheet)) (subst (IsWorth s b.node c (price_at b.sheet.prices)) (sym (worth_in-sheet 0 b.sheet c)) (leaf.sheet.worths c lt)));
       }
 
-  branch-sound : (bound : ℕ) (place : Place) (b : Branch) → IsBranchAt s most_tours place b → IsAbove (pos bound) place b → IsSound s bound place (twig_of b)
+  branch-sound : (bound : ℕ) (place : TreePlace) (b : Branch) → IsBranchAt s most_tours place b → IsAbove (pos bound) place b → IsSound s bound place (twig_of b)
   branch-sound bound place b is above = by_kind b.split is.kind above
     where
       by_kind : (x : Option SplitAt) → IsKindIn s most_tours b.node b x → IfLeaf x (pos bound ≤ℤ bound_of_sheet b.sheet) → IsSound s bound place (twig_at x b.sheet)
@@ -91,7 +91,7 @@ module _ (s : Snapshot) (most_tours : ℕ) where
   tree-proves plan cost bound tree feasible costs is h =
       let above = bound-of-leaves cost (IsBranchAt s most_tours) (root_place s ∷ []) tree h in
       let above' = subst (λ (z : ℤ). AllStand (IsAbove z) (root_place s ∷ []) tree) (sym is) above in
-      let Both : Place → Branch → Type 0 = λ (place : Place) (b : Branch). IsBranchAt s most_tours place b × IsAbove (pos bound) place b in
+      let Both : TreePlace → Branch → Type 0 = λ (place : TreePlace) (b : Branch). IsBranchAt s most_tours place b × IsAbove (pos bound) place b in
       let both = stand-both (IsBranchAt s most_tours) (IsAbove (pos bound)) Both (λ place b p q. (p, q)) (root_place s ∷ []) tree h above' in
       record {
         feasible = feasible;
@@ -100,7 +100,7 @@ module _ (s : Snapshot) (most_tours : ℕ) where
         sound = stand-placed Both (IsSound s bound) (λ place b p. branch-sound bound place b p.0 p.1) (root_place s ∷ []) tree both;
       }
 
-  branch-priced : (place : Place) (b : Branch) → IsPricedAt s most_tours place b → IsPriced s most_tours place (twig_of b)
+  branch-priced : (place : TreePlace) (b : Branch) → IsPricedAt s most_tours place b → IsPriced s most_tours place (twig_of b)
   branch-priced place b h = by_kind b.split h
     where
       by_kind : (x : Option SplitAt) → IfLeaf x (AreLeastIn s most_tours place.above b.sheet) → IsPriced s most_tours place (twig_at x b.sheet)

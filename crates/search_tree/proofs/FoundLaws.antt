@@ -26,7 +26,7 @@ use Rattle.elevator_model.specs.Plans.{IsFeasiblePlan, plan_cost_of, tour_of}
 use Rattle.search_model.specs.Sums.{int_sum_by, rounded_up}
 use Rattle.search_model.specs.Nodes.{Node, root_of, set_of, set_where, is_part, rest_of}
 use Rattle.search_model.specs.Prices.{price_at, IsWorth}
-use Rattle.search_model.specs.Certificates.{Place, Placed, places_after, placed_from, is_filled, IsSound, Proves, root_place, worth_in, sum_needed, IsSoundLeaf}
+use Rattle.search_model.specs.Certificates.{TreePlace, Placed, places_after, placed_from, is_filled, IsSound, Proves, root_place, worth_in, sum_needed, IsSoundLeaf}
 use Rattle.search_model.specs.Solving.{HasPartialTours, EndsThere, IsAtEnd, IsEndOf, IsOutOfRounds, IsOutOfMoves, least_bound, lesser_bound, bound_of_leaf, IsFound, IsReason, HasChoice, AreRootTurns, FollowTurn, IsRootTurn, IsPricing, IsTourOfTurns, is_split, no_turn, turn_of_car, sum_of_turn, prices_after}
 use Rattle.search_model.specs.Verdicts.{rounds_enough, moves_enough}
 use Rattle.call_state.proofs.PossibleLemmas.{most_cars-le}
@@ -120,7 +120,7 @@ turn-costs s most_tours given turn plan is feasible =
 -- ---- the least bound
 
 -- what is at most the cost and the bound of each leaf is at most the least bound
-pub least-of-leaves : (z : ℤ) (cost : ℕ) → z ≤ℤ pos cost → (places : List Place) (tree : List Branch) → AllStand (IsAbove z) places tree → z ≤ℤ least_bound cost (map twig_of tree)
+pub least-of-leaves : (z : ℤ) (cost : ℕ) → z ≤ℤ pos cost → (places : List TreePlace) (tree : List Branch) → AllStand (IsAbove z) places tree → z ≤ℤ least_bound cost (map twig_of tree)
 least-of-leaves z cost le [] [] h = le
 least-of-leaves z cost le [] (b ∷ tree) h = absurd h
 least-of-leaves z cost le (place ∷ places) [] h = absurd h
@@ -136,7 +136,7 @@ least-of-leaves z cost le (place ∷ places) (b ∷ tree) h = by_kind b.split h.
         omega (arith, ints, here, later, same, is)
     by_kind (Some at) here later = later
 
-above-rounded : (sum : ℤ) (place : Place) (b : Branch) → IsAtLeast sum place b → IsAbove (rounded_up sum) place b
+above-rounded : (sum : ℤ) (place : TreePlace) (b : Branch) → IsAtLeast sum place b → IsAbove (rounded_up sum) place b
 above-rounded sum place b h = by_kind b.split h
   where
     by_kind : (x : Option SplitAt) → IfLeaf x (sum ≤ℤ sum_of_sheet b.sheet) → IfLeaf x (rounded_up sum ≤ℤ bound_of_sheet b.sheet)
@@ -218,7 +218,7 @@ found s rounds most_tours start turns tree plan cost bound why stands twigs feas
 -- ---- out of rounds
 
 -- no node had a part in more than 20 pricings
-pub pricings-few : (s : Snapshot) (most_tours : ℕ) (places : List Place) (tree : List Branch) → AllStand (IsBranchAt s most_tours) places tree → pricings_of tree ≤ 20 * length tree
+pub pricings-few : (s : Snapshot) (most_tours : ℕ) (places : List TreePlace) (tree : List Branch) → AllStand (IsBranchAt s most_tours) places tree → pricings_of tree ≤ 20 * length tree
 pricings-few s most_tours [] [] h = omega arith
 pricings-few s most_tours [] (b ∷ tree) h = absurd h
 pricings-few s most_tours (place ∷ places) [] h = absurd h
@@ -253,12 +253,12 @@ abbrev pub IsStuckAt : Snapshot → (cost : ℕ) → Holding
 IsStuckAt s cost place b = IfLeaf b.split (IsStuck s cost b)
 
 -- the car that a pricing of the leaf was spent on has too many partial tours at its place
-spent-there : (s : Snapshot) (most_tours : ℕ) (place : Place) (b : Branch) (car : ℕ) → IsBranchAt s most_tours place b → b.split ≡ None → b.spent ≡ Some car → IsSpentCar s most_tours place.node car
+spent-there : (s : Snapshot) (most_tours : ℕ) (place : TreePlace) (b : Branch) (car : ℕ) → IsBranchAt s most_tours place b → b.split ≡ None → b.spent ≡ Some car → IsSpentCar s most_tours place.node car
 spent-there s most_tours place b car is leaf e =
     let own = subst (IsKindIn s most_tours b.node b) leaf is.kind in
     subst (λ (n : Node). IsSpentCar s most_tours n car) is.node (subst (λ (x : Option ℕ). IfSome x (IsSpentCar s most_tours b.node)) e own.spent)
 
-stuck-ends : (s : Snapshot) (most_tours cost : ℕ) (place : Place) (b : Branch) → IsBranchAt s most_tours place b → IsStuckAt s cost place b → EndsThere s cost most_tours place (twig_of b)
+stuck-ends : (s : Snapshot) (most_tours cost : ℕ) (place : TreePlace) (b : Branch) → IsBranchAt s most_tours place b → IsStuckAt s cost place b → EndsThere s cost most_tours place (twig_of b)
 stuck-ends s most_tours cost place b is stuck = by_kind b.split refl stuck
   where
     at_end : b.split ≡ None → IsSpentEnd s b → IsAtEnd s place.node most_tours
@@ -276,7 +276,7 @@ stuck-ends s most_tours cost place b is stuck = by_kind b.split refl stuck
     by_kind (Some at) e stands = tt
 
 -- a node of the tree, as a twig at its place
-stand-some : (P : Holding) (Q : Place → Twig → Type 0) (k : ℕ) (places : List Place) (tree : List Branch) → k < length tree → ((place : Place) → P place (at_place tree k) → Q place (twig_of (at_place tree k))) → AllStand P places tree → Any (λ (p : Placed). Q p.place p.twig) (placed_from places (map twig_of tree))
+stand-some : (P : Holding) (Q : TreePlace → Twig → Type 0) (k : ℕ) (places : List TreePlace) (tree : List Branch) → k < length tree → ((place : TreePlace) → P place (at_place tree k) → Q place (twig_of (at_place tree k))) → AllStand P places tree → Any (λ (p : Placed). Q p.place p.twig) (placed_from places (map twig_of tree))
 stand-some P Q k [] [] lt f h = absurd (omega (arith, lt))
 stand-some P Q k [] (b ∷ tree) lt f h = absurd h
 stand-some P Q k (place ∷ places) [] lt f h = absurd h
@@ -286,14 +286,14 @@ stand-some P Q (suc k) (place ∷ places) (b ∷ tree) lt f h =
     let in' = a.2 in
     (suc a.0, a.1, omega (arith, in'), a.3, a.4)
 
-is-end : (s : Snapshot) (most_tours cost car : ℕ) (place : Place) (b : Branch) → b.split ≡ None → bound_of_sheet b.sheet <ℤ pos cost → b.spent ≡ Some car → IsBranchAt s most_tours place b → IsEndOf s cost car most_tours place (twig_of b)
+is-end : (s : Snapshot) (most_tours cost car : ℕ) (place : TreePlace) (b : Branch) → b.split ≡ None → bound_of_sheet b.sheet <ℤ pos cost → b.spent ≡ Some car → IsBranchAt s most_tours place b → IsEndOf s cost car most_tours place (twig_of b)
 is-end s most_tours cost car place b leaf below spent is =
     subst (λ (x : Option SplitAt). IsEndOf s cost car most_tours place (twig_at x b.sheet)) (sym leaf) (subst (λ (z : ℤ). z <ℤ pos cost) (sym (ap rounded_up (sum_of_leaf-sheet 0 b.sheet))) below, (spent-there s most_tours place b car is leaf spent).1)
 
 -- A search in whose tree no leaf is left that a round may take.
 pub out_of_moves : (s : Snapshot) (most_tours cost bound car : ℕ) (tree : List Branch) (k : ℕ) → AllInTree (IsStuckAt s cost) s tree → AllInTree (IsPricedAt s most_tours) s tree → AllInTree (IsBranchAt s most_tours) s tree → bound < cost → k < length tree → (at_place tree k).split ≡ None → bound_of_sheet (at_place tree k).sheet <ℤ pos cost → (at_place tree k).spent ≡ Some car → IsOutOfMoves s most_tours cost bound car most_tours (map twig_of tree)
 out_of_moves s most_tours cost bound car tree k stuck priced branches below lt leaf under spent =
-    let Both : Holding = λ (place : Place) (b : Branch). IsBranchAt s most_tours place b × IsStuckAt s cost place b in
+    let Both : Holding = λ (place : TreePlace) (b : Branch). IsBranchAt s most_tours place b × IsStuckAt s cost place b in
     let both = stand-both (IsBranchAt s most_tours) (IsStuckAt s cost) Both (λ place b p q. (p, q)) (root_place s ∷ []) tree branches stuck in
     let own = stand-at (IsBranchAt s most_tours) k (root_place s ∷ []) tree lt branches in
     record {
@@ -412,16 +412,16 @@ part-divides n cars part is16 is =
     }
 
 -- each place's calls can be given cars
-abbrev AreFull : (n : ℕ) → List Place → Type 0
+abbrev AreFull : (n : ℕ) → List TreePlace → Type 0
 AreFull n [] = Unit {0}
 AreFull n (place ∷ places) = (1 ≤ weight n place.node) × AreFull n places
 
-abbrev weights : (n : ℕ) → List Place → ℕ
+abbrev weights : (n : ℕ) → List TreePlace → ℕ
 weights n [] = 0
 weights n (place ∷ places) = weight n place.node + weights n places
 
 -- each way is left in one leaf, and a leaf has one at least
-twigs-weigh : (s : Snapshot) (bound n : ℕ) → n ≡ 16 → (places : List Place) (twigs : List Twig) → is_filled places twigs ≡ true → AreFull n places → All (λ (p : Placed). IsSound s bound p.place p.twig) (placed_from places twigs) → length twigs + length places ≤ 2 * weights n places
+twigs-weigh : (s : Snapshot) (bound n : ℕ) → n ≡ 16 → (places : List TreePlace) (twigs : List Twig) → is_filled places twigs ≡ true → AreFull n places → All (λ (p : Placed). IsSound s bound p.place p.twig) (placed_from places twigs) → length twigs + length places ≤ 2 * weights n places
 twigs-weigh s bound n is16 [] [] filled full sound = omega arith
 twigs-weigh s bound n is16 (place ∷ places) [] filled full sound = absurd (both_ways false refl filled)
 twigs-weigh s bound n is16 [] (twig ∷ twigs) filled full sound = absurd (both_ways false refl filled)

@@ -7,7 +7,7 @@ use Rattle.search_model.specs.declared.TurnOf.{TurnOf}
 use Rattle.elevator_model.specs.Snapshot.{Snapshot, car_count, call_count}
 use Rattle.search_model.specs.Nodes.{Node, IsNodeOf, IsTourIn, set_of, allows, is_part, first_of_split, second_of_split}
 use Rattle.search_model.specs.Prices.{price_at}
-use Rattle.search_model.specs.Certificates.{Place, places_after, root_place}
+use Rattle.search_model.specs.Certificates.{TreePlace, places_after, root_place}
 use Rattle.elevator_model.specs.declared.Move.{Move}
 use Rattle.elevator_model.specs.declared.Move.TheVariants.{Board, Leave, End}
 use Rattle.elevator_model.specs.Partial.{boards_allowed}
@@ -85,7 +85,7 @@ of_leaf P None h = h
 of_leaf P (Some at) h = tt
 
 module _ (s : Snapshot) (most_tours : ℕ) (cars : car_count s ≤ 16) where
-  pub noted-branch : (place : Place) (b : Branch) (prices : List ℤ) (turns : List TurnOf) → IsBranchAt s most_tours place b → b.split ≡ None → b.rounds < 20 → BeginsAt b prices → AreAnswersIn s most_tours b.node prices turns → IsBranchAt s most_tours place (noted b prices turns)
+  pub noted-branch : (place : TreePlace) (b : Branch) (prices : List ℤ) (turns : List TurnOf) → IsBranchAt s most_tours place b → b.split ≡ None → b.rounds < 20 → BeginsAt b prices → AreAnswersIn s most_tours b.node prices turns → IsBranchAt s most_tours place (noted b prices turns)
   noted-branch place b prices turns is leaf few begins answers =
       record {
         node = is.node;
@@ -96,12 +96,12 @@ module _ (s : Snapshot) (most_tours : ℕ) (cars : car_count s ≤ 16) where
       }
 
   -- once it was priced its worths are those of its node, so also those of the node above
-  pub noted-priced : (place : Place) (b : Branch) (prices : List ℤ) (turns : List TurnOf) → IsBranchAt s most_tours place b → b.split ≡ None → BeginsAt b prices → AreAnswersIn s most_tours b.node prices turns → IsPricedAt s most_tours place (noted b prices turns)
+  pub noted-priced : (place : TreePlace) (b : Branch) (prices : List ℤ) (turns : List TurnOf) → IsBranchAt s most_tours place b → b.split ≡ None → BeginsAt b prices → AreAnswersIn s most_tours b.node prices turns → IsPricedAt s most_tours place (noted b prices turns)
   noted-priced place b prices turns is leaf begins answers =
       of_leaf (AreLeastIn s most_tours place.above (noted b prices turns).sheet) b.split (least-above s most_tours b.node place.above (noted b prices turns).sheet cars is.above (noted-sheet s most_tours b.node b prices turns (leaf_of_kind s most_tours b.node b leaf is.kind) begins answers).least)
 
   -- a leaf that was priced, at its place
-  pub priced-above : (place : Place) (b : Branch) → IsBranchAt s most_tours place b → 0 < b.rounds → IsPricedAt s most_tours place b
+  pub priced-above : (place : TreePlace) (b : Branch) → IsBranchAt s most_tours place b → 0 < b.rounds → IsPricedAt s most_tours place b
   priced-above place b is was = by_kind b.split refl is.kind
     where
       by_kind : (x : Option SplitAt) → b.split ≡ x → IsKindIn s most_tours b.node b x → IfLeaf x (AreLeastIn s most_tours place.above b.sheet)
@@ -136,10 +136,10 @@ module _ (s : Snapshot) (most_tours : ℕ) (cars : car_count s ≤ 16) where
     new-leaf : (node : Node) (depth : ℕ) → IsSheetIn s node b.sheet → IsLeafIn s most_tours node (leaf_at node b.sheet depth)
     new-leaf node depth sheet = record { sheet = sheet; priced = λ lt. absurd (omega (arith, lt)); spent = tt }
 
-    abbrev pub PartsAt : (P : Place → Branch → Type 0) → Place → Type 0
+    abbrev pub PartsAt : (P : TreePlace → Branch → Type 0) → TreePlace → Type 0
     PartsAt P place = P place (split_at b call part) × P (first_place place call part) (first_part b call part) × P (second_place place call part) (second_part b call part)
 
-    pub split-branches : (place : Place) → IsBranchAt s most_tours place b → b.split ≡ None → PartsAt (IsBranchAt s most_tours) place
+    pub split-branches : (place : TreePlace) → IsBranchAt s most_tours place b → b.split ≡ None → PartsAt (IsBranchAt s most_tours) place
     split-branches place is leaf =
         let in_leaf = leaf_of_kind s most_tours b.node b leaf is.kind in (
           record { node = is.node; is_node = is.is_node; above = is.above; few = is.few; kind = part_is },
@@ -148,23 +148,23 @@ module _ (s : Snapshot) (most_tours : ℕ) (cars : car_count s ≤ 16) where
         )
 
     -- the parts begin with worths of the node that was split, once it was priced
-    pub split-priced : (place : Place) → IsBranchAt s most_tours place b → b.split ≡ None → 0 < b.rounds → PartsAt (IsPricedAt s most_tours) place
+    pub split-priced : (place : TreePlace) → IsBranchAt s most_tours place b → b.split ≡ None → 0 < b.rounds → PartsAt (IsPricedAt s most_tours) place
     split-priced place is leaf was =
         let least = (leaf_of_kind s most_tours b.node b leaf is.kind).priced was in
         (tt, subst (λ (n : Node). AreLeastIn s most_tours n b.sheet) is.node least, subst (λ (n : Node). AreLeastIn s most_tours n b.sheet) is.node least)
 
-    pub split-resting : (cost : ℕ) (place : Place) → PartsAt (IsRestingAt s cost) place
+    pub split-resting : (cost : ℕ) (place : TreePlace) → PartsAt (IsRestingAt s cost) place
     split-resting cost place = (tt, fresh (first_of_split b.node call part) _, fresh (second_of_split b.node call part) _)
       where
         fresh : (node : Node) (depth : ℕ) → IsResting s cost (leaf_at node b.sheet depth)
         fresh node depth = record { single = λ _ lt _. absurd (omega (arith, lt)); many = λ _ lt. absurd (omega (arith, lt)) }
 
-    pub split-at-least : (z : ℤ) (place : Place) → b.split ≡ None → IsAtLeast z place b → PartsAt (IsAtLeast z) place
+    pub split-at-least : (z : ℤ) (place : TreePlace) → b.split ≡ None → IsAtLeast z place b → PartsAt (IsAtLeast z) place
     split-at-least z place leaf h = let sum = if_leaf (z ≤ℤ sum_of_sheet b.sheet) b.split leaf h in (tt, sum, sum)
 
 -- ---- the tree
 
-resting-cheaper : (s : Snapshot) (cost cost' : ℕ) → cost' ≤ cost → (place : Place) (b : Branch) → IsRestingAt s cost place b → IsRestingAt s cost' place b
+resting-cheaper : (s : Snapshot) (cost cost' : ℕ) → cost' ≤ cost → (place : TreePlace) (b : Branch) → IsRestingAt s cost place b → IsRestingAt s cost' place b
 resting-cheaper s cost cost' le place b h = by_kind b.split h
   where
     by_kind : (x : Option SplitAt) → IfLeaf x (IsResting s cost b) → IfLeaf x (IsResting s cost' b)
@@ -179,10 +179,10 @@ module _ (s : Snapshot) (most_tours cost cost' : ℕ) (cars : car_count s ≤ 16
   abbrev b : Branch
   b = at_place tree k
 
-  abbrev places : List Place
+  abbrev places : List TreePlace
   places = root_place s ∷ []
 
-  abbrev pub At : Place → Branch → Type 0
+  abbrev pub At : TreePlace → Branch → Type 0
   At = IsBranchAt s most_tours
 
   -- the leaf is priced, and rests
@@ -195,7 +195,7 @@ module _ (s : Snapshot) (most_tours cost cost' : ℕ) (cars : car_count s ≤ 16
       }
     where
       -- a leaf before and after
-      same : (place : Place) (rest : List Place) → places_after place (twig_of (noted (at_place tree k) prices turns)) rest ≡ places_after place (twig_of (at_place tree k)) rest
+      same : (place : TreePlace) (rest : List TreePlace) → places_after place (twig_of (noted (at_place tree k) prices turns)) rest ≡ places_after place (twig_of (at_place tree k)) rest
       same place rest = ap (λ (x : Option SplitAt). places_after place (twig_at x (noted (at_place tree k) prices turns).sheet) rest) leaf ∙ ap (λ (x : Option SplitAt). places_after place (twig_at x (at_place tree k).sheet) rest) (sym leaf)
 
   -- the leaf is priced and split
@@ -206,7 +206,7 @@ module _ (s : Snapshot) (most_tours cost cost' : ℕ) (cars : car_count s ≤ 16
     node_is : IsNodeOf s b.node
     node_is = (stand-at At k places tree lt h.branches).1.is_node
 
-    noted_at : (place : Place) → IsBranchAt s most_tours place b → IsBranchAt s most_tours place (n b)
+    noted_at : (place : TreePlace) → IsBranchAt s most_tours place b → IsBranchAt s most_tours place (n b)
     noted_at place p = noted-branch s most_tours cars place b prices turns p leaf few begins answers
 
     pub tree-split : IsTreeOf s most_tours cost' (split_tree (set tree k (noted b prices turns)) k call part)

@@ -4,7 +4,7 @@ use Rattle.search_model.specs.Sums.{rounded_up}
 use Rattle.elevator_model.specs.Snapshot.{Snapshot, car_count, call_count}
 use Rattle.search_model.specs.Nodes.{Node, IsNodeOf, set_of, allows, requires_of, is_part}
 use Rattle.search_model.specs.Prices.{price_at, IsWorth}
-use Rattle.search_model.specs.Certificates.{Place, places_after, root_place}
+use Rattle.search_model.specs.Certificates.{TreePlace, places_after, root_place}
 use Rattle.search_model.specs.Solving.{ReachesLeast, HasPartialTours}
 use Rattle.search_tree.specs.declared.branches.SplitAt.{SplitAt}
 use Rattle.search_tree.specs.declared.branches.Branch.{Branch}
@@ -14,10 +14,10 @@ use Rattle.search_tree.specs.Branches.{AreSingle, twig_of}
 
 -- what holds of a node of the tree at its place
 abbrev pub Holding : Type 1
-Holding = Place → Branch → Type 0
+Holding = TreePlace → Branch → Type 0
 
 -- The nodes fill the places, and this holds of each at its place.
-abbrev pub AllStand : Holding → List Place → List Branch → Type 0
+abbrev pub AllStand : Holding → List TreePlace → List Branch → Type 0
 AllStand P [] [] = Unit {0}
 AllStand P [] (b ∷ tree) = ⊥
 AllStand P (place ∷ places) [] = ⊥
@@ -60,7 +60,7 @@ IsKindIn s most_tours node b None = IsLeafIn s most_tours node b
 IsKindIn s most_tours node b (Some at) = IsTrue (is_part (set_of node at.call) at.part)
 
 -- a node of the tree, at its place
-pub record IsBranchAt (s : Snapshot) (most_tours : ℕ) (place : Place) (b : Branch) : Type 0 where
+pub record IsBranchAt (s : Snapshot) (most_tours : ℕ) (place : TreePlace) (b : Branch) : Type 0 where
   pub node : b.node ≡ place.node
   pub is_node : IsNodeOf s b.node
   pub above : IsTighter b.node place.above

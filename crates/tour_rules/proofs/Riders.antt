@@ -6,7 +6,7 @@ use Rattle.elevator_model.specs.declared.Stop.{Stop}
 use Rattle.call_sets.specs.Counting.{any_below, sum_where, has, is_among}
 use Rattle.elevator_model.specs.Snapshot.{Snapshot, call_count, call_of, group_of, floor_of, state_of}
 use Rattle.elevator_model.specs.Tours.{Progress, rider_count, destination_of, persons_of, is_aboard, stays_on, persons_where, boards_at, stop_at, start_of}
-use Rattle.tour_rules.specs.declared.places.Place.{Place}
+use Rattle.tour_rules.specs.declared.places.CarPlace.{CarPlace}
 use Rattle.tour_rules.specs.Leaving.{is_call_off, AreCarried}
 use Rattle.tour_rules.specs.declared.places.Heading.{Heading}
 use Rattle.tour_rules.specs.declared.places.Heading.TheVariants.{Anywhere}
@@ -55,10 +55,10 @@ rider_persons s c calls visited h =
 -- ---- a place that stands for a progress
 
 -- those carried with such a destination
-pub tracked_any : (s : Snapshot) (c : ℕ) (place : Place) (p : Progress) (h : Heading) → Tracks s c place p → any_below (rider_count s) (λ r. p.carried r && heads h (destination_of s r)) ≡ any_below (rider_count s) (rider_heads s c place.carried place.visited h)
+pub tracked_any : (s : Snapshot) (c : ℕ) (place : CarPlace) (p : Progress) (h : Heading) → Tracks s c place p → any_below (rider_count s) (λ r. p.carried r && heads h (destination_of s r)) ≡ any_below (rider_count s) (rider_heads s c place.carried place.visited h)
 tracked_any s c place p h t = any_below-same (rider_count s) _ _ (λ r lt. ap (λ (b : Bool). b && heads h (destination_of s r)) (sym (t.carried r lt)))
 
-pub tracked_persons : (s : Snapshot) (c : ℕ) (place : Place) (p : Progress) (h : Heading) → Tracks s c place p → persons_where s (λ r. p.carried r && heads h (destination_of s r)) ≡ sum_where (rider_count s) (rider_heads s c place.carried place.visited h) (persons_of s)
+pub tracked_persons : (s : Snapshot) (c : ℕ) (place : CarPlace) (p : Progress) (h : Heading) → Tracks s c place p → persons_where s (λ r. p.carried r && heads h (destination_of s r)) ≡ sum_where (rider_count s) (rider_heads s c place.carried place.visited h) (persons_of s)
 tracked_persons s c place p h t =
     sum_below-same (rider_count s) _ _ (λ r lt. ap (λ (b : Bool). cond (b && heads h (destination_of s r)) (persons_of s r) 0) (sym (t.carried r lt)))
 
@@ -77,7 +77,7 @@ start_carries s c r lt =
 pub Tracks-start : (s : Snapshot) (c : ℕ) → Tracks s c (record { begun = false; floor = floor_of (state_of s c); boarded = 0; carried = 0; visited = 0 }) (start_of s c)
 Tracks-start s c = record { begun = refl; floor = refl; boarded = λ j lt. zero_has j; carried = start_carries s c }
 
-call_after : (s : Snapshot) (c : ℕ) (place : Place) (p : Progress) (g : ℕ) (staying set : ℕ) (boards : ℕ → Bool) (r : ℕ) → Tracks s c place p → r < call_count s → has staying r ≡ (has place.carried r && not ((call_in s.calls r).destination == g)) → has set r ≡ boards r → r < rider_count s → (has staying r || has set r) ≡ (stays_on s p g r || boards r)
+call_after : (s : Snapshot) (c : ℕ) (place : CarPlace) (p : Progress) (g : ℕ) (staying set : ℕ) (boards : ℕ → Bool) (r : ℕ) → Tracks s c place p → r < call_count s → has staying r ≡ (has place.carried r && not ((call_in s.calls r).destination == g)) → has set r ≡ boards r → r < rider_count s → (has staying r || has set r) ≡ (stays_on s p g r || boards r)
 call_after s c place p g staying set boards r t lt stay board in_all =
     let carried = at_call r (call_count s) (has place.carried r) (group_carried s.aboard c place.visited (r - call_count s)) lt in
     let same : has place.carried r ≡ p.carried r = sym carried ∙ t.carried r in_all in
@@ -95,7 +95,7 @@ visited_after true false false true h k = absurd (false≢true (h refl))
 visited_after true false false false h k = refl
 
 -- a stop was made at floor g
-pub record IsAfterStop (s : Snapshot) (place : Place) (g set stay : ℕ) (new : Place) : Type 0 where
+pub record IsAfterStop (s : Snapshot) (place : CarPlace) (g set stay : ℕ) (new : CarPlace) : Type 0 where
   pub begun : new.begun ≡ true
   pub floor : new.floor ≡ g
   pub boarded : (j : ℕ) → has new.boarded j ≡ (has place.boarded j || has set j)
@@ -104,7 +104,7 @@ pub record IsAfterStop (s : Snapshot) (place : Place) (g set stay : ℕ) (new : 
   pub here : has new.visited g ≡ true
   pub others : (f : ℕ) → (f ≡ g → ⊥) → has new.visited f ≡ has place.visited f
 
-group_after : (s : Snapshot) (c : ℕ) (place : Place) (p : Progress) (g set staying : ℕ) (new : Place) (boards : ℕ → Bool) (r : ℕ) → Tracks s c place p → IsAfterStop s place g set staying new → IsBoardSet s set boards → call_count s ≤ r → r < rider_count s → group_carried s.aboard c new.visited (r - call_count s) ≡ (stays_on s p g r || boards r)
+group_after : (s : Snapshot) (c : ℕ) (place : CarPlace) (p : Progress) (g set staying : ℕ) (new : CarPlace) (boards : ℕ → Bool) (r : ℕ) → Tracks s c place p → IsAfterStop s place g set staying new → IsBoardSet s set boards → call_count s ≤ r → r < rider_count s → group_carried s.aboard c new.visited (r - call_count s) ≡ (stays_on s p g r || boards r)
 group_after s c place p g set staying new boards r t after is_set le in_all =
     let k = r - call_count s in
     let d = (group_in s.aboard k).destination in
@@ -113,7 +113,7 @@ group_after s c place p g set staying new boards r t after is_set le in_all =
     let dest = at_group r (call_count s) (call_of s r).destination (group_of s k).destination le in
     visited_after ((group_in s.aboard k).car == c) (has place.visited d) (has new.visited d) (d == g) (λ e. ap (has new.visited) (eqb-true d g e) ∙ after.here) (λ e. after.others d (eqb-false d g e)) ∙ ap (λ (b : Bool). (b && not (d == g)) || false) same ∙ ap (λ (x : ℕ). (p.carried r && not (x == g)) || false) (sym dest) ∙ ap (λ (b : Bool). stays_on s p g r || b) (sym (is_set.only r le))
 
-rider_after : (s : Snapshot) (c : ℕ) (place : Place) (p : Progress) (g set staying : ℕ) (new : Place) (boards : ℕ → Bool) (r : ℕ) → Tracks s c place p → IsAfterStop s place g set staying new → IsBoardSet s set boards → r < rider_count s → carries s c new.carried new.visited r ≡ (stays_on s p g r || boards r)
+rider_after : (s : Snapshot) (c : ℕ) (place : CarPlace) (p : Progress) (g set staying : ℕ) (new : CarPlace) (boards : ℕ → Bool) (r : ℕ) → Tracks s c place p → IsAfterStop s place g set staying new → IsBoardSet s set boards → r < rider_count s → carries s c new.carried new.visited r ≡ (stays_on s p g r || boards r)
 rider_after s c place p g set staying new boards r t after is_set in_all =
     elim (cases_Bool (ltb r (call_count s))) [ inl e ↦ (let lt = ltb-true r (call_count s) e in at_call r (call_count s) (has new.carried r) (group_carried s.aboard c new.visited (r - call_count s)) lt ∙ after.carried r ∙ call_after s c place p g staying set boards r t lt (after.staying r lt) (is_set.calls r lt) in_all) | inr e ↦ (let le = ltb-false r (call_count s) e in at_group r (call_count s) (has new.carried r) (group_carried s.aboard c new.visited (r - call_count s)) le ∙ group_after s c place p g set staying new boards r t after is_set le in_all) ]
 
@@ -126,7 +126,7 @@ pub staying-call : (s : Snapshot) (carried g off staying : ℕ) → ((j : ℕ) �
 staying-call s carried g off staying gone stay j lt =
     stay j ∙ ap (λ (b : Bool). has carried j && not b) (gone j lt) ∙ not_off (has carried j) ((call_in s.calls j).destination == g)
 
-pub Tracks-stop : (s : Snapshot) (c : ℕ) (place : Place) (p : Progress) (g set staying : ℕ) (new : Place) (boards : ℕ → Bool) → Tracks s c place p → IsAfterStop s place g set staying new → IsBoardSet s set boards → Tracks s c new (stop_at s c p g boards)
+pub Tracks-stop : (s : Snapshot) (c : ℕ) (place : CarPlace) (p : Progress) (g set staying : ℕ) (new : CarPlace) (boards : ℕ → Bool) → Tracks s c place p → IsAfterStop s place g set staying new → IsBoardSet s set boards → Tracks s c new (stop_at s c p g boards)
 Tracks-stop s c place p g set staying new boards t after is_set = record {
   begun = after.begun;
   floor = after.floor;
@@ -154,18 +154,18 @@ board_persons s set boards is_set =
     let none = sum_below-zero (length s.aboard) in
     omega (arith, split, front, back, none)
 
-pub carried_any : (s : Snapshot) (c : ℕ) (place : Place) (h : Heading) (a b : Bool) → a ≡ any_below (length s.calls) (call_heads s.calls place.carried h) → b ≡ any_below (length s.aboard) (group_heads s.aboard c place.visited h) → (p : Progress) → Tracks s c place p → (a || b) ≡ any_below (rider_count s) (λ r. p.carried r && heads h (destination_of s r))
+pub carried_any : (s : Snapshot) (c : ℕ) (place : CarPlace) (h : Heading) (a b : Bool) → a ≡ any_below (length s.calls) (call_heads s.calls place.carried h) → b ≡ any_below (length s.aboard) (group_heads s.aboard c place.visited h) → (p : Progress) → Tracks s c place p → (a || b) ≡ any_below (rider_count s) (λ r. p.carried r && heads h (destination_of s r))
 carried_any s c place h a b e k p t =
     ap (λ (x : Bool). x || b) e ∙ ap (λ (x : Bool). any_below (length s.calls) (call_heads s.calls place.carried h) || x) k ∙ sym (rider_any s c place.carried place.visited h) ∙ sym (tracked_any s c place p h t)
 
-pub carried_persons : (s : Snapshot) (c : ℕ) (place : Place) (h : Heading) (a b : ℕ) → a ≡ sum_where (length s.calls) (call_heads s.calls place.carried h) (λ j. (call_in s.calls j).persons) → b ≡ sum_where (length s.aboard) (group_heads s.aboard c place.visited h) (λ k. (group_in s.aboard k).persons) → (p : Progress) → Tracks s c place p → a + b ≡ persons_where s (λ r. p.carried r && heads h (destination_of s r))
+pub carried_persons : (s : Snapshot) (c : ℕ) (place : CarPlace) (h : Heading) (a b : ℕ) → a ≡ sum_where (length s.calls) (call_heads s.calls place.carried h) (λ j. (call_in s.calls j).persons) → b ≡ sum_where (length s.aboard) (group_heads s.aboard c place.visited h) (λ k. (group_in s.aboard k).persons) → (p : Progress) → Tracks s c place p → a + b ≡ persons_where s (λ r. p.carried r && heads h (destination_of s r))
 carried_persons s c place h a b e k p t =
     let split = rider_persons s c place.carried place.visited h in
     let same = tracked_persons s c place p h t in
     omega (arith, e, k, split, same)
 
 -- the riders carried, as the costs of a stop have them
-pub riders_carried : (s : Snapshot) (c : ℕ) (place : Place) (p : Progress) → Tracks s c place p → AreCarried s c place.carried place.visited p
+pub riders_carried : (s : Snapshot) (c : ℕ) (place : CarPlace) (p : Progress) → Tracks s c place p → AreCarried s c place.carried place.visited p
 riders_carried s c place p t =
     let n = call_count s in
     record {

@@ -6,7 +6,7 @@ use Rattle.elevator_model.specs.declared.Stop.{Stop}
 use Rattle.call_sets.specs.Counting.{has, is_among}
 use Rattle.elevator_model.specs.Snapshot.{Snapshot, call_count, no_call, no_group}
 use Rattle.elevator_model.specs.Tours.{Progress, rider_count, destination_of}
-use Rattle.tour_rules.specs.declared.places.Place.{Place}
+use Rattle.tour_rules.specs.declared.places.CarPlace.{CarPlace}
 use Rattle.tour_rules.specs.declared.places.Heading.{Heading}
 use Rattle.tour_rules.specs.declared.places.Heading.TheVariants.{To, Elsewhere, Below, Above, Anywhere}
 
@@ -43,7 +43,7 @@ abbrev pub rider_heads : Snapshot → ℕ → (calls visited : ℕ) → Heading 
 rider_heads s c calls visited heading r = carries s c calls visited r && heads heading (destination_of s r)
 
 -- the place stands for this progress
-pub record Tracks (s : Snapshot) (c : ℕ) (place : Place) (p : Progress) : Type 0 where
+pub record Tracks (s : Snapshot) (c : ℕ) (place : CarPlace) (p : Progress) : Type 0 where
   pub begun : place.begun ≡ p.begun
   pub floor : place.floor ≡ p.floor
   pub boarded : (j : ℕ) → j < call_count s → has place.boarded j ≡ p.boarded j

@@ -9,7 +9,7 @@ ghost use Rattle.elevator_model.specs.Tours.{broken_at_end as broken_at_end_lem,
 ghost use Rattle.elevator_model.specs.Tours.{first_broken_from, start_of, none_taken};
 ghost use Rattle.tour_rules.specs.Places.{Tracks, HasBoards};
 
-use crate::places::{Heading, Place, after_stop, any_carried, at_start};
+use crate::places::{CarPlace, Heading, after_stop, any_carried, at_start};
 use crate::rules::{
     any_elsewhere, any_foreign, any_overtakes, any_twice, is_overfull, is_useless, needs_use,
     starts_wrong, stays_put, turns_away,
@@ -29,7 +29,7 @@ const STOP_RULES: [Rule; 10] = [
     Rule::Car,
     Rule::Floor,
     Rule::CallTwice,
-    Rule::Place,
+    Rule::Origin,
 ];
 
 /// Whether the stop breaks the rule.
@@ -37,7 +37,7 @@ fn breaks(
     snapshot: &Snapshot,
     car: u32,
     taken: CallSet,
-    place: &Place,
+    place: &CarPlace,
     stop: &Stop,
     boards: CallSet,
     rule: Rule,
@@ -64,7 +64,7 @@ fn breaks(
             taken,
             stop.boards.as_slice(),
         ),
-        Rule::Place => any_elsewhere(calls, boards, stop.floor),
+        Rule::Origin => any_elsewhere(calls, boards, stop.floor),
         Rule::Delivery | Rule::Unserved => false,
     }
 }
@@ -74,7 +74,7 @@ fn broken_at(
     snapshot: &Snapshot,
     car: u32,
     taken: CallSet,
-    place: &Place,
+    place: &CarPlace,
     stop: &Stop,
     boards: CallSet,
 ) -> Option<Rule>
@@ -92,7 +92,7 @@ fn broken_at(
 }
 
 /// The rule that is broken where the tour ends here.
-pub fn broken_at_end(snapshot: &Snapshot, car: u32, place: &Place) -> Option<Rule>
+pub fn broken_at_end(snapshot: &Snapshot, car: u32, place: &CarPlace) -> Option<Rule>
     requires { car < car_count snapshot.now }
     ensures { (p : Progress) → Tracks snapshot.now car place.now p
         → result ≡ broken_at_end_lem snapshot.now car p }

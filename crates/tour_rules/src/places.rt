@@ -45,7 +45,7 @@ impl Heading {
 
 /// How far a car is in its tour, but for the times.
 #[derive(Clone, Copy)]
-pub struct Place {
+pub struct CarPlace {
     /// Whether it has begun a stop.
     pub begun: bool,
     /// The floor of its last stop, or where it stands, comes to or comes from.
@@ -145,7 +145,7 @@ fn calls_bound_for(calls: &[Call], set: CallSet, floor: u32) -> CallSet
 }
 
 /// The calls carried that get off at a next stop at this floor.
-pub fn calls_off(snapshot: &Snapshot, place: &Place, floor: u32) -> CallSet
+pub fn calls_off(snapshot: &Snapshot, place: &CarPlace, floor: u32) -> CallSet
     ensures each { (j : ℕ) → j < call_count snapshot.now
         → has result j ≡ is_call_off snapshot.now place.now.carried floor j }
     ensures only { (j : ℕ) → call_count snapshot.now ≤ j → has result j ≡ false }
@@ -156,7 +156,7 @@ pub fn calls_off(snapshot: &Snapshot, place: &Place, floor: u32) -> CallSet
 }
 
 /// Whether a rider with such a destination is carried.
-pub fn any_carried(snapshot: &Snapshot, car: u32, place: &Place, heading: Heading) -> bool
+pub fn any_carried(snapshot: &Snapshot, car: u32, place: &CarPlace, heading: Heading) -> bool
     ensures { (p : Progress) → Tracks snapshot.now car place.now p → result
         ≡ any_below (rider_count snapshot.now) (λ r. p.carried r && heads heading (destination_of snapshot.now r)) }
 {
@@ -165,7 +165,7 @@ pub fn any_carried(snapshot: &Snapshot, car: u32, place: &Place, heading: Headin
 }
 
 /// The persons carried to such a destination.
-pub fn persons_carried(snapshot: &Snapshot, car: u32, place: &Place, heading: Heading) -> u32
+pub fn persons_carried(snapshot: &Snapshot, car: u32, place: &CarPlace, heading: Heading) -> u32
     requires { car < car_count snapshot.now }
     ensures value { (p : Progress) → Tracks snapshot.now car place.now p → result
         ≡ persons_where snapshot.now (λ r. p.carried r && heads heading (destination_of snapshot.now r)) }
@@ -185,11 +185,11 @@ pub fn persons_boarding(snapshot: &Snapshot, boards: CallSet) -> u32
 }
 
 /// A car at the start of its tour.
-pub fn at_start(snapshot: &Snapshot, car: u32) -> Place
+pub fn at_start(snapshot: &Snapshot, car: u32) -> CarPlace
     requires { car < car_count snapshot.now }
     ensures { Tracks snapshot.now car result (start_of snapshot.now car) }
 {
-    Place {
+    CarPlace {
         begun: false,
         floor: snapshot.car(car).floor(),
         boarded: CallSet::empty(),
@@ -199,7 +199,7 @@ pub fn at_start(snapshot: &Snapshot, car: u32) -> Place
 }
 
 /// The car after a stop at this floor, where these calls board.
-pub fn after_stop(snapshot: &Snapshot, place: &Place, floor: u32, boards: CallSet) -> Place
+pub fn after_stop(snapshot: &Snapshot, place: &CarPlace, floor: u32, boards: CallSet) -> CarPlace
     requires { floor < 64 }
     ensures stops { (c : ℕ) (p : Progress) (test : ℕ → Bool) → Tracks snapshot.now c place.now p
         → IsBoardSet snapshot.now boards test
@@ -207,7 +207,7 @@ pub fn after_stop(snapshot: &Snapshot, place: &Place, floor: u32, boards: CallSe
     ensures floor { result.floor ≡ floor }
 {
     let staying = place.carried.minus(calls_off(snapshot, place, floor));
-    Place {
+    CarPlace {
         begun: true,
         floor,
         boarded: place.boarded.union(boards),

@@ -15,7 +15,7 @@ ghost use Rattle.elevator_model.specs.Tours.{is_later_in_queue as is_later_in_qu
 ghost use Rattle.tour_rules.specs.Places.{call_in, Tracks, HasBoards};
 
 use crate::places::{
-    Heading, Place, any_call_heads, any_carried, persons_boarding, persons_carried,
+    CarPlace, Heading, any_call_heads, any_carried, persons_boarding, persons_carried,
 };
 use call_sets::CallSet;
 use call_state::{Call, CarState, Snapshot, is_open};
@@ -129,7 +129,7 @@ fn may_stop_first(snapshot: &Snapshot, car: u32, floor: u32) -> bool
 }
 
 /// Whether a stop has to be of use: not so the first stop of a coming or moving car.
-pub fn needs_use(snapshot: &Snapshot, car: u32, place: &Place) -> bool
+pub fn needs_use(snapshot: &Snapshot, car: u32, place: &CarPlace) -> bool
     requires { car < car_count snapshot.now }
     ensures { result ≡ (place.now.begun || is_idle (state_of snapshot.now car)) }
 {
@@ -137,7 +137,7 @@ pub fn needs_use(snapshot: &Snapshot, car: u32, place: &Place) -> bool
 }
 
 /// Whether a leg leads to the next stop.
-fn has_leg(snapshot: &Snapshot, car: u32, place: &Place) -> bool
+fn has_leg(snapshot: &Snapshot, car: u32, place: &CarPlace) -> bool
     requires { car < car_count snapshot.now }
     ensures { result ≡ (place.now.begun || not (is_coming (state_of snapshot.now car))) }
 {
@@ -145,7 +145,13 @@ fn has_leg(snapshot: &Snapshot, car: u32, place: &Place) -> bool
 }
 
 /// Whether nobody gets off and no call boards where the stop has to be of use.
-pub fn is_useless(snapshot: &Snapshot, car: u32, place: &Place, floor: u32, boards: CallSet) -> bool
+pub fn is_useless(
+    snapshot: &Snapshot,
+    car: u32,
+    place: &CarPlace,
+    floor: u32,
+    boards: CallSet,
+) -> bool
     requires { car < car_count snapshot.now }
     ensures { (p : Progress) (stop : Stop) → Tracks snapshot.now car place.now p
         → stop.floor ≡ floor → HasBoards snapshot.now boards stop
@@ -164,7 +170,7 @@ fn lacks_use(needs_use: bool, anyone_off: bool, anyone_on: bool) -> bool
 }
 
 /// Whether someone carried would ride past or away from the destination on the leg to this floor.
-pub fn turns_away(snapshot: &Snapshot, car: u32, place: &Place, floor: u32) -> bool
+pub fn turns_away(snapshot: &Snapshot, car: u32, place: &CarPlace, floor: u32) -> bool
     requires { car < car_count snapshot.now }
     ensures { (p : Progress) → Tracks snapshot.now car place.now p
         → result ≡ (has_leg_lem snapshot.now car p && turns_with snapshot.now p p.floor floor) }
@@ -188,7 +194,7 @@ fn is_turn(has_leg: bool, from: u32, to: u32, any_below: bool, any_above: bool) 
 pub fn is_overfull(
     snapshot: &Snapshot,
     car: u32,
-    place: &Place,
+    place: &CarPlace,
     floor: u32,
     boards: CallSet,
 ) -> bool
@@ -203,14 +209,14 @@ pub fn is_overfull(
 }
 
 /// Whether the floor is that of the stop before.
-pub fn stays_put(place: &Place, floor: u32) -> bool
+pub fn stays_put(place: &CarPlace, floor: u32) -> bool
     ensures { result ≡ (place.now.begun && (floor == place.now.floor)) }
 {
     place.begun && floor == place.floor
 }
 
 /// Whether the car may not make its first stop at this floor.
-pub fn starts_wrong(snapshot: &Snapshot, car: u32, place: &Place, floor: u32) -> bool
+pub fn starts_wrong(snapshot: &Snapshot, car: u32, place: &CarPlace, floor: u32) -> bool
     requires { car < car_count snapshot.now }
     ensures { result ≡
         (not place.now.begun && not

@@ -8,7 +8,7 @@ ghost use Rattle.elevator_model.specs.Tours.{Progress, start_of, stop_at, gets_o
 ghost use Rattle.tour_rules.specs.Places.{IsBoardSet};
 ghost use Rattle.tour_rules.specs.Walking.{Walks};
 
-use crate::places::{self, Heading, Place};
+use crate::places::{self, CarPlace, Heading};
 use crate::riding;
 use call_sets::CallSet;
 use call_state::Snapshot;
@@ -18,7 +18,7 @@ use elevator_model::MOMENT_LIMIT;
 #[derive(Clone, Copy)]
 pub struct Walker {
     /// The floor of its last stop, who boarded and who is carried.
-    pub place: Place,
+    pub place: CarPlace,
     /// The moment at which the doors of its last stop are open. Before the first stop it is the moment from
     /// which the tour is timed.
     pub opened: u64,

@@ -2,7 +2,7 @@ use Rattle.std.proofs.Common.{arith, List, refl, subst, Some, None}
 use Rattle.std.proofs.lemmas.List.{take_all}
 use Rattle.cert_claims.specs.Leaves.{HasTakenAll, LeafAt}
 use Rattle.cert_claims.proofs.CountLemmas.{answer_at, leaf_there, past_all, past_spare, taken_more}
-use Rattle.cert_claims.proofs.counting.Tally.take.Goals as goal
+use Rattle.cert_claims.proofs.counting.ClaimsSoFar.take.Goals as goal
 
 pub returns-in_default : goal.returns-in_default
 returns-in_default c = λ s leaves are.
