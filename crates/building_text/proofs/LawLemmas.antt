@@ -11,9 +11,10 @@ use Rattle.lift_text.specs.declared.faults.TextFault.{TextFault}
 use Rattle.lift_text.specs.declared.faults.TextFault.TheVariants.{Read, TooLong, Bad, NoMemory}
 use Rattle.text_sections.specs.Sections.{Line, is_whole, accepted, refused, too_long, outcome, ReadAs}
 use Rattle.text_sections.specs.Canonical.{BeginsWith, Goes, IsMade}
+use Rattle.text_sections.specs.Unfinished.{EndsBehind}
 use Rattle.building_text.specs.Drafts.{Draft, no_draft, after}
-use Rattle.building_text.specs.BuildingText.{AreBuildingLines, AreTimesLines, AreTravelTimes, IsTravelFrom, HasTravel, IsBuildingText, building_from, Stands, IsWhole, IsReadBuilding, IsRefusedBuilding, StandsInFront, TakesBuildings}
-use Rattle.building_text.proofs.ReadLemmas.{Then, Reads, found, given}
+use Rattle.building_text.specs.BuildingText.{AreBuildingLines, AreTimesLines, AreTravelTimes, IsTravelFrom, HasTravel, IsBuildingText, building_from, Stands, IsWhole, IsReadBuilding, IsRefusedBuilding, StandsInFront, TakesBuildings, BuildingEndsBehind}
+use Rattle.building_text.proofs.ReadLemmas.{Then, Reads, found, given, reads_make}
 use Rattle.building_text.proofs.LineLemmas.{lines_of_reads, nothing}
 use Rattle.building_text.proofs.GivenLemmas.{draft_of, reads_of_lines}
 use Rattle.building_text.proofs.TravelLemmas.{same_travel}
@@ -115,6 +116,13 @@ takes_refused (Some text) TooLong now read lines b rest = λ begins is.
 takes_refused (Some text) Read now read lines b rest = λ begins is. tt
 takes_refused (Some text) NoMemory now read lines b rest = λ begins is. tt
 
+-- ---- where it ends
+
+pub ends_behind : (before : Option TextState) (left : Option (List ℕ)) → EndsBehind after before no_draft left → BuildingEndsBehind before left
+ends_behind None left ends = tt
+ends_behind (Some text) left ends = λ lines b behind between is.
+    ends lines (draft_of b is.0) behind between (reads_make lines no_draft (draft_of b is.0) (reads_of_lines lines b is.0 is.1))
+
 -- ---- by the answer
 
 pub read_answer : (answer : Result Building TextFault) (before now : Option TextState) (d : Draft) → ReadAs after before no_draft (Ok tt) d now → IfOk answer (Stands d) → IfOk answer (λ b. IsReadBuilding before b now)
@@ -136,3 +144,8 @@ front_answer (Err fault) before now read = tt
 pub takes_answer : (answer : Result Building TextFault) (before now : Option TextState) → IfOk answer (λ b. IsReadBuilding before b now) → IfErr answer (λ fault. IsRefusedBuilding before fault now) → TakesBuildings before answer now
 takes_answer (Ok b) before now read bad = takes_read before b now read
 takes_answer (Err fault) before now read bad = takes_refused before fault now bad
+
+-- a building is not made only where memory is wanting
+pub never_unread : (answer : Result Building TextFault) → IfErr answer (λ fault. fault ≡ NoMemory) → answer ≡ Err Read → ⊥
+never_unread (Ok b) failed is = cc
+never_unread (Err fault) failed is = cc

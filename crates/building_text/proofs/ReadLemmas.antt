@@ -4,7 +4,7 @@ use Rattle.lift_text.specs.Reading.{Reading, line_with, finished, bad_line, past
 use Rattle.lift_text.specs.declared.codes.TextCode.{TextCode}
 use Rattle.text_sections.specs.Words.{is_word}
 use Rattle.text_sections.specs.Sections.{Line, Step, goes_on, is_whole, is_bad, step_of, accepted, continued, outcome}
-use Rattle.text_sections.specs.Canonical.{BeginsWith}
+use Rattle.text_sections.specs.Canonical.{BeginsWith, Makes}
 use Rattle.building_text.specs.Order.{name_of, may_end, misplaced}
 use Rattle.text_sections.specs.Judging.{Judged, ◌>>=◌}
 use Rattle.building_text.specs.Drafts.{Draft, taken, after}
@@ -53,6 +53,20 @@ pub given : (lines : List Line) (read : Reading) (d end : Draft) (rest : Reading
 given [] read d end rest begins reads = absurd reads
 given (words ∷ lines) read d end rest begins reads =
     ap (λ r. outcome after r d) begins.2 ∙ given_step lines begins.0 begins.1 end rest (after d words) (λ new later. given lines begins.1 new end rest begins.3 later) begins.3 reads
+
+makes_step : (words : Line) (lines : List Line) (d end : Draft) (step : Step Draft) → ((new : Draft) → Reads new lines end → Makes after lines new end) → after d words ≡ step
+    → Then step lines end (λ new. Reads new lines end) → Makes after (words ∷ lines) d end
+makes_step words lines d end (goes_on new) further is later =
+    let rest = further new later in
+    record { front = words ∷ rest.front; last = rest.last; before = rest.before; lines_are = ap (λ (ls : List Line). words ∷ ls) rest.lines_are; goes = (new, is, rest.goes); whole = rest.whole }
+makes_step words lines d end (is_whole new) further is whole =
+    record { front = []; last = words; before = d; lines_are = ap (λ (ls : List Line). words ∷ ls) whole.0; goes = refl; whole = is ∙ ap (λ (e : Draft). is_whole e) whole.1 }
+makes_step words lines d end (is_bad code) further is none = absurd none
+
+-- lines that are read one after another make the section
+pub reads_make : (lines : List Line) (d end : Draft) → Reads d lines end → Makes after lines d end
+reads_make [] d end reads = absurd reads
+reads_make (words ∷ lines) d end reads = makes_step words lines d end (after d words) (λ new later. reads_make lines new end later) refl reads
 
 -- ---- the line that is due
 

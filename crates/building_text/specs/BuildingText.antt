@@ -11,6 +11,8 @@ use Rattle.lift_text.specs.declared.faults.TextFault.TheVariants.{Read, TooLong,
 use Rattle.text_sections.specs.Words.{is_word, exactly}
 use Rattle.text_sections.specs.Sections.{Line, ReadAs}
 use Rattle.text_sections.specs.Canonical.{BeginsWith}
+use Rattle.text_sections.specs.Between.{AreBetween}
+use Rattle.text_sections.specs.Unfinished.{LacksEnd}
 use Rattle.building_text.specs.Words.{one_number, two_numbers, heights_of, car_of_line}
 use Rattle.building_text.specs.Drafts.{Draft, no_draft, has_triple, after}
 
@@ -156,3 +158,8 @@ IsAnswered b rest (Err NoMemory) now = Unit {0}
 abbrev pub TakesBuildings : Option TextState → Result Building TextFault → Option TextState → Type 0
 TakesBuildings before answer now = (lines : List Line) (b : Building) (rest : Reading)
     → IfSome before (λ text. BeginsWith lines (reading text) rest → IsBuildingText lines b → IsAnswered b rest answer now)
+
+-- wherever a building in front ends, its last line is not whole among the bytes that were taken
+abbrev pub BuildingEndsBehind : Option TextState → Option (List ℕ) → Type 0
+BuildingEndsBehind None left = Unit {0}
+BuildingEndsBehind (Some text) left = (lines : List Line) (b : Building) (behind : TextState) → AreBetween text lines behind → IsBuildingText lines b → LacksEnd (Some text) behind.line left

@@ -5,7 +5,7 @@ ghost use Rattle.lift_text.specs.LineReader.{text, line, failure};
 ghost use Rattle.lift_text.specs.Shows.{AnswerShows};
 ghost use Rattle.text_sections.specs.Between.{StandsBehind};
 ghost use Rattle.building_text.specs.BuildingText.{IsReadBuilding, IsRefusedBuilding, StandsInFront};
-ghost use Rattle.building_text.specs.BuildingText.{TakesBuildings};
+ghost use Rattle.building_text.specs.BuildingText.{BuildingEndsBehind, TakesBuildings};
 ghost use Rattle.building_text.specs.Written.{ReadsWritten};
 
 use crate::drafts::BuildingDraft;
@@ -20,7 +20,8 @@ use text_sections::read_section;
 /// written is read as that building again, whatever follows. The first bad line
 /// decides, with its number and one code. `CutShort` comes where the input ends before the section does, at
 /// the line after the last. The end of the last line, or of the bad one, shows in the bytes that were taken.
-/// `Read` comes only where a read of the source failed. After an `Err` of a line the reader is after that line.
+/// `Read` comes only where a read of the source failed, and then the building's last line is not whole, with
+/// its LF, among the bytes that were taken. After an `Err` of a line the reader is after that line.
 pub fn read_building<S: Source>(
     alloc: Global,
     lines: &mut LineReader<S>,
@@ -43,6 +44,8 @@ pub fn read_building<S: Source>(
         (line lines.new) (S.left lines.new.source.now) }
     ensures ok { OnOk result (failure lines.new ≡ None) }
     ensures fault { IfSome (failure lines.new) (λ fault. result ≡ Err fault) }
+    ensures unfinished { failure lines.old ≡ None → IsErrOf result TextFault.Read
+        → BuildingEndsBehind (text S.left lines.old) (S.left lines.new.source.now) }
     ensures read { failure lines.old ≡ None → IsErrOf result TextFault.Read
         → Rose (S.faults lines.old.source.now) (S.faults lines.new.source.now) }
     ensures counted { S.faults lines.old.source.now ≤ S.faults lines.new.source.now }
@@ -64,6 +67,8 @@ fn read_lines<S: Source>(alloc: Global, lines: &mut LineReader<S>) -> Result<Bui
         (line lines.new) (S.left lines.new.source.now) }
     ensures ok { OnOk result (failure lines.new ≡ None) }
     ensures fault { IfSome (failure lines.new) (λ fault. result ≡ Err fault) }
+    ensures unfinished { failure lines.old ≡ None → IsErrOf result TextFault.Read
+        → BuildingEndsBehind (text S.left lines.old) (S.left lines.new.source.now) }
     ensures read { failure lines.old ≡ None → IsErrOf result TextFault.Read
         → Rose (S.faults lines.old.source.now) (S.faults lines.new.source.now) }
     ensures counted { S.faults lines.old.source.now ≤ S.faults lines.new.source.now }

@@ -85,15 +85,18 @@ still_whole passed before after stays not (inr end) = absurd (false≢true (sym 
 -- where a read failed, no whole line stands behind the lines that were passed over
 stopped : (old mid new : PageState) (left left' left'' : Option (List ℕ)) (taken : List ℕ) (crossed : Crossed old mid left left') → PageTook 0 mid new taken left' left''
     → (mid.ended ≡ true → new.ended ≡ true) → StepEnds (Err Read) mid new → StoppedBehind old.line new.line (old.unread ++ (crossed.taken ++ taken))
-stopped old mid new left left' left'' taken crossed more stays ends = record {
-  passed = crossed.passed;
-  rest = new.current ++ new.unread;
-  held = held_behind old.unread crossed.taken taken (concat crossed.passed) mid.unread (new.current ++ new.unread) crossed.held (more.kept refl);
-  each = crossed.each;
-  whole = are_lines crossed.passed (still_whole crossed.passed mid.ended new.ended stays ends.2 crossed.whole);
-  line = omega (arith, crossed.line, ends.0);
-  none = ends.1;
-}
+stopped old mid new left left' left'' taken crossed more stays ends =
+    let whole = still_whole crossed.passed mid.ended new.ended stays ends.2 crossed.whole in
+    record {
+      passed = crossed.passed;
+      rest = new.current ++ new.unread;
+      held = held_behind old.unread crossed.taken taken (concat crossed.passed) mid.unread (new.current ++ new.unread) crossed.held (more.kept refl);
+      each = crossed.each;
+      whole = are_lines crossed.passed whole;
+      line_feeds = All-weaker IsWholeLine HasWholeLine whole_has crossed.passed whole;
+      line = omega (arith, crossed.line, ends.0);
+      none = ends.1;
+    }
 
 -- the text ended, or the next line has words
 pub crossed_ok : (old mid new : PageState) (left left' left'' : Option (List ℕ)) (taken : List ℕ) (answer : Bool) → Crossed old mid left left' → PageTook 0 mid new taken left' left''

@@ -111,6 +111,7 @@ pub record StoppedBehind (lines lines' : ℕ) (bytes : List ℕ) : Type 0 where
   pub held : bytes ≡ concat passed ++ rest
   pub each : All IsPassedOver passed
   pub whole : AreLines (concat passed) (length passed)
+  pub line_feeds : All HasWholeLine passed
   pub line : lines' ≡ lines + length passed
   pub none : ¬ HasWholeLine rest
 

@@ -5,3 +5,4 @@ pub mod NumberListLemmas
 pub mod BetweenLemmas
 pub mod StepLemmas
 pub mod EachLemmas
+pub mod UnfinishedLemmas

@@ -4,3 +4,4 @@ pub mod Words
 pub mod Canonical
 pub mod NumberLists
 pub mod Between
+pub mod Unfinished

@@ -3,7 +3,6 @@ use Rattle.std.specs.Prelude.{ℕ, ℤ, pos, Bool, ◌||◌, nat_lt, int_lt, Lis
 use Rattle.std.specs.Str.{bytes_eq}
 use Rattle.lift_text.specs.Numbers.{digits_number, number_of, code_of}
 use Rattle.lift_text.specs.declared.numbers.NumberFault.{NumberFault}
-use Rattle.lift_text.specs.declared.codes.TextCode.{TextCode}
 use Rattle.lift_text.specs.declared.codes.TextCode.TheVariants.{NoLineWord, Missing, TooMany, NoNumber, OutOfRange}
 use Rattle.text_sections.specs.Judging.{Judged, ◌>>=◌}
 

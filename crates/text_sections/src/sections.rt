@@ -6,6 +6,7 @@ ghost use Rattle.lift_text.specs.Shows.{AnswerShows};
 ghost use Rattle.text_sections.specs.Sections.{Line, Step, Did, ReadAs, IsCutAtEnd};
 ghost use Rattle.text_sections.specs.Canonical.{IsMade, ReadsWritten};
 ghost use Rattle.text_sections.specs.Between.{StandsBehind};
+ghost use Rattle.text_sections.specs.Unfinished.{EndsBehind};
 
 use crate::faults::LineFault;
 use lift_text::{LINE_COUNT_BOUND, LineReader, Source, TextCode, TextFault};
@@ -36,8 +37,9 @@ pub trait Section {
 /// If a text begins with the written lines of a section, that section is read, whatever follows.
 /// The first bad line decides, with its number and one code. `CutShort` comes where the input ends
 /// before the section is whole, at the line after the last. The end of the last line, or of the bad one, shows
-/// in the bytes that were taken. `Read` comes only where a read of the source failed. After an `Err` nothing is
-/// known of the section.
+/// in the bytes that were taken. `Read` comes only where a read of the source failed, and then the section's
+/// last line is not whole, with its LF, among the bytes that were taken, wherever it ends. After an `Err` nothing
+/// is known of the section.
 pub fn read_section<S: Source, T: Section>(
     lines: &mut LineReader<S>,
     section: &mut T,
@@ -58,6 +60,8 @@ pub fn read_section<S: Source, T: Section>(
     ensures fault { IfSome (failure lines.new) (λ fault. result ≡ Err fault) }
     ensures cut { failure lines.old ≡ None
         → IsCutAtEnd result (failure lines.new) (words lines.new) (S.left lines.new.source.now) }
+    ensures unfinished { failure lines.old ≡ None → IsErrOf result TextFault.Read
+        → EndsBehind T.after (text S.left lines.old) section.old (S.left lines.new.source.now) }
     ensures read { failure lines.old ≡ None → IsErrOf result TextFault.Read
         → Rose (S.faults lines.old.source.now) (S.faults lines.new.source.now) }
     ensures counted { S.faults lines.old.source.now ≤ S.faults lines.new.source.now }
@@ -83,6 +87,8 @@ fn read_lines<S: Source, T: Section>(
     ensures fault { IfSome (failure lines.new) (λ fault. result ≡ Err fault) }
     ensures cut { failure lines.old ≡ None
         → IsCutAtEnd result (failure lines.new) (words lines.new) (S.left lines.new.source.now) }
+    ensures unfinished { failure lines.old ≡ None → IsErrOf result TextFault.Read
+        → EndsBehind T.after (text S.left lines.old) section.old (S.left lines.new.source.now) }
     ensures read { failure lines.old ≡ None → IsErrOf result TextFault.Read
         → Rose (S.faults lines.old.source.now) (S.faults lines.new.source.now) }
     ensures counted { S.faults lines.old.source.now ≤ S.faults lines.new.source.now }
