@@ -1,5 +1,5 @@
 -- The header of a text, line by line.
-use Rattle.std.proofs.Common.{◌≡◌, ℕ, ◌+◌, ◌≤◌, true, false, List, [], ◌∷◌, length, Option, None, Some, Ok, Err, sym, subst, refl, ap, ◌∙◌, arith, inl, inr}
+use Rattle.std.proofs.Common.{◌≡◌, ℕ, suc, ◌+◌, ◌-◌, ◌<◌, ◌≤◌, ◌⊎◌, true, false, List, [], ◌∷◌, length, drop, Option, None, Some, Ok, Err, sym, subst, refl, ap, ◌∙◌, arith, inl, inr}
 use Rattle.std.specs.Prelude.{IsSomeAnd, IfSome, option_map}
 use Rattle.std.specs.Io.KnownBytes.{prepend_known}
 use Rattle.lift_text.specs.Page.{PageState, text_at, limit_of}
@@ -11,7 +11,11 @@ use Rattle.lift_text.specs.Reading.{TextState, Passed, NextRaw, line_limit}
 use Rattle.lift_text.specs.declared.faults.TextFault.{TextFault}
 use Rattle.lift_text.specs.declared.faults.TextFault.TheVariants.{Read, TooLong, Bad, NoMemory}
 use Rattle.lift_text.specs.declared.codes.TextCode.TheVariants.{NoHeader, CutShort}
-use Rattle.opening_text.specs.Headers.{IsEmptyLine, IsHeaderLine, IsNoHeader, HeaderFirst, NoHeaderFirst, HeaderInFront, IsHeaderFault, IsHeaderRead, IsPassed, IsLineRead}
+use Rattle.opening_text.specs.Headers.{IsEmptyLine, IsHeaderLine, IsNoHeader, HeaderFirst, NoHeaderFirst, HeaderInFront, IsHeaderFault, IsHeaderRead, IsPassed, IsLineRead, IsBehindPiece, HeaderEndsBehind}
+use Rattle.lift_text.specs.Shows.{WentOn}
+use Rattle.text_sections.specs.Unfinished.{LacksEnd}
+use Rattle.text_sections.proofs.UnfinishedLemmas.{lacks_behind, lacks_later}
+use Rattle.opening_text.proofs.PlaceLemmas.{empty_or_header}
 
 -- ---- one line
 
@@ -69,14 +73,16 @@ failed_line (Some before) now raw TooLong next =
 
 -- ---- from line to line
 
--- what is in front of a later text is in front of the first
+-- what is in front of a later text is in front of the first, and a header that is in front of the first is in front of it
 abbrev pub LeadsOn : Option TextState → Option TextState → Type 0
 LeadsOn None now = Unit {0}
-LeadsOn (Some text) now = IsSomeAnd now (λ here. ((behind : TextState) → HeaderInFront here behind → HeaderInFront text behind) × ((fault : TextFault) → IsHeaderFault here fault → IsHeaderFault text fault))
+LeadsOn (Some text) now = IsSomeAnd now (λ here.
+    ((behind : TextState) → HeaderInFront here behind → HeaderInFront text behind) × ((fault : TextFault) → IsHeaderFault here fault → IsHeaderFault text fault)
+    × ((behind : TextState) → HeaderInFront text behind → HeaderInFront here behind))
 
 pub leads_none : (text : Option TextState) → LeadsOn text text
 leads_none None = tt
-leads_none (Some text) = (λ behind first. first, λ fault first. first)
+leads_none (Some text) = (λ behind first. first, λ fault first. first, λ behind first. first)
 
 header_before : (here now behind : TextState) → IsPassed IsEmptyLine here now → HeaderInFront now behind → HeaderInFront here behind
 header_before here now behind is first =
@@ -91,12 +97,23 @@ fault_before here now fault is first =
     let later = subst (λ (n : ℕ). NoHeaderFirst (here.line + 1) n (pieces_of now.bytes) fault) is.limit_is numbered in
     subst (λ (xs : List (List ℕ)). NoHeaderFirst here.line here.limit xs fault) (sym is.pieces) (inr (is.within, inl (is.kind, later)))
 
+header_after : (here now behind : TextState) → IsPassed IsEmptyLine here now → HeaderInFront here behind → HeaderInFront now behind
+header_after here now behind is first =
+    let lines = subst (λ (xs : List (List ℕ)). HeaderFirst here.line here.limit xs behind) is.pieces first in
+    let numbered = subst (λ (n : ℕ). HeaderFirst n (here.limit - length is.piece) (pieces_of now.bytes) behind) (sym is.line_is) (by_kind lines.1) in
+    subst (λ (n : ℕ). HeaderFirst now.line n (pieces_of now.bytes) behind) (sym is.limit_is) numbered
+  where
+    by_kind : ((IsEmptyLine is.piece × HeaderFirst (here.line + 1) (here.limit - length is.piece) (pieces_of now.bytes) behind) ⊎ (IsHeaderLine is.piece × IsBehindPiece here.line here.limit is.piece (pieces_of now.bytes) behind))
+        → HeaderFirst (here.line + 1) (here.limit - length is.piece) (pieces_of now.bytes) behind
+    by_kind (inl empty) = empty.1
+    by_kind (inr header) = absurd (empty_or_header is.piece is.kind header.0)
+
 pub leads_more : (text here now : Option TextState) → LeadsOn text here → IsLineRead here (Ok false) now → LeadsOn text now
 leads_more None here now leads line = tt
 leads_more (Some text) None now leads line = absurd leads
 leads_more (Some text) (Some here) None leads line = absurd line
 leads_more (Some text) (Some here) (Some now) leads line =
-    (λ behind first. leads.0 behind (header_before here now behind line first), λ fault first. leads.1 fault (fault_before here now fault line first))
+    (λ behind first. leads.0 behind (header_before here now behind line first), λ fault first. leads.1 fault (fault_before here now fault line first), λ behind first. header_after here now behind line (leads.2 behind first))
 
 header_here : (here now : TextState) → IsPassed IsHeaderLine here now → HeaderInFront here now
 header_here here now is =
@@ -116,6 +133,36 @@ leads_fault (Some text) (Some here) now Read leads line = tt
 leads_fault (Some text) (Some here) now NoMemory leads line = tt
 leads_fault (Some text) (Some here) now TooLong leads line = leads.1 TooLong line
 leads_fault (Some text) (Some here) now (Bad number code) leads line = leads.1 (Bad number code) line
+
+-- ---- where a header ends
+
+-- a header stands behind the lines before it, and the rest behind it
+pub record IsBehindHeader (line : ℕ) (pieces : List (List ℕ)) (rows : TextState) : Type 0 where
+  pub later : line < rows.line
+  pub pieces_are : pieces_of rows.bytes ≡ drop (rows.line - line) pieces
+
+pub header_behind : (line limit : ℕ) (pieces : List (List ℕ)) (rows : TextState) → HeaderFirst line limit pieces rows → IsBehindHeader line pieces rows
+header_behind line limit [] rows first = absurd first
+header_behind line limit (piece ∷ pieces) rows first = by_kind (header_behind (line + 1) (limit - length piece) pieces rows) first.1
+  where
+    by_kind : (HeaderFirst (line + 1) (limit - length piece) pieces rows → IsBehindHeader (line + 1) pieces rows)
+        → ((IsEmptyLine piece × HeaderFirst (line + 1) (limit - length piece) pieces rows) ⊎ (IsHeaderLine piece × IsBehindPiece line limit piece pieces rows)) → IsBehindHeader line (piece ∷ pieces) rows
+    by_kind later (inl empty) =
+        let rest = later empty.1 in
+        let count : suc (rows.line - (line + 1)) ≡ rows.line - line = omega (arith, rest.later) in
+        record { later = omega (arith, rest.later); pieces_are = rest.pieces_are ∙ ap (λ (n : ℕ). drop n (piece ∷ pieces)) count }
+    by_kind later (inr header) =
+        let is = header.1 in
+        let count : 1 ≡ rows.line - line = omega (arith, is.line_is) in
+        record { later = omega (arith, is.line_is); pieces_are = is.pieces_are ∙ ap (λ (n : ℕ). drop n (piece ∷ pieces)) count }
+
+-- a read failed behind the lines so far
+pub header_ends : (text here : Option TextState) (line : ℕ) (left : Option (List ℕ)) → LeadsOn text here → WentOn text here → IfSome here (λ (t : TextState). t.line ≡ line) → LacksEnd here (line + 1) left → HeaderEndsBehind text left
+header_ends None here line left leads went number lacks = tt
+header_ends (Some text) None line left leads went number lacks = absurd leads
+header_ends (Some text) (Some here) line left leads went number lacks = λ rows first.
+    (let up = (header_behind here.line here.limit (pieces_of here.bytes) rows (leads.2 rows first)).later in
+    lacks_behind (Some text) (Some here) rows.line left went (lacks_later (Some here) (line + 1) rows.line left (omega (arith, up, number)) lacks))
 
 -- ---- the number of lines
 

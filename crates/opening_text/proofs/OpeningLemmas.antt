@@ -109,17 +109,17 @@ takes_no_building (Some text) above now fault first s rows = λ whole.
     building_told s.building (reading whole.above) fault above (first whole.building.0 s.building (reading whole.above) (begins text whole.building.0 whole.above whole.building.1) whole.building.2)
 
 -- the building in front was read, up to the place behind it
-record IsBuildingTaken (text : TextState) (s : Snapshot) (rows : TextState) (b : Building) (here : TextState) (whole : DayOpeningInFront text s rows) : Type 0 where
-  building : b ≡ s.building
-  place : here ≡ whole.above
+pub record IsBuildingTaken (text : TextState) (s : Snapshot) (rows : TextState) (b : Building) (here : TextState) (whole : DayOpeningInFront text s rows) : Type 0 where
+  pub building : b ≡ s.building
+  pub place : here ≡ whole.above
 
-building_taken : (text : TextState) (s : Snapshot) (rows : TextState) (b : Building) (here : TextState) (whole : DayOpeningInFront text s rows) → TakesBuildings (Some text) (Ok b) (Some here) → StandsBehind (Some text) (Some here) → IsBuildingTaken text s rows b here whole
+pub building_taken : (text : TextState) (s : Snapshot) (rows : TextState) (b : Building) (here : TextState) (whole : DayOpeningInFront text s rows) → TakesBuildings (Some text) (Ok b) (Some here) → StandsBehind (Some text) (Some here) → IsBuildingTaken text s rows b here whole
 building_taken text s rows b here whole first behind =
     let read = first whole.building.0 s.building (reading whole.above) (begins text whole.building.0 whole.above whole.building.1) whole.building.2 in
     record { building = read.0; place = place_of text whole.building.0 behind.0 whole.above here whole.building.1 behind.1 read.1 }
 
 -- what is answered of the snapshot of such a text
-snapshot_answered : (text : TextState) (s : Snapshot) (rows : TextState) (b : Building) (here : TextState) (whole : DayOpeningInFront text s rows) (answer : Result Snapshot TextFault) (now : Option TextState)
+pub snapshot_answered : (text : TextState) (s : Snapshot) (rows : TextState) (b : Building) (here : TextState) (whole : DayOpeningInFront text s rows) (answer : Result Snapshot TextFault) (now : Option TextState)
     → IsBuildingTaken text s rows b here whole → ReadsLines (Some here) b true answer now → IsSnapshotAnswered s (reading whole.between) answer now
 snapshot_answered text s rows b here whole answer now taken second =
     let lines = whole.snapshot.0 in

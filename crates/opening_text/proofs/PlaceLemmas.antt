@@ -19,7 +19,7 @@ unfolding next_record strip_bom
 no_names e = absurd cc
 
 -- an empty line is no header
-empty_or_header : (piece : List ℕ) → IsEmptyLine piece → IsHeaderLine piece → ⊥
+pub empty_or_header : (piece : List ℕ) → IsEmptyLine piece → IsHeaderLine piece → ⊥
 empty_or_header piece none is = no_names (ap texts_of_line (sym none) ∙ is.names)
 
 -- What is read from one place begins with the lines, and goes on as from the other.

@@ -1,11 +1,12 @@
 -- What stands before the rows of a day: a building, an opening snapshot of it, and the header of the rows.
-use Rattle.std.specs.Prelude.{◌≡◌, ◌⊎◌, List, [], Option, None, Some, IfSome, IsSomeAnd, Result, Ok, Err, true}
+use Rattle.std.specs.Prelude.{◌≡◌, ℕ, ◌+◌, ◌≤◌, ◌⊎◌, List, [], ◌++◌, Option, None, Some, IfSome, IsSomeAnd, Result, Ok, Err, true}
 use Rattle.elevator_model.specs.Building.{Building}
 use Rattle.elevator_model.specs.Snapshot.{Snapshot}
 use Rattle.lift_text.specs.Reading.{TextState, reading}
 use Rattle.lift_text.specs.declared.faults.TextFault.{TextFault}
 use Rattle.text_sections.specs.Sections.{Line, outcome}
 use Rattle.text_sections.specs.Between.{AreBetween}
+use Rattle.text_sections.specs.Unfinished.{line_feeds}
 use Rattle.building_text.specs.BuildingText.{IsBuildingText}
 use Rattle.snapshot_text.specs.Snapshots.{StandsFor}
 use Rattle.snapshot_text.specs.Drafts.{blank, after as after_snapshot_line}
@@ -75,3 +76,18 @@ IsAnswered s rows (Err fault) now = Tells fault ⊥
 -- where such a text is in front, it is read, whatever follows
 abbrev pub TakesDayOpenings : Option TextState → Result Snapshot TextFault → Option TextState → Type 0
 TakesDayOpenings before answer now = (s : Snapshot) (rows : TextState) → IfSome before (λ text. DayOpeningInFront text s rows → IsAnswered s rows answer now)
+
+-- ---- what is not whole yet
+
+-- An opening is in front, and each of its lines has its LF: the text has as many LFs as there are lines up to the header.
+pub record HoldsOpening (text : TextState) : Type 0 where
+  pub snapshot : Snapshot
+  pub rows : TextState
+  pub opening : DayOpeningInFront text snapshot rows
+  pub whole : rows.line ≤ text.line + line_feeds text.bytes
+
+-- no opening is whole among the bytes that were taken, which are all but those that are left, where the source tells what
+-- it has left
+abbrev pub HoldsNoOpening : Option TextState → Option (List ℕ) → Type 0
+HoldsNoOpening before left = IfSome before (λ text. IfSome left (λ rest.
+    (taken : List ℕ) → text.bytes ≡ taken ++ rest → HoldsOpening (record { line = text.line; limit = text.limit; bytes = taken }) → ⊥))

@@ -5,6 +5,7 @@ use Rattle.lift_text.specs.Reading.{TextState, line_limit}
 use Rattle.lift_text.specs.declared.faults.TextFault.{TextFault}
 use Rattle.lift_text.specs.declared.faults.TextFault.TheVariants.{TooLong, Bad}
 use Rattle.lift_text.specs.declared.codes.TextCode.TheVariants.{CutShort, NoHeader}
+use Rattle.text_sections.specs.Unfinished.{LacksEnd}
 use Rattle.case_text.specs.CaseTexts.{Tells}
 use Rattle.row_text.specs.Records.{texts_of_line, header_fields}
 
@@ -74,3 +75,8 @@ IsLineRead None answer now = Unit {0}
 IsLineRead (Some before) (Ok true) now = IsSomeAnd now (IsPassed IsHeaderLine before)
 IsLineRead (Some before) (Ok false) now = IsSomeAnd now (IsPassed IsEmptyLine before)
 IsLineRead (Some before) (Err fault) now = Tells fault (IsHeaderFault before fault)
+
+-- wherever the header in front ends, its line is not whole among the bytes that were taken
+abbrev pub HeaderEndsBehind : Option TextState → Option (List ℕ) → Type 0
+HeaderEndsBehind None left = Unit {0}
+HeaderEndsBehind (Some text) left = (rows : TextState) → HeaderInFront text rows → LacksEnd (Some text) rows.line left

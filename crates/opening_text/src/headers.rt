@@ -4,7 +4,8 @@ ghost use Rattle.byte_streams.specs.Streams.{Rose};
 ghost use Rattle.lift_text.specs.LineReader.{text, line, failure};
 ghost use Rattle.lift_text.specs.Shows.{FaultShows, WentOn};
 ghost use Rattle.lift_text.specs.declared.faults.TextFault.TheVariants.{Bad};
-ghost use Rattle.opening_text.specs.Headers.{IsHeaderRead, IsLineRead};
+ghost use Rattle.text_sections.specs.Unfinished.{LacksEnd};
+ghost use Rattle.opening_text.specs.Headers.{HeaderEndsBehind, IsHeaderRead, IsLineRead};
 
 use lift_text::{LINE_COUNT_BOUND, LineReader, RawLine, Source, TEXT_LIMIT, TextCode, TextFault};
 use row_text::is_header;
@@ -28,6 +29,8 @@ fn read_line<S: Source>(alloc: Global, lines: &mut LineReader<S>) -> Result<bool
     ensures shows { IfErr result (λ fault.
         FaultShows (text S.left lines.old) fault (S.left lines.new.source.now)) }
     ensures ok { OnOk result (failure lines.new ≡ None) }
+    ensures lacks { IsErrOf result TextFault.Read
+        → LacksEnd (text S.left lines.old) (line lines.old + 1) (S.left lines.new.source.now) }
     ensures read { IsErrOf result TextFault.Read
         → Rose (S.faults lines.old.source.now) (S.faults lines.new.source.now) }
     ensures counted { S.faults lines.old.source.now ≤ S.faults lines.new.source.now }
@@ -54,7 +57,8 @@ fn read_line<S: Source>(alloc: Global, lines: &mut LineReader<S>) -> Result<bool
 /// The line is bad with `NoHeader` where it is not the four names, as `row_text::is_header` has it, or is
 /// over 4,096 bytes. `CutShort` comes where the input ends before it, at the line after the last. `TooLong`
 /// comes where it does not end within the bytes that may be read, and `Read` only where a read of the source
-/// failed. The end of a line that is bad shows in the bytes that were taken.
+/// failed, and then the header's line is not whole, with its LF, among the bytes that were taken. The end of a
+/// line that is bad shows in them.
 pub fn read_header<S: Source>(alloc: Global, lines: &mut LineReader<S>) -> Result<(), TextFault>
     requires { failure lines.old ≡ None }
     ensures same_source { lines.new.source.ghost_name ≡ lines.old.source.ghost_name }
@@ -62,6 +66,8 @@ pub fn read_header<S: Source>(alloc: Global, lines: &mut LineReader<S>) -> Resul
     ensures shows { IfErr result (λ fault.
         FaultShows (text S.left lines.old) fault (S.left lines.new.source.now)) }
     ensures ok { OnOk result (failure lines.new ≡ None) }
+    ensures unfinished { IsErrOf result TextFault.Read
+        → HeaderEndsBehind (text S.left lines.old) (S.left lines.new.source.now) }
     ensures read { IsErrOf result TextFault.Read
         → Rose (S.faults lines.old.source.now) (S.faults lines.new.source.now) }
     ensures counted { S.faults lines.old.source.now ≤ S.faults lines.new.source.now }

@@ -5,7 +5,7 @@ ghost use Rattle.lift_text.specs.LineReader.{text, failure};
 ghost use Rattle.lift_text.specs.Shows.{FaultShows};
 ghost use Rattle.elevator_model.specs.Snapshot.{IsAccepted};
 ghost use Rattle.opening_text.specs.DayOpenings.{IsDayOpeningRead, IsDayOpeningRefused, TakesDayOpenings};
-ghost use Rattle.opening_text.specs.DayOpenings.{IsEmptySnapshot};
+ghost use Rattle.opening_text.specs.DayOpenings.{HoldsNoOpening, IsEmptySnapshot};
 
 use crate::headers::read_header;
 use building_text::read_building;
@@ -19,7 +19,8 @@ use std::alloc::Global;
 ///
 /// The first bad line decides, with its number and one code: those of `read_building` and of `read_opening`,
 /// and then those of `read_header`. That line's end shows in the bytes that were taken. `Read` comes only where
-/// a read of the source failed.
+/// a read of the source failed, and then no opening is whole among the bytes that were taken: not even the
+/// header's line with its LF.
 pub fn read_day_opening<S: Source>(
     alloc: Global,
     lines: &mut LineReader<S>,
@@ -35,6 +36,8 @@ pub fn read_day_opening<S: Source>(
     ensures shows { IfErr result (λ fault.
         FaultShows (text S.left lines.old) fault (S.left lines.new.source.now)) }
     ensures ok { OnOk result (failure lines.new ≡ None) }
+    ensures unopened { IsErrOf result TextFault.Read
+        → HoldsNoOpening (text S.left lines.old) (S.left lines.new.source.now) }
     ensures read { IsErrOf result TextFault.Read
         → Rose (S.faults lines.old.source.now) (S.faults lines.new.source.now) }
     ensures counted { S.faults lines.old.source.now ≤ S.faults lines.new.source.now }

@@ -27,6 +27,7 @@ use Rattle.text_sections.specs.Judging.{Judged, ◌>>=◌, in_order}
 use Rattle.text_sections.specs.Words.{is_word, word_at, exactly, named, says_end}
 use Rattle.text_sections.specs.Sections.{Line, goes_on, is_whole, accepted, refused, too_long, outcome, ReadAs}
 use Rattle.text_sections.specs.Canonical.{BeginsWith, Goes, Makes, IsMade}
+use Rattle.text_sections.specs.Unfinished.{EndsBehind}
 use Rattle.text_sections.proofs.CanonicalLemmas.{goes-append, made, accepted_made}
 use Rattle.text_sections.proofs.StepLemmas.{then-inv, then-ok, named-inv}
 use Rattle.snapshot_text.specs.declared.kinds.Due.TheVariants.{Version}
@@ -34,7 +35,7 @@ use Rattle.snapshot_text.specs.declared.kinds.LineWord.{LineWord}
 use Rattle.snapshot_text.specs.declared.kinds.LineWord.TheVariants.{Snapshot as SnapshotWord, Now, Car, Aboard as AboardWord, Call as CallWord, End}
 use Rattle.snapshot_text.specs.Words.{version_said, moment_said, form_of, car_said, group_said, call_said}
 use Rattle.snapshot_text.specs.Drafts.{Draft, blank, snapshot_read, any_word, line_word, has_car, has_all_cars, cars_in_order, groups_in_order, calls_in_order, outside_opening, with_all_cars, version_in, moment_in, car_in, group_in, call_in, end_in, fault_in_car, fault_in_group, fault_in_call, with_version, with_moment, with_car, with_group, with_call, after_judged, after, ended}
-use Rattle.snapshot_text.specs.Snapshots.{says_version, says_moment, says_car, says_group, says_call, StandsFor, IsAnswered, IsSaid, FailsAs}
+use Rattle.snapshot_text.specs.Snapshots.{says_version, says_moment, says_car, says_group, says_call, StandsFor, IsAnswered, IsSaid, SnapshotEndsBehind, FailsAs}
 use Rattle.snapshot_text.proofs.Steps.{with_item-ok, text_of, car_said-below}
 use Rattle.snapshot_text.proofs.Lists.{times_in, times-first, at_each, AreClear}
 use Rattle.snapshot_text.proofs.Whole.{draft, nothing, sound}
@@ -322,6 +323,14 @@ said_by (Some text) None b o end good is_made read = absurd read
 said_by (Some text) (Some behind) b o end good is_made read =
     let found = accepted_made after (reading text) (blank b o) end (reading behind) read in
     (found.0, found.1, (sound b o good found.0 end found.2).said)
+
+-- ---- where a snapshot ends
+
+pub ends_behind : (before : Option TextState) (b : Building) (o : Bool) (left : Option (List ℕ)) → EndsBehind after before (blank b o) left → SnapshotEndsBehind before b o left
+ends_behind None b o left ends = tt
+ends_behind (Some text) b o left ends = λ lines s behind between says.
+    (let whole = complete b o lines s says in
+    ends lines whole.0 behind between whole.2)
 
 -- ---- a reader that has failed before
 

@@ -9,7 +9,7 @@ ghost use Rattle.text_sections.specs.Between.{StandsBehind};
 ghost use Rattle.snapshot_text.specs.Drafts.{snapshot_read};
 ghost use Rattle.snapshot_text.specs.Texts.{ReadsText};
 ghost use Rattle.snapshot_text.specs.Snapshots.{IsReadSnapshot, IsRefusedSnapshot, IsSaid, ReadsLines};
-ghost use Rattle.snapshot_text.specs.Snapshots.{FailsAs};
+ghost use Rattle.snapshot_text.specs.Snapshots.{FailsAs, SnapshotEndsBehind};
 
 use crate::drafts::Draft;
 use call_state::{Building, Snapshot};
@@ -51,6 +51,8 @@ fn read<S: Source>(
         (line lines.new) (S.left lines.new.source.now) }
     ensures ok { OnOk result (failure lines.new ≡ None) }
     ensures fault { IfSome (failure lines.new) (FailsAs result) }
+    ensures unfinished { failure lines.old ≡ None → IsErrOf result TextFault.Read
+        → SnapshotEndsBehind (text S.left lines.old) building is_opening (S.left lines.new.source.now) }
     ensures read { failure lines.old ≡ None → IsErrOf result TextFault.Read
         → Rose (S.faults lines.old.source.now) (S.faults lines.new.source.now) }
     ensures counted { S.faults lines.old.source.now ≤ S.faults lines.new.source.now }
@@ -82,7 +84,8 @@ fn read<S: Source>(
 /// first, third or fifth word, `OutOfOrder`, `Missing`, `TooMany`, `NoNumber` and `OutOfRange`, `UnknownId`,
 /// `NoState` where a car has no line, and then `Item` for what is wrong with the car, the group or the call.
 /// `CutShort` comes where the input ends first. The end of the last line, or of the bad one, shows in the bytes
-/// that were taken. `Read` comes only where a read of the source failed.
+/// that were taken. `Read` comes only where a read of the source failed, and then the snapshot's last line is not
+/// whole, with its LF, among the bytes that were taken.
 pub fn read_snapshot<S: Source>(
     alloc: Global,
     lines: &mut LineReader<S>,
@@ -107,6 +110,8 @@ pub fn read_snapshot<S: Source>(
         (line lines.new) (S.left lines.new.source.now) }
     ensures ok { OnOk result (failure lines.new ≡ None) }
     ensures fault { IfSome (failure lines.new) (FailsAs result) }
+    ensures unfinished { failure lines.old ≡ None → IsErrOf result TextFault.Read
+        → SnapshotEndsBehind (text S.left lines.old) building false (S.left lines.new.source.now) }
     ensures read { failure lines.old ≡ None → IsErrOf result TextFault.Read
         → Rose (S.faults lines.old.source.now) (S.faults lines.new.source.now) }
     ensures counted { S.faults lines.old.source.now ≤ S.faults lines.new.source.now }
@@ -138,6 +143,8 @@ pub fn read_opening<S: Source>(
         (line lines.new) (S.left lines.new.source.now) }
     ensures ok { OnOk result (failure lines.new ≡ None) }
     ensures fault { IfSome (failure lines.new) (FailsAs result) }
+    ensures unfinished { failure lines.old ≡ None → IsErrOf result TextFault.Read
+        → SnapshotEndsBehind (text S.left lines.old) building true (S.left lines.new.source.now) }
     ensures read { failure lines.old ≡ None → IsErrOf result TextFault.Read
         → Rose (S.faults lines.old.source.now) (S.faults lines.new.source.now) }
     ensures counted { S.faults lines.old.source.now ≤ S.faults lines.new.source.now }

@@ -1,9 +1,11 @@
-use Rattle.std.proofs.Common.{rules, ◌≡◌, sym, subst, arith, Err, IfErr}
-use Rattle.lift_text.specs.LineReader.{text}
+use Rattle.std.proofs.Common.{rules, ◌≡◌, ap, sym, subst, arith, Err, IfErr}
+use Rattle.lift_text.specs.LineReader.{text, line}
+use Rattle.lift_text.specs.declared.faults.TextFault.TheVariants.{Read}
+use Rattle.text_sections.proofs.UnfinishedLemmas.{same_error}
 use Rattle.lift_text.specs.Shows.{FaultShows}
 use Rattle.lift_text.proofs.ShowLemmas.{went_further, fault_behind}
 use Rattle.opening_text.specs.Headers.{IsHeaderRead}
-use Rattle.opening_text.proofs.HeaderLemmas.{leads_more, leads_found, leads_fault}
+use Rattle.opening_text.proofs.HeaderLemmas.{leads_more, leads_found, leads_fault, header_ends, number_of}
 use Rattle.opening_text.proofs.headers.read_header.Goals as goal
 
 pub lines-preserved : goal.lines-preserved
@@ -56,3 +58,12 @@ returns-clause-shows g c =
     let b = c.lines.invariant.bound in
     let all = c.lines-test.false in
     absurd (omega (arith, n, b, all))
+
+pub returns-in_err-is_found-clause-unfinished : goal.returns-in_err-is_found-clause-unfinished
+returns-in_err-is_found-clause-unfinished g c =
+    let left = g.S.Source.left in
+    let before = c.lines.invariant in
+    let here = c.lines.lines in
+    let same : c.from_residual.result ≡ Err c.in_err-is_found.field-0.0 = search rules in
+    λ is. (let fault : c.in_err-is_found.field-0.0 ≡ Read = same_error c.from_residual.result c.in_err-is_found.field-0.0 Read same is in
+    header_ends (text left c.args.lines.now) (text left here) (line here) (left c.read_line.new.lines.source.now) before.leads before.went (number_of here.page (left here.source.now)) (c.in_err-is_found.ensures.lacks (ap Err fault)))

@@ -1,14 +1,17 @@
-use Rattle.std.proofs.Common.{◌≡◌, sym, subst, Ok, Err, IfSome}
+use Rattle.std.proofs.Common.{◌≡◌, sym, subst, ap, refl, Ok, Err, IfSome}
 use Rattle.std.specs.Prelude.{IsSomeAnd}
 use Rattle.lift_text.specs.LineReader.{text, failure}
 use Rattle.lift_text.specs.Reading.{reading}
 use Rattle.text_sections.specs.Sections.{ReadAs}
 use Rattle.text_sections.specs.Canonical.{IsMade, BeginsWith}
+use Rattle.lift_text.specs.declared.faults.TextFault.TheVariants.{Read}
+use Rattle.text_sections.specs.Unfinished.{EndsBehind}
+use Rattle.text_sections.proofs.UnfinishedLemmas.{same_error}
 use Rattle.elevator_model.specs.Snapshot.{Snapshot}
 use Rattle.snapshot_text.specs.Drafts.{Draft, blank, after}
 use Rattle.snapshot_text.specs.Snapshots.{IsSaid}
 use Rattle.snapshot_text.proofs.Whole.{sound}
-use Rattle.snapshot_text.proofs.Again.{said_by, answer_ok, answer_err, no_memory_read, no_memory_answered, never_ok, memory_fails}
+use Rattle.snapshot_text.proofs.Again.{said_by, ends_behind, answer_ok, answer_err, no_memory_read, no_memory_answered, never_ok, memory_fails}
 use Rattle.snapshot_text.proofs.reading.read.Goals as goal
 
 pub into_snapshot-requires : goal.into_snapshot-requires
@@ -76,3 +79,10 @@ returns-in-Err-read_section-clause-lines g c = λ none lines s rest says.
     let end = c.read_section.new.section in
     let read = subst (λ (start : Draft). ReadAs after before start (Err c.in-Err-read_section.fault) end now) c.in-Ok.ensures.value (c.in-Err-read_section.ensures.outcome none) in
     answer_err c.args.building c.args.is_opening lines s rest says before now c.in-Err-read_section.fault end read)
+
+pub returns-in-Err-read_section-clause-unfinished : goal.returns-in-Err-read_section-clause-unfinished
+returns-in-Err-read_section-clause-unfinished g c = λ none is.
+    (let left = g.S.Source.left in
+    let before = text left c.args.lines.now in
+    let behind = left c.read_section.new.lines.source.now in
+    ends_behind before c.args.building c.args.is_opening behind (subst (λ (start : Draft). EndsBehind after before start behind) c.in-Ok.ensures.value (c.in-Err-read_section.ensures.unfinished none (ap Err (same_error (Err c.in-Err-read_section.fault) c.in-Err-read_section.fault Read refl is)))))
