@@ -7,7 +7,7 @@ use Rattle.lift_text.specs.Shows.{FaultShows}
 use Rattle.lift_text.specs.declared.faults.TextFault.{TextFault}
 use Rattle.lift_text.specs.declared.faults.TextFault.TheVariants.{Read as FailedRead}
 use Rattle.case_text.specs.CaseTexts.{Tells}
-use Rattle.opening_text.specs.DayOpenings.{DayOpeningInFront, IsDayOpeningRead, IsDayOpeningRefused}
+use Rattle.opening_text.specs.DayOpenings.{DayOpeningInFront, HoldsNoOpening, IsDayOpeningRead, IsDayOpeningRefused}
 use Rattle.day_runner.specs.Runs.{Right, bytes_of}
 use Rattle.day_runner.specs.Days.{RanDay}
 use Rattle.day_runner.specs.declared.days.Ended.{Ended}
@@ -25,11 +25,12 @@ pub record DayRan (right : Right) (before : Option TextState) (left taken taken'
   pub ran : RanDay right opening result rows left taken taken'
 
 -- What became of the text; where it begins with no opening, nothing was written, and the end of the line that is said to be
--- bad shows in the bytes that were taken.
+-- bad shows in the bytes that were taken. Where a read failed so far, no opening is whole among them.
 abbrev pub DayAnswered : Right → (before : Option TextState) → (left taken taken' : Option (List ℕ)) → Result Ended DayFault → Type 0
 DayAnswered right before left taken taken' (Ok ended) = DayRan right before left taken taken' (Ok ended)
 DayAnswered right before left taken taken' (Err (Rows fault)) = DayRan right before left taken taken' (Err fault)
-DayAnswered right before left taken taken' (Err (Opening fault)) = (taken' ≡ taken) × IsDayOpeningRefused before fault × FaultShows before fault left
+DayAnswered right before left taken taken' (Err (Opening fault)) =
+    (taken' ≡ taken) × IsDayOpeningRefused before fault × FaultShows before fault left × (fault ≡ FailedRead → HoldsNoOpening before left)
 
 -- the text is an opening and rows, and is not too long
 pub record IsDayText (text : TextState) : Type 0 where

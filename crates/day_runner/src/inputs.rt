@@ -20,13 +20,15 @@ use std::alloc::{AllocError, Global};
 /// Why a day did not come to its end.
 #[derive(Clone, Copy)]
 pub enum DayFault {
-    /// What comes before the rows is rejected, or could not be read; nothing was written.
+    /// What comes before the rows is rejected, or could not be read whole; nothing was written.
     Opening(TextFault),
     /// The rows were not run to their end.
     Rows(RunFault),
 }
 
-/// Reads what comes before the rows of a day, and runs the day over them, with its log.
+/// Reads what comes before the rows of a day, and runs the day over them, with its log. Where a read fails,
+/// nothing is written only if what comes before the rows is not whole, up to the LF of the header's line, among
+/// the bytes that were taken.
 ///
 /// The sums of the served calls' times have at most 64 bits.
 pub fn run_day_text<F, S: Source, K: Sink>(

@@ -14,7 +14,8 @@
 //! rows did what the definition says (`AreRowsDone`), that no accepted call was lost, that by the events in
 //! the rows' lines and those of the end each accepted call boards once and is delivered once, not before its
 //! release and not before it boards (`AreServedOnce`), and what the sink has taken (`RanDay`). After a failed
-//! read the lines are exactly those that are whole, with their LF, among the bytes taken (`IsCutOff`); after a
+//! read nothing is written only where no opening is whole, with the LF of its header, among the bytes taken
+//! (`HoldsNoOpening`); else the lines are exactly those that are whole, with their LF, among them (`IsCutOff`); after a
 //! failed write a beginning of the log was written, and of its end only where no line was left (`IsCutIn`); an
 //! input that is too long stops before the line that does not end within the limit. Where the text is an
 //! opening and rows, only a failed read or write and running out of memory keep the day from its end

@@ -1,6 +1,6 @@
 use Rattle.std.specs.Fn.{FnReturnsAt}
 use Rattle.day_simulator.specs.Rows.{right_by}
-use Rattle.std.proofs.Common.{Err, ap}
+use Rattle.std.proofs.Common.{Err, ap, refl}
 use Rattle.lift_text.specs.LineReader.{text}
 use Rattle.day_runner.proofs.InputLemmas.{opening-taken, rows-end, small-report}
 use Rattle.day_runner.proofs.StepLemmas.{rose-before}
@@ -36,3 +36,6 @@ returns-in-Err-run_day-clause-read g c = λ e. rose-before _ _ _ c.in-Ok.ensures
 
 pub returns-in-Err-clause-ends : goal.returns-in-Err-clause-ends
 returns-in-Err-clause-ends g c = opening-taken c.in-Err.fault (text g.S.Source.left c.args.lines.now) (text g.S.Source.left c.read_day_opening.new.lines) c.in-Err.ensures.takes
+
+pub returns-in-Err-clause-answered : goal.returns-in-Err-clause-answered
+returns-in-Err-clause-answered g c = (refl, c.in-Err.ensures.refused, c.in-Err.ensures.shows, λ e. c.in-Err.ensures.unopened (ap Err e))
