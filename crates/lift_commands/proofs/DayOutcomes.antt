@@ -6,7 +6,7 @@ use Rattle.byte_streams.specs.Streams.{Rose}
 use Rattle.lift_text.specs.Reading.{whole_text}
 use Rattle.lift_text.specs.declared.faults.TextFault.{TextFault}
 use Rattle.lift_text.specs.declared.faults.TextFault.TheVariants.{Read as FailedRead, TooLong as LongText, Bad, NoMemory as NoRoom}
-use Rattle.opening_text.specs.DayOpenings.{IsDayOpeningRefused}
+use Rattle.opening_text.specs.DayOpenings.{HoldsNoOpening, IsDayOpeningRefused}
 use Rattle.search_model.specs.Reports.{report_of}
 use Rattle.service_report.specs.ReportTexts.{report_text}
 use Rattle.day_runner.specs.Inputs.{DayRan, IsDayText}
@@ -62,12 +62,12 @@ day-refused options old new fault result mid before same counted refused shows n
 
 -- The input begins with no opening, or could not be read so far.
 pub day-unopened : (options : SearchOptions) (old new : Streams) (fault : TextFault) (result : Status) (mid : Option (List ℕ)) (before : ℕ) → mid ≡ old.taken → old.write_faults ≤ before → IsDayOpeningRefused (option_map whole_text old.left) fault → FaultShows (option_map whole_text old.left) fault new.left
-    → (BeginsDay old → EndsUnlessFailed (Err (Opening fault))) → (fault ≡ FailedRead → Rose old.read_faults new.read_faults) → PutsFault fault result mid new.taken before new.write_faults → RunsDay options old new result
-day-unopened options old new (Bad line code) result mid before same counted refused shows never rose put = day-refused options old new (Bad line code) result mid before same counted refused shows never put
-day-unopened options old new LongText result mid before same counted refused shows never rose put = day-refused options old new LongText result mid before same counted refused shows never put
-day-unopened options old new FailedRead result mid before same counted refused shows never rose put =
-    subst (RunsDay options old new) (sym put.0) (record { ends = (rose refl, inl (put.1 ∙ same)); completes = λ begins reads writes. absurd (reads (rose refl)) })
-day-unopened options old new NoRoom result mid before same counted refused shows never rose put = day-short options old new result put.0 (inl (put.1 ∙ same))
+    → (fault ≡ FailedRead → HoldsNoOpening (option_map whole_text old.left) new.left) → (BeginsDay old → EndsUnlessFailed (Err (Opening fault))) → (fault ≡ FailedRead → Rose old.read_faults new.read_faults) → PutsFault fault result mid new.taken before new.write_faults → RunsDay options old new result
+day-unopened options old new (Bad line code) result mid before same counted refused shows unread never rose put = day-refused options old new (Bad line code) result mid before same counted refused shows never put
+day-unopened options old new LongText result mid before same counted refused shows unread never rose put = day-refused options old new LongText result mid before same counted refused shows never put
+day-unopened options old new FailedRead result mid before same counted refused shows unread never rose put =
+    subst (RunsDay options old new) (sym put.0) (record { ends = (rose refl, inl (record { unwritten = put.1 ∙ same; no_opening = unread refl })); completes = λ begins reads writes. absurd (reads (rose refl)) })
+day-unopened options old new NoRoom result mid before same counted refused shows unread never rose put = day-short options old new result put.0 (inl (put.1 ∙ same))
 
 day-cut : (options : SearchOptions) (old new : Streams) (result : Status) (mid : Option (List ℕ)) (before : ℕ) (text : List ℕ) → old.write_faults ≤ before → RanBy options old new mid (Err TooLong) → (BeginsDay old → ⊥) → IsRefusalLine LongText text
     → Puts text Input result mid new.taken before new.write_faults → RunsDay options old new result

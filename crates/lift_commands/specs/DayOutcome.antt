@@ -7,7 +7,7 @@ use Rattle.lift_text.specs.Reading.{TextState, whole_text}
 use Rattle.lift_text.specs.Shows.{FaultShows}
 use Rattle.lift_text.specs.declared.faults.TextFault.{TextFault}
 use Rattle.lift_text.specs.declared.faults.TextFault.TheVariants.{TooLong as LongText}
-use Rattle.opening_text.specs.DayOpenings.{IsDayOpeningRefused}
+use Rattle.opening_text.specs.DayOpenings.{HoldsNoOpening, IsDayOpeningRefused}
 use Rattle.search_model.specs.declared.Stated.{Stated}
 use Rattle.search_model.specs.declared.Twig.{Twig}
 use Rattle.search_model.specs.declared.Turn.{Turn}
@@ -111,6 +111,11 @@ pub record DayCut (options : SearchOptions) (old new : Streams) (Then : (before 
   pub ran : RanBy options old new between (Err TooLong)
   pub then : Then between new.taken
 
+-- Nothing was written, and no opening is whole, each line with its LF, among the bytes that were taken.
+pub record IsNotBegun (old new : Streams) : Type 0 where
+  pub unwritten : new.taken ≡ old.taken
+  pub no_opening : HoldsNoOpening (option_map whole_text old.left) new.left
+
 -- How `day` ends.
 abbrev pub DayEnds : SearchOptions → (old new : Streams) → Status → Type 0
 DayEnds options old new Done = DayDone options old new Done
@@ -118,7 +123,7 @@ DayEnds options old new Words = ⊥
 DayEnds options old new Stopped = DayDone options old new Stopped
 DayEnds options old new Refused = ⊥
 DayEnds options old new Input = WroteText (IsNoDayLine old.left new.left) old.taken new.taken ⊎ DayCut options old new (WroteText (IsRefusalLine LongText))
-DayEnds options old new Read = Rose old.read_faults new.read_faults × ((new.taken ≡ old.taken) ⊎ RanBy options old new new.taken (Err RowsUnread))
+DayEnds options old new Read = Rose old.read_faults new.read_faults × (IsNotBegun old new ⊎ RanBy options old new new.taken (Err RowsUnread))
 DayEnds options old new Write =
     Rose old.write_faults new.write_faults
     × (WrotePart (IsNoDayLine old.left new.left) old.taken new.taken ⊎ (RanBy options old new new.taken (Err RowsUnwritten) ⊎ DayCut options old new (WrotePart (IsRefusalLine LongText))))

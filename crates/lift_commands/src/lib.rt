@@ -33,9 +33,10 @@
 //! boards once and is delivered once, in time. Status 0: no accepted row has a bound below its cost; 3: some
 //! has, and there the limits are not enough for the state. Status 5: the input does not begin so, and the
 //! line tells its first bad line with its one code; or its rows do not end within the limit, told after the
-//! log of those that do. Status 6: a read failed, and the rows done are those whose lines are whole among the
-//! bytes taken; 7: a write failed, and what was written is a beginning; 8: out of memory, and what was
-//! written is a beginning. Such an input that is not too long and no fault give status 0, 3 or 8.
+//! log of those that do. Status 6: a read failed; where the header's line, with its LF, is not whole among the
+//! bytes taken nothing is written, else the first line of the log and the lines of exactly the rows whose
+//! lines are whole among them; 7: a write failed, and what was written is a beginning; 8: out of memory, and
+//! what was written is a beginning. Such an input that is not too long and no fault give status 0, 3 or 8.
 //!
 //! **`report`.** Of the same day, and with the same statuses, the report of the definition over the served
 //! calls, and nothing else.
@@ -90,9 +91,10 @@
 //!   (`IsSolvedRow`), and Stopped exactly where an accepted row has a bound below its cost; there the limits
 //!   are not enough for the snapshot (`IsDayStopped`); with Input the refusal line alone, or after the log of
 //!   the rows that end within the limit; with Read, Write and Memory which rows were done and how much of
-//!   their log was written. After each row that was done every accepted call is open, aboard or delivered
-//!   (`RanWithin`). And the day of an opening and rows comes to its end unless the source or the sink fails
-//!   or memory runs out (`Completes`).
+//!   their log was written, and with Read nothing only where no opening is whole, each line with its LF,
+//!   among the bytes that were taken (`IsNotBegun`). After each row that was done every accepted call is open,
+//!   aboard or delivered (`RanWithin`). And the day of an opening and rows comes to its end unless the source
+//!   or the sink fails or memory runs out (`Completes`).
 //! - `reports`: by words of `report`, the same day without a log, and with Done and Stopped the text of its
 //!   report (`ReportDue`).
 //! - `tables`: by words of `table`, what was read and written with each status, that a table is judged and any
