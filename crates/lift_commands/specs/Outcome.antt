@@ -28,7 +28,7 @@ use Rattle.search_model.specs.Solving.{IsSolveAnswer}
 use Rattle.search_model.specs.Certificates.{Placed, Proves, placed_twigs}
 use Rattle.search_model.specs.Verdicts.{rounds_enough, moves_enough, verdict_of}
 use Rattle.search_model.specs.Cases.{IsCase}
-use Rattle.cert_claims.specs.DueTexts.{StatesDue, claims_of_tree, due_of_tree, most_of_tree}
+use Rattle.cert_claims.specs.Due.{StatesDue, claims_of_tree, due_of_tree, most_of_tree}
 use Rattle.cert_claims.specs.Stating.{DifferInClaims}
 use Rattle.lift_words.specs.Taken.{AreTaken}
 use Rattle.lift_words.specs.declared.request.Request.{Request}
