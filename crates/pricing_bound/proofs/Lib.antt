@@ -7,3 +7,4 @@ pub mod RunningLemmas
 pub mod CarriedLemmas
 pub mod SteadyLemmas
 pub mod NearLemmas
+mod FoundCosts

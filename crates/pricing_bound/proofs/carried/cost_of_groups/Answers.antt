@@ -33,3 +33,21 @@ returns-clause-cost c = λ x e.
     let are = riders_carried s t.car place p (c.point.ensures x e).place in
     let groups = groups_by_floor s t.car (standing_at p c.args.floor c.args.opened) place.carried place.visited c.minus-floors.result a (placed_standing s t.car p c.args.floor c.args.opened (placed_at t x a b e) to) late (carried_standing s t.car place.carried place.visited p c.args.floor c.args.opened are) (λ g. c.minus-floors.ensures g ∙ ap (λ (b : Bool). b && not (has place.visited g)) (c.destinations.ensures g ∙ ap (λ (l : LaidOut). any_group_to l.snapshot.aboard l.car g) c.layout.ensures)) in
     ap (λ (w : ℕ). w * c.ridden_to_all.result) weight ∙ ap (λ (r : ℕ). s.building.travel_weight * r) ridden ∙ groups
+
+pub ridden_to_all-requires-clause-same : goal.ridden_to_all-requires-clause-same
+ridden_to_all-requires-clause-same c = c.requires.same
+
+pub ridden_to_all-requires-clause-accepted : goal.ridden_to_all-requires-clause-accepted
+ridden_to_all-requires-clause-accepted c = c.requires.accepted
+
+pub ridden_to_all-requires-clause-car : goal.ridden_to_all-requires-clause-car
+ridden_to_all-requires-clause-car c = c.requires.car
+
+pub ridden_to_all-requires-clause-floor : goal.ridden_to_all-requires-clause-floor
+ridden_to_all-requires-clause-floor c = c.requires.floor
+
+pub ridden_to_all-requires-clause-early : goal.ridden_to_all-requires-clause-early
+ridden_to_all-requires-clause-early c = c.requires.early
+
+pub ridden_to_all-requires-clause-late : goal.ridden_to_all-requires-clause-late
+ridden_to_all-requires-clause-late c = c.requires.late
