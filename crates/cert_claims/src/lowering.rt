@@ -10,11 +10,9 @@ ghost use Rattle.kept_count.specs.Leaves.{HasWorthSize};
 
 use assign_branch::Tree;
 use kept_count::sum_of_leaf;
+use price_scale::MOST_WORTH;
 use search_model::{Items, Leaf, Twig, WorthOf};
 use std::alloc::{AllocError, Global};
-
-/// The least worth that a certificate may state, in thousandths of a cost unit.
-const LEAST_WORTH: i128 = -1_000_000_000_000_000_000_000_000_000;
 
 /// The least sum of prices and worths, in thousandths of a cost unit, that proves this bound.
 fn sum_needed(bound: u64) -> i128
@@ -41,7 +39,7 @@ fn lowered_worth(worth: WorthOf, by: i128) -> WorthOf
     let lower = worth.worth - by;
     WorthOf {
         car: worth.car,
-        worth: if lower < LEAST_WORTH {
+        worth: if lower < -MOST_WORTH {
             worth.worth
         } else {
             lower

@@ -5,11 +5,11 @@ ghost use Rattle.text_sections.specs.Sections.{Did};
 ghost use Rattle.text_sections.specs.Judging.{in_order, Gives};
 
 use crate::kinds::{Begun, Entry, LineWord};
-use crate::said::{MOST_CLAIM, head_said, price_said, split_said, worth_said};
+use crate::said::{head_said, price_said, split_said, worth_said};
 use call_sets::CarSet;
 use call_state::Snapshot;
 use lift_text::{LineReader, Source, TextCode};
-use search_model::{Items, Leaf, PriceOf, Twig, WorthOf};
+use search_model::{Items, Leaf, MOST_CLAIM, PriceOf, Twig, WorthOf};
 use std::alloc::Global;
 use std::marker::Model;
 use text_sections::{AfterLine, LineFault, Section, exactly, is_word};

@@ -11,13 +11,10 @@ use call_sets::CarSet;
 use call_state::{Building, Snapshot};
 use lift_text::{LineReader, Source, TextCode};
 use price_scale::{MOST_PRICE, MOST_WORTH, Price};
-use search_model::{PriceOf, WorthOf};
+use search_model::{MOST_CLAIM, PriceOf, WorthOf};
 use snapshot_text::car_named;
 use std::alloc::Global;
 use text_sections::{LineFault, at_least, exactly, number, numbers, short, signed};
-
-/// The greatest claim, and the greatest sum of the claims of a certificate.
-pub(crate) const MOST_CLAIM: u64 = 10_000_000_000;
 
 /// The version of a `certificate` line.
 pub(crate) fn head_said<S: Source>(lines: &LineReader<S>) -> Result<u64, TextCode>

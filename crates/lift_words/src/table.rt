@@ -2,6 +2,8 @@
 ghost use Rattle.std.specs.Prelude.{◌≡◌};
 ghost use Rattle.lift_words.specs.Table.{Shows, command_of, flags_of, numbers_of, setting_of, texts, word_of};
 
+use search_model::MOST_CLAIM;
+
 /// A command.
 #[derive(Clone, Copy)]
 pub(crate) enum CommandWord {
@@ -125,7 +127,7 @@ impl NumberOption {
         match self {
             NumberOption::Rounds => make_setting("rounds", 1, MOST, 2000),
             NumberOption::Moves => make_setting("moves", 1, MOST, 75000),
-            NumberOption::Claims => { make_setting("claims", 1, 10_000_000_000, 1_000_000_000) }
+            NumberOption::Claims => make_setting("claims", 1, MOST_CLAIM, 1_000_000_000),
             NumberOption::Workers => make_setting("workers", 1, 16, 1),
             NumberOption::Number => make_setting("number", 0, u64::MAX, 1),
             NumberOption::Floors => make_setting("floors", 2, 64, 12),

@@ -44,6 +44,9 @@ pub struct PriceOf {
     pub price: Price,
 }
 
+/// The greatest claim, and the greatest sum of the claims of a certificate, in partial tours.
+pub const MOST_CLAIM: u64 = 10_000_000_000;
+
 /// The worth of a car in a leaf of a certificate, and how many partial tours a checker has to visit for
 /// it at most.
 #[derive(Clone, Copy)]
