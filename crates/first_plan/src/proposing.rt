@@ -69,17 +69,26 @@ fn put_all(
     Ok(true)
 }
 
+/// A cheap plan of the calls in this order. None where no place is found for a call.
+fn plan_in_order(
+    alloc: Global,
+    snapshot: &Snapshot,
+    queues: &Queues,
+    order: &[u32],
+) -> Result<Option<Plan>, AllocError> {
+    let mut drafts = opening_drafts(alloc, snapshot, queues)?;
+    if !put_all(snapshot, queues, order, drafts.as_mut_slice())? {
+        return Ok(None);
+    }
+    let best = improved(alloc, snapshot, queues, order, drafts)?;
+    Ok(Some(plan_of(alloc, best.as_slice())?))
+}
+
 /// A cheap plan. None where no place is found for a call.
 pub(crate) fn proposal(alloc: Global, snapshot: &Snapshot) -> Result<Option<Plan>, AllocError> {
     let order = calls_in_order(alloc, snapshot)?;
-    let order = order.as_slice();
     let queues = Queues::of_snapshot(alloc, snapshot)?;
-    let mut drafts = opening_drafts(alloc, snapshot, &queues)?;
-    if !put_all(snapshot, &queues, order, drafts.as_mut_slice())? {
-        return Ok(None);
-    }
-    let best = improved(alloc, snapshot, &queues, order, drafts)?;
-    Ok(Some(plan_of(alloc, best.as_slice())?))
+    plan_in_order(alloc, snapshot, &queues, order.as_slice())
 }
 
 /// The plan with one call more, at its cheapest place. None where no place is found for it.

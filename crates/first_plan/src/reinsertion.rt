@@ -116,6 +116,13 @@ fn excess_of(best: u64, rounds_left: u64, rounds: u64) -> u64 {
     best.saturating_mul(share).checked_div(whole).unwrap_or(0)
 }
 
+/// How many rounds there are for this many calls.
+fn rounds_for(calls: usize) -> usize
+    ensures { result ≤ MOST_ROUNDS }
+{
+    ROUNDS_PER_CALL.saturating_mul(calls).min(MOST_ROUNDS)
+}
+
 impl<'a> Moving<'a> {
     /// The drafts before any call is moved.
     fn new(
@@ -206,13 +213,22 @@ impl<'a> Moving<'a> {
         self.changed = CarSet::empty();
         Ok(())
     }
-}
 
-/// How many rounds there are for this many calls.
-fn rounds_for(calls: usize) -> usize
-    ensures { result ≤ MOST_ROUNDS }
-{
-    ROUNDS_PER_CALL.saturating_mul(calls).min(MOST_ROUNDS)
+    /// Rounds as long as there are some and work is left.
+    fn run(&mut self, alloc: Global, order: &[u32]) -> Result<(), AllocError> {
+        let neighbours = Neighbours::of_calls(alloc, self.snapshot.calls())?;
+        let mut draws = Draws::from_number(SEED);
+        let mut taken = Taken::new(alloc);
+        let rounds = rounds_for(order.len());
+        for round in 0..rounds {
+            if self.work >= MOST_TRIED {
+                break;
+            }
+            taken.choose(round, order, &neighbours, &mut draws)?;
+            self.turn(&taken, (rounds - round) as u64, rounds as u64)?;
+        }
+        Ok(())
+    }
 }
 
 /// The best drafts that come of moving calls, some at a time, as long as there are rounds and work left.
@@ -221,19 +237,9 @@ pub(crate) fn improved(
     snapshot: &Snapshot,
     queues: &Queues,
     order: &[u32],
-    drafts: Vec<TourDraft>,
-) -> Result<Vec<TourDraft>, AllocError> {
-    let neighbours = Neighbours::of_calls(alloc, snapshot.calls())?;
-    let mut draws = Draws::from_number(SEED);
-    let mut taken = Taken::new(alloc);
+    drafts: Vec<Draft>,
+) -> Result<Vec<Draft>, AllocError> {
     let mut moving = Moving::new(alloc, snapshot, queues, drafts)?;
-    let rounds = rounds_for(order.len());
-    for round in 0..rounds {
-        if moving.work >= MOST_TRIED {
-            break;
-        }
-        taken.choose(round, order, &neighbours, &mut draws)?;
-        moving.turn(&taken, (rounds - round) as u64, rounds as u64)?;
-    }
+    moving.run(alloc, order)?;
     Ok(moving.into_best())
 }
