@@ -1,5 +1,5 @@
 use Rattle.std.proofs.Common.{sym, subst}
-use Rattle.elevator_model.specs.Snapshot.{Snapshot}
+use Rattle.elevator_model.specs.Snapshot.{Snapshot, IsAccepted}
 use Rattle.search_model.specs.Nodes.{root_of}
 use Rattle.search_tree.specs.Standing.{IsSheetIn}
 use Rattle.node_search.specs.Roots.{IsNewRoot}
@@ -22,3 +22,36 @@ returns-clause-turned g c =
     let is = subst (λ (x : Snapshot). IsNewRoot x c.args.sheet c.in_ok-root.root) same c.in_ok-root.ensures in
     let due = c.in_ok-turn_as_due.ensures in
     turned_is s c.args.limits.most_tours c.args.sheet c.in_ok-root.root is sheet c.args.limits.rounds c.turn_as_due.new.self due.root due.turned due.due
+
+pub new-requires-clause-start : goal.new-requires-clause-start
+new-requires-clause-start g c = c.requires.start
+
+pub new-requires-clause-calls : goal.new-requires-clause-calls
+new-requires-clause-calls g c = c.requires.sheet.calls
+
+pub turn_as_due-requires-clause-accepted : goal.turn_as_due-requires-clause-accepted
+turn_as_due-requires-clause-accepted g c κs within = subst IsAccepted (sym c.requires.snapshot) c.calls.ensures.accepted
+
+pub turn_as_due-requires-clause-desks : goal.turn_as_due-requires-clause-desks
+turn_as_due-requires-clause-desks g c κs within = c.requires.desks
+
+pub turn_as_due-requires-clause-most_tours : goal.turn_as_due-requires-clause-most_tours
+turn_as_due-requires-clause-most_tours g c κs within = c.requires.most_tours
+
+pub turn_as_due-requires-clause-rounds : goal.turn_as_due-requires-clause-rounds
+turn_as_due-requires-clause-rounds g c κs within = c.requires.rounds
+
+pub turn_as_due-requires-clause-turns : goal.turn_as_due-requires-clause-turns
+turn_as_due-requires-clause-turns g c κs within = c.in_ok-root.ensures.turns
+
+pub returns-clause-accepted : goal.returns-clause-accepted
+returns-clause-accepted g c = subst IsAccepted (sym c.requires.snapshot) c.calls.ensures.accepted
+
+pub returns-in_err-root-clause-accepted : goal.returns-in_err-root-clause-accepted
+returns-in_err-root-clause-accepted g c = subst IsAccepted (sym c.requires.snapshot) c.calls.ensures.accepted
+
+pub returns-in_err-turn_as_due-clause-accepted : goal.returns-in_err-turn_as_due-clause-accepted
+returns-in_err-turn_as_due-clause-accepted g c = subst IsAccepted (sym c.requires.snapshot) c.calls.ensures.accepted
+
+pub returns-clause-desks : goal.returns-clause-desks
+returns-clause-desks g c = c.in_ok-turn_as_due.ensures.desks

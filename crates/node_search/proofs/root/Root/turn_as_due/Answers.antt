@@ -1,9 +1,9 @@
-use Rattle.std.proofs.Common.{rules, ◌≡◌, ℕ, get_or, sym, subst}
+use Rattle.std.proofs.Common.{rules, ◌≡◌, ℕ, get_or, sym, ap, length, subst, arith}
 use Rattle.elevator_model.specs.Snapshot.{call_count}
 use Rattle.search_model.specs.Nodes.{root_of}
 use Rattle.search_tree.specs.Branches.{AreSingle}
 use Rattle.node_search.proofs.RootDue.{due_many, due_one}
-use Rattle.node_search.proofs.RootTurns.{root_calls}
+use Rattle.node_search.proofs.RootTurns.{root_calls, turned-none}
 use Rattle.node_search.proofs.SettleLaws.{choice_many, choice_none}
 use Rattle.node_search.proofs.root.Root.turn_as_due.Goals as goal
 
@@ -33,3 +33,60 @@ returns-in_ok-turn_once-clause-due g c =
     let lone = choice_none c.len-calls.result node c.first_choice.result c.first_choice.ensures.call (search rules) in
     let single : AreSingle (call_count s) (root_of s) = subst (AreSingle (call_count s)) is_root (subst (λ (n : ℕ). AreSingle n node) calls lone) in
     due_one s c.args.rounds c.turn_once.new.self c.in_ok-turn_once.ensures.turns c.in_ok-turn_once.ensures.solved c.requires.rounds single
+
+pub turn_until-requires-clause-accepted : goal.turn_until-requires-clause-accepted
+turn_until-requires-clause-accepted g c κs within = c.requires.accepted
+
+pub turn_until-requires-clause-root : goal.turn_until-requires-clause-root
+turn_until-requires-clause-root g c κs within = c.requires.root
+
+pub turn_until-requires-clause-desks : goal.turn_until-requires-clause-desks
+turn_until-requires-clause-desks g c κs within = c.requires.desks
+
+pub turn_until-requires-clause-most_tours : goal.turn_until-requires-clause-most_tours
+turn_until-requires-clause-most_tours g c κs within = c.requires.most_tours
+
+pub turn_until-requires-clause-most : goal.turn_until-requires-clause-most
+turn_until-requires-clause-most g c κs within = let none = ap length c.requires.turns in omega (arith, none)
+
+pub turn_once-requires-clause-accepted : goal.turn_once-requires-clause-accepted
+turn_once-requires-clause-accepted g c κs within = c.requires.accepted
+
+pub turn_once-requires-clause-root : goal.turn_once-requires-clause-root
+turn_once-requires-clause-root g c κs within = c.requires.root
+
+pub turn_once-requires-clause-desks : goal.turn_once-requires-clause-desks
+turn_once-requires-clause-desks g c κs within = c.requires.desks
+
+pub turn_once-requires-clause-most_tours : goal.turn_once-requires-clause-most_tours
+turn_once-requires-clause-most_tours g c κs within = c.requires.most_tours
+
+pub turn_once-requires-clause-turns : goal.turn_once-requires-clause-turns
+turn_once-requires-clause-turns g c κs within = c.requires.turns
+
+pub returns-in_ok-turn_until-clause-root : goal.returns-in_ok-turn_until-clause-root
+returns-in_ok-turn_until-clause-root g c = c.in_ok-turn_until.ensures.root
+
+pub returns-in_ok-turn_until-clause-turned : goal.returns-in_ok-turn_until-clause-turned
+returns-in_ok-turn_until-clause-turned g c = c.in_ok-turn_until.ensures.turned
+
+pub returns-in_ok-turn_until-clause-desks : goal.returns-in_ok-turn_until-clause-desks
+returns-in_ok-turn_until-clause-desks g c = c.in_ok-turn_until.ensures.desks
+
+pub returns-in_ok-turn_once-clause-root : goal.returns-in_ok-turn_once-clause-root
+returns-in_ok-turn_once-clause-root g c = c.in_ok-turn_once.ensures.root
+
+pub returns-in_ok-turn_once-clause-turned : goal.returns-in_ok-turn_once-clause-turned
+returns-in_ok-turn_once-clause-turned g c = c.in_ok-turn_once.ensures.turned
+
+pub returns-in_ok-turn_once-clause-desks : goal.returns-in_ok-turn_once-clause-desks
+returns-in_ok-turn_once-clause-desks g c = c.in_ok-turn_once.ensures.desks
+
+pub returns-else-is_open-clause-root : goal.returns-else-is_open-clause-root
+returns-else-is_open-clause-root g c = c.requires.root
+
+pub returns-else-is_open-clause-turned : goal.returns-else-is_open-clause-turned
+returns-else-is_open-clause-turned g c = turned-none c.args.self.now
+
+pub returns-else-is_open-clause-desks : goal.returns-else-is_open-clause-desks
+returns-else-is_open-clause-desks g c = c.requires.desks

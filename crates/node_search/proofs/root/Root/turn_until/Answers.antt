@@ -17,3 +17,40 @@ loop-turn-preserved g c =
       turns = omega (arith, count, more);
       desks = c.in_ok-turn.ensures.desks;
     }
+
+pub turn-requires-clause-accepted : goal.turn-requires-clause-accepted
+turn-requires-clause-accepted g c κs within = c.requires.accepted
+
+pub turn-requires-clause-root : goal.turn-requires-clause-root
+turn-requires-clause-root g c κs within = c.loop-turn.invariant.root
+
+pub turn-requires-clause-desks : goal.turn-requires-clause-desks
+turn-requires-clause-desks g c κs within = c.loop-turn.invariant.desks
+
+pub turn-requires-clause-most_tours : goal.turn-requires-clause-most_tours
+turn-requires-clause-most_tours g c κs within = c.requires.most_tours
+
+pub turn-requires-clause-turns : goal.turn-requires-clause-turns
+turn-requires-clause-turns g c κs within = 
+    let count = c.loop-turn.invariant.turns in
+    let few = c.requires.few in
+    let below = c.loop-turn-test.true in
+    omega (arith, count, few, below)
+
+pub returns-after-loop-turn-clause-root : goal.returns-after-loop-turn-clause-root
+returns-after-loop-turn-clause-root g c = c.loop-turn.invariant.root
+
+pub returns-after-loop-turn-clause-turned : goal.returns-after-loop-turn-clause-turned
+returns-after-loop-turn-clause-turned g c = c.loop-turn.invariant.turned
+
+pub returns-after-loop-turn-clause-desks : goal.returns-after-loop-turn-clause-desks
+returns-after-loop-turn-clause-desks g c = c.loop-turn.invariant.desks
+
+pub returns-then-not-is_open-clause-root : goal.returns-then-not-is_open-clause-root
+returns-then-not-is_open-clause-root g c = c.loop-turn.invariant.root
+
+pub returns-then-not-is_open-clause-turned : goal.returns-then-not-is_open-clause-turned
+returns-then-not-is_open-clause-turned g c = c.loop-turn.invariant.turned
+
+pub returns-then-not-is_open-clause-desks : goal.returns-then-not-is_open-clause-desks
+returns-then-not-is_open-clause-desks g c = c.loop-turn.invariant.desks
