@@ -33,6 +33,16 @@ fn nothing_stated(alloc: Global, cars: &[CarSpec]) -> Result<Vec<bool>, AllocErr
     cars.iter().map(|_| false).collect(alloc)
 }
 
+/// A state for each car, which counts for nothing yet, and that no line has said where it is.
+fn nowhere_yet(alloc: Global, cars: &[CarSpec]) -> Result<(Vec<CarState>, Vec<bool>), AllocError>
+    ensures states { IfOk result (λ made. made.0.items ≡ map (λ (x : CarSpec). no_state) cars.now) }
+    ensures stated { IfOk result (λ made. made.1.items ≡ map (λ (x : CarSpec). false) cars.now) }
+{
+    let states = unknown_states(alloc, cars)?;
+    let stated = nothing_stated(alloc, cars)?;
+    Ok((states, stated))
+}
+
 /// Puts an item after the others, and its id after theirs. It fails only where there is no memory left:
 /// then both are as before.
 fn add_indexed<T: Copy>(
@@ -119,8 +129,7 @@ impl Draft {
         ensures value { IfOk result (λ draft. draft ≡ blank building is_opening) }
         ensures building { OnOk result (IsBuilding building) }
     {
-        let states = unknown_states(alloc, building.cars())?;
-        let stated = nothing_stated(alloc, building.cars())?;
+        let (states, stated) = nowhere_yet(alloc, building.cars())?;
         Ok(Draft {
             is_opening,
             building,
