@@ -42,14 +42,14 @@ fn is_later(line: &str) -> bool {
 
 impl<R: Threads + Sync> Bench<'_, R> {
     /// Runs the first step of a case. Says whether it is as is due.
-    fn takes_first(&mut self, step: Step<'_>) -> bool {
+    fn takes_first(&mut self, step: &Step<'_>) -> bool {
         let pieces = section(step.lines, "input", "");
         self.input.set_pieces(step.file, pieces, usize::MAX);
         self.run_step(step)
     }
 
     /// Runs a step over what the step before it read and wrote. Says whether it is as is due.
-    fn takes_step(&mut self, step: Step<'_>, head: Head<'_>) -> bool {
+    fn takes_step(&mut self, step: &Step<'_>, head: Head<'_>) -> bool {
         match head {
             Head::Then(words) => {
                 self.input.put(&self.ran.text.bytes);
@@ -73,7 +73,7 @@ impl<R: Threads + Sync> Bench<'_, R> {
     ) {
         for lines in lines.chunk_by(|_, line| !is_later(line)) {
             let head = lines.first().copied().unwrap_or("");
-            if !self.takes_step(Step { name, file, lines }, Head::of_line(head)) {
+            if !self.takes_step(&Step { name, file, lines }, Head::of_line(head)) {
                 return;
             }
         }

@@ -6,16 +6,13 @@
 use crate::pieces::Text;
 use std::alloc::Global;
 
-/// The least and the greatest number of the range `{LOW..HIGH}`.
-fn range_of(word: &str) -> Option<(u64, u64)> {
-    let (low, high) = word.strip_prefix("{")?.strip_suffix("}")?.split_once("..")?;
-    Some((low.parse().ok()?, high.parse().ok()?))
-}
-
 /// Whether a word is a number in the range `{LOW..HIGH}`.
 fn is_in_range(range: &str, word: &str) -> bool {
-    match (range_of(range), word.parse::<u64>()) {
-        (Some((low, high)), Ok(found)) => low <= found && found <= high,
+    let (low, high) = range.split_once("..").unwrap_or(("", ""));
+    let low = low.strip_prefix("{").unwrap_or("").parse::<u64>();
+    let high = high.strip_suffix("}").unwrap_or("").parse::<u64>();
+    match (low, high, word.parse::<u64>()) {
+        (Ok(low), Ok(high), Ok(found)) => low <= found && found <= high,
         _ => false,
     }
 }

@@ -19,14 +19,8 @@ impl<R: Threads + Sync> Bench<'_, R> {
         let at_end = self.input.bytes.len().saturating_add(1);
         let mut is_like = self.run(words, "0", Streams::of_reads(1));
         for further in 1..3 {
-            let streams = Streams {
-                failing_read: at_end.saturating_add(further),
-                ..Streams::of_reads(1)
-            };
-            is_like &= self.run(words, "0", streams)
-                && self
-                    .ran
-                    .is(self.before.status, &self.before.text.bytes, usize::MAX);
+            let streams = Streams::failing_at_read(at_end.saturating_add(further));
+            is_like &= self.run(words, "0", streams) && self.ran.is_like(&self.before);
         }
         is_like
     }
@@ -34,15 +28,12 @@ impl<R: Threads + Sync> Bench<'_, R> {
     /// Reads give one byte each, and the first fails, then the second alone, and so on to the one at the
     /// input's end: whether all of these runs are as is due, and no read after it is asked for. A line `after
     /// N` among the pieces says that those after it come with the N-th line.
-    pub(crate) fn fits_each_failing_read(&mut self, step: Step<'_>, words: &str) -> bool {
+    pub(crate) fn fits_each_failing_read(&mut self, step: &Step<'_>, words: &str) -> bool {
         let pieces = section(step.lines, "output", "");
         for taken in 0..=self.input.bytes.len() {
             let whole = whole_lines(&self.input.bytes, taken);
             self.due.set_pieces(step.file, pieces, whole);
-            let streams = Streams {
-                failing_read: taken.saturating_add(1),
-                ..Streams::of_reads(1)
-            };
+            let streams = Streams::failing_at_read(taken.saturating_add(1));
             if !self.ends(words, streams, 6, usize::MAX) {
                 return false;
             }
@@ -52,15 +43,11 @@ impl<R: Threads + Sync> Bench<'_, R> {
 
     /// Writes take one byte each, and the first fails, then the second alone, and so on: whether all of these
     /// runs are as is due.
-    pub(crate) fn fits_each_failing_write(&mut self, step: Step<'_>, words: &str) -> bool {
+    pub(crate) fn fits_each_failing_write(&mut self, step: &Step<'_>, words: &str) -> bool {
         let pieces = section(step.lines, "output", "");
         self.due.set_pieces(step.file, pieces, usize::MAX);
         for taken in 0..self.due.bytes.len() {
-            let streams = Streams {
-                writes: 1,
-                failing_write: taken.saturating_add(1),
-                ..Streams::of_reads(61)
-            };
+            let streams = Streams::failing_at_write(taken.saturating_add(1));
             if !self.ends(words, streams, 7, taken) {
                 return false;
             }

@@ -32,6 +32,23 @@ impl Streams {
         }
     }
 
+    /// Streams whose reads give one byte each, of which this one fails.
+    pub(crate) fn failing_at_read(read: usize) -> Streams {
+        Streams {
+            failing_read: read,
+            ..Streams::of_reads(1)
+        }
+    }
+
+    /// Streams whose writes take one byte each, of which this one fails.
+    pub(crate) fn failing_at_write(write: usize) -> Streams {
+        Streams {
+            writes: 1,
+            failing_write: write,
+            ..Streams::of_reads(61)
+        }
+    }
+
     /// The source of an input.
     fn source(self, alloc: Global, input: &[u8]) -> Option<MemorySource> {
         let failing = Vec::from_slice(alloc, &[self.failing_read as u64]).ok()?;
@@ -58,6 +75,11 @@ impl Ran {
     pub(crate) fn is(&self, status: u8, text: &[u8], length: usize) -> bool {
         self.status == status && self.text.bytes.as_slice() == text.get(..length).unwrap_or(text)
     }
+
+    /// Whether another run ended with the same status and wrote the same.
+    pub(crate) fn is_like(&self, other: &Ran) -> bool {
+        self.is(other.status, &other.text.bytes, usize::MAX)
+    }
 }
 
 /// Appends a word of the command line, in two parts. False out of memory.
@@ -80,6 +102,18 @@ fn push_line(alloc: Global, words: &mut Vec<String>, line: &str, workers: &str) 
         is_whole &= push_word(alloc, words, "--workers=", workers);
     }
     is_whole
+}
+
+/// How a run of the program ends. What `run` promises stays out of the proofs of those who let go of its
+/// words, source and sink.
+fn status_of<R: Threads + Sync>(
+    runtime: &R,
+    alloc: Global,
+    words: &[String],
+    source: &mut MemorySource,
+    sink: &mut MemorySink,
+) -> u8 {
+    run(runtime, alloc, words, source, sink, &OpenGate) as u8
 }
 
 /// What runs the program: its input, what its last two runs came to, what is due, and what is told of the
@@ -121,15 +155,7 @@ impl<'r, R: Threads + Sync> Bench<'r, R> {
     fn run_from(&mut self, words: &[String], source: &mut MemorySource, streams: Streams) -> bool {
         match streams.sink(self.alloc) {
             Some(mut sink) => {
-                let ended = run(
-                    self.runtime,
-                    self.alloc,
-                    words,
-                    source,
-                    &mut sink,
-                    &OpenGate,
-                );
-                self.ran.status = ended as u8;
+                self.ran.status = status_of(self.runtime, self.alloc, words, source, &mut sink);
                 self.ran.text.put(sink.taken());
                 self.ran.text.is_whole
             }

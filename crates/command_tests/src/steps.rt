@@ -29,12 +29,12 @@ pub(crate) struct Step<'a> {
 
 impl Step<'_> {
     /// Whether the step has this line.
-    fn has(self, word: &str) -> bool {
+    fn has(&self, word: &str) -> bool {
         self.lines.contains(&word)
     }
 
     /// The number after this word, and the usual one where there is none.
-    fn number(self, word: &str, usual: usize) -> usize {
+    fn number(&self, word: &str, usual: usize) -> usize {
         match said(self.lines, word) {
             Some(number) => number.parse().unwrap_or(usual),
             None => usual,
@@ -42,7 +42,7 @@ impl Step<'_> {
     }
 
     /// How the input comes, in reads of up to this many bytes, and how the output goes.
-    fn streams(self, reads: &str) -> Option<Streams> {
+    fn streams(&self, reads: &str) -> Option<Streams> {
         let plain = Streams::of_reads(reads.parse().ok()?);
         Some(Streams {
             reads: plain.reads,
@@ -54,7 +54,7 @@ impl Step<'_> {
     }
 
     /// Whether the status is one of those that are due.
-    fn has_status(self, status: u8) -> bool {
+    fn has_status(&self, status: u8) -> bool {
         let Some(due) = said(self.lines, "status ") else {
             return true;
         };
@@ -68,7 +68,7 @@ impl Step<'_> {
 
     /// Whether lines are those that one of the sections `output` says; any lines are where there is no such
     /// section.
-    fn is_text_due(self, alloc: Global, lines: &[&str], due: &mut Text) -> bool {
+    fn is_text_due(&self, alloc: Global, lines: &[&str], due: &mut Text) -> bool {
         let mut is_any_due = true;
         for (place, line) in self.lines.iter().enumerate() {
             if *line == "output" {
@@ -84,7 +84,7 @@ impl Step<'_> {
     }
 
     /// Whether a run that ended with this status and wrote these lines is as is due.
-    fn is_met(self, alloc: Global, status: u8, lines: &[&str], due: &mut Text) -> bool {
+    fn is_met(&self, alloc: Global, status: u8, lines: &[&str], due: &mut Text) -> bool {
         self.has_status(status)
             && (!self.has("bounds") || are_bounds_right(lines, status))
             && stand_often(lines, said(self.lines, "at least ").unwrap_or("0 "))
@@ -94,7 +94,7 @@ impl Step<'_> {
 
 impl<R: Threads + Sync> Bench<'_, R> {
     /// Whether what came is as is due.
-    fn is_met(&mut self, step: Step<'_>) -> bool {
+    fn is_met(&mut self, step: &Step<'_>) -> bool {
         match lines_of(self.alloc, &self.ran.text.bytes) {
             Some(lines) => step.is_met(self.alloc, self.ran.status, &lines, &mut self.due),
             None => false,
@@ -103,7 +103,7 @@ impl<R: Threads + Sync> Bench<'_, R> {
 
     /// Runs with these words and workers, with reads of this size. Whether what came is as is due, and as
     /// what came before where this is not the first run with these words.
-    fn run_once(&mut self, step: Step<'_>, words: &str, workers: &str, reads: &str) -> bool {
+    fn run_once(&mut self, step: &Step<'_>, words: &str, workers: &str, reads: &str) -> bool {
         let Some(streams) = step.streams(reads) else {
             return false;
         };
@@ -111,14 +111,11 @@ impl<R: Threads + Sync> Bench<'_, R> {
         self.is_first = false;
         self.run(words, workers, streams)
             && self.is_met(step)
-            && (!is_like
-                || self
-                    .ran
-                    .is(self.before.status, &self.before.text.bytes, usize::MAX))
+            && (!is_like || self.ran.is_like(&self.before))
     }
 
     /// Runs with these words and workers, with each size of reads.
-    fn run_reads(&mut self, step: Step<'_>, words: &str, workers: &str) -> bool {
+    fn run_reads(&mut self, step: &Step<'_>, words: &str, workers: &str) -> bool {
         for reads in said(step.lines, "reads ").unwrap_or("4096").split(' ') {
             if !self.run_once(step, words, workers, reads) {
                 return false;
@@ -128,7 +125,7 @@ impl<R: Threads + Sync> Bench<'_, R> {
     }
 
     /// Runs with these words, each number of workers and each size of reads. All runs have to give the same.
-    fn run_all(&mut self, step: Step<'_>, words: &str) -> bool {
+    fn run_all(&mut self, step: &Step<'_>, words: &str) -> bool {
         self.is_first = true;
         for workers in said(step.lines, "workers ").unwrap_or("0").split(' ') {
             if !self.run_reads(step, words, workers) {
@@ -139,7 +136,7 @@ impl<R: Threads + Sync> Bench<'_, R> {
     }
 
     /// Runs with these words, with the faults that the step asks for, and tells what is not as is due.
-    pub(crate) fn run_line(&mut self, step: Step<'_>, words: &str) -> bool {
+    pub(crate) fn run_line(&mut self, step: &Step<'_>, words: &str) -> bool {
         let is_due = if step.has("each read fails") {
             self.fits_each_failing_read(step, words)
         } else if step.has("each write fails") {
@@ -154,7 +151,7 @@ impl<R: Threads + Sync> Bench<'_, R> {
     }
 
     /// Runs the step with the words of a line, if it has some, and counts that as a case.
-    fn run_words_of(&mut self, step: Step<'_>, line: &str) -> bool {
+    fn run_words_of(&mut self, step: &Step<'_>, line: &str) -> bool {
         match line.strip_prefix("words ") {
             Some(words) => {
                 self.report.count();
@@ -165,7 +162,7 @@ impl<R: Threads + Sync> Bench<'_, R> {
     }
 
     /// Runs the first step of a case with all its words.
-    pub(crate) fn run_step(&mut self, step: Step<'_>) -> bool {
+    pub(crate) fn run_step(&mut self, step: &Step<'_>) -> bool {
         let mut is_due = true;
         for line in step.lines {
             is_due &= self.run_words_of(step, line);

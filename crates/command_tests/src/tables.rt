@@ -17,7 +17,7 @@ enum Way {
     Front,
 }
 
-/// The words of a table, the pieces of the text that its rows change, and how they do.
+/// The words of a table, the pieces of the text that its rows change, and where most of them do.
 #[derive(Clone, Copy)]
 struct Table<'a> {
     name: &'a str,
@@ -26,22 +26,28 @@ struct Table<'a> {
     way: Way,
 }
 
-/// A row: the line at which its input is refused, counted from 1, the code, and the lines that are put into
-/// the text.
+/// A row: the line at which its input is refused, counted from 1, the code, the lines that are put into the
+/// text, and where.
 #[derive(Clone, Copy)]
 struct Row<'a> {
     line: usize,
     code: &'a str,
     put: &'a str,
+    way: Way,
 }
 
 impl<'a> Row<'a> {
     /// The row `LINE CODE TEXT`, or `LINE CODE` where nothing is put into the text. None for another line.
-    fn of_line(line: &'a str) -> Option<Row<'a>> {
+    fn of_line(line: &'a str, way: Way) -> Option<Row<'a>> {
         let (line, rest) = line.split_once(" ")?;
         let (code, put) = rest.split_once(" ").unwrap_or((rest, ""));
         let line = line.parse().ok()?;
-        Some(Row { line, code, put })
+        Some(Row {
+            line,
+            code,
+            put,
+            way,
+        })
     }
 }
 
@@ -54,26 +60,26 @@ impl Text {
     }
 
     /// Takes the text of a table as a row changes it.
-    fn set_changed(&mut self, table: Table<'_>, row: Row<'_>) {
+    fn set_changed(&mut self, text: &[&str], row: &Row<'_>) {
         self.clear();
-        self.is_whole = !table.text.is_empty();
-        if let Way::After = table.way {
-            self.put_text(table.text);
+        self.is_whole = !text.is_empty();
+        if let Way::After = row.way {
+            self.put_text(text);
             self.put_escaped(row.put);
             return;
         }
         let before = row.line.saturating_sub(1);
-        self.put_text(table.text.get(..before).unwrap_or(table.text));
-        if let Way::Within = table.way {
+        self.put_text(text.get(..before).unwrap_or(text));
+        if let Way::Within = row.way {
             self.put_escaped(row.put);
             self.put(b"\n");
             let after = before.saturating_add(row.put.split("\\n").count());
-            self.put_text(table.text.get(after..).unwrap_or(&[]));
+            self.put_text(text.get(after..).unwrap_or(&[]));
         }
     }
 
     /// Takes the line of a refusal.
-    fn set_refusal(&mut self, row: Row<'_>) {
+    fn set_refusal(&mut self, row: &Row<'_>) {
         self.clear();
         self.put(b"refused line ");
         self.put(itoa::Buffer::new().format(row.line).as_bytes());
@@ -85,16 +91,16 @@ impl Text {
 
 impl<R: Threads + Sync> Bench<'_, R> {
     /// Whether the input is refused as is due, in reads of up to `reads` bytes.
-    fn is_refused(&mut self, table: Table<'_>, reads: usize) -> bool {
+    fn is_refused(&mut self, table: &Table<'_>, reads: usize) -> bool {
         self.ends(table.words, Streams::of_reads(reads), 5, usize::MAX)
     }
 
     /// Runs over the input of a row as it stands, in pieces of one byte, and where the line that is refused
     /// is the last one and has no end. Tells an input that is not refused at this line with this code.
-    fn run_row(&mut self, table: Table<'_>, row: Row<'_>) {
+    fn run_row(&mut self, table: &Table<'_>, row: &Row<'_>) {
         self.report.count();
         self.due.set_refusal(row);
-        self.input.set_changed(table, row);
+        self.input.set_changed(table.text, row);
         let is_refused = self.is_refused(table, 4096) && self.is_refused(table, 1);
         self.input.cut_after(row.line);
         if !is_refused || !self.is_refused(table, 4096) {
@@ -103,41 +109,34 @@ impl<R: Threads + Sync> Bench<'_, R> {
     }
 
     /// Runs over each front of the text's lines, which ends too early and is refused with this code.
-    fn run_fronts(&mut self, table: Table<'_>, code: &str) {
+    fn run_fronts(&mut self, table: &Table<'_>, code: &str) {
         self.input.clear();
         self.input.put_text(table.text);
         for line in 1..=memchr_iter(b'\n', &self.input.bytes).count() {
-            self.run_row(
-                table,
-                Row {
-                    line,
-                    code,
-                    put: "",
-                },
-            );
+            let row = Row {
+                line,
+                code,
+                put: "",
+                way: Way::Front,
+            };
+            self.run_row(table, &row);
         }
     }
 
     /// Runs the row, or the fronts, that a line says, if it says any.
-    fn run_row_of(&mut self, table: Table<'_>, line: &str) {
+    fn run_row_of(&mut self, table: &Table<'_>, line: &str) {
         match line.strip_prefix("fronts ") {
-            Some(code) => self.run_fronts(
-                Table {
-                    way: Way::Front,
-                    ..table
-                },
-                code,
-            ),
+            Some(code) => self.run_fronts(table, code),
             None => {
-                if let Some(row) = Row::of_line(line) {
-                    self.run_row(table, row);
+                if let Some(row) = Row::of_line(line, table.way) {
+                    self.run_row(table, &row);
                 }
             }
         }
     }
 
     /// Runs the rows of a table. Each is counted as a case, and other lines are passed over.
-    fn run_rows(&mut self, table: Table<'_>, lines: &[&str]) {
+    fn run_rows(&mut self, table: &Table<'_>, lines: &[&str]) {
         for line in lines {
             self.run_row_of(table, line);
         }
@@ -160,6 +159,6 @@ impl<R: Threads + Sync> Bench<'_, R> {
             text: section(file, "text ", text),
             way,
         };
-        self.run_rows(table, lines);
+        self.run_rows(&table, lines);
     }
 }

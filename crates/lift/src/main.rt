@@ -5,9 +5,12 @@
 
 ghost use Rattle.std.specs.Prelude.{◌≡◌, IfErr};
 
-use byte_streams::{OpenGate, StdSink, StdSource};
+use byte_streams::{OpenGate, Sink, Source, StdSink, StdSource};
 use lift_commands::{Status, run};
+use std::alloc::Global;
+use std::marker::Sync;
 use std::process::ExitCode;
+use std::thread::Threads;
 use std::{env, io};
 
 /// The words of the command line. Where one is not text there are none, and no such words are taken. An
@@ -22,18 +25,23 @@ fn words(rt: &HostRuntime) -> Result<Vec<String>, Status>
     }
 }
 
+/// Runs the command of these words. What `run` promises stays out of the proof of `main`, which lets go of
+/// the words, the source and the sink.
+fn status_of<S: Source, K: Sink>(
+    rt: &(impl Threads + Sync),
+    alloc: Global,
+    words: &[String],
+    source: &mut S,
+    sink: &mut K,
+) -> Status {
+    run(rt, alloc, words, source, sink, &OpenGate)
+}
+
 fn main(rt: HostRuntime) -> ExitCode {
     let mut source = StdSource::new(rt.reader());
     let mut sink = StdSink::new(io::writer(&rt));
     let status = match words(&rt) {
-        Ok(words) => run(
-            &rt,
-            rt.alloc(),
-            words.as_slice(),
-            &mut source,
-            &mut sink,
-            &OpenGate,
-        ),
+        Ok(words) => status_of(&rt, rt.alloc(), words.as_slice(), &mut source, &mut sink),
         Err(status) => status,
     };
     ExitCode::from(status as u8)
