@@ -237,8 +237,8 @@ pub(crate) fn improved(
     snapshot: &Snapshot,
     queues: &Queues,
     order: &[u32],
-    drafts: Vec<Draft>,
-) -> Result<Vec<Draft>, AllocError> {
+    drafts: Vec<TourDraft>,
+) -> Result<Vec<TourDraft>, AllocError> {
     let mut moving = Moving::new(alloc, snapshot, queues, drafts)?;
     moving.run(alloc, order)?;
     Ok(moving.into_best())

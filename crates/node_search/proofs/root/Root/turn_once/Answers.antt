@@ -39,7 +39,7 @@ pub returns-clause-desks : goal.returns-clause-desks
 returns-clause-desks g c = c.in_ok-turn.ensures.desks
 
 pub returns-clause-turns : goal.returns-clause-turns
-returns-clause-turns g c = 
+returns-clause-turns g c =
     let same = ap length c.in_ok-offer_turn.ensures.turns in
     let more = c.in_ok-turn.ensures.turns in
     let none = ap length c.requires.turns in

@@ -31,7 +31,7 @@ pub turn-requires-clause-most_tours : goal.turn-requires-clause-most_tours
 turn-requires-clause-most_tours g c κs within = c.requires.most_tours
 
 pub turn-requires-clause-turns : goal.turn-requires-clause-turns
-turn-requires-clause-turns g c κs within = 
+turn-requires-clause-turns g c κs within =
     let count = c.loop-turn.invariant.turns in
     let few = c.requires.few in
     let below = c.loop-turn-test.true in
