@@ -4,3 +4,4 @@ pub mod PlaceLemmas
 pub mod OpeningLemmas
 pub mod WholeLemmas
 pub mod UnreadLemmas
+pub mod WorkedEnds

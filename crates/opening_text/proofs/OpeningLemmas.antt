@@ -1,5 +1,5 @@
 -- An opening from its building, its snapshot and its header.
-use Rattle.std.proofs.Common.{◌≡◌, inl, inr, Option, Some, None, Result, Ok, Err, sym, subst, ap, refl, true, List}
+use Rattle.std.proofs.Common.{◌≡◌, ◌≤◌, inl, inr, Option, Some, None, Result, Ok, Err, sym, subst, ap, refl, true, List}
 use Rattle.elevator_model.specs.Building.{Building}
 use Rattle.elevator_model.specs.Snapshot.{Snapshot}
 use Rattle.lift_text.specs.Lines.{pieces_of}
@@ -12,13 +12,16 @@ use Rattle.text_sections.specs.Between.{AreBetween, StandsBehind}
 use Rattle.building_text.specs.BuildingText.{IsRefusedBuilding, StandsInFront, TakesBuildings, IsAnswered as IsBuildingAnswered}
 use Rattle.snapshot_text.specs.Snapshots.{StandsFor, IsSaid, IsRefusedSnapshot, ReadsLines, IsAnswered as IsSnapshotAnswered}
 use Rattle.case_text.specs.CaseTexts.{Tells}
+use Rattle.row_text.specs.declared.headers.Header.{Header}
+use Rattle.row_text.specs.declared.headers.Header.TheVariants.{Rows}
 use Rattle.opening_text.specs.Headers.{IsHeaderRead, HeaderInFront, IsHeaderFault}
 use Rattle.opening_text.specs.DayOpenings.{BuildingNext, OpeningNext, DayOpeningInFront, IsEmptySnapshot, IsFaultOfHeader, IsDayOpeningRead, IsDayOpeningRefused, IsAnswered, TakesDayOpenings}
+use Rattle.opening_text.proofs.HeaderLemmas.{limit_behind_header}
 use Rattle.opening_text.proofs.PlaceLemmas.{begins, same_lines, place_of, same_rows, no_fault}
 
 -- ---- what was read
 
-building_next : (text above : TextState) (b : Building) → StandsInFront (Some text) b (Some above) → StandsBehind (Some text) (Some above) → BuildingNext text b above
+pub building_next : (text above : TextState) (b : Building) → StandsInFront (Some text) b (Some above) → StandsBehind (Some text) (Some above) → BuildingNext text b above
 building_next text above b front behind =
     let same = same_lines behind.0 front.0 (reading text) (reading above) (begins text behind.0 above behind.1) front.1 in
     (front.0, subst (λ (ls : List Line). AreBetween text ls above) same behind.1, front.2)
@@ -29,13 +32,13 @@ opening_next above between b s said behind =
     (said.0, subst (λ (ls : List Line). AreBetween above ls between) same behind.1, subst (λ (c : Building). StandsFor c true said.0 s) (sym said.2.building) said.2)
 
 -- a building and an opening snapshot of it, one behind the other
-both_next : (text above between : TextState) (b : Building) (s : Snapshot) → StandsInFront (Some text) b (Some above) → StandsBehind (Some text) (Some above) → IsSaid (Some above) b true s (Some between)
+pub both_next : (text above between : TextState) (b : Building) (s : Snapshot) → StandsInFront (Some text) b (Some above) → StandsBehind (Some text) (Some above) → IsSaid (Some above) b true s (Some between)
     → StandsBehind (Some above) (Some between) → BuildingNext text s.building above × OpeningNext above s between
 both_next text above between b s front first said second =
     (subst (λ (c : Building). BuildingNext text c above) (sym said.2.building) (building_next text above b front first), opening_next above between b s said second)
 
 pub opening_read : (before above between now : Option TextState) (b : Building) (s : Snapshot) → StandsInFront before b above → StandsBehind before above → IsSaid above b true s between → StandsBehind above between
-    → IsHeaderRead between (Ok tt) now → IsDayOpeningRead before s now
+    → IsHeaderRead Rows between (Ok tt) now → IsDayOpeningRead before s now
 opening_read None above between now b s front first said second header = tt
 opening_read (Some text) None between now b s front first said second header = absurd front
 opening_read (Some text) (Some above) None now b s front first said second header = absurd said
@@ -43,6 +46,10 @@ opening_read (Some text) (Some above) (Some between) None b s front first said s
 opening_read (Some text) (Some above) (Some between) (Some rows) b s front first said second header =
     let both = both_next text above between b s front first said second in
     record { above = above; between = between; building = both.0; snapshot = both.1; header = header }
+
+-- of the rows no more bytes may be read than of the header and the rows
+pub limit_of_rows : (text : TextState) (s : Snapshot) (rows : TextState) (opening : DayOpeningInFront text s rows) → rows.limit ≤ opening.between.limit
+limit_of_rows text s rows opening = limit_behind_header Rows opening.between.line opening.between.limit (pieces_of opening.between.bytes) rows opening.header
 
 pub empty_read : (above between : Option TextState) (b : Building) (s : Snapshot) → IsSaid above b true s between → IsEmptySnapshot s
 empty_read None between b s said = let none = said.1.opening refl in record { aboard = none.0; calls = none.1 }
@@ -68,11 +75,11 @@ opening_refused (Some text) (Some above) now b TooLong front first refused =
 opening_refused (Some text) (Some above) now b (Bad line code) front first refused =
     inr (inl (record { building = b; above = above; right = building_next text above b front first; fault_is = refused.1 }))
 
-header_fault : (text above between : TextState) (b : Building) (s : Snapshot) (fault : TextFault) → BuildingNext text s.building above × OpeningNext above s between → IsHeaderFault between fault → IsFaultOfHeader text fault
+header_fault : (text above between : TextState) (b : Building) (s : Snapshot) (fault : TextFault) → BuildingNext text s.building above × OpeningNext above s between → IsHeaderFault Rows between fault → IsFaultOfHeader text fault
 header_fault text above between b s fault both is = record { snapshot = s; above = above; between = between; building = both.0; right = both.1; fault_is = is }
 
 pub header_refused : (before above between now : Option TextState) (b : Building) (s : Snapshot) (fault : TextFault) → StandsInFront before b above → StandsBehind before above → IsSaid above b true s between → StandsBehind above between
-    → IsHeaderRead between (Err fault) now → IsDayOpeningRefused before fault
+    → IsHeaderRead Rows between (Err fault) now → IsDayOpeningRefused before fault
 header_refused None above between now b s fault front first said second header = tt
 header_refused (Some text) None between now b s fault front first said second header = absurd front
 header_refused (Some text) (Some above) None now b s fault front first said second header = absurd said
@@ -97,11 +104,11 @@ snapshot_told s rest NoMemory now is = tt
 snapshot_told s rest TooLong now is = is
 snapshot_told s rest (Bad line code) now is = is
 
-header_told : (between rows : TextState) (fault : TextFault) → HeaderInFront between rows → Tells fault (IsHeaderFault between fault) → Tells fault ⊥
-header_told between rows Read header is = tt
-header_told between rows NoMemory header is = tt
-header_told between rows TooLong header is = no_fault between.line between.limit (pieces_of between.bytes) rows TooLong header is
-header_told between rows (Bad line code) header is = no_fault between.line between.limit (pieces_of between.bytes) rows (Bad line code) header is
+pub header_told : (header : Header) (between rows : TextState) (fault : TextFault) → HeaderInFront header between rows → Tells fault (IsHeaderFault header between fault) → Tells fault ⊥
+header_told header between rows Read front is = tt
+header_told header between rows NoMemory front is = tt
+header_told header between rows TooLong front is = no_fault header between.line between.limit (pieces_of between.bytes) rows TooLong front is
+header_told header between rows (Bad line code) front is = no_fault header between.line between.limit (pieces_of between.bytes) rows (Bad line code) front is
 
 pub takes_no_building : (before above now : Option TextState) (fault : TextFault) → TakesBuildings before (Err fault) above → TakesDayOpenings before (Err fault) now
 takes_no_building None above now fault first s rows = tt
@@ -139,14 +146,14 @@ by_header snapshot (Ok done) = Ok snapshot
 by_header snapshot (Err fault) = Err fault
 
 -- the header that was read is the one of such a text
-header_taken : (s snapshot : Snapshot) (between rows : TextState) (answer : Result Unit TextFault) (now : Option TextState) → HeaderInFront between rows → IsHeaderRead (Some between) answer now → snapshot ≡ s
+header_taken : (s snapshot : Snapshot) (between rows : TextState) (answer : Result Unit TextFault) (now : Option TextState) → HeaderInFront Rows between rows → IsHeaderRead Rows (Some between) answer now → snapshot ≡ s
     → IsAnswered s rows (by_header snapshot answer) now
 header_taken s snapshot between rows (Ok done) None header is same = absurd is
-header_taken s snapshot between rows (Ok done) (Some now) header is same = (same, ap (λ (t : TextState). Some t) (same_rows between.line between.limit (pieces_of between.bytes) now rows is header))
-header_taken s snapshot between rows (Err fault) now header is same = header_told between rows fault header is
+header_taken s snapshot between rows (Ok done) (Some now) header is same = (same, ap (λ (t : TextState). Some t) (same_rows Rows between.line between.limit (pieces_of between.bytes) now rows is header))
+header_taken s snapshot between rows (Err fault) now header is same = header_told Rows between rows fault header is
 
 pub takes_snapshot : (before above between now : Option TextState) (b : Building) (snapshot : Snapshot) (answer : Result Unit TextFault) → TakesBuildings before (Ok b) above → StandsBehind before above
-    → ReadsLines above b true (Ok snapshot) between → StandsBehind above between → IsHeaderRead between answer now → TakesDayOpenings before (by_header snapshot answer) now
+    → ReadsLines above b true (Ok snapshot) between → StandsBehind above between → IsHeaderRead Rows between answer now → TakesDayOpenings before (by_header snapshot answer) now
 takes_snapshot None above between now b snapshot answer first behind second behind' header s rows = tt
 takes_snapshot (Some text) None between now b snapshot answer first behind second behind' header s rows = λ whole. absurd behind
 takes_snapshot (Some text) (Some above) None now b snapshot answer first behind second behind' header s rows = λ whole. absurd behind'
@@ -155,4 +162,4 @@ takes_snapshot (Some text) (Some above) (Some between) now b snapshot answer fir
     let read = snapshot_answered text s rows b above whole (Ok snapshot) (Some between) taken second in
     let start = subst (λ (t : TextState). AreBetween t behind'.0 between) taken.place behind'.1 in
     let place = place_of whole.above whole.snapshot.0 behind'.0 whole.between between whole.snapshot.1 start read.1 in
-    header_taken s snapshot between rows answer now (subst (λ (t : TextState). HeaderInFront t rows) (sym place) whole.header) header read.0)
+    header_taken s snapshot between rows answer now (subst (λ (t : TextState). HeaderInFront Rows t rows) (sym place) whole.header) header read.0)

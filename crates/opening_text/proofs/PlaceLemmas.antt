@@ -10,17 +10,20 @@ use Rattle.csv.specs.Reading.{strip_bom}
 use Rattle.lift_text.specs.declared.faults.TextFault.{TextFault}
 use Rattle.lift_text.specs.declared.faults.TextFault.TheVariants.{Bad}
 use Rattle.lift_text.specs.declared.codes.TextCode.TheVariants.{NoHeader}
+use Rattle.row_text.specs.declared.headers.Header.{Header}
+use Rattle.row_text.specs.declared.headers.Header.TheVariants.{Rows, BankRows}
 use Rattle.row_text.specs.Records.{texts_of_line, header_fields}
 use Rattle.opening_text.specs.Headers.{IsEmptyLine, IsHeaderLine, IsNoHeader, IsBehindPiece, HeaderFirst, NoHeaderFirst}
 use Rattle.opening_text.proofs.PieceLemmas.{same_bytes}
 
-no_names : texts_of_line [] ≡ Some header_fields → ⊥
+no_names : (header : Header) → texts_of_line [] ≡ Some (header_fields header) → ⊥
 unfolding next_record strip_bom
-no_names e = absurd cc
+no_names Rows e = absurd cc
+no_names BankRows e = absurd cc
 
 -- an empty line is no header
-pub empty_or_header : (piece : List ℕ) → IsEmptyLine piece → IsHeaderLine piece → ⊥
-empty_or_header piece none is = no_names (ap texts_of_line (sym none) ∙ is.names)
+pub empty_or_header : (header : Header) (piece : List ℕ) → IsEmptyLine piece → IsHeaderLine header piece → ⊥
+empty_or_header header piece none is = no_names header (ap texts_of_line (sym none) ∙ is.names)
 
 -- What is read from one place begins with the lines, and goes on as from the other.
 pub begins : (text : TextState) (lines : List Line) (behind : TextState) → AreBetween text lines behind → BeginsWith lines (reading text) (reading behind)
@@ -88,33 +91,33 @@ same_place text (words ∷ lines) x y a b =
     same_place a.0 lines x y a.2 (subst (λ (t : TextState). AreBetween t lines y) (sym first) b.2)
 
 -- behind the first line that is the header there is one place
-pub same_rows : (line limit : ℕ) (pieces : List (List ℕ)) (x y : TextState) → HeaderFirst line limit pieces x → HeaderFirst line limit pieces y → x ≡ y
-same_rows line limit [] x y a b = absurd a
-same_rows line limit (piece ∷ pieces) x y a b = by_kind (same_rows (line + 1) (limit - length piece) pieces x y) a.1 b.1
+pub same_rows : (header : Header) (line limit : ℕ) (pieces : List (List ℕ)) (x y : TextState) → HeaderFirst header line limit pieces x → HeaderFirst header line limit pieces y → x ≡ y
+same_rows header line limit [] x y a b = absurd a
+same_rows header line limit (piece ∷ pieces) x y a b = by_kind (same_rows header (line + 1) (limit - length piece) pieces x y) a.1 b.1
   where
-    by_kind : (HeaderFirst (line + 1) (limit - length piece) pieces x → HeaderFirst (line + 1) (limit - length piece) pieces y → x ≡ y)
-        → ((IsEmptyLine piece × HeaderFirst (line + 1) (limit - length piece) pieces x) ⊎ (IsHeaderLine piece × IsBehindPiece line limit piece pieces x))
-        → ((IsEmptyLine piece × HeaderFirst (line + 1) (limit - length piece) pieces y) ⊎ (IsHeaderLine piece × IsBehindPiece line limit piece pieces y)) → x ≡ y
+    by_kind : (HeaderFirst header (line + 1) (limit - length piece) pieces x → HeaderFirst header (line + 1) (limit - length piece) pieces y → x ≡ y)
+        → ((IsEmptyLine piece × HeaderFirst header (line + 1) (limit - length piece) pieces x) ⊎ (IsHeaderLine header piece × IsBehindPiece line limit piece pieces x))
+        → ((IsEmptyLine piece × HeaderFirst header (line + 1) (limit - length piece) pieces y) ⊎ (IsHeaderLine header piece × IsBehindPiece line limit piece pieces y)) → x ≡ y
     by_kind later (inl c) (inl d) = later c.1 d.1
-    by_kind later (inl c) (inr d) = absurd (empty_or_header piece c.0 d.0)
-    by_kind later (inr c) (inl d) = absurd (empty_or_header piece d.0 c.0)
+    by_kind later (inl c) (inr d) = absurd (empty_or_header header piece c.0 d.0)
+    by_kind later (inr c) (inl d) = absurd (empty_or_header header piece d.0 c.0)
     by_kind later (inr c) (inr d) = same_state x y (c.1.line_is ∙ sym d.1.line_is) (c.1.limit_is ∙ sym d.1.limit_is) (same_bytes x.bytes y.bytes (c.1.pieces_are ∙ sym d.1.pieces_are))
 
 -- where the header is first there is no fault
-pub no_fault : (line limit : ℕ) (pieces : List (List ℕ)) (x : TextState) (fault : TextFault) → HeaderFirst line limit pieces x → NoHeaderFirst line limit pieces fault → ⊥
-no_fault line limit [] x fault a b = absurd a
-no_fault line limit (piece ∷ pieces) x fault a b = by_kind (no_fault (line + 1) (limit - length piece) pieces x fault) a.0 a.1 b
+pub no_fault : (header : Header) (line limit : ℕ) (pieces : List (List ℕ)) (x : TextState) (fault : TextFault) → HeaderFirst header line limit pieces x → NoHeaderFirst header line limit pieces fault → ⊥
+no_fault header line limit [] x fault a b = absurd a
+no_fault header line limit (piece ∷ pieces) x fault a b = by_kind (no_fault header (line + 1) (limit - length piece) pieces x fault) a.0 a.1 b
   where
-    by_line : (HeaderFirst (line + 1) (limit - length piece) pieces x → NoHeaderFirst (line + 1) (limit - length piece) pieces fault → ⊥)
-        → ((IsEmptyLine piece × HeaderFirst (line + 1) (limit - length piece) pieces x) ⊎ (IsHeaderLine piece × IsBehindPiece line limit piece pieces x))
-        → ((IsEmptyLine piece × NoHeaderFirst (line + 1) (limit - length piece) pieces fault) ⊎ (IsNoHeader piece × (fault ≡ Bad (line + 1) NoHeader))) → ⊥
+    by_line : (HeaderFirst header (line + 1) (limit - length piece) pieces x → NoHeaderFirst header (line + 1) (limit - length piece) pieces fault → ⊥)
+        → ((IsEmptyLine piece × HeaderFirst header (line + 1) (limit - length piece) pieces x) ⊎ (IsHeaderLine header piece × IsBehindPiece line limit piece pieces x))
+        → ((IsEmptyLine piece × NoHeaderFirst header (line + 1) (limit - length piece) pieces fault) ⊎ (IsNoHeader header piece × (fault ≡ Bad (line + 1) NoHeader))) → ⊥
     by_line later (inl c) (inl d) = later c.1 d.1
     by_line later (inl c) (inr d) = d.0.some c.0
-    by_line later (inr c) (inl d) = empty_or_header piece d.0 c.0
+    by_line later (inr c) (inl d) = empty_or_header header piece d.0 c.0
     by_line later (inr c) (inr d) = d.0.other c.0
 
-    by_kind : (HeaderFirst (line + 1) (limit - length piece) pieces x → NoHeaderFirst (line + 1) (limit - length piece) pieces fault → ⊥) → length piece ≤ limit
-        → ((IsEmptyLine piece × HeaderFirst (line + 1) (limit - length piece) pieces x) ⊎ (IsHeaderLine piece × IsBehindPiece line limit piece pieces x)) → NoHeaderFirst line limit (piece ∷ pieces) fault → ⊥
+    by_kind : (HeaderFirst header (line + 1) (limit - length piece) pieces x → NoHeaderFirst header (line + 1) (limit - length piece) pieces fault → ⊥) → length piece ≤ limit
+        → ((IsEmptyLine piece × HeaderFirst header (line + 1) (limit - length piece) pieces x) ⊎ (IsHeaderLine header piece × IsBehindPiece line limit piece pieces x)) → NoHeaderFirst header line limit (piece ∷ pieces) fault → ⊥
     by_kind later within c (inl d) = let past = d.0 in absurd (omega (arith, within, past))
     by_kind later within c (inr d) = by_line later c d.1
 

@@ -11,6 +11,8 @@ use Rattle.text_sections.proofs.BetweenLemmas.{behind_went}
 use Rattle.text_sections.proofs.UnfinishedLemmas.{line_feeds-append, lacks_behind, lacks_later}
 use Rattle.building_text.specs.BuildingText.{TakesBuildings, BuildingEndsBehind}
 use Rattle.snapshot_text.specs.Snapshots.{StandsFor, ReadsLines, SnapshotEndsBehind}
+use Rattle.row_text.specs.declared.headers.Header.{Header}
+use Rattle.row_text.specs.declared.headers.Header.TheVariants.{Rows}
 use Rattle.opening_text.specs.Headers.{HeaderInFront, HeaderEndsBehind}
 use Rattle.opening_text.specs.DayOpenings.{DayOpeningInFront, HoldsOpening, HoldsNoOpening}
 use Rattle.opening_text.proofs.HeaderLemmas.{header_behind}
@@ -25,14 +27,14 @@ abbrev OpeningEndsBehind : Option TextState → Option (List ℕ) → Type 0
 OpeningEndsBehind None left = Unit {0}
 OpeningEndsBehind (Some text) left = (s : Snapshot) (rows : TextState) → DayOpeningInFront text s rows → LacksEnd (Some text) rows.line left
 
-header_up : (between rows : TextState) → HeaderInFront between rows → between.line < rows.line
-header_up between rows header = (header_behind between.line between.limit (pieces_of between.bytes) rows header).later
+pub header_up : (header : Header) (between rows : TextState) → HeaderInFront header between rows → between.line < rows.line
+header_up header between rows front = (header_behind header between.line between.limit (pieces_of between.bytes) rows front).later
 
 building_ends : (before : Option TextState) (left : Option (List ℕ)) → BuildingEndsBehind before left → OpeningEndsBehind before left
 building_ends None left ends = tt
 building_ends (Some text) left ends = λ s rows whole.
     (let up = between_up whole.above whole.snapshot.0 whole.between whole.snapshot.1 in
-    let later = header_up whole.between rows whole.header in
+    let later = header_up Rows whole.between rows whole.header in
     lacks_later (Some text) whole.above.line rows.line left (omega (arith, up, later)) (ends whole.building.0 s.building whole.above whole.building.1 whole.building.2))
 
 snapshot_ends : (before above : Option TextState) (b : Building) (left : Option (List ℕ)) → TakesBuildings before (Ok b) above → StandsBehind before above → SnapshotEndsBehind above b true left → OpeningEndsBehind before left
@@ -43,12 +45,12 @@ snapshot_ends (Some text) (Some here) b left first behind ends = λ s rows whole
     let lines = whole.snapshot.0 in
     let stands = subst (λ (c : Building). StandsFor c true lines s) (sym taken.building) whole.snapshot.2 in
     let steps = subst (λ (t : TextState). AreBetween t lines whole.between) (sym taken.place) whole.snapshot.1 in
-    let later = header_up whole.between rows whole.header in
+    let later = header_up Rows whole.between rows whole.header in
     lacks_behind (Some text) (Some here) rows.line left (behind_went (Some text) (Some here) behind)
     (lacks_later (Some here) whole.between.line rows.line left (omega (arith, later)) (ends lines s whole.between steps stands)))
 
 header_ends : (before above between : Option TextState) (b : Building) (snapshot : Snapshot) (left : Option (List ℕ)) → TakesBuildings before (Ok b) above → StandsBehind before above
-    → ReadsLines above b true (Ok snapshot) between → StandsBehind above between → HeaderEndsBehind between left → OpeningEndsBehind before left
+    → ReadsLines above b true (Ok snapshot) between → StandsBehind above between → HeaderEndsBehind Rows between left → OpeningEndsBehind before left
 header_ends None above between b snapshot left first behind second behind' ends = tt
 header_ends (Some text) None between b snapshot left first behind second behind' ends = absurd behind
 header_ends (Some text) (Some above) None b snapshot left first behind second behind' ends = absurd behind'
@@ -57,7 +59,7 @@ header_ends (Some text) (Some above) (Some between) b snapshot left first behind
     let read = snapshot_answered text s rows b above whole (Ok snapshot) (Some between) taken second in
     let start = subst (λ (t : TextState). AreBetween t behind'.0 between) taken.place behind'.1 in
     let place = place_of whole.above whole.snapshot.0 behind'.0 whole.between between whole.snapshot.1 start read.1 in
-    let header = subst (λ (t : TextState). HeaderInFront t rows) (sym place) whole.header in
+    let header = subst (λ (t : TextState). HeaderInFront Rows t rows) (sym place) whole.header in
     let went = went_further (Some text) (Some above) (Some between) (behind_went (Some text) (Some above) behind) (behind_went (Some above) (Some between) behind') in
     lacks_behind (Some text) (Some between) rows.line left went (ends rows header))
 
@@ -85,5 +87,5 @@ pub no_snapshot : (before above : Option TextState) (b : Building) (left : Optio
 no_snapshot before above b left first behind ends = no_opening before left (snapshot_ends before above b left first behind ends)
 
 pub no_header : (before above between : Option TextState) (b : Building) (snapshot : Snapshot) (left : Option (List ℕ)) → TakesBuildings before (Ok b) above → StandsBehind before above
-    → ReadsLines above b true (Ok snapshot) between → StandsBehind above between → HeaderEndsBehind between left → HoldsNoOpening before left
+    → ReadsLines above b true (Ok snapshot) between → StandsBehind above between → HeaderEndsBehind Rows between left → HoldsNoOpening before left
 no_header before above between b snapshot left first behind second behind' ends = no_opening before left (header_ends before above between b snapshot left first behind second behind' ends)

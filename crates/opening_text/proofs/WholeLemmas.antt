@@ -12,6 +12,8 @@ use Rattle.text_sections.specs.Between.{IsNextLine, AreBetween}
 use Rattle.text_sections.specs.Unfinished.{line_feeds}
 use Rattle.text_sections.proofs.UnfinishedLemmas.{line_feeds-cons, line_feeds-append, feeds_front, passed_front}
 use Rattle.elevator_model.specs.Snapshot.{Snapshot}
+use Rattle.row_text.specs.declared.headers.Header.{Header}
+use Rattle.row_text.specs.declared.headers.Header.TheVariants.{Rows}
 use Rattle.opening_text.specs.Headers.{IsEmptyLine, IsHeaderLine, IsBehindPiece, HeaderFirst, HeaderInFront}
 use Rattle.opening_text.specs.DayOpenings.{DayOpeningInFront}
 use Rattle.opening_text.proofs.HeaderLemmas.{header_behind}
@@ -188,34 +190,34 @@ between_more text (words ∷ lines) behind rest last steps low whole =
 
 -- ---- the header
 
-header_with : (front behind other : List (List ℕ)) (line limit : ℕ) (rows rows' : TextState) → HeaderFirst line limit (front ++ behind) rows → line + length front ≡ rows.line
-    → rows'.line ≡ rows.line → rows'.limit ≡ rows.limit → pieces_of rows'.bytes ≡ other → HeaderFirst line limit (front ++ other) rows'
-header_with [] behind other line limit rows rows' first count same room lines = let up = (header_behind line limit behind rows first).later in absurd (omega (arith, up, count))
-header_with (piece ∷ front) behind other line limit rows rows' first count same room lines =
-    (first.0, by_kind (λ later. header_with front behind other (line + 1) (limit - length piece) rows rows' later (omega (arith, count)) same room lines) first.1)
+header_with : (header : Header) (front behind other : List (List ℕ)) (line limit : ℕ) (rows rows' : TextState) → HeaderFirst header line limit (front ++ behind) rows → line + length front ≡ rows.line
+    → rows'.line ≡ rows.line → rows'.limit ≡ rows.limit → pieces_of rows'.bytes ≡ other → HeaderFirst header line limit (front ++ other) rows'
+header_with header [] behind other line limit rows rows' first count same room lines = let up = (header_behind header line limit behind rows first).later in absurd (omega (arith, up, count))
+header_with header (piece ∷ front) behind other line limit rows rows' first count same room lines =
+    (first.0, by_kind (λ later. header_with header front behind other (line + 1) (limit - length piece) rows rows' later (omega (arith, count)) same room lines) first.1)
   where
-    by_kind : (HeaderFirst (line + 1) (limit - length piece) (front ++ behind) rows → HeaderFirst (line + 1) (limit - length piece) (front ++ other) rows')
-        → ((IsEmptyLine piece × HeaderFirst (line + 1) (limit - length piece) (front ++ behind) rows) ⊎ (IsHeaderLine piece × IsBehindPiece line limit piece (front ++ behind) rows))
-        → ((IsEmptyLine piece × HeaderFirst (line + 1) (limit - length piece) (front ++ other) rows') ⊎ (IsHeaderLine piece × IsBehindPiece line limit piece (front ++ other) rows'))
+    by_kind : (HeaderFirst header (line + 1) (limit - length piece) (front ++ behind) rows → HeaderFirst header (line + 1) (limit - length piece) (front ++ other) rows')
+        → ((IsEmptyLine piece × HeaderFirst header (line + 1) (limit - length piece) (front ++ behind) rows) ⊎ (IsHeaderLine header piece × IsBehindPiece line limit piece (front ++ behind) rows))
+        → ((IsEmptyLine piece × HeaderFirst header (line + 1) (limit - length piece) (front ++ other) rows') ⊎ (IsHeaderLine header piece × IsBehindPiece line limit piece (front ++ other) rows'))
     by_kind later (inl empty) = inl (empty.0, later empty.1)
-    by_kind later (inr header) =
-        let is = header.1 in
+    by_kind later (inr found) =
+        let is = found.1 in
         let none = no_lines front (omega (arith, count, is.line_is)) in
-        inr (header.0, record { line_is = same ∙ is.line_is; limit_is = room ∙ is.limit_is; pieces_are = lines ∙ ap (λ (l : List (List ℕ)). l ++ other) (sym none) })
+        inr (found.0, record { line_is = same ∙ is.line_is; limit_is = room ∙ is.limit_is; pieces_are = lines ∙ ap (λ (l : List (List ℕ)). l ++ other) (sym none) })
 
-header_more : (text rows : TextState) (rest : List ℕ) → HeaderInFront text rows → rows.line ≤ text.line + line_feeds text.bytes → HeaderInFront (with_more rest text) (with_more rest rows)
-header_more text rows rest first whole =
-    let behind = header_behind text.line text.limit (pieces_of text.bytes) rows first in
+pub header_more : (header : Header) (text rows : TextState) (rest : List ℕ) → HeaderInFront header text rows → rows.line ≤ text.line + line_feeds text.bytes → HeaderInFront header (with_more rest text) (with_more rest rows)
+header_more header text rows rest first whole =
+    let behind = header_behind header text.line text.limit (pieces_of text.bytes) rows first in
     let is = in_front text rows rest (omega (arith, behind.later)) behind.pieces_are whole in
-    subst (λ (l : List (List ℕ)). HeaderFirst text.line text.limit l (with_more rest rows)) (sym is.more)
-    (header_with is.front (pieces_of rows.bytes) (pieces_of (rows.bytes ++ rest)) text.line text.limit rows (with_more rest rows)
-    (subst (λ (l : List (List ℕ)). HeaderFirst text.line text.limit l rows) is.pieces first) is.count refl refl refl)
+    subst (λ (l : List (List ℕ)). HeaderFirst header text.line text.limit l (with_more rest rows)) (sym is.more)
+    (header_with header is.front (pieces_of rows.bytes) (pieces_of (rows.bytes ++ rest)) text.line text.limit rows (with_more rest rows)
+    (subst (λ (l : List (List ℕ)). HeaderFirst header text.line text.limit l rows) is.pieces first) is.count refl refl refl)
 
 -- ---- an opening
 
 pub opening_more : (text : TextState) (s : Snapshot) (rows : TextState) (rest : List ℕ) → DayOpeningInFront text s rows → rows.line ≤ text.line + line_feeds text.bytes → DayOpeningInFront (with_more rest text) s (with_more rest rows)
 opening_more text s rows rest opening whole =
-    let up = (header_behind opening.between.line opening.between.limit (pieces_of opening.between.bytes) rows opening.header).later in
+    let up = (header_behind Rows opening.between.line opening.between.limit (pieces_of opening.between.bytes) rows opening.header).later in
     let higher = between_up opening.above opening.snapshot.0 opening.between opening.snapshot.1 in
     let building = between_more text opening.building.0 opening.above rest rows.line opening.building.1 (omega (arith, up, higher)) whole in
     let snapshot = between_more opening.above opening.snapshot.0 opening.between rest rows.line opening.snapshot.1 (omega (arith, up)) building.whole in
@@ -224,5 +226,5 @@ opening_more text s rows rest opening whole =
       between = with_more rest opening.between;
       building = (opening.building.0, building.between, opening.building.2);
       snapshot = (opening.snapshot.0, snapshot.between, opening.snapshot.2);
-      header = header_more opening.between rows rest opening.header snapshot.whole;
+      header = header_more Rows opening.between rows rest opening.header snapshot.whole;
     }

@@ -11,6 +11,7 @@ use Rattle.building_text.specs.BuildingText.{IsBuildingText}
 use Rattle.snapshot_text.specs.Snapshots.{StandsFor}
 use Rattle.snapshot_text.specs.Drafts.{blank, after as after_snapshot_line}
 use Rattle.case_text.specs.CaseTexts.{IsRefusedWith, IsBuildingFault, Tells}
+use Rattle.row_text.specs.declared.headers.Header.TheVariants.{Rows}
 use Rattle.opening_text.specs.Headers.{HeaderInFront, IsHeaderFault}
 
 -- ---- the text in front of the rows
@@ -29,7 +30,7 @@ pub record DayOpeningInFront (text : TextState) (s : Snapshot) (rows : TextState
   pub between : TextState
   pub building : BuildingNext text s.building above
   pub snapshot : OpeningNext above s between
-  pub header : HeaderInFront between rows
+  pub header : HeaderInFront Rows between rows
 
 -- nobody is aboard, and no call is open
 pub record IsEmptySnapshot (s : Snapshot) : Type 0 where
@@ -52,7 +53,7 @@ pub record IsFaultOfHeader (text : TextState) (fault : TextFault) : Type 0 where
   pub between : TextState
   pub building : BuildingNext text snapshot.building above
   pub right : OpeningNext above snapshot between
-  pub fault_is : IsHeaderFault between fault
+  pub fault_is : IsHeaderFault Rows between fault
 
 -- the first bad line with its code, or that the text is too long
 abbrev pub IsDayOpeningFault : TextState → TextFault → Type 0

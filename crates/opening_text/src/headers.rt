@@ -1,4 +1,4 @@
-//! Reading the header of rows.
+//! Reading a header of rows.
 ghost use Rattle.std.specs.Prelude.{◌≡◌, ◌≤◌, ◌+◌, None, IfErr, OnOk, IsErrOf};
 ghost use Rattle.byte_streams.specs.Streams.{Rose};
 ghost use Rattle.lift_text.specs.LineReader.{text, line, failure};
@@ -8,7 +8,7 @@ ghost use Rattle.text_sections.specs.Unfinished.{LacksEnd};
 ghost use Rattle.opening_text.specs.Headers.{HeaderEndsBehind, IsHeaderRead, IsLineRead};
 
 use lift_text::{LINE_COUNT_BOUND, LineReader, RawLine, Source, TEXT_LIMIT, TextCode, TextFault};
-use row_text::is_header;
+use row_text::{Header, is_header};
 use std::alloc::Global;
 
 /// The fault of the line with this number.
@@ -18,11 +18,15 @@ fn bad_line(line: u64, code: TextCode) -> TextFault
     TextFault::Bad { line, code }
 }
 
-/// Reads one line: true is the header, false an empty line.
-fn read_line<S: Source>(alloc: Global, lines: &mut LineReader<S>) -> Result<bool, TextFault>
+/// Reads one line: true is this header, false an empty line.
+fn read_line<S: Source>(
+    alloc: Global,
+    lines: &mut LineReader<S>,
+    header: Header,
+) -> Result<bool, TextFault>
     requires { failure lines.old ≡ None }
     ensures same_source { lines.new.source.ghost_name ≡ lines.old.source.ghost_name }
-    ensures line { IsLineRead (text S.left lines.old) result (text S.left lines.new) }
+    ensures line { IsLineRead header (text S.left lines.old) result (text S.left lines.new) }
     ensures number { OnOk result (line lines.new ≡ line lines.old + 1) }
     ensures bound { OnOk result (line lines.new ≤ TEXT_LIMIT) }
     ensures went { OnOk result (WentOn (text S.left lines.old) (text S.left lines.new)) }
@@ -45,29 +49,33 @@ fn read_line<S: Source>(alloc: Global, lines: &mut LineReader<S>) -> Result<bool
     if lines.raw().is_empty() {
         return Ok(false);
     }
-    match is_header(alloc, lines.raw()) {
+    match is_header(alloc, lines.raw(), header) {
         Ok(true) => Ok(true),
         Ok(false) => Err(bad_line(line, TextCode::NoHeader)),
         Err(_) => Err(TextFault::NoMemory),
     }
 }
 
-/// Reads the header of the rows of a day: the first line that is not empty. What follows it stays unread.
+/// Reads this header of rows: the first line that is not empty. What follows it stays unread.
 ///
-/// The line is bad with `NoHeader` where it is not the four names, as `row_text::is_header` has it, or is
+/// The line is bad with `NoHeader` where it is not the header's names, as `row_text::is_header` has it, or is
 /// over 4,096 bytes. `CutShort` comes where the input ends before it, at the line after the last. `TooLong`
 /// comes where it does not end within the bytes that may be read, and `Read` only where a read of the source
-/// failed, and then the header's line is not whole, with its LF, among the bytes that were taken. The end of a
-/// line that is bad shows in them.
-pub fn read_header<S: Source>(alloc: Global, lines: &mut LineReader<S>) -> Result<(), TextFault>
+/// failed, and then the header's line is not whole, with its LF, among the bytes that were taken. The end of
+/// a line that is bad shows in them.
+pub fn read_header<S: Source>(
+    alloc: Global,
+    lines: &mut LineReader<S>,
+    header: Header,
+) -> Result<(), TextFault>
     requires { failure lines.old ≡ None }
     ensures same_source { lines.new.source.ghost_name ≡ lines.old.source.ghost_name }
-    ensures header { IsHeaderRead (text S.left lines.old) result (text S.left lines.new) }
+    ensures header { IsHeaderRead header (text S.left lines.old) result (text S.left lines.new) }
     ensures shows { IfErr result (λ fault.
         FaultShows (text S.left lines.old) fault (S.left lines.new.source.now)) }
     ensures ok { OnOk result (failure lines.new ≡ None) }
     ensures unfinished { IsErrOf result TextFault.Read
-        → HeaderEndsBehind (text S.left lines.old) (S.left lines.new.source.now) }
+        → HeaderEndsBehind header (text S.left lines.old) (S.left lines.new.source.now) }
     ensures read { IsErrOf result TextFault.Read
         → Rose (S.faults lines.old.source.now) (S.faults lines.new.source.now) }
     ensures counted { S.faults lines.old.source.now ≤ S.faults lines.new.source.now }
@@ -75,7 +83,7 @@ pub fn read_header<S: Source>(alloc: Global, lines: &mut LineReader<S>) -> Resul
     // For the proof: a line's number is at most 67,108,864.
     let _start = lines.line();
     'lines: for _ in 0..LINE_COUNT_BOUND {
-        let is_found = read_line(alloc, lines)?;
+        let is_found = read_line(alloc, lines, header)?;
         if is_found {
             return Ok(());
         }

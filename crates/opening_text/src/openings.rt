@@ -11,6 +11,7 @@ use crate::headers::read_header;
 use building_text::read_building;
 use call_state::Snapshot;
 use lift_text::{LineReader, Source, TextFault};
+use row_text::Header;
 use snapshot_text::read_opening;
 use std::alloc::Global;
 
@@ -50,7 +51,7 @@ pub fn read_day_opening<S: Source>(
         Ok(snapshot) => snapshot,
         Err(fault) => return Err(fault),
     };
-    match read_header(alloc, lines) {
+    match read_header(alloc, lines, Header::Rows) {
         Ok(()) => Ok(snapshot),
         Err(fault) => Err(fault),
     }

@@ -8,6 +8,8 @@ use Rattle.csv.specs.declared.parser.State.TheVariants as st
 use Rattle.elevator_model.specs.Building.{Building, floor_count}
 use Rattle.lift_text.specs.Numbers.{digits_number}
 use Rattle.search_model.specs.Days.{Row, is_row}
+use Rattle.row_text.specs.declared.headers.Header.{Header}
+use Rattle.row_text.specs.declared.headers.Header.TheVariants.{Rows, BankRows}
 use Rattle.row_text.specs.declared.rows.GoodRow.{GoodRow}
 
 -- ---- the fields of a line
@@ -110,8 +112,14 @@ row_as_said row = record { time = row.time; origin = row.origin; destination = r
 
 -- ---- the header
 
-abbrev pub header_fields : List (List ℕ)
-header_fields = codes "time" ∷ codes "origin" ∷ codes "destination" ∷ codes "persons" ∷ []
+-- the names of a row's fields
+abbrev pub row_names : List (List ℕ)
+row_names = codes "time" ∷ codes "origin" ∷ codes "destination" ∷ codes "persons" ∷ []
+
+-- what the fields of a header say
+abbrev pub header_fields : Header → List (List ℕ)
+header_fields Rows = row_names
+header_fields BankRows = codes "bank" ∷ row_names
 
 -- what stands in the fields, without spaces at their ends
 abbrev pub texts_of_line : List ℕ → Option (List (List ℕ))
@@ -121,10 +129,25 @@ texts_of_line line = option_map (map without_spaces) (fields_of_line line)
 abbrev pub SaysAt : List (List ℕ) → ℕ → List ℕ → Type 0
 SaysAt fields place text = option_map without_spaces (field_at fields place) ≡ Some text
 
--- there are four fields, and they say the names in their order
-pub record SaysHeader (fields : List (List ℕ)) : Type 0 where
+-- the fields from this place on say the names of a row's fields, in their order
+pub record SaysRowNames (fields : List (List ℕ)) (first : ℕ) : Type 0 where
+  pub time : SaysAt fields first (codes "time")
+  pub origin : SaysAt fields (first + 1) (codes "origin")
+  pub destination : SaysAt fields (first + 2) (codes "destination")
+  pub persons : SaysAt fields (first + 3) (codes "persons")
+
+-- there are four fields, and they say these names
+pub record SaysRowHeader (fields : List (List ℕ)) : Type 0 where
   pub four : length fields ≡ 4
-  pub time : SaysAt fields 0 (codes "time")
-  pub origin : SaysAt fields 1 (codes "origin")
-  pub destination : SaysAt fields 2 (codes "destination")
-  pub persons : SaysAt fields 3 (codes "persons")
+  pub names : SaysRowNames fields 0
+
+-- there are five fields, and the bank's name comes before these
+pub record SaysBankRowHeader (fields : List (List ℕ)) : Type 0 where
+  pub five : length fields ≡ 5
+  pub bank : SaysAt fields 0 (codes "bank")
+  pub names : SaysRowNames fields 1
+
+-- the fields say this header
+abbrev pub SaysHeader : Header → List (List ℕ) → Type 0
+SaysHeader Rows fields = SaysRowHeader fields
+SaysHeader BankRows fields = SaysBankRowHeader fields

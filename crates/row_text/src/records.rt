@@ -1,13 +1,12 @@
 //! Lines as records of fields.
 
-ghost use Rattle.std.specs.Prelude.{◌≡◌, ◌↔◌, ◌≤◌, Some, IfOk, IsTrue, length, option_map};
+ghost use Rattle.std.specs.Prelude.{◌≡◌, ◌≤◌, IfOk, length, option_map};
 ghost use Rattle.std.specs.List.{list_any};
 ghost use Rattle.csv.specs.Records.{fields_of};
 ghost use Rattle.row_text.specs.Records.{begins_with_mark as begins_with_mark_lem, ends_line, is_set_apart};
 ghost use Rattle.row_text.specs.Records.{fields_read as fields_read_lem, fields_of_line};
 ghost use Rattle.row_text.specs.Records.{without_spaces as without_spaces_lem};
 ghost use Rattle.row_text.specs.Records.{without_spaces_before as without_spaces_before_lem, end_of_field};
-ghost use Rattle.row_text.specs.Records.{texts_of_line, header_fields, SaysAt, SaysHeader};
 
 use csv::{ByteRecord, ReaderBuilder};
 use std::alloc::{AllocError, Global};
@@ -53,7 +52,10 @@ fn read_record(alloc: Global, line: &[u8]) -> Result<Option<ByteRecord>, AllocEr
 }
 
 /// The record that the line is, if it is one (RFC 4180: commas, double quotes): its fields as they stand.
-pub(crate) fn record_of(alloc: Global, line: &[u8]) -> Result<Option<ByteRecord>, AllocError>
+///
+/// A line that begins with a byte order mark, or has the end of a line inside it, is none. It fails only
+/// where there is no memory left.
+pub fn record_of(alloc: Global, line: &[u8]) -> Result<Option<ByteRecord>, AllocError>
     ensures { IfOk result (λ read. option_map fields_of read ≡ fields_of_line line.now) }
 {
     if is_set_apart(line) {
@@ -86,42 +88,10 @@ fn end_of_field(field: &[u8]) -> usize
     end
 }
 
-/// What stands in the field, without the spaces at its ends.
-pub(crate) fn without_spaces(field: &[u8]) -> &[u8]
+/// What stands in the field, without the spaces at its ends. Other blanks, as tabs, are bytes of the field.
+pub fn without_spaces(field: &[u8]) -> &[u8]
     ensures { result.now ≡ without_spaces_lem field.now }
 {
     let text = without_spaces_before(field);
     &text[..end_of_field(text)]
-}
-
-/// Whether the field at this place says this, but for spaces at its ends.
-fn says(fields: &ByteRecord, place: usize, text: &[u8]) -> bool
-    ensures { IsTrue result ↔ SaysAt (fields_of fields.now) place text.now }
-{
-    match fields.get(place) {
-        Some(field) => without_spaces(field) == text,
-        None => false,
-    }
-}
-
-/// Whether the record is a header of rows.
-fn is_header_record(fields: &ByteRecord) -> bool
-    ensures { IsTrue result ↔ SaysHeader (fields_of fields.now) }
-{
-    fields.len() == 4
-        && says(fields, 0, b"time")
-        && says(fields, 1, b"origin")
-        && says(fields, 2, b"destination")
-        && says(fields, 3, b"persons")
-}
-
-/// Whether the line is the header of rows: the names time, origin, destination and persons, between commas.
-/// Spaces at both ends of a field do not count. It fails only where there is no memory left.
-pub fn is_header(alloc: Global, line: &[u8]) -> Result<bool, AllocError>
-    ensures { IfOk result (λ is. IsTrue is ↔ (texts_of_line line.now ≡ Some header_fields)) }
-{
-    match record_of(alloc, line)? {
-        Some(record) => Ok(is_header_record(&record)),
-        None => Ok(false),
-    }
 }

@@ -17,7 +17,7 @@ lines-preserved g c =
       same_source = search rules;
       no_failure = read.ok;
       went = went_further (text left c.args.lines.now) (text left c.lines.lines) (text left c.read_line.new.lines) before.went read.went;
-      leads = leads_more (text left c.args.lines.now) (text left c.lines.lines) (text left c.read_line.new.lines) before.leads read.line;
+      leads = leads_more c.args.header (text left c.args.lines.now) (text left c.lines.lines) (text left c.read_line.new.lines) before.leads read.line;
       numbered = let n = read.number in let m = before.numbered in omega (arith, n, m);
       bound = read.bound;
       counted = omega (arith, before.counted, read.counted);
@@ -27,14 +27,14 @@ pub returns-then-is_found-clause-header : goal.returns-then-is_found-clause-head
 returns-then-is_found-clause-header g c =
     let left = g.S.Source.left in
     let read = rw c.if-is_found.true at c.in_ok-is_found.ensures in
-    leads_found (text left c.args.lines.now) (text left c.lines.lines) (text left c.read_line.new.lines) c.lines.invariant.leads read.line
+    leads_found c.args.header (text left c.args.lines.now) (text left c.lines.lines) (text left c.read_line.new.lines) c.lines.invariant.leads read.line
 
 pub returns-in_err-is_found-clause-header : goal.returns-in_err-is_found-clause-header
 returns-in_err-is_found-clause-header g c =
     let left = g.S.Source.left in
     let same : c.from_residual.result ≡ Err c.in_err-is_found.field-0.0 = search rules in
-    let fault = leads_fault (text left c.args.lines.now) (text left c.lines.lines) (text left c.read_line.new.lines) c.in_err-is_found.field-0.0 c.lines.invariant.leads c.in_err-is_found.ensures.line in
-    subst (λ answer. IsHeaderRead (text left c.args.lines.now) answer (text left c.read_line.new.lines)) (sym same) fault
+    let fault = leads_fault c.args.header (text left c.args.lines.now) (text left c.lines.lines) (text left c.read_line.new.lines) c.in_err-is_found.field-0.0 c.lines.invariant.leads c.in_err-is_found.ensures.line in
+    subst (λ answer. IsHeaderRead c.args.header (text left c.args.lines.now) answer (text left c.read_line.new.lines)) (sym same) fault
 
 pub returns-clause-header : goal.returns-clause-header
 returns-clause-header g c =
@@ -66,4 +66,4 @@ returns-in_err-is_found-clause-unfinished g c =
     let here = c.lines.lines in
     let same : c.from_residual.result ≡ Err c.in_err-is_found.field-0.0 = search rules in
     λ is. (let fault : c.in_err-is_found.field-0.0 ≡ Read = same_error c.from_residual.result c.in_err-is_found.field-0.0 Read same is in
-    header_ends (text left c.args.lines.now) (text left here) (line here) (left c.read_line.new.lines.source.now) before.leads before.went (number_of here.page (left here.source.now)) (c.in_err-is_found.ensures.lacks (ap Err fault)))
+    header_ends c.args.header (text left c.args.lines.now) (text left here) (line here) (left c.read_line.new.lines.source.now) before.leads before.went (number_of here.page (left here.source.now)) (c.in_err-is_found.ensures.lacks (ap Err fault)))
