@@ -1,1 +1,9 @@
+pub mod DigitLemmas
+pub mod RowLemmas
+pub mod BankLemmas
+pub mod LineLemmas
+pub mod HeadLemmas
+pub mod WholeLemmas
+pub mod TakenLemmas
 pub mod Worked
+pub mod WorkedRows
