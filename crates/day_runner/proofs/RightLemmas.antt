@@ -23,11 +23,11 @@ use Rattle.day_runner.specs.declared.inputs.DayFault.TheVariants.{Opening, Rows}
 abbrev pub IsWider : (narrow wide : Right) → Type 0
 IsWider narrow wide = (s : Snapshot) (stated : Stated) (proof : List ℕ) → narrow s stated proof → wide s stated proof
 
-log-wider : (narrow wide : Right) (proof : List ℕ) (w : World) (log : RowLog) → IsWider narrow wide → IsRightLog (λ s stated. narrow s stated proof) w log → IsRightLog (λ s stated. wide s stated proof) w log
+pub log-wider : (narrow wide : Right) (proof : List ℕ) (w : World) (log : RowLog) → IsWider narrow wide → IsRightLog (λ s stated. narrow s stated proof) w log → IsRightLog (λ s stated. wide s stated proof) w log
 log-wider narrow wide proof w (Refused n fault) wider right = tt
 log-wider narrow wide proof w (Accepted n events printed) wider right = wider w.snapshot printed proof right
 
-abbrev row-wider : (narrow wide : Right) (old : Day) (said : Option Row) (new : Day) (before after : List ℕ) (answer : RowAnswer) → IsWider narrow wide → IsRowDone narrow old said new before after answer → IsRowDone wide old said new before after answer
+abbrev pub row-wider : (narrow wide : Right) (old : Day) (said : Option Row) (new : Day) (before after : List ℕ) (answer : RowAnswer) → IsWider narrow wide → IsRowDone narrow old said new before after answer → IsRowDone wide old said new before after answer
 row-wider narrow wide old said new before after answer wider done =
     (done.0, done.1, record { day = done.2.day; text = done.2.text; right_plan = log-wider narrow wide done.1 new.world _ wider done.2.right_plan; answer_is = done.2.answer_is })
 

@@ -65,7 +65,7 @@ long-rows line long = ap (λ (b : Bool). cond {A = List (Option Row)} b (None �
 -- ---- a row that is refused for its length
 
 -- what would be printed, and is not
-no_plan : Stated
+pub no_plan : Stated
 no_plan = record { plan = []; cost = 0; bound = 0 }
 
 pub long-row-done : (right : Right) (old new : Day) (text : List ℕ) → new ≡ day_after_refused old → text ≡ refused_text (row_number old) NoRow → AreRowsDone right old (None ∷ []) new text

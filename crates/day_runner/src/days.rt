@@ -18,7 +18,7 @@ use lift_text::{LineReader, TEXT_LIMIT};
 use std::alloc::{AllocError, Global};
 
 /// The first line of a log.
-const FIRST_LINE: &[u8] = b"day 1\n";
+pub const FIRST_LINE: &[u8] = b"day 1\n";
 
 /// What is told at the end of a day.
 #[derive(Drop)]

@@ -26,6 +26,6 @@ mod days;
 mod inputs;
 mod rows;
 
-pub use days::{Ended, run_day};
+pub use days::{Ended, FIRST_LINE, run_day};
 pub use inputs::{DayFault, run_day_text};
 pub use rows::RunFault;

@@ -1,0 +1,211 @@
+//! Running the days of banks.
+
+ghost use Rattle.std.specs.Prelude.{◌≡◌, ◌<◌, ◌≤◌, ◌+◌, ◌^◌, All, IfOk, IsTrue, OnOk, length};
+ghost use Rattle.elevator_model.specs.Snapshot.{IsAccepted};
+ghost use Rattle.search_model.specs.Days.{loses_none, opening_day};
+ghost use Rattle.day_state.specs.Openings.{IsOpeningSnapshot};
+ghost use Rattle.row_text.specs.Records.{row_of_line};
+ghost use Rattle.day_simulator.specs.Planning.{PlannerLaw};
+ghost use Rattle.day_simulator.specs.Rows.{IsRowDone};
+ghost use Rattle.day_simulator.specs.Standing.{row_number};
+ghost use Rattle.bank_text.specs.BankRows.{row_said};
+ghost use Rattle.bank_days.specs.Banks.{AreBankLogs, AreRowsAppended, IsDayLog, IsRunnable};
+
+use crate::logs::BankLog;
+use crate::planners::Planner;
+use bank_text::{Bank, BankRow};
+use byte_streams::Gate;
+use call_state::Snapshot;
+use day_runner::FIRST_LINE;
+use day_simulator::{Day, RowAnswer};
+use std::alloc::{AllocError, Global};
+use std::marker::Sync;
+use std::thread::Threads;
+use work_fan::{Jobs, MOST_WORKERS, Runtime, fan};
+
+/// A worker has nothing at its desk.
+const MOST_DESKS: usize = MOST_WORKERS as usize;
+
+/// Takes or refuses the next row, which is this line, and appends its lines to the log. It fails only where
+/// there is no memory left.
+fn run_line<P: Planner>(
+    alloc: Global,
+    planner: &P,
+    line: &[u8],
+    day: &mut Day,
+    log: &mut Vec<u8>,
+) -> Result<RowAnswer, AllocError>
+    requires can_plan { P.can_plan planner.now }
+    requires sound { PlannerLaw (P.right planner.now) }
+    requires number { row_number day.old < 2 ^ 32 }
+    ensures done { IfOk result (IsRowDone (P.right planner.now) day.old (row_of_line line.now)
+        day.new log.old.items log.new.items) }
+    ensures none_lost { IsTrue (loses_none day.new) }
+    ensures number { OnOk result (row_number day.new ≡ row_number day.old + 1) }
+{
+    let plan = |snapshot: &Snapshot|
+        requires { P.can_plan planner.now }
+        ensures { IfOk result (λ planned.
+            P.right planner.entry.now snapshot.now planned.stated planned.proof.items) }
+    { planner.plan(snapshot) };
+    day.row(alloc, &plan, line, log)
+}
+
+/// Takes or refuses the next row of a bank, and appends its lines to the log. It fails only where there is
+/// no memory left.
+fn run_row<P: Planner>(
+    alloc: Global,
+    planner: &P,
+    row: &BankRow,
+    day: &mut Day,
+    log: &mut Vec<u8>,
+) -> Result<RowAnswer, AllocError>
+    requires can_plan { P.can_plan planner.now }
+    requires sound { PlannerLaw (P.right planner.now) }
+    requires number { row_number day.old < 2 ^ 32 }
+    ensures done { IfOk result (IsRowDone (P.right planner.now) day.old (row_said row.now)
+        day.new log.old.items log.new.items) }
+    ensures none_lost { IsTrue (loses_none day.new) }
+    ensures number { OnOk result (row_number day.new ≡ row_number day.old + 1) }
+{
+    match row {
+        BankRow::Fields(line) => run_line(alloc, planner, line.as_slice(), day, log),
+        BankRow::Other => day.long_row(log),
+    }
+}
+
+/// Does what the rows say, one after another, and appends their lines to the log. It fails only where there
+/// is no memory left.
+fn run_rows<P: Planner>(
+    alloc: Global,
+    planner: &P,
+    rows: &[BankRow],
+    day: &mut Day,
+    log: &mut Vec<u8>,
+) -> Result<(), AllocError>
+    requires can_plan { P.can_plan planner.now }
+    requires sound { PlannerLaw (P.right planner.now) }
+    requires few { row_number day.old + length rows.now ≤ 2 ^ 32 }
+    requires none_lost { IsTrue (loses_none day.old) }
+    ensures done { OnOk result (AreRowsAppended (P.right planner.now) day.old rows.now day.new
+        log.old.items log.new.items) }
+    ensures none_lost { IsTrue (loses_none day.new) }
+{
+    for row in rows {
+        run_row(alloc, planner, row, day, log)?;
+    }
+    Ok(())
+}
+
+/// The day of the opening before its first row. It fails only where there is no memory left.
+fn open_day(alloc: Global, opening: &Snapshot) -> Result<Day, AllocError>
+    requires { IsOpeningSnapshot opening.now }
+    ensures day { IfOk result (λ day. day ≡ opening_day opening.now) }
+    ensures none_lost { IfOk result (λ day. IsTrue (loses_none day)) }
+    ensures accepted { IsAccepted opening.now }
+{
+    // For the proof: a reader of the snapshot tells that it keeps the rules.
+    let _moment = opening.now();
+    let day = Day::new(alloc, opening.copy(alloc)?)?;
+    // For the proof: a reader of the day tells that no call is lost.
+    let _unsolved = day.unsolved();
+    Ok(day)
+}
+
+/// Runs the day of the opening over the rows. It fails only where there is no memory left.
+///
+/// It does not ask that threads may share the planner: where it did, no job could call it.
+fn run_day<P: Planner>(
+    alloc: Global,
+    planner: &P,
+    opening: &Snapshot,
+    rows: &[BankRow],
+) -> Result<BankLog, AllocError>
+    requires can_plan { P.can_plan planner.now }
+    requires sound { PlannerLaw (P.right planner.now) }
+    requires opening { IsOpeningSnapshot opening.now }
+    requires few { length rows.now < 2 ^ 32 }
+    ensures { IfOk result (IsDayLog (P.right planner.now) opening.now rows.now) }
+{
+    let mut text = Vec::from_slice(alloc, FIRST_LINE)?;
+    let mut day = open_day(alloc, opening)?;
+    run_rows(alloc, planner, rows, &mut day, &mut text)?;
+    let is_stopped = day.unsolved() > 0;
+    day.finish(alloc, &mut text)?;
+    Ok(BankLog { text, is_stopped })
+}
+
+/// Banks: job `k` is to run the day of bank `k`.
+#[derive(Drop)]
+struct BankJobs<'a, P: Planner + Sync> {
+    alloc: Global,
+    planner: &'a P,
+    banks: &'a [Bank],
+    ghost few: { length banks.now < 2 ^ 32 },
+    ghost are_runnable: { All IsRunnable banks.now },
+}
+
+impl<'a, P: Planner + Sync> Jobs for BankJobs<'a, P> {
+    ghost use Rattle.std.specs.Prelude.{◌≡◌, length, slice_get, Some};
+    ghost use Rattle.day_simulator.specs.Planning.{PlannerLaw};
+    ghost use Rattle.bank_text.specs.declared.banks.Bank.{Bank as BankValue};
+    ghost use Rattle.bank_days.specs.Banks.{IsBankLog};
+
+    type Desk = ();
+
+    type Answer = BankLog;
+
+    ghost number = { λ it. length it.banks.now };
+
+    ghost serves = { λ it desk. P.can_plan it.planner.now × PlannerLaw (P.right it.planner.now) };
+
+    ghost is_right = { λ it k log. (bank : BankValue) → slice_get it.banks.now k ≡ Some bank
+        → IsBankLog (P.right it.planner.now) bank log };
+
+    fn count(&self) -> u32 {
+        self.banks.len() as u32
+    }
+
+    fn work(&self, k: u32, _desk: &mut ()) -> Result<BankLog, AllocError> {
+        let bank = &self.banks[k as usize];
+        run_day(
+            self.alloc,
+            self.planner,
+            &bank.opening,
+            bank.rows.as_slice(),
+        )
+    }
+}
+
+/// Runs the day of each bank over its rows, with 1 to 16 workers: in place `k` stands a log of bank `k`.
+///
+/// Each bank is one job, and rows are numbered in their bank. Each opening has no calls and nobody aboard,
+/// and each bank has fewer than 2^32 rows. `gate` is told of each bank before it begins. It fails only where
+/// there is no memory left.
+pub fn run_banks<P: Planner + Sync, R: Threads + Sync, G: Gate + Sync>(
+    runtime: &Runtime<R, G>,
+    planner: &P,
+    banks: &[Bank],
+    workers: u32,
+) -> Result<Vec<BankLog>, AllocError>
+    requires can_plan { P.can_plan planner.now }
+    requires sound { PlannerLaw (P.right planner.now) }
+    requires few { length banks.now < 2 ^ 32 }
+    requires banks { All IsRunnable banks.now }
+    requires workers { (1 ≤ workers) × (workers ≤ MOST_WORKERS) }
+    ensures { IfOk result (λ logs. AreBankLogs (P.right planner.now) banks.now logs.items) }
+{
+    let jobs = BankJobs {
+        alloc: runtime.alloc,
+        planner,
+        banks,
+    };
+    let mut desks = [(); MOST_DESKS];
+    fan(
+        runtime.threads,
+        runtime.alloc,
+        &jobs,
+        &mut desks[..workers as usize],
+        runtime.gate,
+    )
+}
