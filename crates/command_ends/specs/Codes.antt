@@ -26,3 +26,11 @@ number_of (Item fault) = code_of fault
 -- of the line after which no call is there that can be asked about
 abbrev pub nothing_asked : ℕ
 nothing_asked = 54
+
+-- of the line of a bank with the id of an earlier one
+abbrev pub used_id : ℕ
+used_id = 55
+
+-- of the line of a bank that is one too many
+abbrev pub too_many_banks : ℕ
+too_many_banks = 56

@@ -5,7 +5,7 @@ use Rattle.byte_streams.specs.Streams.{Rose}
 use Rattle.lift_text.specs.Text.{words, line}
 use Rattle.lift_text.specs.declared.faults.TextFault.{TextFault}
 use Rattle.lift_text.specs.declared.faults.TextFault.TheVariants.{Read as FailedRead, TooLong, Bad, NoMemory}
-use Rattle.command_ends.specs.Codes.{nothing_asked, number_of}
+use Rattle.command_ends.specs.Codes.{nothing_asked, number_of, too_many_banks, used_id}
 use Rattle.command_ends.specs.declared.status.Status.{Status}
 use Rattle.command_ends.specs.declared.status.Status.TheVariants.{Done, Words, Stopped, Refused, Input, Read, Write, Memory}
 
@@ -89,6 +89,20 @@ IsNothingAskedLine number text = text ≡ refusal_text number nothing_asked
 
 abbrev pub PutsNothingAsked : (number : ℕ) → (result : Status) → (old new : Option (List ℕ)) → (before after : ℕ) → Type 0
 PutsNothingAsked number result old new before after = PutsLine (IsNothingAskedLine number) result old new before after
+
+-- the line that tells that the bank of this line has the id of an earlier one
+abbrev pub IsUsedIdLine : (number : ℕ) → List ℕ → Type 0
+IsUsedIdLine number text = text ≡ refusal_text number used_id
+
+abbrev pub PutsUsedId : (number : ℕ) → (result : Status) → (old new : Option (List ℕ)) → (before after : ℕ) → Type 0
+PutsUsedId number result old new before after = PutsLine (IsUsedIdLine number) result old new before after
+
+-- the line that tells that the bank of this line is one too many
+abbrev pub IsTooManyBanksLine : (number : ℕ) → List ℕ → Type 0
+IsTooManyBanksLine number text = text ≡ refusal_text number too_many_banks
+
+abbrev pub PutsTooManyBanks : (number : ℕ) → (result : Status) → (old new : Option (List ℕ)) → (before after : ℕ) → Type 0
+PutsTooManyBanks number result old new before after = PutsLine (IsTooManyBanksLine number) result old new before after
 
 -- How an input is answered that was not taken.
 abbrev pub PutsFault : TextFault → (result : Status) → (old new : Option (List ℕ)) → (before after : ℕ) → Type 0

@@ -7,6 +7,12 @@ use lift_text::TextCode;
 /// The number that is printed where a case has no call that can be asked about.
 pub(crate) const NOTHING_ASKED: u8 = 54;
 
+/// The number that is printed where a bank has the id of an earlier one.
+pub(crate) const USED_ID: u8 = 55;
+
+/// The number that is printed where there are more banks than an input may have.
+pub(crate) const TOO_MANY_BANKS: u8 = 56;
+
 /// The number that is printed for what is wrong with a line.
 pub fn number_of(code: TextCode) -> u8
     ensures { result ≡ number_of code }

@@ -1,9 +1,9 @@
 //! Writing what is due.
 ghost use Rattle.std.specs.Prelude.{◌≡◌, ℕ, List, ◌≤◌, IfOk};
 ghost use Rattle.command_ends.specs.Ends.{IsRefusalLine, Puts, PutsFault, PutsLine, PutsNothingAsked};
-ghost use Rattle.command_ends.specs.Ends.{refusal_text};
+ghost use Rattle.command_ends.specs.Ends.{PutsTooManyBanks, PutsUsedId, refusal_text};
 
-use crate::codes::{NOTHING_ASKED, number_of};
+use crate::codes::{NOTHING_ASKED, TOO_MANY_BANKS, USED_ID, number_of};
 use crate::status::Status;
 use byte_streams::{Sink, put_all};
 use lift_text::{TextFault, put_line, put_words};
@@ -66,6 +66,22 @@ pub fn put_nothing_asked<K: Sink>(alloc: Global, line: u64, sink: &mut K) -> Sta
         (K.faults sink.new) }
 {
     put_refusal(alloc, line, NOTHING_ASKED, sink)
+}
+
+/// Writes that the bank of this line has the id of an earlier one. When out of memory, nothing is written.
+pub fn put_used_id<K: Sink>(alloc: Global, line: u64, sink: &mut K) -> Status
+    ensures { PutsUsedId line result (K.taken sink.old) (K.taken sink.new) (K.faults sink.old)
+        (K.faults sink.new) }
+{
+    put_refusal(alloc, line, USED_ID, sink)
+}
+
+/// Writes that the bank of this line is one too many. When out of memory, nothing is written.
+pub fn put_too_many_banks<K: Sink>(alloc: Global, line: u64, sink: &mut K) -> Status
+    ensures { PutsTooManyBanks line result (K.taken sink.old) (K.taken sink.new) (K.faults sink.old)
+        (K.faults sink.new) }
+{
+    put_refusal(alloc, line, TOO_MANY_BANKS, sink)
 }
 
 /// Writes what is wrong with an input. After a failed read, and when out of memory, nothing is written.

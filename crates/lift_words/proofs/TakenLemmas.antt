@@ -14,7 +14,7 @@ use Rattle.lift_words.specs.Taken.{AreTaken, Asks, AsksBy, AsksForBrief, AsksFor
 use Rattle.lift_words.specs.declared.table.CommandWord.{CommandWord}
 use Rattle.lift_words.specs.declared.table.CommandWord.TheVariants as command
 use Rattle.lift_words.specs.declared.request.Request.{Request}
-use Rattle.lift_words.specs.declared.request.Request.TheVariants.{Solve, Check, Day, Report, Make, Run, Table, WhatIf}
+use Rattle.lift_words.specs.declared.request.Request.TheVariants.{Solve, Check, Day, Report, Make, Run, Table, WhatIf, Banks}
 use Rattle.lift_words.specs.declared.request.SolveOptions.{SolveOptions}
 use Rattle.lift_words.specs.declared.request.CheckOptions.{CheckOptions}
 use Rattle.lift_words.specs.declared.request.SearchOptions.{SearchOptions}
@@ -43,8 +43,11 @@ named_word word named is = by_solve (bytes_eq word (codes "solve")) refl is
     names : (command : CommandWord) → bytes_eq word (word_of command) ≡ true → Some command ≡ Some named → word ≡ word_of named
     names command e same = (bytes_eq-Decides word (word_of command)).0 e ∙ ap word_of (only same)
 
+    from_banks : Option CommandWord
+    from_banks = cond (bytes_eq word (codes "banks")) (Some command.Banks) None
+
     from_whatif : Option CommandWord
-    from_whatif = cond (bytes_eq word (codes "whatif")) (Some command.WhatIf) None
+    from_whatif = cond (bytes_eq word (codes "whatif")) (Some command.WhatIf) from_banks
 
     from_table : Option CommandWord
     from_table = cond (bytes_eq word (codes "table")) (Some command.Table) from_whatif
@@ -61,9 +64,13 @@ named_word word named is = by_solve (bytes_eq word (codes "solve")) refl is
     from_check : Option CommandWord
     from_check = cond (bytes_eq word (codes "check")) (Some command.Check) from_day
 
-    by_whatif : (b : Bool) → bytes_eq word (codes "whatif") ≡ b → cond b (Some command.WhatIf) None ≡ Some named → word ≡ word_of named
+    by_banks : (b : Bool) → bytes_eq word (codes "banks") ≡ b → cond b (Some command.Banks) None ≡ Some named → word ≡ word_of named
+    by_banks true e same = names command.Banks e same
+    by_banks false e same = absurd cc
+
+    by_whatif : (b : Bool) → bytes_eq word (codes "whatif") ≡ b → cond b (Some command.WhatIf) from_banks ≡ Some named → word ≡ word_of named
     by_whatif true e same = names command.WhatIf e same
-    by_whatif false e same = absurd cc
+    by_whatif false e same = by_banks (bytes_eq word (codes "banks")) refl same
 
     by_table : (b : Bool) → bytes_eq word (codes "table") ≡ b → cond b (Some command.Table) from_whatif ≡ Some named → word ≡ word_of named
     by_table true e same = names command.Table e same
@@ -101,6 +108,7 @@ word_names command.Report = refl
 word_names command.Make = refl
 word_names command.Table = refl
 word_names command.WhatIf = refl
+word_names command.Banks = refl
 
 -- ---- what is asked
 
@@ -157,6 +165,7 @@ asks_of_one rows (Solve a) (Make b) same x y = absurd cc
 asks_of_one rows (Solve a) (Run b) same x y = absurd cc
 asks_of_one rows (Solve a) Table same x y = absurd cc
 asks_of_one rows (Solve a) (WhatIf b) same x y = absurd cc
+asks_of_one rows (Solve a) (Banks b) same x y = absurd cc
 asks_of_one rows (Check a) (Solve b) same x y = absurd cc
 asks_of_one rows (Check a) (Check b) same x y = ap Check (asks_to_check_one rows a b x y)
 asks_of_one rows (Check a) (Day b) same x y = absurd cc
@@ -165,6 +174,7 @@ asks_of_one rows (Check a) (Make b) same x y = absurd cc
 asks_of_one rows (Check a) (Run b) same x y = absurd cc
 asks_of_one rows (Check a) Table same x y = absurd cc
 asks_of_one rows (Check a) (WhatIf b) same x y = absurd cc
+asks_of_one rows (Check a) (Banks b) same x y = absurd cc
 asks_of_one rows (Day a) (Solve b) same x y = absurd cc
 asks_of_one rows (Day a) (Check b) same x y = absurd cc
 asks_of_one rows (Day a) (Day b) same x y = ap Day (asks_for_search_one rows a b x y)
@@ -173,6 +183,7 @@ asks_of_one rows (Day a) (Make b) same x y = absurd cc
 asks_of_one rows (Day a) (Run b) same x y = absurd cc
 asks_of_one rows (Day a) Table same x y = absurd cc
 asks_of_one rows (Day a) (WhatIf b) same x y = absurd cc
+asks_of_one rows (Day a) (Banks b) same x y = absurd cc
 asks_of_one rows (Report a) (Solve b) same x y = absurd cc
 asks_of_one rows (Report a) (Check b) same x y = absurd cc
 asks_of_one rows (Report a) (Day b) same x y = absurd cc
@@ -181,6 +192,7 @@ asks_of_one rows (Report a) (Make b) same x y = absurd cc
 asks_of_one rows (Report a) (Run b) same x y = absurd cc
 asks_of_one rows (Report a) Table same x y = absurd cc
 asks_of_one rows (Report a) (WhatIf b) same x y = absurd cc
+asks_of_one rows (Report a) (Banks b) same x y = absurd cc
 asks_of_one rows (Make a) (Solve b) same x y = absurd cc
 asks_of_one rows (Make a) (Check b) same x y = absurd cc
 asks_of_one rows (Make a) (Day b) same x y = absurd cc
@@ -189,6 +201,7 @@ asks_of_one rows (Make a) (Make b) same x y = ap Make (asks_for_sizes_one rows a
 asks_of_one rows (Make a) (Run b) same x y = absurd (x.no_run y.run)
 asks_of_one rows (Make a) Table same x y = absurd cc
 asks_of_one rows (Make a) (WhatIf b) same x y = absurd cc
+asks_of_one rows (Make a) (Banks b) same x y = absurd cc
 asks_of_one rows (Run a) (Solve b) same x y = absurd cc
 asks_of_one rows (Run a) (Check b) same x y = absurd cc
 asks_of_one rows (Run a) (Day b) same x y = absurd cc
@@ -197,6 +210,7 @@ asks_of_one rows (Run a) (Make b) same x y = absurd (y.no_run x.run)
 asks_of_one rows (Run a) (Run b) same x y = ap Run (asks_to_run_one rows a b x y)
 asks_of_one rows (Run a) Table same x y = absurd cc
 asks_of_one rows (Run a) (WhatIf b) same x y = absurd cc
+asks_of_one rows (Run a) (Banks b) same x y = absurd cc
 asks_of_one rows Table (Solve b) same x y = absurd cc
 asks_of_one rows Table (Check b) same x y = absurd cc
 asks_of_one rows Table (Day b) same x y = absurd cc
@@ -205,6 +219,7 @@ asks_of_one rows Table (Make b) same x y = absurd cc
 asks_of_one rows Table (Run b) same x y = absurd cc
 asks_of_one rows Table Table same x y = refl
 asks_of_one rows Table (WhatIf b) same x y = absurd cc
+asks_of_one rows Table (Banks b) same x y = absurd cc
 asks_of_one rows (WhatIf a) (Solve b) same x y = absurd cc
 asks_of_one rows (WhatIf a) (Check b) same x y = absurd cc
 asks_of_one rows (WhatIf a) (Day b) same x y = absurd cc
@@ -213,6 +228,16 @@ asks_of_one rows (WhatIf a) (Make b) same x y = absurd cc
 asks_of_one rows (WhatIf a) (Run b) same x y = absurd cc
 asks_of_one rows (WhatIf a) Table same x y = absurd cc
 asks_of_one rows (WhatIf a) (WhatIf b) same x y = ap WhatIf (asks_for_search_one rows a b x y)
+asks_of_one rows (WhatIf a) (Banks b) same x y = absurd cc
+asks_of_one rows (Banks a) (Solve b) same x y = absurd cc
+asks_of_one rows (Banks a) (Check b) same x y = absurd cc
+asks_of_one rows (Banks a) (Day b) same x y = absurd cc
+asks_of_one rows (Banks a) (Report b) same x y = absurd cc
+asks_of_one rows (Banks a) (Make b) same x y = absurd cc
+asks_of_one rows (Banks a) (Run b) same x y = absurd cc
+asks_of_one rows (Banks a) Table same x y = absurd cc
+asks_of_one rows (Banks a) (WhatIf b) same x y = absurd cc
+asks_of_one rows (Banks a) (Banks b) same x y = ap Banks (asks_for_search_one rows a b x y)
 
 pub asks_one : (named : CommandWord) (rows : List Row) (a b : Request) → AsksBy named rows a → AsksBy named rows b → a ≡ b
 asks_one named rows a b x y = asks_of_one rows a b (x.0 ∙ sym y.0) x.1 y.1

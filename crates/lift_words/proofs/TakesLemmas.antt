@@ -20,7 +20,7 @@ use Rattle.clap.proofs.OnLiterals.{clap_on_literals}
 use Rattle.lift_words.specs.Table.{app}
 use Rattle.lift_words.proofs.ParseLemmas.{simple}
 use Rattle.lift_words.specs.declared.table.CommandWord.{CommandWord}
-use Rattle.lift_words.specs.declared.table.CommandWord.TheVariants.{Solve, Check, Day, Report, Make, Table, WhatIf}
+use Rattle.lift_words.specs.declared.table.CommandWord.TheVariants.{Solve, Check, Day, Report, Make, Table, WhatIf, Banks}
 use Rattle.clap.specs.declared.builder.action.ArgAction.{ArgAction}
 use Rattle.clap.specs.declared.builder.action.ArgAction.TheVariants as action
 use Rattle.clap.specs.declared.builder.value_parser.ValueParser.{ValueParser}
@@ -298,6 +298,7 @@ no_subcommand Report = refl
 no_subcommand Make = refl
 no_subcommand Table = refl
 no_subcommand WhatIf = refl
+no_subcommand Banks = refl
 
 defaults_pass : (command : CommandWord) → list_all default_passes (built (app command)).top.rules ≡ true
 unfolding clap_on_literals
@@ -308,6 +309,7 @@ defaults_pass Report = refl
 defaults_pass Make = refl
 defaults_pass Table = refl
 defaults_pass WhatIf = refl
+defaults_pass Banks = refl
 
 is_free : (command : CommandWord) → list_all (λ a. a.is_free) (built (app command)).top.rules ≡ true
 unfolding clap_on_literals
@@ -318,6 +320,7 @@ is_free Report = refl
 is_free Make = refl
 is_free Table = refl
 is_free WhatIf = refl
+is_free Banks = refl
 
 -- where `clap` finds no fault in the words of a command, it takes them
 pub takes_where_no_fault : (command : CommandWord) (words : List Text) → fault_of (app command) words ≡ [] → takes (app command) words ≡ true

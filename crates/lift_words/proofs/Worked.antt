@@ -7,7 +7,7 @@ use Rattle.clap.specs.Walk.{Text}
 use Rattle.lift_words.specs.Repeats.{IsRepeated, Repeats}
 use Rattle.lift_words.specs.Taken.{AreTaken}
 use Rattle.lift_words.specs.declared.request.Request.{Request}
-use Rattle.lift_words.specs.declared.request.Request.TheVariants.{Solve, Check, Day, Report, Make, Run, Table, WhatIf}
+use Rattle.lift_words.specs.declared.request.Request.TheVariants.{Solve, Check, Day, Report, Make, Run, Table, WhatIf, Banks}
 
 -- one word alone repeats none
 alone : (word : Text) → IsRepeated (word ∷ []) → ⊥
@@ -152,6 +152,7 @@ table_with_a_word (Make sizes) t = let other = t.command in absurd cc
 table_with_a_word (Run options) t = let other = t.command in absurd cc
 table_with_a_word Table t = let refused = t.accepted in absurd cc
 table_with_a_word (WhatIf options) t = let other = t.command in absurd cc
+table_with_a_word (Banks options) t = let bytes : 116 ≡ 98 = ap first_byte t.command in absurd (omega (arith, bytes))
 
 pub whatif_of_five_moves : AreTaken (codes "lift" ∷ codes "whatif" ∷ codes "--moves=5" ∷ []) (WhatIf (record { rounds = 2000; moves = 5; workers = 1 }))
 unfolding clap_on_literals
@@ -177,6 +178,21 @@ brief_whatif (Make sizes) t = let other = t.command in absurd cc
 brief_whatif (Run options) t = let other = t.command in absurd cc
 brief_whatif Table t = let other = t.command in absurd cc
 brief_whatif (WhatIf options) t = let refused = t.accepted in absurd cc
+brief_whatif (Banks options) t = let other = t.command in absurd cc
+
+pub banks_of_three_workers : AreTaken (codes "lift" ∷ codes "banks" ∷ codes "--workers=3" ∷ []) (Banks (record { rounds = 2000; moves = 75000; workers = 3 }))
+unfolding clap_on_literals
+banks_of_three_workers = record {
+  command = refl;
+  unrepeated = alone (codes "--workers=3");
+  no_dashes = only;
+  accepted = refl;
+  asks = record { rounds = refl; moves = refl; workers = refl };
+}
+  where
+    only : Contains (codes "--workers=3" ∷ []) (codes "--") → ⊥
+    only (zero, lt, same) = absurd cc
+    only (suc k, lt, same) = absurd (omega arith)
 
 pub check_of_rounds : (request : Request) → AreTaken (codes "lift" ∷ codes "check" ∷ codes "--rounds=5" ∷ []) request → ⊥
 unfolding clap_on_literals
@@ -188,6 +204,7 @@ check_of_rounds (Make sizes) t = let other = t.command in absurd cc
 check_of_rounds (Run options) t = let other = t.command in absurd cc
 check_of_rounds Table t = let bytes : 99 ≡ 116 = ap first_byte t.command in absurd (omega (arith, bytes))
 check_of_rounds (WhatIf options) t = let other = t.command in absurd cc
+check_of_rounds (Banks options) t = let bytes : 99 ≡ 98 = ap first_byte t.command in absurd (omega (arith, bytes))
 
 pub no_rounds : (request : Request) → AreTaken (codes "lift" ∷ codes "solve" ∷ codes "--brief" ∷ codes "--rounds" ∷ codes "0" ∷ []) request → ⊥
 unfolding clap_on_literals
@@ -199,6 +216,7 @@ no_rounds (Make sizes) t = let other = t.command in absurd cc
 no_rounds (Run options) t = let other = t.command in absurd cc
 no_rounds Table t = let bytes : 115 ≡ 116 = ap first_byte t.command in absurd (omega (arith, bytes))
 no_rounds (WhatIf options) t = let other = t.command in absurd cc
+no_rounds (Banks options) t = let bytes : 115 ≡ 98 = ap first_byte t.command in absurd (omega (arith, bytes))
 
 pub shortened : (request : Request) → AreTaken (codes "lift" ∷ codes "make" ∷ codes "--floor" ∷ codes "4" ∷ []) request → ⊥
 unfolding clap_on_literals
@@ -210,6 +228,7 @@ shortened (Solve options) t = let other = t.command in absurd cc
 shortened (Run options) t = let refused = t.accepted in absurd cc
 shortened Table t = let other = t.command in absurd cc
 shortened (WhatIf options) t = let other = t.command in absurd cc
+shortened (Banks options) t = let other = t.command in absurd cc
 
 pub brief_day : (request : Request) → AreTaken (codes "lift" ∷ codes "day" ∷ codes "--brief" ∷ []) request → ⊥
 unfolding clap_on_literals
@@ -221,6 +240,7 @@ brief_day (Make sizes) t = let other = t.command in absurd cc
 brief_day (Run options) t = let other = t.command in absurd cc
 brief_day Table t = let other = t.command in absurd cc
 brief_day (WhatIf options) t = let other = t.command in absurd cc
+brief_day (Banks options) t = let other = t.command in absurd cc
 
 pub report_by_many : (request : Request) → AreTaken (codes "lift" ∷ codes "report" ∷ codes "--workers=17" ∷ []) request → ⊥
 unfolding clap_on_literals
@@ -232,6 +252,7 @@ report_by_many (Make sizes) t = let other = t.command in absurd cc
 report_by_many (Run options) t = let other = t.command in absurd cc
 report_by_many Table t = let other = t.command in absurd cc
 report_by_many (WhatIf options) t = let bytes : 114 ≡ 119 = ap first_byte t.command in absurd (omega (arith, bytes))
+report_by_many (Banks options) t = let other = t.command in absurd cc
 
 pub run_of_no_rounds : (request : Request) → AreTaken (codes "lift" ∷ codes "make" ∷ codes "--rounds" ∷ codes "0" ∷ []) request → ⊥
 unfolding clap_on_literals
@@ -243,6 +264,7 @@ run_of_no_rounds (Solve options) t = let other = t.command in absurd cc
 run_of_no_rounds (Run options) t = let none = t.asks.rounds in absurd cc
 run_of_no_rounds Table t = let other = t.command in absurd cc
 run_of_no_rounds (WhatIf options) t = let other = t.command in absurd cc
+run_of_no_rounds (Banks options) t = let other = t.command in absurd cc
 
 pub run_with_value : (request : Request) → AreTaken (codes "lift" ∷ codes "make" ∷ codes "--run=1" ∷ []) request → ⊥
 unfolding clap_on_literals
@@ -254,6 +276,7 @@ run_with_value (Solve options) t = let other = t.command in absurd cc
 run_with_value (Run options) t = let refused = t.accepted in absurd cc
 run_with_value Table t = let other = t.command in absurd cc
 run_with_value (WhatIf options) t = let other = t.command in absurd cc
+run_with_value (Banks options) t = let other = t.command in absurd cc
 
 pub brief_twice : (request : Request) → AreTaken (codes "lift" ∷ codes "solve" ∷ codes "--brief" ∷ codes "--brief" ∷ []) request → ⊥
 brief_twice request t = t.unrepeated (record { first = 0; second = 1; order = lit< tt; within = lit< tt; repeats = record { first_option = refl; second_option = refl; same = refl } })

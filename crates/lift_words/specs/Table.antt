@@ -6,7 +6,7 @@ use Rattle.clap.specs.Walk.{Rule, Text}
 use Rattle.clap.specs.Simple.{App, new_app, new_rule, with_rule}
 use Rattle.clap.specs.declared.builder.action.ArgAction.TheVariants.{SetTrue}
 use Rattle.lift_words.specs.declared.table.CommandWord.{CommandWord}
-use Rattle.lift_words.specs.declared.table.CommandWord.TheVariants.{Solve, Check, Day, Report, Make, Table, WhatIf}
+use Rattle.lift_words.specs.declared.table.CommandWord.TheVariants.{Solve, Check, Day, Report, Make, Table, WhatIf, Banks}
 use Rattle.lift_words.specs.declared.table.NumberOption.{NumberOption}
 use Rattle.lift_words.specs.declared.table.NumberOption.TheVariants.{Rounds, Moves, Claims, Workers, Number, Floors, Cars, Calls}
 use Rattle.lift_words.specs.declared.table.Setting.{Setting}
@@ -40,6 +40,7 @@ word_of Report = codes "report"
 word_of Make = codes "make"
 word_of Table = codes "table"
 word_of WhatIf = codes "whatif"
+word_of Banks = codes "banks"
 
 -- the command that a word names
 abbrev pub command_of : Text → Option CommandWord
@@ -49,7 +50,8 @@ command_of word = if bytes_eq word (codes "solve") then Some Solve
     else (if bytes_eq word (codes "report") then Some Report
     else (if bytes_eq word (codes "make") then Some Make
     else (if bytes_eq word (codes "table") then Some Table
-    else (if bytes_eq word (codes "whatif") then Some WhatIf else None))))))
+    else (if bytes_eq word (codes "whatif") then Some WhatIf
+    else (if bytes_eq word (codes "banks") then Some Banks else None)))))))
 
 -- the options of a command that take a number
 abbrev pub numbers_of : CommandWord → List NumberOption
@@ -60,6 +62,7 @@ numbers_of Report = Rounds ∷ Moves ∷ Workers ∷ []
 numbers_of Make = Number ∷ Floors ∷ Cars ∷ Calls ∷ Rounds ∷ Moves ∷ []
 numbers_of Table = []
 numbers_of WhatIf = Rounds ∷ Moves ∷ Workers ∷ []
+numbers_of Banks = Rounds ∷ Moves ∷ Workers ∷ []
 
 -- and those that take no value
 abbrev pub flags_of : CommandWord → List Text
@@ -70,6 +73,7 @@ flags_of Report = []
 flags_of Make = codes "run" ∷ []
 flags_of Table = []
 flags_of WhatIf = []
+flags_of Banks = []
 
 -- ---- as `clap` sees it: long options alone, each with one value, and flags
 

@@ -12,7 +12,7 @@ use Rattle.lift_words.specs.declared.table.CommandWord.TheVariants as command
 use Rattle.lift_words.specs.declared.table.NumberOption.{NumberOption}
 use Rattle.lift_words.specs.declared.table.NumberOption.TheVariants.{Rounds, Moves, Claims, Workers, Number, Floors, Cars, Calls}
 use Rattle.lift_words.specs.declared.request.Request.{Request}
-use Rattle.lift_words.specs.declared.request.Request.TheVariants.{Solve, Check, Day, Report, Make, Run, Table, WhatIf}
+use Rattle.lift_words.specs.declared.request.Request.TheVariants.{Solve, Check, Day, Report, Make, Run, Table, WhatIf, Banks}
 use Rattle.lift_words.specs.declared.request.SolveOptions.{SolveOptions}
 use Rattle.lift_words.specs.declared.request.CheckOptions.{CheckOptions}
 use Rattle.lift_words.specs.declared.request.SearchOptions.{SearchOptions}
@@ -49,7 +49,7 @@ pub record AsksToSolve (rows : List Row) (options : SolveOptions) : Type 0 where
 abbrev pub AsksToCheck : List Row → CheckOptions → Type 0
 AsksToCheck rows options = number_of rows Workers ≡ Some options.workers
 
--- by the words of `day`, `report` or `whatif`
+-- by the words of `day`, `report`, `whatif` or `banks`
 pub record AsksForSearch (rows : List Row) (options : SearchOptions) : Type 0 where
   pub rounds : number_of rows Rounds ≡ Some options.rounds
   pub moves : number_of rows Moves ≡ Some options.moves
@@ -87,6 +87,7 @@ command_asked (Make sizes) = command.Make
 command_asked (Run options) = command.Make
 command_asked Table = command.Table
 command_asked (WhatIf options) = command.WhatIf
+command_asked (Banks options) = command.Banks
 
 abbrev pub Asks : List Row → Request → Type 0
 Asks rows (Solve options) = AsksToSolve rows options
@@ -97,6 +98,7 @@ Asks rows (Make sizes) = AsksToMake rows sizes
 Asks rows (Run options) = AsksToRun rows options
 Asks rows Table = Unit {0}
 Asks rows (WhatIf options) = AsksForSearch rows options
+Asks rows (Banks options) = AsksForSearch rows options
 
 -- the request is one of this command, and has the numbers that were found
 abbrev pub AsksBy : CommandWord → List Row → Request → Type 0
@@ -163,3 +165,4 @@ IsWithin (Make sizes) = AreCaseSizes sizes
 IsWithin (Run options) = AreRunOptions options
 IsWithin Table = Unit {0}
 IsWithin (WhatIf options) = AreSearchOptions options
+IsWithin (Banks options) = AreSearchOptions options

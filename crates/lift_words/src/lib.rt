@@ -6,8 +6,8 @@
 //!   options and `clap`'s own statement; refuses exactly the words that are not taken (`AreTaken`, in
 //!   `specs/Taken.antt`); or is out of memory.
 //!
-//! A request is `Solve`, `Day`, `Report` or `WhatIf` with its limits, `Check` with its workers, `Make` with
-//! its sizes, `Run` (`make --run`) with sizes and limits, or `Table`. Words are taken where the second is a
+//! A request is `Solve`, `Day`, `Report`, `WhatIf` or `Banks` with its limits, `Check` with its workers, `Make`
+//! with its sizes, `Run` (`make --run`) with sizes and limits, or `Table`. Words are taken where the second is a
 //! command, no option is repeated and no word is `--` alone, `clap`'s own statement for the command's row of
 //! the table (`takes`) holds of the words, and each value is a number word in its range. The request has the
 //! values, or the defaults of the table (`specs/Table.antt`), and the words make no other one.

@@ -70,6 +70,7 @@ fn asked(command: CommandWord, matches: &ArgMatches<'_>) -> Option<Request>
         CommandWord::Make => asked_of_make(matches),
         CommandWord::Table => Some(Request::Table),
         CommandWord::WhatIf => Some(Request::WhatIf(search_options(matches)?)),
+        CommandWord::Banks => Some(Request::Banks(search_options(matches)?)),
     }
 }
 
@@ -101,7 +102,7 @@ fn check_options(matches: &ArgMatches<'_>) -> Option<CheckOptions>
     })
 }
 
-/// The options of `day`, `report` and `whatif`.
+/// The options of `day`, `report`, `whatif` and `banks`.
 fn search_options(matches: &ArgMatches<'_>) -> Option<SearchOptions>
     ensures asked { let rows = rows_of (found_of matches.now) in
         ExactlyWhere (AsksForSearch rows) result }

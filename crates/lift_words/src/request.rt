@@ -26,6 +26,8 @@ pub enum Request {
     Table,
     /// `whatif`: it is to be said what the last call of the input costs with each car.
     WhatIf(SearchOptions),
+    /// `banks`: the days of several banks of cars of the input are to be run.
+    Banks(SearchOptions),
 }
 
 /// The options of `solve`.
@@ -50,7 +52,7 @@ pub struct CheckOptions {
     pub workers: u32,
 }
 
-/// The options of `day`, `report` and `whatif`: the limits of each search, and the workers.
+/// The options of `day`, `report`, `whatif` and `banks`: the limits of each search, and the workers.
 #[derive(Clone, Copy)]
 pub struct SearchOptions {
     /// `--rounds`: at most this many rounds, 1 to 10^18. The default is 2000.

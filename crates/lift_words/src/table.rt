@@ -14,6 +14,7 @@ pub(crate) enum CommandWord {
     Make,
     Table,
     WhatIf,
+    Banks,
 }
 
 /// An option that takes a number.
@@ -55,6 +56,7 @@ impl CommandWord {
             "make" => Some(CommandWord::Make),
             "table" => Some(CommandWord::Table),
             "whatif" => Some(CommandWord::WhatIf),
+            "banks" => Some(CommandWord::Banks),
             _ => None,
         }
     }
@@ -71,6 +73,7 @@ impl CommandWord {
             CommandWord::Make => "make",
             CommandWord::Table => "table",
             CommandWord::WhatIf => "whatif",
+            CommandWord::Banks => "banks",
         }
     }
 
@@ -85,7 +88,7 @@ impl CommandWord {
                 NumberOption::Workers,
                 NumberOption::Claims,
             ],
-            CommandWord::Day | CommandWord::Report | CommandWord::WhatIf => &[
+            CommandWord::Day | CommandWord::Report | CommandWord::WhatIf | CommandWord::Banks => &[
                 NumberOption::Rounds,
                 NumberOption::Moves,
                 NumberOption::Workers,
@@ -113,7 +116,8 @@ impl CommandWord {
             | CommandWord::Day
             | CommandWord::Report
             | CommandWord::Table
-            | CommandWord::WhatIf => &[],
+            | CommandWord::WhatIf
+            | CommandWord::Banks => &[],
             CommandWord::Make => &["run"],
         }
     }
