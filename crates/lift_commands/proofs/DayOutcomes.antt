@@ -22,7 +22,8 @@ use Rattle.command_ends.specs.declared.status.Status.TheVariants.{Done, Stopped,
 use Rattle.command_ends.specs.Ends.{Streams, Puts, PutsFault, PutsRefusal, IsRefusalLine}
 use Rattle.command_ends.proofs.EndLemmas.{ends_fault, ends_put, put_whole}
 use Rattle.lift_text.specs.Shows.{FaultShows}
-use Rattle.lift_commands.specs.DayOutcome.{IsSolvedRow, RanBy, ToldBy, DayDone, DayEnds, PutsRowsFault, ReportDue, ReportsDay, RunsDay, status_of_unsolved}
+use Rattle.day_planner.specs.SolvedRows.{IsSolvedRow}
+use Rattle.lift_commands.specs.DayOutcome.{RanBy, ToldBy, DayDone, DayEnds, PutsRowsFault, ReportDue, ReportsDay, RunsDay, status_of_unsolved}
 use Rattle.lift_commands.proofs.EnoughRows.{stopped-day}
 use Rattle.lift_commands.proofs.KeptRows.{ran-within}
 use Rattle.lift_commands.proofs.Outcomes.{ran_out_of_memory}
@@ -32,7 +33,7 @@ BeginsDay old = IsSomeAnd (option_map whole_text old.left) IsDayText
 
 -- a day was run, with what is right at each row
 abbrev RanRight : SearchOptions → (left left' taken taken' : Option (List ℕ)) → Result Ended RunFault → Type 0
-RanRight options left left' taken taken' result = DayRan (IsSolvedRow options) (option_map whole_text left) left' taken taken' result
+RanRight options left left' taken taken' result = DayRan (IsSolvedRow options.rounds options.moves) (option_map whole_text left) left' taken taken' result
 
 -- ---- `day`
 

@@ -19,7 +19,8 @@ use Rattle.day_runner.specs.declared.days.Ended.{Ended}
 use Rattle.lift_words.specs.declared.request.SearchOptions.{SearchOptions}
 use Rattle.command_ends.specs.declared.status.Status.TheVariants.{Stopped}
 use Rattle.lift_commands.specs.DayRows.{IsStoppedIn}
-use Rattle.lift_commands.specs.DayOutcome.{AreEnoughFor, IsDayStopped, IsSolvedRow, status_of_unsolved}
+use Rattle.day_planner.specs.SolvedRows.{AreEnoughFor, IsSolvedRow}
+use Rattle.lift_commands.specs.DayOutcome.{IsDayStopped, status_of_unsolved}
 
 less-self : (n : ℕ) → n < n → ⊥
 less-self n h = absurd (omega (arith, h))
@@ -117,9 +118,9 @@ module _ (right : Right) (AreEnough : Snapshot → Type 0) (law : (s : Snapshot)
 -- ---- the day
 
 -- what a search answers within limits that are enough has a bound that is its cost
-not-enough : (options : SearchOptions) (s : Snapshot) (stated : Stated) (proof : List ℕ) → IsSolvedRow options s stated proof → stated.bound < stated.cost → AreEnoughFor options s → ⊥
+not-enough : (options : SearchOptions) (s : Snapshot) (stated : Stated) (proof : List ℕ) → IsSolvedRow options.rounds options.moves s stated proof → stated.bound < stated.cost → AreEnoughFor options.rounds options.moves s → ⊥
 not-enough options s stated proof row below enough =
-    let why = row.enough enough.rounds enough.moves in
+    let why = row.enough enough.rounds_are enough.moves_are in
     let equal : stated.cost ≡ stated.bound = subst (λ (w : StopReason). IsReason s options.rounds options.moves stated.cost stated.bound row.tree w) why row.answer.reason in
     less-self stated.bound (subst (λ (n : ℕ). stated.bound < n) equal below)
 
@@ -127,6 +128,6 @@ some-unsolved : (n : ℕ) → status_of_unsolved n ≡ Stopped → 0 < n
 some-unsolved zero is = absurd cc
 some-unsolved (suc n) is = omega arith
 
-pub stopped-day : (options : SearchOptions) (before : Option TextState) (left taken taken' : Option (List ℕ)) (ended : Ended) (ran : DayRan (IsSolvedRow options) before left taken taken' (Ok ended)) → status_of_unsolved ended.unsolved ≡ Stopped → IsDayStopped ran
+pub stopped-day : (options : SearchOptions) (before : Option TextState) (left taken taken' : Option (List ℕ)) (ended : Ended) (ran : DayRan (IsSolvedRow options.rounds options.moves) before left taken taken' (Ok ended)) → status_of_unsolved ended.unsolved ≡ Stopped → IsDayStopped ran
 stopped-day options before left taken taken' ended ran is =
-    stopped-in (IsSolvedRow options) (AreEnoughFor options) (not-enough options) (opening_day ran.opening) (rows_of ran.ran.passed) ran.ran.day ran.ran.text ran.ran.done (subst (λ (n : ℕ). 0 < n) ran.ran.wrote.2 (some-unsolved ended.unsolved is))
+    stopped-in (IsSolvedRow options.rounds options.moves) (AreEnoughFor options.rounds options.moves) (not-enough options) (opening_day ran.opening) (rows_of ran.ran.passed) ran.ran.day ran.ran.text ran.ran.done (subst (λ (n : ℕ). 0 < n) ran.ran.wrote.2 (some-unsolved ended.unsolved is))

@@ -1,5 +1,5 @@
 -- After each row of a day that was done no accepted call is lost.
-use Rattle.std.proofs.Common.{◌≡◌, ℕ, ◌+◌, ◌-◌, ◌<◌, ◌≤◌, ◌^◌, Bool, true, false, cond, ltb, List, [], ◌∷◌, length, take, drop, take-append-drop, length-append, refl, sym, ap, ◌∙◌, subst, inl, inr, arith, Option, Some, None, Result, Ok}
+use Rattle.std.proofs.Common.{◌≡◌, ℕ, ◌+◌, ◌-◌, ◌<◌, ◌≤◌, ◌^◌, Bool, true, false, cond, ltb, List, [], ◌∷◌, length, take, drop, take-append-drop, length-append, refl, sym, ap, ◌∙◌, subst, arith, Option, Some, None, Result, Ok}
 use Rattle.std.specs.Prelude.{IfSome, IsSomeAnd, option_map}
 use Rattle.std.specs.List.{concat}
 use Rattle.std.proofs.lemmas.List.Folds.{concat-append}
@@ -12,8 +12,8 @@ use Rattle.lift_text.specs.Lines.{line_of, pieces_of}
 use Rattle.lift_text.specs.Reading.{Passed, TextState, line_limit, whole_text}
 use Rattle.text_sections.specs.Sections.{Line}
 use Rattle.text_sections.specs.Between.{AreBetween}
-use Rattle.opening_text.specs.Headers.{HeaderFirst}
 use Rattle.opening_text.specs.DayOpenings.{DayOpeningInFront}
+use Rattle.opening_text.proofs.OpeningLemmas.{limit_of_rows}
 use Rattle.opening_text.proofs.PieceLemmas.{joined_again}
 use Rattle.day_state.specs.Openings.{IsOpeningSnapshot}
 use Rattle.day_state.proofs.OpeningLaws.{opening-feasible}
@@ -29,7 +29,8 @@ use Rattle.day_runner.specs.declared.days.Ended.{Ended}
 use Rattle.day_runner.specs.declared.rows.RunFault.{RunFault}
 use Rattle.lift_words.specs.declared.request.SearchOptions.{SearchOptions}
 use Rattle.lift_commands.specs.DayRows.{AreRowsKept}
-use Rattle.lift_commands.specs.DayOutcome.{IsSolvedRow, RanWithin}
+use Rattle.day_planner.specs.SolvedRows.{IsSolvedRow}
+use Rattle.lift_commands.specs.DayOutcome.{RanWithin}
 
 -- ---- how many rows there are
 
@@ -86,16 +87,11 @@ limit-between before (words ∷ lines) behind between =
     let rest = limit-between between.0 lines behind between.2 in
     omega (arith, here, rest)
 
-limit-behind-header : (line limit : ℕ) (pieces : List (List ℕ)) (behind : TextState) → HeaderFirst line limit pieces behind → behind.limit ≤ limit
-limit-behind-header line limit [] behind first = absurd first
-limit-behind-header line limit (piece ∷ pieces) behind first =
-    elim first.1 [ inl empty ↦ (let rest = limit-behind-header (line + 1) (limit - length piece) pieces behind empty.1 in omega (arith, rest)) | inr header ↦ (let rest = header.1.limit_is in omega (arith, rest)) ]
-
 limit-in-front : (text : TextState) (opening : Snapshot) (rows : TextState) → DayOpeningInFront text opening rows → rows.limit ≤ text.limit
 limit-in-front text opening rows front =
     let building = limit-between text front.building.0 front.above front.building.1 in
     let snapshot = limit-between front.above front.snapshot.0 front.between front.snapshot.1 in
-    let header = limit-behind-header front.between.line front.between.limit (pieces_of front.between.bytes) rows front.header in
+    let header = limit_of_rows text opening rows front in
     omega (arith, building, snapshot, header)
 
 -- ---- what holds of the days
@@ -134,20 +130,20 @@ opening-kept text opening rows front =
     opening-stands opening stands.accepted is_opening (opening-feasible opening stands.accepted is_opening)
 
 kept-from : (options : SearchOptions) (input : List ℕ) (opening : Snapshot) (rows : Option TextState) (passed behind : List (List ℕ)) (Reads : TextState → Type 0) (day : Day) (text : List ℕ)
-    → IsSomeAnd rows (DayOpeningInFront (whole_text input) opening) → IfSome rows (λ from. ReadLines from passed behind × Reads from) → AreRowsDone (IsSolvedRow options) (opening_day opening) (rows_of passed) day text
-    → AreRowsKept (IsSolvedRow options) (opening_day opening) (rows_of passed) day text
+    → IsSomeAnd rows (DayOpeningInFront (whole_text input) opening) → IfSome rows (λ from. ReadLines from passed behind × Reads from) → AreRowsDone (IsSolvedRow options.rounds options.moves) (opening_day opening) (rows_of passed) day text
+    → AreRowsKept (IsSolvedRow options.rounds options.moves) (opening_day opening) (rows_of passed) day text
 kept-from options input opening None passed behind Reads day text begins read done = absurd begins
 kept-from options input opening (Some from) passed behind Reads day text begins read done =
     let limit = limit-in-front (whole_text input) opening from begins in
     let short = read.0.short in
     let count = rows-of-bytes passed in
-    kept-rows (IsSolvedRow options) (λ s stated proof row. (row.accepted, row.right_plan.feasible)) (opening_day opening) (rows_of passed) day text (opening-kept (whole_text input) opening from begins) (omega (arith, limit, short, count)) done
+    kept-rows (IsSolvedRow options.rounds options.moves) (λ s stated proof row. (row.accepted, row.right_plan.feasible)) (opening_day opening) (rows_of passed) day text (opening-kept (whole_text input) opening from begins) (omega (arith, limit, short, count)) done
 
-pub kept-day : (options : SearchOptions) (left left' taken taken' : Option (List ℕ)) (result : Result Ended RunFault) (ran : DayRan (IsSolvedRow options) (option_map whole_text left) left' taken taken' result)
-    → IfSome left (λ input. AreRowsKept (IsSolvedRow options) (opening_day ran.opening) (rows_of ran.ran.passed) ran.ran.day ran.ran.text)
+pub kept-day : (options : SearchOptions) (left left' taken taken' : Option (List ℕ)) (result : Result Ended RunFault) (ran : DayRan (IsSolvedRow options.rounds options.moves) (option_map whole_text left) left' taken taken' result)
+    → IfSome left (λ input. AreRowsKept (IsSolvedRow options.rounds options.moves) (opening_day ran.opening) (rows_of ran.ran.passed) ran.ran.day ran.ran.text)
 kept-day options None left' taken taken' result ran = tt
 kept-day options (Some input) left' taken taken' result ran =
     kept-from options input ran.opening ran.rows ran.ran.passed ran.ran.behind (λ from. ReadsDay result from ran.ran.passed ran.ran.behind left') ran.ran.day ran.ran.text ran.read ran.ran.read ran.ran.done
 
-abbrev pub ran-within : (options : SearchOptions) (left left' taken taken' : Option (List ℕ)) (result : Result Ended RunFault) → DayRan (IsSolvedRow options) (option_map whole_text left) left' taken taken' result → RanWithin options left left' taken taken' result
+abbrev pub ran-within : (options : SearchOptions) (left left' taken taken' : Option (List ℕ)) (result : Result Ended RunFault) → DayRan (IsSolvedRow options.rounds options.moves) (option_map whole_text left) left' taken taken' result → RanWithin options left left' taken taken' result
 ran-within options left left' taken taken' result ran = record { ran = ran; kept = kept-day options left left' taken taken' result ran }

@@ -8,7 +8,6 @@ pub mod SaidYes
 pub mod Printed
 pub mod Enough
 pub mod Verdicts
-pub mod SolvedRows
 pub mod EnoughRows
 pub mod KeptRows
 pub mod DayOutcomes

@@ -1,24 +1,16 @@
 -- What `day` and `report` leave: what was read and written, and why it ended.
-use Rattle.std.specs.Prelude.{◌≡◌, ℕ, ◌≤◌, ◌⊎◌, List, [], length, take, zero, suc, Option, None, IfSome, IsSomeAnd, option_map, Result, Ok, Err}
+use Rattle.std.specs.Prelude.{◌≡◌, ℕ, ◌≤◌, ◌⊎◌, List, length, take, zero, suc, Option, None, IfSome, IsSomeAnd, option_map, Result, Ok, Err}
 use Rattle.std.specs.Io.KnownBytes.{append_known}
-use Rattle.elevator_model.specs.Snapshot.{Snapshot, IsAccepted}
 use Rattle.byte_streams.specs.Streams.{Rose}
 use Rattle.lift_text.specs.Reading.{TextState, whole_text}
 use Rattle.lift_text.specs.Shows.{FaultShows}
 use Rattle.lift_text.specs.declared.faults.TextFault.{TextFault}
 use Rattle.lift_text.specs.declared.faults.TextFault.TheVariants.{TooLong as LongText}
 use Rattle.opening_text.specs.DayOpenings.{HoldsNoOpening, IsDayOpeningRefused}
-use Rattle.search_model.specs.declared.Stated.{Stated}
-use Rattle.search_model.specs.declared.Twig.{Twig}
-use Rattle.search_model.specs.declared.Turn.{Turn}
-use Rattle.search_model.specs.declared.StopReason.{StopReason}
-use Rattle.search_model.specs.declared.StopReason.TheVariants.{Solved}
-use Rattle.search_model.specs.Solving.{IsSolveAnswer}
-use Rattle.day_simulator.specs.Planning.{IsRightPlan}
-use Rattle.search_model.specs.Verdicts.{rounds_enough, moves_enough}
 use Rattle.search_model.specs.Days.{opening_day}
 use Rattle.search_model.specs.Reports.{report_of}
 use Rattle.service_report.specs.ReportTexts.{report_text}
+use Rattle.day_planner.specs.SolvedRows.{AreEnoughFor, IsSolvedRow}
 use Rattle.day_runner.specs.Runs.{rows_of}
 use Rattle.day_runner.specs.Inputs.{DayRan, IsDayText}
 use Rattle.day_runner.specs.declared.days.Ended.{Ended}
@@ -32,25 +24,6 @@ use Rattle.command_ends.specs.declared.status.Status.{Status}
 use Rattle.command_ends.specs.declared.status.Status.TheVariants.{Done, Words, Stopped, Refused, Input, Read, Write, Memory}
 use Rattle.lift_commands.specs.DayRows.{AreRowsKept, IsStoppedIn}
 
--- ---- plans
-
--- A right plan of an accepted snapshot, its cost and a bound as a search answers them within these limits, written in full.
--- Where the limits are enough for the snapshot, none was reached.
-pub record IsSolvedRow (options : SearchOptions) (s : Snapshot) (stated : Stated) (proof : List ℕ) : Type 0 where
-  pub accepted : IsAccepted s
-  pub right_plan : IsRightPlan s stated
-  pub written : proof ≡ []
-  pub tree : List Twig
-  pub turns : List Turn
-  pub why : StopReason
-  pub answer : IsSolveAnswer s options.rounds options.moves stated.plan stated.cost stated.bound tree turns why
-  pub enough : rounds_enough s ≤ options.rounds → moves_enough s ≤ options.moves → why ≡ Solved
-
--- the limits are enough for a search of the snapshot
-pub record AreEnoughFor (options : SearchOptions) (s : Snapshot) : Type 0 where
-  pub rounds : rounds_enough s ≤ options.rounds
-  pub moves : moves_enough s ≤ options.moves
-
 -- ---- days
 
 abbrev pub status_of_unsolved : ℕ → Status
@@ -58,8 +31,8 @@ status_of_unsolved zero = Done
 status_of_unsolved (suc n) = Stopped
 
 -- Of the rows that were done one was accepted where the limits are not enough, and its bound is below its cost.
-abbrev pub IsDayStopped : {options : SearchOptions} {before : Option TextState} {left taken taken' : Option (List ℕ)} {result : Result Ended RunFault} → DayRan (IsSolvedRow options) before left taken taken' result → Type 0
-IsDayStopped {options} ran = IsStoppedIn (IsSolvedRow options) (AreEnoughFor options) (opening_day ran.opening) (rows_of ran.ran.passed) ran.ran.day ran.ran.text
+abbrev pub IsDayStopped : {rounds moves : ℕ} {before : Option TextState} {left taken taken' : Option (List ℕ)} {result : Result Ended RunFault} → DayRan (IsSolvedRow rounds moves) before left taken taken' result → Type 0
+IsDayStopped {rounds} {moves} ran = IsStoppedIn (IsSolvedRow rounds moves) (AreEnoughFor rounds moves) (opening_day ran.opening) (rows_of ran.ran.passed) ran.ran.day ran.ran.text
 
 -- ---- how they end
 
@@ -87,8 +60,8 @@ pub record IsNoDayLine (left left' : Option (List ℕ)) (text : List ℕ) : Type
 -- A day was run with the limits of the words, and where the source tells what it has left, no accepted call is lost after
 -- any of the rows that were done.
 pub record RanWithin (options : SearchOptions) (left left' taken taken' : Option (List ℕ)) (result : Result Ended RunFault) : Type 0 where
-  pub ran : DayRan (IsSolvedRow options) (option_map whole_text left) left' taken taken' result
-  pub kept : IfSome left (λ input. AreRowsKept (IsSolvedRow options) (opening_day ran.opening) (rows_of ran.ran.passed) ran.ran.day ran.ran.text)
+  pub ran : DayRan (IsSolvedRow options.rounds options.moves) (option_map whole_text left) left' taken taken' result
+  pub kept : IfSome left (λ input. AreRowsKept (IsSolvedRow options.rounds options.moves) (opening_day ran.opening) (rows_of ran.ran.passed) ran.ran.day ran.ran.text)
 
 -- a day of `day`
 abbrev pub RanBy : SearchOptions → (old new : Streams) → (taken' : Option (List ℕ)) → Result Ended RunFault → Type 0

@@ -2,11 +2,12 @@
 use Rattle.std.specs.Prelude.{ℕ, List}
 use Rattle.lift_words.specs.declared.request.SearchOptions.{SearchOptions}
 use Rattle.lift_words.specs.Taken.{AreTaken}
-use Rattle.lift_words.specs.declared.request.Request.TheVariants.{Day, Report, Table, WhatIf}
+use Rattle.lift_words.specs.declared.request.Request.TheVariants.{Day, Report, Table, WhatIf, Banks}
 use Rattle.command_ends.specs.Ends.{Streams, Ends}
 use Rattle.command_ends.specs.declared.status.Status.{Status}
 use Rattle.further_commands.specs.TableOutcome.{RefusesTables, TableDue, Tables}
 use Rattle.further_commands.specs.WhatIfOutcome.{AnswersAsked, RefusesUnasked, WhatIfDue}
+use Rattle.group_commands.specs.BanksOutcome.{AnswersBanks, BanksDue, RefusesBanks}
 
 -- what was read and written, and that a table is judged and anything else refused
 pub record RunsTable (old new : Streams) (status : Status) : Type 0 where
@@ -28,9 +29,20 @@ pub record RunsWhatIf (options : SearchOptions) (old new : Streams) (status : St
 abbrev pub WhatIfByWords : List (List ℕ) → (old new : Streams) → Status → Type 0
 WhatIfByWords words old new status = (options : SearchOptions) → AreTaken words (WhatIf options) → RunsWhatIf options old new status
 
+-- what was read and written, and that the text of banks is answered and anything else refused
+pub record RunsBanks (options : SearchOptions) (old new : Streams) (status : Status) : Type 0 where
+  pub ends : Ends (BanksDue options.rounds options.moves old.left new.left) old new status
+  pub answers : AnswersBanks old new status
+  pub refuses : RefusesBanks old new status
+
+-- words of `banks` run the days of banks
+abbrev pub BanksByWords : List (List ℕ) → (old new : Streams) → Status → Type 0
+BanksByWords words old new status = (options : SearchOptions) → AreTaken words (Banks options) → RunsBanks options old new status
+
 -- the words are none of these commands
 pub record AskOthers (words : List (List ℕ)) : Type 0 where
   pub no_day : (options : SearchOptions) → AreTaken words (Day options) → ⊥
   pub no_report : (options : SearchOptions) → AreTaken words (Report options) → ⊥
   pub no_table : AreTaken words Table → ⊥
   pub no_what_if : (options : SearchOptions) → AreTaken words (WhatIf options) → ⊥
+  pub no_banks : (options : SearchOptions) → AreTaken words (Banks options) → ⊥

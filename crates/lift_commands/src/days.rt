@@ -8,17 +8,20 @@ ghost use Rattle.service_report.specs.ReportTexts.{report_text as report_text_le
 ghost use Rattle.day_runner.specs.Inputs.{DayAnswered, EndsUnlessFailed, IsDayText, IsUnread, IsUnwritten};
 ghost use Rattle.lift_words.specs.Taken.{AreSearchOptions};
 ghost use Rattle.command_ends.specs.Ends.{streams};
-ghost use Rattle.lift_commands.specs.DayOutcome.{IsSolvedRow, PutsRowsFault, ReportsDay, RunsDay};
+ghost use Rattle.day_planner.specs.SolvedRows.{IsSolvedRow};
+ghost use Rattle.lift_commands.specs.DayOutcome.{PutsRowsFault, ReportsDay, RunsDay};
 ghost use Rattle.lift_commands.specs.DayOutcome.{status_of_unsolved as status_of_unsolved_lem};
 
-use crate::planning::plan_within;
 use byte_streams::{Gate, Sink, SinkFault, Source};
 use call_state::Snapshot;
 use command_ends::{Status, put, put_fault, put_too_long};
+use day_planner::plan_within;
 use day_runner::{DayFault, Ended, RunFault, run_day_text};
+use day_simulator::Planned;
 use lift_text::{LineReader, TextFault};
 use lift_words::SearchOptions;
 use service_report::{report_of, write_report};
+use snapshot_solver::Limits;
 use std::alloc::{AllocError, Global};
 use std::marker::Sync;
 use std::thread::Threads;
@@ -39,6 +42,25 @@ impl Sink for Nowhere {
     }
 }
 
+/// A plan of the snapshot, as a search by these options finds it.
+fn plan_row<G: Gate + Sync>(
+    rt: &(impl Threads + Sync),
+    alloc: Global,
+    options: SearchOptions,
+    snapshot: &Snapshot,
+    gate: &G,
+) -> Result<Planned, AllocError>
+    requires { AreSearchOptions options }
+    ensures { IfOk result (λ planned. IsSolvedRow options.rounds options.moves snapshot.now planned.stated
+        planned.proof.items) }
+{
+    let limits = Limits {
+        rounds: options.rounds,
+        most_tours: options.moves,
+    };
+    plan_within(rt, alloc, limits, options.workers, snapshot, gate)
+}
+
 /// Runs the day of an opening and rows, with a plan of a search at each row that is accepted.
 fn run_input<S: Source, K: Sink, G: Gate + Sync>(
     rt: &(impl Threads + Sync),
@@ -49,8 +71,9 @@ fn run_input<S: Source, K: Sink, G: Gate + Sync>(
     gate: &G,
 ) -> Result<Ended, DayFault>
     requires { AreSearchOptions options }
-    ensures answered { DayAnswered (IsSolvedRow options) (option_map whole_text (S.left source.old))
-        (S.left source.new) (K.taken sink.old) (K.taken sink.new) result }
+    ensures answered { DayAnswered (IsSolvedRow options.rounds options.moves)
+        (option_map whole_text (S.left source.old)) (S.left source.new) (K.taken sink.old) (K.taken sink.new)
+        result }
     ensures ends { IsSomeAnd (option_map whole_text (S.left source.old)) IsDayText → EndsUnlessFailed result }
     ensures small { IfOk result (λ ended. (report_of_lem ended.served.items).total.sum < 2 ^ 64) }
     ensures read { IsUnread result → Rose (S.faults source.old) (S.faults source.new) }
@@ -59,8 +82,9 @@ fn run_input<S: Source, K: Sink, G: Gate + Sync>(
 {
     let plan = |snapshot: &Snapshot|
         requires { AreSearchOptions options }
-        ensures { IfOk result (λ planned. IsSolvedRow options snapshot.now planned.stated planned.proof.items) }
-    { plan_within(rt, alloc, options, snapshot, gate) };
+        ensures { IfOk result (λ planned. IsSolvedRow options.rounds options.moves snapshot.now planned.stated
+            planned.proof.items) }
+    { plan_row(rt, alloc, options, snapshot, gate) };
     let mut lines = match LineReader::new(alloc, source) {
         Ok(lines) => lines,
         Err(_) => return Err(DayFault::Opening(TextFault::NoMemory)),

@@ -3,10 +3,11 @@
 //!
 //! # What is promised
 //!
-//! Thirteen clauses of `run`, over the definitions in `specs/Outcome.antt`, `specs/DayOutcome.antt`,
+//! Fourteen clauses of `run`, over the definitions in `specs/Outcome.antt`, `specs/DayOutcome.antt`,
 //! `specs/DayRows.antt`, `specs/Further.antt` and `specs/Unread.antt`, and in `specs/Ends.antt` of
-//! `command_ends` and `specs/TableOutcome.antt` and `specs/WhatIfOutcome.antt` of `further_commands`. What they
-//! say of the input holds where the source tells what it has left.
+//! `command_ends`, `specs/TableOutcome.antt` and `specs/WhatIfOutcome.antt` of `further_commands`, and
+//! `specs/BanksOutcome.antt` of `group_commands`. What they say of the input holds where the source tells what
+//! it has left.
 //!
 //! **`solve`.** Status 0: the whole input was read and is the text of an accepted snapshot, and what was
 //! written is an **optimal** plan of it, its cost and an equal bound, for 1 to 16 workers, and without
@@ -50,6 +51,10 @@
 //! between which it lies (3), never where the limits are enough for each of the searches; any other input is
 //! refused with its first bad line, or because no call can be asked about (5).
 //!
+//! **`banks`.** As `group_commands` says: for each bank of the input the log of the day of its own rows alone,
+//! with no accepted call lost, and how many rows named no bank; status 0 where no accepted row of any bank has
+//! a bound below its cost, 3 where some has; any other input is refused with its first bad line (5).
+//!
 //! **`make`.** The text of the generated case, which is read as that snapshot again; nothing is read. `make
 //! --run`: the numbers of the case with the cost and the bound that a search of it with one worker answers;
 //! status 0 exactly where they are equal, and then the cost is the least one; status 3 exactly where the
@@ -62,7 +67,7 @@
 //! # The clauses
 //!
 //! - `ends` says for each status what was read and written, by words of other commands than `day`, `report`,
-//!   `table` and `whatif`. A text is *due* with a status (`RunDue`). By words of `solve` the input is the
+//!   `table`, `whatif` and `banks`. A text is *due* with a status (`RunDue`). By words of `solve` the input is the
 //!   text of an accepted snapshot (`IsCaseText`), and the text written is due as a search answers it
 //!   (`IsSolution`), with a certificate unless `--brief` is given: the tree of that search with the claims
 //!   that are due or, exactly where these go beyond their limit, another one with the bound that it proves
@@ -102,6 +107,9 @@
 //! - `what_if`: by words of `whatif`, what was read and written with each status (`WhatIfDue`), that a case
 //!   whose last call is asked about is answered, and any other input refused, unless the source or the sink
 //!   fails or memory runs out (`RunsWhatIf`).
+//! - `banks`: by words of `banks`, what was read and written with each status (`BanksDue`), that the text of
+//!   banks is answered, and any other input refused, unless the source or the sink fails or memory runs out
+//!   (`RunsBanks`).
 //! - `refuses_words`: all other words and no fault of the sink give Words or Memory.
 //! - `unread`: words that ask for no input (`AskForNoInput`) leave the source as it was, its count of faults
 //!   too, with every status.
@@ -118,11 +126,11 @@
 #![tactic(auto)]
 
 mod asking;
+mod banking;
 mod checking;
 mod days;
 mod endings;
 mod making;
-mod planning;
 mod running;
 mod solving;
 mod status;

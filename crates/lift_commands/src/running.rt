@@ -3,12 +3,13 @@
 ghost use Rattle.std.specs.Prelude.{◌≡◌, map, string_bytes};
 ghost use Rattle.command_ends.specs.Ends.{Ends, streams};
 ghost use Rattle.lift_commands.specs.DayOutcome.{DaysByWords, ReportsByWords};
-ghost use Rattle.lift_commands.specs.Further.{AskOthers, TablesByWords, WhatIfByWords};
+ghost use Rattle.lift_commands.specs.Further.{AskOthers, BanksByWords, TablesByWords, WhatIfByWords};
 ghost use Rattle.lift_commands.specs.Outcome.{RunDue, SolvesByWords, RefusesByWords, ChecksByWords};
 ghost use Rattle.lift_commands.specs.Outcome.{RefusesChecksByWords, MakesByWords, RunsByWords, RefusesWords};
 ghost use Rattle.lift_commands.specs.Unread.{AskForNoInput};
 
 use crate::asking::ask;
+use crate::banking::run_banks;
 use crate::checking::check;
 use crate::days::{day, report};
 use crate::making::{write_made_case, write_solved_case};
@@ -41,6 +42,8 @@ const USAGE: &[u8] = b"usage: lift solve/check/day/report/make [options]\n";
 ///   first three floors for which one is.
 /// - `whatif` reads a case, to its end, and writes what its last call costs with each car, exactly or by two
 ///   ends, and how much more it costs with the nearest car than with the best one.
+/// - `banks` reads banks of cars, each with what comes before the rows of a day, and then the rows of all of
+///   them, to the end, and writes for each bank the log of the day of its own rows alone.
 /// - `make` writes a generated case, and `make --run` the cost and the bound of such a case; they read nothing.
 ///
 /// All write what is wrong with an input that they do not take: its first bad line with its code, or that it
@@ -53,8 +56,8 @@ pub fn run<S: Source, K: Sink, G: Gate + Sync>(
     sink: &mut K,
     gate: &G,
 ) -> Status
-    // What was read and written, and why it ended, by words of other commands than `day`, `report`, `table`
-    // and `whatif`.
+    // What was read and written, and why it ended, by words of other commands than `day`, `report`, `table`,
+    // `whatif` and `banks`.
     ensures ends { AskOthers (map string_bytes words.now)
         → Ends (RunDue (map string_bytes words.now) (S.left source.old) (S.left source.new))
         (streams (S.left source.old) (K.taken sink.old) (S.faults source.old) (K.faults sink.old))
@@ -113,6 +116,13 @@ pub fn run<S: Source, K: Sink, G: Gate + Sync>(
         (streams (S.left source.new) (K.taken sink.new) (S.faults source.new)
         (K.faults sink.new)) result }
 
+    // `banks`: the days of banks are run, and whatever else is read is refused, unless the source or the sink
+    // fails or memory runs out.
+    ensures banks { BanksByWords (map string_bytes words.now)
+        (streams (S.left source.old) (K.taken sink.old) (S.faults source.old) (K.faults sink.old))
+        (streams (S.left source.new) (K.taken sink.new) (S.faults source.new)
+        (K.faults sink.new)) result }
+
     // `make`: a case is written, unless the sink fails or memory runs out.
     ensures makes { MakesByWords (map string_bytes words.now)
         (streams (S.left source.old) (K.taken sink.old) (S.faults source.old) (K.faults sink.old))
@@ -143,6 +153,7 @@ pub fn run<S: Source, K: Sink, G: Gate + Sync>(
         Ok(Request::Run(options)) => write_solved_case(rt, alloc, options, sink, gate),
         Ok(Request::Table) => table(alloc, source, sink),
         Ok(Request::WhatIf(options)) => ask(rt, alloc, options, source, sink, gate),
+        Ok(Request::Banks(options)) => run_banks(rt, alloc, options, source, sink, gate),
         Err(WordsFault::NotTaken) => put(sink, USAGE, Status::Words),
         Err(WordsFault::NoMemory) => Status::Memory,
     }

@@ -3,13 +3,13 @@ use Rattle.lift_words.specs.Taken.{AreTaken}
 use Rattle.lift_words.specs.declared.request.RunOptions.{RunOptions}
 use Rattle.lift_words.specs.declared.request.SearchOptions.{SearchOptions}
 use Rattle.lift_words.specs.declared.request.SolveOptions.{SolveOptions}
-use Rattle.lift_words.specs.declared.request.Request.TheVariants.{Solve, Check, Day, Report, Make, Run, Table, WhatIf}
+use Rattle.lift_words.specs.declared.request.Request.TheVariants.{Solve, Check, Day, Report, Make, Run, Table, WhatIf, Banks}
 use Rattle.command_ends.specs.declared.status.Status.TheVariants.{Words}
 use Rattle.command_ends.specs.Ends.{streams}
 use Rattle.command_ends.proofs.EndLemmas.{ends_put, ends_more}
 use Rattle.lift_commands.specs.Outcome.{IsAnswered, IsCaseSolved, SolveDue, CheckDue, MakeDue, SolvedCaseDue, RunDue, UsageIsDue, usage_line}
 use Rattle.lift_commands.specs.DayOutcome.{ReportsDay, RunsDay}
-use Rattle.lift_commands.specs.Further.{RunsWhatIf}
+use Rattle.lift_commands.specs.Further.{RunsBanks, RunsWhatIf}
 use Rattle.lift_commands.proofs.Outcomes.{solve_due, check_due, make_due, solved_case_due, not_run_and_make}
 use Rattle.lift_commands.proofs.running.run.Goals as goal
 
@@ -167,6 +167,26 @@ returns-in-Ok-WhatIf-clause-what_if g c options taken =
 pub returns-in-Err-NotTaken-clause-what_if : goal.returns-in-Err-NotTaken-clause-what_if
 returns-in-Err-NotTaken-clause-what_if g c = λ options taken.
     absurd (c.in-Err-NotTaken.ensures.refused c.in-Err-NotTaken.field-0-is (WhatIf options) taken)
+
+pub returns-in-Ok-Banks-clause-ends : goal.returns-in-Ok-Banks-clause-ends
+returns-in-Ok-Banks-clause-ends g c = λ none.
+    absurd (none.no_banks c.in-Ok-Banks.options (subst (AreTaken (map string_bytes c.args.words.now)) c.in-Ok-Banks.field-0-is c.in-Ok-Banks.ensures.taken))
+
+pub returns-in-Ok-Banks-clause-banks : goal.returns-in-Ok-Banks-clause-banks
+returns-in-Ok-Banks-clause-banks g c options taken =
+    let same : Banks options ≡ Banks c.in-Ok-Banks.options = c.in-Ok-Banks.ensures.one (Banks options) taken ∙ c.in-Ok-Banks.field-0-is in
+    let is : options ≡ c.in-Ok-Banks.options = cc same in
+    let old = streams (g.S.Source.left c.args.source.now) (g.K.Sink.taken c.args.sink.now) (g.S.Source.faults c.args.source.now) (g.K.Sink.faults c.args.sink.now) in
+    let new = streams (g.S.Source.left c.run_banks.new.source) (g.K.Sink.taken c.run_banks.new.sink) (g.S.Source.faults c.run_banks.new.source) (g.K.Sink.faults c.run_banks.new.sink) in
+    subst (λ (o : SearchOptions). RunsBanks o old new c.run_banks.result) (sym is) c.run_banks.ensures
+
+pub returns-in-Err-NotTaken-clause-banks : goal.returns-in-Err-NotTaken-clause-banks
+returns-in-Err-NotTaken-clause-banks g c = λ options taken.
+    absurd (c.in-Err-NotTaken.ensures.refused c.in-Err-NotTaken.field-0-is (Banks options) taken)
+
+pub returns-in-Ok-Banks-clause-unread : goal.returns-in-Ok-Banks-clause-unread
+returns-in-Ok-Banks-clause-unread g c = λ none.
+    absurd (none (Banks c.in-Ok-Banks.options) (subst (AreTaken (map string_bytes c.args.words.now)) c.in-Ok-Banks.field-0-is c.in-Ok-Banks.ensures.taken))
 
 pub returns-in-Err-NotTaken-clause-tables : goal.returns-in-Err-NotTaken-clause-tables
 returns-in-Err-NotTaken-clause-tables g c = λ taken.

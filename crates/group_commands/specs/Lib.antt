@@ -1,0 +1,2 @@
+pub mod BanksOutcome
+pub mod WorkedTexts
