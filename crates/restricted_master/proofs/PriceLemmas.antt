@@ -1,14 +1,11 @@
 -- Sums of prices.
-use Rattle.std.proofs.Common.{◌≡◌, ℕ, ◌+◌, ◌-◌, ◌*◌, ◌^◌, ◌<◌, ◌≤◌, ℤ, pos, neg_ℤ, ◌+ℤ◌, ◌-ℤ◌, ◌≤ℤ◌, zero, suc, Bool, true, false, cond, List, [], ◌∷◌, ◌++◌, length, filter, refl, ap, ◌∙◌, arith}
+use Rattle.std.proofs.Common.{◌≡◌, ℕ, ◌+◌, ◌-◌, ◌≤◌, ℤ, pos, ◌+ℤ◌, zero, suc, Bool, true, false, cond, List, [], ◌∷◌, ◌++◌, length, filter, refl, ap, ◌∙◌, arith}
 use Rattle.std.specs.List.{range_with_len}
-use mir.Syntax.{w128}
-use mir.Val.{to_z, of_z}
-use Rattle.std.proofs.lemmas.Int.{ints, to_z-of_z}
+use Rattle.std.proofs.lemmas.Int.{ints}
 use Rattle.std.proofs.lemmas.List.{get_or_past}
 use Rattle.call_sets.specs.Counting.{has, members}
 use Rattle.search_model.specs.Sums.{int_sum_below, int_sum_where, int_sum_by}
 use Rattle.search_model.specs.Prices.{price_at}
-use Rattle.price_ascent.proofs.MoveLemmas.{wrapped, small_fits}
 
 -- ---- sums over the members of a set
 
@@ -80,28 +77,3 @@ filtered_few p a (suc n) =
 pub members_few : (calls : ℕ) → length (members 128 calls) ≤ 128
 unfolding members
 members_few calls = filtered_few (has calls) 0 128
-
--- ---- sums of numbers that are far from the greatest
-
-pub record IsNear (z : ℤ) : Type 0 where
-  pub low : neg_ℤ (pos (10 ^ 29)) ≤ℤ z
-  pub high : z ≤ℤ pos (10 ^ 29)
-
-pub near_is : (z : ℤ) → IsNear z → to_z w128 (of_z w128 z) ≡ z
-near_is z near = (let low = near.low in let high = near.high in to_z-of_z w128 z (small_fits z (omega (arith, ints, low)) (omega (arith, ints, high))))
-
-pub sum_is : (a b : ℤ) → IsNear a → IsNear b → to_z w128 (of_z w128 (to_z w128 (of_z w128 a) +ℤ to_z w128 (of_z w128 b))) ≡ a +ℤ b
-sum_is a b first second =
-    let low = first.low in
-    let high = first.high in
-    let least = second.low in
-    let most = second.high in
-    wrapped (to_z w128 (of_z w128 a) +ℤ to_z w128 (of_z w128 b)) (a +ℤ b) (ap (λ (z : ℤ). z +ℤ to_z w128 (of_z w128 b)) (near_is a first) ∙ ap (λ (z : ℤ). a +ℤ z) (near_is b second)) (small_fits (a +ℤ b) (omega (arith, ints, low, least)) (omega (arith, ints, high, most)))
-
-pub difference_is : (a b : ℤ) → IsNear a → IsNear b → to_z w128 (of_z w128 (to_z w128 (of_z w128 a) -ℤ to_z w128 (of_z w128 b))) ≡ a -ℤ b
-difference_is a b first second =
-    let low = first.low in
-    let high = first.high in
-    let least = second.low in
-    let most = second.high in
-    wrapped (to_z w128 (of_z w128 a) -ℤ to_z w128 (of_z w128 b)) (a -ℤ b) (ap (λ (z : ℤ). z -ℤ to_z w128 (of_z w128 b)) (near_is a first) ∙ ap (λ (z : ℤ). a -ℤ z) (near_is b second)) (small_fits (a -ℤ b) (omega (arith, ints, low, most)) (omega (arith, ints, high, least)))

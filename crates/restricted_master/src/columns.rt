@@ -7,10 +7,10 @@ ghost use Rattle.elevator_model.specs.Tours.{IsFeasible};
 ghost use Rattle.restricted_master.specs.declared.columns.Column.{Column};
 ghost use Rattle.restricted_master.specs.Priced.{reduced_cost_of};
 
-use crate::choosing::Candidate;
 use crate::prices::prices_of;
 use call_sets::CallSet;
 use call_state::Snapshot;
+use car_search::{Candidate, CarChoice};
 use elevator_model::{MOST_CALLS, Tour};
 use price_scale::{Price, scaled};
 use std::alloc::{AllocError, Global};
@@ -22,6 +22,12 @@ pub const MOST_TOURS: usize = 32;
 
 /// No reduced cost is greater, in thousandths of a cost unit: 10^18 cost units and 128 prices of 10^24.
 const MOST_REDUCED_COST: i128 = 200_000_000_000_000_000_000_000_000;
+
+/// A column of a car as a candidate: it stands for the column's place.
+pub(crate) type PlacedColumn = Candidate<usize, CallSet>;
+
+/// The columns of a car as candidates.
+pub(crate) type CarColumns = CarChoice<usize, CallSet>;
 
 /// A feasible tour of a car, with what a choice of tours asks of it.
 #[derive(Drop)]
@@ -35,7 +41,7 @@ pub struct Column {
 }
 
 impl Column {
-    ghost use Rattle.restricted_master.specs.Choosing.{IsSmall};
+    ghost use Rattle.car_search.specs.Choosing.{IsSmall};
     ghost use Rattle.restricted_master.specs.Columns.{IsColumn, same_tour};
     ghost use Rattle.restricted_master.specs.Priced.{candidate_of, reduced_cost_of};
 
@@ -67,7 +73,7 @@ impl Column {
     }
 
     /// The column as a candidate, which stands at a place. `least` is the least reduced cost of the car.
-    pub(crate) fn candidate(&self, place: usize, prices: &[Price], least: i128) -> Candidate
+    pub(crate) fn candidate(&self, place: usize, prices: &[Price], least: i128) -> PlacedColumn
         requires few { length prices.now ≤ MOST_CALLS }
         requires small { self.now.cost ≤ 10 ^ 18 }
         requires low { neg_ℤ (pos (2 * 10 ^ 26)) ≤ℤ least }
@@ -76,7 +82,7 @@ impl Column {
         ensures small { IsSmall result }
     {
         Candidate {
-            place,
+            item: place,
             cost: self.cost,
             calls: self.calls,
             excess: self.reduced_cost(prices) - least,

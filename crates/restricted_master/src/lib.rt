@@ -24,21 +24,17 @@
 //!
 //! # How it selects
 //!
-//! The search (`choosing`) knows no tours: it takes one candidate for each car, each with a cost and a set of
-//! calls, so that each call is taken once. A car's candidates are sorted by rising reduced cost. Where the
-//! bound reaches the cost to beat, the rest of the list is left: the bound is the prices that are not paid
-//! yet, the least reduced costs of the cars and the excess of the picks (`proofs/PricedLemmas.antt`: each
-//! call is taken once, so at any prices these three make the cost). A candidate is passed by that takes a
-//! call twice, or leaves one that no later car's candidates have (`Cover`). Plans that cost no more than the
-//! target are looked for first (`picks_below`). `proofs/PlanLemmas.antt` goes from picks to plans and back,
-//! over `Completes` of `tour_cost`. The prices come from the given ones by a subgradient ascent of 60 steps
-//! over the pool's tours (`ascent`), of which only safety is proved: the selection is right at any prices.
+//! The search over the cars (`car_search`) knows no tours: it takes one candidate for each car, each with a
+//! cost and a set of calls, so that each call is taken once. Its bound is the prices that are not paid yet,
+//! the least reduced costs of the cars and the excess of the picks (`proofs/PricedLemmas.antt`: each call is
+//! taken once, so at any prices these three make the cost). Plans that cost no more than the target are
+//! looked for first (`picks_below`). `proofs/PlanLemmas.antt` goes from picks to plans and back, over
+//! `Completes` of `tour_cost`. The prices come from the given ones by a subgradient ascent of 60 steps over
+//! the pool's tours (`ascent`), of which only safety is proved: the selection is right at any prices.
 #![tactic(auto)]
 
 mod ascent;
-mod choosing;
 mod columns;
-mod demands;
 mod pools;
 mod prices;
 mod selecting;

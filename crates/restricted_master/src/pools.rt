@@ -4,9 +4,9 @@ ghost use Rattle.std.specs.Prelude.{◌≡◌, ℕ, ◌≤◌, ◌<◌, IfOk, le
 ghost use Rattle.elevator_model.specs.Snapshot.{car_count};
 ghost use Rattle.elevator_model.specs.Tours.{IsFeasible};
 
-use crate::choosing::{CarChoice, sort_by_excess};
-use crate::columns::{Column, Columns, least_reduced_cost};
+use crate::columns::{CarColumns, Column, Columns, least_reduced_cost};
 use call_state::Snapshot;
+use car_search::CarChoice;
 use elevator_model::{MOST_CALLS, Tour};
 use price_scale::Price;
 use std::alloc::{AllocError, Global};
@@ -38,7 +38,7 @@ impl<'a> Model for Pool<'a> {
 
 impl<'a> Pool<'a> {
     ghost use Rattle.restricted_master.specs.Choices.{AreCandidates};
-    ghost use Rattle.restricted_master.specs.Choosing.{IsRising};
+    ghost use Rattle.car_search.specs.Choosing.{IsRising};
     ghost use Rattle.restricted_master.specs.Columns.{IsColumn, tours_of};
     ghost use Rattle.restricted_master.specs.Priced.{IsPriced};
     ghost use Rattle.restricted_master.specs.Pools.{IsEmptyPool, IsPool, tours_of_car, with_tour_of_car};
@@ -97,7 +97,7 @@ impl<'a> Pool<'a> {
         alloc: Global,
         car: usize,
         prices: &[Price],
-    ) -> Result<CarChoice, AllocError>
+    ) -> Result<CarColumns, AllocError>
         requires car { car < car_count self.now.snapshot }
         requires few { length prices.now ≤ MOST_CALLS }
         ensures candidates { IfOk result
@@ -105,9 +105,8 @@ impl<'a> Pool<'a> {
         ensures priced { IfOk result (IsPriced prices.now) }
         ensures rising { IfOk result (λ x. IsRising x.candidates.items) }
     {
-        let mut choice = self.candidates(alloc, car, prices)?;
-        sort_by_excess(choice.candidates.as_mut_slice());
-        Ok(choice)
+        let choice = self.candidates(alloc, car, prices)?;
+        Ok(choice.sorted())
     }
 
     /// The car's tours as candidates at these prices, in the order in which they were put in.
@@ -116,7 +115,7 @@ impl<'a> Pool<'a> {
         alloc: Global,
         car: usize,
         prices: &[Price],
-    ) -> Result<CarChoice, AllocError>
+    ) -> Result<CarColumns, AllocError>
         requires car { car < car_count self.now.snapshot }
         requires few { length prices.now ≤ MOST_CALLS }
         ensures candidates { IfOk result

@@ -1,16 +1,12 @@
 //! The cheapest plan that is made of tours of a pool.
 
-ghost use Rattle.std.specs.Prelude.{◌≡◌, ℕ, ◌≤◌, ◌<◌, ◌^◌, true, false, nat_lt, ◌||◌, is_some, IfOk, IfSome};
-ghost use Rattle.std.specs.Prelude.{length, slice_index_or, All, ◌*◌, pos, neg_ℤ, ◌≤ℤ◌};
-ghost use Rattle.call_sets.specs.Counting.{has};
+ghost use Rattle.std.specs.Prelude.{◌≡◌, ◌≤◌, ◌<◌, ◌^◌, true, false, IfOk, IfSome, length, All};
 ghost use Rattle.elevator_model.specs.Snapshot.{call_count, car_count};
-ghost use Rattle.restricted_master.specs.Priced.{least_sum};
 
-use crate::choosing::{CarChoice, Selection, cheapest};
-use crate::demands::Cover;
+use crate::columns::CarColumns;
 use crate::pools::Pool;
 use crate::prices::prices_of;
-use call_sets::CallSet;
+use car_search::{Outcome, Selection, cheapest_picks, first_calls, sum_of_least};
 use elevator_model::{MOST_CALLS, MOST_CARS, Plan};
 use price_scale::Price;
 use std::alloc::{AllocError, Global};
@@ -39,27 +35,10 @@ impl Choice {
     }
 }
 
-/// The cheapest picks that were found, if any, and whether all tries were made.
-#[derive(Clone, Copy)]
-struct Outcome {
-    picked: Option<Selection>,
-    spent: bool,
-}
-
-impl Outcome {
-    /// Whether there is nothing more to look for: picks were found, or no try is left.
-    fn is_decided(&self) -> bool
-        ensures { result ≡ (self.now.spent || is_some self.now.picked) }
-    {
-        self.spent || self.picked.is_some()
-    }
-}
-
 impl<'a> Pool<'a> {
     ghost use Rattle.restricted_master.specs.Pools.{IsCheapest, IsCheapestBelow, IsMadeOf, cost_of_choice};
     ghost use Rattle.restricted_master.specs.Pools.{selection_count, tours_of_car};
-    ghost use Rattle.restricted_master.specs.declared.choosing.CarChoice.{CarChoice};
-    ghost use Rattle.restricted_master.specs.Choosing.{IsRising, picks};
+    ghost use Rattle.car_search.specs.Choosing.{IsRising, picks};
     ghost use Rattle.restricted_master.specs.Priced.{IsPriced};
     ghost use Rattle.restricted_master.specs.Choices.{AreCandidates, AreChoices, IsPicked, CanPick};
     ghost use Rattle.restricted_master.specs.Choices.{IsPlanPick, IsCheapestPick, IsLeastBelow, HasPicked};
@@ -138,7 +117,7 @@ impl<'a> Pool<'a> {
     fn choice_of(
         &self,
         alloc: Global,
-        choices: &[CarChoice],
+        choices: &[CarColumns],
         found: Outcome,
     ) -> Result<Choice, AllocError>
         requires few { length choices.now ≤ MOST_CARS }
@@ -164,7 +143,7 @@ impl<'a> Pool<'a> {
     /// plan is mostly among them, and few others are tried on the way.
     fn best_picks(
         &self,
-        choices: &[CarChoice],
+        choices: &[CarColumns],
         prices: &[Price],
         target: u64,
         limit: u64,
@@ -187,7 +166,13 @@ impl<'a> Pool<'a> {
     }
 
     /// The picks of a cheapest plan among those that cost less than this.
-    fn picks_below(&self, choices: &[CarChoice], prices: &[Price], beat: u64, limit: u64) -> Outcome
+    fn picks_below(
+        &self,
+        choices: &[CarColumns],
+        prices: &[Price],
+        beat: u64,
+        limit: u64,
+    ) -> Outcome
         requires choices { AreChoices self.now choices.now }
         requires prices { length prices.now ≡ call_count self.now.snapshot }
         requires priced { All (IsPriced prices.now) choices.now }
@@ -203,26 +188,12 @@ impl<'a> Pool<'a> {
         ensures ample { 34 ^ car_count self.now.snapshot ≤ limit → result.spent ≡ false }
     {
         let all = first_calls(self.snapshot().calls().len());
-        let demand = Cover::new(all, choices, 0);
-        let mut left = limit;
         let bound = prices_of(prices, all) + sum_of_least(choices);
-        let picked = cheapest(
-            choices,
-            0,
-            &demand,
-            CallSet::empty(),
-            bound,
-            beat,
-            &mut left,
-        );
-        Outcome {
-            picked,
-            spent: left == 0,
-        }
+        cheapest_picks(choices, all, bound, beat, limit)
     }
 
     /// The candidates of each car at these prices.
-    fn choices(&self, alloc: Global, prices: &[Price]) -> Result<Vec<CarChoice>, AllocError>
+    fn choices(&self, alloc: Global, prices: &[Price]) -> Result<Vec<CarColumns>, AllocError>
         requires { length prices.now ≤ MOST_CALLS }
         ensures choices { IfOk result (λ choices. AreChoices self.now choices.items) }
         ensures priced { IfOk result (λ choices. All (IsPriced prices.now) choices.items) }
@@ -241,7 +212,7 @@ impl<'a> Pool<'a> {
     fn plan_of(
         &self,
         alloc: Global,
-        choices: &[CarChoice],
+        choices: &[CarColumns],
         picked: &Selection,
     ) -> Result<Plan, AllocError>
         requires few { length choices.now ≤ MOST_CARS }
@@ -250,39 +221,12 @@ impl<'a> Pool<'a> {
     {
         let mut plan = Plan::new(alloc);
         for car in 0..choices.len() {
-            let candidate = choices[car].candidates[picked.places[car]];
-            let Some(tour) = self.tour(car as u32, candidate.place) else {
+            let candidate = &choices[car].candidates[picked.places[car]];
+            let Some(tour) = self.tour(car as u32, candidate.item) else {
                 unreachable!()
             };
             plan.push(tour.copy(alloc)?)?;
         }
         Ok(plan)
-    }
-}
-
-/// The first calls, this many.
-fn first_calls(count: usize) -> CallSet
-    requires { count ≤ MOST_CALLS }
-    ensures { (k : ℕ) → has result k ≡ nat_lt k count }
-{
-    let mut calls = CallSet::empty();
-    for call in 0..count {
-        calls = calls.with(call as u32);
-    }
-    calls
-}
-
-/// The least reduced costs of the cars together.
-fn sum_of_least(choices: &[CarChoice]) -> i128
-    requires few { length choices.now ≤ MOST_CARS }
-    requires low { All (λ x. neg_ℤ (pos (2 * 10 ^ 26)) ≤ℤ x.least) choices.now }
-    requires high { All (λ x. x.least ≤ℤ pos (2 * 10 ^ 26)) choices.now }
-    ensures sum { result ≡ least_sum choices.now }
-    ensures low { neg_ℤ (pos (2 * 10 ^ 26 * length choices.now)) ≤ℤ result }
-    ensures high { result ≤ℤ pos (2 * 10 ^ 26 * length choices.now) }
-{
-    match choices.split_first() {
-        Some((first, later)) => first.least + sum_of_least(later),
-        None => 0,
     }
 }

@@ -1,7 +1,8 @@
 -- The candidates so far.
 use Rattle.std.proofs.Common.{◌≡◌, ◌<◌, ℕ, length, get_or}
 use Rattle.restricted_master.specs.declared.columns.Column.{Column}
-use Rattle.restricted_master.specs.Choosing.{candidate_at, IsSmall}
+use Rattle.car_search.specs.Choosing.{IsSmall}
+use Rattle.restricted_master.specs.Choosing.{candidate_at}
 use Rattle.restricted_master.specs.Priced.{candidate_of}
 use Rattle.restricted_master.proofs.pools.Pool.candidates.Given as goal
 

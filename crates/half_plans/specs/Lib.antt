@@ -1,0 +1,6 @@
+pub mod Mixtures
+pub mod PairPlans
+pub mod Choosing
+pub mod Priced
+pub mod Choices
+pub mod WorkedHalves
