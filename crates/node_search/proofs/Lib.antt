@@ -1,7 +1,3 @@
-pub mod TurnPrices
-pub mod PoolLists
-pub mod PlanPools
-pub mod TurnLists
 pub mod RootLaws
 pub mod PlanLaws
 pub mod SettleLaws

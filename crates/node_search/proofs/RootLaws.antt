@@ -1,17 +1,15 @@
 -- One turn at the root.
 use Rattle.std.proofs.Common.{◌≡◌, ℕ, ◌+◌, ◌/◌, ◌<◌, ◌≤◌, ◌^◌, List, [], ◌∷◌, ◌++◌, length, get_or, set, sym, ap, ◌∙◌, subst, arith}
-use Rattle.std.specs.Prelude.{ℤ, pos, ◌≤ℤ◌, All, Option, Some, None, IfSome}
+use Rattle.std.specs.Prelude.{ℤ, pos, ◌≤ℤ◌, All, Option, None, IfSome}
 use Rattle.std.specs.List.{Contains}
 use Rattle.std.proofs.lemmas.Int.{ints}
 use Rattle.std.proofs.lemmas.List.{length-append}
 use Rattle.std.proofs.lemmas.List.Elements.{All-push, All-weaker}
 use Rattle.elevator_model.specs.declared.Stop.{Stop}
-use Rattle.elevator_model.specs.Snapshot.{Snapshot, car_count, call_count}
+use Rattle.elevator_model.specs.Snapshot.{Snapshot, car_count}
 use Rattle.search_model.specs.declared.TurnOf.{TurnOf}
 use Rattle.search_model.specs.declared.Turn.{Turn}
-use Rattle.elevator_model.specs.Tours.{IsFeasible}
-use Rattle.search_model.specs.Nodes.{Node, root_of, IsTourIn}
-use Rattle.search_model.proofs.FeasibleLemmas.{boarded-below}
+use Rattle.search_model.specs.Nodes.{Node, root_of}
 use Rattle.search_model.specs.Prices.{price_at}
 use Rattle.search_model.specs.Certificates.{root_place}
 use Rattle.search_model.specs.Solving.{AreRootTurns, IsRootTurn, greatest_price, no_turn}
@@ -27,11 +25,15 @@ use Rattle.price_steps.specs.declared.steps.Steps.{Steps}
 use Rattle.search_tree.specs.Payloads.{TreeNodes}
 use Rattle.node_search.specs.declared.best.Best.{Best}
 use Rattle.node_search.specs.declared.root.Root.{Root}
-use Rattle.node_search.specs.Best.{IsBest, AreToursOf, with_turn}
-use Rattle.node_search.specs.Turns.{moved_price, BoardsBelow, BoardBelow}
-use Rattle.node_search.specs.Roots.{HasTakenIn, IsRoot, IsPooled, IsCheapestOf, IsTurnBelow, due_prices, start_of_turns}
-use Rattle.node_search.proofs.PoolLists.{turn_of_pool, IsTurnOfCar}
-use Rattle.node_search.proofs.TurnLists.{due-more, turns-more, start-more, turn_with, answers_are_turn, turn-sum, moved_are_due}
+use Rattle.root_turns.specs.Pools.{with_turn}
+use Rattle.node_search.specs.Best.{IsBest}
+use Rattle.root_turns.specs.Turns.{moved_price}
+use Rattle.root_turns.specs.Dues.{IsTurnBelow, due_prices, start_of_turns}
+use Rattle.root_turns.specs.Pools.{IsPooled}
+use Rattle.node_search.specs.Roots.{HasTakenIn, IsRoot, IsCheapestOf}
+use Rattle.root_turns.proofs.PoolLists.{turn_of_pool, IsTurnOfCar}
+use Rattle.root_turns.proofs.TurnLists.{due-more, turns-more, start-more, answers_are_turn, turn-sum, moved_are_due}
+use Rattle.root_turns.specs.Dues.{turn_with}
 
 -- what taking in the pricings of all cars does
 pub record IsStepOf (s : Snapshot) (most_tours : ℕ) (old new : Root) (cars : List TurnOf) : Type 0 where
@@ -152,17 +154,3 @@ module _ (s : Snapshot) (most_tours : ℕ) (few_cars : car_count s ≤ 16) (old 
         few = λ c. (let more = (of_pool c).few in let most = is.few c in let count = count_is in omega (arith, more, most, count));
         covered = λ _. step.cheapest;
       }
-
--- ---- the tours of answers
-
-if_some : {X : Type 0} (P Q : X → Type 0) → ((x : X) → P x → Q x) → (o : Option X) → IfSome o P → IfSome o Q
-if_some P Q f None h = tt
-if_some P Q f (Some x) h = f x h
-
-pub feasible_tours : (s s' : Snapshot) (most_tours : ℕ) (node : Node) (prices : List ℤ) (cars : List TurnOf) → s' ≡ s → AreAnswersIn s most_tours node prices cars → AreToursOf s' cars
-feasible_tours s s' most_tours node prices cars same answers c lt =
-    if_some (IsTourIn s node c) (IsFeasible s' c) (λ t within. subst (λ (x : Snapshot). IsFeasible x c t) (sym same) within.feasible) (get_or cars c no_turn).tour ((answers.each c (let count = answers.count in omega (arith, lt, count))).within)
-
-pub below_tours : (s : Snapshot) (most_tours : ℕ) (node : Node) (prices : List ℤ) (cars : List TurnOf) → call_count s ≤ 128 → AreAnswersIn s most_tours node prices cars → BoardBelow cars
-below_tours s most_tours node prices cars few answers c lt =
-    if_some (IsTourIn s node c) BoardsBelow (λ t within j boards. (let below = boarded-below s c t j within.feasible boards in omega (arith, below, few))) (get_or cars c no_turn).tour ((answers.each c (let count = answers.count in omega (arith, lt, count))).within)

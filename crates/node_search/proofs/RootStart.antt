@@ -12,7 +12,9 @@ use Rattle.search_tree.specs.Sheets.{PriceSheet, sum_of_sheet}
 use Rattle.search_tree.specs.Branches.{at_place, leaf_at}
 use Rattle.search_tree.specs.Standing.{IsBranchAt, IsLeafIn, IsSheetIn}
 use Rattle.node_search.specs.declared.root.Root.{Root}
-use Rattle.node_search.specs.Roots.{IsRoot, IsNewRoot, IsPooled, IsTurnBelow, HasTurned, due_prices, start_of_turns}
+use Rattle.root_turns.specs.Dues.{IsTurnBelow, due_prices, start_of_turns}
+use Rattle.root_turns.specs.Pools.{IsPooled}
+use Rattle.node_search.specs.Roots.{IsRoot, IsNewRoot, HasTurned}
 use Rattle.node_search.specs.Found.{HasDueTurns, IsTurned}
 
 module _ (s : Snapshot) (most_tours : ℕ) (start : PriceSheet) (root : Root) (is : IsNewRoot s start root) (within : IsSheetIn s (root_of s) start) where

@@ -1,9 +1,9 @@
--- The pricings of one turn, and what turns keep of the root.
-use Rattle.std.proofs.Common.{◌≡◌, ℕ, ◌+◌, ◌*◌, ◌≤◌, List, [], ◌∷◌, length, set, take, drop, ◌++◌, refl, sym, ap, ◌∙◌, subst, arith}
-use Rattle.std.specs.Prelude.{ℤ, All, Option, Some, None, is_some, true, false}
+-- What turns keep of the root.
+use Rattle.std.proofs.Common.{◌≡◌, ℕ, ◌+◌, ◌≤◌, List, [], ◌∷◌, length, set, ◌++◌, refl, sym, ap, ◌∙◌, subst, arith}
+use Rattle.std.specs.Prelude.{All, Option, Some, None, is_some, true, false}
 use Rattle.std.proofs.lemmas.Bool.{both_ways}
 use Rattle.std.proofs.lemmas.Int.{ints}
-use Rattle.std.proofs.lemmas.List.{length-append, take_all}
+use Rattle.std.proofs.lemmas.List.{length-append}
 use Rattle.search_model.specs.declared.Turn.{Turn}
 use Rattle.restricted_master.specs.Pools.{TourPool, IsMadeOf, tours_of_car}
 use Rattle.search_tree.specs.declared.branches.Branch.{Branch}
@@ -12,26 +12,17 @@ use Rattle.search_tree.specs.Branches.{at_place, noted}
 use Rattle.search_tree.specs.Standing.{IsLeafIn}
 use Rattle.search_tree.proofs.TurnLaws.{IsNotedSheet, noted-sheet}
 use Rattle.search_tree.proofs.TreeLaws.{leaf_of_kind}
-use Rattle.elevator_model.specs.Snapshot.{Snapshot, car_count, call_count}
+use Rattle.elevator_model.specs.Snapshot.{Snapshot, call_count}
 use Rattle.search_model.specs.declared.TurnOf.{TurnOf}
 use Rattle.search_model.specs.Nodes.{Node, IsNodeOf, root_of}
 use Rattle.search_tree.specs.Answers.{AreAnswersIn}
-use Rattle.pricing_rounds.specs.declared.tasks.Task.{Task}
-use Rattle.pricing_rounds.specs.Rounds.{AreAnswersOf}
-use Rattle.pricing_rounds.proofs.RoundLemmas.{answers_in}
 use Rattle.node_search.specs.declared.best.Best.{Best}
 use Rattle.node_search.specs.declared.root.Root.{Root}
 use Rattle.node_search.specs.Best.{IsBest}
-use Rattle.node_search.specs.Roots.{IsRoot, IsPooled, HasTurned, HasOneTurn, leaf_of_root, start_of_turns, turn_with}
-use Rattle.node_search.proofs.TurnLists.{start-more}
-
--- the answers to one task alone are those of its node
-pub one_task : (s : Snapshot) (most_tours : ℕ) (node : Node) (prices : List ℤ) (task : Task) (cars : ℕ) (answers : List TurnOf) → AreAnswersOf s most_tours (task ∷ []) cars answers → task.node.now ≡ node → task.prices.now ≡ prices → cars ≡ car_count s → length answers ≡ 1 * cars → IsNodeOf s node → length prices ≡ call_count s → AreAnswersIn s most_tours node prices answers
-one_task s most_tours node prices task cars answers right node_is prices_is all count is calls =
-    let given : AreAnswersIn s most_tours task.node.now task.prices.now (take cars (drop (0 * cars) answers)) = answers_in s most_tours (task ∷ []) cars answers 0 task all count refl (record { node = subst (IsNodeOf s) (sym node_is) is; prices = ap length prices_is ∙ calls }) right in
-    let none : 0 * cars ≡ 0 = omega arith in
-    let whole : take cars (drop (0 * cars) answers) ≡ answers = ap (λ (n : ℕ). take cars (drop n answers)) none ∙ take_all cars answers (omega (arith, count)) in
-    subst (AreAnswersIn s most_tours node prices) whole (subst (λ (ps : List ℤ). AreAnswersIn s most_tours node ps (take cars (drop (0 * cars) answers))) prices_is (subst (λ (n : Node). AreAnswersIn s most_tours n task.prices.now (take cars (drop (0 * cars) answers))) node_is given))
+use Rattle.root_turns.specs.Dues.{start_of_turns, turn_with}
+use Rattle.root_turns.specs.Pools.{IsPooled}
+use Rattle.node_search.specs.Roots.{IsRoot, HasTurned, HasOneTurn, leaf_of_root}
+use Rattle.root_turns.proofs.TurnLists.{start-more}
 
 -- ---- what stands of a root
 

@@ -38,7 +38,7 @@ use Rattle.node_search.specs.Roots.{IsRoot, leaf_of_root}
 use Rattle.node_search.specs.Searches.{HasRun, IsAtRest, IsLeft, IsSearching}
 use Rattle.node_search.specs.Found.{HasTurnsAbove, IsAnswerOf, IsBegun, IsBelow, IsEnded, IsReasonOf, IsTurned, least_of}
 use Rattle.node_search.proofs.RootTurns.{root_branch}
-use Rattle.node_search.proofs.TurnPrices.{stored}
+use Rattle.root_turns.proofs.TurnPrices.{stored}
 use Rattle.node_search.proofs.SearchStart.{branches_alone, lone_stands, turns_above}
 
 -- what stands below the root stands after the rounds

@@ -29,7 +29,8 @@ use Rattle.node_search.specs.declared.best.Best.{Best}
 use Rattle.node_search.specs.declared.root.Root.{Root}
 use Rattle.node_search.specs.declared.search.Search.{Search}
 use Rattle.node_search.specs.Best.{IsBest}
-use Rattle.node_search.specs.Roots.{IsRoot, IsTurnBelow, leaf_of_root}
+use Rattle.root_turns.specs.Dues.{IsTurnBelow}
+use Rattle.node_search.specs.Roots.{IsRoot, leaf_of_root}
 use Rattle.node_search.specs.Searches.{IsSplit}
 use Rattle.node_search.specs.Found.{HasTurnsAbove, IsBegun, IsCheapestOfTurns, IsKeptRoot, IsOpenRoot, IsTurned}
 use Rattle.node_search.proofs.RootTurns.{root_branch, root_node}

@@ -17,7 +17,8 @@ use Rattle.node_search.specs.declared.found.Found.{Found}
 use Rattle.node_search.specs.declared.root.Root.{Root}
 use Rattle.node_search.specs.declared.root.TheConstants.{MOST_TURNS}
 use Rattle.node_search.specs.declared.search.Search.{Search}
-use Rattle.node_search.specs.Roots.{IsRoot, IsSolvedIfUnspent, leaf_of_root, start_of_turns}
+use Rattle.root_turns.specs.Dues.{start_of_turns}
+use Rattle.node_search.specs.Roots.{IsRoot, IsSolvedIfUnspent, leaf_of_root}
 use Rattle.node_search.specs.Searches.{IsSearching, IsAtRest}
 
 -- where this many tries are enough, no plan made of the tours of the turns is cheaper

@@ -1,5 +1,4 @@
 pub mod Best
-pub mod Turns
 pub mod Roots
 pub mod Searches
 pub mod Found

@@ -1,6 +1,5 @@
 -- The turns at the root.
-use Rattle.std.specs.Prelude.{◌≡◌, ℕ, ◌+◌, ◌/◌, ◌<◌, ◌≤◌, ◌^◌, ℤ, pos, ◌≤ℤ◌, ◌<ℤ◌, List, [], ◌∷◌, length, slice_set, All, Some, None}
-use Rattle.std.specs.List.{Contains}
+use Rattle.std.specs.Prelude.{◌≡◌, ℕ, ◌+◌, ◌/◌, ◌<◌, ◌≤◌, ◌^◌, ℤ, pos, ◌≤ℤ◌, ◌<ℤ◌, List, [], ◌∷◌, length, slice_set, All, None}
 use Rattle.elevator_model.specs.declared.Stop.{Stop}
 use Rattle.elevator_model.specs.Snapshot.{Snapshot, car_count}
 use Rattle.elevator_model.specs.Plans.{plan_cost_of}
@@ -9,7 +8,7 @@ use Rattle.search_model.specs.declared.TurnOf.{TurnOf}
 use Rattle.search_model.specs.Nodes.{IsNodeOf, root_of}
 use Rattle.search_model.specs.Certificates.{root_place}
 use Rattle.search_model.specs.Prices.{price_at}
-use Rattle.search_model.specs.Solving.{AreRootTurns, prices_after, greatest_price, sum_of_turn, turn_of_car}
+use Rattle.search_model.specs.Solving.{AreRootTurns, greatest_price}
 use Rattle.restricted_master.specs.Pools.{TourPool, IsMadeOf, tours_of_car}
 use Rattle.search_tree.specs.declared.branches.Branch.{Branch}
 use Rattle.search_tree.specs.Sheets.{PriceSheet, sum_of_sheet, sheet_of_turn}
@@ -18,36 +17,14 @@ use Rattle.search_tree.specs.Standing.{IsBranchAt, bound_of_sheet}
 use Rattle.search_tree.specs.Answers.{AreAnswersIn, BeginsAt}
 use Rattle.node_search.specs.declared.root.Root.{Root}
 use Rattle.node_search.specs.declared.root.TheConstants.{MOST_TURNS}
-use Rattle.node_search.specs.Best.{IsBest, with_turn}
-use Rattle.node_search.specs.Turns.{moved_price}
-
--- the prices after the last turn, which is turn i
-abbrev pub due_from : Snapshot → (start : List ℤ) → ℕ → Turn → List Turn → List ℤ
-due_from s start i turn [] = prices_after s start i turn
-due_from s start i turn (next ∷ turns) = due_from s start (i + 1) next turns
-
--- the prices of the turn that comes after these
-abbrev pub due_prices : Snapshot → (start : List ℤ) → List Turn → List ℤ
-due_prices s start [] = start
-due_prices s start (turn ∷ turns) = due_from s start 1 turn turns
-
--- the prices of the first turn
-abbrev pub start_of_turns : List Turn → (prices : List ℤ) → List ℤ
-start_of_turns [] prices = prices
-start_of_turns (turn ∷ turns) prices = turn.prices
-
--- the tours of the turn are in the pool
-abbrev pub IsPooled : Snapshot → TourPool → Turn → Type 0
-IsPooled s pool turn =
-    (c : ℕ) (tour : List Stop) → c < car_count s → (turn_of_car turn c).tour ≡ Some tour → Contains (tours_of_car pool c) tour
+use Rattle.root_turns.specs.Dues.{IsTurnBelow, due_prices, start_of_turns}
+use Rattle.root_turns.specs.Pools.{IsPooled, with_turn}
+use Rattle.root_turns.specs.Turns.{moved_price}
+use Rattle.node_search.specs.Best.{IsBest}
 
 -- where `most_tours` tries are enough, no plan that is made of tours of the pool is cheaper
 abbrev pub IsCheapestOf : Snapshot → (most_tours : ℕ) → TourPool → (cost : ℕ) → Type 0
 IsCheapestOf s most_tours pool cost = 34 ^ car_count s ≤ most_tours → (plan : List (List Stop)) → IsMadeOf pool plan → cost ≤ plan_cost_of s plan
-
--- the turn's sum is no greater
-abbrev pub IsTurnBelow : ℤ → Turn → Type 0
-IsTurnBelow z turn = sum_of_turn turn ≤ℤ z
 
 -- The root, after some turns.
 pub record IsRoot (s : Snapshot) (most_tours : ℕ) (root : Root) : Type 0 where
@@ -79,10 +56,6 @@ pub record IsNewRoot (s : Snapshot) (sheet : PriceSheet) (root : Root) : Type 0 
   pub small : root.step ≤ℤ pos (10 ^ 24)
   pub best : IsBest s root.best
   pub few : (c : ℕ) → length (tours_of_car root.best.pool c) ≤ 1
-
--- a turn at these prices
-abbrev pub turn_with : List ℤ → List TurnOf → Turn
-turn_with prices cars = record { prices = prices; cars = cars }
 
 -- the leaf of the root
 abbrev pub leaf_of_root : Root → Branch

@@ -1,19 +1,18 @@
 //! The cheapest plan that is known.
 
-ghost use Rattle.std.specs.Prelude.{◌≡◌, ◌<◌, ◌≤◌, ◌^◌, ℕ, IfOk, OnOk, IfSome, List, length, slice_index_or};
-ghost use Rattle.std.specs.Prelude.{Some};
+ghost use Rattle.std.specs.Prelude.{◌≡◌, ◌<◌, ◌≤◌, ◌^◌, ℕ, IfOk, OnOk, List, length};
 ghost use Rattle.elevator_model.specs.Snapshot.{car_count, call_count};
-ghost use Rattle.elevator_model.specs.Tours.{IsFeasible};
 ghost use Rattle.elevator_model.specs.declared.Stop.{Stop};
 ghost use Rattle.elevator_model.specs.Plans.{IsFeasiblePlan, plan_cost_of};
-ghost use Rattle.search_model.specs.Solving.{no_turn};
 ghost use Rattle.restricted_master.specs.Pools.{IsMadeOf, tours_of_car};
-ghost use Rattle.node_search.specs.Best.{IsBest, AreToursOf, with_given, with_turn};
+ghost use Rattle.root_turns.specs.Pools.{AreToursOf, with_turn};
+ghost use Rattle.node_search.specs.Best.{IsBest};
 
 use call_state::Snapshot;
-use elevator_model::{MOST_CALLS, Plan, Tour};
+use elevator_model::Plan;
 use price_scale::Price;
 use restricted_master::{Choice, Pool};
+use root_turns::{pool_of, put_turn};
 use search_model::TurnOf;
 use std::alloc::{AllocError, Global};
 use tour_cost::plan_cost;
@@ -25,55 +24,6 @@ pub(crate) struct Best<'a> {
     /// In cost units.
     pub(crate) cost: u64,
     pub(crate) pool: Pool<'a>,
-}
-
-/// Puts the tours of a feasible plan into a pool without tours. It fails only where there is no memory left.
-fn put_plan(
-    pool: &mut Pool,
-    alloc: Global,
-    snapshot: &Snapshot,
-    plan: &Plan,
-) -> Result<(), AllocError>
-    requires snapshot { pool.old.snapshot ≡ snapshot.now }
-    requires none { (c : ℕ) → length (tours_of_car pool.old c) ≡ 0 }
-    requires plan { IsFeasiblePlan snapshot.now plan.now }
-    ensures snapshot { OnOk result (pool.new.snapshot ≡ snapshot.now) }
-    ensures few { OnOk result ((c : ℕ) → length (tours_of_car pool.new c) ≤ 1) }
-{
-    prove!(snapshot.calls().len() <= MOST_CALLS);
-    for car in 0..plan.tours().len() {
-        pool.put(car as u32, plan.tours()[car].copy(alloc)?);
-    }
-    Ok(())
-}
-
-/// A pool with the tours of a feasible plan. It fails only where there is no memory left.
-fn pool_of<'a>(alloc: Global, snapshot: &'a Snapshot, plan: &Plan) -> Result<Pool<'a>, AllocError>
-    requires { IsFeasiblePlan snapshot.now plan.now }
-    ensures snapshot { IfOk result (λ pool. pool.snapshot ≡ snapshot.now) }
-    ensures few { IfOk result (λ pool. (c : ℕ) → length (tours_of_car pool c) ≤ 1) }
-{
-    let mut pool = Pool::new(alloc, snapshot)?;
-    put_plan(&mut pool, alloc, snapshot, plan)?;
-    Ok(pool)
-}
-
-/// Puts the tour of a pricing into the pool, if it gave one. It fails only where there is no memory left.
-fn put_given(
-    pool: &mut Pool,
-    alloc: Global,
-    car: u32,
-    tour: &Option<Tour>,
-) -> Result<(), AllocError>
-    requires car { car < car_count pool.old.snapshot }
-    requires feasible { IfSome tour.now (IsFeasible pool.old.snapshot car) }
-    ensures pool { OnOk result (pool.new ≡ with_given pool.old car tour.now) }
-    ensures snapshot { OnOk result (pool.new.snapshot ≡ pool.old.snapshot) }
-{
-    if let Some(tour) = tour {
-        pool.put(car, tour.copy(alloc)?);
-    }
-    Ok(())
 }
 
 impl<'a> Best<'a> {
@@ -116,10 +66,7 @@ impl<'a> Best<'a> {
         ensures pool { OnOk result (self.new.pool ≡ with_turn self.old.pool 0 cars.now) }
         ensures cars { length self.old.pool.tours ≡ car_count self.old.pool.snapshot }
     {
-        prove!(self.pool.snapshot().calls().len() <= MOST_CALLS);
-        for car in 0..cars.len() {
-            put_given(&mut self.pool, alloc, car as u32, &cars[car].tour)?;
-        }
+        put_turn(&mut self.pool, alloc, cars)?;
         Ok(())
     }
 

@@ -34,10 +34,8 @@ mod root;
 mod rounds;
 mod search;
 mod steps;
-mod turns;
 
 pub(crate) use best::Best;
 pub use found::{Found, Limits, find_plan};
 pub(crate) use root::Root;
 pub(crate) use search::Search;
-pub(crate) use turns::{greatest_of, prices_after};

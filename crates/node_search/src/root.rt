@@ -11,14 +11,14 @@ ghost use Rattle.work_fan.specs.Work.{Serving};
 ghost use Rattle.node_search.specs.Found.{HasDueTurns};
 
 use crate::best::Best;
-use crate::turns::{greatest_of, prices_after, step_after};
 use assign_branch::{Pricer, root as root_node};
 use byte_streams::Gate;
 use call_state::Snapshot;
 use elevator_model::Plan;
 use price_scale::Price;
 use price_steps::Steps;
-use pricing_rounds::{Task, price_nodes};
+use pricing_rounds::Task;
+use root_turns::{greatest_of, price_turn, prices_after, step_after};
 use search_model::{Items, Turn, TurnOf};
 use search_tree::{SearchTree, Sheet, first_choice};
 use std::alloc::{AllocError, Global};
@@ -64,7 +64,8 @@ impl<'a> Root<'a> {
     ghost use Rattle.elevator_model.specs.Snapshot.{IsAccepted};
     ghost use Rattle.search_tree.specs.Answers.{AreAnswersIn};
     ghost use Rattle.node_search.specs.Roots.{HasOneTurn, HasTakenIn, HasTurned, IsEnough, IsNewRoot, IsRoot};
-    ghost use Rattle.node_search.specs.Roots.{IsSolvedIfUnspent, turn_with};
+    ghost use Rattle.node_search.specs.Roots.{IsSolvedIfUnspent};
+    ghost use Rattle.root_turns.specs.Dues.{turn_with};
 
     /// The root with these prices and worths, before its first turn. It fails only where there is no memory
     /// left.
@@ -100,18 +101,6 @@ impl<'a> Root<'a> {
         self.tree.branches()[0].sheet.bound() < i128::from(self.best.cost)
     }
 
-    /// How many partial tours each car's pricing tried in the last turn; none before the first. It fails only
-    /// where there is no memory left.
-    fn last_sizes(&self, alloc: Global) -> Result<Vec<u64>, AllocError> {
-        let mut sizes = Vec::new(alloc);
-        if let Some(turn) = self.turns.last() {
-            for car in turn.cars.as_slice() {
-                sizes.push(car.priced.visits)?;
-            }
-        }
-        Ok(sizes)
-    }
-
     /// The pricings of all cars at the present prices. It fails only where there is no memory left.
     fn price<P: Pricer, R: Threads + Sync, G: Gate + Sync>(
         &self,
@@ -129,12 +118,12 @@ impl<'a> Root<'a> {
         ensures desks { Serving (P.owns pricer.now) desks.new }
     {
         let cars = self.best.pool.snapshot().building().cars().len() as u32;
-        let tasks = [Task {
+        let task = Task {
             node: &self.tree.branches()[0].node,
             prices: &self.prices,
-        }];
-        let sizes = self.last_sizes(runtime.alloc)?;
-        price_nodes(runtime, pricer, cars, &tasks, &sizes, most_tours, desks)
+        };
+        let last = self.turns.last();
+        price_turn(runtime, pricer, cars, task, last, most_tours, desks)
     }
 
     /// Takes in the pricings of all cars at the present prices, and answers the prices of the next turn. It

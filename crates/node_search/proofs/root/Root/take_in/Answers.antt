@@ -1,7 +1,7 @@
 use Rattle.std.proofs.Common.{rules, arith, refl, to_z, of_z, pos, ℤ, ◌+◌, ◌/◌, ◌<◌, ◌≤◌, ◌^◌, ◌≡◌, ℕ, List, length, set, sym, ap, ◌∙◌, subst}
 use Rattle.std.specs.Int.{w128}
 use Rattle.std.proofs.lemmas.Int.{ints}
-use Rattle.node_search.proofs.TurnPrices.{stored}
+use Rattle.root_turns.proofs.TurnPrices.{stored}
 use Rattle.search_model.specs.Solving.{greatest_price}
 use Rattle.search_model.specs.Nodes.{root_of}
 use Rattle.tour_cost.proofs.Served.{cars-le}
@@ -11,10 +11,10 @@ use Rattle.search_tree.specs.Branches.{at_place, noted}
 use Rattle.elevator_model.specs.Snapshot.{Snapshot, car_count, call_count}
 use Rattle.elevator_model.specs.Plans.{plan_cost_of}
 use Rattle.restricted_master.specs.Pools.{TourPool, IsMadeOf}
-use Rattle.node_search.specs.Roots.{start_of_turns}
-use Rattle.node_search.specs.Turns.{moved_price}
+use Rattle.root_turns.specs.Dues.{start_of_turns}
+use Rattle.root_turns.specs.Turns.{moved_price}
 use Rattle.node_search.specs.Best.{IsBest}
-use Rattle.node_search.proofs.RootLaws.{below_tours, feasible_tours}
+use Rattle.root_turns.proofs.AnswerLaws.{below_tours, feasible_tours}
 use Rattle.node_search.proofs.RootTurns.{root_branch, root_calls, root_leaf, root_lone}
 use Rattle.node_search.proofs.root.Root.take_in.Goals as goal
 

@@ -3,7 +3,7 @@ use Rattle.elevator_model.specs.Snapshot.{Snapshot}
 use Rattle.search_tree.specs.Branches.{at_place}
 use Rattle.search_tree.specs.Standing.{IsTreeOf}
 use Rattle.node_search.specs.Best.{IsBest}
-use Rattle.node_search.proofs.RootLaws.{feasible_tours}
+use Rattle.root_turns.proofs.AnswerLaws.{feasible_tours}
 use Rattle.node_search.proofs.search.Search.settle.Goals as goal
 
 pub put_tours-requires-clause-tours : goal.put_tours-requires-clause-tours

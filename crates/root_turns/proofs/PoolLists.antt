@@ -5,14 +5,14 @@ use Rattle.std.specs.List.{Contains}
 use Rattle.std.specs.Cmp.Lexicographic.{pointwise}
 use Rattle.std.proofs.lemmas.Bool.{cases_lt, and_parts, both_ways, eqb-true, eq-eqb}
 use Rattle.std.proofs.lemmas.List.{length-append, length-set, get_or-set_same, get_or-set_other, get_or_past}
-use Rattle.std.proofs.lemmas.List.Elements.{Contains-append_left, Contains-push}
+use Rattle.std.proofs.lemmas.List.Elements.{Contains-append_left, Contains-push, Contains-push_cases}
 use Rattle.elevator_model.specs.declared.Stop.{Stop}
 use Rattle.elevator_model.specs.Equal.{same_stop}
 use Rattle.search_model.specs.declared.TurnOf.{TurnOf}
 use Rattle.search_model.specs.Solving.{no_turn}
 use Rattle.restricted_master.specs.Columns.{newest, same_tour, with_tour}
 use Rattle.restricted_master.specs.Pools.{TourPool, tours_of_car}
-use Rattle.node_search.specs.Best.{with_given, with_turn}
+use Rattle.root_turns.specs.Pools.{with_given, with_turn}
 
 pointwise-same : {X : Type 0} (E : X → X → Bool) → ((x y : X) → E x y ≡ true → x ≡ y) → (xs ys : List X) → pointwise E xs ys ≡ true → xs ≡ ys
 pointwise-same E f [] [] e = refl
@@ -61,6 +61,15 @@ others-has tour (t ∷ tours) u h = by_test (same_tour t tour) refl (contains-ca
     by_test false e (inl at) rest = inr (subst (Contains (t ∷ others tour tours)) at (contains-here t (others tour tours)))
     by_test false e (inr later) rest = elim (rest later) [ inl is ↦ inl is | inr kept ↦ inr (contains-later t u (others tour tours) kept) ]
 
+-- and nothing comes in
+others-only : (tour : List Stop) (tours : List (List Stop)) (u : List Stop) → Contains (others tour tours) u → Contains tours u
+others-only tour [] u h = h
+others-only tour (t ∷ tours) u h = by_test (not (same_tour t tour)) (λ later. others-only tour tours u later) h
+  where
+    by_test : (b : Bool) → (Contains (others tour tours) u → Contains tours u) → Contains (cond b (t ∷ others tour tours) (others tour tours)) u → Contains (t ∷ tours) u
+    by_test true rest h = elim (contains-cases t u (others tour tours) h) [ inl at ↦ subst (Contains (t ∷ tours)) at (contains-here t tours) | inr later ↦ contains-later t u tours (rest later) ]
+    by_test false rest h = contains-later t u tours (rest h)
+
 others-length : (tour : List Stop) (tours : List (List Stop)) → length (others tour tours) ≤ length tours
 others-length tour [] = omega arith
 others-length tour (t ∷ tours) = by_test (not (same_tour t tour)) (others-length tour tours)
@@ -91,6 +100,10 @@ with_tour-length tours tour few =
     let long = length-append (others tour tours) (tour ∷ []) in
     omega (arith, is, le, long)
 
+pub with_tour-only : (tours : List (List Stop)) (tour u : List Stop) → length tours < 32 → Contains (with_tour tours tour) u → Contains tours u ⊎ (tour ≡ u)
+with_tour-only tours tour u few h =
+    elim (Contains-push_cases (others tour tours) tour u (subst (λ (ts : List (List Stop)). Contains ts u) (with_tour-few tours tour few) h)) [ inl kept ↦ inl (others-only tour tours u kept) | inr is ↦ inr is ]
+
 -- ---- the tours of a turn
 
 abbrev given_to : List (List Stop) → Option (List Stop) → List (List Stop)
@@ -114,6 +127,18 @@ given-at pool i c (Some tour) lt = by_test (c == i) refl
 given-cars : (pool : TourPool) (i : ℕ) (given : Option (List Stop)) → length (with_given pool i given).tours ≡ length pool.tours
 given-cars pool i None = refl
 given-cars pool i (Some tour) = length-set pool.tours i (with_tour (tours_of_car pool i) tour)
+
+pub turn-cars : (pool : TourPool) (i : ℕ) (cars : List TurnOf) → length (with_turn pool i cars).tours ≡ length pool.tours
+turn-cars pool i [] = refl
+turn-cars pool i (t ∷ cars) = turn-cars (with_given pool i t.tour) (i + 1) cars ∙ given-cars pool i t.tour
+
+given-snapshot : (pool : TourPool) (i : ℕ) (given : Option (List Stop)) → (with_given pool i given).snapshot ≡ pool.snapshot
+given-snapshot pool i None = refl
+given-snapshot pool i (Some tour) = refl
+
+pub turn-snapshot : (pool : TourPool) (i : ℕ) (cars : List TurnOf) → (with_turn pool i cars).snapshot ≡ pool.snapshot
+turn-snapshot pool i [] = refl
+turn-snapshot pool i (t ∷ cars) = turn-snapshot (with_given pool i t.tour) (i + 1) cars ∙ given-snapshot pool i t.tour
 
 neq : (i j : ℕ) → (i ≡ j → ⊥) → (i == j) ≡ false
 neq i j ne = neq_by (i == j) refl
@@ -149,11 +174,17 @@ turn-past pool i c (t ∷ cars) le past =
 pub record IsTurnOfCar (old new : List (List Stop)) (given : Option (List Stop)) : Type 0 where
   pub has : IfSome given (Contains new)
   pub keeps : (u : List Stop) → Contains old u → Contains new u
+  pub only : (u : List Stop) → Contains new u → Contains old u ⊎ (given ≡ Some u)
   pub few : length new ≤ length old + 1
 
 pub given_car : (old : List (List Stop)) (given : Option (List Stop)) → length old < 32 → IsTurnOfCar old (given_to old given) given
-given_car old None few = record { has = tt; keeps = λ u h. h; few = omega arith }
-given_car old (Some tour) few = record { has = with_tour-has old tour few; keeps = λ u h. with_tour-keeps old tour u few h; few = with_tour-length old tour few }
+given_car old None few = record { has = tt; keeps = λ u h. h; only = λ u h. inl h; few = omega arith }
+given_car old (Some tour) few = record {
+  has = with_tour-has old tour few;
+  keeps = λ u h. with_tour-keeps old tour u few h;
+  only = λ u h. elim (with_tour-only old tour u few h) [ inl was ↦ inl was | inr is ↦ inr (ap Some is) ];
+  few = with_tour-length old tour few;
+}
 
 pub turn_of_pool : (pool : TourPool) (cars : List TurnOf) → length cars ≡ length pool.tours → ((c : ℕ) → length (tours_of_car pool c) < 32) → (c : ℕ) → IsTurnOfCar (tours_of_car pool c) (tours_of_car (with_turn pool 0 cars) c) (get_or cars c no_turn).tour
 turn_of_pool pool cars count few c =

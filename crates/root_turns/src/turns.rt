@@ -1,12 +1,11 @@
-//! Turns: pricings of every car at the root, and how prices move from one to the next.
+//! How prices move from one turn to the next.
 
-ghost use Rattle.std.specs.Prelude.{◌≡◌, ◌<◌, ◌≤◌, ◌^◌, ℕ, ℤ, pos, ◌+ℤ◌, ◌-ℤ◌, ◌*ℤ◌, ◌≤ℤ◌, ◌+◌, ◌/◌, IfOk};
-ghost use Rattle.std.specs.Prelude.{IfSome, length, slice_index, count_by};
+ghost use Rattle.std.specs.Prelude.{◌≡◌, ◌<◌, ◌≤◌, ◌^◌, ℕ, ℤ, pos, ◌≤ℤ◌, ◌+◌, ◌/◌, IfOk};
+ghost use Rattle.std.specs.Prelude.{IfSome, length, slice_index};
 ghost use Rattle.search_model.specs.declared.TurnOf.{TurnOf};
 ghost use Rattle.search_model.specs.Prices.{price_at};
-ghost use Rattle.price_scale.specs.Scale.{cut};
 ghost use Rattle.search_model.specs.Solving.{boards_in, greatest_price};
-ghost use Rattle.node_search.specs.Turns.{BoardBelow, BoardsBelow, boards_of_cars, moved_price};
+ghost use Rattle.root_turns.specs.Turns.{BoardBelow, BoardsBelow, boards_of_cars, moved_price};
 
 use elevator_model::{MOST_CALLS, MOST_CARS};
 use price_scale::Price;
@@ -16,7 +15,7 @@ use std::alloc::{AllocError, Global};
 use tour_cost::calls_of;
 
 /// The greatest of 0 and the prices, in thousandths of a cost unit.
-pub(crate) fn greatest_of(prices: &[Price]) -> i128
+pub fn greatest_of(prices: &[Price]) -> i128
     ensures value { result ≡ pos (greatest_price prices.now) }
     ensures high { result ≤ℤ pos (10 ^ 24) }
 {
@@ -29,10 +28,9 @@ pub(crate) fn greatest_of(prices: &[Price]) -> i128
 
 /// The step of the turn after these: the first turn's step, divided by the number of the turn and rounded
 /// down.
-pub(crate) fn step_after(step: i128, turns: usize) -> i128
+pub fn step_after(step: i128, turns: usize) -> i128
     requires low { pos 0 ≤ℤ step }
     requires high { step ≤ℤ pos (10 ^ 24) }
-    requires turns { turns < 20 }
     ensures value { (most : ℕ) → step ≡ pos most → result ≡ pos (most / (turns + 1)) }
     ensures low { pos 0 ≤ℤ result }
     ensures high { result ≤ℤ pos (10 ^ 24) }
@@ -86,7 +84,7 @@ fn boards_counts(alloc: Global, cars: &[TurnOf], calls: usize) -> Result<Vec<u32
 
 /// The prices of the turn after one at these prices: each moves by `step * (1 - count)`, where `count` says
 /// in how many of the turn's tours its call boards. It fails only where there is no memory left.
-pub(crate) fn prices_after(
+pub fn prices_after(
     alloc: Global,
     prices: &[Price],
     cars: &[TurnOf],

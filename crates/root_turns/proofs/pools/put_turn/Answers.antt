@@ -1,7 +1,7 @@
 use Rattle.std.proofs.Common.{ap, arith}
 use Rattle.elevator_model.specs.Snapshot.{car_count}
 use Rattle.tour_cost.proofs.Served.{cars-le}
-use Rattle.node_search.proofs.best.Best.put_tours.Goals as goal
+use Rattle.root_turns.proofs.pools.put_turn.Goals as goal
 
 pub overflow_cast-car : goal.overflow_cast-car
 overflow_cast-car c =

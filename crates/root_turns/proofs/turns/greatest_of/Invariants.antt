@@ -1,6 +1,6 @@
 use Rattle.std.proofs.Common.{◌≡◌, ◌^◌, take, pos, ◌≤ℤ◌}
 use Rattle.search_model.specs.Solving.{greatest_price}
-use Rattle.node_search.proofs.turns.greatest_of.Given as goal
+use Rattle.root_turns.proofs.turns.greatest_of.Given as goal
 
 abbrev pub invariant-loop-place : goal.invariant-loop-place
 invariant-loop-place l =

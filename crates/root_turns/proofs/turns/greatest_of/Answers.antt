@@ -3,8 +3,8 @@ use Rattle.std.specs.Int.{int_max, w128}
 use Rattle.std.proofs.lemmas.Int.{ints}
 use Rattle.std.proofs.lemmas.List.{get_or_default}
 use Rattle.price_scale.specs.Scale.{IsPrice}
-use Rattle.node_search.proofs.TurnPrices.{greatest-step, stored_price, greater_range}
-use Rattle.node_search.proofs.turns.greatest_of.Goals as goal
+use Rattle.root_turns.proofs.TurnPrices.{greatest-step, stored_price, greater_range}
+use Rattle.root_turns.proofs.turns.greatest_of.Goals as goal
 
 pub loop-place-preserved : goal.loop-place-preserved
 loop-place-preserved c =

@@ -1,6 +1,6 @@
 use Rattle.std.proofs.Common.{◌≡◌, ◌<◌, ◌≤◌, ℕ, length, slice_index}
-use Rattle.node_search.specs.Turns.{boards_of_cars}
-use Rattle.node_search.proofs.turns.boards_counts.Given as goal
+use Rattle.root_turns.specs.Turns.{boards_of_cars}
+use Rattle.root_turns.proofs.turns.boards_counts.Given as goal
 
 abbrev pub invariant-loop-call : goal.invariant-loop-call
 invariant-loop-call l =

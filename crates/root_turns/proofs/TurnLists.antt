@@ -14,8 +14,8 @@ use Rattle.price_scale.specs.Scale.{cut}
 use Rattle.search_model.specs.Solving.{AreRootTurns, FollowTurn, IsRootTurn, IsPricing, prices_after, greatest_price, sum_of_turn, no_turn, boards_of_turn}
 use Rattle.search_tree.specs.Sheets.{sum_of_sheet, sheet_of_turn, sum_of_worths, turn_worth}
 use Rattle.search_tree.specs.Answers.{IsAnswerIn, AreAnswersIn}
-use Rattle.node_search.specs.Turns.{moved_price}
-use Rattle.node_search.specs.Roots.{due_from, due_prices, start_of_turns}
+use Rattle.root_turns.specs.Turns.{moved_price}
+use Rattle.root_turns.specs.Dues.{due_from, due_prices, start_of_turns, turn_with}
 
 -- ---- one turn more
 
@@ -40,9 +40,6 @@ start-more [] last next = refl
 start-more (turn ∷ turns) last next = refl
 
 -- ---- answers are a turn
-
-abbrev pub turn_with : List ℤ → List TurnOf → Turn
-turn_with prices cars = record { prices = prices; cars = cars }
 
 pub answers_are_turn : (s : Snapshot) (most_tours : ℕ) (prices : List ℤ) (cars : List TurnOf) → AreAnswersIn s most_tours (root_of s) prices cars → IsRootTurn s most_tours prices (turn_with prices cars)
 answers_are_turn s most_tours prices cars answers =

@@ -1,6 +1,6 @@
 use Rattle.std.proofs.Common.{◌≡◌, ◌≤◌, take}
-use Rattle.node_search.specs.Turns.{boards_of_cars}
-use Rattle.node_search.proofs.turns.boards_count.Given as goal
+use Rattle.root_turns.specs.Turns.{boards_of_cars}
+use Rattle.root_turns.proofs.turns.boards_count.Given as goal
 
 abbrev pub invariant-loop-car : goal.invariant-loop-car
 invariant-loop-car l =

@@ -1,4 +1,4 @@
-use Rattle.node_search.proofs.turns.boards_counts.Goals as goal
+use Rattle.root_turns.proofs.turns.boards_counts.Goals as goal
 
 pub boards_count-requires-clause-cars : goal.boards_count-requires-clause-cars
 boards_count-requires-clause-cars c = c.requires.cars

@@ -1,7 +1,7 @@
 use Rattle.std.proofs.Common.{ℤ, pos, ◌≤ℤ◌, ◌≡◌, ◌^◌, to_z, of_z, sym, subst}
 use Rattle.std.specs.Int.{w128}
 use Rattle.std.proofs.lemmas.Int.{to_z-of_z}
-use Rattle.node_search.proofs.turns.prices_after.Goals as goal
+use Rattle.root_turns.proofs.turns.prices_after.Goals as goal
 
 pub boards_counts-requires-clause-calls : goal.boards_counts-requires-clause-calls
 boards_counts-requires-clause-calls c = c.requires.calls

@@ -1,0 +1,5 @@
+pub mod TurnPrices
+pub mod TurnLists
+pub mod PoolLists
+pub mod PlanPools
+pub mod AnswerLaws

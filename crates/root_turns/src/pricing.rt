@@ -1,0 +1,53 @@
+//! The pricings of one turn.
+
+ghost use Rattle.std.specs.Prelude.{◌≡◌, ◌≤◌, ◌^◌, IfOk};
+ghost use Rattle.elevator_model.specs.Snapshot.{IsAccepted, car_count};
+ghost use Rattle.search_tree.specs.Answers.{AreAnswersIn};
+ghost use Rattle.work_fan.specs.Work.{Serving};
+ghost use Rattle.pricing_rounds.specs.Rounds.{IsTaskOf};
+
+use assign_branch::Pricer;
+use byte_streams::Gate;
+use pricing_rounds::{Task, price_nodes};
+use search_model::{Turn, TurnOf};
+use std::alloc::{AllocError, Global};
+use std::marker::Sync;
+use std::thread::Threads;
+use work_fan::Runtime;
+
+/// How many partial tours each car's pricing tried in the turn; none where there is no turn. It fails only
+/// where there is no memory left.
+fn sizes_of(alloc: Global, turn: Option<&Turn>) -> Result<Vec<u64>, AllocError> {
+    let mut sizes = Vec::new(alloc);
+    if let Some(turn) = turn {
+        for car in turn.cars.as_slice() {
+            sizes.push(car.priced.visits)?;
+        }
+    }
+    Ok(sizes)
+}
+
+/// The pricings of all cars in one node at these prices, with one worker for each desk. The last turn, if
+/// there was one, only tells which pricings are drawn first. It fails only where there is no memory left.
+pub fn price_turn<P: Pricer, R: Threads + Sync, G: Gate + Sync>(
+    runtime: &Runtime<R, G>,
+    pricer: &P,
+    cars: u32,
+    task: Task,
+    last: Option<&Turn>,
+    most_tours: u64,
+    desks: &mut [P::Desk],
+) -> Result<Vec<TurnOf>, AllocError>
+    requires accepted { IsAccepted (P.snapshot pricer.now) }
+    requires cars { cars ≡ car_count (P.snapshot pricer.now) }
+    requires task { IsTaskOf (P.snapshot pricer.now) task }
+    requires most_tours { (1 ≤ most_tours) × (most_tours ≤ 10 ^ 18) }
+    requires desks { Serving (P.owns pricer.now) desks.old }
+    ensures answers { IfOk result (λ answers. AreAnswersIn (P.snapshot pricer.now) most_tours
+        task.entry.node.now task.entry.prices.now answers.items) }
+    ensures desks { Serving (P.owns pricer.now) desks.new }
+{
+    let tasks = [task];
+    let sizes = sizes_of(runtime.alloc, last)?;
+    price_nodes(runtime, pricer, cars, &tasks, &sizes, most_tours, desks)
+}
