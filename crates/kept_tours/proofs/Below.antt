@@ -1,4 +1,4 @@
--- The moves that may follow, without some after which nothing is kept for a worth.
+-- The moves that may follow, without some: those with which a walk goes on.
 use Rattle.std.proofs.Common.{◌≡◌, ℕ, ◌+◌, ◌<◌, Bool, true, false, ◌&&◌, refl, sym, ap, ◌∙◌, subst, Option, Some}
 use Rattle.std.specs.Prelude.{ℤ, ◌≤ℤ◌, int_lt, not}
 use Rattle.std.specs.List.{filter}
@@ -17,17 +17,18 @@ use Rattle.partial_tours.proofs.Search.{from_next}
 use Rattle.tour_extension.specs.declared.demands.Demand.{Demand}
 use Rattle.tour_extension.specs.Leaves.{is_useless, AreUseful}
 use Rattle.pricing_bound.specs.Aims.{Aim, AimsAt}
-use Rattle.kept_tours.specs.Walking.{AreFollowersBelow, IsNotKept, goes_on}
+use Rattle.kept_tours.specs.Walking.{AreFollowersBelow, AreFollowersLeft, IsNotKept, IsShut, goes_on}
 use Rattle.kept_tours.proofs.Followers.{GoesPast, IsAt, ShutsUseless, followers, keeps_move, past_to_first, past_to_next, useless_shut}
 use Rattle.kept_tours.proofs.WalkingLemmas.{moved_on, not_below}
 
 -- ---- which they are
 
-pub useful_below : (t : PartialTour) (demand : Demand) (bound : Course → ℤ) (worth : ℤ) (x : Course) (next : Followers) → course t ≡ Some x → ShutsUseless t demand → AreUseful t.snapshot t.car x (has demand.allowed) next → AreFollowersBelow demand bound worth t x next
-useful_below t demand bound worth x next leads shuts are = record {
+pub useful_left : (t : PartialTour) (demand : Demand) (x : Course) (next : Followers) → course t ≡ Some x → ShutsUseless t demand → AreUseful t.snapshot t.car x (has demand.allowed) next → AreFollowersLeft demand false t x next
+useful_left t demand x next leads shuts are = record {
   stays = keeps_move t demand x;
   passing = are;
-  out = λ m e y there. and_left (goes_on t demand y) (int_lt (bound y) worth) (useless_shut t demand x leads shuts m e y there);
+  leaves = λ told m e. absurd (true≢false (sym told));
+  shut = λ _ m e. useless_shut t demand x leads shuts m e;
   useful = λ m e. ap not e;
 }
 
@@ -46,18 +47,14 @@ and_no true false = refl
 and_no false true = refl
 and_no false false = refl
 
--- No leave leads to a bound below the worth.
-abbrev pub LeavesInVain : Aim → (departs : Course → Type 0) → (bound : Course → ℤ) → (worth : ℤ) → Type 0
-LeavesInVain a departs bound worth = (x y : Course) (floor : ℕ) → departs x → move_on a.snapshot a.car x (Leave floor) ≡ Some y → worth ≤ℤ bound y
-
 -- the followers without all their leaves
 pub record AreWithoutLeaves (all next : Followers) : Type 0 where
   pub boards : next.boards ≡ all.boards
   pub leaves : (g : ℕ) → has next.leaves g ≡ (has all.leaves g && not (has all.leaves g))
   pub ends : next.ends ≡ all.ends
 
-pub no_leaves_below : (a : Aim) (departs : Course → Type 0) (t : PartialTour) (demand : Demand) (bound : Course → ℤ) (worth : ℤ) (x : Course) (all next : Followers) → AimsAt a t → course t ≡ Some x → departs x → LeavesInVain a departs bound worth → AreFollowers t.snapshot t.car x (has demand.allowed) all → AreWithoutLeaves all next → AreFollowersBelow demand bound worth t x next
-no_leaves_below a departs t demand bound worth x all next aims leads there vain are without = record {
+pub no_leaves_left : (t : PartialTour) (demand : Demand) (x : Course) (all next : Followers) → AreFollowers t.snapshot t.car x (has demand.allowed) all → AreWithoutLeaves all next → AreFollowersLeft demand true t x next
+no_leaves_left t demand x all next are without = record {
   stays = is_no_leave;
   passing = record {
     boards = λ j. ap (λ (set : ℕ). has set j) without.boards ∙ are.boards j ∙ and_yes (may (Board j));
@@ -66,25 +63,46 @@ no_leaves_below a departs t demand bound worth x all next aims leads there vain 
     calls = λ j h. are.calls j (and_parts (may (Board j)) true h).0;
     floors = λ g h. are.floors g (and_parts (may (Leave g)) false h).0;
   };
-  out = out;
+  leaves = λ _. leaves;
+  shut = λ off m e. absurd (true≢false off);
   useful = useful;
 }
   where
     may : Move → Bool
     may m = may_be_next t.snapshot t.car x (has demand.allowed) m
 
-    out : (m : Move) → is_no_leave m ≡ false → IsNotKept demand bound worth (with_move t m)
-    out (Board j) = λ e. absurd (true≢false e)
-    out (Leave g) = λ e y leads_there.
-        let moved = moved_on t (Leave g) x y leads leads_there in
-        let aimed = subst (λ (s : Snapshot). move_on s a.car x (Leave g) ≡ Some y) (sym aims.snapshot) (subst (λ (c : ℕ). move_on t.snapshot c x (Leave g) ≡ Some y) (sym aims.car) moved) in
-        and_right (goes_on t demand y) (int_lt (bound y) worth) (not_below (bound y) worth (vain x y g there aimed))
-    out End = λ e. absurd (true≢false e)
+    leaves : (m : Move) → is_no_leave m ≡ false → (g : ℕ) × (m ≡ Leave g)
+    leaves (Board j) = λ e. absurd (true≢false e)
+    leaves (Leave g) = λ e. (g, refl)
+    leaves End = λ e. absurd (true≢false e)
 
     useful : (m : Move) → is_useless t.snapshot t.car x (has demand.allowed) m ≡ true → is_no_leave m ≡ false
     useful (Board j) = λ e. absurd (true≢false (sym e))
     useful (Leave g) = λ e. refl
     useful End = λ e. absurd (true≢false (sym e))
+
+-- What is known of leaves that are left out, and of what no tour of the node goes on with, holds of all that is left out.
+pub out_of_left : (Out : Move → Type 0) (no_leaves : Bool) (t : PartialTour) (demand : Demand) (x : Course) (next : Followers) (left : AreFollowersLeft demand no_leaves t x next) → (no_leaves ≡ true → (g : ℕ) → Out (Leave g)) → ((m : Move) → IsShut demand (with_move t m) → Out m) → (m : Move) → left.stays m ≡ false → Out m
+out_of_left Out true t demand x next left vain shut m e = let leaf = left.leaves refl m e in subst Out (sym leaf.1) (vain refl leaf.0)
+out_of_left Out false t demand x next left vain shut m e = shut m (left.shut refl m e)
+
+-- No leave leads to a bound below the worth.
+abbrev pub LeavesInVain : Aim → (departs : Course → Type 0) → (bound : Course → ℤ) → (worth : ℤ) → Type 0
+LeavesInVain a departs bound worth = (x y : Course) (floor : ℕ) → departs x → move_on a.snapshot a.car x (Leave floor) ≡ Some y → worth ≤ℤ bound y
+
+pub left_below : (a : Aim) (departs : Course → Type 0) (no_leaves : Bool) (t : PartialTour) (demand : Demand) (bound : Course → ℤ) (worth : ℤ) (x : Course) (next : Followers) → AimsAt a t → course t ≡ Some x → departs x → (no_leaves ≡ true → LeavesInVain a departs bound worth) → AreFollowersLeft demand no_leaves t x next → AreFollowersBelow demand bound worth t x next
+left_below a departs no_leaves t demand bound worth x next aims leads there vain left = record {
+  stays = left.stays;
+  passing = left.passing;
+  out = out_of_left (λ m. IsNotKept demand bound worth (with_move t m)) no_leaves t demand x next left leaves (λ m shut y led. and_left (goes_on t demand y) (int_lt (bound y) worth) (shut y led));
+  useful = left.useful;
+}
+  where
+    leaves : no_leaves ≡ true → (g : ℕ) → IsNotKept demand bound worth (with_move t (Leave g))
+    leaves told g y led =
+        let moved = moved_on t (Leave g) x y leads led in
+        let aimed = subst (λ (s : Snapshot). move_on s a.car x (Leave g) ≡ Some y) (sym aims.snapshot) (subst (λ (c : ℕ). move_on t.snapshot c x (Leave g) ≡ Some y) (sym aims.car) moved) in
+        and_right (goes_on t demand y) (int_lt (bound y) worth) (not_below (bound y) worth (vain told x y g there aimed))
 
 -- ---- one after the other
 

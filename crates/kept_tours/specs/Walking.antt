@@ -2,6 +2,7 @@
 use Rattle.std.specs.Prelude.{◌≡◌, ℕ, ◌<◌, ◌++◌, ◌∷◌, [], ℤ, Bool, true, false, ◌&&◌, Some}
 use Rattle.call_sets.specs.Counting.{has}
 use Rattle.elevator_model.specs.declared.Move.{Move}
+use Rattle.elevator_model.specs.declared.Move.TheVariants.{Leave}
 use Rattle.elevator_model.specs.Snapshot.{IsAccepted, car_count}
 use Rattle.elevator_model.specs.Partial.{Course, IsLawful, boards_allowed}
 use Rattle.search_model.specs.Extending.{IsDemand, can_be_extended}
@@ -51,6 +52,15 @@ IsNotKept demand bound worth t =
 pub record MayFollow (demand : Demand) (t : PartialTour) (m : Move) : Type 0 where
   pub lawful : IsLawful t.snapshot t.car (t.moves ++ m ∷ [])
   pub may : boards_allowed (has demand.allowed) m ≡ true
+
+-- They are the moves that may follow, without all leaves where these are left out, and else without some with which no
+-- tour of the node goes on: the useless leaves are among these.
+pub record AreFollowersLeft (demand : Demand) (no_leaves : Bool) (t : PartialTour) (x : Course) (next : Followers) : Type 0 where
+  pub stays : Move → Bool
+  pub passing : ArePassing t.snapshot (λ m. may_be_next t.snapshot t.car x (has demand.allowed) m && stays m) next
+  pub leaves : no_leaves ≡ true → (m : Move) → stays m ≡ false → (g : ℕ) × (m ≡ Leave g)
+  pub shut : no_leaves ≡ false → (m : Move) → stays m ≡ false → IsShut demand (with_move t m)
+  pub useful : (m : Move) → is_useless t.snapshot t.car x (has demand.allowed) m ≡ true → stays m ≡ false
 
 -- They are the moves that may follow, without some after which the partial tour is not kept for the worth: the useless
 -- leaves are among these.

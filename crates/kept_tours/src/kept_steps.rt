@@ -7,10 +7,11 @@ ghost use Rattle.partial_tours.specs.PartialTour.{course, with_move};
 ghost use Rattle.pricing_bound.specs.Aims.{AimsAt, IsNextMove};
 ghost use Rattle.kept_tours.specs.Walking.{AreFollowersBelow, IsWalking, IsNotKept, IsOpen, MayFollow};
 
+use crate::onward::followers_left;
 use elevator_model::Move;
 use partial_tours::{Followers, Prefix};
 use pricing_bound::CompletionBound;
-use tour_extension::{Demand, can_be_extended, useful};
+use tour_extension::{Demand, can_be_extended};
 
 /// Whether no leave leads to a bound below the worth.
 fn leaves_in_vain<B: CompletionBound>(bound: &B, departure: &B::Departure, worth: i128) -> bool
@@ -35,12 +36,8 @@ pub fn followers_below<B: CompletionBound>(
     ensures { (x : Course) → course prefix.now ≡ Some x
         → AreFollowersBelow demand.now (B.bound bound.now) worth prefix.now x result }
 {
-    let followers = prefix.followers(demand.allowed);
-    if leaves_in_vain(bound, departure, worth) {
-        followers.without_leaves(followers.leaves())
-    } else {
-        useful(prefix, demand, followers)
-    }
+    let no_leaves = leaves_in_vain(bound, departure, worth);
+    followers_left(prefix, demand, no_leaves)
 }
 
 /// Whether the move is a leave, and no leave leads to a bound below the worth.

@@ -1,14 +1,14 @@
 //! The kept partial tours of a car: those that some tour of a node begins with and whose bound is below a
-//! worth. This walk is what a search and a checker share.
+//! worth. This is the walk of a checker; with a search it shares what holds at each partial tour, and
+//! `followers_left`.
 //!
 //! # What is promised
 //!
-//! - `step` is one move of a walk over the partial tours that some tour of a node begins with. The move is
-//!   made, and the bound's sums are given, exactly where some tour of the node begins with the longer partial
-//!   tour, for any `CompletionBound`.
-//! - `step_below` is the same for a worth: the sums are given and the move is made, or neither; neither only
-//!   where the longer partial tour is not kept for the worth. It tests first a leave by the departure, then
-//!   the bound, since neither needs a move.
+//! - `step_below` is one move of a walk over the kept partial tours for a worth, for any `CompletionBound`:
+//!   the move is made and the bound's sums are given, or neither; neither only where the longer partial tour
+//!   is not kept. It tests first a leave by the departure, then the bound, since neither needs a move.
+//! - `followers_left` has the moves that may follow a partial tour, but for all leaves where these are left
+//!   out, and else but for the useless ones (`AreFollowersLeft`).
 //! - `followers_below` has the moves that may follow, but for some after which the partial tour is not kept
 //!   for the worth, among them all useless leaves; it has no leave where the departure refuses all
 //!   (`AreFollowersBelow`).
@@ -23,14 +23,14 @@
 
 mod guides;
 mod kept_steps;
-mod steps;
+mod onward;
 
 ghost use Rattle.search_model.specs.Kept.{KeptLaw};
 ghost use Rattle.kept_tours.specs.Kept.{KeptByLaw};
 
 pub use guides::Guide;
 pub use kept_steps::{followers_below, step_below};
-pub use steps::step;
+pub use onward::followers_left;
 
 /// A law: for any bound that grows along the moves, the kept list has exactly the kept partial tours, in the
 /// order of moves, each once.
