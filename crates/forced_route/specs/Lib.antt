@@ -1,0 +1,16 @@
+pub mod ForcedRoute
+pub mod Moves
+pub mod Completions
+pub mod OnRoute
+pub mod RouteTimes
+pub mod LowerRoute
+pub mod EndedRoute
+pub mod Turns
+pub mod TurnSums
+pub mod Slack
+pub mod TurnTimes
+pub mod TurnsTaken
+pub mod LowerTurns
+pub mod RouteSteps
+pub mod GrowingRoute
+pub mod WorkedRoutes
