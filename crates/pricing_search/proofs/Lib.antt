@@ -1,3 +1,4 @@
+mod Vain
 mod Visiting
 mod StepLemmas
 mod DiveLemmas

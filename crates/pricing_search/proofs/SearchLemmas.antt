@@ -1,20 +1,23 @@
 -- What a dive and a walk together answer.
 use Rattle.std.proofs.Common.{◌≡◌, ℕ, ◌+◌, ◌<◌, ◌≤◌, true, false, cond, List, [], length, refl, sym, ap, ◌∙◌, subst, inl, inr, arith, Some}
-use Rattle.std.specs.Prelude.{ℤ, ◌≤ℤ◌, int_lt, nat_eq}
+use Rattle.std.specs.Prelude.{ℤ, ◌≤ℤ◌, ◌^◌, pos, int_lt, nat_eq}
 use Rattle.std.proofs.Math.Nat.{eq-or-lt_of_le}
 use Rattle.std.proofs.lemmas.Int.{ints}
 use Rattle.std.proofs.lemmas.Bool.{cond_both, eqb-true, eqb-false}
 use Rattle.call_sets.specs.Counting.{has}
 use Rattle.elevator_model.specs.declared.Move.{Move}
-use Rattle.elevator_model.specs.Snapshot.{IsAccepted, car_count}
+use Rattle.elevator_model.specs.declared.Stop.{Stop}
+use Rattle.elevator_model.specs.Snapshot.{Snapshot, IsAccepted, car_count}
 use Rattle.elevator_model.specs.Partial.{Course, course_start, moves_of}
 use Rattle.search_model.specs.declared.Priced.{Priced}
 use Rattle.search_model.specs.Extending.{IsDemand}
+use Rattle.search_model.specs.Nodes.{IsTourWithin}
 use Rattle.search_model.specs.Orders.{BeginsWith, move_limit, any_course, partial_tours, lists_from}
 use Rattle.tour_rules.proofs.Measure.{lawful_short}
 use Rattle.partial_tours.specs.PartialTour.{PartialTour, course}
 use Rattle.tour_extension.specs.declared.demands.Demand.{Demand}
-use Rattle.pricing_bound.specs.Aims.{Aim, AimsAt, IsBoundSize, IsLower}
+use Rattle.pricing_bound.specs.Aims.{Aim, AimsAt, IsBoundSize, IsLower, value_for}
+use Rattle.tour_bounds.specs.Undercutting.{HasNoneBelow}
 use Rattle.kept_tours.specs.Walking.{aim_at, IsWalking, IsOpen}
 use Rattle.kept_tours.proofs.ListLemmas.{own_one}
 use Rattle.pricing_search.specs.declared.progress.Progress.{Progress}
@@ -33,6 +36,10 @@ pub walking_first : (a : Aim) (demand : Demand) (t : PartialTour) → IsAccepted
 walking_first a demand t ok below empty aim demands =
     subst (λ (q : PartialTour). IsWalking a demand q) (sym (is_empty t empty)) (record { accepted = ok; car = below; aim = aim; demands = demands; may = tt })
 
+-- an aim that is the same is one of the partial tour, too
+pub aim_too : (first a : Aim) (demand : Demand) (t : PartialTour) → first ≡ a → a ≡ aim_at t demand a.price → first ≡ aim_at t demand first.price
+aim_too first a demand t same aim = same ∙ aim ∙ ap (λ (b : Aim). aim_at t demand b.price) (sym same)
+
 pub aims_first : (a : Aim) (demand : Demand) (t : PartialTour) → a ≡ aim_at t demand a.price → AimsAt a t
 aims_first a demand t aim = record { snapshot = ap (λ (b : Aim). b.snapshot) aim; car = ap (λ (b : Aim). b.car) aim }
 
@@ -41,13 +48,18 @@ open_first stands demand t empty there =
     let at : course t ≡ Some (course_start t.snapshot t.car) = ap course (is_empty t empty) in
     record { at = course_start t.snapshot t.car; leads = at; stands_there = there (course_start t.snapshot t.car) at; extends = refl }
 
+-- a lower bound of the empty partial tour has no tour below it
+pub empty_lower : (a : Aim) (t : PartialTour) (bound : Course → ℤ) (value : ℤ) → IsAccepted t.snapshot → t.car < car_count t.snapshot → AimsAt a t → IsLower a bound → value ≡ bound (course_start t.snapshot t.car) → HasNoneBelow a value []
+empty_lower a t bound value ok below aims lower is = λ tour begins within.
+    let accepted = subst IsAccepted (sym aims.snapshot) ok in
+    let car = subst (λ (s : Snapshot). a.car < car_count s) (sym aims.snapshot) (subst (λ (c : ℕ). c < car_count t.snapshot) (sym aims.car) below) in
+    let start : course_start a.snapshot a.car ≡ course_start t.snapshot t.car = ap (λ (s : Snapshot). course_start s a.car) aims.snapshot ∙ ap (course_start t.snapshot) aims.car in
+    subst (λ (z : ℤ). z ≤ℤ value_for a tour) (sym is) (lower [] (course_start t.snapshot t.car) tour accepted car (ap Some start) begins within)
+
 -- ---- the answer
 
 lesser-least : (a b : ℤ) → (cond (int_lt a b) a b ≤ℤ a) × (cond (int_lt a b) a b ≤ℤ b)
 lesser-least a b = (grind (arith, ints), grind (arith, ints))
-
-lesser-most : (z a b : ℤ) → z ≤ℤ a → z ≤ℤ b → z ≤ℤ cond (int_lt a b) a b
-lesser-most z a b h k = grind (arith, ints)
 
 lesser_same : (a b : ℤ) → b ≤ℤ a → cond (int_lt a b) a b ≡ b
 lesser_same a b h = grind (arith, ints)
@@ -64,49 +76,60 @@ one_or P v one h = cond_both (nat_eq v 0) 1 v P (λ e. one) (λ e. h)
 through : (t u v : ℤ) → t ≤ℤ u → u ≤ℤ v → t ≤ℤ v
 through t u v h k = omega (arith, ints, h, k)
 
-pub searched : (a : Aim) (demand : Demand) (t : PartialTour) (bound : Course → ℤ) (most : ℕ) (first last : Progress) (answer : Priced) → IsWalking a demand t → IsLower a bound → t.moves ≡ [] → Begins (aim_at t demand a.price) first → Visited t demand a.price bound most first last → 1 ≤ most → IsBoundSize (bound (course_start t.snapshot t.car)) → answer.worth ≡ cond (int_lt last.untried last.best) last.untried last.best → answer.visits ≡ cond (nat_eq last.visits 0) 1 last.visits → (answer.spent ≡ true → answer.visits ≡ most) → (answer.spent ≡ false → answer.visits ≡ most → ⊥) → IsSearched (aim_at t demand a.price) bound most last.found answer
-searched a demand t bound most first last answer w lower empty begins walked some size worth_is visits_are spent unspent = record {
+-- what holds of both holds of the greater
+greater_of : (P : ℤ → Type 0) (a b : ℤ) → P a → P b → P (cond (int_lt b a) a b)
+greater_of P a b h k = cond_both (int_lt b a) a b P (λ _. h) (λ _. k)
+
+greater-least : (a b : ℤ) → b ≤ℤ cond (int_lt b a) a b
+greater-least a b = grind (arith, ints)
+
+greater_same : (a b : ℤ) → b ≤ℤ a → cond (int_lt b a) a b ≡ a
+greater_same a b h = grind (arith, ints)
+
+-- of what was found: the lesser of the best value and of what was left out
+abbrev pub open_worth : Progress → ℤ
+open_worth p = cond (int_lt p.untried p.best) p.untried p.best
+
+pub searched : (a : Aim) (demand : Demand) (t : PartialTour) (least : ℤ) (most : ℕ) (first last : Progress) (answer : Priced) → IsWalking a demand t → HasNoneBelow a least [] → t.moves ≡ [] → Begins (aim_at t demand a.price) first → Visited t demand a.price most first last → 1 ≤ most → IsBoundSize least → answer.worth ≡ cond (int_lt least (open_worth last)) (open_worth last) least → answer.visits ≡ cond (nat_eq last.visits 0) 1 last.visits → (answer.spent ≡ true → answer.visits ≡ most) → (answer.spent ≡ false → answer.visits ≡ most → ⊥) → IsSearched (aim_at t demand a.price) least most last.found answer
+searched a demand t least most first last answer w none empty begins walked some size worth_is visits_are spent unspent = record {
   low = (let h = (one_at_least last.visits).0 in omega (arith, h, visits_are));
   high = within;
-  worth = λ tour inside. walked.below answer.worth tour may inside (subst (BeginsWith t.snapshot tour) (sym empty) (moves_of t.snapshot tour, refl));
+  worth = λ tour inside. subst (λ (z : ℤ). z ≤ℤ value_for aim tour) (sym worth_is) (greater_of (λ z. z ≤ℤ value_for aim tour) (open_worth last) least (walked.below (open_worth last) tour may inside (subst (BeginsWith t.snapshot tour) (sym empty) (moves_of t.snapshot tour, refl))) (low_for tour inside));
   size = (
       let low = size.0 in
       let high = begins.size.1 in
       let best = walked.on.best in
       let under = may.best in
-      (through _ _ answer.worth low at_least, through answer.worth first.best _ (through answer.worth last.best first.best under best) high)
+      (through _ _ answer.worth low at_least, subst (λ (z : ℤ). z ≤ℤ pos (10 ^ 27)) (sym worth_is) (greater_of (λ z. z ≤ℤ pos (10 ^ 27)) (open_worth last) least (through (open_worth last) first.best _ (through (open_worth last) last.best first.best under best) high) size.1))
       );
-  least = at_least;
+  at_least = at_least;
   finds = (last.best, walked.found);
-  exact = λ e. subst (IsFoundTour (aim_at t demand a.price) last.found) (sym (worth_is ∙ lesser_same last.untried last.best (best_known e))) walked.found;
+  exact = λ e. subst (IsFoundTour aim last.found) (sym (worth_is ∙ ap (λ (z : ℤ). cond (int_lt least z) z least) (lesser_same last.untried last.best (best_known e)) ∙ greater_same last.best least found_least)) walked.found;
   spent = spent;
   many = few_enough;
 }
   where
+    aim : Aim
+    aim = aim_at t demand a.price
+
     at : course t ≡ Some (course_start t.snapshot t.car)
     at = ap course (is_empty t empty)
 
-    may : MayAnswer last answer.worth
-    may = let l = lesser-least last.untried last.best in let lu = l.0 in let lb = l.1 in record { best = omega (arith, ints, worth_is, lb); untried = omega (arith, ints, worth_is, lu) }
+    may : MayAnswer last (open_worth last)
+    may = let l = lesser-least last.untried last.best in record { best = l.1; untried = l.0 }
 
     within : answer.visits ≤ most
     within = let h = one_or (λ v. v ≤ most) last.visits some walked.on.limit in omega (arith, h, visits_are)
 
-    first_may : (z : ℤ) → z ≤ℤ first.best → MayAnswer first z
-    first_may z h = let u = begins.untried in record { best = h; untried = omega (arith, ints, h, u) }
+    low_for : (tour : List Stop) → IsTourWithin t.snapshot t.car (has demand.allowed) (has demand.required) tour → least ≤ℤ value_for aim tour
+    low_for tour inside = subst (λ (b : Aim). HasNoneBelow b least []) w.aim none tour (moves_of t.snapshot tour, refl) inside
 
-    -- the first tour's value is no less than the bound
-    first_least : bound (course_start t.snapshot t.car) ≤ℤ first.best
-    first_least = let f = begins.found in subst (λ (z : ℤ). bound (course_start t.snapshot t.car) ≤ℤ z) f.is (subst (λ (b : Aim). IsLower b bound) w.aim lower [] (course_start t.snapshot t.car) f.last.left w.accepted w.car refl (moves_of t.snapshot f.last.left, refl) f.within)
+    -- the best tour's value is no less
+    found_least : least ≤ℤ last.best
+    found_least = let f = walked.found in subst (λ (z : ℤ). least ≤ℤ z) f.is (low_for f.last.left f.within)
 
-    at_least : bound (course_start t.snapshot t.car) ≤ℤ answer.worth
-    at_least =
-        let later = walked.least (course_start t.snapshot t.car) at (bound (course_start t.snapshot t.car)) (no_less (bound (course_start t.snapshot t.car))) (first_may (bound (course_start t.snapshot t.car)) first_least) in
-        let h = lesser-most (bound (course_start t.snapshot t.car)) last.untried last.best later.untried later.best in
-        omega (arith, ints, h, worth_is)
-      where
-        no_less : (z : ℤ) → z ≤ℤ z
-        no_less z = omega (arith, ints)
+    at_least : least ≤ℤ answer.worth
+    at_least = let h = greater-least (open_worth last) least in omega (arith, ints, h, worth_is)
 
     best_known : answer.spent ≡ false → last.best ≤ℤ last.untried
     best_known e =

@@ -1,53 +1,45 @@
 -- What a walk keeps, move after move.
-use Rattle.std.proofs.Common.{◌≡◌, ℕ, zero, suc, ◌+◌, ◌<◌, ◌≤◌, Bool, true, false, cond, List, [], ◌∷◌, ◌++◌, length, get_or, refl, sym, ap, ◌∙◌, subst, inl, inr, arith, append-nil, Option, Some, None}
-use Rattle.std.specs.Prelude.{ℤ, ◌≤ℤ◌, int_lt, not, ◌&&◌}
+use Rattle.std.proofs.Common.{◌≡◌, ℕ, zero, suc, ◌+◌, ◌<◌, ◌≤◌, Bool, true, false, cond, List, [], ◌∷◌, ◌++◌, length, get_or, refl, sym, ap, ◌∙◌, subst, inl, inr, arith, Option, Some, None}
+use Rattle.std.specs.Prelude.{ℤ, ◌≤ℤ◌, int_lt, not}
 use Rattle.std.specs.List.{flat_map}
 use Rattle.std.proofs.Math.Nat.{eq-or-lt_of_le}
 use Rattle.std.proofs.lemmas.Int.{ints}
-use Rattle.std.proofs.lemmas.Bool.{both_ways}
 use Rattle.call_sets.specs.Counting.{has}
 use Rattle.elevator_model.specs.declared.Move.{Move}
 use Rattle.elevator_model.specs.declared.Move.TheVariants.{Board, End}
 use Rattle.elevator_model.specs.declared.Stop.{Stop}
-use Rattle.elevator_model.specs.Snapshot.{IsAccepted, car_count}
-use Rattle.elevator_model.specs.Partial.{Course, move_on, boards_allowed, moves_of_stop}
+use Rattle.elevator_model.specs.Partial.{Course, boards_allowed, moves_of_stop}
 use Rattle.search_model.specs.Nodes.{IsTourWithin}
 use Rattle.search_model.specs.Orders.{BeginsWith, any_course, AreAllowed}
-use Rattle.search_model.specs.Extending.{IsDemand}
 use Rattle.tour_rules.specs.Measure.{moves_left}
 use Rattle.tour_rules.proofs.Measure.{moves_left-falls}
 use Rattle.partial_tours.specs.PartialTour.{PartialTour, course, with_move}
 use Rattle.partial_tours.proofs.Lawful.{In, at_place}
-use Rattle.partial_tours.proofs.Told.{moves_told}
 use Rattle.tour_extension.specs.declared.demands.Demand.{Demand}
-use Rattle.tour_extension.proofs.Extended.{extendable_to, allowed_append, allowed_stops}
-use Rattle.pricing_bound.specs.Aims.{Aim, value_for, IsLower, IsGrowing}
-use Rattle.kept_tours.specs.Kept.{is_kept_by}
-use Rattle.kept_tours.specs.Walking.{aim_at, goes_on, IsWalking, IsOpen, IsNotKept}
-use Rattle.kept_tours.proofs.Followers.{followers, IsAt, at_move, at_end, at_place_of, follower, one_course, in_followers, past_out}
-use Rattle.kept_tours.proofs.Below.{GoesToKept}
+use Rattle.tour_extension.proofs.Extended.{allowed_append, allowed_stops}
+use Rattle.pricing_bound.specs.Aims.{Aim, value_for}
+use Rattle.tour_bounds.specs.Undercutting.{HasNoneBelow, UndercutsNone}
+use Rattle.kept_tours.specs.Walking.{aim_at, IsWalking, IsOpen}
+use Rattle.kept_tours.proofs.Followers.{followers, IsAt, at_move, at_end, at_place_of, follower, in_followers, past_out}
 use Rattle.kept_tours.proofs.EndLemmas.{ended_within, ended_value, HasNext, has_next}
 use Rattle.kept_tours.proofs.ListLemmas.{first_lists, own_lists, next_lists, own_one, own_all}
 use Rattle.pricing_search.specs.declared.progress.Progress.{Progress}
-use Rattle.pricing_search.specs.Walks.{IsFoundTour, HasFound, GoesOn, MayAnswer, BelowAll, KeepsLow, Visited}
-
--- the test of those that are kept
-abbrev pub keeps : PartialTour → Demand → (bound : Course → ℤ) → (worth : ℤ) → Course → Bool
-keeps t demand bound worth = is_kept_by t.snapshot t.car bound (has demand.allowed) (has demand.required) worth
+use Rattle.pricing_search.specs.Steps.{IsVain}
+use Rattle.pricing_search.specs.Walks.{IsFoundTour, HasFound, GoesOn, MayAnswer, BelowAll, Visited}
+use Rattle.pricing_search.proofs.Vain.{GoesToWorth, none_below_there}
 
 -- What a walk through the followers before a place has done.
-pub record VisitsBefore (t : PartialTour) (demand : Demand) (price : ℕ → ℤ) (bound : Course → ℤ) (most : ℕ) (old new : Progress) (place : ℕ) : Type 0 where
+pub record VisitsBefore (t : PartialTour) (demand : Demand) (price : ℕ → ℤ) (most : ℕ) (old new : Progress) (place : ℕ) : Type 0 where
   pub on : GoesOn most old new
   pub found : HasFound (aim_at t demand price) new
   pub below : (k : ℕ) → k < place → BelowAll t demand price (t.moves ++ get_or (followers t demand.allowed) k (Board 0) ∷ []) new
   pub few : (x : Course) → course t ≡ Some x → (n : ℕ) → moves_left t.snapshot t.car x ≤ n → new.visits ≤ old.visits + length (first_lists t demand.allowed any_course n x place)
-  pub least : (x : Course) → course t ≡ Some x → KeepsLow (bound x) old new
 
 -- What it has done before the next move.
-pub record Visits (t : PartialTour) (demand : Demand) (price : ℕ → ℤ) (bound : Course → ℤ) (most : ℕ) (next : Option Move) (old new : Progress) : Type 0 where
+pub record Visits (t : PartialTour) (demand : Demand) (price : ℕ → ℤ) (most : ℕ) (next : Option Move) (old new : Progress) : Type 0 where
   pub place : ℕ
   pub at : IsAt t demand.allowed next place
-  pub done : VisitsBefore t demand price bound most old new place
+  pub done : VisitsBefore t demand price most old new place
 
 pub goes_nowhere : (most : ℕ) (p : Progress) → p.visits ≤ most → GoesOn most p p
 goes_nowhere most p le = record { limit = le; rises = omega arith; best = omega (arith, ints); untried = omega (arith, ints); unspent = λ lt. refl }
@@ -63,42 +55,22 @@ might_answer most old new worth on may =
 through : (t u v : ℤ) → t ≤ℤ u → u ≤ℤ v → t ≤ℤ v
 through t u v h k = omega (arith, ints, h, k)
 
--- The bound is at least each worth that may be answered, and nothing but what was left out changed.
-pub passed_by : (t : PartialTour) (demand : Demand) (price : ℕ → ℤ) (bound : Course → ℤ) (most : ℕ) (old new : Progress) (at : Course) → IsAccepted t.snapshot → t.car < car_count t.snapshot → IsLower (aim_at t demand price) bound → course t ≡ Some at → GoesOn most old new → new.visits ≡ old.visits → HasFound (aim_at t demand price) new → ((worth : ℤ) → MayAnswer new worth → worth ≤ℤ bound at) → KeepsLow (bound at) old new → Visited t demand price bound most old new
-passed_by t demand price bound most old new at ok car_in lower leads on same found least low = record {
+-- No tour has a value below one that each worth that may be answered is at most, and nothing but what was left out changed.
+pub passed_by : (t : PartialTour) (demand : Demand) (price : ℕ → ℤ) (most : ℕ) (old new : Progress) (least : ℤ) → GoesOn most old new → new.visits ≡ old.visits → HasFound (aim_at t demand price) new → ((worth : ℤ) → MayAnswer new worth → worth ≤ℤ least) → HasNoneBelow (aim_at t demand price) least t.moves → Visited t demand price most old new
+passed_by t demand price most old new least on same found low none = record {
   on = on;
   found = found;
-  below = λ worth tour may within begins. through worth (bound at) (value_for (aim_at t demand price) tour) (least worth may) (lower t.moves at tour ok car_in leads begins within);
+  below = λ worth tour may within begins. through worth least (value_for (aim_at t demand price) tour) (low worth may) (none tour begins within);
   few = λ x there n lt. omega (arith, same);
-  least = λ x there. subst (λ (y : Course). KeepsLow (bound y) old new) (one_course t at x leads there) low;
 }
 
--- No tour of the node begins with it.
-pub shut_out : (t : PartialTour) (demand : Demand) (price : ℕ → ℤ) (bound : Course → ℤ) (most : ℕ) (p : Progress) (at : Course) → IsAccepted t.snapshot → IsDemand t.snapshot t.car (has demand.allowed) (has demand.required) → course t ≡ Some at → goes_on t demand at ≡ false → p.visits ≤ most → HasFound (aim_at t demand price) p → Visited t demand price bound most p p
-shut_out t demand price bound most p at ok demands leads shut le found = record {
-  on = goes_nowhere most p le;
-  found = found;
-  below = λ worth tour may within begins. absurd (both_ways (goes_on t demand at) shut (extendable_to t.snapshot t.car (has demand.allowed) (has demand.required) t.moves at ok demands leads (tour, within, begins)));
-  few = λ x there n lt. omega arith;
-  least = λ x there z le may. may;
-}
+-- It is passed by where no tour has a value below one that the best value is at most.
+pub left_aside : (t : PartialTour) (demand : Demand) (price : ℕ → ℤ) (most : ℕ) (p : Progress) (worth : ℤ) → p.best ≤ℤ worth → p.visits ≤ most → HasFound (aim_at t demand price) p → HasNoneBelow (aim_at t demand price) worth t.moves → Visited t demand price most p p
+left_aside t demand price most p worth low le found none =
+    passed_by t demand price most p p worth (goes_nowhere most p le) refl found (λ z may. let b = may.best in omega (arith, ints, b, low)) none
 
 not_less : (a b : ℤ) → not (int_lt a b) ≡ true → b ≤ℤ a
 not_less a b h = grind (arith, ints)
-
-not_yet : (b x : Bool) → b ≡ true → (b && x) ≡ false → not x ≡ true
-not_yet true x e h = ap not h
-not_yet false x e h = absurd (both_ways false refl e)
-
--- It is not one of those that are kept for a worth that the best value is at most.
-pub kept_out : (t : PartialTour) (demand : Demand) (price : ℕ → ℤ) (bound : Course → ℤ) (most : ℕ) (p : Progress) (at : Course) (worth : ℤ) → IsAccepted t.snapshot → t.car < car_count t.snapshot → IsLower (aim_at t demand price) bound → IsDemand t.snapshot t.car (has demand.allowed) (has demand.required) → course t ≡ Some at → p.best ≤ℤ worth → keeps t demand bound worth at ≡ false → p.visits ≤ most → HasFound (aim_at t demand price) p → Visited t demand price bound most p p
-kept_out t demand price bound most p at worth ok car_in lower demands leads low out le found = by_test (goes_on t demand at) refl
-  where
-    by_test : (v : Bool) → goes_on t demand at ≡ v → Visited t demand price bound most p p
-    by_test true e =
-        let above = not_less (bound at) worth (not_yet (goes_on t demand at) (int_lt (bound at) worth) e out) in
-        passed_by t demand price bound most p p at ok car_in lower leads (goes_nowhere most p le) refl found (λ z may. let b = may.best in omega (arith, ints, b, low, above)) (λ z under may. may)
-    by_test false e = shut_out t demand price bound most p at ok demands leads e le found
 
 -- ---- move after move
 
@@ -115,13 +87,9 @@ goes_through most old mid new first more_on =
       unspent = λ lt. more_on.unspent lt ∙ first.unspent (omega (arith, lt, r2));
     }
 
--- one move more makes the bound no smaller
-abbrev pub Grows : PartialTour → Demand → (bound : Course → ℤ) → Type 0
-Grows t demand bound = (x y : Course) (m : Move) → course t ≡ Some x → boards_allowed (has demand.allowed) m ≡ true → move_on t.snapshot t.car x m ≡ Some y → bound x ≤ℤ bound y
-
 -- one follower more
-one_visited : (t : PartialTour) (demand : Demand) (price : ℕ → ℤ) (bound : Course → ℤ) (most : ℕ) (at : Course) (m : Move) (place : ℕ) (old mid new : Progress) → course t ≡ Some at → IsAt t demand.allowed (Some m) place → VisitsBefore t demand price bound most old mid place → Visited (with_move t m) demand price bound most mid new → Grows t demand bound → VisitsBefore t demand price bound most old new (place + 1)
-one_visited t demand price bound most at m place old mid new leads stands first more_on grows =
+one_visited : (t : PartialTour) (demand : Demand) (price : ℕ → ℤ) (most : ℕ) (at : Course) (m : Move) (place : ℕ) (old mid new : Progress) → course t ≡ Some at → IsAt t demand.allowed (Some m) place → VisitsBefore t demand price most old mid place → Visited (with_move t m) demand price most mid new → VisitsBefore t demand price most old new (place + 1)
+one_visited t demand price most at m place old mid new leads stands first more_on =
     let set = demand.allowed in
     let here = at_move t set m place stands in record {
       on = goes_through most old mid new first.on more_on.on;
@@ -138,44 +106,35 @@ one_visited t demand price bound most at m place old mid new leads stands first 
           let one_more = next_lists t set any_course n x fx.next m place there stands fx.moved in
           omega (arith, a, b, one_more)
           );
-      least = λ x there z le may. (
-          let fx = follower t set x m place there stands in
-          more_on.least fx.next fx.leads z (through z (bound x) (bound fx.next) le (grows x fx.next m there fx.may fx.moved)) (first.least x there z le may)
-          );
     }
 
--- what the trait's law says of the car and the demand
-pub lower_at : (a : Aim) (demand : Demand) (t : PartialTour) (bound : Course → ℤ) → IsWalking a demand t → IsLower a bound → IsLower (aim_at t demand a.price) bound
-lower_at a demand t bound w lower = subst (λ (b : Aim). IsLower b bound) w.aim lower
-
--- The followers up to the next move are not kept for the best value of before, so there is nothing to visit.
-visits_to : (a : Aim) (t : PartialTour) (demand : Demand) (bound : Course → ℤ) (most : ℕ) (at : Course) (next : Option Move) (from : ℕ) (old new : Progress) → IsWalking a demand t → IsLower a bound → course t ≡ Some at → Grows t demand bound → GoesToKept t demand bound old.best next from → VisitsBefore t demand a.price bound most old new from → Visits t demand a.price bound most next old new
-visits_to a t demand bound most at next from old new w lower leads grows goes before = record {
+-- The followers up to the next move are vain for the best value of before, so there is nothing to visit.
+visits_to : (t : PartialTour) (demand : Demand) (price : ℕ → ℤ) (most : ℕ) (at : Course) (next : Option Move) (from : ℕ) (old new : Progress) → course t ≡ Some at → GoesToWorth t demand price old.best next from → VisitsBefore t demand price most old new from → Visits t demand price most next old new
+visits_to t demand price most at next from old new leads goes before = record {
   place = goes.place;
   at = goes.at;
-  done = past_out (λ m. IsNotKept demand bound old.best (with_move t m)) t demand.allowed next from (VisitsBefore t demand a.price bound most old new) goes one_out before;
+  done = past_out (IsVain demand price old.best t) t demand.allowed next from (VisitsBefore t demand price most old new) goes one_out before;
 }
   where
-    one_out : (k : ℕ) → k < length (followers t demand.allowed) → IsNotKept demand bound old.best (with_move t (get_or (followers t demand.allowed) k (Board 0))) → VisitsBefore t demand a.price bound most old new k → VisitsBefore t demand a.price bound most old new (k + 1)
+    one_out : (k : ℕ) → k < length (followers t demand.allowed) → IsVain demand price old.best t (get_or (followers t demand.allowed) k (Board 0)) → VisitsBefore t demand price most old new k → VisitsBefore t demand price most old new (k + 1)
     one_out k lt out done =
         let m = get_or (followers t demand.allowed) k (Board 0) in
         let stands = at_place_of t demand.allowed k lt in
         let f = follower t demand.allowed at m k leads stands in
-        one_visited t demand a.price bound most at m k old new new leads stands done (kept_out (with_move t m) demand a.price bound most new f.next old.best w.accepted w.car (lower_at a demand t bound w lower) w.demands f.leads done.on.best (out f.next f.leads) done.on.limit done.found) grows
+        one_visited t demand price most at m k old new new leads stands done (left_aside (with_move t m) demand price most new old.best done.on.best done.on.limit done.found (out f.next f.leads))
 
-pub visits_first : (a : Aim) (t : PartialTour) (demand : Demand) (bound : Course → ℤ) (most : ℕ) (at : Course) (next : Option Move) (p : Progress) → IsWalking a demand t → IsLower a bound → course t ≡ Some at → Grows t demand bound → GoesToKept t demand bound p.best next 0 → p.visits ≤ most → HasFound (aim_at t demand a.price) p → Visits t demand a.price bound most next p p
-visits_first a t demand bound most at next p w lower leads grows goes le found =
-    visits_to a t demand bound most at next 0 p p w lower leads grows goes (record {
+pub visits_first : (t : PartialTour) (demand : Demand) (price : ℕ → ℤ) (most : ℕ) (at : Course) (next : Option Move) (p : Progress) → course t ≡ Some at → GoesToWorth t demand price p.best next 0 → p.visits ≤ most → HasFound (aim_at t demand price) p → Visits t demand price most next p p
+visits_first t demand price most at next p leads goes le found =
+    visits_to t demand price most at next 0 p p leads goes (record {
       on = goes_nowhere most p le;
       found = found;
       below = λ k b. absurd (omega arith);
       few = λ x there n lt. omega arith;
-      least = λ x there z le may. may;
     })
 
-pub visits_on : (a : Aim) (t : PartialTour) (demand : Demand) (bound : Course → ℤ) (most : ℕ) (at : Course) (m : Move) (next : Option Move) (old mid new : Progress) → IsWalking a demand t → IsLower a bound → course t ≡ Some at → Grows t demand bound → (first : Visits t demand a.price bound most (Some m) old mid) → Visited (with_move t m) demand a.price bound most mid new → GoesToKept t demand bound old.best next (first.place + 1) → Visits t demand a.price bound most next old new
-visits_on a t demand bound most at m next old mid new w lower leads grows first more_on goes =
-    visits_to a t demand bound most at next (first.place + 1) old new w lower leads grows goes (one_visited t demand a.price bound most at m first.place old mid new leads first.at first.done more_on grows)
+pub visits_on : (t : PartialTour) (demand : Demand) (price : ℕ → ℤ) (most : ℕ) (at : Course) (m : Move) (next : Option Move) (old mid new : Progress) → course t ≡ Some at → (first : Visits t demand price most (Some m) old mid) → Visited (with_move t m) demand price most mid new → GoesToWorth t demand price old.best next (first.place + 1) → Visits t demand price most next old new
+visits_on t demand price most at m next old mid new leads first more_on goes =
+    visits_to t demand price most at next (first.place + 1) old new leads goes (one_visited t demand price most at m first.place old mid new leads first.at first.done more_on)
 
 -- ---- what was done in all
 
@@ -184,11 +143,9 @@ allowed_last allowed [] m later h = h.0
 allowed_last allowed (v ∷ ms) m later h = allowed_last allowed ms m later h.1
 
 -- The bound is not below the best value.
-pub reached_best : (a : Aim) (demand : Demand) (t : PartialTour) (bound : Course → ℤ) (stands : Course → Type 0) (most : ℕ) (p : Progress) (least : ℤ) → IsWalking a demand t → (o : IsOpen stands demand t) → IsLower a bound → p.visits ≤ most → HasFound (aim_at t demand a.price) p → ((x : Course) → stands x → least ≡ bound x) → not (int_lt least p.best) ≡ true → Visited t demand a.price bound most p p
-reached_best a demand t bound stands most p least w o lower le found are high =
-    let above = not_less least p.best high in
-    let is = are o.at o.stands_there in
-    passed_by t demand a.price bound most p p o.at w.accepted w.car (lower_at a demand t bound w lower) o.leads (goes_nowhere most p le) refl found (λ worth may. let b = may.best in omega (arith, ints, b, above, is)) (λ z under may. may)
+pub reached_best : (a : Aim) (demand : Demand) (t : PartialTour) (stands : Course → Type 0) (most : ℕ) (p : Progress) (least : ℤ) → IsWalking a demand t → IsOpen stands demand t → p.visits ≤ most → HasFound (aim_at t demand a.price) p → ((x : Course) → stands x → UndercutsNone a least x) → not (int_lt least p.best) ≡ true → Visited t demand a.price most p p
+reached_best a demand t stands most p least w o le found are high =
+    left_aside t demand a.price most p least (not_less least p.best high) le found (none_below_there a demand t stands least w o are)
 
 lesser-le : (a b : ℤ) → cond (int_lt a b) a b ≤ℤ a
 lesser-le a b = grind (arith, ints)
@@ -196,19 +153,14 @@ lesser-le a b = grind (arith, ints)
 lesser-le_second : (a b : ℤ) → cond (int_lt a b) a b ≤ℤ b
 lesser-le_second a b = grind (arith, ints)
 
--- what is at most both is at most the lesser
-not_over : (z a b : ℤ) → z ≤ℤ a → z ≤ℤ b → z ≤ℤ cond (int_lt a b) a b
-not_over z a b h k = grind (arith, ints)
-
 -- It is left out, since the limit was reached.
-pub left_out : (a : Aim) (demand : Demand) (t : PartialTour) (bound : Course → ℤ) (stands : Course → Type 0) (most : ℕ) (old new : Progress) (least : ℤ) → IsWalking a demand t → (o : IsOpen stands demand t) → IsLower a bound → old.visits ≤ most → most ≤ old.visits → HasFound (aim_at t demand a.price) old → ((x : Course) → stands x → least ≡ bound x) → new.visits ≡ old.visits → new.best ≡ old.best → new.found ≡ old.found → new.untried ≡ cond (int_lt least old.untried) least old.untried → Visited t demand a.price bound most old new
-left_out a demand t bound stands most old new least w o lower le full found are visits best moves untried =
-    let is = are o.at o.stands_there in
+pub left_out : (a : Aim) (demand : Demand) (t : PartialTour) (stands : Course → Type 0) (most : ℕ) (old new : Progress) (least : ℤ) → IsWalking a demand t → IsOpen stands demand t → old.visits ≤ most → most ≤ old.visits → HasFound (aim_at t demand a.price) old → ((x : Course) → stands x → UndercutsNone a least x) → new.visits ≡ old.visits → new.best ≡ old.best → new.found ≡ old.found → new.untried ≡ cond (int_lt least old.untried) least old.untried → Visited t demand a.price most old new
+left_out a demand t stands most old new least w o le full found are visits best moves untried =
     let low = lesser-le least old.untried in
     let low_too = lesser-le_second least old.untried in
     let on : GoesOn most old new = record { limit = omega (arith, le, visits); rises = omega (arith, visits); best = omega (arith, ints, best); untried = omega (arith, ints, untried, low_too); unspent = λ lt. absurd (omega (arith, lt, full, visits)) } in
     let here : HasFound (aim_at t demand a.price) new = subst (λ (ms : List Move). IsFoundTour (aim_at t demand a.price) ms new.best) (sym moves) (subst (λ (v : ℤ). IsFoundTour (aim_at t demand a.price) old.found v) (sym best) found) in
-    passed_by t demand a.price bound most old new o.at w.accepted w.car (lower_at a demand t bound w lower) o.leads on visits here (λ worth may. let u = may.untried in omega (arith, ints, u, untried, low, is)) (λ z under may. let b = may.best in let u = may.untried in record { best = omega (arith, ints, b, best); untried = rw untried (not_over z least old.untried (omega (arith, ints, under, is)) u) })
+    passed_by t demand a.price most old new least on visits here (λ worth may. let u = may.untried in omega (arith, ints, u, untried, low)) (none_below_there a demand t stands least w o are)
 
 found_if : (a : Aim) (b : Bool) (moves old : List Move) (value best : ℤ) → (b ≡ true → IsFoundTour a moves value) → IsFoundTour a old best → IsFoundTour a (cond b moves old) (cond b value best)
 found_if a true moves old value best h k = h refl
@@ -225,12 +177,11 @@ pub counted_found : (a : Aim) (old now : Progress) → IsCounted old now → Has
 counted_found a old now counted found = subst (λ (ms : List Move). IsFoundTour a ms now.best) (sym counted.found) (subst (λ (v : ℤ). IsFoundTour a old.found v) (sym counted.best) found)
 
 -- It has ended.
-pub ended_visited : (a : Aim) (demand : Demand) (t : PartialTour) (bound : Course → ℤ) (stands : Course → Type 0) (most : ℕ) (old now new : Progress) (value : ℤ) → IsWalking a demand t → (o : IsOpen stands demand t) → o.at.ended ≡ true → old.visits < most → HasFound (aim_at t demand a.price) old → IsLower a bound → IsCounted old now → ((x : Course) → course t ≡ Some x → value ≡ value_for a x.left) → new.visits ≡ now.visits → new.untried ≡ now.untried → new.best ≡ cond (int_lt value now.best) value now.best → new.found ≡ cond (int_lt value now.best) t.moves now.found → Visited t demand a.price bound most old new
-ended_visited a demand t bound stands most old now new value w o over lt found lower counted are visits_are untried_is best_is moves_are =
+pub ended_visited : (a : Aim) (demand : Demand) (t : PartialTour) (stands : Course → Type 0) (most : ℕ) (old now new : Progress) (value : ℤ) → IsWalking a demand t → (o : IsOpen stands demand t) → o.at.ended ≡ true → old.visits < most → HasFound (aim_at t demand a.price) old → IsCounted old now → ((x : Course) → course t ≡ Some x → value ≡ value_for a x.left) → new.visits ≡ now.visits → new.untried ≡ now.untried → new.best ≡ cond (int_lt value now.best) value now.best → new.found ≡ cond (int_lt value now.best) t.moves now.found → Visited t demand a.price most old new
+ended_visited a demand t stands most old now new value w o over lt found counted are visits_are untried_is best_is moves_are =
     let s = t.snapshot in
     let aim = aim_at t demand a.price in
     let within = ended_within s t.car (has demand.allowed) (has demand.required) t.moves o.at w.demands o.leads w.may over o.extends in
-    let told = moves_told s t.car t.moves o.at o.leads over in
     let is : value ≡ value_for aim o.at.left = subst (λ (b : Aim). value ≡ value_for b o.at.left) w.aim (are o.at o.leads) in
     let visits : new.visits ≡ old.visits + 1 = visits_are ∙ counted.visits in
     let untried : new.untried ≡ old.untried = untried_is ∙ counted.untried in
@@ -251,20 +202,14 @@ ended_visited a demand t bound stands most old now new value w o over lt found l
           let one = own_one t demand.allowed n x (omega (arith, lt)) in
           omega (arith, one, visits)
           );
-      least = λ x there z under may. (
-          let u = may.untried in
-          let at_least = lower_at a demand t bound w lower t.moves o.at o.at.left w.accepted w.car o.leads ([], told ∙ sym (append-nil t.moves)) within in
-          let here : z ≤ℤ bound o.at = subst (λ (y : Course). z ≤ℤ bound y) (one_course t x o.at there o.leads) under in
-          record { best = rw best (not_over z value old.best (omega (arith, ints, here, at_least, is)) may.best); untried = omega (arith, ints, u, untried) }
-          );
     }
   where
     no_more : (u v z : ℤ) → u ≡ v → v ≡ z → u ≤ℤ z
     no_more u v z e d = omega (arith, ints, e, d)
 
 -- Its followers were visited.
-pub all_visited : (a : Aim) (demand : Demand) (t : PartialTour) (bound : Course → ℤ) (stands : Course → Type 0) (most : ℕ) (old now new : Progress) → IsWalking a demand t → (o : IsOpen stands demand t) → o.at.ended ≡ false → IsCounted old now → Visits t demand a.price bound most None now new → Visited t demand a.price bound most old new
-all_visited a demand t bound stands most old now new w o runs counted all =
+pub all_visited : (a : Aim) (demand : Demand) (t : PartialTour) (stands : Course → Type 0) (most : ℕ) (old now new : Progress) → IsWalking a demand t → (o : IsOpen stands demand t) → o.at.ended ≡ false → IsCounted old now → Visits t demand a.price most None now new → Visited t demand a.price most old new
+all_visited a demand t stands most old now new w o runs counted all =
     let s = t.snapshot in
     let on = all.done.on in
     let rises = on.rises in let b = on.best in let u = on.untried in
@@ -277,10 +222,6 @@ all_visited a demand t bound stands most old now new w o runs counted all =
           through_all worth tour may inside next.move (among tour inside next) next.begins
           );
       few = λ x there n lt. few_of x there n lt;
-      least = λ x there z under may. (
-          let b = may.best in let u = may.untried in
-          all.done.least x there z under (record { best = omega (arith, ints, b, best); untried = omega (arith, ints, u, untried) })
-          );
     }
   where
     allowed_next : (tour : List Stop) → IsTourWithin t.snapshot t.car (has demand.allowed) (has demand.required) tour → (next : HasNext t.snapshot t.car t.moves o.at tour) → boards_allowed (has demand.allowed) next.move ≡ true
@@ -300,8 +241,3 @@ all_visited a demand t bound stands most old now new w o runs counted all =
         let f = all.done.few x there n (omega (arith, lt)) in
         let visits = counted.visits in
         omega (arith, whole, f, visits)
-
--- what the trait's law of growth says here
-pub grows_at : (a : Aim) (demand : Demand) (t : PartialTour) (bound : Course → ℤ) → IsWalking a demand t → IsGrowing a bound → Grows t demand bound
-grows_at a demand t bound w grows x y m leads may moved =
-    subst (λ (b : Aim). IsGrowing b bound) w.aim grows t.moves x y m w.accepted w.car w.may may leads moved

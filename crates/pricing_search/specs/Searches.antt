@@ -2,7 +2,7 @@
 use Rattle.std.specs.Prelude.{◌≡◌, ℕ, ◌≤◌, ℤ, ◌≤ℤ◌, List, length, Bool, true, false, Some}
 use Rattle.elevator_model.specs.declared.Move.{Move}
 use Rattle.elevator_model.specs.declared.Stop.{Stop}
-use Rattle.elevator_model.specs.Snapshot.{Snapshot, IsAccepted}
+use Rattle.elevator_model.specs.Snapshot.{Snapshot, IsAccepted, call_count}
 use Rattle.elevator_model.specs.Partial.{Course, course_of, course_start}
 use Rattle.search_model.specs.declared.Priced.{Priced}
 use Rattle.search_model.specs.Nodes.{Node, IsTourWithin, IsTourIn, allows, requires_of}
@@ -14,20 +14,20 @@ use Rattle.assign_branch.specs.Pricings.{Pricing, IsWorthSize}
 use Rattle.partial_tours.specs.PartialTour.{PartialTour}
 use Rattle.pricing_bound.specs.Aims.{Aim, value_for, IsBoundSize}
 use Rattle.pricing_bound.specs.Rates.{Rated}
+use Rattle.route_sums.specs.CallRates.{RouteRated}
 use Rattle.pricing_search.specs.Walks.{IsFoundTour}
 
 -- a tour was found
 abbrev pub FindsSome : Aim → List Move → Type 0
 FindsSome a moves = (value : ℤ) × IsFoundTour a moves value
 
--- The answer of a search for an aim with a bound.
-pub record IsSearched (a : Aim) (bound : Course → ℤ) (most : ℕ) (found : List Move) (answer : Priced) : Type 0 where
+-- The answer of a search for an aim, no worth of which may be below the least.
+pub record IsSearched (a : Aim) (least : ℤ) (most : ℕ) (found : List Move) (answer : Priced) : Type 0 where
   pub low : 1 ≤ answer.visits
   pub high : answer.visits ≤ most
   pub worth : (tour : List Stop) → IsTourWithin a.snapshot a.car a.allowed a.required tour → answer.worth ≤ℤ value_for a tour
   pub size : IsBoundSize answer.worth
-  -- the worth is no less than the bound of the empty partial tour
-  pub least : bound (course_start a.snapshot a.car) ≤ℤ answer.worth
+  pub at_least : least ≤ℤ answer.worth
   pub finds : FindsSome a found
   pub exact : answer.spent ≡ false → IsFoundTour a found answer.worth
   pub spent : answer.spent ≡ true → answer.visits ≡ most
@@ -45,10 +45,11 @@ pub record HoldsPricing (s : Snapshot) (found : List Move) (has_priced : Bool) (
   pub gives : p.answer.spent ≡ false → value_of s p.car (price_at p.prices) last.left ≡ p.answer.worth
 
 -- the desk is one of the snapshot's
-pub record IsDeskOf (s : Snapshot) (prefix : PartialTour) (rates : Rated) (found : List Move) (has_priced : Bool) : Type 0 where
+pub record IsDeskOf (s : Snapshot) (prefix : PartialTour) (rates : Rated) (route_rates : RouteRated) (found : List Move) (has_priced : Bool) : Type 0 where
   pub accepted : IsAccepted s
   pub prefix_is : prefix.snapshot ≡ s
   pub rates_are : rates.snapshot ≡ s
+  pub route_rates_fit : length route_rates.rates ≡ call_count s
   pub held : has_priced ≡ true → (p : Pricing) × HoldsPricing s found has_priced p
 
 -- ---- pricings

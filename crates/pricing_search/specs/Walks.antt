@@ -37,10 +37,6 @@ pub record MayAnswer (p : Progress) (worth : ℤ) : Type 0 where
   pub best : worth ≤ℤ p.best
   pub untried : worth ≤ℤ p.untried
 
--- what may be answered and is at most the bound may be answered later
-abbrev pub KeepsLow : (bound : ℤ) → (old new : Progress) → Type 0
-KeepsLow bound old new = (z : ℤ) → z ≤ℤ bound → MayAnswer old z → MayAnswer new z
-
 -- Each worth that may be answered is at most the value of each tour for the aim of this kind.
 abbrev pub IsBelowThose : Aim → (kind : List Stop → Type 0) → Progress → Type 0
 IsBelowThose a kind new =
@@ -56,13 +52,11 @@ abbrev pub BelowAll : PartialTour → Demand → (price : ℕ → ℤ) → List 
 BelowAll t demand price moves p = IsBelowThose (aim_at t demand price) (λ tour. BeginsWith t.snapshot tour moves) p
 
 -- What a walk through a partial tour and all that begin with it has done.
-pub record Visited (t : PartialTour) (demand : Demand) (price : ℕ → ℤ) (bound : Course → ℤ) (most : ℕ) (old new : Progress) : Type 0 where
+pub record Visited (t : PartialTour) (demand : Demand) (price : ℕ → ℤ) (most : ℕ) (old new : Progress) : Type 0 where
   pub on : GoesOn most old new
   pub found : HasFound (aim_at t demand price) new
   pub below : BelowAll t demand price t.moves new
   pub few : (x : Course) → course t ≡ Some x → CountsFew (aim_at t demand price) t x old new
-  -- no worth that is at most the bound is lost
-  pub least : (x : Course) → course t ≡ Some x → KeepsLow (bound x) old new
 
 -- A walk begins: nothing was visited, and a tour was found.
 pub record Begins (a : Aim) (p : Progress) : Type 0 where

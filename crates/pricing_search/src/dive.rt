@@ -3,18 +3,18 @@
 ghost use Rattle.std.specs.Prelude.{◌≡◌, IfSome, None};
 ghost use Rattle.partial_tours.specs.PartialTour.{with_move};
 ghost use Rattle.kept_tours.specs.Walking.{IsWalking, IsOpen, IsShut, MayFollow, aim_at};
-ghost use Rattle.pricing_search.specs.Walks.{HasFound, Begins};
+ghost use Rattle.pricing_search.specs.Walks.{Begins};
 ghost use Rattle.pricing_search.specs.Dives.{IsOldOr, IsOpenAt, LeadsOnwards, LeadsNowhere};
 
 use crate::progress::Progress;
+use crate::steps::step;
 use elevator_model::Move;
-use kept_tours::step;
 use partial_tours::Prefix;
-use pricing_bound::CompletionBound;
+use tour_bounds::TourBound;
 use tour_extension::Demand;
 
-/// What a partial tour promises: the value of its tour where it has ended, and else its bound.
-fn promise<B: CompletionBound>(bound: &B, demand: &Demand, prefix: &Prefix, sums: &B::Sums) -> i128
+/// What a partial tour promises: the value of its tour where it has ended, and else that of its bound.
+fn promise<B: TourBound>(bound: &B, demand: &Demand, prefix: &Prefix, sums: &B::Sums) -> i128
     requires walking { IsWalking (B.aim bound.now) demand.now prefix.now }
     requires stands { IsOpen (B.stands bound.now sums.now) demand.now prefix.now }
 {
@@ -26,7 +26,7 @@ fn promise<B: CompletionBound>(bound: &B, demand: &Demand, prefix: &Prefix, sums
 }
 
 /// What the partial tour with one move more promises. None where no tour of the node begins with it.
-fn promise_after<B: CompletionBound>(
+fn promise_after<B: TourBound>(
     bound: &B,
     demand: &Demand,
     prefix: &mut Prefix,
@@ -73,7 +73,7 @@ impl Favourite {
 
 /// The move after which the partial tour promises most, of those with which some tour of the node goes on.
 /// None where there is none.
-fn most_promising<B: CompletionBound>(
+fn most_promising<B: TourBound>(
     bound: &B,
     demand: &Demand,
     prefix: &mut Prefix,
@@ -99,7 +99,7 @@ fn most_promising<B: CompletionBound>(
 }
 
 /// Begins with the tour to which the most promising moves lead.
-pub(crate) fn dive<B: CompletionBound>(
+pub(crate) fn dive<B: TourBound>(
     bound: &B,
     demand: &Demand,
     prefix: &mut Prefix,

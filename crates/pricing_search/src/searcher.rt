@@ -8,6 +8,7 @@ ghost use Rattle.search_model.specs.Solving.{HasPartialTours, ReachesLeast};
 ghost use Rattle.assign_branch.specs.Pricings.{IsWorthSize};
 ghost use Rattle.pricing_search.specs.Searches.{HoldsPricing, IsDeskOf, IsPriced, bound_of_empty};
 
+use crate::least::least_worth;
 use crate::progress::Progress;
 use crate::search::search;
 use assign_branch::{Node, Priced, Pricer};
@@ -16,22 +17,25 @@ use elevator_model::Tour;
 use partial_tours::{Prefix, tour_of};
 use price_scale::Price;
 use pricing_bound::{Rates, StraightRides};
+use route_sums::{RouteRates, RouteSums};
 use std::alloc::{AllocError, Global};
+use tour_bounds::FromCompletion;
 use tour_extension::Demand;
 
 /// Prices the cars of a snapshot exactly: finds the tour of least value by a walk over the partial tours that
-/// some tour of the node begins with and whose completion bound is below the best value.
+/// some tour of the node begins with and whose bound along the forced route is below the best value.
 #[derive(Drop)]
 pub struct Searcher<'a> {
     snapshot: &'a Snapshot,
 }
 
-/// Where a searcher works: the partial tour that it is at, what each call costs alone, and how far it is. All
-/// memory is taken when it is made.
+/// Where a searcher works: the partial tour that it is at, what each call costs alone and with its least
+/// ride, and how far it is. All memory is taken when it is made.
 #[derive(Drop)]
 pub struct Desk<'a> {
     prefix: Prefix<'a>,
     rates: Rates<'a>,
+    route_rates: RouteRates,
     progress: Progress,
     has_priced: bool,
 }
@@ -54,13 +58,13 @@ impl<'a> Searcher<'a> {
         desk: &mut Desk<'a>,
     ) -> Priced
         requires own { IsDeskOf self.now.snapshot.now desk.old.prefix desk.old.rates
-            desk.old.progress.found desk.old.has_priced }
+            desk.old.route_rates desk.old.progress.found desk.old.has_priced }
         requires car { car < car_count self.now.snapshot.now }
         requires node { IsNodeOf self.now.snapshot.now node.now }
         requires prices { length prices.now ≡ call_count self.now.snapshot.now }
         requires limit { (1 ≤ limit) × (limit ≤ 10 ^ 18) }
         ensures own { IsDeskOf self.now.snapshot.now desk.new.prefix desk.new.rates
-            desk.new.progress.found desk.new.has_priced }
+            desk.new.route_rates desk.new.progress.found desk.new.has_priced }
         ensures priced { IsPriced self.now.snapshot.now node.now car prices.now limit
             desk.new.progress.found desk.new.has_priced result }
     {
@@ -70,9 +74,31 @@ impl<'a> Searcher<'a> {
         };
         desk.prefix.restart(car);
         desk.rates.lay_out(prices);
+        desk.route_rates
+            .lay_out(self.snapshot, car, prices, node.required(car));
         desk.has_priced = true;
-        let bound = StraightRides::new(&desk.rates, car, demand.allowed, demand.required);
-        search(&bound, &demand, limit, &mut desk.prefix, &mut desk.progress)
+        // For the proof: each price is in its range.
+        let _priced = desk.rates.snapshot();
+        let rides = StraightRides::new(&desk.rates, car, demand.allowed, demand.required);
+        let least = least_worth(&rides, &desk.prefix);
+        let dive_bound = FromCompletion { bound: &rides };
+        let walk_bound = RouteSums::new(
+            self.snapshot,
+            &desk.route_rates,
+            car,
+            prices,
+            demand.allowed,
+            demand.required,
+        );
+        search(
+            &dive_bound,
+            &walk_bound,
+            &demand,
+            limit,
+            least,
+            &mut desk.prefix,
+            &mut desk.progress,
+        )
     }
 }
 
@@ -81,8 +107,8 @@ impl<'a> Pricer for Searcher<'a> {
 
     ghost snapshot = { λ it. it.snapshot.now };
 
-    ghost owns = { λ it desk. IsDeskOf it.snapshot.now desk.prefix desk.rates desk.progress.found
-        desk.has_priced };
+    ghost owns = { λ it desk. IsDeskOf it.snapshot.now desk.prefix desk.rates desk.route_rates
+        desk.progress.found desk.has_priced };
 
     ghost holds = { λ it desk p. HoldsPricing it.snapshot.now desk.progress.found desk.has_priced p };
 
@@ -92,6 +118,7 @@ impl<'a> Pricer for Searcher<'a> {
         Ok(Desk {
             prefix: Prefix::new(alloc, self.snapshot, 0)?,
             rates: Rates::new(alloc, self.snapshot)?,
+            route_rates: RouteRates::new(alloc, self.snapshot)?,
             progress: Progress::new(alloc)?,
             has_priced: false,
         })
@@ -108,13 +135,13 @@ impl<'a> Pricer for Searcher<'a> {
         desk: &mut Desk<'a>,
     ) -> Priced
         requires own { IsDeskOf self.now.snapshot.now desk.old.prefix desk.old.rates
-            desk.old.progress.found desk.old.has_priced }
+            desk.old.route_rates desk.old.progress.found desk.old.has_priced }
         requires car { car < car_count self.now.snapshot.now }
         requires node { IsNodeOf self.now.snapshot.now node.now }
         requires prices { length prices.now ≡ call_count self.now.snapshot.now }
         requires limit { (1 ≤ limit) × (limit ≤ 10 ^ 18) }
         ensures own { IsDeskOf self.now.snapshot.now desk.new.prefix desk.new.rates
-            desk.new.progress.found desk.new.has_priced }
+            desk.new.route_rates desk.new.progress.found desk.new.has_priced }
         ensures held { HoldsPricing self.now.snapshot.now desk.new.progress.found desk.new.has_priced
             (record { car = car; node = node.now; prices = prices.now; answer = result }) }
         ensures worth { IsWorth self.now.snapshot.now node.now car (price_at prices.now) result.worth }

@@ -5,18 +5,19 @@ ghost use Rattle.partial_tours.specs.PartialTour.{with_move};
 ghost use Rattle.kept_tours.specs.Walking.{IsWalking, IsOpen, MayFollow, aim_at};
 ghost use Rattle.pricing_search.specs.Walks.{HasFound, Visited};
 
+use crate::guides::Guide;
 use crate::progress::Progress;
+use crate::steps::{followers_below, step_below};
 use elevator_model::Move;
-use kept_tours::{Guide, followers_below, step_below};
 use partial_tours::Prefix;
-use pricing_bound::CompletionBound;
+use tour_bounds::TourBound;
 
 /// Visits a partial tour that some tour of the node begins with, and those that begin with it.
 ///
 /// It goes depth first in the order of moves, and passes by what has a bound not below the best value. Once
 /// as many were visited as the limit says, the least bound of those that are left out is noted.
 #[cycle(walk)]
-pub(crate) fn visit<B: CompletionBound>(
+pub(crate) fn visit<B: TourBound>(
     guide: &Guide<B>,
     limit: u64,
     prefix: &mut Prefix,
@@ -26,10 +27,10 @@ pub(crate) fn visit<B: CompletionBound>(
     requires walking { IsWalking (B.aim guide.now.bound.now) guide.now.demand.now prefix.old }
     requires stands { IsOpen (B.stands guide.now.bound.now sums.now) guide.now.demand.now prefix.old }
     requires limit { progress.old.visits ≤ limit }
-    requires found { HasFound (aim_at prefix.old guide.now.demand.now (B.aim guide.now.bound.now).price) progress.old }
+    requires found { HasFound (aim_at prefix.old guide.now.demand.now
+        (B.aim guide.now.bound.now).price) progress.old }
     ensures prefix { prefix.new ≡ prefix.old }
-    ensures visited { Visited prefix.old guide.now.demand.now (B.aim guide.now.bound.now).price
-        (B.bound guide.now.bound.now) limit
+    ensures visited { Visited prefix.old guide.now.demand.now (B.aim guide.now.bound.now).price limit
         progress.old progress.new }
 {
     let bound = guide.bound;
@@ -58,7 +59,7 @@ pub(crate) fn visit<B: CompletionBound>(
 /// The same of the partial tour with one move more, where some tour of the node begins with it and its bound
 /// is below the best value.
 #[cycle(walk)]
-fn visit_after<B: CompletionBound>(
+fn visit_after<B: TourBound>(
     guide: &Guide<B>,
     limit: u64,
     prefix: &mut Prefix,
@@ -72,10 +73,11 @@ fn visit_after<B: CompletionBound>(
     requires departs { IsOpen (B.departs guide.now.bound.now departure.now) guide.now.demand.now prefix.old }
     requires next { MayFollow guide.now.demand.now prefix.old next }
     requires limit { progress.old.visits ≤ limit }
-    requires found { HasFound (aim_at prefix.old guide.now.demand.now (B.aim guide.now.bound.now).price) progress.old }
+    requires found { HasFound (aim_at prefix.old guide.now.demand.now
+        (B.aim guide.now.bound.now).price) progress.old }
     ensures prefix { prefix.new ≡ prefix.old }
-    ensures visited { Visited (with_move prefix.old next) guide.now.demand.now (B.aim guide.now.bound.now).price
-        (B.bound guide.now.bound.now) limit progress.old progress.new }
+    ensures visited { Visited (with_move prefix.old next) guide.now.demand.now
+        (B.aim guide.now.bound.now).price limit progress.old progress.new }
 {
     let worth = progress.best;
     let bound = guide.bound;

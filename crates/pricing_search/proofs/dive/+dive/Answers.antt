@@ -26,12 +26,12 @@ returns-then-point-clause-begins g t c =
     let o = c.requires.stands in
     let value = to_z w128 (of_z w128 c.tour_value.result) in
     let same : value ≡ c.tour_value.result = search rules in
-    begins_with (g.B.CompletionBound.aim c.args.bound.now) c.args.demand.now c.args.prefix.now (g.B.CompletionBound.stands c.args.bound.now c.args.sums.now) value c.begin.new.self c.requires.walking o (sym (c.point.ensures o.at o.leads).ended ∙ c.if-point.true) (λ x there. same ∙ c.tour_value.ensures.value x there) (subst IsBoundSize (sym same) c.tour_value.ensures.size) c.begin.ensures.visits c.begin.ensures.best c.begin.ensures.untried c.begin.ensures.found
+    begins_with (g.B.TourBound.aim c.args.bound.now) c.args.demand.now c.args.prefix.now (g.B.TourBound.stands c.args.bound.now c.args.sums.now) value c.begin.new.self c.requires.walking o (sym (c.point.ensures o.at o.leads).ended ∙ c.if-point.true) (λ x there. same ∙ c.tour_value.ensures.value x there) (subst IsBoundSize (sym same) c.tour_value.ensures.size) c.begin.ensures.visits c.begin.ensures.best c.begin.ensures.untried c.begin.ensures.found
 
 pub unreachable-requires : goal.unreachable-requires
 unreachable-requires g t c =
     let o = c.requires.stands in
-    not_nowhere (g.B.CompletionBound.aim c.args.bound.now) c.args.demand.now c.args.prefix.now (g.B.CompletionBound.stands c.args.bound.now c.args.sums.now) c.requires.walking o (sym (c.point.ensures o.at o.leads).ended ∙ c.if-point.false) (c.most_promising.ensures.none (none_there c.most_promising.result c.in_default.not-Some))
+    not_nowhere (g.B.TourBound.aim c.args.bound.now) c.args.demand.now c.args.prefix.now (g.B.TourBound.stands c.args.bound.now c.args.sums.now) c.requires.walking o (sym (c.point.ensures o.at o.leads).ended ∙ c.if-point.false) (c.most_promising.ensures.none (none_there c.most_promising.result c.in_default.not-Some))
 
 pub dive-requires : goal.dive-requires
 dive-requires g t c κs within =
@@ -54,7 +54,7 @@ returns-clause-prefix g t c =
 pub returns-clause-begins : goal.returns-clause-begins
 returns-clause-begins g t c =
     let next = c.in-Some.next in
-    let price = (g.B.CompletionBound.aim c.args.bound.now).price in
+    let price = (g.B.TourBound.aim c.args.bound.now).price in
     let onwards = subst (λ (v : Option Move). IfSome v (LeadsOnwards c.args.demand.now c.args.prefix.now)) c.in-Some.is c.most_promising.ensures.some in
     let to = c.step.ensures.prefix ∙ ap (λ (q : PartialTour). with_move q next) c.most_promising.ensures.prefix in
     elim c.match-step.branch [

@@ -17,11 +17,11 @@ loop-next-init g c =
 
 pub promise_after-promised-requires-clause-walking : goal.promise_after-promised-requires-clause-walking
 promise_after-promised-requires-clause-walking g c =
-    subst (λ (q : PartialTour). IsWalking (g.B.CompletionBound.aim c.args.bound.now) c.args.demand.now q) (sym c.loop-next.invariant.same) c.requires.walking
+    subst (λ (q : PartialTour). IsWalking (g.B.TourBound.aim c.args.bound.now) c.args.demand.now q) (sym c.loop-next.invariant.same) c.requires.walking
 
 pub promise_after-promised-requires-clause-stands : goal.promise_after-promised-requires-clause-stands
 promise_after-promised-requires-clause-stands g c =
-    subst (λ (q : PartialTour). IsOpen (g.B.CompletionBound.stands c.args.bound.now c.args.sums.now) c.args.demand.now q) (sym c.loop-next.invariant.same) c.requires.stands
+    subst (λ (q : PartialTour). IsOpen (g.B.TourBound.stands c.args.bound.now c.args.sums.now) c.args.demand.now q) (sym c.loop-next.invariant.same) c.requires.stands
 
 pub promise_after-promised-requires-clause-next : goal.promise_after-promised-requires-clause-next
 promise_after-promised-requires-clause-next g c =

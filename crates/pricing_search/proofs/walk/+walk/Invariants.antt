@@ -14,7 +14,7 @@ decreases-visit_after g l = 2 * left_in l.prefix.now
 abbrev pub invariant-visit-loop-next : goal.invariant-visit-loop-next
 invariant-visit-loop-next g l = record {
   same : l.prefix ≡ l.initial.prefix;
-  visits : Visits l.initial.prefix l.guide.demand.now (g.B.CompletionBound.aim l.guide.bound.now).price (g.B.CompletionBound.bound l.guide.bound.now) l.limit l.next l.initial.progress l.progress;
+  visits : Visits l.initial.prefix l.guide.demand.now (g.B.TourBound.aim l.guide.bound.now).price l.limit l.next l.initial.progress l.progress;
 }
 
 abbrev pub decreases-visit-loop-next : goal.decreases-visit-loop-next

@@ -1,0 +1,11 @@
+mod AlongLemmas
+mod CallRateLemmas
+mod FilterLemmas
+mod GatherLemmas
+mod KeepingLemmas
+mod LeavingLemmas
+mod RouteLemmas
+mod SizeLemmas
+mod StandLemmas
+mod SumsLemmas
+mod ValueLemmas

@@ -1,0 +1,55 @@
+use Rattle.std.proofs.Common.{◌∙◌, sym, subst}
+use Rattle.elevator_model.specs.declared.Move.TheVariants.{Leave}
+use Rattle.forced_route.specs.ForcedRoute.{halted}
+use Rattle.partial_tours.specs.Courses.{reached}
+use Rattle.partial_tours.specs.PartialTour.{course, with_move}
+use Rattle.partial_tours.proofs.Follow.{is_some_has, leave_leads_to, stands_in}
+use Rattle.price_scale.specs.Scale.{IsPriceSum}
+use Rattle.pricing_bound.proofs.RateLemmas.{stored_paid}
+use Rattle.route_sums.specs.Keeping.{AreRouteSums, aim_of}
+use Rattle.route_sums.proofs.SumsLemmas.{leave_keeps, leave_paid, next_leads, stored_low, stored_size}
+use Rattle.route_sums.proofs.parts.RouteSums.after_leave.Goals as goal
+
+pub halted-stand-requires-clause-to : goal.halted-stand-requires-clause-to
+halted-stand-requires-clause-to c =
+    let a = aim_of c.args.self.now in
+    let t = c.args.prefix.now in
+    let led = is_some_has (course (with_move t (Leave c.args.floor))) c.requires.leads.lawful in
+    let there = next_leads a (AreRouteSums a c.args.sums.now) t (Leave c.args.floor) led.0 c.requires.for_it c.requires.leads led.1 in
+    stands_in t.snapshot t.car (reached t.snapshot t.car c.requires.leads.before) c.args.floor (leave_leads_to t.snapshot t.car c.requires.leads.before c.args.floor led.0 there).1
+
+pub halted-stand-requires-clause-stands : goal.halted-stand-requires-clause-stands
+halted-stand-requires-clause-stands c =
+    let t = c.args.prefix.now in
+    let x = c.requires.leads in
+    (reached t.snapshot t.car x.before, record { there = x.before; leads = x.leads; stands = c.stand_at.ensures.stands x.before x.leads })
+
+pub value_at-value-requires-clause-same : goal.value_at-value-requires-clause-same
+value_at-value-requires-clause-same c = c.requires.for_it.snapshot
+
+pub value_at-value-requires-clause-car : goal.value_at-value-requires-clause-car
+value_at-value-requires-clause-car c = c.requires.for_it.car
+
+pub value_at-value-requires-clause-stands : goal.value_at-value-requires-clause-stands
+value_at-value-requires-clause-stands c =
+    let t = c.args.prefix.now in
+    let x = c.requires.leads in
+    let p = reached t.snapshot t.car x.before in
+    (halted t.snapshot t.car p c.args.floor, record { there = x.before; leads = x.leads; stands = c.halted-stand.ensures.stands x.before p x.leads (c.stand_at.ensures.stands x.before x.leads) })
+
+pub value_at-value-requires-clause-paid : goal.value_at-value-requires-clause-paid
+value_at-value-requires-clause-paid c =
+    let small = c.requires.leads.stands_before.paid_size in
+    subst IsPriceSum (sym (stored_paid c.args.sums.now.paid small)) small
+
+pub returns : goal.returns
+returns c = λ y e.
+    let a = aim_of c.args.self.now in
+    let t = c.args.prefix.now in
+    let x = c.requires.leads in
+    let p = reached t.snapshot t.car x.before in
+    let same = stored_paid c.args.sums.now.paid x.stands_before.paid_size in
+    let stand = c.halted-stand.ensures.stands x.before p x.leads (c.stand_at.ensures.stands x.before x.leads) in
+    let paid = same ∙ leave_paid a t c.args.floor y c.args.sums.now c.requires.for_it x e in
+    let low = c.value_at-value.ensures.value x.before (halted t.snapshot t.car p c.args.floor) x.leads stand paid in
+    leave_keeps a t c.args.floor y c.args.sums.now _ c.requires.for_it x e same (stored_size c.value_at-value.result c.value_at-value.ensures.size) (stored_low c.value_at-value.result _ c.value_at-value.ensures.size low)

@@ -1,0 +1,28 @@
+-- What calls cost one car and are worth to it, laid out.
+use Rattle.std.specs.Prelude.{◌≡◌, ◌≤◌, ◌<◌, ℕ, ◌+◌, ◌-◌, ◌*◌, ℤ, pos, Bool, List, length, slice_index_or}
+use Rattle.elevator_model.specs.Snapshot.{Snapshot, call_count, call_of}
+use Rattle.forced_route.specs.ForcedRoute.{cost_if_boarded, part_if_boarded}
+use Rattle.route_sums.specs.declared.rates.CallRate.{CallRate}
+
+-- what a contract sees of laid out rates
+pub record RouteRated : Type 0 where
+  pub rates : List CallRate
+
+-- what the call costs at the rate that boards at the moment m
+abbrev pub cost_at : CallRate → (m : ℕ) → ℕ
+cost_at rate m = (rate.wait * (m - rate.released) + rate.over * (m - rate.late)) + rate.ride
+
+-- the rate is that of call j for car c at a price
+pub record IsCallRate (s : Snapshot) (c j : ℕ) (price : ℤ) (required : Bool) (rate : CallRate) : Type 0 where
+  pub origin : rate.origin ≡ (call_of s j).origin
+  pub cost : (m : ℕ) → cost_at rate m ≡ cost_if_boarded s c j m
+  pub wait : rate.wait ≤ 8000
+  pub over : rate.over ≤ 8000
+  pub ride : rate.ride ≤ 1600000000000
+  pub worth : rate.price ≡ price
+  pub enough : (m : ℕ) → m ≤ 99000000000 → rate.enough ≤ m → part_if_boarded s c (λ _. price) (λ _. required) j m ≡ pos 0
+
+-- the rates are those of the calls, in their order
+pub record AreCallRates (s : Snapshot) (c : ℕ) (prices : ℕ → ℤ) (required : ℕ → Bool) (rates : List CallRate) : Type 0 where
+  pub size : length rates ≡ call_count s
+  pub each : (j : ℕ) (d : CallRate) → j < call_count s → IsCallRate s c j (prices j) (required j) (slice_index_or rates j d)

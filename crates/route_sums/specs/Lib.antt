@@ -1,0 +1,4 @@
+pub mod CallRates
+pub mod Gathering
+pub mod Keeping
+pub mod Stands
