@@ -9,6 +9,8 @@
 //! - `solve` is the search of `node_search` for a snapshot, with the searcher of `pricing_search`, the plan
 //!   of `first` and the prices and worths of `start_leaf`. It answers `IsSolveAnswer`, and it ends solved
 //!   wherever the limits are enough for the snapshot. It states no claims: what states them comes after it.
+//! - `solve_root` makes turns at the root, as many as is asked for, with the same pricer, plan and prices, by
+//!   `root_prices` (`IsRootSolution`).
 //! - `start_leaf` gives the leaf with which a search starts, as a certificate states it: the price of a call
 //!   is its least lone cost, the worth of a car the completion bound of its empty partial tour, each claim 1.
 //!   Each worth is one in the root, and no kept list is longer than its claim, so that the leaf alone is a
@@ -17,9 +19,11 @@
 #![tactic(auto)]
 
 mod costs;
+mod rooting;
 mod solving;
 mod starts;
 
 pub use node_search::{Found, Limits};
+pub use rooting::solve_root;
 pub use solving::solve;
 pub use starts::start_leaf;

@@ -1,0 +1,3 @@
+pub mod RootTexts
+pub mod RootOutcome
+pub mod WorkedTexts

@@ -1,0 +1,38 @@
+use Rattle.std.proofs.Common.{◌∙◌, arith}
+use Rattle.root_prices.proofs.series.Series.run.Goals as goal
+
+pub loop-turn-preserved : goal.loop-turn-preserved
+loop-turn-preserved g c =
+    let count = c.loop-turn.invariant.turns in
+    let more = c.in_ok-turn.ensures.turns in
+    record {
+      series = λ first is. c.in_ok-turn.ensures.series first (c.loop-turn.invariant.series first is);
+      turns = omega (arith, count, more);
+      start = c.in_ok-turn.ensures.start ∙ c.loop-turn.invariant.start;
+      desks = c.in_ok-turn.ensures.desks;
+    }
+
+pub turn-requires-clause-accepted : goal.turn-requires-clause-accepted
+turn-requires-clause-accepted g c κs within = c.requires.accepted
+
+pub turn-requires-clause-series : goal.turn-requires-clause-series
+turn-requires-clause-series g c κs within = (c.requires.series.0, c.loop-turn.invariant.series c.requires.series.0 c.requires.series.1)
+
+pub turn-requires-clause-node : goal.turn-requires-clause-node
+turn-requires-clause-node g c κs within = c.requires.node
+
+pub turn-requires-clause-is_node : goal.turn-requires-clause-is_node
+turn-requires-clause-is_node g c κs within = c.requires.is_node
+
+pub turn-requires-clause-few : goal.turn-requires-clause-few
+turn-requires-clause-few g c κs within =
+    let count = c.loop-turn.invariant.turns in
+    let few = c.requires.rounds in
+    let below = c.loop-turn-test.true in
+    omega (arith, count, few, below)
+
+pub turn-requires-clause-most_tours : goal.turn-requires-clause-most_tours
+turn-requires-clause-most_tours g c κs within = c.requires.most_tours
+
+pub turn-requires-clause-desks : goal.turn-requires-clause-desks
+turn-requires-clause-desks g c κs within = c.loop-turn.invariant.desks

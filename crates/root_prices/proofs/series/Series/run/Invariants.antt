@@ -1,0 +1,14 @@
+use Rattle.std.proofs.Common.{◌≡◌, length}
+use Rattle.work_fan.specs.Work.{Serving}
+use Rattle.search_tree.specs.Sheets.{PriceSheet}
+use Rattle.root_prices.specs.SeriesOfTurns.{IsSeries}
+use Rattle.root_prices.proofs.series.Series.run.Given as goal
+
+abbrev pub invariant-loop-turn : goal.invariant-loop-turn
+invariant-loop-turn g l =
+    record {
+      series : (first : PriceSheet) → IsSeries (g.P.Pricer.snapshot l.pricer) l.most_tours first l.initial.self → IsSeries (g.P.Pricer.snapshot l.pricer) l.most_tours first l.self;
+      turns : length l.self.turns.items ≡ l._turn;
+      start : l.self.start.now ≡ l.initial.self.start.now;
+      desks : Serving (g.P.Pricer.owns l.pricer) l.desks;
+    }

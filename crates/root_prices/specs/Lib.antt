@@ -1,0 +1,5 @@
+pub mod Doubles
+pub mod ListedTours
+pub mod RootAnswers
+pub mod Reasons
+pub mod SeriesOfTurns

@@ -1,0 +1,42 @@
+//! What turns at the root of a snapshot tell.
+
+ghost use Rattle.std.specs.Prelude.{◌≤◌, ◌^◌, IfOk};
+ghost use Rattle.snapshot_solver.specs.Roots.{IsRootSolution};
+
+use crate::starts::start_sheet;
+use byte_streams::OpenGate;
+use call_state::Snapshot;
+use first_plan::first;
+use pricing_search::Searcher;
+use root_prices::{MOST_ROUNDS, RootAnswer, root_best};
+use std::alloc::{AllocError, Global};
+use std::marker::Sync;
+use std::thread::Threads;
+use work_fan::Runtime;
+
+/// Makes turns at the root of the snapshot, 1 to 31 rounds of them, from the prices and the plan with which
+/// `solve` starts, and answers the best prices of them, the cheapest plan in halves of their tours, and
+/// whether the two meet. One worker makes them. It fails only where there is no memory left.
+pub fn solve_root(
+    rt: &(impl Threads + Sync),
+    alloc: Global,
+    snapshot: &Snapshot,
+    rounds: u32,
+    most_tours: u64,
+) -> Result<RootAnswer, AllocError>
+    requires rounds { (1 ≤ rounds) × (rounds ≤ MOST_ROUNDS) }
+    requires most_tours { (1 ≤ most_tours) × (most_tours ≤ 10 ^ 18) }
+    ensures { IfOk result (IsRootSolution snapshot.now rounds most_tours) }
+{
+    let start = first(alloc, snapshot)?;
+    let sheet = start_sheet(alloc, snapshot)?;
+    let searcher = Searcher::new(snapshot);
+    let runtime = Runtime {
+        threads: rt,
+        alloc,
+        gate: &OpenGate,
+    };
+    root_best(
+        &runtime, snapshot, &searcher, &start, sheet, rounds, most_tours,
+    )
+}
