@@ -7,7 +7,7 @@ use Rattle.elevator_model.specs.Snapshot.{Snapshot, IsAccepted}
 use Rattle.search_model.specs.Days.{Day, delivered_count, loses_none, opening_day}
 use Rattle.day_state.specs.Openings.{IsOpeningSnapshot}
 use Rattle.day_simulator.specs.Planning.{PlannerLaw}
-use Rattle.day_simulator.specs.Texts.{end_text}
+use Rattle.log_text.specs.Texts.{end_text}
 use Rattle.day_runner.specs.Runs.{Right, AreRowsDone}
 use Rattle.day_runner.specs.Days.{first_line}
 use Rattle.day_runner.proofs.ServedRows.{served-rows}

@@ -10,7 +10,7 @@ use Rattle.search_model.specs.Days.{Day, Row}
 use Rattle.row_text.specs.Records.{row_of_line}
 use Rattle.day_simulator.specs.declared.days.RowAnswer.{RowAnswer}
 use Rattle.day_simulator.specs.Rows.{IsRefused, IsRowDone, next_step}
-use Rattle.day_simulator.specs.Texts.{row_text}
+use Rattle.log_text.specs.Texts.{row_text}
 use Rattle.day_runner.specs.Runs.{Right, AreRowsDone}
 use Rattle.day_runner.proofs.RightLemmas.{IsWider, row-wider}
 use Rattle.day_runner.proofs.RunLemmas.{append-assoc, append-nil, no_plan, one-row, rows-more}

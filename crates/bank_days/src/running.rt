@@ -7,7 +7,7 @@ ghost use Rattle.day_state.specs.Openings.{IsOpeningSnapshot};
 ghost use Rattle.row_text.specs.Records.{row_of_line};
 ghost use Rattle.day_simulator.specs.Planning.{PlannerLaw};
 ghost use Rattle.day_simulator.specs.Rows.{IsRowDone};
-ghost use Rattle.day_simulator.specs.Standing.{row_number};
+ghost use Rattle.day_laws.specs.Standing.{row_number};
 ghost use Rattle.bank_text.specs.BankRows.{row_said};
 ghost use Rattle.bank_days.specs.Banks.{AreBankLogs, AreRowsAppended, IsDayLog, IsRunnable};
 

@@ -8,10 +8,10 @@ use Rattle.elevator_model.specs.Snapshot.{Snapshot, IsAccepted}
 use Rattle.search_model.specs.Days.{Day, opening_day, loses_none, served_of, served_from, calls_at_end}
 use Rattle.day_state.specs.Openings.{IsOpeningSnapshot}
 use Rattle.day_simulator.specs.Planning.{PlannerLaw}
-use Rattle.day_simulator.specs.Standing.{row_number}
-use Rattle.day_simulator.proofs.NoneLost.{end-length}
+use Rattle.day_laws.specs.Standing.{row_number}
+use Rattle.day_laws.proofs.NoneLost.{end-length}
 use Rattle.lift_text.specs.Reading.{TextState}
-use Rattle.day_simulator.specs.Texts.{end_text}
+use Rattle.log_text.specs.Texts.{end_text}
 use Rattle.day_runner.specs.Runs.{IsBegun, Right, AreRowsDone, Ran, ReadLines, Reads, Wrote, rows_of}
 use Rattle.day_runner.specs.Days.{IsCutIn, EndedAs, RanDay, ReadsDay, WroteDay, first_line, rows_log}
 use Rattle.day_runner.specs.declared.days.Ended.{Ended}

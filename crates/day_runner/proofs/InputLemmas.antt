@@ -11,7 +11,7 @@ use Rattle.search_model.specs.Reports.{report_of}
 use Rattle.lift_text.specs.Lines.{pieces_of}
 use Rattle.lift_text.specs.Reading.{TextState}
 use Rattle.opening_text.specs.DayOpenings.{IsAnswered, TakesDayOpenings}
-use Rattle.day_simulator.specs.Standing.{IsEarly}
+use Rattle.day_laws.specs.Standing.{IsEarly}
 use Rattle.day_runner.specs.Runs.{Right, ReadLines, IsTooLong, bytes_of}
 use Rattle.day_runner.specs.Days.{RanDay, ReadsDay}
 use Rattle.day_runner.specs.Inputs.{EndsUnlessFailed, IsDayText}

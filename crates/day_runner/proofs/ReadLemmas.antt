@@ -8,8 +8,8 @@ use Rattle.std.proofs.lemmas.List.{length-append, take-append-le, take_all}
 use Rattle.std.proofs.lemmas.List.Elements.{All-nil}
 use Rattle.search_model.specs.Days.{Day, day_after_refused}
 use Rattle.search_model.specs.declared.RowFault.TheVariants.{NoRow}
-use Rattle.day_simulator.specs.Standing.{row_number}
-use Rattle.day_simulator.specs.Texts.{refused_text}
+use Rattle.day_laws.specs.Standing.{row_number}
+use Rattle.log_text.specs.Texts.{refused_text}
 use Rattle.lift_text.specs.Lines.{pieces_of, line_of, HasWholeLine}
 use Rattle.lift_text.specs.Page.{PageState, text_at}
 use Rattle.lift_text.specs.Reading.{TextState, NextRaw, Passed, line_limit}

@@ -8,10 +8,10 @@ use Rattle.search_model.specs.Days.{Day, Row, RowLog, IsRightLog, calls_at_end, 
 use Rattle.search_model.specs.Days.RowLog.{Refused, Accepted}
 use Rattle.lift_text.specs.Reading.{TextState}
 use Rattle.day_simulator.specs.declared.days.RowAnswer.{RowAnswer}
-use Rattle.day_simulator.specs.Once.{IsServedOnce}
+use Rattle.day_laws.specs.Once.{IsServedOnce, events_of_log}
 use Rattle.day_simulator.specs.Rows.{IsRowDone, next_step}
 use Rattle.day_runner.specs.Runs.{Right, AreRowsDone, rows_of}
-use Rattle.day_runner.specs.Served.{events_of_log, events_of_rows}
+use Rattle.day_runner.specs.Served.{events_of_rows}
 use Rattle.day_runner.specs.Days.{RanDay}
 use Rattle.day_runner.specs.Inputs.{DayAnswered, DayRan}
 use Rattle.day_runner.specs.declared.days.Ended.{Ended}

@@ -9,8 +9,8 @@ use Rattle.lift_text.specs.Reading.{line_limit}
 use Rattle.row_text.specs.Records.{row_of_line}
 use Rattle.day_simulator.specs.declared.days.RowAnswer.{RowAnswer}
 use Rattle.day_simulator.specs.declared.days.RowAnswer.TheVariants.{Refused as RefusedBy}
-use Rattle.day_simulator.specs.Standing.{row_number}
-use Rattle.day_simulator.specs.Texts.{refused_text}
+use Rattle.day_laws.specs.Standing.{row_number}
+use Rattle.log_text.specs.Texts.{refused_text}
 use Rattle.day_simulator.specs.Rows.{IsRowDone}
 use Rattle.day_runner.specs.Runs.{Right, AreRowsDone, rows_of, rows_of_line, rows_of_short}
 

@@ -2,16 +2,10 @@
 use Rattle.std.specs.Prelude.{ℕ, List, [], ◌∷◌, ◌++◌, Option, All}
 use Rattle.search_model.specs.declared.Event.{Event}
 use Rattle.search_model.specs.Advancing.{last_events}
-use Rattle.search_model.specs.Days.{Day, Row, RowLog, calls_at_end}
-use Rattle.search_model.specs.Days.RowLog.{Refused, Accepted}
-use Rattle.day_simulator.specs.Once.{IsServedOnce}
+use Rattle.search_model.specs.Days.{Day, Row, calls_at_end}
+use Rattle.day_laws.specs.Once.{IsServedOnce, events_of_log}
 use Rattle.day_simulator.specs.Rows.{next_step}
 use Rattle.day_runner.specs.Runs.{Right, AreRowsDone}
-
--- the events in the lines of a row
-abbrev pub events_of_log : RowLog → List Event
-events_of_log (Refused number fault) = []
-events_of_log (Accepted number events printed) = events
 
 -- the events in the lines of rows that were done, in their order
 abbrev pub events_of_rows : (right : Right) (old : Day) (rows : List (Option Row)) (new : Day) (text : List ℕ) → AreRowsDone right old rows new text → List Event

@@ -8,7 +8,7 @@ ghost use Rattle.day_simulator.specs.Rows.{right_by};
 ghost use Rattle.lift_text.specs.LineReader.{text, failure};
 ghost use Rattle.search_model.specs.Days.{served_of};
 ghost use Rattle.day_state.specs.Openings.{IsOpeningSnapshot};
-ghost use Rattle.day_simulator.specs.Standing.{IsEarly};
+ghost use Rattle.day_laws.specs.Standing.{IsEarly};
 ghost use Rattle.day_runner.specs.Days.{EndedAs, RanDay};
 
 use crate::rows::{RunFault, put, run_rows};

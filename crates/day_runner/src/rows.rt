@@ -11,8 +11,8 @@ ghost use Rattle.lift_text.specs.LineReader.{text, line, failure, has_ended};
 ghost use Rattle.lift_text.specs.Reading.{HaveLineFeeds};
 ghost use Rattle.search_model.specs.Days.{day_after_refused, loses_none};
 ghost use Rattle.search_model.specs.declared.RowFault.TheVariants.{NoRow};
-ghost use Rattle.day_simulator.specs.Standing.{row_number};
-ghost use Rattle.day_simulator.specs.Texts.{refused_text};
+ghost use Rattle.day_laws.specs.Standing.{row_number};
+ghost use Rattle.log_text.specs.Texts.{refused_text};
 ghost use Rattle.day_runner.specs.Runs.{AreRowsDone, DidNext, Ran, WroteNext, fault_of, rows_of_line};
 ghost use Rattle.day_runner.specs.Runs.{rows_of_short, next_after, next_written};
 

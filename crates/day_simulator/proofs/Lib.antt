@@ -1,11 +1,2 @@
-pub mod Counts
-pub mod RiderCounts
-pub mod Conserved
-pub mod EarlyLemmas
-pub mod NoneLost
-pub mod BoardCounts
-pub mod EventMoments
-pub mod LineLemmas
 pub mod LoggedLemmas
 pub mod RowLemmas
-pub mod ServedLemmas

@@ -14,7 +14,8 @@ use Rattle.search_model.specs.declared.Event.TheVariants.{Board, Deliver}
 use Rattle.search_model.specs.declared.Served.{Served}
 use Rattle.search_model.specs.Days.{DayCall, noted_in, calls_after, served_from}
 use Rattle.day_simulator.specs.declared.logged.LoggedCall.{LoggedCall}
-use Rattle.day_simulator.specs.Logged.{day_call, day_calls, id_of_event, id_at, no_day_call, IdsRise}
+use Rattle.day_simulator.specs.Logged.{day_call, day_calls, id_of_event}
+use Rattle.day_laws.specs.Standing.{id_at, no_day_call, IdsRise}
 
 abbrev pub no_logged : LoggedCall
 no_logged = record { id = 0; released = 0; boarded = None; delivered = None }

@@ -1,5 +1,5 @@
 -- The accepted calls of a day, as the code keeps them, against the definition.
-use Rattle.std.specs.Prelude.{ℕ, ◌<◌, List, length, map, slice_index_or, None}
+use Rattle.std.specs.Prelude.{ℕ, List, map}
 use Rattle.search_model.specs.declared.Event.{Event}
 use Rattle.search_model.specs.declared.Event.TheVariants.{Board, Deliver}
 use Rattle.search_model.specs.Advancing.{World}
@@ -20,13 +20,3 @@ day_of world refused unsolved calls = record { world = world; refused = refused;
 abbrev pub id_of_event : Event → ℕ
 id_of_event (Board call car moment) = call
 id_of_event (Deliver call car moment) = call
-
-abbrev pub no_day_call : DayCall
-no_day_call = record { id = 0; released = 0; boarded = None; delivered = None }
-
-abbrev pub id_at : List DayCall → ℕ → ℕ
-id_at calls k = (slice_index_or calls k no_day_call).id
-
--- the ids rise
-abbrev pub IdsRise : List DayCall → Type 0
-IdsRise calls = (i j : ℕ) → i < j → j < length calls → id_at calls i < id_at calls j

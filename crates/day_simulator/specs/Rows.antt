@@ -1,18 +1,16 @@
 -- What a row does to a day and to its log, with what a planner answers.
-use Rattle.std.specs.Prelude.{◌≡◌, ℕ, List, [], ◌++◌, Option, None, Some, Result, Ok, Err}
+use Rattle.std.specs.Prelude.{◌≡◌, ℕ, List, ◌++◌, Option, Result, Ok}
 use Rattle.elevator_model.specs.Snapshot.{Snapshot}
 use Rattle.std.specs.declared.alloc.AllocError.{AllocError}
 use Rattle.search_model.specs.declared.RowFault.{RowFault}
 use Rattle.search_model.specs.declared.Stated.{Stated}
-use Rattle.search_model.specs.declared.Event.{Event}
-use Rattle.search_model.specs.Advancing.{World, advanced, events_by}
-use Rattle.search_model.specs.Days.{Day, Row, RowLog, Step, IsRightLog, call_of_row, code_of_row, day_after_refused, day_step, fault_of_row, with_call}
+use Rattle.search_model.specs.Days.{Day, Row, RowLog, Step, IsRightLog, code_of_row, day_after_refused, day_step}
 use Rattle.search_model.specs.Days.RowLog.{Refused, Accepted}
 use Rattle.day_simulator.specs.declared.days.RowAnswer.{RowAnswer}
 use Rattle.day_simulator.specs.declared.days.RowAnswer.TheVariants.{Taken, Refused as RefusedBy}
-use Rattle.day_simulator.specs.declared.planners.Planned.{Planned}
-use Rattle.day_simulator.specs.Standing.{row_number}
-use Rattle.day_simulator.specs.Texts.{row_text, refused_text}
+use Rattle.log_text.specs.declared.printed.Planned.{Planned}
+use Rattle.day_laws.specs.Standing.{row_number}
+use Rattle.log_text.specs.Texts.{row_text, refused_text}
 
 -- What is right where a planner answers so: what it answers.
 abbrev pub right_by : (Snapshot → Result Planned AllocError → Type 0) → Snapshot → Stated → (proof : List ℕ) → Type 0
@@ -45,13 +43,3 @@ pub record IsRefused (old : Day) (fault : RowFault) (new : Day) (before after : 
   pub day : new ≡ day_after_refused old
   pub text : after ≡ before ++ refused_text (row_number old) fault
   pub answer_is : answer ≡ RefusedBy (code_of_row fault)
-
--- A row is accepted, and this is the snapshot with its call; or it is refused for this fault.
-pub record IsWorldBrought (day : Day) (row : Row) (events : List Event) (w : World) : Type 0 where
-  pub faultless : fault_of_row day.world (row_number day) (Some row) ≡ None
-  pub snapshot : w.snapshot ≡ (with_call (advanced day.world row.time) (call_of_row (row_number day) row) []).snapshot
-  pub happened : events ≡ events_by day.world row.time
-
-abbrev pub IsBrought : Day → Row → List Event → Result World RowFault → Type 0
-IsBrought day row events (Ok w) = IsWorldBrought day row events w
-IsBrought day row events (Err fault) = fault_of_row day.world (row_number day) (Some row) ≡ Some fault

@@ -1,26 +1,27 @@
 //! A day of calls.
 
-ghost use Rattle.std.specs.Prelude.{◌≡◌, ◌<◌, ◌≤◌, ◌+◌, ◌++◌, ◌∷◌, ◌^◌, [], None, Some, IsTrue, All, length};
-ghost use Rattle.std.specs.Prelude.{nat_lt, if◌then◌else◌, IfOk, IfErr, OnOk, OnErr};
+ghost use Rattle.std.specs.Prelude.{◌≡◌, ◌<◌, ◌+◌, ◌++◌, ◌∷◌, ◌^◌, [], None, Some, IsTrue, All, length};
+ghost use Rattle.std.specs.Prelude.{nat_lt, if◌then◌else◌, IfOk, OnOk, OnErr};
 ghost use Rattle.elevator_model.specs.Plans.{IsFeasiblePlan};
 ghost use Rattle.search_model.specs.Advancing.{advanced, events_by};
 ghost use Rattle.search_model.specs.Days.{opening_day, day_after_accepted, is_row, call_of_row, with_call};
-ghost use Rattle.search_model.specs.Days.{fault_of_row, fault_of_new_call, calls_after, loses_none};
+ghost use Rattle.search_model.specs.Days.{fault_of_row, calls_after, loses_none};
 ghost use Rattle.search_model.specs.Days.{delivered_count as delivered_count_lem, served_of};
-ghost use Rattle.day_state.specs.Openings.{IsOpeningSnapshot, IsNewCall, taken};
+ghost use Rattle.day_state.specs.Openings.{IsOpeningSnapshot};
 ghost use Rattle.row_text.specs.Records.{row_of_line, row_as_said};
-ghost use Rattle.day_simulator.specs.Logged.{IdsRise, day_call, day_calls, day_of};
-ghost use Rattle.day_simulator.specs.Texts.{end_text};
-ghost use Rattle.day_simulator.specs.Standing.{IsEarly, IsStanding, row_number};
+ghost use Rattle.day_simulator.specs.Logged.{day_call, day_calls, day_of};
+ghost use Rattle.log_text.specs.Texts.{end_text};
+ghost use Rattle.day_laws.specs.Arrivals.{IsBrought};
+ghost use Rattle.day_laws.specs.Standing.{IdsRise, IsEarly, IsStanding, row_number};
 ghost use Rattle.std.specs.Fn.{FnReturnsAt};
 ghost use Rattle.day_simulator.specs.Planning.{PlannerLaw};
-ghost use Rattle.day_simulator.specs.Rows.{IsBrought, IsRowDone, IsRefused, right_by};
+ghost use Rattle.day_simulator.specs.Rows.{IsRowDone, IsRefused, right_by};
 
-use crate::lines::{add_accepted, code_of, put_end, put_refused};
 use crate::logged::{LoggedCall, add_call, delivered_count, note_all, served_by};
-use crate::planners::Planned;
-use call_state::{Call, Snapshot};
-use day_state::{NotTaken, World};
+use call_state::Snapshot;
+use day_laws::world_of_row;
+use day_state::World;
+use log_text::{Planned, add_accepted, code_of, put_end, put_refused};
 use row_text::{GoodRow, read_row};
 use search_model::{Event, RowFault, Served};
 use std::alloc::{AllocError, Global};
@@ -110,35 +111,10 @@ fn finish_in(
     Ok(served)
 }
 
-/// Offers the world a new call, which it takes if there is no fault.
-fn offer(alloc: Global, world: &mut World, call: Call) -> Result<Option<RowFault>, AllocError>
-    requires { IsNewCall world.old.snapshot call }
-    ensures fault { IfOk result (λ fault. fault ≡ fault_of_new_call world.old.snapshot call) }
-    ensures taken { IfOk result (λ fault. fault ≡ None → world.new.snapshot ≡ taken world.old.snapshot call) }
-{
-    match world.accept(alloc, call) {
-        Ok(()) => Ok(None),
-        Err(NotTaken::Full) => Ok(Some(RowFault::Full)),
-        Err(NotTaken::NoCar) => Ok(Some(RowFault::NoCar)),
-        Err(NotTaken::NoMemory) => Err(AllocError),
-    }
-}
-
-/// The world, unless there is a fault.
-fn unless(fault: Option<RowFault>, world: World) -> Result<World, RowFault>
-    ensures world { IfOk result (λ brought. (brought ≡ world) × (fault ≡ None)) }
-    ensures fault { IfErr result (λ why. fault ≡ Some why) }
-{
-    match fault {
-        None => Ok(world),
-        Some(fault) => Err(fault),
-    }
-}
-
 impl Model for Day {
     ghost use Rattle.search_model.specs.Days.{Day as Record};
     ghost use Rattle.day_simulator.specs.Logged.{day_calls};
-    ghost use Rattle.day_simulator.specs.Standing.{IsStanding};
+    ghost use Rattle.day_laws.specs.Standing.{IsStanding};
 
     ghost Value = { Record };
 
@@ -276,21 +252,8 @@ impl Day {
         }
     }
 
-    /// A copy of the world at this time. What happens until then is appended to the events.
-    fn moved(&self, alloc: Global, time: u64, events: &mut Vec<Event>) -> Result<World, AllocError>
-        requires later { self.now.world.snapshot.moment ≤ time }
-        requires early { time ≤ 1000000000 }
-        ensures world { IfOk result (λ world. world ≡ advanced self.now.world time) }
-        ensures events { OnOk result
-            (events.new.items ≡ events.old.items ++ events_by self.now.world time) }
-    {
-        let mut world = self.world.copy(alloc)?;
-        world.advance(alloc, time, events)?;
-        Ok(world)
-    }
-
     /// The world at the time of the next row with its call, and what happens until then; or why the row is
-    /// refused. What may be refused is tried on a copy of the world.
+    /// refused. The day stays.
     fn brought(
         &self,
         alloc: Global,
@@ -300,14 +263,10 @@ impl Day {
         requires number { row_number self.now < 2 ^ 32 }
         requires good { IsTrue (is_row self.now.world.snapshot.building (row_as_said row.now)) }
         requires none { events.old.items ≡ [] }
-        ensures { IfOk result (IsBrought self.now (row_as_said row.now) events.new.items) }
+        ensures { IfOk result
+            (IsBrought self.now.world (row_number self.now) (row_as_said row.now) events.new.items) }
     {
-        if row.time < self.world.snapshot().now() {
-            return Ok(Err(RowFault::BeforeNow));
-        }
-        let mut world = self.moved(alloc, row.time, events)?;
-        let fault = offer(alloc, &mut world, row.call(self.number()))?;
-        Ok(unless(fault, world))
+        world_of_row(alloc, &self.world, self.number(), row, events)
     }
 
     /// Takes or refuses a row whose numbers lie in their ranges.

@@ -19,22 +19,22 @@
 //! # What holds between rows
 //!
 //! `IsStanding` is the type's invariant: the plan is feasible, ids rise and are below the number of the next
-//! row, and no accepted call is lost. That this stays so is counted (`proofs/Conserved.antt`): each rider of
-//! a world is once among those who are there later and those who were let off, so an id is there as often as
-//! before, less the deliveries among the events; by the end of the plan each is delivered. Counted in the
-//! same way, and by the moments of the stops, by all events of a day each accepted call boards once and is
-//! delivered once, in time (`IsServedOnce`, `proofs/ServedLemmas.antt`). What may be refused is tried on a
-//! copy of the world (`brought`), and a row whose call finds no room takes its text out of the log again. An
-//! event finds its call by binary search, since the calls are in the order of their ids.
+//! row, and no accepted call is lost. That this stays so, and that by all events of a day each accepted call
+//! boards once and is delivered once, in time, is proved in `day_laws` for any plans. What may be refused is
+//! tried on a copy of the world (`day_laws::world_of_row`), and a row whose call finds no room takes its text
+//! out of the log again; the lines are those of `log_text`. An event finds its call by binary search, since
+//! the calls are in the order of their ids.
+//!
+//! A planner is a function: what it answers for a snapshot is a feasible plan with its cost, and a bound that
+//! no feasible plan costs less than, and it fails only where there is no memory left. Whoever calls shows
+//! this of the function (`PlannerLaw`).
 #![tactic(auto)]
 
 mod days;
-mod lines;
 mod logged;
-mod planners;
 
 pub use call_state::Snapshot;
 pub use days::{Day, RowAnswer};
 pub use elevator_model::Plan;
-pub use planners::Planned;
+pub use log_text::Planned;
 pub use search_model::Served;

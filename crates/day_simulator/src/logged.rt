@@ -4,8 +4,8 @@ ghost use Rattle.std.specs.Prelude.{◌≡◌, ◌<◌, ◌++◌, ◌∷◌, [],
 ghost use Rattle.std.specs.Prelude.{IfSome, IfNone, None, ℕ};
 ghost use Rattle.search_model.specs.Days.{noted_in, calls_after, served_from as served_from_lem};
 ghost use Rattle.search_model.specs.Days.{is_delivered_call};
-ghost use Rattle.day_simulator.specs.Logged.{day_call, day_calls, id_at, id_of_event as id_of_event_lem};
-ghost use Rattle.day_simulator.specs.Logged.{IdsRise};
+ghost use Rattle.day_simulator.specs.Logged.{day_call, day_calls, id_of_event as id_of_event_lem};
+ghost use Rattle.day_laws.specs.Standing.{IdsRise, id_at};
 
 use search_model::{Event, Served};
 use std::alloc::{AllocError, Global};

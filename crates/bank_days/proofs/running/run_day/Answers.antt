@@ -1,5 +1,5 @@
 use Rattle.std.proofs.Common.{◌≡◌, ℕ, ap, arith, ltb}
-use Rattle.day_simulator.specs.Standing.{row_number}
+use Rattle.day_laws.specs.Standing.{row_number}
 use Rattle.bank_days.proofs.BankLemmas.{day-logged}
 use Rattle.bank_days.proofs.running.run_day.Goals as goal
 

@@ -1,7 +1,7 @@
 use Rattle.std.proofs.Common.{◌≡◌, ◌+◌, take}
 use Rattle.std.specs.Prelude.{IsTrue}
 use Rattle.search_model.specs.Days.{loses_none}
-use Rattle.day_simulator.specs.Standing.{row_number}
+use Rattle.day_laws.specs.Standing.{row_number}
 use Rattle.bank_days.specs.Banks.{AreRowsAppended}
 use Rattle.bank_days.proofs.running.run_rows.Given as goal
 

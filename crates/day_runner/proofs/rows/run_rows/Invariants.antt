@@ -4,7 +4,7 @@ use Rattle.std.proofs.Common.{◌≡◌, ◌+◌, ◌≤◌, None}
 use Rattle.std.specs.Prelude.{IsTrue}
 use Rattle.search_model.specs.Days.{loses_none}
 use Rattle.lift_text.specs.LineReader.{text, line, failure, has_ended}
-use Rattle.day_simulator.specs.Standing.{row_number}
+use Rattle.day_laws.specs.Standing.{row_number}
 use Rattle.day_runner.proofs.StepLemmas.{SoFar}
 use Rattle.day_runner.proofs.rows.run_rows.Given as goal
 

@@ -5,11 +5,11 @@ use Rattle.search_model.specs.Days.{calls_after, calls_at_end, is_delivered_call
 use Rattle.std.specs.List.{count_by}
 use Rattle.std.proofs.lemmas.List.{length-map}
 use Rattle.day_simulator.specs.Logged.{day_call, day_calls, day_of}
-use Rattle.day_simulator.specs.Standing.{IsEarly}
+use Rattle.day_laws.specs.Standing.{IsEarly}
 use Rattle.day_simulator.proofs.LoggedLemmas.{served-mapped}
-use Rattle.day_simulator.proofs.EarlyLemmas.{early-served}
-use Rattle.day_simulator.proofs.LineLemmas.{wrote_log}
-use Rattle.day_simulator.proofs.NoneLost.{end-length}
+use Rattle.day_laws.proofs.EarlyLemmas.{early-served}
+use Rattle.log_text.proofs.LineLemmas.{wrote_log}
+use Rattle.day_laws.proofs.NoneLost.{end-length}
 use Rattle.day_simulator.proofs.days.finish_in.Goals as goal
 
 pub note_all-requires : goal.note_all-requires

@@ -1,9 +1,10 @@
 use Rattle.std.proofs.Common.{[], ◌∷◌, ◌∙◌, map, take, sym, ap, subst}
 use Rattle.std.proofs.lemmas.List.{take_more}
 use Rattle.search_model.specs.Days.{noted_in, calls_after}
-use Rattle.day_simulator.specs.Logged.{day_calls, IdsRise}
+use Rattle.day_simulator.specs.Logged.{day_calls}
+use Rattle.day_laws.specs.Standing.{IdsRise}
 use Rattle.day_simulator.proofs.LoggedLemmas.{noted-more}
-use Rattle.day_simulator.proofs.NoneLost.{rise-noted}
+use Rattle.day_laws.proofs.NoneLost.{rise-noted}
 use Rattle.day_simulator.proofs.logged.note_each.Goals as goal
 
 pub loop-event-preserved : goal.loop-event-preserved

@@ -1,6 +1,7 @@
 use Rattle.std.proofs.Common.{◌≡◌, take}
 use Rattle.search_model.specs.Days.{calls_after}
-use Rattle.day_simulator.specs.Logged.{day_calls, IdsRise}
+use Rattle.day_simulator.specs.Logged.{day_calls}
+use Rattle.day_laws.specs.Standing.{IdsRise}
 use Rattle.day_simulator.proofs.logged.note_each.Given as goal
 
 abbrev pub invariant-loop-event : goal.invariant-loop-event

@@ -7,8 +7,9 @@ use Rattle.search_model.specs.declared.RowFault.TheVariants.{NoRow}
 use Rattle.search_model.specs.Days.{Day}
 use Rattle.row_text.specs.Records.{row_as_said, row_of_line, row_within}
 use Rattle.std.specs.Option.{option_map}
-use Rattle.day_simulator.specs.Standing.{row_number}
-use Rattle.day_simulator.proofs.RowLemmas.{answer-said, good-row, no-row, refused-answer}
+use Rattle.day_laws.specs.Standing.{row_number}
+use Rattle.day_laws.proofs.RowFaults.{good-row, no-row}
+use Rattle.day_simulator.proofs.RowLemmas.{answer-said, refused-answer}
 use Rattle.day_simulator.proofs.days.Day.any_row.Goals as goal
 
 pub good_row-requires-clause-good : goal.good_row-requires-clause-good

@@ -5,8 +5,8 @@ use Rattle.search_model.specs.Advancing.{World}
 use Rattle.search_model.specs.Days.{opening_world}
 use Rattle.day_simulator.specs.declared.logged.LoggedCall.{LoggedCall}
 use Rattle.day_simulator.specs.Logged.{day_calls}
-use Rattle.day_simulator.specs.Standing.{IsStanding}
-use Rattle.day_simulator.proofs.NoneLost.{opening-stands}
+use Rattle.day_laws.specs.Standing.{IsStanding}
+use Rattle.day_laws.proofs.NoneLost.{opening-stands}
 use Rattle.day_simulator.proofs.days.Day.new.Goals as goal
 
 pub invariant_of-result : goal.invariant_of-result

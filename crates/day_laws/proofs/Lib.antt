@@ -1,0 +1,10 @@
+pub mod Counts
+pub mod RiderCounts
+pub mod Conserved
+pub mod EarlyLemmas
+pub mod NoneLost
+pub mod BoardCounts
+pub mod EventMoments
+pub mod RowFaults
+pub mod ServedLemmas
+pub mod DayLemmas

@@ -1,0 +1,4 @@
+pub mod Standing
+pub mod Once
+pub mod Arrivals
+pub mod Laws
