@@ -1,36 +1,84 @@
 -- What a search answers is a right plan.
-use Rattle.std.proofs.Common.{◌≡◌, ℕ, ◌≤◌, List, [], sym, subst}
+use Rattle.std.proofs.Common.{◌≡◌, ℕ, ◌≤◌, List, [], Option, Some, None, refl, sym, ◌∙◌, subst}
 use Rattle.elevator_model.specs.Snapshot.{Snapshot, IsAccepted}
 use Rattle.search_model.specs.declared.Stated.{Stated}
 use Rattle.search_model.specs.declared.Twig.{Twig}
 use Rattle.search_model.specs.declared.Turn.{Turn}
 use Rattle.search_model.specs.declared.StopReason.{StopReason}
 use Rattle.search_model.specs.declared.StopReason.TheVariants.{Solved}
-use Rattle.search_model.specs.Solving.{IsSolveAnswer}
+use Rattle.search_model.specs.Certificates.{Proves}
+use Rattle.search_model.specs.Solving.{IsReason, IsSolveAnswer}
 use Rattle.search_model.specs.Verdicts.{rounds_enough, moves_enough}
 use Rattle.search_model.proofs.TreeLemmas.{proves-bound}
 use Rattle.tour_cost.proofs.Served.{cars-le}
-use Rattle.day_planner.specs.SolvedRows.{IsSolvedRow}
+use Rattle.day_simulator.specs.Planning.{IsRightPlan}
+use Rattle.certified_search.proofs.Enough.{certified_same}
+use Rattle.day_planner.specs.SolvedRows.{AreEnoughFor, IsCertifiedRow, IsSolvedRow}
 
-pub solved-row : (rounds moves : ℕ) (s : Snapshot) (stated : Stated) (proof : List ℕ) (tree : List Twig) (turns : List Turn) (why : StopReason) → IsAccepted s → proof ≡ [] → IsSolveAnswer s rounds moves stated.plan stated.cost stated.bound tree turns why
-    → (rounds_enough s ≤ rounds → moves_enough s ≤ moves → why ≡ Solved) → IsSolvedRow rounds moves s stated proof
-solved-row rounds moves s stated proof tree turns why accepted written answer enough =
-    record {
-      accepted = accepted;
-      right_plan = record {
-        feasible = answer.proves.feasible;
-        cost = sym answer.proves.costs;
-        bound = proves-bound s stated.plan stated.cost stated.bound tree (cars-le s accepted) answer.proves;
-      };
-      written = written;
-      tree = tree;
-      turns = turns;
-      why = why;
-      answer = answer;
-      enough = enough;
-    }
+-- a plan whose bound is proved is a right one
+right-plan : (s : Snapshot) (stated : Stated) (tree : List Twig) → IsAccepted s → Proves s stated.plan stated.cost stated.bound tree → IsRightPlan s stated
+right-plan s stated tree accepted proves = record {
+  feasible = proves.feasible;
+  cost = sym proves.costs;
+  bound = proves-bound s stated.plan stated.cost stated.bound tree (cars-le s accepted) proves;
+}
+
+module _ (rounds moves : ℕ) (s : Snapshot) (accepted : IsAccepted s) (found : Stated) (tree : List Twig) (turns : List Turn) (why : StopReason)
+    (answer : IsSolveAnswer s rounds moves found.plan found.cost found.bound tree turns why) (enough : rounds_enough s ≤ rounds → moves_enough s ≤ moves → why ≡ Solved) where
+  -- what is stated as it was found, and not written
+  pub solved-row : (proof : List ℕ) → proof ≡ [] → IsSolvedRow rounds moves None s found proof
+  solved-row proof none = record {
+    accepted = accepted;
+    right_plan = right-plan s found tree accepted answer.proves;
+    bound = found.bound;
+    tree = tree;
+    turns = turns;
+    why = why;
+    answer = answer;
+    enough = enough;
+    written = (refl, none);
+  }
+
+  -- what is written with its certificate
+  pub certified-row : (limit bound : ℕ) (proof : List ℕ) → IsCertifiedRow s limit found tree (record { plan = found.plan; cost = found.cost; bound = bound }) proof → IsSolvedRow rounds moves (Some limit) s (record { plan = found.plan; cost = found.cost; bound = bound }) proof
+  certified-row limit bound proof written = record {
+    accepted = accepted;
+    right_plan = right-plan s (record { plan = found.plan; cost = found.cost; bound = bound }) written.certificate accepted written.certified.proves;
+    bound = found.bound;
+    tree = tree;
+    turns = turns;
+    why = why;
+    answer = answer;
+    enough = enough;
+    written = written;
+  }
+
+  -- and so it is as it is stated
+  pub certified-row-as : (limit : ℕ) (stated : Stated) (proof : List ℕ) → stated.plan ≡ found.plan → stated.cost ≡ found.cost → IsCertifiedRow s limit found tree stated proof → IsSolvedRow rounds moves (Some limit) s stated proof
+  certified-row-as limit stated proof plan cost written =
+      let same : record { plan = found.plan; cost = found.cost; bound = stated.bound } ≡ stated = λ i. record { plan = sym plan i; cost = sym cost i; bound = stated.bound } in
+      subst (λ (x : Stated). IsSolvedRow rounds moves (Some limit) s x proof) same (certified-row limit stated.bound proof (subst (λ (x : Stated). IsCertifiedRow s limit found tree x proof) (sym same) written))
+
+-- no limit is none
+pub none-there : (claims : Option ℕ) → ((most : ℕ) → claims ≡ Some most → ⊥) → claims ≡ None
+none-there None none = refl
+none-there (Some most) none = absurd (none most refl)
 
 -- and so is what states the same
-pub still-solved : (rounds moves : ℕ) (s t : Snapshot) (one other : Stated) (said written : List ℕ) → IsSolvedRow rounds moves s one said → s ≡ t → one ≡ other → said ≡ written → IsSolvedRow rounds moves t other written
-still-solved rounds moves s t one other said written solved here same as_written =
-    subst (λ (p : List ℕ). IsSolvedRow rounds moves t other p) as_written (subst (λ (x : Stated). IsSolvedRow rounds moves t x said) same (subst (λ (x : Snapshot). IsSolvedRow rounds moves x one said) here solved))
+pub still-solved : (rounds moves : ℕ) (claims : Option ℕ) (s t : Snapshot) (one other : Stated) (said written : List ℕ) → IsSolvedRow rounds moves claims s one said → s ≡ t → one ≡ other → said ≡ written → IsSolvedRow rounds moves claims t other written
+still-solved rounds moves claims s t one other said written solved here same as_written =
+    subst (λ (p : List ℕ). IsSolvedRow rounds moves claims t other p) as_written (subst (λ (x : Stated). IsSolvedRow rounds moves claims t x said) same (subst (λ (x : Snapshot). IsSolvedRow rounds moves claims x one said) here solved))
+
+-- where the limits are enough, the bound that is stated is the one that the search found
+same-bound : (rounds moves : ℕ) (claims : Option ℕ) (s : Snapshot) (stated : Stated) (proof : List ℕ) (row : IsSolvedRow rounds moves claims s stated proof) → AreEnoughFor rounds moves claims s → stated.bound ≡ row.bound
+same-bound rounds moves None s stated proof row enough = row.written.0
+same-bound rounds moves (Some limit) s stated proof row enough =
+    let found : Stated = record { plan = stated.plan; cost = stated.cost; bound = row.bound } in
+    certified_same rounds limit s found row.tree stated.bound row.written.certificate row.written.certified row.answer.twigs enough.claims_are
+
+-- and it is the cost
+pub solved-where-enough : (rounds moves : ℕ) (claims : Option ℕ) (s : Snapshot) (stated : Stated) (proof : List ℕ) → IsSolvedRow rounds moves claims s stated proof → AreEnoughFor rounds moves claims s → stated.cost ≡ stated.bound
+solved-where-enough rounds moves claims s stated proof row enough =
+    let why = row.enough enough.rounds_are enough.moves_are in
+    let equal : stated.cost ≡ row.bound = subst (λ (w : StopReason). IsReason s rounds moves stated.cost row.bound row.tree w) why row.answer.reason in
+    equal ∙ sym (same-bound rounds moves claims s stated proof row enough)

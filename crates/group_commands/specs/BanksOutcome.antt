@@ -1,5 +1,5 @@
 -- What the command `banks` leaves: what was read and written, and why it ended.
-use Rattle.std.specs.Prelude.{◌≡◌, ℕ, ◌⊎◌, List, [], ◌∷◌, ◌++◌, codes, map, Option, Some, option_map, if◌then◌else◌}
+use Rattle.std.specs.Prelude.{◌≡◌, ℕ, ◌⊎◌, List, [], ◌∷◌, ◌++◌, codes, map, Option, Some, option_map, if◌then◌else◌, None}
 use Rattle.std.specs.List.{list_any}
 use Rattle.std.specs.Io.KnownBytes.{IsAtEnd}
 use Rattle.byte_streams.specs.Streams.{Rose}
@@ -48,7 +48,7 @@ status_of_logs logs = if list_any (λ log. log.is_stopped) logs then Stopped els
 -- The text has the log of each bank's day over its own rows, with plans as searches within these limits answer them.
 pub record AreTold (rounds moves : ℕ) (banks : BankInput) (status : Status) (text : List ℕ) : Type 0 where
   pub logs : List BankLog
-  pub are_logs : AreBankLogs (IsSolvedRow rounds moves) banks.banks.items logs
+  pub are_logs : AreBankLogs (IsSolvedRow rounds moves None) banks.banks.items logs
   pub status_is : status ≡ status_of_logs logs
   pub is_text : text ≡ banks_text (ids_of banks.banks.items) (texts_of logs) banks.strays
 

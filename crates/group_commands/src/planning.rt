@@ -23,10 +23,11 @@ pub(crate) struct Searches<'a, R> {
 
 impl<'a, R: Threads + Sync> Planner for Searches<'a, R> {
     ghost use denote.Param.Send.{IsSync};
+    ghost use Rattle.std.specs.Prelude.{None as Unlimited};
     ghost use Rattle.day_planner.specs.SolvedRows.{IsSolvedRow};
 
     ghost right = { λ it s stated proof.
-        IsSolvedRow it.limits.rounds it.limits.most_tours s stated proof };
+        IsSolvedRow it.limits.rounds it.limits.most_tours Unlimited s stated proof };
 
     ghost can_plan = { λ it. IsSync R.row };
 
@@ -35,6 +36,7 @@ impl<'a, R: Threads + Sync> Planner for Searches<'a, R> {
             self.threads,
             self.alloc,
             self.limits,
+            None,
             1,
             snapshot,
             &OpenGate,

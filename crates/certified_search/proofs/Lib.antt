@@ -1,0 +1,3 @@
+pub mod KnownTrees
+pub mod Certified
+pub mod Enough
