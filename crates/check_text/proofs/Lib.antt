@@ -6,3 +6,4 @@ pub mod AgainLemmas
 pub mod LayerLemmas
 pub mod PieceLemmas
 pub mod ToldLemmas
+pub mod PairLemmas

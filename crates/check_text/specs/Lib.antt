@@ -2,3 +2,4 @@ pub mod Laws
 pub mod CheckTexts
 pub mod VerdictTexts
 pub mod Layers
+pub mod Pairs

@@ -7,6 +7,8 @@
 //!   else the first bad line with its one code (`IsCheckFault`: in the case, in the answer after a right
 //!   case, in the certificate after a right answer, or after them all), also where an earlier line makes the
 //!   verdict a no.
+//! - `read_certified` gives, of an answer to a snapshot and a certificate, the answer and the verdict, and
+//!   leaves unread what follows (`IsCertified`); else the first bad line (`IsPairFault`).
 //! - `write_verdict` appends the lines of a verdict; when out of memory nothing was appended.
 //! - `text_laws` has what a program needs that writes such a text (`specs/Laws.antt`). A feasible plan with
 //!   the boards of each stop by rising index is feasible and costs the same (`ByIndexLaw`). Such a plan of a
@@ -28,5 +30,5 @@ mod verdicts;
 
 pub use checked::Checked;
 pub use laws::text_laws;
-pub use reading::read_check;
-pub use verdicts::write_verdict;
+pub use reading::{Certified, read_certified, read_check};
+pub use verdicts::{put_reason, write_verdict};

@@ -8,12 +8,13 @@ ghost use Rattle.search_model.specs.declared.Stated.{Stated as StatedValue};
 ghost use Rattle.lift_text.specs.LineReader.{text, failure};
 ghost use Rattle.lift_text.specs.Shows.{FaultShows, WentOn};
 ghost use Rattle.cert_checker.specs.Judging.{HasSeen, IsCheckerOf};
-ghost use Rattle.cert_text.specs.Readers.{failure_of};
+ghost use Rattle.cert_text.specs.Readers.{IsRefused, failure_of};
 ghost use Rattle.check_text.specs.CheckTexts.{IsChecked, IsRefusedCheck, TakesChecks};
 ghost use Rattle.check_text.specs.VerdictTexts.{IsToldOf};
 ghost use Rattle.check_text.specs.Layers.{FeedsPieceFor, FeedsTree, HasHandedOut, HasSeenNone, IsJudged};
 ghost use Rattle.check_text.specs.Layers.{IsRefusedCertified, IsRefusedTree, IsVerdict, ReadsPieceFor};
 ghost use Rattle.check_text.specs.Layers.{TakesCertified, TakesTrees};
+ghost use Rattle.check_text.specs.Pairs.{IsCertified, IsRefusedPair, IsVerdictRead};
 
 use crate::checked::Checked;
 use answer_text::read_answer;
@@ -172,6 +173,85 @@ fn check_tree<S: Source, R: Threads + Sync, G: Gate + Sync>(
     Err(TextFault::NoMemory)
 }
 
+/// Reads a certificate of a plan up to its line `end`, and says what it proves.
+fn read_verdict<S: Source, R: Threads + Sync, G: Gate + Sync>(
+    runtime: &Runtime<R, G>,
+    lines: &mut LineReader<S>,
+    snapshot: &Snapshot,
+    stated: &Stated,
+    workers: u32,
+) -> Result<Verdict, TextFault>
+    requires whole { failure lines.old ≡ None }
+    requires cars { length stated.now.plan ≡ car_count snapshot.now }
+    requires workers { (1 ≤ workers) × (workers ≤ MOST_WORKERS) }
+    ensures same_source { lines.new.source.ghost_name ≡ lines.old.source.ghost_name }
+    ensures verdict { IfOk result (IsVerdictRead (text S.left lines.old) snapshot.now stated.now
+        (text S.left lines.new)) }
+    ensures refused { IfErr result (IsRefused snapshot.now (text S.left lines.old)) }
+    ensures went { OnOk result (WentOn (text S.left lines.old) (text S.left lines.new)) }
+    ensures shows { IfErr result (λ fault.
+        FaultShows (text S.left lines.old) fault (S.left lines.new.source.now)) }
+    ensures ok { OnOk result (failure lines.new ≡ None) }
+    ensures read { IsErrOf result TextFault.Read
+        → Rose (S.faults lines.old.source.now) (S.faults lines.new.source.now) }
+    ensures counted { S.faults lines.old.source.now ≤ S.faults lines.new.source.now }
+{
+    let mut checker = match Checker::new(runtime.alloc, snapshot, stated) {
+        Ok(checker) => checker,
+        Err(_) => return Err(TextFault::NoMemory),
+    };
+    match check_tree(runtime, lines, snapshot, &mut checker, workers) {
+        Ok(()) => Ok(checker.verdict()),
+        Err(fault) => Err(fault),
+    }
+}
+
+/// An answer to a snapshot, and what its certificate proves.
+#[derive(Drop)]
+pub struct Certified {
+    /// The plan with its cost and a bound, as they are stated.
+    pub stated: Stated,
+    /// Whether the certificate proves them.
+    pub verdict: Verdict,
+}
+
+/// Reads an answer to the snapshot and a certificate of it, up to the line `end` of the certificate, and says
+/// what the certificate proves: what follows stays unread. The certificate is checked while it is read, by
+/// `workers` workers.
+///
+/// The first bad line decides, with its number and one code, also if it comes after what makes the verdict a
+/// no. `Read` comes only where a read of the source failed.
+pub fn read_certified<S: Source, R: Threads + Sync, G: Gate + Sync>(
+    runtime: &Runtime<R, G>,
+    lines: &mut LineReader<S>,
+    snapshot: &Snapshot,
+    workers: u32,
+) -> Result<Certified, TextFault>
+    requires whole { failure lines.old ≡ None }
+    requires workers { (1 ≤ workers) × (workers ≤ MOST_WORKERS) }
+    ensures same_source { lines.new.source.ghost_name ≡ lines.old.source.ghost_name }
+    ensures certified { IfOk result (λ certified. IsCertified (text S.left lines.old) snapshot.now
+        certified.stated certified.verdict (text S.left lines.new)) }
+    ensures told { IfOk result (λ certified. IsToldOf snapshot.now certified.verdict) }
+    ensures refused { IfErr result (IsRefusedPair (text S.left lines.old) snapshot.now) }
+    ensures went { OnOk result (WentOn (text S.left lines.old) (text S.left lines.new)) }
+    ensures shows { IfErr result (λ fault.
+        FaultShows (text S.left lines.old) fault (S.left lines.new.source.now)) }
+    ensures ok { OnOk result (failure lines.new ≡ None) }
+    ensures read { IsErrOf result TextFault.Read
+        → Rose (S.faults lines.old.source.now) (S.faults lines.new.source.now) }
+    ensures counted { S.faults lines.old.source.now ≤ S.faults lines.new.source.now }
+{
+    let stated = match read_answer(runtime.alloc, lines, snapshot) {
+        Ok(stated) => stated,
+        Err(fault) => return Err(fault),
+    };
+    match read_verdict(runtime, lines, snapshot, &stated, workers) {
+        Ok(verdict) => Ok(Certified { stated, verdict }),
+        Err(fault) => Err(fault),
+    }
+}
+
 /// Reads a certificate of a plan and the text to its end, and says what the certificate proves.
 fn judge_tree<S: Source, R: Threads + Sync, G: Gate + Sync>(
     runtime: &Runtime<R, G>,
@@ -194,13 +274,9 @@ fn judge_tree<S: Source, R: Threads + Sync, G: Gate + Sync>(
         → Rose (S.faults lines.old.source.now) (S.faults lines.new.source.now) }
     ensures counted { S.faults lines.old.source.now ≤ S.faults lines.new.source.now }
 {
-    let mut checker = match Checker::new(runtime.alloc, snapshot, stated) {
-        Ok(checker) => checker,
-        Err(_) => return Err(TextFault::NoMemory),
-    };
-    match check_tree(runtime, lines, snapshot, &mut checker, workers) {
-        Ok(()) => match read_end(lines) {
-            Ok(()) => Ok(checker.verdict()),
+    match read_verdict(runtime, lines, snapshot, stated, workers) {
+        Ok(verdict) => match read_end(lines) {
+            Ok(()) => Ok(verdict),
             Err(fault) => Err(fault),
         },
         Err(fault) => Err(fault),

@@ -60,7 +60,8 @@ fn put_signed_line(
     Ok(())
 }
 
-fn put_reason(out: &mut Vec<u8>, snapshot: &Snapshot, reason: &Reason) -> Result<(), AllocError>
+/// Appends the lines of a reason, as `write_verdict` does. After an `Err` a beginning of them may be written.
+pub fn put_reason(out: &mut Vec<u8>, snapshot: &Snapshot, reason: &Reason) -> Result<(), AllocError>
     requires { TellsOwnTour snapshot.now reason.now }
     ensures { OnOk result (out.new.items ≡ out.old.items ++ reason_text snapshot.now reason.now) }
 {

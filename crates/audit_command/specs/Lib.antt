@@ -1,0 +1,3 @@
+pub mod AuditTexts
+pub mod AuditOutcome
+pub mod WorkedTexts

@@ -1,0 +1,120 @@
+-- An input is its opening, the rows behind it, and the log behind these.
+use Rattle.std.proofs.Common.{◌≡◌, ℕ, ◌<◌, ◌≤◌, ◌⊎◌, inl, inr, List, [], ◌++◌, length, map, take, Option, None, Some, Result, Ok, Err, refl, sym, ap, ◌∙◌, subst, arith}
+use Rattle.std.specs.Prelude.{IfSome}
+use Rattle.std.specs.Io.KnownBytes.{IsAtEnd, prepend_known}
+use Rattle.std.proofs.lemmas.Bool.{cases_lt}
+use Rattle.std.proofs.lemmas.List.{append-nil, take-append-le, take_all}
+use Rattle.elevator_model.specs.Snapshot.{Snapshot, IsAccepted}
+use Rattle.search_model.specs.Days.{opening_day}
+use Rattle.lift_text.specs.Reading.{TextState, reading, whole_text}
+use Rattle.lift_text.specs.declared.faults.TextFault.{TextFault}
+use Rattle.lift_text.specs.declared.faults.TextFault.TheVariants.{Bad, NoMemory, Read, TooLong}
+use Rattle.row_text.specs.declared.rows.GoodRow.{GoodRow}
+use Rattle.opening_text.specs.DayOpenings.{IsDayOpeningRead, IsDayOpeningRefused, IsEmptySnapshot}
+use Rattle.day_state.specs.Openings.{IsOpeningSnapshot}
+use Rattle.day_audit.specs.declared.findings.Finding.{Finding}
+use Rattle.day_audit.specs.declared.findings.Finding.TheVariants.{Differs, Row as BadRow, Text}
+use Rattle.day_audit.specs.declared.logs.Audited.{Audited}
+use Rattle.day_audit.specs.Audits.{LogFinds}
+use Rattle.day_audit.specs.Taking.{IsUnread, TellsFound}
+use Rattle.day_audit.specs.Progress.{IsLogAudited, said_of}
+use Rattle.day_audit.specs.Openings.{AreRowsGiven, TellsNoLog, TellsRows}
+use Rattle.day_audit.specs.Inputs.{EndsIfJudged, FindsBehind, FindsIn, IsAudit, IsDayAudited, IsShort, IsTextAudited, bad_opening, behind, if_long, in_log, no_log, rows_past}
+use Rattle.day_audit.proofs.TakingLemmas.{tells, tells_found}
+use Rattle.day_audit.proofs.PastLemmas.{text_is_long}
+
+-- ---- behind the opening
+
+pub log_audited : (opening : Snapshot) (rows : List (Option GoodRow)) (before mid : Option TextState) (answer : Result Audited Finding) → AreRowsGiven opening.building rows before mid → IsLogAudited (opening_day opening) (map said_of rows) mid answer → IsDayAudited opening before answer
+log_audited opening rows None mid answer given audited = tt
+log_audited opening rows (Some from) None answer given audited = absurd given
+log_audited opening rows (Some from) (Some log) (Ok audited) given is =
+    record { rows = map said_of rows; log = log; end = is.0; front = given; holds = is.1; accepted = is.2; unsolved = is.3 }
+log_audited opening rows (Some from) (Some log) (Err finding) given told =
+    tells_found finding (LogFinds (opening_day opening) (map said_of rows) (reading log)) (FindsBehind opening from) (λ found finds. in_log (map said_of rows) log given finds) told
+
+no_rows_in : (opening : Snapshot) (from : TextState) (finding : Finding) → TellsRows from finding → TellsFound finding (FindsBehind opening from)
+no_rows_in opening from (Differs line) told = no_log line told refl
+no_rows_in opening from (BadRow row reason) told = absurd told
+no_rows_in opening from (Text (Bad line code)) told = absurd told
+no_rows_in opening from (Text TooLong) told = rows_past told refl
+no_rows_in opening from (Text Read) told = tt
+no_rows_in opening from (Text NoMemory) told = tt
+
+pub rows_refused : (opening : Snapshot) (before : Option TextState) (finding : Finding) → TellsNoLog before finding → IsDayAudited opening before (Err finding)
+rows_refused opening None finding told = tt
+rows_refused opening (Some from) finding told = no_rows_in opening from finding told
+
+-- ---- a text
+
+pub opening_empty : (opening : Snapshot) → IsEmptySnapshot opening → IsOpeningSnapshot opening
+opening_empty opening empty = record { calls = ap length empty.calls; aboard = ap length empty.aboard }
+
+pub day_audited : (opening : Snapshot) (before mid : Option TextState) (answer : Result Audited Finding) → IsAccepted opening → IsEmptySnapshot opening → IsDayOpeningRead before opening mid → IsDayAudited opening mid answer → IsTextAudited before answer
+day_audited opening None mid answer accepted empty opens audited = tt
+day_audited opening (Some text) None answer accepted empty opens audited = absurd opens
+day_audited opening (Some text) (Some from) (Ok audited) accepted empty opens holds =
+    record { opening = opening; from = from; accepted = accepted; empty = opening_empty opening empty; opens = opens; holds = holds }
+day_audited opening (Some text) (Some from) (Err finding) accepted empty opens told =
+    tells_found finding (FindsBehind opening from) (FindsIn text) (λ found finds. behind opening from opens finds) told
+
+pub opening_refused : (before : Option TextState) (fault : TextFault) (finding : Finding) → finding ≡ Text fault → IsDayOpeningRefused before fault → IsTextAudited before (Err finding)
+opening_refused None fault finding is refused = tt
+opening_refused (Some text) fault finding is refused =
+    subst (λ (f : Finding). TellsFound f (FindsIn text)) (sym is) (tells fault (λ bad. bad_opening fault bad refl) refused)
+
+-- ---- an input
+
+pub short_audited : (input : List ℕ) (answer : Result Audited Finding) → IsShort input → IsTextAudited (Some (whole_text input)) answer → IsAudit input answer
+short_audited input (Ok audited) short holds = (short, holds)
+short_audited input (Err (Differs line)) short told = (short, told)
+short_audited input (Err (BadRow row reason)) short told = (short, told)
+short_audited input (Err (Text (Bad line code))) short told = told
+short_audited input (Err (Text TooLong)) short told = let long = text_is_long (whole_text input) told in absurd (omega (arith, short, long))
+short_audited input (Err (Text Read)) short told = tt
+short_audited input (Err (Text NoMemory)) short told = tt
+
+pub long_audited : (input : List ℕ) (answer : Result Audited Finding) → 67108864 < length input → IsTextAudited (Some (whole_text input)) answer → IsAudit input (if_long answer)
+long_audited input (Ok audited) long holds = long
+long_audited input (Err (Differs line)) long told = long
+long_audited input (Err (BadRow row reason)) long told = long
+long_audited input (Err (Text (Bad line code))) long told = told
+long_audited input (Err (Text TooLong)) long told = long
+long_audited input (Err (Text Read)) long told = tt
+long_audited input (Err (Text NoMemory)) long told = tt
+
+pub long_read : (answer : Result Audited Finding) → IsUnread (if_long answer) → IsUnread answer
+long_read (Ok audited) unread = absurd cc
+long_read (Err (Differs line)) unread = absurd cc
+long_read (Err (BadRow row reason)) unread = absurd cc
+long_read (Err (Text fault)) unread = unread
+
+-- the bytes that were read are the first of the input
+first_bytes : (input rest : List ℕ) → length input ≤ 67108865 → (length input < 67108865 → rest ≡ []) → take 67108865 (input ++ rest) ≡ input
+first_bytes input rest few whole = at (cases_lt (length input) 67108865)
+  where
+    at : (length input < 67108865) ⊎ (67108865 ≤ length input) → take 67108865 (input ++ rest) ≡ input
+    at (inl less) = ap (λ (r : List ℕ). take 67108865 (input ++ r)) (whole less) ∙ ap (take 67108865) (append-nil input) ∙ take_all 67108865 input few
+    at (inr more) = take-append-le 67108865 input rest more ∙ take_all 67108865 input few
+
+pub input_audited : (input : List ℕ) (before now : Option (List ℕ)) (answer : Result Audited Finding) → before ≡ prepend_known input now → length input ≤ 67108865 → (length input < 67108865 → IsAtEnd now) → IsAudit input answer
+    → IfSome before (λ whole. IsAudit (take 67108865 whole) answer)
+input_audited input before None answer given few ends audit = subst (λ (b : Option (List ℕ)). IfSome b (λ whole. IsAudit (take 67108865 whole) answer)) (sym given) tt
+input_audited input before (Some rest) answer given few ends audit =
+    subst (λ (b : Option (List ℕ)). IfSome b (λ whole. IsAudit (take 67108865 whole) answer)) (sym given)
+    (subst (λ (bytes : List ℕ). IsAudit bytes answer) (sym (first_bytes input rest few ends)) audit)
+
+pub ends_if_judged : (input : List ℕ) (left : Option (List ℕ)) (answer : Result Audited Finding) → (length input < 67108865 → IsAtEnd left) → IsAudit input answer → EndsIfJudged answer left
+ends_if_judged input left (Ok audited) ends audit = ends (omega (arith, audit.0))
+ends_if_judged input left (Err (Differs line)) ends audit = ends (omega (arith, audit.0))
+ends_if_judged input left (Err (BadRow row reason)) ends audit = ends (omega (arith, audit.0))
+ends_if_judged input left (Err (Text fault)) ends audit = tt
+
+pub not_judged : (finding : Finding) (fault : TextFault) (left : Option (List ℕ)) → finding ≡ Text fault → EndsIfJudged (Err finding) left
+not_judged finding fault left is = subst (λ (f : Finding). EndsIfJudged (Err f) left) (sym is) tt
+
+-- where nothing was read
+pub none_audited : (finding : Finding) (fault : TextFault) (before : Option (List ℕ)) → finding ≡ Text fault → (fault ≡ Read) ⊎ (fault ≡ NoMemory) → IfSome before (λ whole. IsAudit (take 67108865 whole) (Err finding))
+none_audited finding fault None is kind = tt
+none_audited finding fault (Some whole) is (inl read) = subst (λ (f : Finding). IsAudit (take 67108865 whole) (Err f)) (sym (is ∙ ap Text read)) tt
+none_audited finding fault (Some whole) is (inr none) = subst (λ (f : Finding). IsAudit (take 67108865 whole) (Err f)) (sym (is ∙ ap Text none)) tt

@@ -1,0 +1,8 @@
+pub mod WordLemmas
+pub mod TakingLemmas
+pub mod ProgressLemmas
+pub mod OpeningLemmas
+pub mod PastLemmas
+pub mod InputLemmas
+pub mod LawLemmas
+pub mod Worked

@@ -1,0 +1,8 @@
+use Rattle.std.proofs.Common.{rules}
+use Rattle.row_text.specs.Records.{row_of_line}
+use Rattle.day_audit.proofs.OpeningLemmas.{row_grows}
+use Rattle.day_audit.proofs.openings.add_row.Goals as goal
+
+pub returns-clause-grows : goal.returns-clause-grows
+returns-clause-grows c =
+    row_grows c.args.building.now c.args.rows.now.items c.push.new.self.items c.in_ok-row.row (row_of_line c.args.line.now) (search rules) c.in_ok-row.ensures

@@ -1,0 +1,138 @@
+//! The audit of an input: an opening, rows, and the log of their day.
+
+ghost use Rattle.std.specs.Prelude.{◌≡◌, ◌≤◌, None, IfSome, take};
+ghost use Rattle.byte_streams.specs.Streams.{Rose};
+ghost use Rattle.day_state.specs.Openings.{IsOpeningSnapshot};
+ghost use Rattle.lift_text.specs.LineReader.{text, failure};
+ghost use Rattle.day_audit.specs.Inputs.{EndsIfJudged, IsAudit, IsDayAudited, IsTextAudited};
+ghost use Rattle.day_audit.specs.Inputs.{if_long as if_long_lem};
+ghost use Rattle.day_audit.specs.Inputs.{unread as unread_lem};
+ghost use Rattle.day_audit.specs.Taking.{IsUnread};
+
+use crate::findings::{Finding, bad_text};
+use crate::logs::{Audited, audit_log};
+use crate::openings::read_rows;
+use byte_streams::{Gate, Source, SureSource};
+use call_state::Snapshot;
+use lift_text::{LineReader, TEXT_LIMIT, TextFault};
+use opening_text::read_day_opening;
+use std::alloc::Global;
+use std::marker::Sync;
+use std::thread::Threads;
+use whole_input::{InputFault, read_whole};
+use work_fan::{MOST_WORKERS, Runtime};
+
+/// Audits the rows and the log of the day that opens with this snapshot.
+fn audit_day<S: Source, R: Threads + Sync, G: Gate + Sync>(
+    runtime: &Runtime<R, G>,
+    lines: &mut LineReader<S>,
+    opening: Snapshot,
+    workers: u32,
+) -> Result<Audited, Finding>
+    requires whole { failure lines.old ≡ None }
+    requires workers { (1 ≤ workers) × (workers ≤ MOST_WORKERS) }
+    requires opening { IsOpeningSnapshot opening }
+    ensures audited { IsDayAudited opening (text S.left lines.old) result }
+    ensures read { IsUnread result
+        → Rose (S.faults lines.old.source.now) (S.faults lines.new.source.now) }
+    ensures counted { S.faults lines.old.source.now ≤ S.faults lines.new.source.now }
+{
+    match read_rows(runtime.alloc, lines, opening.building()) {
+        Ok(rows) => audit_log(runtime, lines, opening, rows.as_slice(), workers),
+        Err(finding) => Err(finding),
+    }
+}
+
+/// Audits a text, which holds an opening, rows and a log.
+fn audit_text<S: Source, R: Threads + Sync, G: Gate + Sync>(
+    runtime: &Runtime<R, G>,
+    lines: &mut LineReader<S>,
+    workers: u32,
+) -> Result<Audited, Finding>
+    requires whole { failure lines.old ≡ None }
+    requires workers { (1 ≤ workers) × (workers ≤ MOST_WORKERS) }
+    ensures audited { IsTextAudited (text S.left lines.old) result }
+    ensures read { IsUnread result
+        → Rose (S.faults lines.old.source.now) (S.faults lines.new.source.now) }
+    ensures counted { S.faults lines.old.source.now ≤ S.faults lines.new.source.now }
+{
+    match read_day_opening(runtime.alloc, lines) {
+        Ok(opening) => audit_day(runtime, lines, opening, workers),
+        Err(fault) => Err(bad_text(fault)),
+    }
+}
+
+/// What is answered of an input that is too long: a bad line of a section alone comes before that.
+fn if_long(answer: Result<Audited, Finding>) -> Result<Audited, Finding>
+    ensures { result ≡ if_long_lem answer }
+{
+    match answer {
+        Err(Finding::Text { fault }) => Err(Finding::Text { fault }),
+        Ok(_) | Err(_) => Err(Finding::Text {
+            fault: TextFault::TooLong,
+        }),
+    }
+}
+
+/// Audits these bytes, which are all of an input, or more than it may have.
+fn audit_bytes<R: Threads + Sync, G: Gate + Sync>(
+    runtime: &Runtime<R, G>,
+    input: Vec<u8>,
+    workers: u32,
+) -> Result<Audited, Finding>
+    requires workers { (1 ≤ workers) × (workers ≤ MOST_WORKERS) }
+    ensures audit { IsAudit input.items result }
+    ensures read { IsUnread result → ⊥ }
+{
+    let is_long = input.len() > TEXT_LIMIT;
+    let mut held = SureSource::new(input);
+    let Ok(mut lines) = LineReader::new(runtime.alloc, &mut held) else {
+        return Err(Finding::Text {
+            fault: TextFault::NoMemory,
+        });
+    };
+    let answer = audit_text(runtime, &mut lines, workers);
+    if is_long { if_long(answer) } else { answer }
+}
+
+/// Why an input was not read.
+fn unread(fault: InputFault) -> TextFault
+    ensures { result ≡ unread_lem fault }
+{
+    match fault {
+        InputFault::Read => TextFault::Read,
+        InputFault::NoMemory => TextFault::NoMemory,
+    }
+}
+
+/// Audits an input: a building, an opening snapshot, the header and the rows, and behind the line `day 1` the
+/// log of their day. Its lines are judged in order, and the first finding decides. The runtime and the
+/// allocator come first.
+///
+/// The input is read whole before, up to 67,108,865 bytes, and with 1 to 16 workers the answer is the same.
+/// `Read` comes only where a read of the source failed. After a finding of the log, as after none, the source
+/// is at its end: such an answer to an input of more than 67,108,864 bytes is `TooLong`.
+pub fn audit<S: Source, G: Gate + Sync>(
+    rt: &(impl Threads + Sync),
+    alloc: Global,
+    source: &mut S,
+    workers: u32,
+    gate: &G,
+) -> Result<Audited, Finding>
+    requires workers { (1 ≤ workers) × (workers ≤ MOST_WORKERS) }
+    ensures audit { IfSome (S.left source.old) (λ input. IsAudit (take 67108865 input) result) }
+    ensures ended { EndsIfJudged result (S.left source.new) }
+    ensures read { IsUnread result → Rose (S.faults source.old) (S.faults source.new) }
+    ensures counted { S.faults source.old ≤ S.faults source.new }
+{
+    let input = match read_whole(alloc, source, TEXT_LIMIT + 1) {
+        Ok(input) => input,
+        Err(fault) => return Err(bad_text(unread(fault))),
+    };
+    let runtime = Runtime {
+        threads: rt,
+        alloc,
+        gate,
+    };
+    audit_bytes(&runtime, input, workers)
+}
