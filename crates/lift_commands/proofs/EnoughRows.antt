@@ -4,23 +4,22 @@ use Rattle.std.proofs.lemmas.Bool.{ltb-true, cases_lt}
 use Rattle.elevator_model.specs.Snapshot.{Snapshot}
 use Rattle.search_model.specs.declared.RowFault.{RowFault}
 use Rattle.search_model.specs.declared.Stated.{Stated}
-use Rattle.search_model.specs.declared.StopReason.{StopReason}
 use Rattle.search_model.specs.Advancing.{World}
 use Rattle.search_model.specs.Days.{Day, Row, IsRightLog, fault_of_row, opening_day, step_by}
-use Rattle.search_model.specs.Solving.{IsReason}
 use Rattle.lift_text.specs.Reading.{TextState}
 use Rattle.day_simulator.specs.declared.days.RowAnswer.{RowAnswer}
 use Rattle.day_simulator.specs.declared.days.RowAnswer.TheVariants.{Taken}
 use Rattle.day_simulator.specs.Rows.{IsRowDone, answer_of}
-use Rattle.day_simulator.specs.Standing.{row_number}
+use Rattle.day_laws.specs.Standing.{row_number}
 use Rattle.day_runner.specs.Runs.{Right, AreRowsDone, rows_of}
 use Rattle.day_runner.specs.Inputs.{DayRan}
 use Rattle.day_runner.specs.declared.days.Ended.{Ended}
-use Rattle.lift_words.specs.declared.request.SearchOptions.{SearchOptions}
+use Rattle.lift_words.specs.declared.request.DayOptions.{DayOptions}
 use Rattle.command_ends.specs.declared.status.Status.TheVariants.{Stopped}
 use Rattle.lift_commands.specs.DayRows.{IsStoppedIn}
-use Rattle.day_planner.specs.SolvedRows.{AreEnoughFor, IsSolvedRow}
-use Rattle.lift_commands.specs.DayOutcome.{IsDayStopped, status_of_unsolved}
+use Rattle.day_planner.proofs.RowLemmas.{solved-where-enough}
+use Rattle.lift_words.specs.Taken.{most_claims}
+use Rattle.lift_commands.specs.DayOutcome.{AreEnoughBy, IsDayStopped, SolvedBy, status_of_unsolved}
 
 less-self : (n : ℕ) → n < n → ⊥
 less-self n h = absurd (omega (arith, h))
@@ -118,16 +117,15 @@ module _ (right : Right) (AreEnough : Snapshot → Type 0) (law : (s : Snapshot)
 -- ---- the day
 
 -- what a search answers within limits that are enough has a bound that is its cost
-not-enough : (options : SearchOptions) (s : Snapshot) (stated : Stated) (proof : List ℕ) → IsSolvedRow options.rounds options.moves s stated proof → stated.bound < stated.cost → AreEnoughFor options.rounds options.moves s → ⊥
+not-enough : (options : DayOptions) (s : Snapshot) (stated : Stated) (proof : List ℕ) → SolvedBy options s stated proof → stated.bound < stated.cost → AreEnoughBy options s → ⊥
 not-enough options s stated proof row below enough =
-    let why = row.enough enough.rounds_are enough.moves_are in
-    let equal : stated.cost ≡ stated.bound = subst (λ (w : StopReason). IsReason s options.rounds options.moves stated.cost stated.bound row.tree w) why row.answer.reason in
+    let equal = solved-where-enough options.search.rounds options.search.moves (most_claims options) s stated proof row enough in
     less-self stated.bound (subst (λ (n : ℕ). stated.bound < n) equal below)
 
 some-unsolved : (n : ℕ) → status_of_unsolved n ≡ Stopped → 0 < n
 some-unsolved zero is = absurd cc
 some-unsolved (suc n) is = omega arith
 
-pub stopped-day : (options : SearchOptions) (before : Option TextState) (left taken taken' : Option (List ℕ)) (ended : Ended) (ran : DayRan (IsSolvedRow options.rounds options.moves) before left taken taken' (Ok ended)) → status_of_unsolved ended.unsolved ≡ Stopped → IsDayStopped ran
+pub stopped-day : (options : DayOptions) (before : Option TextState) (left taken taken' : Option (List ℕ)) (ended : Ended) (ran : DayRan (SolvedBy options) before left taken taken' (Ok ended)) → status_of_unsolved ended.unsolved ≡ Stopped → IsDayStopped options ran
 stopped-day options before left taken taken' ended ran is =
-    stopped-in (IsSolvedRow options.rounds options.moves) (AreEnoughFor options.rounds options.moves) (not-enough options) (opening_day ran.opening) (rows_of ran.ran.passed) ran.ran.day ran.ran.text ran.ran.done (subst (λ (n : ℕ). 0 < n) ran.ran.wrote.2 (some-unsolved ended.unsolved is))
+    stopped-in (SolvedBy options) (AreEnoughBy options) (not-enough options) (opening_day ran.opening) (rows_of ran.ran.passed) ran.ran.day ran.ran.text ran.ran.done (subst (λ (n : ℕ). 0 < n) ran.ran.wrote.2 (some-unsolved ended.unsolved is))

@@ -19,18 +19,17 @@ use Rattle.day_state.specs.Openings.{IsOpeningSnapshot}
 use Rattle.day_state.proofs.OpeningLaws.{opening-feasible}
 use Rattle.day_simulator.specs.declared.days.RowAnswer.{RowAnswer}
 use Rattle.day_simulator.specs.Rows.{IsRowDone, next_step}
-use Rattle.day_simulator.specs.Standing.{IsStanding, row_number}
-use Rattle.day_simulator.proofs.NoneLost.{accepted-stands, opening-stands, refused-stands}
+use Rattle.day_laws.specs.Standing.{IsStanding, row_number}
+use Rattle.day_laws.proofs.NoneLost.{accepted-stands, opening-stands, refused-stands}
 use Rattle.day_simulator.proofs.RowLemmas.{done-numbered}
 use Rattle.day_runner.specs.Runs.{AreRowsDone, ReadLines, Right, bytes_of, rows_of, rows_of_line, rows_of_short}
 use Rattle.day_runner.specs.Inputs.{DayRan}
 use Rattle.day_runner.specs.Days.{ReadsDay}
 use Rattle.day_runner.specs.declared.days.Ended.{Ended}
 use Rattle.day_runner.specs.declared.rows.RunFault.{RunFault}
-use Rattle.lift_words.specs.declared.request.SearchOptions.{SearchOptions}
+use Rattle.lift_words.specs.declared.request.DayOptions.{DayOptions}
 use Rattle.lift_commands.specs.DayRows.{AreRowsKept}
-use Rattle.day_planner.specs.SolvedRows.{IsSolvedRow}
-use Rattle.lift_commands.specs.DayOutcome.{RanWithin}
+use Rattle.lift_commands.specs.DayOutcome.{RanWithin, SolvedBy}
 
 -- ---- how many rows there are
 
@@ -129,21 +128,21 @@ opening-kept text opening rows front =
     let is_opening : IsOpeningSnapshot opening = record { calls = ap length none.1; aboard = ap length none.0 } in
     opening-stands opening stands.accepted is_opening (opening-feasible opening stands.accepted is_opening)
 
-kept-from : (options : SearchOptions) (input : List ℕ) (opening : Snapshot) (rows : Option TextState) (passed behind : List (List ℕ)) (Reads : TextState → Type 0) (day : Day) (text : List ℕ)
-    → IsSomeAnd rows (DayOpeningInFront (whole_text input) opening) → IfSome rows (λ from. ReadLines from passed behind × Reads from) → AreRowsDone (IsSolvedRow options.rounds options.moves) (opening_day opening) (rows_of passed) day text
-    → AreRowsKept (IsSolvedRow options.rounds options.moves) (opening_day opening) (rows_of passed) day text
+kept-from : (options : DayOptions) (input : List ℕ) (opening : Snapshot) (rows : Option TextState) (passed behind : List (List ℕ)) (Reads : TextState → Type 0) (day : Day) (text : List ℕ)
+    → IsSomeAnd rows (DayOpeningInFront (whole_text input) opening) → IfSome rows (λ from. ReadLines from passed behind × Reads from) → AreRowsDone (SolvedBy options) (opening_day opening) (rows_of passed) day text
+    → AreRowsKept (SolvedBy options) (opening_day opening) (rows_of passed) day text
 kept-from options input opening None passed behind Reads day text begins read done = absurd begins
 kept-from options input opening (Some from) passed behind Reads day text begins read done =
     let limit = limit-in-front (whole_text input) opening from begins in
     let short = read.0.short in
     let count = rows-of-bytes passed in
-    kept-rows (IsSolvedRow options.rounds options.moves) (λ s stated proof row. (row.accepted, row.right_plan.feasible)) (opening_day opening) (rows_of passed) day text (opening-kept (whole_text input) opening from begins) (omega (arith, limit, short, count)) done
+    kept-rows (SolvedBy options) (λ s stated proof row. (row.accepted, row.right_plan.feasible)) (opening_day opening) (rows_of passed) day text (opening-kept (whole_text input) opening from begins) (omega (arith, limit, short, count)) done
 
-pub kept-day : (options : SearchOptions) (left left' taken taken' : Option (List ℕ)) (result : Result Ended RunFault) (ran : DayRan (IsSolvedRow options.rounds options.moves) (option_map whole_text left) left' taken taken' result)
-    → IfSome left (λ input. AreRowsKept (IsSolvedRow options.rounds options.moves) (opening_day ran.opening) (rows_of ran.ran.passed) ran.ran.day ran.ran.text)
+pub kept-day : (options : DayOptions) (left left' taken taken' : Option (List ℕ)) (result : Result Ended RunFault) (ran : DayRan (SolvedBy options) (option_map whole_text left) left' taken taken' result)
+    → IfSome left (λ input. AreRowsKept (SolvedBy options) (opening_day ran.opening) (rows_of ran.ran.passed) ran.ran.day ran.ran.text)
 kept-day options None left' taken taken' result ran = tt
 kept-day options (Some input) left' taken taken' result ran =
     kept-from options input ran.opening ran.rows ran.ran.passed ran.ran.behind (λ from. ReadsDay result from ran.ran.passed ran.ran.behind left') ran.ran.day ran.ran.text ran.read ran.ran.read ran.ran.done
 
-abbrev pub ran-within : (options : SearchOptions) (left left' taken taken' : Option (List ℕ)) (result : Result Ended RunFault) → DayRan (IsSolvedRow options.rounds options.moves) (option_map whole_text left) left' taken taken' result → RanWithin options left left' taken taken' result
+abbrev pub ran-within : (options : DayOptions) (left left' taken taken' : Option (List ℕ)) (result : Result Ended RunFault) → DayRan (SolvedBy options) (option_map whole_text left) left' taken taken' result → RanWithin options left left' taken taken' result
 ran-within options left left' taken taken' result ran = record { ran = ran; kept = kept-day options left left' taken taken' result ran }

@@ -3,7 +3,6 @@ pub mod MadeCases
 pub mod SearchBounds
 pub mod Solutions
 pub mod SolvedCases
-pub mod SolvedTrees
 pub mod SaidYes
 pub mod Printed
 pub mod Enough

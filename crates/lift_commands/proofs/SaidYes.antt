@@ -36,9 +36,10 @@ use Rattle.check_text.proofs.AgainLemmas.{again_holds}
 use Rattle.lift_words.specs.declared.request.SolveOptions.{SolveOptions}
 use Rattle.cert_claims.specs.Due.{StatesDue, claims_of_tree}
 use Rattle.lift_commands.specs.declared.endings.Ending.{Ending}
-use Rattle.lift_commands.specs.Outcome.{CanBeChecked, IsCertified, IsPrinted, IsSaidYes, certificate_part, closing_line, ending_of}
+use Rattle.certified_search.specs.Certified.{IsCertified}
+use Rattle.lift_commands.specs.Outcome.{CanBeChecked, IsPrinted, IsSaidYes, certificate_part, closing_line, ending_of}
 use Rattle.lift_commands.proofs.SearchBounds.{bound_low}
-use Rattle.lift_commands.proofs.SolvedTrees.{tree_short, tree_within, worths_few}
+use Rattle.certified_search.proofs.KnownTrees.{tree_short, tree_within, worths_few}
 
 -- no certificate is wanted
 pub certificate_when : (options : SolveOptions) (s : Snapshot) (tree : List Twig) (text : List ℕ) → options.brief ≡ true → text ≡ text ++ certificate_part options s tree

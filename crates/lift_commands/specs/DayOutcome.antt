@@ -7,17 +7,19 @@ use Rattle.lift_text.specs.Shows.{FaultShows}
 use Rattle.lift_text.specs.declared.faults.TextFault.{TextFault}
 use Rattle.lift_text.specs.declared.faults.TextFault.TheVariants.{TooLong as LongText}
 use Rattle.opening_text.specs.DayOpenings.{HoldsNoOpening, IsDayOpeningRefused}
+use Rattle.elevator_model.specs.Snapshot.{Snapshot}
 use Rattle.search_model.specs.Days.{opening_day}
 use Rattle.search_model.specs.Reports.{report_of}
 use Rattle.service_report.specs.ReportTexts.{report_text}
 use Rattle.day_planner.specs.SolvedRows.{AreEnoughFor, IsSolvedRow}
-use Rattle.day_runner.specs.Runs.{rows_of}
+use Rattle.day_runner.specs.Runs.{Right, rows_of}
 use Rattle.day_runner.specs.Inputs.{DayRan, IsDayText}
 use Rattle.day_runner.specs.declared.days.Ended.{Ended}
 use Rattle.day_runner.specs.declared.rows.RunFault.{RunFault}
 use Rattle.day_runner.specs.declared.rows.RunFault.TheVariants.{TooLong, Read as RowsUnread, Write as RowsUnwritten, NoMemory}
+use Rattle.lift_words.specs.declared.request.DayOptions.{DayOptions}
 use Rattle.lift_words.specs.declared.request.SearchOptions.{SearchOptions}
-use Rattle.lift_words.specs.Taken.{AreTaken}
+use Rattle.lift_words.specs.Taken.{AreTaken, most_claims, without_certificates}
 use Rattle.lift_words.specs.declared.request.Request.TheVariants.{Day, Report}
 use Rattle.command_ends.specs.Ends.{Streams, Ends, Puts, IsRefusalLine}
 use Rattle.command_ends.specs.declared.status.Status.{Status}
@@ -30,9 +32,17 @@ abbrev pub status_of_unsolved : ℕ → Status
 status_of_unsolved zero = Done
 status_of_unsolved (suc n) = Stopped
 
+-- what a search within the options answers at a row
+abbrev pub SolvedBy : DayOptions → Right
+SolvedBy options = IsSolvedRow options.search.rounds options.search.moves (most_claims options)
+
+-- the options are enough for a search of the snapshot, and for its certificate
+abbrev pub AreEnoughBy : DayOptions → Snapshot → Type 0
+AreEnoughBy options s = AreEnoughFor options.search.rounds options.search.moves (most_claims options) s
+
 -- Of the rows that were done one was accepted where the limits are not enough, and its bound is below its cost.
-abbrev pub IsDayStopped : {rounds moves : ℕ} {before : Option TextState} {left taken taken' : Option (List ℕ)} {result : Result Ended RunFault} → DayRan (IsSolvedRow rounds moves) before left taken taken' result → Type 0
-IsDayStopped {rounds} {moves} ran = IsStoppedIn (IsSolvedRow rounds moves) (AreEnoughFor rounds moves) (opening_day ran.opening) (rows_of ran.ran.passed) ran.ran.day ran.ran.text
+abbrev pub IsDayStopped : (options : DayOptions) {before : Option TextState} {left taken taken' : Option (List ℕ)} {result : Result Ended RunFault} → DayRan (SolvedBy options) before left taken taken' result → Type 0
+IsDayStopped options ran = IsStoppedIn (SolvedBy options) (AreEnoughBy options) (opening_day ran.opening) (rows_of ran.ran.passed) ran.ran.day ran.ran.text
 
 -- ---- how they end
 
@@ -59,27 +69,27 @@ pub record IsNoDayLine (left left' : Option (List ℕ)) (text : List ℕ) : Type
 
 -- A day was run with the limits of the words, and where the source tells what it has left, no accepted call is lost after
 -- any of the rows that were done.
-pub record RanWithin (options : SearchOptions) (left left' taken taken' : Option (List ℕ)) (result : Result Ended RunFault) : Type 0 where
-  pub ran : DayRan (IsSolvedRow options.rounds options.moves) (option_map whole_text left) left' taken taken' result
-  pub kept : IfSome left (λ input. AreRowsKept (IsSolvedRow options.rounds options.moves) (opening_day ran.opening) (rows_of ran.ran.passed) ran.ran.day ran.ran.text)
+pub record RanWithin (options : DayOptions) (left left' taken taken' : Option (List ℕ)) (result : Result Ended RunFault) : Type 0 where
+  pub ran : DayRan (SolvedBy options) (option_map whole_text left) left' taken taken' result
+  pub kept : IfSome left (λ input. AreRowsKept (SolvedBy options) (opening_day ran.opening) (rows_of ran.ran.passed) ran.ran.day ran.ran.text)
 
 -- a day of `day`
-abbrev pub RanBy : SearchOptions → (old new : Streams) → (taken' : Option (List ℕ)) → Result Ended RunFault → Type 0
+abbrev pub RanBy : DayOptions → (old new : Streams) → (taken' : Option (List ℕ)) → Result Ended RunFault → Type 0
 RanBy options old new taken' result = RanWithin options old.left new.left old.taken taken' result
 
 -- a day of `report`, which writes no log
-abbrev pub ToldBy : SearchOptions → (left left' : Option (List ℕ)) → Result Ended RunFault → Type 0
+abbrev pub ToldBy : DayOptions → (left left' : Option (List ℕ)) → Result Ended RunFault → Type 0
 ToldBy options left left' result = RanWithin options left left' None None result
 
 -- The day came to its end, and its log was written.
-pub record DayDone (options : SearchOptions) (old new : Streams) (status : Status) : Type 0 where
+pub record DayDone (options : DayOptions) (old new : Streams) (status : Status) : Type 0 where
   pub ended : Ended
   pub ran : RanBy options old new new.taken (Ok ended)
   pub status_is : status ≡ status_of_unsolved ended.unsolved
-  pub stopped : status ≡ Stopped → IsDayStopped ran.ran
+  pub stopped : status ≡ Stopped → IsDayStopped options ran.ran
 
 -- The rows that end within the most bytes were done and their lines of the log written; then the refusal line is due.
-pub record DayCut (options : SearchOptions) (old new : Streams) (Then : (before after : Option (List ℕ)) → Type 0) : Type 0 where
+pub record DayCut (options : DayOptions) (old new : Streams) (Then : (before after : Option (List ℕ)) → Type 0) : Type 0 where
   pub between : Option (List ℕ)
   pub ran : RanBy options old new between (Err TooLong)
   pub then : Then between new.taken
@@ -90,7 +100,7 @@ pub record IsNotBegun (old new : Streams) : Type 0 where
   pub no_opening : HoldsNoOpening (option_map whole_text old.left) new.left
 
 -- How `day` ends.
-abbrev pub DayEnds : SearchOptions → (old new : Streams) → Status → Type 0
+abbrev pub DayEnds : DayOptions → (old new : Streams) → Status → Type 0
 DayEnds options old new Done = DayDone options old new Done
 DayEnds options old new Words = ⊥
 DayEnds options old new Stopped = DayDone options old new Stopped
@@ -103,20 +113,20 @@ DayEnds options old new Write =
 DayEnds options old new Memory = (new.taken ≡ old.taken) ⊎ RanBy options old new new.taken (Err NoMemory)
 
 -- the text of the report of a day that came to its end
-pub record IsReport (options : SearchOptions) (left left' : Option (List ℕ)) (status : Status) (text : List ℕ) : Type 0 where
+pub record IsReport (options : DayOptions) (left left' : Option (List ℕ)) (status : Status) (text : List ℕ) : Type 0 where
   pub ended : Ended
   pub ran : ToldBy options left left' (Ok ended)
   pub status_is : status ≡ status_of_unsolved ended.unsolved
-  pub stopped : status ≡ Stopped → IsDayStopped ran.ran
+  pub stopped : status ≡ Stopped → IsDayStopped options ran.ran
   pub is_text : text ≡ report_text (report_of ended.served.items)
 
 -- the refusal line of an input that is too long
-pub record IsLongLine (options : SearchOptions) (left left' : Option (List ℕ)) (text : List ℕ) : Type 0 where
+pub record IsLongLine (options : DayOptions) (left left' : Option (List ℕ)) (text : List ℕ) : Type 0 where
   pub ran : ToldBy options left left' (Err TooLong)
   pub is_line : IsRefusalLine LongText text
 
 -- Which text of `report` is due with a status.
-abbrev pub ReportDue : SearchOptions → (left left' : Option (List ℕ)) → Status → List ℕ → Type 0
+abbrev pub ReportDue : DayOptions → (left left' : Option (List ℕ)) → Status → List ℕ → Type 0
 ReportDue options left left' Done text = IsReport options left left' Done text
 ReportDue options left left' Words text = ⊥
 ReportDue options left left' Stopped text = IsReport options left left' Stopped text
@@ -134,20 +144,20 @@ Completes old new status = IsSomeAnd (option_map whole_text old.left) IsDayText
 -- ---- by the words
 
 -- words of `day` run a day
-pub record RunsDay (options : SearchOptions) (old new : Streams) (status : Status) : Type 0 where
+pub record RunsDay (options : DayOptions) (old new : Streams) (status : Status) : Type 0 where
   pub ends : DayEnds options old new status
   pub completes : Completes old new status
 
 abbrev pub DaysByWords : List (List ℕ) → (old new : Streams) → Status → Type 0
-DaysByWords words old new status = (options : SearchOptions) → AreTaken words (Day options) → RunsDay options old new status
+DaysByWords words old new status = (options : DayOptions) → AreTaken words (Day options) → RunsDay options old new status
 
 -- words of `report` report one
-pub record ReportsDay (options : SearchOptions) (old new : Streams) (status : Status) : Type 0 where
+pub record ReportsDay (options : DayOptions) (old new : Streams) (status : Status) : Type 0 where
   pub ends : Ends (ReportDue options old.left new.left) old new status
   pub completes : Completes old new status
 
 abbrev pub ReportsByWords : List (List ℕ) → (old new : Streams) → Status → Type 0
-ReportsByWords words old new status = (options : SearchOptions) → AreTaken words (Report options) → ReportsDay options old new status
+ReportsByWords words old new status = (options : SearchOptions) → AreTaken words (Report options) → ReportsDay (without_certificates options) old new status
 
 -- ---- how rows that were not run to their end are answered
 

@@ -25,11 +25,10 @@ use Rattle.search_model.specs.declared.StopReason.TheVariants.{Solved, Rounds, M
 use Rattle.lift_commands.specs.declared.endings.Ending.{Ending}
 use Rattle.lift_commands.specs.declared.endings.Ending.TheVariants.{IsSolved, OfRounds, OfMoves, OfClaims}
 use Rattle.search_model.specs.Solving.{IsSolveAnswer}
-use Rattle.search_model.specs.Certificates.{Placed, Proves, placed_twigs}
+use Rattle.search_model.specs.Certificates.{Proves}
 use Rattle.search_model.specs.Verdicts.{rounds_enough, moves_enough, verdict_of}
 use Rattle.search_model.specs.Cases.{IsCase}
-use Rattle.cert_claims.specs.Due.{StatesDue, claims_of_tree, due_of_tree, most_of_tree}
-use Rattle.cert_claims.specs.Stating.{DifferInClaims}
+use Rattle.certified_search.specs.Certified.{AreClaimsEnough, IsCertified}
 use Rattle.lift_words.specs.Taken.{AreTaken}
 use Rattle.lift_words.specs.declared.request.Request.{Request}
 use Rattle.lift_words.specs.declared.request.Request.TheVariants.{Solve, Check, Make, Run}
@@ -81,16 +80,6 @@ status_of (Moves car count) = Stopped
 -- the certificate, where one is wanted
 abbrev pub certificate_part : SolveOptions → Snapshot → List Twig → List ℕ
 certificate_part options s tree = if options.brief then [] else cert_text s tree
-
--- The certificate of what a search answers: it proves the bound that is printed, each of its claims is the one that is
--- due, and they sum to no more than the limit allows. The search's own bound and tree, but for the claims, are printed
--- exactly where the claims that are due there sum to no more than that.
-pub record IsCertified (s : Snapshot) (limit : ℕ) (stated : Stated) (tree : List Twig) (bound : ℕ) (certificate : List Twig) : Type 0 where
-  pub proves : Proves s stated.plan stated.cost bound certificate
-  pub low : bound ≤ stated.bound
-  pub due : All (λ (p : Placed). StatesDue s p.place p.twig) (placed_twigs s certificate)
-  pub few : claims_of_tree certificate ≤ most_of_tree limit certificate
-  pub whole : due_of_tree s tree ≤ most_of_tree limit tree → (bound ≡ stated.bound) × DifferInClaims certificate tree
 
 -- The bound and the certificate that are printed after a search; without a certificate, the bound of the search.
 pub record IsPrinted (options : SolveOptions) (s : Snapshot) (stated : Stated) (tree : List Twig) (bound : ℕ) (certificate : List Twig) : Type 0 where
@@ -164,12 +153,11 @@ SolveDue options left left' Read text = ⊥
 SolveDue options left left' Write text = ⊥
 SolveDue options left left' Memory text = ⊥
 
--- The limits are enough for the snapshot: those of the search, and for a certificate also the limit of claims, with as
--- many for each car at each leaf as it can have partial tours.
+-- the limits are enough for the snapshot: those of the search, and for a certificate also the limit of claims
 pub record AreEnough (options : SolveOptions) (s : Snapshot) : Type 0 where
   pub rounds : rounds_enough s ≤ options.rounds
   pub moves : moves_enough s ≤ options.moves
-  pub claims : options.brief ≡ false → (8 * options.rounds + 1) * (car_count s * moves_enough s) ≤ options.claims
+  pub claims : options.brief ≡ false → AreClaimsEnough options.rounds options.claims s
 
 -- The input is the text of a snapshot, so a plan is answered, unless the source or the sink fails or memory is wanting;
 -- and where the limits are enough for the snapshot, no limit is reached.

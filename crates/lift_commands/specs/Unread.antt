@@ -1,7 +1,7 @@
 -- Words by which the program reads nothing.
 use Rattle.std.specs.Prelude.{ℕ, List}
 use Rattle.lift_words.specs.declared.request.Request.{Request}
-use Rattle.lift_words.specs.declared.request.Request.TheVariants.{Solve, Check, Day, Report, Make, Run, Table, WhatIf, Banks}
+use Rattle.lift_words.specs.declared.request.Request.TheVariants.{Solve, Check, Day, Report, Make, Run, Table, WhatIf, Banks, Root, Audit}
 use Rattle.lift_words.specs.Taken.{AreTaken}
 
 -- what is asked for is made of the words alone
@@ -15,6 +15,8 @@ ReadsNothing (Run options) = Unit {0}
 ReadsNothing Table = ⊥
 ReadsNothing (WhatIf options) = ⊥
 ReadsNothing (Banks options) = ⊥
+ReadsNothing (Root options) = ⊥
+ReadsNothing (Audit options) = ⊥
 
 -- The words ask for no input: what they are taken as is made of the words alone, or they are not taken.
 abbrev pub AskForNoInput : List (List ℕ) → Type 0

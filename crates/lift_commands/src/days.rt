@@ -6,10 +6,9 @@ ghost use Rattle.lift_text.specs.Reading.{whole_text};
 ghost use Rattle.search_model.specs.Reports.{report_of as report_of_lem};
 ghost use Rattle.service_report.specs.ReportTexts.{report_text as report_text_lem};
 ghost use Rattle.day_runner.specs.Inputs.{DayAnswered, EndsUnlessFailed, IsDayText, IsUnread, IsUnwritten};
-ghost use Rattle.lift_words.specs.Taken.{AreSearchOptions};
+ghost use Rattle.lift_words.specs.Taken.{AreDayOptions};
 ghost use Rattle.command_ends.specs.Ends.{streams};
-ghost use Rattle.day_planner.specs.SolvedRows.{IsSolvedRow};
-ghost use Rattle.lift_commands.specs.DayOutcome.{PutsRowsFault, ReportsDay, RunsDay};
+ghost use Rattle.lift_commands.specs.DayOutcome.{PutsRowsFault, ReportsDay, RunsDay, SolvedBy};
 ghost use Rattle.lift_commands.specs.DayOutcome.{status_of_unsolved as status_of_unsolved_lem};
 
 use byte_streams::{Gate, Sink, SinkFault, Source};
@@ -19,7 +18,7 @@ use day_planner::plan_within;
 use day_runner::{DayFault, Ended, RunFault, run_day_text};
 use day_simulator::Planned;
 use lift_text::{LineReader, TextFault};
-use lift_words::SearchOptions;
+use lift_words::DayOptions;
 use service_report::{report_of, write_report};
 use snapshot_solver::Limits;
 use std::alloc::{AllocError, Global};
@@ -46,32 +45,40 @@ impl Sink for Nowhere {
 fn plan_row<G: Gate + Sync>(
     rt: &(impl Threads + Sync),
     alloc: Global,
-    options: SearchOptions,
+    options: DayOptions,
     snapshot: &Snapshot,
     gate: &G,
 ) -> Result<Planned, AllocError>
-    requires { AreSearchOptions options }
-    ensures { IfOk result (λ planned. IsSolvedRow options.rounds options.moves snapshot.now planned.stated
-        planned.proof.items) }
+    requires { AreDayOptions options }
+    ensures { IfOk result (λ planned. SolvedBy options snapshot.now planned.stated planned.proof.items) }
 {
+    let asked = options.search;
     let limits = Limits {
-        rounds: options.rounds,
-        most_tours: options.moves,
+        rounds: asked.rounds,
+        most_tours: asked.moves,
     };
-    plan_within(rt, alloc, limits, options.workers, snapshot, gate)
+    plan_within(
+        rt,
+        alloc,
+        limits,
+        options.most_claims(),
+        asked.workers,
+        snapshot,
+        gate,
+    )
 }
 
 /// Runs the day of an opening and rows, with a plan of a search at each row that is accepted.
 fn run_input<S: Source, K: Sink, G: Gate + Sync>(
     rt: &(impl Threads + Sync),
     alloc: Global,
-    options: SearchOptions,
+    options: DayOptions,
     source: &mut S,
     sink: &mut K,
     gate: &G,
 ) -> Result<Ended, DayFault>
-    requires { AreSearchOptions options }
-    ensures answered { DayAnswered (IsSolvedRow options.rounds options.moves)
+    requires { AreDayOptions options }
+    ensures answered { DayAnswered (SolvedBy options)
         (option_map whole_text (S.left source.old)) (S.left source.new) (K.taken sink.old) (K.taken sink.new)
         result }
     ensures ends { IsSomeAnd (option_map whole_text (S.left source.old)) IsDayText → EndsUnlessFailed result }
@@ -81,9 +88,8 @@ fn run_input<S: Source, K: Sink, G: Gate + Sync>(
     ensures sink_counted { K.faults sink.old ≤ K.faults sink.new }
 {
     let plan = |snapshot: &Snapshot|
-        requires { AreSearchOptions options }
-        ensures { IfOk result (λ planned. IsSolvedRow options.rounds options.moves snapshot.now planned.stated
-            planned.proof.items) }
+        requires { AreDayOptions options }
+        ensures { IfOk result (λ planned. SolvedBy options snapshot.now planned.stated planned.proof.items) }
     { plan_row(rt, alloc, options, snapshot, gate) };
     let mut lines = match LineReader::new(alloc, source) {
         Ok(lines) => lines,
@@ -124,12 +130,12 @@ fn put_rows_fault<K: Sink>(fault: RunFault, sink: &mut K) -> Status
 pub(crate) fn day<S: Source, K: Sink, G: Gate + Sync>(
     rt: &(impl Threads + Sync),
     alloc: Global,
-    options: SearchOptions,
+    options: DayOptions,
     source: &mut S,
     sink: &mut K,
     gate: &G,
 ) -> Status
-    requires { AreSearchOptions options }
+    requires { AreDayOptions options }
     ensures { RunsDay options
         (streams (S.left source.old) (K.taken sink.old) (S.faults source.old) (K.faults sink.old))
         (streams (S.left source.new) (K.taken sink.new) (S.faults source.new)
@@ -157,12 +163,12 @@ fn report_text(alloc: Global, ended: &Ended) -> Result<Vec<u8>, AllocError>
 pub(crate) fn report<S: Source, K: Sink, G: Gate + Sync>(
     rt: &(impl Threads + Sync),
     alloc: Global,
-    options: SearchOptions,
+    options: DayOptions,
     source: &mut S,
     sink: &mut K,
     gate: &G,
 ) -> Status
-    requires { AreSearchOptions options }
+    requires options { AreDayOptions options }
     ensures { ReportsDay options
         (streams (S.left source.old) (K.taken sink.old) (S.faults source.old) (K.faults sink.old))
         (streams (S.left source.new) (K.taken sink.new) (S.faults source.new)

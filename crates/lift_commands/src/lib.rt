@@ -3,10 +3,11 @@
 //!
 //! # What is promised
 //!
-//! Fourteen clauses of `run`, over the definitions in `specs/Outcome.antt`, `specs/DayOutcome.antt`,
+//! Sixteen clauses of `run`, over the definitions in `specs/Outcome.antt`, `specs/DayOutcome.antt`,
 //! `specs/DayRows.antt`, `specs/Further.antt` and `specs/Unread.antt`, and in `specs/Ends.antt` of
-//! `command_ends`, `specs/TableOutcome.antt` and `specs/WhatIfOutcome.antt` of `further_commands`, and
-//! `specs/BanksOutcome.antt` of `group_commands`. What they say of the input holds where the source tells what
+//! `command_ends`, `specs/TableOutcome.antt` and `specs/WhatIfOutcome.antt` of `further_commands`,
+//! `specs/BanksOutcome.antt` of `group_commands`, `specs/RootOutcome.antt` of `root_command` and
+//! `specs/AuditOutcome.antt` of `audit_command`. What they say of the input holds where the source tells what
 //! it has left.
 //!
 //! **`solve`.** Status 0: the whole input was read and is the text of an accepted snapshot, and what was
@@ -30,8 +31,9 @@
 //! **`day`.** Where the input begins with a building, an opening snapshot of it and the header of rows, the
 //! rows after it are done and the log says so: each does exactly its step of the day, with a feasible plan,
 //! its cost and a bound that no feasible plan's cost is below where it is accepted, as a search within the
-//! limits answers them, for 1 to 16 workers; after each row no accepted call is lost, and by the events each
-//! boards once and is delivered once, in time. Status 0: no accepted row has a bound below its cost; 3: some
+//! limits answers them, for 1 to 16 workers, and with `--certs` an answer and a certificate that proves the
+//! bound; after each row no accepted call is lost, and by the events each boards once and is delivered once, in
+//! time. Status 0: no accepted row has a bound below its cost; 3: some
 //! has, and there the limits are not enough for the state. Status 5: the input does not begin so, and the
 //! line tells its first bad line with its one code; or its rows do not end within the limit, told after the
 //! log of those that do. Status 6: a read failed; where the header's line, with its LF, is not whole among the
@@ -55,6 +57,16 @@
 //! with no accepted call lost, and how many rows named no bank; status 0 where no accepted row of any bank has
 //! a bound below its cost, 3 where some has; any other input is refused with its first bad line (5).
 //!
+//! **`root`.** As `root_command` says: the best prices of turns at the root of a case, and the cheapest
+//! plan in halves of their tours; status 0 exactly where the two meet, and then no prices and worths at the
+//! root have a greater bound, as the mixture shows that was written; 3 where they do not. Any other input
+//! is refused with its first bad line (5).
+//!
+//! **`audit`.** As `audit_command` says: of what `day` reads and the log that it wrote with certificates,
+//! either that nothing is found, with how many rows are accepted and how many of these have a bound below
+//! their cost (status 0), or what is found first (4); a bad line of the opening, of an answer or of a
+//! certificate, and an input that is too long, is refused (5).
+//!
 //! **`make`.** The text of the generated case, which is read as that snapshot again; nothing is read. `make
 //! --run`: the numbers of the case with the cost and the bound that a search of it with one worker answers;
 //! status 0 exactly where they are equal, and then the cost is the least one; status 3 exactly where the
@@ -66,22 +78,23 @@
 //!
 //! # The clauses
 //!
-//! - `ends` says for each status what was read and written, by words of other commands than `day`, `report`,
-//!   `table`, `whatif` and `banks`. A text is *due* with a status (`RunDue`). By words of `solve` the input is the
-//!   text of an accepted snapshot (`IsCaseText`), and the text written is due as a search answers it
-//!   (`IsSolution`), with a certificate unless `--brief` is given: the tree of that search with the claims
-//!   that are due or, exactly where these go beyond their limit, another one with the bound that it proves
-//!   (`IsCertified`). Where the input ends with LF, has at most 1,000,000 bytes and the limits are at most
-//!   the defaults (`CanBeChecked`), input and text together are an input of `check` whose verdict is yes
-//!   (`IsSaidYes`). By words of `check`, Done and Refused come with the text of the verdict (`VerdictIsDue`):
-//!   the input is the text of an accepted snapshot, an answer and a certificate (`IsCheckText`), and the
-//!   verdict is that of the definition. By words of `make`, the text is that of the generated case; or the
-//!   six lines of `make --run` (`IsSolvedCase`). With Input the refusal line, with what is wrong with the
-//!   input (`IsLoneCaseFault`, of `check` `IsCheckFault`); the end of the line that it names shows in the
-//!   bytes that were taken (`FaultShows`): they have its LF, or more than 4,097 of its bytes, or nothing of
-//!   the source is left. With Words the usage line, where no request is taken from the words. With Write a
-//!   part of a text that is due was written, and the sink's count of faults rose; with Read the source's rose,
-//!   and nothing was written; with Memory nothing was written.
+//! - `ends` says for each status what was read and written, by words of other commands than `day`,
+//!   `report`, `table`, `whatif`, `banks`, `root` and `audit`. A text is *due* with a status (`RunDue`). By
+//!   words of `solve` the input is the text of an accepted snapshot (`IsCaseText`), and the text written is due
+//!   as a search answers it (`IsSolution`), with a certificate unless `--brief` is given: the tree of that
+//!   search with the claims that are due or, exactly where these go beyond their limit, another one with
+//!   the bound that it proves (`IsCertified`). Where the input ends with LF, has at most 1,000,000 bytes
+//!   and the limits are at most the defaults (`CanBeChecked`), input and text together are an input of
+//!   `check` whose verdict is yes (`IsSaidYes`). By words of `check`, Done and Refused come with the text
+//!   of the verdict (`VerdictIsDue`): the input is the text of an accepted snapshot, an answer and a
+//!   certificate (`IsCheckText`), and the verdict is that of the definition. By words of `make`, the text
+//!   is that of the generated case; or the six lines of `make --run` (`IsSolvedCase`). With Input the
+//!   refusal line, with what is wrong with the input (`IsLoneCaseFault`, of `check` `IsCheckFault`); the
+//!   end of the line that it names shows in the bytes that were taken (`FaultShows`): they have its LF, or
+//!   more than 4,097 of its bytes, or nothing of the source is left. With Words the usage line, where no
+//!   request is taken from the words. With Write a part of a text that is due was written, and the sink's
+//!   count of faults rose; with Read the source's rose, and nothing was written; with Memory nothing was
+//!   written.
 //! - `solves`: by words of `solve`, the text of an accepted snapshot and no fault give Done, Stopped or
 //!   Memory, and never Stopped where the limits are enough for the snapshot. `refuses`: any other input and
 //!   no fault give Input or Memory.
@@ -110,6 +123,11 @@
 //! - `banks`: by words of `banks`, what was read and written with each status (`BanksDue`), that the text of
 //!   banks is answered, and any other input refused, unless the source or the sink fails or memory runs out
 //!   (`RunsBanks`).
+//! - `at_root`: by words of `root`, what was read and written with each status (`RootDue`), that a case is
+//!   answered, and any other input refused, unless the source or the sink fails or memory runs out
+//!   (`RunsRoot`).
+//! - `audits`: by words of `audit`, what was read and written with each status (`AuditDue`), and that a log is
+//!   judged or the input refused, unless the source or the sink fails or memory runs out (`RunsAudit`).
 //! - `refuses_words`: all other words and no fault of the sink give Words or Memory.
 //! - `unread`: words that ask for no input (`AskForNoInput`) leave the source as it was, its count of faults
 //!   too, with every status.

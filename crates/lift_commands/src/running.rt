@@ -3,7 +3,8 @@
 ghost use Rattle.std.specs.Prelude.{◌≡◌, map, string_bytes};
 ghost use Rattle.command_ends.specs.Ends.{Ends, streams};
 ghost use Rattle.lift_commands.specs.DayOutcome.{DaysByWords, ReportsByWords};
-ghost use Rattle.lift_commands.specs.Further.{AskOthers, BanksByWords, TablesByWords, WhatIfByWords};
+ghost use Rattle.lift_commands.specs.Further.{AskOthers, AuditsByWords, BanksByWords, RootByWords};
+ghost use Rattle.lift_commands.specs.Further.{TablesByWords, WhatIfByWords};
 ghost use Rattle.lift_commands.specs.Outcome.{RunDue, SolvesByWords, RefusesByWords, ChecksByWords};
 ghost use Rattle.lift_commands.specs.Outcome.{RefusesChecksByWords, MakesByWords, RunsByWords, RefusesWords};
 ghost use Rattle.lift_commands.specs.Unread.{AskForNoInput};
@@ -14,10 +15,12 @@ use crate::checking::check;
 use crate::days::{day, report};
 use crate::making::{write_made_case, write_solved_case};
 use crate::solving::solve;
+use audit_command::audit;
 use byte_streams::{Gate, Sink, Source};
 use command_ends::{Status, put};
 use further_commands::table;
 use lift_words::{Request, WordsFault, read_words};
+use root_command::root;
 use std::alloc::Global;
 use std::marker::Sync;
 use std::thread::Threads;
@@ -44,6 +47,10 @@ const USAGE: &[u8] = b"usage: lift solve/check/day/report/make [options]\n";
 ///   ends, and how much more it costs with the nearest car than with the best one.
 /// - `banks` reads banks of cars, each with what comes before the rows of a day, and then the rows of all of
 ///   them, to the end, and writes for each bank the log of the day of its own rows alone.
+/// - `root` reads a case, to its end, and writes the best prices of turns at the root and the cheapest plan in
+///   halves of their tours, and whether the two meet, so that no prices at the root prove more.
+/// - `audit` reads what `day` reads and the log that it wrote with certificates, to its end, and writes whether
+///   all of the log is as it has to be, or what is found first.
 /// - `make` writes a generated case, and `make --run` the cost and the bound of such a case; they read nothing.
 ///
 /// All write what is wrong with an input that they do not take: its first bad line with its code, or that it
@@ -57,7 +64,7 @@ pub fn run<S: Source, K: Sink, G: Gate + Sync>(
     gate: &G,
 ) -> Status
     // What was read and written, and why it ended, by words of other commands than `day`, `report`, `table`,
-    // `whatif` and `banks`.
+    // `whatif`, `banks`, `root` and `audit`.
     ensures ends { AskOthers (map string_bytes words.now)
         → Ends (RunDue (map string_bytes words.now) (S.left source.old) (S.left source.new))
         (streams (S.left source.old) (K.taken sink.old) (S.faults source.old) (K.faults sink.old))
@@ -123,6 +130,20 @@ pub fn run<S: Source, K: Sink, G: Gate + Sync>(
         (streams (S.left source.new) (K.taken sink.new) (S.faults source.new)
         (K.faults sink.new)) result }
 
+    // `root`: a case is answered, and whatever else is read is refused, unless the source or the sink fails or
+    // memory runs out.
+    ensures at_root { RootByWords (map string_bytes words.now)
+        (streams (S.left source.old) (K.taken sink.old) (S.faults source.old) (K.faults sink.old))
+        (streams (S.left source.new) (K.taken sink.new) (S.faults source.new)
+        (K.faults sink.new)) result }
+
+    // `audit`: a log is judged, and whatever else is read is refused, unless the source or the sink fails or
+    // memory runs out.
+    ensures audits { AuditsByWords (map string_bytes words.now)
+        (streams (S.left source.old) (K.taken sink.old) (S.faults source.old) (K.faults sink.old))
+        (streams (S.left source.new) (K.taken sink.new) (S.faults source.new)
+        (K.faults sink.new)) result }
+
     // `make`: a case is written, unless the sink fails or memory runs out.
     ensures makes { MakesByWords (map string_bytes words.now)
         (streams (S.left source.old) (K.taken sink.old) (S.faults source.old) (K.faults sink.old))
@@ -148,12 +169,23 @@ pub fn run<S: Source, K: Sink, G: Gate + Sync>(
         Ok(Request::Solve(options)) => solve(rt, alloc, options, source, sink, gate),
         Ok(Request::Check(options)) => check(rt, alloc, options, source, sink, gate),
         Ok(Request::Day(options)) => day(rt, alloc, options, source, sink, gate),
-        Ok(Request::Report(options)) => report(rt, alloc, options, source, sink, gate),
+        Ok(Request::Report(options)) => report(
+            rt,
+            alloc,
+            options.without_certificates(),
+            source,
+            sink,
+            gate,
+        ),
         Ok(Request::Make(sizes)) => write_made_case(alloc, sizes, sink),
         Ok(Request::Run(options)) => write_solved_case(rt, alloc, options, sink, gate),
         Ok(Request::Table) => table(alloc, source, sink),
         Ok(Request::WhatIf(options)) => ask(rt, alloc, options, source, sink, gate),
         Ok(Request::Banks(options)) => run_banks(rt, alloc, options, source, sink, gate),
+        Ok(Request::Root(options)) => {
+            root(rt, alloc, options.rounds, options.moves, source, sink)
+        }
+        Ok(Request::Audit(options)) => audit(rt, alloc, options.workers, source, sink, gate),
         Err(WordsFault::NotTaken) => put(sink, USAGE, Status::Words),
         Err(WordsFault::NoMemory) => Status::Memory,
     }

@@ -9,10 +9,9 @@ ghost use Rattle.lift_text.specs.Shows.{FaultShows};
 ghost use Rattle.case_text.specs.CaseTexts.{IsCaseText, IsLoneCaseFault, Tells};
 ghost use Rattle.search_model.specs.Certificates.{Proves};
 ghost use Rattle.search_model.specs.Solving.{floor_of_bound};
-ghost use Rattle.search_tree.specs.Sheets.{IsSizedLeaf, IsSizedTwig};
+ghost use Rattle.search_tree.specs.Sheets.{IsSizedTwig};
 ghost use Rattle.answer_text.specs.Texts.{answer_text};
 ghost use Rattle.answer_text.specs.Plans.{FitsSnapshot};
-ghost use Rattle.cert_claims.specs.Stating.{IsLastResort};
 ghost use Rattle.cert_text.specs.Trees.{AreTwigsKnown};
 ghost use Rattle.lift_words.specs.Taken.{AreSolveOptions};
 ghost use Rattle.command_ends.specs.Ends.{Ends, streams};
@@ -27,15 +26,15 @@ use assign_branch::Tree;
 use byte_streams::{Gate, Sink, Source};
 use call_state::Snapshot;
 use case_text::read_lone_case;
-use cert_claims::{Claimed, LastResort, state_claims};
+use cert_claims::Claimed;
 use cert_text::write_cert;
+use certified_search::certify;
 use command_ends::{Answer, Status, put, put_fault};
 use elevator_model::MOST_CALLS;
-use kept_count::sum_of_leaf;
 use lift_text::{LineReader, TextFault, put_line};
 use lift_words::SolveOptions;
 use search_model::{Stated, Twig};
-use snapshot_solver::{Limits, solve as solve_within, start_leaf};
+use snapshot_solver::{Limits, solve as solve_within};
 use std::alloc::{AllocError, Global};
 use std::marker::Sync;
 use std::thread::Threads;
@@ -80,22 +79,6 @@ fn put_closing(snapshot: &Snapshot, ending: Ending, text: &mut Vec<u8>) -> Resul
     }
 }
 
-/// The leaf with which a search starts, as the last resort of a certificate.
-///
-/// Its bound is at most this one. It fails only where there is no memory left.
-fn last_resort(alloc: Global, snapshot: &Snapshot, most: u64) -> Result<LastResort, AllocError>
-    requires { floor_of_bound snapshot.now ≤ most }
-    ensures resort { IfOk result (λ last. IsLastResort snapshot.now last.bound last.leaf) }
-    ensures bound { IfOk result (λ last. last.bound ≡ floor_of_bound snapshot.now) }
-    ensures sized { IfOk result (λ last. IsSizedLeaf last.leaf) }
-{
-    // For the proof: the reader says that the snapshot is accepted, so the leaf's sums are small.
-    let _calls = snapshot.calls();
-    let leaf = start_leaf(alloc, snapshot)?;
-    let bound = (sum_of_leaf(&leaf) / 1000) as u64;
-    Ok(LastResort { leaf, bound })
-}
-
 /// What is printed after a search: its bound, and with a certificate the tree with its claims and the bound
 /// that this proves.
 ///
@@ -125,15 +108,11 @@ fn printed<G: Gate + Sync>(
             cut: false,
         });
     }
-    // For the proof: the reader says that the snapshot is accepted.
-    let _calls = snapshot.calls();
-    let resort = last_resort(runtime.alloc, snapshot, stated.bound)?;
-    state_claims(
+    certify(
         runtime,
         snapshot,
         stated,
         tree,
-        resort,
         options.claims,
         options.workers,
     )

@@ -9,7 +9,7 @@ use Rattle.clap.specs.declared.error.kind.ErrorKind.TheVariants.{OutOfMemory}
 use Rattle.clap.proofs.OnLiterals.{clap_on_literals}
 use Rattle.lift_words.specs.Table.{app}
 use Rattle.lift_words.specs.declared.table.CommandWord.{CommandWord}
-use Rattle.lift_words.specs.declared.table.CommandWord.TheVariants.{Solve, Check, Day, Report, Make, Table, WhatIf, Banks}
+use Rattle.lift_words.specs.declared.table.CommandWord.TheVariants.{Solve, Check, Day, Report, Make, Table, WhatIf, Banks, Root, Audit}
 
 pub simple_and_free : (command : CommandWord) → is_simple_and_free (app command) ≡ true
 unfolding clap_on_literals
@@ -21,6 +21,8 @@ simple_and_free Make = refl
 simple_and_free Table = refl
 simple_and_free WhatIf = refl
 simple_and_free Banks = refl
+simple_and_free Root = refl
+simple_and_free Audit = refl
 
 pub simple : (command : CommandWord) → is_simple (app command) ≡ true
 unfolding clap_on_literals
@@ -32,6 +34,8 @@ simple Make = refl
 simple Table = refl
 simple WhatIf = refl
 simple Banks = refl
+simple Root = refl
+simple Audit = refl
 
 module _ (built : App) (command : CommandWord) (words : List Text) (is : built ≡ app command) where
   -- an `Ok` comes only where there is no fault

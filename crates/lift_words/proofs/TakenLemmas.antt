@@ -10,14 +10,16 @@ use Rattle.clap.specs.Simple.{matches_of}
 use Rattle.clap.specs.Takes.{takes}
 use Rattle.lift_words.specs.Table.{app, command_of, word_of}
 use Rattle.lift_words.specs.Repeats.{IsRepeated}
-use Rattle.lift_words.specs.Taken.{AreTaken, Asks, AsksBy, AsksForBrief, AsksForSearch, AsksForSizes, AsksToCheck, AsksToRun, AsksToSolve, IsSecond, command_asked}
+use Rattle.lift_words.specs.Taken.{AreTaken, Asks, AsksBy, AsksForBrief, AsksForCerts, AsksForDay, AsksForRoot, AsksForSearch, AsksForSizes, AsksToCheck, AsksToRun, AsksToSolve, IsSecond, command_asked}
 use Rattle.lift_words.specs.declared.table.CommandWord.{CommandWord}
 use Rattle.lift_words.specs.declared.table.CommandWord.TheVariants as command
 use Rattle.lift_words.specs.declared.request.Request.{Request}
-use Rattle.lift_words.specs.declared.request.Request.TheVariants.{Solve, Check, Day, Report, Make, Run, Table, WhatIf, Banks}
+use Rattle.lift_words.specs.declared.request.Request.TheVariants.{Solve, Check, Day, Report, Make, Run, Table, WhatIf, Banks, Root, Audit}
 use Rattle.lift_words.specs.declared.request.SolveOptions.{SolveOptions}
 use Rattle.lift_words.specs.declared.request.CheckOptions.{CheckOptions}
+use Rattle.lift_words.specs.declared.request.DayOptions.{DayOptions}
 use Rattle.lift_words.specs.declared.request.SearchOptions.{SearchOptions}
+use Rattle.lift_words.specs.declared.request.RootOptions.{RootOptions}
 use Rattle.lift_words.specs.declared.request.CaseSizes.{CaseSizes}
 use Rattle.lift_words.specs.declared.request.RunOptions.{RunOptions}
 
@@ -43,8 +45,14 @@ named_word word named is = by_solve (bytes_eq word (codes "solve")) refl is
     names : (command : CommandWord) → bytes_eq word (word_of command) ≡ true → Some command ≡ Some named → word ≡ word_of named
     names command e same = (bytes_eq-Decides word (word_of command)).0 e ∙ ap word_of (only same)
 
+    from_audit : Option CommandWord
+    from_audit = cond (bytes_eq word (codes "audit")) (Some command.Audit) None
+
+    from_root : Option CommandWord
+    from_root = cond (bytes_eq word (codes "root")) (Some command.Root) from_audit
+
     from_banks : Option CommandWord
-    from_banks = cond (bytes_eq word (codes "banks")) (Some command.Banks) None
+    from_banks = cond (bytes_eq word (codes "banks")) (Some command.Banks) from_root
 
     from_whatif : Option CommandWord
     from_whatif = cond (bytes_eq word (codes "whatif")) (Some command.WhatIf) from_banks
@@ -64,9 +72,17 @@ named_word word named is = by_solve (bytes_eq word (codes "solve")) refl is
     from_check : Option CommandWord
     from_check = cond (bytes_eq word (codes "check")) (Some command.Check) from_day
 
-    by_banks : (b : Bool) → bytes_eq word (codes "banks") ≡ b → cond b (Some command.Banks) None ≡ Some named → word ≡ word_of named
+    by_audit : (b : Bool) → bytes_eq word (codes "audit") ≡ b → cond b (Some command.Audit) None ≡ Some named → word ≡ word_of named
+    by_audit true e same = names command.Audit e same
+    by_audit false e same = absurd cc
+
+    by_root : (b : Bool) → bytes_eq word (codes "root") ≡ b → cond b (Some command.Root) from_audit ≡ Some named → word ≡ word_of named
+    by_root true e same = names command.Root e same
+    by_root false e same = by_audit (bytes_eq word (codes "audit")) refl same
+
+    by_banks : (b : Bool) → bytes_eq word (codes "banks") ≡ b → cond b (Some command.Banks) from_root ≡ Some named → word ≡ word_of named
     by_banks true e same = names command.Banks e same
-    by_banks false e same = absurd cc
+    by_banks false e same = by_root (bytes_eq word (codes "root")) refl same
 
     by_whatif : (b : Bool) → bytes_eq word (codes "whatif") ≡ b → cond b (Some command.WhatIf) from_banks ≡ Some named → word ≡ word_of named
     by_whatif true e same = names command.WhatIf e same
@@ -109,6 +125,8 @@ word_names command.Make = refl
 word_names command.Table = refl
 word_names command.WhatIf = refl
 word_names command.Banks = refl
+word_names command.Root = refl
+word_names command.Audit = refl
 
 -- ---- what is asked
 
@@ -140,6 +158,19 @@ asks_for_search_one rows a b x y =
     let workers = only (sym x.workers ∙ y.workers) in
     λ i. record { rounds = rounds i; moves = moves i; workers = workers i }
 
+asks_for_day_one : (rows : List Row) (a b : DayOptions) → AsksForDay rows a → AsksForDay rows b → a ≡ b
+asks_for_day_one rows a b x y =
+    let search = asks_for_search_one rows a.search b.search x.search y.search in
+    let claims = only (sym x.claims ∙ y.claims) in
+    let certs = same_truth (AsksForCerts rows) a.certs b.certs x.certs y.certs in
+    λ i. record { search = search i; claims = claims i; certs = certs i }
+
+asks_for_root_one : (rows : List Row) (a b : RootOptions) → AsksForRoot rows a → AsksForRoot rows b → a ≡ b
+asks_for_root_one rows a b x y =
+    let rounds = only (sym x.rounds ∙ y.rounds) in
+    let moves = only (sym x.moves ∙ y.moves) in
+    λ i. record { rounds = rounds i; moves = moves i }
+
 asks_for_sizes_one : (rows : List Row) (a b : CaseSizes) → AsksForSizes rows a → AsksForSizes rows b → a ≡ b
 asks_for_sizes_one rows a b x y =
     let number = only (sym x.number ∙ y.number) in
@@ -166,6 +197,8 @@ asks_of_one rows (Solve a) (Run b) same x y = absurd cc
 asks_of_one rows (Solve a) Table same x y = absurd cc
 asks_of_one rows (Solve a) (WhatIf b) same x y = absurd cc
 asks_of_one rows (Solve a) (Banks b) same x y = absurd cc
+asks_of_one rows (Solve a) (Root b) same x y = absurd cc
+asks_of_one rows (Solve a) (Audit b) same x y = absurd cc
 asks_of_one rows (Check a) (Solve b) same x y = absurd cc
 asks_of_one rows (Check a) (Check b) same x y = ap Check (asks_to_check_one rows a b x y)
 asks_of_one rows (Check a) (Day b) same x y = absurd cc
@@ -175,15 +208,19 @@ asks_of_one rows (Check a) (Run b) same x y = absurd cc
 asks_of_one rows (Check a) Table same x y = absurd cc
 asks_of_one rows (Check a) (WhatIf b) same x y = absurd cc
 asks_of_one rows (Check a) (Banks b) same x y = absurd cc
+asks_of_one rows (Check a) (Root b) same x y = absurd cc
+asks_of_one rows (Check a) (Audit b) same x y = absurd cc
 asks_of_one rows (Day a) (Solve b) same x y = absurd cc
 asks_of_one rows (Day a) (Check b) same x y = absurd cc
-asks_of_one rows (Day a) (Day b) same x y = ap Day (asks_for_search_one rows a b x y)
+asks_of_one rows (Day a) (Day b) same x y = ap Day (asks_for_day_one rows a b x y)
 asks_of_one rows (Day a) (Report b) same x y = absurd cc
 asks_of_one rows (Day a) (Make b) same x y = absurd cc
 asks_of_one rows (Day a) (Run b) same x y = absurd cc
 asks_of_one rows (Day a) Table same x y = absurd cc
 asks_of_one rows (Day a) (WhatIf b) same x y = absurd cc
 asks_of_one rows (Day a) (Banks b) same x y = absurd cc
+asks_of_one rows (Day a) (Root b) same x y = absurd cc
+asks_of_one rows (Day a) (Audit b) same x y = absurd cc
 asks_of_one rows (Report a) (Solve b) same x y = absurd cc
 asks_of_one rows (Report a) (Check b) same x y = absurd cc
 asks_of_one rows (Report a) (Day b) same x y = absurd cc
@@ -193,6 +230,8 @@ asks_of_one rows (Report a) (Run b) same x y = absurd cc
 asks_of_one rows (Report a) Table same x y = absurd cc
 asks_of_one rows (Report a) (WhatIf b) same x y = absurd cc
 asks_of_one rows (Report a) (Banks b) same x y = absurd cc
+asks_of_one rows (Report a) (Root b) same x y = absurd cc
+asks_of_one rows (Report a) (Audit b) same x y = absurd cc
 asks_of_one rows (Make a) (Solve b) same x y = absurd cc
 asks_of_one rows (Make a) (Check b) same x y = absurd cc
 asks_of_one rows (Make a) (Day b) same x y = absurd cc
@@ -202,6 +241,8 @@ asks_of_one rows (Make a) (Run b) same x y = absurd (x.no_run y.run)
 asks_of_one rows (Make a) Table same x y = absurd cc
 asks_of_one rows (Make a) (WhatIf b) same x y = absurd cc
 asks_of_one rows (Make a) (Banks b) same x y = absurd cc
+asks_of_one rows (Make a) (Root b) same x y = absurd cc
+asks_of_one rows (Make a) (Audit b) same x y = absurd cc
 asks_of_one rows (Run a) (Solve b) same x y = absurd cc
 asks_of_one rows (Run a) (Check b) same x y = absurd cc
 asks_of_one rows (Run a) (Day b) same x y = absurd cc
@@ -211,6 +252,8 @@ asks_of_one rows (Run a) (Run b) same x y = ap Run (asks_to_run_one rows a b x y
 asks_of_one rows (Run a) Table same x y = absurd cc
 asks_of_one rows (Run a) (WhatIf b) same x y = absurd cc
 asks_of_one rows (Run a) (Banks b) same x y = absurd cc
+asks_of_one rows (Run a) (Root b) same x y = absurd cc
+asks_of_one rows (Run a) (Audit b) same x y = absurd cc
 asks_of_one rows Table (Solve b) same x y = absurd cc
 asks_of_one rows Table (Check b) same x y = absurd cc
 asks_of_one rows Table (Day b) same x y = absurd cc
@@ -220,6 +263,8 @@ asks_of_one rows Table (Run b) same x y = absurd cc
 asks_of_one rows Table Table same x y = refl
 asks_of_one rows Table (WhatIf b) same x y = absurd cc
 asks_of_one rows Table (Banks b) same x y = absurd cc
+asks_of_one rows Table (Root b) same x y = absurd cc
+asks_of_one rows Table (Audit b) same x y = absurd cc
 asks_of_one rows (WhatIf a) (Solve b) same x y = absurd cc
 asks_of_one rows (WhatIf a) (Check b) same x y = absurd cc
 asks_of_one rows (WhatIf a) (Day b) same x y = absurd cc
@@ -229,6 +274,8 @@ asks_of_one rows (WhatIf a) (Run b) same x y = absurd cc
 asks_of_one rows (WhatIf a) Table same x y = absurd cc
 asks_of_one rows (WhatIf a) (WhatIf b) same x y = ap WhatIf (asks_for_search_one rows a b x y)
 asks_of_one rows (WhatIf a) (Banks b) same x y = absurd cc
+asks_of_one rows (WhatIf a) (Root b) same x y = absurd cc
+asks_of_one rows (WhatIf a) (Audit b) same x y = absurd cc
 asks_of_one rows (Banks a) (Solve b) same x y = absurd cc
 asks_of_one rows (Banks a) (Check b) same x y = absurd cc
 asks_of_one rows (Banks a) (Day b) same x y = absurd cc
@@ -238,6 +285,30 @@ asks_of_one rows (Banks a) (Run b) same x y = absurd cc
 asks_of_one rows (Banks a) Table same x y = absurd cc
 asks_of_one rows (Banks a) (WhatIf b) same x y = absurd cc
 asks_of_one rows (Banks a) (Banks b) same x y = ap Banks (asks_for_search_one rows a b x y)
+asks_of_one rows (Banks a) (Root b) same x y = absurd cc
+asks_of_one rows (Banks a) (Audit b) same x y = absurd cc
+asks_of_one rows (Root a) (Solve b) same x y = absurd cc
+asks_of_one rows (Root a) (Check b) same x y = absurd cc
+asks_of_one rows (Root a) (Day b) same x y = absurd cc
+asks_of_one rows (Root a) (Report b) same x y = absurd cc
+asks_of_one rows (Root a) (Make b) same x y = absurd cc
+asks_of_one rows (Root a) (Run b) same x y = absurd cc
+asks_of_one rows (Root a) Table same x y = absurd cc
+asks_of_one rows (Root a) (WhatIf b) same x y = absurd cc
+asks_of_one rows (Root a) (Banks b) same x y = absurd cc
+asks_of_one rows (Root a) (Root b) same x y = ap Root (asks_for_root_one rows a b x y)
+asks_of_one rows (Root a) (Audit b) same x y = absurd cc
+asks_of_one rows (Audit a) (Solve b) same x y = absurd cc
+asks_of_one rows (Audit a) (Check b) same x y = absurd cc
+asks_of_one rows (Audit a) (Day b) same x y = absurd cc
+asks_of_one rows (Audit a) (Report b) same x y = absurd cc
+asks_of_one rows (Audit a) (Make b) same x y = absurd cc
+asks_of_one rows (Audit a) (Run b) same x y = absurd cc
+asks_of_one rows (Audit a) Table same x y = absurd cc
+asks_of_one rows (Audit a) (WhatIf b) same x y = absurd cc
+asks_of_one rows (Audit a) (Banks b) same x y = absurd cc
+asks_of_one rows (Audit a) (Root b) same x y = absurd cc
+asks_of_one rows (Audit a) (Audit b) same x y = ap Audit (asks_to_check_one rows a b x y)
 
 pub asks_one : (named : CommandWord) (rows : List Row) (a b : Request) → AsksBy named rows a → AsksBy named rows b → a ≡ b
 asks_one named rows a b x y = asks_of_one rows a b (x.0 ∙ sym y.0) x.1 y.1

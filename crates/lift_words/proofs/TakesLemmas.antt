@@ -20,7 +20,7 @@ use Rattle.clap.proofs.OnLiterals.{clap_on_literals}
 use Rattle.lift_words.specs.Table.{app}
 use Rattle.lift_words.proofs.ParseLemmas.{simple}
 use Rattle.lift_words.specs.declared.table.CommandWord.{CommandWord}
-use Rattle.lift_words.specs.declared.table.CommandWord.TheVariants.{Solve, Check, Day, Report, Make, Table, WhatIf, Banks}
+use Rattle.lift_words.specs.declared.table.CommandWord.TheVariants.{Solve, Check, Day, Report, Make, Table, WhatIf, Banks, Root, Audit}
 use Rattle.clap.specs.declared.builder.action.ArgAction.{ArgAction}
 use Rattle.clap.specs.declared.builder.action.ArgAction.TheVariants as action
 use Rattle.clap.specs.declared.builder.value_parser.ValueParser.{ValueParser}
@@ -299,6 +299,8 @@ no_subcommand Make = refl
 no_subcommand Table = refl
 no_subcommand WhatIf = refl
 no_subcommand Banks = refl
+no_subcommand Root = refl
+no_subcommand Audit = refl
 
 defaults_pass : (command : CommandWord) → list_all default_passes (built (app command)).top.rules ≡ true
 unfolding clap_on_literals
@@ -310,6 +312,8 @@ defaults_pass Make = refl
 defaults_pass Table = refl
 defaults_pass WhatIf = refl
 defaults_pass Banks = refl
+defaults_pass Root = refl
+defaults_pass Audit = refl
 
 is_free : (command : CommandWord) → list_all (λ a. a.is_free) (built (app command)).top.rules ≡ true
 unfolding clap_on_literals
@@ -321,6 +325,8 @@ is_free Make = refl
 is_free Table = refl
 is_free WhatIf = refl
 is_free Banks = refl
+is_free Root = refl
+is_free Audit = refl
 
 -- where `clap` finds no fault in the words of a command, it takes them
 pub takes_where_no_fault : (command : CommandWord) (words : List Text) → fault_of (app command) words ≡ [] → takes (app command) words ≡ true

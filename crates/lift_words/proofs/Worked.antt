@@ -7,7 +7,7 @@ use Rattle.clap.specs.Walk.{Text}
 use Rattle.lift_words.specs.Repeats.{IsRepeated, Repeats}
 use Rattle.lift_words.specs.Taken.{AreTaken}
 use Rattle.lift_words.specs.declared.request.Request.{Request}
-use Rattle.lift_words.specs.declared.request.Request.TheVariants.{Solve, Check, Day, Report, Make, Run, Table, WhatIf, Banks}
+use Rattle.lift_words.specs.declared.request.Request.TheVariants.{Solve, Check, Day, Report, Make, Run, Table, WhatIf, Banks, Root, Audit}
 
 -- one word alone repeats none
 alone : (word : Text) → IsRepeated (word ∷ []) → ⊥
@@ -104,17 +104,31 @@ check_with_three = record {
     only (zero, lt, same) = absurd cc
     only (suc k, lt, same) = absurd (omega arith)
 
-pub day_of_five_rounds : AreTaken (codes "lift" ∷ codes "day" ∷ codes "--rounds=5" ∷ []) (Day (record { rounds = 5; moves = 75000; workers = 1 }))
+pub day_of_five_rounds : AreTaken (codes "lift" ∷ codes "day" ∷ codes "--rounds=5" ∷ []) (Day (record { search = record { rounds = 5; moves = 75000; workers = 1 }; claims = 1000000000; certs = false }))
 unfolding clap_on_literals
 day_of_five_rounds = record {
   command = refl;
   unrepeated = alone (codes "--rounds=5");
   no_dashes = only;
   accepted = refl;
-  asks = record { rounds = refl; moves = refl; workers = refl };
+  asks = record { certs = (λ e. absurd cc, λ e. absurd cc); search = record { rounds = refl; moves = refl; workers = refl }; claims = refl };
 }
   where
     only : Contains (codes "--rounds=5" ∷ []) (codes "--") → ⊥
+    only (zero, lt, same) = absurd cc
+    only (suc k, lt, same) = absurd (omega arith)
+
+pub day_with_certificates : AreTaken (codes "lift" ∷ codes "day" ∷ codes "--certs" ∷ []) (Day (record { search = record { rounds = 2000; moves = 75000; workers = 1 }; claims = 1000000000; certs = true }))
+unfolding clap_on_literals
+day_with_certificates = record {
+  command = refl;
+  unrepeated = alone (codes "--certs");
+  no_dashes = only;
+  accepted = refl;
+  asks = record { certs = (λ _. refl, λ _. refl); search = record { rounds = refl; moves = refl; workers = refl }; claims = refl };
+}
+  where
+    only : Contains (codes "--certs" ∷ []) (codes "--") → ⊥
     only (zero, lt, same) = absurd cc
     only (suc k, lt, same) = absurd (omega arith)
 
@@ -153,6 +167,8 @@ table_with_a_word (Run options) t = let other = t.command in absurd cc
 table_with_a_word Table t = let refused = t.accepted in absurd cc
 table_with_a_word (WhatIf options) t = let other = t.command in absurd cc
 table_with_a_word (Banks options) t = let bytes : 116 ≡ 98 = ap first_byte t.command in absurd (omega (arith, bytes))
+table_with_a_word (Root options) t = let other = t.command in absurd cc
+table_with_a_word (Audit options) t = let bytes : 116 ≡ 97 = ap first_byte t.command in absurd (omega (arith, bytes))
 
 pub whatif_of_five_moves : AreTaken (codes "lift" ∷ codes "whatif" ∷ codes "--moves=5" ∷ []) (WhatIf (record { rounds = 2000; moves = 5; workers = 1 }))
 unfolding clap_on_literals
@@ -179,6 +195,8 @@ brief_whatif (Run options) t = let other = t.command in absurd cc
 brief_whatif Table t = let other = t.command in absurd cc
 brief_whatif (WhatIf options) t = let refused = t.accepted in absurd cc
 brief_whatif (Banks options) t = let other = t.command in absurd cc
+brief_whatif (Root options) t = let other = t.command in absurd cc
+brief_whatif (Audit options) t = let other = t.command in absurd cc
 
 pub banks_of_three_workers : AreTaken (codes "lift" ∷ codes "banks" ∷ codes "--workers=3" ∷ []) (Banks (record { rounds = 2000; moves = 75000; workers = 3 }))
 unfolding clap_on_literals
@@ -188,6 +206,34 @@ banks_of_three_workers = record {
   no_dashes = only;
   accepted = refl;
   asks = record { rounds = refl; moves = refl; workers = refl };
+}
+  where
+    only : Contains (codes "--workers=3" ∷ []) (codes "--") → ⊥
+    only (zero, lt, same) = absurd cc
+    only (suc k, lt, same) = absurd (omega arith)
+
+pub root_of_five_turns : AreTaken (codes "lift" ∷ codes "root" ∷ codes "--rounds=5" ∷ []) (Root (record { rounds = 5; moves = 75000 }))
+unfolding clap_on_literals
+root_of_five_turns = record {
+  command = refl;
+  unrepeated = alone (codes "--rounds=5");
+  no_dashes = only;
+  accepted = refl;
+  asks = record { rounds = refl; moves = refl };
+}
+  where
+    only : Contains (codes "--rounds=5" ∷ []) (codes "--") → ⊥
+    only (zero, lt, same) = absurd cc
+    only (suc k, lt, same) = absurd (omega arith)
+
+pub audit_of_three_workers : AreTaken (codes "lift" ∷ codes "audit" ∷ codes "--workers=3" ∷ []) (Audit (record { workers = 3 }))
+unfolding clap_on_literals
+audit_of_three_workers = record {
+  command = refl;
+  unrepeated = alone (codes "--workers=3");
+  no_dashes = only;
+  accepted = refl;
+  asks = refl;
 }
   where
     only : Contains (codes "--workers=3" ∷ []) (codes "--") → ⊥
@@ -205,6 +251,8 @@ check_of_rounds (Run options) t = let other = t.command in absurd cc
 check_of_rounds Table t = let bytes : 99 ≡ 116 = ap first_byte t.command in absurd (omega (arith, bytes))
 check_of_rounds (WhatIf options) t = let other = t.command in absurd cc
 check_of_rounds (Banks options) t = let bytes : 99 ≡ 98 = ap first_byte t.command in absurd (omega (arith, bytes))
+check_of_rounds (Root options) t = let other = t.command in absurd cc
+check_of_rounds (Audit options) t = let bytes : 99 ≡ 97 = ap first_byte t.command in absurd (omega (arith, bytes))
 
 pub no_rounds : (request : Request) → AreTaken (codes "lift" ∷ codes "solve" ∷ codes "--brief" ∷ codes "--rounds" ∷ codes "0" ∷ []) request → ⊥
 unfolding clap_on_literals
@@ -217,6 +265,8 @@ no_rounds (Run options) t = let other = t.command in absurd cc
 no_rounds Table t = let bytes : 115 ≡ 116 = ap first_byte t.command in absurd (omega (arith, bytes))
 no_rounds (WhatIf options) t = let other = t.command in absurd cc
 no_rounds (Banks options) t = let bytes : 115 ≡ 98 = ap first_byte t.command in absurd (omega (arith, bytes))
+no_rounds (Root options) t = let other = t.command in absurd cc
+no_rounds (Audit options) t = let bytes : 115 ≡ 97 = ap first_byte t.command in absurd (omega (arith, bytes))
 
 pub shortened : (request : Request) → AreTaken (codes "lift" ∷ codes "make" ∷ codes "--floor" ∷ codes "4" ∷ []) request → ⊥
 unfolding clap_on_literals
@@ -229,6 +279,8 @@ shortened (Run options) t = let refused = t.accepted in absurd cc
 shortened Table t = let other = t.command in absurd cc
 shortened (WhatIf options) t = let other = t.command in absurd cc
 shortened (Banks options) t = let other = t.command in absurd cc
+shortened (Root options) t = let bytes : 109 ≡ 114 = ap first_byte t.command in absurd (omega (arith, bytes))
+shortened (Audit options) t = let other = t.command in absurd cc
 
 pub brief_day : (request : Request) → AreTaken (codes "lift" ∷ codes "day" ∷ codes "--brief" ∷ []) request → ⊥
 unfolding clap_on_literals
@@ -241,6 +293,8 @@ brief_day (Run options) t = let other = t.command in absurd cc
 brief_day Table t = let other = t.command in absurd cc
 brief_day (WhatIf options) t = let other = t.command in absurd cc
 brief_day (Banks options) t = let other = t.command in absurd cc
+brief_day (Root options) t = let other = t.command in absurd cc
+brief_day (Audit options) t = let other = t.command in absurd cc
 
 pub report_by_many : (request : Request) → AreTaken (codes "lift" ∷ codes "report" ∷ codes "--workers=17" ∷ []) request → ⊥
 unfolding clap_on_literals
@@ -253,6 +307,8 @@ report_by_many (Run options) t = let other = t.command in absurd cc
 report_by_many Table t = let other = t.command in absurd cc
 report_by_many (WhatIf options) t = let bytes : 114 ≡ 119 = ap first_byte t.command in absurd (omega (arith, bytes))
 report_by_many (Banks options) t = let other = t.command in absurd cc
+report_by_many (Root options) t = let other = t.command in absurd cc
+report_by_many (Audit options) t = let other = t.command in absurd cc
 
 pub run_of_no_rounds : (request : Request) → AreTaken (codes "lift" ∷ codes "make" ∷ codes "--rounds" ∷ codes "0" ∷ []) request → ⊥
 unfolding clap_on_literals
@@ -265,6 +321,8 @@ run_of_no_rounds (Run options) t = let none = t.asks.rounds in absurd cc
 run_of_no_rounds Table t = let other = t.command in absurd cc
 run_of_no_rounds (WhatIf options) t = let other = t.command in absurd cc
 run_of_no_rounds (Banks options) t = let other = t.command in absurd cc
+run_of_no_rounds (Root options) t = let bytes : 109 ≡ 114 = ap first_byte t.command in absurd (omega (arith, bytes))
+run_of_no_rounds (Audit options) t = let other = t.command in absurd cc
 
 pub run_with_value : (request : Request) → AreTaken (codes "lift" ∷ codes "make" ∷ codes "--run=1" ∷ []) request → ⊥
 unfolding clap_on_literals
@@ -277,6 +335,8 @@ run_with_value (Run options) t = let refused = t.accepted in absurd cc
 run_with_value Table t = let other = t.command in absurd cc
 run_with_value (WhatIf options) t = let other = t.command in absurd cc
 run_with_value (Banks options) t = let other = t.command in absurd cc
+run_with_value (Root options) t = let bytes : 109 ≡ 114 = ap first_byte t.command in absurd (omega (arith, bytes))
+run_with_value (Audit options) t = let other = t.command in absurd cc
 
 pub brief_twice : (request : Request) → AreTaken (codes "lift" ∷ codes "solve" ∷ codes "--brief" ∷ codes "--brief" ∷ []) request → ⊥
 brief_twice request t = t.unrepeated (record { first = 0; second = 1; order = lit< tt; within = lit< tt; repeats = record { first_option = refl; second_option = refl; same = refl } })

@@ -6,9 +6,9 @@ use Rattle.clap.specs.Walk.{Rule, Text}
 use Rattle.clap.specs.Simple.{App, new_app, new_rule, with_rule}
 use Rattle.clap.specs.declared.builder.action.ArgAction.TheVariants.{SetTrue}
 use Rattle.lift_words.specs.declared.table.CommandWord.{CommandWord}
-use Rattle.lift_words.specs.declared.table.CommandWord.TheVariants.{Solve, Check, Day, Report, Make, Table, WhatIf, Banks}
+use Rattle.lift_words.specs.declared.table.CommandWord.TheVariants.{Solve, Check, Day, Report, Make, Table, WhatIf, Banks, Root, Audit}
 use Rattle.lift_words.specs.declared.table.NumberOption.{NumberOption}
-use Rattle.lift_words.specs.declared.table.NumberOption.TheVariants.{Rounds, Moves, Claims, Workers, Number, Floors, Cars, Calls}
+use Rattle.lift_words.specs.declared.table.NumberOption.TheVariants.{Rounds, Turns, Moves, Claims, Workers, Number, Floors, Cars, Calls}
 use Rattle.lift_words.specs.declared.table.Setting.{Setting}
 
 -- an option that takes a number: its name without the dashes, its least and its greatest value, and
@@ -24,6 +24,7 @@ row name low high default = record { name = name; low = low; high = high; defaul
 
 abbrev pub setting_of : NumberOption → OptionRow
 setting_of Rounds = row (codes "rounds") 1 (10 ^ 18) 2000
+setting_of Turns = row (codes "rounds") 1 31 20
 setting_of Moves = row (codes "moves") 1 (10 ^ 18) 75000
 setting_of Claims = row (codes "claims") 1 (10 ^ 10) (10 ^ 9)
 setting_of Workers = row (codes "workers") 1 16 1
@@ -41,6 +42,8 @@ word_of Make = codes "make"
 word_of Table = codes "table"
 word_of WhatIf = codes "whatif"
 word_of Banks = codes "banks"
+word_of Root = codes "root"
+word_of Audit = codes "audit"
 
 -- the command that a word names
 abbrev pub command_of : Text → Option CommandWord
@@ -51,29 +54,35 @@ command_of word = if bytes_eq word (codes "solve") then Some Solve
     else (if bytes_eq word (codes "make") then Some Make
     else (if bytes_eq word (codes "table") then Some Table
     else (if bytes_eq word (codes "whatif") then Some WhatIf
-    else (if bytes_eq word (codes "banks") then Some Banks else None)))))))
+    else (if bytes_eq word (codes "banks") then Some Banks
+    else (if bytes_eq word (codes "root") then Some Root
+    else (if bytes_eq word (codes "audit") then Some Audit else None)))))))))
 
 -- the options of a command that take a number
 abbrev pub numbers_of : CommandWord → List NumberOption
 numbers_of Solve = Rounds ∷ Moves ∷ Workers ∷ Claims ∷ []
 numbers_of Check = Workers ∷ []
-numbers_of Day = Rounds ∷ Moves ∷ Workers ∷ []
+numbers_of Day = Rounds ∷ Moves ∷ Workers ∷ Claims ∷ []
 numbers_of Report = Rounds ∷ Moves ∷ Workers ∷ []
 numbers_of Make = Number ∷ Floors ∷ Cars ∷ Calls ∷ Rounds ∷ Moves ∷ []
 numbers_of Table = []
 numbers_of WhatIf = Rounds ∷ Moves ∷ Workers ∷ []
 numbers_of Banks = Rounds ∷ Moves ∷ Workers ∷ []
+numbers_of Root = Turns ∷ Moves ∷ []
+numbers_of Audit = Workers ∷ []
 
 -- and those that take no value
 abbrev pub flags_of : CommandWord → List Text
 flags_of Solve = codes "brief" ∷ []
 flags_of Check = []
-flags_of Day = []
+flags_of Day = codes "certs" ∷ []
 flags_of Report = []
 flags_of Make = codes "run" ∷ []
 flags_of Table = []
 flags_of WhatIf = []
 flags_of Banks = []
+flags_of Root = []
+flags_of Audit = []
 
 -- ---- as `clap` sees it: long options alone, each with one value, and flags
 

@@ -1,5 +1,5 @@
 -- Which words are taken, and what they ask for.
-use Rattle.std.specs.Prelude.{◌≡◌, ◌≤◌, ◌↔◌, ◌&&◌, ℕ, List, drop, codes, slice_get, nat_le, true, IsTrue, Option, Some, None, IsSome, if◌then◌else◌, option_and_then}
+use Rattle.std.specs.Prelude.{◌≡◌, ◌≤◌, ◌↔◌, ◌&&◌, ℕ, List, drop, codes, slice_get, nat_le, true, false, IsTrue, Option, Some, None, IsSome, if◌then◌else◌, option_and_then}
 use Rattle.std.specs.List.{Contains}
 use Rattle.lift_text.specs.Numbers.{digits_number}
 use Rattle.clap.specs.Walk.{Row, Text, first_of}
@@ -10,12 +10,14 @@ use Rattle.lift_words.specs.Repeats.{IsRepeated}
 use Rattle.lift_words.specs.declared.table.CommandWord.{CommandWord}
 use Rattle.lift_words.specs.declared.table.CommandWord.TheVariants as command
 use Rattle.lift_words.specs.declared.table.NumberOption.{NumberOption}
-use Rattle.lift_words.specs.declared.table.NumberOption.TheVariants.{Rounds, Moves, Claims, Workers, Number, Floors, Cars, Calls}
+use Rattle.lift_words.specs.declared.table.NumberOption.TheVariants.{Rounds, Turns, Moves, Claims, Workers, Number, Floors, Cars, Calls}
 use Rattle.lift_words.specs.declared.request.Request.{Request}
-use Rattle.lift_words.specs.declared.request.Request.TheVariants.{Solve, Check, Day, Report, Make, Run, Table, WhatIf, Banks}
+use Rattle.lift_words.specs.declared.request.Request.TheVariants.{Solve, Check, Day, Report, Make, Run, Table, WhatIf, Banks, Root, Audit}
 use Rattle.lift_words.specs.declared.request.SolveOptions.{SolveOptions}
 use Rattle.lift_words.specs.declared.request.CheckOptions.{CheckOptions}
+use Rattle.lift_words.specs.declared.request.DayOptions.{DayOptions}
 use Rattle.lift_words.specs.declared.request.SearchOptions.{SearchOptions}
+use Rattle.lift_words.specs.declared.request.RootOptions.{RootOptions}
 use Rattle.lift_words.specs.declared.request.CaseSizes.{CaseSizes}
 use Rattle.lift_words.specs.declared.request.RunOptions.{RunOptions}
 
@@ -49,11 +51,32 @@ pub record AsksToSolve (rows : List Row) (options : SolveOptions) : Type 0 where
 abbrev pub AsksToCheck : List Row → CheckOptions → Type 0
 AsksToCheck rows options = number_of rows Workers ≡ Some options.workers
 
--- by the words of `day`, `report`, `whatif` or `banks`
+-- by the words of `report`, `whatif` or `banks`, or among those of `day`
 pub record AsksForSearch (rows : List Row) (options : SearchOptions) : Type 0 where
   pub rounds : number_of rows Rounds ≡ Some options.rounds
   pub moves : number_of rows Moves ≡ Some options.moves
   pub workers : number_of rows Workers ≡ Some options.workers
+
+-- certificates are to be written
+abbrev pub AsksForCerts : List Row → Type 0
+AsksForCerts rows = first_of (codes "certs") rows ≡ Some (codes "true")
+
+pub record AsksForDay (rows : List Row) (options : DayOptions) : Type 0 where
+  pub certs : IsTrue options.certs ↔ AsksForCerts rows
+  pub search : AsksForSearch rows options.search
+  pub claims : number_of rows Claims ≡ Some options.claims
+
+-- what the claims of each certificate may sum to, where certificates are wanted
+abbrev pub most_claims : DayOptions → Option ℕ
+most_claims options = if options.certs then Some options.claims else None
+
+-- a day whose certificates are not wanted; what their claims may sum to has no effect
+abbrev pub without_certificates : SearchOptions → DayOptions
+without_certificates options = record { search = options; claims = 1; certs = false }
+
+pub record AsksForRoot (rows : List Row) (options : RootOptions) : Type 0 where
+  pub rounds : number_of rows Turns ≡ Some options.rounds
+  pub moves : number_of rows Moves ≡ Some options.moves
 
 pub record AsksForSizes (rows : List Row) (sizes : CaseSizes) : Type 0 where
   pub number : number_of rows Number ≡ Some sizes.number
@@ -88,17 +111,21 @@ command_asked (Run options) = command.Make
 command_asked Table = command.Table
 command_asked (WhatIf options) = command.WhatIf
 command_asked (Banks options) = command.Banks
+command_asked (Root options) = command.Root
+command_asked (Audit options) = command.Audit
 
 abbrev pub Asks : List Row → Request → Type 0
 Asks rows (Solve options) = AsksToSolve rows options
 Asks rows (Check options) = AsksToCheck rows options
-Asks rows (Day options) = AsksForSearch rows options
+Asks rows (Day options) = AsksForDay rows options
 Asks rows (Report options) = AsksForSearch rows options
 Asks rows (Make sizes) = AsksToMake rows sizes
 Asks rows (Run options) = AsksToRun rows options
 Asks rows Table = Unit {0}
 Asks rows (WhatIf options) = AsksForSearch rows options
 Asks rows (Banks options) = AsksForSearch rows options
+Asks rows (Root options) = AsksForRoot rows options
+Asks rows (Audit options) = AsksToCheck rows options
 
 -- the request is one of this command, and has the numbers that were found
 abbrev pub AsksBy : CommandWord → List Row → Request → Type 0
@@ -145,6 +172,14 @@ pub record AreSearchOptions (options : SearchOptions) : Type 0 where
   pub moves : IsInRange Moves options.moves
   pub workers : IsInRange Workers options.workers
 
+pub record AreDayOptions (options : DayOptions) : Type 0 where
+  pub search : AreSearchOptions options.search
+  pub claims : IsInRange Claims options.claims
+
+pub record AreRootOptions (options : RootOptions) : Type 0 where
+  pub rounds : IsInRange Turns options.rounds
+  pub moves : IsInRange Moves options.moves
+
 pub record AreCaseSizes (sizes : CaseSizes) : Type 0 where
   pub number : IsInRange Number sizes.number
   pub floors : IsInRange Floors sizes.floors
@@ -159,10 +194,12 @@ pub record AreRunOptions (options : RunOptions) : Type 0 where
 abbrev pub IsWithin : Request → Type 0
 IsWithin (Solve options) = AreSolveOptions options
 IsWithin (Check options) = AreCheckOptions options
-IsWithin (Day options) = AreSearchOptions options
+IsWithin (Day options) = AreDayOptions options
 IsWithin (Report options) = AreSearchOptions options
 IsWithin (Make sizes) = AreCaseSizes sizes
 IsWithin (Run options) = AreRunOptions options
 IsWithin Table = Unit {0}
 IsWithin (WhatIf options) = AreSearchOptions options
 IsWithin (Banks options) = AreSearchOptions options
+IsWithin (Root options) = AreRootOptions options
+IsWithin (Audit options) = AreCheckOptions options

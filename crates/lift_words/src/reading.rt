@@ -2,9 +2,10 @@
 ghost use Rattle.std.specs.Prelude.{◌≡◌, ◌≤◌, IfErr, IfOk, IfSome, None, length, IsTrue, ◌↔◌, Some, codes};
 ghost use Rattle.std.specs.Prelude.{map, option_map, string_bytes};
 ghost use Rattle.clap.specs.Words.{first_of, found_of, rows_of};
-ghost use Rattle.lift_words.specs.Taken.{AreCaseSizes, AreCheckOptions, AreSearchOptions};
-ghost use Rattle.lift_words.specs.Taken.{AreSolveOptions};
-ghost use Rattle.lift_words.specs.Taken.{AreTaken, AsksBy, AsksForSearch, AsksForSizes, AsksToCheck};
+ghost use Rattle.lift_words.specs.Taken.{AreCaseSizes, AreCheckOptions, AreDayOptions, AreRootOptions};
+ghost use Rattle.lift_words.specs.Taken.{AreSearchOptions, AreSolveOptions};
+ghost use Rattle.lift_words.specs.Taken.{AreTaken, AsksBy, AsksForDay, AsksForRoot, AsksForSearch};
+ghost use Rattle.lift_words.specs.Taken.{AsksForSizes, AsksToCheck};
 ghost use Rattle.lift_words.specs.Taken.{AsksToSolve, ExactlyWhere, IsInRange, IsSecond, IsWithin};
 ghost use Rattle.lift_words.specs.Taken.{number_in_range, number_of};
 ghost use Rattle.lift_words.specs.declared.request.Request.{Request};
@@ -13,7 +14,8 @@ ghost use Rattle.lift_words.specs.declared.table.CommandWord.{CommandWord};
 use crate::parsing::parse;
 use crate::repeats::{has_lone_dashes, has_repeats};
 use crate::request::{
-    CaseSizes, CheckOptions, Request, RunOptions, SearchOptions, SolveOptions, WordsFault,
+    CaseSizes, CheckOptions, DayOptions, Request, RootOptions, RunOptions, SearchOptions,
+    SolveOptions, WordsFault,
 };
 use crate::table::{CommandWord, NumberOption};
 use clap::ArgMatches;
@@ -65,16 +67,18 @@ fn asked(command: CommandWord, matches: &ArgMatches<'_>) -> Option<Request>
     match command {
         CommandWord::Solve => Some(Request::Solve(solve_options(matches)?)),
         CommandWord::Check => Some(Request::Check(check_options(matches)?)),
-        CommandWord::Day => Some(Request::Day(search_options(matches)?)),
+        CommandWord::Day => Some(Request::Day(day_options(matches)?)),
         CommandWord::Report => Some(Request::Report(search_options(matches)?)),
         CommandWord::Make => asked_of_make(matches),
         CommandWord::Table => Some(Request::Table),
         CommandWord::WhatIf => Some(Request::WhatIf(search_options(matches)?)),
         CommandWord::Banks => Some(Request::Banks(search_options(matches)?)),
+        CommandWord::Root => Some(Request::Root(root_options(matches)?)),
+        CommandWord::Audit => Some(Request::Audit(check_options(matches)?)),
     }
 }
 
-/// The options of `solve`: those of `day`, the limit of claims, and a flag.
+/// The options of `solve`: those of a search, the limit of claims, and a flag.
 fn solve_options(matches: &ArgMatches<'_>) -> Option<SolveOptions>
     ensures asked { let rows = rows_of (found_of matches.now) in
         ExactlyWhere (AsksToSolve rows) result }
@@ -90,7 +94,7 @@ fn solve_options(matches: &ArgMatches<'_>) -> Option<SolveOptions>
     })
 }
 
-/// The options of `check`.
+/// The options of `check` and `audit`.
 fn check_options(matches: &ArgMatches<'_>) -> Option<CheckOptions>
     ensures asked { let rows = rows_of (found_of matches.now) in
         ExactlyWhere (AsksToCheck rows) result }
@@ -102,7 +106,20 @@ fn check_options(matches: &ArgMatches<'_>) -> Option<CheckOptions>
     })
 }
 
-/// The options of `day`, `report`, `whatif` and `banks`.
+/// The options of `day`: those of a search, the limit of claims, and a flag.
+fn day_options(matches: &ArgMatches<'_>) -> Option<DayOptions>
+    ensures asked { let rows = rows_of (found_of matches.now) in
+        ExactlyWhere (AsksForDay rows) result }
+    ensures within { IfSome result AreDayOptions }
+{
+    Some(DayOptions {
+        search: search_options(matches)?,
+        claims: number(matches, NumberOption::Claims)?,
+        certs: is_given(matches, "certs"),
+    })
+}
+
+/// The options of a search.
 fn search_options(matches: &ArgMatches<'_>) -> Option<SearchOptions>
     ensures asked { let rows = rows_of (found_of matches.now) in
         ExactlyWhere (AsksForSearch rows) result }
@@ -115,6 +132,20 @@ fn search_options(matches: &ArgMatches<'_>) -> Option<SearchOptions>
         rounds,
         moves,
         workers: workers as u32,
+    })
+}
+
+/// The options of `root`.
+fn root_options(matches: &ArgMatches<'_>) -> Option<RootOptions>
+    ensures asked { let rows = rows_of (found_of matches.now) in
+        ExactlyWhere (AsksForRoot rows) result }
+    ensures within { IfSome result AreRootOptions }
+{
+    let rounds = number(matches, NumberOption::Turns)?;
+    let moves = number(matches, NumberOption::Moves)?;
+    Some(RootOptions {
+        rounds: rounds as u32,
+        moves,
     })
 }
 

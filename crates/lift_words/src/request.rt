@@ -1,6 +1,7 @@
 //! What the words ask for.
-ghost use Rattle.std.specs.Prelude.{◌≡◌, Some};
+ghost use Rattle.std.specs.Prelude.{◌≡◌, ◌≤◌, ◌^◌, IfSome, Some};
 ghost use Rattle.lift_words.specs.Faults.{printed};
+ghost use Rattle.lift_words.specs.Taken.{AreDayOptions, most_claims, without_certificates};
 ghost use Rattle.lift_words.specs.declared.request.WordsFault.TheVariants.{NoMemory};
 
 use std::alloc::{AllocError, AllocFailed};
@@ -15,7 +16,7 @@ pub enum Request {
     /// `check`: the answer of the input is to be checked.
     Check(CheckOptions),
     /// `day`: the day of the input is to be run.
-    Day(SearchOptions),
+    Day(DayOptions),
     /// `report`: the service of the day of the input is to be reported.
     Report(SearchOptions),
     /// `make`: a generated case is to be written.
@@ -28,6 +29,10 @@ pub enum Request {
     WhatIf(SearchOptions),
     /// `banks`: the days of several banks of cars of the input are to be run.
     Banks(SearchOptions),
+    /// `root`: it is to be said what prices at the root of the case of the input can prove.
+    Root(RootOptions),
+    /// `audit`: the log of the day of the input is to be audited.
+    Audit(CheckOptions),
 }
 
 /// The options of `solve`.
@@ -45,14 +50,26 @@ pub struct SolveOptions {
     pub brief: bool,
 }
 
-/// The options of `check`.
+/// The options of `check` and `audit`.
 #[derive(Clone, Copy)]
 pub struct CheckOptions {
     /// `--workers`: this many threads, 1 to 16. The default is 1.
     pub workers: u32,
 }
 
-/// The options of `day`, `report`, `whatif` and `banks`: the limits of each search, and the workers.
+/// The options of `day`.
+#[derive(Clone, Copy)]
+pub struct DayOptions {
+    /// The limits of each search, and the workers.
+    pub search: SearchOptions,
+    /// `--claims`: the claims of each certificate sum to at most this, 1 to 10^10. The default is 10^9.
+    pub claims: u64,
+    /// `--certs`: each plan is to be written with its certificate.
+    pub certs: bool,
+}
+
+/// The options of `report`, `whatif` and `banks`, and some of `day`: the limits of each search, and the
+/// workers.
 #[derive(Clone, Copy)]
 pub struct SearchOptions {
     /// `--rounds`: at most this many rounds, 1 to 10^18. The default is 2000.
@@ -61,6 +78,39 @@ pub struct SearchOptions {
     pub moves: u64,
     /// `--workers`: this many threads, 1 to 16. The default is 1.
     pub workers: u32,
+}
+
+impl SearchOptions {
+    /// The same for a day without certificates.
+    pub fn without_certificates(self) -> DayOptions
+        ensures { result ≡ without_certificates self }
+    {
+        DayOptions {
+            search: self,
+            claims: 1,
+            certs: false,
+        }
+    }
+}
+
+impl DayOptions {
+    /// What the claims of each certificate may sum to, where certificates are wanted.
+    pub fn most_claims(self) -> Option<u64>
+        ensures value { result ≡ most_claims self }
+        ensures within { AreDayOptions self → IfSome result (λ most. most ≤ 10 ^ 10) }
+    {
+        if self.certs { Some(self.claims) } else { None }
+    }
+}
+
+/// The options of `root`.
+#[derive(Clone, Copy)]
+pub struct RootOptions {
+    /// `--rounds`: this many turns at the root, 1 to 31. The default is 20.
+    pub rounds: u32,
+    /// `--moves`: at most this many partial tours in one pricing, and as many partial pairings, 1 to 10^18.
+    /// The default is 75000.
+    pub moves: u64,
 }
 
 /// The sizes of a generated case. `make` takes `--rounds` and `--moves` too, which change nothing without

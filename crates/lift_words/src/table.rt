@@ -15,12 +15,16 @@ pub(crate) enum CommandWord {
     Table,
     WhatIf,
     Banks,
+    Root,
+    Audit,
 }
 
 /// An option that takes a number.
 #[derive(Clone, Copy)]
 pub(crate) enum NumberOption {
     Rounds,
+    /// The rounds of `root`.
+    Turns,
     Moves,
     Claims,
     Workers,
@@ -57,6 +61,8 @@ impl CommandWord {
             "table" => Some(CommandWord::Table),
             "whatif" => Some(CommandWord::WhatIf),
             "banks" => Some(CommandWord::Banks),
+            "root" => Some(CommandWord::Root),
+            "audit" => Some(CommandWord::Audit),
             _ => None,
         }
     }
@@ -74,6 +80,8 @@ impl CommandWord {
             CommandWord::Table => "table",
             CommandWord::WhatIf => "whatif",
             CommandWord::Banks => "banks",
+            CommandWord::Root => "root",
+            CommandWord::Audit => "audit",
         }
     }
 
@@ -82,18 +90,18 @@ impl CommandWord {
         ensures { result.now ≡ numbers_of self }
     {
         match self {
-            CommandWord::Solve => &[
+            CommandWord::Solve | CommandWord::Day => &[
                 NumberOption::Rounds,
                 NumberOption::Moves,
                 NumberOption::Workers,
                 NumberOption::Claims,
             ],
-            CommandWord::Day | CommandWord::Report | CommandWord::WhatIf | CommandWord::Banks => &[
+            CommandWord::Report | CommandWord::WhatIf | CommandWord::Banks => &[
                 NumberOption::Rounds,
                 NumberOption::Moves,
                 NumberOption::Workers,
             ],
-            CommandWord::Check => &[NumberOption::Workers],
+            CommandWord::Check | CommandWord::Audit => &[NumberOption::Workers],
             CommandWord::Make => &[
                 NumberOption::Number,
                 NumberOption::Floors,
@@ -103,6 +111,7 @@ impl CommandWord {
                 NumberOption::Moves,
             ],
             CommandWord::Table => &[],
+            CommandWord::Root => &[NumberOption::Turns, NumberOption::Moves],
         }
     }
 
@@ -112,12 +121,14 @@ impl CommandWord {
     {
         match self {
             CommandWord::Solve => &["brief"],
+            CommandWord::Day => &["certs"],
             CommandWord::Check
-            | CommandWord::Day
             | CommandWord::Report
             | CommandWord::Table
             | CommandWord::WhatIf
-            | CommandWord::Banks => &[],
+            | CommandWord::Banks
+            | CommandWord::Root
+            | CommandWord::Audit => &[],
             CommandWord::Make => &["run"],
         }
     }
@@ -130,6 +141,7 @@ impl NumberOption {
     {
         match self {
             NumberOption::Rounds => make_setting("rounds", 1, MOST, 2000),
+            NumberOption::Turns => make_setting("rounds", 1, 31, 20),
             NumberOption::Moves => make_setting("moves", 1, MOST, 75000),
             NumberOption::Claims => make_setting("claims", 1, MOST_CLAIM, 1_000_000_000),
             NumberOption::Workers => make_setting("workers", 1, 16, 1),

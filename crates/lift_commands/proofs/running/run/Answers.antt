@@ -1,15 +1,18 @@
 use Rattle.std.proofs.Common.{map, string_bytes, subst, refl, sym, ◌≡◌, ◌∙◌}
-use Rattle.lift_words.specs.Taken.{AreTaken}
+use Rattle.lift_words.specs.Taken.{AreDayOptions, AreTaken, IsWithin, without_certificates}
+use Rattle.lift_words.specs.declared.request.DayOptions.{DayOptions}
 use Rattle.lift_words.specs.declared.request.RunOptions.{RunOptions}
 use Rattle.lift_words.specs.declared.request.SearchOptions.{SearchOptions}
+use Rattle.lift_words.specs.declared.request.RootOptions.{RootOptions}
 use Rattle.lift_words.specs.declared.request.SolveOptions.{SolveOptions}
-use Rattle.lift_words.specs.declared.request.Request.TheVariants.{Solve, Check, Day, Report, Make, Run, Table, WhatIf, Banks}
+use Rattle.lift_words.specs.declared.request.Request.TheVariants.{Solve, Check, Day, Report, Make, Run, Table, WhatIf, Banks, Root, Audit}
 use Rattle.command_ends.specs.declared.status.Status.TheVariants.{Words}
 use Rattle.command_ends.specs.Ends.{streams}
 use Rattle.command_ends.proofs.EndLemmas.{ends_put, ends_more}
 use Rattle.lift_commands.specs.Outcome.{IsAnswered, IsCaseSolved, SolveDue, CheckDue, MakeDue, SolvedCaseDue, RunDue, UsageIsDue, usage_line}
 use Rattle.lift_commands.specs.DayOutcome.{ReportsDay, RunsDay}
-use Rattle.lift_commands.specs.Further.{RunsBanks, RunsWhatIf}
+use Rattle.lift_commands.specs.Further.{RunsBanks, RunsRoot, RunsWhatIf}
+use Rattle.lift_commands.proofs.DayOutcomes.{plain-within}
 use Rattle.lift_commands.proofs.Outcomes.{solve_due, check_due, make_due, solved_case_due, not_run_and_make}
 use Rattle.lift_commands.proofs.running.run.Goals as goal
 
@@ -129,7 +132,10 @@ returns-in-Ok-Day-clause-days g c options taken =
     let is : options ≡ c.in-Ok-Day.options = cc same in
     let old = streams (g.S.Source.left c.args.source.now) (g.K.Sink.taken c.args.sink.now) (g.S.Source.faults c.args.source.now) (g.K.Sink.faults c.args.sink.now) in
     let new = streams (g.S.Source.left c.day.new.source) (g.K.Sink.taken c.day.new.sink) (g.S.Source.faults c.day.new.source) (g.K.Sink.faults c.day.new.sink) in
-    subst (λ (o : SearchOptions). RunsDay o old new c.day.result) (sym is) c.day.ensures
+    subst (λ (o : DayOptions). RunsDay o old new c.day.result) (sym is) c.day.ensures
+
+pub report-requires-clause-options : goal.report-requires-clause-options
+report-requires-clause-options g c κs within = subst AreDayOptions (sym c.without_certificates.ensures) (plain-within c.in-Ok-Report.options (subst IsWithin c.in-Ok-Report.field-0-is c.in-Ok-Report.ensures.within))
 
 pub returns-in-Ok-Report-clause-ends : goal.returns-in-Ok-Report-clause-ends
 returns-in-Ok-Report-clause-ends g c = λ none.
@@ -141,7 +147,8 @@ returns-in-Ok-Report-clause-reports g c options taken =
     let is : options ≡ c.in-Ok-Report.options = cc same in
     let old = streams (g.S.Source.left c.args.source.now) (g.K.Sink.taken c.args.sink.now) (g.S.Source.faults c.args.source.now) (g.K.Sink.faults c.args.sink.now) in
     let new = streams (g.S.Source.left c.report.new.source) (g.K.Sink.taken c.report.new.sink) (g.S.Source.faults c.report.new.source) (g.K.Sink.faults c.report.new.sink) in
-    subst (λ (o : SearchOptions). ReportsDay o old new c.report.result) (sym is) c.report.ensures
+    let plain = subst (λ (o : DayOptions). ReportsDay o old new c.report.result) c.without_certificates.ensures c.report.ensures in
+    subst (λ (o : SearchOptions). ReportsDay (without_certificates o) old new c.report.result) (sym is) plain
 
 pub returns-in-Ok-Table-clause-ends : goal.returns-in-Ok-Table-clause-ends
 returns-in-Ok-Table-clause-ends g c = λ none.
@@ -187,6 +194,42 @@ returns-in-Err-NotTaken-clause-banks g c = λ options taken.
 pub returns-in-Ok-Banks-clause-unread : goal.returns-in-Ok-Banks-clause-unread
 returns-in-Ok-Banks-clause-unread g c = λ none.
     absurd (none (Banks c.in-Ok-Banks.options) (subst (AreTaken (map string_bytes c.args.words.now)) c.in-Ok-Banks.field-0-is c.in-Ok-Banks.ensures.taken))
+
+pub returns-in-Ok-Root-clause-ends : goal.returns-in-Ok-Root-clause-ends
+returns-in-Ok-Root-clause-ends g c = λ none.
+    absurd (none.no_root c.in-Ok-Root.options (subst (AreTaken (map string_bytes c.args.words.now)) c.in-Ok-Root.field-0-is c.in-Ok-Root.ensures.taken))
+
+pub returns-in-Ok-Root-clause-at_root : goal.returns-in-Ok-Root-clause-at_root
+returns-in-Ok-Root-clause-at_root g c options taken =
+    let same : Root options ≡ Root c.in-Ok-Root.options = c.in-Ok-Root.ensures.one (Root options) taken ∙ c.in-Ok-Root.field-0-is in
+    let is : options ≡ c.in-Ok-Root.options = cc same in
+    let old = streams (g.S.Source.left c.args.source.now) (g.K.Sink.taken c.args.sink.now) (g.S.Source.faults c.args.source.now) (g.K.Sink.faults c.args.sink.now) in
+    let new = streams (g.S.Source.left c.root.new.source) (g.K.Sink.taken c.root.new.sink) (g.S.Source.faults c.root.new.source) (g.K.Sink.faults c.root.new.sink) in
+    let ensures = c.root.ensures in
+    subst (λ (o : RootOptions). RunsRoot o old new c.root.result) (sym is) (record { ends = ensures.ends; answers = ensures.answers; refuses = ensures.refuses })
+
+pub returns-in-Err-NotTaken-clause-at_root : goal.returns-in-Err-NotTaken-clause-at_root
+returns-in-Err-NotTaken-clause-at_root g c = λ options taken.
+    absurd (c.in-Err-NotTaken.ensures.refused c.in-Err-NotTaken.field-0-is (Root options) taken)
+
+pub returns-in-Ok-Root-clause-unread : goal.returns-in-Ok-Root-clause-unread
+returns-in-Ok-Root-clause-unread g c = λ none.
+    absurd (none (Root c.in-Ok-Root.options) (subst (AreTaken (map string_bytes c.args.words.now)) c.in-Ok-Root.field-0-is c.in-Ok-Root.ensures.taken))
+
+pub returns-in-Ok-Audit-clause-ends : goal.returns-in-Ok-Audit-clause-ends
+returns-in-Ok-Audit-clause-ends g c = λ none.
+    absurd (none.no_audit c.in-Ok-Audit.options (subst (AreTaken (map string_bytes c.args.words.now)) c.in-Ok-Audit.field-0-is c.in-Ok-Audit.ensures.taken))
+
+pub returns-in-Ok-Audit-clause-audits : goal.returns-in-Ok-Audit-clause-audits
+returns-in-Ok-Audit-clause-audits g c options taken = let ensures = c.audit.ensures in record { ends = ensures.ends; audits = ensures.audits }
+
+pub returns-in-Err-NotTaken-clause-audits : goal.returns-in-Err-NotTaken-clause-audits
+returns-in-Err-NotTaken-clause-audits g c = λ options taken.
+    absurd (c.in-Err-NotTaken.ensures.refused c.in-Err-NotTaken.field-0-is (Audit options) taken)
+
+pub returns-in-Ok-Audit-clause-unread : goal.returns-in-Ok-Audit-clause-unread
+returns-in-Ok-Audit-clause-unread g c = λ none.
+    absurd (none (Audit c.in-Ok-Audit.options) (subst (AreTaken (map string_bytes c.args.words.now)) c.in-Ok-Audit.field-0-is c.in-Ok-Audit.ensures.taken))
 
 pub returns-in-Err-NotTaken-clause-tables : goal.returns-in-Err-NotTaken-clause-tables
 returns-in-Err-NotTaken-clause-tables g c = λ taken.

@@ -1,5 +1,5 @@
 use Rattle.std.specs.Prelude.{IfOk, Result, Ok, Err}
-use Rattle.lift_commands.proofs.Printed.{certified, claimed_known, claimed_short, claimed_sized, printed_brief, printed_so, tree_cars, tree_sizes}
+use Rattle.lift_commands.proofs.Printed.{printed_brief, printed_so}
 use Rattle.lift_commands.proofs.solving.printed.Goals as goal
 
 on_ok : {A E : Type 0} (r : Result A E) (P Q : A → Type 0) → ((x : A) → P x → Q x) → IfOk r P → IfOk r Q
@@ -9,32 +9,6 @@ on_ok (Err e) P Q on h = tt
 pub returns-then-options-clause-printed : goal.returns-then-options-clause-printed
 returns-then-options-clause-printed g c = printed_brief c.args.options c.args.snapshot.now c.args.stated.now c.args.tree.twigs c.args.tree.twigs c.if-options.true
 
-pub state_claims-requires-clause-cars : goal.state_claims-requires-clause-cars
-state_claims-requires-clause-cars g c κs within = tree_cars c.args.tree.twigs c.requires.sized
-
-pub state_claims-requires-clause-sizes : goal.state_claims-requires-clause-sizes
-state_claims-requires-clause-sizes g c κs within = tree_sizes c.args.tree.twigs c.requires.sized
-
 pub returns-clause-printed : goal.returns-clause-printed
 returns-clause-printed g c =
-    let s = c.args.snapshot.now in
-    let tree = c.args.tree.twigs in
-    on_ok c.state_claims.result _ _ (λ claimed is. printed_so c.args.options s c.args.stated.now tree claimed.bound claimed.tree.twigs c.if-options.false (certified s c.calls-calls.ensures.accepted c.args.stated.now tree c.in_ok-resort.resort c.args.options.claims claimed is)) c.state_claims.ensures
-
-pub returns-clause-sized : goal.returns-clause-sized
-returns-clause-sized g c =
-    let s = c.args.snapshot.now in
-    let tree = c.args.tree.twigs in
-    on_ok c.state_claims.result _ _ (λ claimed is. claimed_sized s c.calls-calls.ensures.accepted c.args.stated.now tree c.in_ok-resort.resort c.args.options.claims claimed is c.requires.sized c.in_ok-resort.ensures.sized c.requires.proves.whole) c.state_claims.ensures
-
-pub returns-clause-known : goal.returns-clause-known
-returns-clause-known g c =
-    let s = c.args.snapshot.now in
-    let tree = c.args.tree.twigs in
-    on_ok c.state_claims.result _ _ (λ claimed is. claimed_known s c.calls-calls.ensures.accepted c.args.stated.now tree c.in_ok-resort.resort c.args.options.claims claimed is c.requires.sized c.in_ok-resort.ensures.sized c.requires.proves.whole) c.state_claims.ensures
-
-pub returns-clause-short : goal.returns-clause-short
-returns-clause-short g c =
-    let s = c.args.snapshot.now in
-    let tree = c.args.tree.twigs in
-    on_ok c.state_claims.result _ _ (λ claimed is. claimed_short s c.calls-calls.ensures.accepted c.args.stated.now tree c.in_ok-resort.resort c.args.options.claims claimed is c.requires.sized c.in_ok-resort.ensures.sized c.requires.proves.whole) c.state_claims.ensures
+    on_ok c.certify.result _ _ (λ claimed is. printed_so c.args.options c.args.snapshot.now c.args.stated.now c.args.tree.twigs claimed.bound claimed.tree.twigs c.if-options.false is) c.certify.ensures.certified

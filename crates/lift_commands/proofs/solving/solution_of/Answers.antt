@@ -3,7 +3,7 @@ use Rattle.answer_text.proofs.FitsLemmas.{feasible_fits}
 use Rattle.lift_commands.proofs.Enough.{done_where_enough}
 use Rattle.lift_commands.proofs.SaidYes.{said_yes_as}
 use Rattle.lift_commands.proofs.Solutions.{is_solution}
-use Rattle.lift_commands.proofs.SolvedTrees.{tree_known}
+use Rattle.certified_search.proofs.KnownTrees.{tree_known}
 use Rattle.lift_commands.proofs.solving.solution_of.Goals as goal
 
 pub printed-requires-clause-known : goal.printed-requires-clause-known
