@@ -11,6 +11,7 @@ ghost use Rattle.search_model.specs.WorkedSolving.{AreFloors, AreTurns, AreRootW
 ghost use Rattle.search_model.specs.WorkedDays.{AreAdvanced, AreMoving, IsDay, IsMovingDay, AreRows};
 ghost use Rattle.search_model.specs.WorkedDays.{AreOpenings};
 ghost use Rattle.search_model.specs.WorkedCases.{AreReports, AreDraws};
+ghost use Rattle.half_plans.specs.WorkedHalves.{ArePairPlans, AreThirds};
 
 /// Costs, moments, broken rules and first faults; the uneven ones where no two numbers are the same.
 fn elevators()
@@ -58,6 +59,12 @@ fn days()
     ensures draws { AreDraws }
 {}
 
+/// Pair plans with their shares, pairs that are none, and a mixture of thirds.
+fn halves()
+    ensures pair_plans { ArePairPlans }
+    ensures thirds { AreThirds }
+{}
+
 #[test]
 fn definitions_of_elevators_give_the_worked_cases() {
     elevators();
@@ -67,4 +74,5 @@ fn definitions_of_elevators_give_the_worked_cases() {
 fn definitions_of_searches_and_days_give_the_worked_cases() {
     searches();
     days();
+    halves();
 }

@@ -2,8 +2,8 @@
 
 mod aims;
 mod answers;
+mod begun;
 mod buildings;
-mod kept;
 mod prices;
 mod runs;
 mod snapshots;

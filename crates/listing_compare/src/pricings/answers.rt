@@ -5,7 +5,7 @@ ghost use Rattle.elevator_model.specs.Snapshot.{car_count, call_count};
 ghost use Rattle.search_model.specs.Nodes.{IsNodeOf};
 
 use crate::pricings::aims::Aim;
-use crate::pricings::kept::Kept;
+use crate::pricings::begun::Listed;
 use crate::pricings::tally::Counts;
 use assign_branch::{Priced, Pricer};
 use elevator_model::Tour;
@@ -43,20 +43,23 @@ fn note_whole(due: i128, priced: Priced, given: Given, tally: &mut Counts) {
     tally.tours.note(given.value == Some(due));
 }
 
-/// Compares the visits of such a pricing with the partial tours that are kept.
-fn note_visits(kept: Kept, priced: Priced, tally: &mut Counts) {
-    let count = kept.count.unwrap_or(FAR);
-    tally.visits.note(count <= priced.visits);
-    tally.all_kept = tally.all_kept.wrapping_add(count);
+/// Compares the visits of such a pricing with the partial tours that tours of the node begin with.
+fn note_visits(listed: Listed, priced: Priced, tally: &mut Counts) {
+    let Some(begun) = listed.begun else {
+        tally.visits.note(false);
+        return;
+    };
+    tally.visits.note(priced.visits <= begun);
+    tally.all_begun = tally.all_begun.wrapping_add(begun);
     tally.all_visits = tally.all_visits.wrapping_add(priced.visits);
 }
 
 /// Compares a pricing with a limit.
-fn note_limited(kept: Kept, limit: u64, priced: Priced, tally: &mut Counts) {
+fn note_limited(listed: Listed, limit: u64, priced: Priced, tally: &mut Counts) {
     tally.limits.note(priced.visits <= limit && priced.spent == (priced.visits == limit));
-    tally.bounds.note(priced.worth <= kept.worth && kept.first_bound <= priced.worth);
+    tally.bounds.note(priced.worth <= listed.worth && listed.first_bound <= priced.worth);
     if !priced.spent {
-        tally.unspent.note(priced.worth == kept.worth);
+        tally.unspent.note(priced.worth == listed.worth);
     }
     if limit == 1 {
         tally.first.note(priced.visits == 1 && priced.spent);
@@ -90,7 +93,7 @@ fn compare_limit<P: Pricer>(
     alloc: Global,
     pricer: &P,
     aim: &Aim,
-    kept: Kept,
+    listed: Listed,
     limit: u64,
     desk: &mut P::Desk,
     tally: &mut Counts,
@@ -107,8 +110,8 @@ fn compare_limit<P: Pricer>(
     }
     let priced = pricer.price(aim.car, aim.node, aim.prices, limit, desk);
     let given = given_at(alloc, pricer, aim, desk)?;
-    note_limited(kept, limit, priced, tally);
-    note_given(kept.worth, priced, given, tally);
+    note_limited(listed, limit, priced, tally);
+    note_given(listed.worth, priced, given, tally);
     Ok(())
 }
 
@@ -117,7 +120,7 @@ fn compare_whole<P: Pricer>(
     alloc: Global,
     pricer: &P,
     aim: &Aim,
-    kept: Kept,
+    listed: Listed,
     desk: &mut P::Desk,
     tally: &mut Counts,
 ) -> Result<u64, AllocError>
@@ -130,8 +133,8 @@ fn compare_whole<P: Pricer>(
 {
     let priced = pricer.price(aim.car, aim.node, aim.prices, FAR, desk);
     let given = given_at(alloc, pricer, aim, desk)?;
-    note_whole(kept.worth, priced, given, tally);
-    note_visits(kept, priced, tally);
+    note_whole(listed.worth, priced, given, tally);
+    note_visits(listed, priced, tally);
     Ok(priced.visits)
 }
 
@@ -154,10 +157,10 @@ pub(crate) fn compare<P: Pricer>(
         tally.least.note(false);
         return Ok(());
     };
-    let kept = Kept::at(alloc, aim, least)?;
-    let visits = compare_whole(alloc, pricer, aim, kept, desk, tally)?;
+    let listed = Listed::at(alloc, aim, least)?;
+    let visits = compare_whole(alloc, pricer, aim, listed, desk, tally)?;
     for limit in [1, 2, visits, visits.saturating_sub(1), FAR] {
-        compare_limit(alloc, pricer, aim, kept, limit, desk, tally)?;
+        compare_limit(alloc, pricer, aim, listed, limit, desk, tally)?;
     }
     Ok(())
 }

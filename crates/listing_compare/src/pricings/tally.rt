@@ -16,7 +16,7 @@ pub(crate) struct Counts {
     pub(crate) least: Checks,
     /// The tour is in the node and has the worth.
     pub(crate) tours: Checks,
-    /// There are no fewer visits than kept partial tours.
+    /// There are no more visits than partial tours that tours of the node begin with.
     pub(crate) visits: Checks,
     /// With a limit, the visits are at most that, and as many exactly where it was reached.
     pub(crate) limits: Checks,
@@ -32,8 +32,8 @@ pub(crate) struct Counts {
     pub(crate) worked: Checks,
     /// All visits of the pricings without a limit.
     pub(crate) all_visits: u64,
-    /// All partial tours that are kept.
-    pub(crate) all_kept: u64,
+    /// All partial tours that tours of the nodes begin with.
+    pub(crate) all_begun: u64,
 }
 
 impl Counts {
@@ -54,7 +54,7 @@ impl Counts {
         ];
         println!(rt; "snapshots {} refused {}", self.snapshots, self.refused)?;
         print_kinds(rt, &kinds)?;
-        println!(rt; "visited {} kept {}", self.all_visits, self.all_kept)?;
+        println!(rt; "visited {} of {}", self.all_visits, self.all_begun)?;
         Ok(are_right(&kinds))
     }
 }

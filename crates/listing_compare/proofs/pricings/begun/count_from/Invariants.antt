@@ -1,7 +1,7 @@
 use Rattle.std.proofs.Common.{◌≡◌, ◌+◌, ◌*◌, ◌-◌, ◌++◌, ◌∷◌, [], length}
 use Rattle.std.specs.Option.{IfSome}
 use Rattle.elevator_model.specs.Partial.{IsLawful}
-use Rattle.listing_compare.proofs.pricings.kept.count_from.Given as goal
+use Rattle.listing_compare.proofs.pricings.begun.count_from.Given as goal
 
 abbrev pub invariant-loop-seen : goal.invariant-loop-seen
 invariant-loop-seen l = record {

@@ -7,7 +7,7 @@ use restricted_master::{Column, MOST_TOURS, Pool};
 use std::alloc::{AllocError, Global};
 
 /// The car's columns. None where there is no such car.
-fn columns_of<'a>(pool: &'a Pool<'_>, car: u32) -> Option<&'a [Column]> {
+pub(crate) fn columns_of<'a>(pool: &'a Pool<'_>, car: u32) -> Option<&'a [Column]> {
     if pool.snapshot().building().cars().len() <= car as usize {
         return None;
     }
@@ -38,7 +38,7 @@ pub(crate) fn note_columns(pool: &Pool<'_>, columns: &mut Checks) {
 }
 
 /// How many cars there are.
-fn cars_of(pool: &Pool<'_>) -> u32 {
+pub(crate) fn cars_of(pool: &Pool<'_>) -> u32 {
     pool.snapshot().building().cars().len() as u32
 }
 
@@ -97,7 +97,7 @@ pub(crate) fn least_cost(alloc: Global, pool: &Pool<'_>) -> Result<Option<u64>, 
     Ok(least)
 }
 
-fn has_tour(pool: &Pool<'_>, car: u32, tour: &Tour) -> bool {
+pub(crate) fn has_tour(pool: &Pool<'_>, car: u32, tour: &Tour) -> bool {
     for place in 0..MOST_TOURS {
         if pool.tour(car, place) == Some(tour) {
             return true;

@@ -3,9 +3,10 @@
 ghost use Rattle.std.specs.Prelude.{◌≡◌, ◌<◌, ◌≤◌, length};
 ghost use Rattle.elevator_model.specs.Snapshot.{call_count};
 
-use crate::pools::fills::{fill, prices_of};
-use crate::pools::listing::{is_pooled, least_cost, note_columns, selections, ways};
-use crate::pools::tally::Counts;
+use crate::fills::{fill, prices_of};
+use crate::listing::{is_pooled, least_cost, note_columns, selections, ways};
+use crate::pairs::compare_pairs;
+use crate::tally::Counts;
 use call_state::Snapshot;
 use case_kit::{draws_of_case, plan_price};
 use case_maker::make;
@@ -94,59 +95,65 @@ pub(crate) fn selected(
     pool.select(alloc, prices, target, limit)
 }
 
-/// Selects any plan with this limit, and compares the choice.
-fn compare_any(
-    alloc: Global,
-    pool: &Pool<'_>,
-    prices: &[Price],
-    target: u64,
-    limit: u64,
-    known: Known,
-    tally: &mut Counts,
-) -> Result<(), AllocError>
-    requires prices { length prices.now ≡ call_count pool.now.snapshot }
-    requires limit { 0 < limit }
-{
-    let choice = selected(alloc, pool, prices, target, limit)?;
-    note_choice(pool, known, limit, &choice, tally);
-    Ok(())
+/// What is asked of a pool: any cheapest plan, or one that costs less than the target.
+#[derive(Clone, Copy)]
+enum Asked {
+    Any,
+    Below,
 }
 
-/// Selects a plan below the target with this limit, and compares the choice.
-fn compare_below(
-    alloc: Global,
-    pool: &Pool<'_>,
-    prices: &[Price],
-    target: u64,
-    limit: u64,
-    known: Known,
-    tally: &mut Counts,
-) -> Result<(), AllocError>
-    requires prices { length prices.now ≡ call_count pool.now.snapshot }
-    requires limit { 0 < limit }
-{
-    let choice = pool.select_below(alloc, prices, target, limit)?;
-    note_below(pool, known, target, &choice, tally);
-    Ok(())
-}
-
-/// Selects with this limit, any plan and one below the target, and compares the choices.
-fn compare_limit(
-    alloc: Global,
-    pool: &Pool<'_>,
-    prices: &[Price],
-    target: u64,
-    limit: u64,
-    known: Known,
-    tally: &mut Counts,
-) -> Result<(), AllocError>
-    requires { length prices.now ≡ call_count pool.now.snapshot }
-{
-    if limit == 0 {
-        return Ok(());
+impl Asked {
+    fn choice(
+        self,
+        alloc: Global,
+        pool: &Pool<'_>,
+        prices: &[Price],
+        target: u64,
+        limit: u64,
+    ) -> Result<Choice, AllocError>
+        requires prices { length prices.now ≡ call_count pool.now.snapshot }
+        requires limit { 1 ≤ limit }
+    {
+        match self {
+            Asked::Any => selected(alloc, pool, prices, target, limit),
+            Asked::Below => pool.select_below(alloc, prices, target, limit),
+        }
     }
-    compare_any(alloc, pool, prices, target, limit, known, tally)?;
-    compare_below(alloc, pool, prices, target, limit, known, tally)
+}
+
+/// What a choice is compared with: what is known of the pool, the target and the limit.
+#[derive(Clone, Copy)]
+struct Trial {
+    known: Known,
+    target: u64,
+    limit: u64,
+}
+
+impl Trial {
+    fn note(&self, asked: Asked, pool: &Pool<'_>, choice: &Choice, tally: &mut Counts) {
+        match asked {
+            Asked::Any => note_choice(pool, self.known, self.limit, choice, tally),
+            Asked::Below => note_below(pool, self.known, self.target, choice, tally),
+        }
+    }
+
+    /// Asks with this limit, where it is one, and compares the choice.
+    fn compare(
+        &self,
+        alloc: Global,
+        asked: Asked,
+        pool: &Pool<'_>,
+        prices: &[Price],
+        tally: &mut Counts,
+    ) -> Result<(), AllocError>
+        requires { length prices.now ≡ call_count pool.now.snapshot }
+    {
+        if self.limit > 0 {
+            let choice = asked.choice(alloc, pool, prices, self.target, self.limit)?;
+            self.note(asked, pool, &choice, tally);
+        }
+        Ok(())
+    }
 }
 
 /// Selects at these prices with several limits, and compares the choices.
@@ -172,7 +179,13 @@ fn compare_limits(
         u64::from(draws.pick(30)),
         u64::from(draws.pick(400)),
     ] {
-        compare_limit(alloc, pool, prices, target, limit, known, tally)?;
+        let trial = Trial {
+            known,
+            target,
+            limit,
+        };
+        trial.compare(alloc, Asked::Any, pool, prices, tally)?;
+        trial.compare(alloc, Asked::Below, pool, prices, tally)?;
     }
     Ok(())
 }
@@ -189,7 +202,8 @@ fn compare_pool(
     if prices.len() != calls {
         return Ok(());
     }
-    compare_limits(alloc, pool, &prices, draws, tally)
+    compare_limits(alloc, pool, &prices, draws, tally)?;
+    compare_pairs(alloc, pool, &prices, &mut tally.pairs)
 }
 
 /// Compares a choice from a large pool, and one that was made with a low limit.

@@ -4,11 +4,18 @@
 //! The first car takes a call up for 9500. The second one takes the two calls down for 14000 each, and then
 //! the other call up for 23500: 61000 together. Where both cars first take a call up and then one down, that
 //! costs the first one 9500 and 18500, and the second one 13500 and 22500: 64000 together.
+//!
+//! In halves: the first car takes call 0 up for 9500, or call 1 up and then call 2 down for 28000. The second
+//! one takes calls 0 and 1 up for 14000 each and then call 3 down for 23500, or calls 2 and 3 down for 14000
+//! each. No two of these tours are a plan, and all four are a plan in halves, for 117000. With the second
+//! car's tour that takes call 0 up and then call 3 down, for 36000, there is a plan for 64000, which is more
+//! twice over.
 
-use crate::pools::fills::{offer, tours_of};
-use crate::pools::listing::count_of;
-use crate::pools::runs::{found_cost, selected};
-use crate::pools::tally::Counts;
+use crate::fills::{offer, tours_of};
+use crate::listing::count_of;
+use crate::pairs::is_least;
+use crate::runs::{found_cost, selected};
+use crate::tally::Counts;
 use call_state::Snapshot;
 use case_kit::{WORKED_CASE, snapshot_in, tour_in};
 use elevator_model::Tour;
@@ -63,6 +70,30 @@ fn compare_costs(alloc: Global, pool: &mut Pool<'_>, tally: &mut Counts) {
     checks.note(offer_text(alloc, pool, 0, "0:0 2"));
     checks.note(is_selected(alloc, pool, Some(61_000)));
     checks.note(is_first_spent(alloc, pool));
+}
+
+/// Whether the cheapest plan in halves has this cost, at prices of 0.
+fn is_paired(alloc: Global, pool: &Pool<'_>, due: u64) -> bool {
+    match Price::new(0) {
+        Some(price) if pool.snapshot().calls().len() == 4 => {
+            is_least(alloc, pool, &[price; 4], due)
+        }
+        _ => false,
+    }
+}
+
+/// Puts tours in of which there is a plan in halves that is cheaper than any plan twice over.
+fn compare_halves(alloc: Global, pool: &mut Pool<'_>, tally: &mut Counts) {
+    let checks = &mut tally.worked;
+    checks.note(offer_text(alloc, pool, 0, "0:0 2"));
+    checks.note(offer_text(alloc, pool, 0, "0:1 2:2 0"));
+    checks.note(offer_text(alloc, pool, 1, "0:01 2:3 0"));
+    checks.note(offer_text(alloc, pool, 1, "2:23 0"));
+    checks.note(is_selected(alloc, pool, None));
+    checks.note(is_paired(alloc, pool, 117_000));
+    checks.note(offer_text(alloc, pool, 1, "0:0 2:3 0"));
+    checks.note(is_selected(alloc, pool, Some(64_000)));
+    checks.note(is_paired(alloc, pool, 117_000));
 }
 
 /// Whether the place has this tour of the first car.
@@ -122,6 +153,7 @@ enum Part {
     Costs,
     Order,
     Kept,
+    Halves,
 }
 
 impl Part {
@@ -135,6 +167,7 @@ impl Part {
             Part::Costs => compare_costs(alloc, pool, tally),
             Part::Order => compare_order(alloc, pool, tally),
             Part::Kept => return compare_kept(alloc, pool, tally),
+            Part::Halves => compare_halves(alloc, pool, tally),
         }
         Ok(())
     }
@@ -156,7 +189,7 @@ fn compare_snapshot(
     snapshot: &Snapshot,
     tally: &mut Counts,
 ) -> Result<(), AllocError> {
-    for part in [Part::Costs, Part::Order, Part::Kept] {
+    for part in [Part::Costs, Part::Order, Part::Kept, Part::Halves] {
         part.compare_new(alloc, snapshot, tally)?;
     }
     Ok(())
