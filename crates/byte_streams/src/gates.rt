@@ -1,10 +1,41 @@
-//! A place where work can be watched or slowed before a job begins.
+//! A place where work can be watched, or slowed before a job begins.
 
-/// Told of each job before it begins. It returns always and tells nothing, so no answer depends on
-/// it.
+/// Where a search stands.
+#[derive(Clone, Copy)]
+pub struct SearchState {
+    /// How many rounds were done.
+    pub rounds: u64,
+    /// How many nodes may still hold a cheaper plan.
+    pub open_nodes: u64,
+    /// The cost of the cheapest plan that was found, in cost units.
+    pub cost: u64,
+    /// No feasible plan costs less than this many cost units.
+    pub bound: u64,
+}
+
+/// How far work has come.
+#[derive(Clone, Copy)]
+pub enum Progress {
+    /// A search begins, with its start plan.
+    Begins(SearchState),
+    /// A round of a search was done.
+    Goes(SearchState),
+    /// A search has ended.
+    Ends(SearchState),
+    /// Pricings were made at once, which visited so many partial tours.
+    Priced(u64),
+    /// So many rows of a day were done, refused ones too.
+    Rows(u32),
+}
+
+/// Told of each job before it begins, and of how far the work has come. It returns always and tells
+/// nothing, so no answer depends on it.
 pub trait Gate {
     /// Lets the job with this number begin.
     fn enter(&self, job: u32);
+
+    /// Takes note of how far the work has come.
+    fn tell(&self, _progress: Progress) {}
 }
 
 /// A gate that does nothing.

@@ -1,4 +1,5 @@
-//! Where bytes come from and where they go: sources, sinks, and the gate that jobs pass.
+//! Where bytes come from and where they go: sources, sinks, and the gate that jobs pass, which is told how
+//! far the work has come.
 //!
 //! `Source` and `Sink` are traits with what is left or taken, where that is told, and a count of faults that
 //! never falls; `Gate` is one too. There are sources and sinks in memory (that can fail, or cannot) and over
@@ -17,7 +18,7 @@ mod sinks;
 mod sources;
 
 pub use adapters::{StdSink, StdSource};
-pub use gates::{Gate, OpenGate};
+pub use gates::{Gate, OpenGate, Progress, SearchState};
 pub use memory::{MemorySink, MemorySource, SureSink, SureSource};
 pub use sinks::{Sink, SinkFault, put_all};
 pub use sources::{Source, SourceFault, read_full};
