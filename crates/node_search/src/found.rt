@@ -25,7 +25,7 @@ use crate::root::{MOST_TURNS, Root};
 use crate::search::Search;
 use crate::steps::{note_turns, split};
 use assign_branch::{Pricer, Tree};
-use byte_streams::Gate;
+use byte_streams::{Gate, Progress};
 use call_state::Snapshot;
 use elevator_model::{MOST_CALLS, Plan};
 use price_steps::Steps;
@@ -287,6 +287,7 @@ fn turned<'a, P: Pricer, R: Threads + Sync, G: Gate + Sync>(
 {
     prove!(snapshot.calls().len() <= MOST_CALLS);
     let mut root = Root::new(runtime.alloc, snapshot, start, sheet)?;
+    runtime.gate.tell(Progress::Begins(root.state()));
     root.turn_as_due(runtime, pricer, limits.rounds, limits.most_tours, desks)?;
     Ok(root)
 }
@@ -315,9 +316,11 @@ fn find_at<P: Pricer, R: Threads + Sync, G: Gate + Sync>(
 {
     let root = turned(runtime, snapshot, pricer, start, sheet, limits, desks)?;
     if !root.is_open() {
+        runtime.gate.tell(Progress::Ends(root.state()));
         return close(runtime.alloc, pricer, root, limits);
     }
     let begun = go_on(runtime, pricer, root, limits, desks)?;
+    runtime.gate.tell(Progress::Ends(begun.search.state()));
     end(runtime.alloc, pricer, begun, limits)
 }
 
@@ -329,8 +332,8 @@ fn find_at<P: Pricer, R: Threads + Sync, G: Gate + Sync>(
 /// Then rounds each price a few leaves of the tree, which are split in time, until cost and bound are the
 /// same, as many rounds were done as `limits` allows, or nothing is left to split. Where the last two come
 /// together, the reason is that nothing is left: `Moves`. Each price and each worth of the tree lies in its
-/// range. `workers` is 1 to 16, and `gate` is told of each pricing before it begins. It fails only where
-/// there is no memory left.
+/// range. `workers` is 1 to 16, and `gate` is told of each pricing before it begins, and of how far the search
+/// has come. It fails only where there is no memory left.
 pub fn find_plan<P: Pricer, R: Threads + Sync, G: Gate + Sync>(
     runtime: &Runtime<R, G>,
     snapshot: &Snapshot,

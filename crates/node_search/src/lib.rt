@@ -12,7 +12,7 @@
 //!   (`IsFound` of `search_model`). And why it ended: solved, the rounds used up, or a car with as many
 //!   partial tours as the limit in a node in which each call has one car left; where that holds of the last
 //!   state and nothing is left to price, it is the car, also where the rounds are used up (`HasReason`). It
-//!   states no claims.
+//!   states no claims. The gate is told how far the search has come; no answer depends on it.
 //!
 //! # How it goes
 //!
@@ -34,6 +34,7 @@ mod root;
 mod rounds;
 mod search;
 mod steps;
+mod telling;
 
 pub(crate) use best::Best;
 pub use found::{Found, Limits, find_plan};

@@ -12,7 +12,7 @@ ghost use Rattle.node_search.specs.Found.{HasDueTurns};
 
 use crate::best::Best;
 use assign_branch::{Pricer, root as root_node};
-use byte_streams::Gate;
+use byte_streams::{Gate, Progress};
 use call_state::Snapshot;
 use elevator_model::Plan;
 use price_scale::Price;
@@ -218,6 +218,7 @@ impl<'a> Root<'a> {
     {
         let cars = self.price(runtime, pricer, most_tours, desks)?;
         self.take(runtime.alloc, pricer, most_tours, cars)?;
+        runtime.gate.tell(Progress::Goes(self.state()));
         Ok(())
     }
 

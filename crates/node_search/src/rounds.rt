@@ -10,7 +10,7 @@ use crate::choosing::chosen;
 use crate::search::Search;
 use crate::steps::next_prices;
 use assign_branch::Pricer;
-use byte_streams::Gate;
+use byte_streams::{Gate, Progress};
 use price_scale::Price;
 use pricing_rounds::{Task, price_nodes};
 use search_model::TurnOf;
@@ -201,6 +201,7 @@ impl<'a> Search<'a> {
             if !self.round(runtime, pricer, most_tours, desks)? {
                 break;
             }
+            runtime.gate.tell(Progress::Goes(self.state()));
         }
         Ok(())
     }

@@ -8,7 +8,7 @@ ghost use Rattle.pricing_rounds.specs.Rounds.{AreAnswersOf, IsRound, IsTaskOf};
 use crate::drawing::{drawing_order, in_places};
 use crate::tasks::Task;
 use assign_branch::Pricer;
-use byte_streams::Gate;
+use byte_streams::{Gate, Progress};
 use search_model::TurnOf;
 use std::alloc::{AllocError, Global};
 use std::marker::Sync;
@@ -60,6 +60,15 @@ impl<'a, P: Pricer> Jobs for Round<'a, P> {
     }
 }
 
+/// How many partial tours the pricings visited.
+fn visits_of(priced: &[TurnOf]) -> u64 {
+    let mut visits = 0u64;
+    for turn in priced {
+        visits = visits.saturating_add(turn.priced.visits);
+    }
+    visits
+}
+
 /// Prices every car at each of the nodes, with one worker for each desk: at `i * cars + c` stands the pricing
 /// of car `c` at the node of task `i`, of at most `most_tours` partial tours, and the tour that it gave.
 ///
@@ -67,8 +76,8 @@ impl<'a, P: Pricer> Jobs for Round<'a, P> {
 /// answers. It only says which pricings are drawn first, and may be of any length.
 ///
 /// It needs at most four tasks and 1 to 16 desks of the pricer, which are its own afterwards too, also where
-/// memory ran out. `gate` is told of each pricing before it begins. It fails only where there is no memory
-/// left.
+/// memory ran out. `gate` is told of each pricing before it begins, and after the last one how many partial tours
+/// were visited. It fails only where there is no memory left.
 pub fn price_nodes<P: Pricer, R: Threads + Sync, G: Gate + Sync>(
     runtime: &Runtime<R, G>,
     pricer: &P,
@@ -100,5 +109,6 @@ pub fn price_nodes<P: Pricer, R: Threads + Sync, G: Gate + Sync>(
         alloc: runtime.alloc,
     };
     let drawn = fan(runtime.threads, runtime.alloc, &round, desks, runtime.gate)?;
+    runtime.gate.tell(Progress::Priced(visits_of(&drawn)));
     in_places(runtime.alloc, count, &order, drawn)
 }
