@@ -37,7 +37,7 @@ use Rattle.pricing_bound.specs.LowerLemmas.{nobody_carried}
 use Rattle.pricing_bound.specs.Standing.{IsStanding, course_standing, placed_reached, standing_move}
 use Rattle.forced_route.specs.ForcedRoute.{RouteLaw, bound_from, boards_from, cost_if_boarded, cost_on_route, forced_stops, halted, least_ride, may_still_board, opens_at, part_if_boarded, route_bound, route_start}
 use Rattle.forced_route.specs.Moves.{IsTimed, boarding, is_known, leaving, moves_keep, moves_stand, timed_reached}
-use Rattle.forced_route.specs.Completions.{Completes, Rode}
+use Rattle.forced_route.specs.Completions.{CanEnd, Completes, Rode}
 use Rattle.forced_route.specs.RouteTimes.{call_rides, delivers_late, ends_first}
 
 -- ---- each rider
@@ -210,7 +210,38 @@ coming_moves (Idle floor free) coming = absurd (false≢true coming)
 coming_moves (Coming floor arrives) coming = refl
 coming_moves (Moving from up left) coming = refl
 
--- a car that comes to a floor makes its first stop there
+-- the first stop of a car that comes to a floor is there
+pub record FirstStop (s : Snapshot) (c : ℕ) (x next : Course) : Type 0 where
+  pub there : reached s c next ≡ halted s c (reached s c x) (reached s c x).floor
+  pub still : (j : ℕ) → may_still_board x j ≡ true
+  pub still_next : (j : ℕ) → may_still_board next j ≡ true
+
+no_stop : (s : Snapshot) (c j : ℕ) (before : Progress) (present : Option Stop) → (progress_after s c before present).begun ≡ false → list_all (λ i. ltb i j) (boards_of present) ≡ true
+no_stop s c j before None e = refl
+no_stop s c j before (Some stop) e = absurd (false≢true (sym e))
+
+-- a car that comes to a floor makes its first move there
+pub first_stop : (s : Snapshot) (c : ℕ) (x : Course) (m : Move) (y : Course) → IsStanding s c x → has_leg s c (reached s c x) ≡ false → move_on s c x m ≡ Some y → FirstStop s c x y
+first_stop s c x (Leave g) y h leg leads =
+    let r = reached s c x in
+    let at = leave_leads_to s c x g y leads in
+    let parts = no_leg r.begun (is_coming (state_of s c)) leg in
+    let first = not-false (may_stop_first s.building c s.moment (state_of s c) g) (sym (ap (λ (b : Bool). not b && not (may_stop_first s.building c s.moment (state_of s c) g)) parts.0) ∙ (stands_empty s c r g at.1).first) in
+    let floor = comes_to s c g (state_of s c) parts.1 first ∙ sym ((placed_reached s c x h).first parts.0) in
+    record {
+      there = leaving s c x g y leads ∙ ap (halted s c r) floor;
+      still = λ j. no_stop s c j x.before x.present parts.0;
+      still_next = λ j. ap (λ (w : Course). may_still_board w j) at.2;
+    }
+first_stop s c x (Board j) y h leg leads =
+    let at = boarding s c x j y h leads in
+    let parts = no_leg (reached s c x).begun (is_coming (state_of s c)) leg in
+    absurd (both_ways (reached s c x).begun parts.0 (ap (λ (q : Progress). q.begun) at.old))
+first_stop s c x End y h leg leads =
+    let parts = no_leg (reached s c x).begun (is_coming (state_of s c)) leg in
+    absurd (ends_first s c x y leads parts.0 (coming_moves (state_of s c) parts.1))
+
+-- and completes its tour from there
 pub record StopsFirst (s : Snapshot) (c : ℕ) (x : Course) (later : List Move) (z : Course) : Type 0 where
   pub next : Course
   pub rest : List Move
@@ -220,40 +251,23 @@ pub record StopsFirst (s : Snapshot) (c : ℕ) (x : Course) (later : List Move) 
   pub still_next : (j : ℕ) → may_still_board next j ≡ true
   pub completes : Completes s c next rest z
 
-no_stop : (s : Snapshot) (c j : ℕ) (before : Progress) (present : Option Stop) → (progress_after s c before present).begun ≡ false → list_all (λ i. ltb i j) (boards_of present) ≡ true
-no_stop s c j before None e = refl
-no_stop s c j before (Some stop) e = absurd (false≢true (sym e))
-
 pub stops_first : (s : Snapshot) (c : ℕ) (x : Course) (later : List Move) (z : Course) → IsStanding s c x → x.ended ≡ false → has_leg s c (reached s c x) ≡ false → Completes s c x later z → StopsFirst s c x later z
 stops_first s c x [] z h open_end leg goes =
     let leads = goes.leads in
     let same : x ≡ z = cc in
     absurd (both_ways x.ended open_end (ap (λ (w : Course). w.ended) same ∙ goes.ended))
-stops_first s c x (Leave g ∷ later) z h open_end leg goes =
-    let r = reached s c x in
-    let one = leads_on s c x (Leave g) later z goes.leads in
-    let at = leave_leads_to s c x g one.next one.first in
-    let parts = no_leg r.begun (is_coming (state_of s c)) leg in
-    let first = not-false (may_stop_first s.building c s.moment (state_of s c) g) (sym (ap (λ (b : Bool). not b && not (may_stop_first s.building c s.moment (state_of s c) g)) parts.0) ∙ (stands_empty s c r g at.1).first) in
-    let floor = comes_to s c g (state_of s c) parts.1 first ∙ sym ((placed_reached s c x h).first parts.0) in
+stops_first s c x (m ∷ later) z h open_end leg goes =
+    let one = leads_on s c x m later z goes.leads in
+    let first = first_stop s c x m one.next h leg one.first in
     record {
       next = one.next;
       rest = later;
-      standing = standing_move s c x (Leave g) one.next h one.first;
-      there = leaving s c x g one.next one.first ∙ ap (halted s c r) floor;
-      still = λ j. no_stop s c j x.before x.present parts.0;
-      still_next = λ j. ap (λ (w : Course). may_still_board w j) at.2;
+      standing = standing_move s c x m one.next h one.first;
+      there = first.there;
+      still = first.still;
+      still_next = first.still_next;
       completes = record { leads = one.later; ended = goes.ended; empty = goes.empty };
     }
-stops_first s c x (Board j ∷ later) z h open_end leg goes =
-    let one = leads_on s c x (Board j) later z goes.leads in
-    let at = boarding s c x j one.next h one.first in
-    let parts = no_leg (reached s c x).begun (is_coming (state_of s c)) leg in
-    absurd (both_ways (reached s c x).begun parts.0 (ap (λ (q : Progress). q.begun) at.old))
-stops_first s c x (End ∷ later) z h open_end leg goes =
-    let one = leads_on s c x End later z goes.leads in
-    let parts = no_leg (reached s c x).begun (is_coming (state_of s c)) leg in
-    absurd (ends_first s c x one.next one.first parts.0 (coming_moves (state_of s c) parts.1))
 
 -- the bound reads of the calls that may still board only whether they may
 pub still_same : (s : Snapshot) (c : ℕ) (price : ℕ → ℤ) (allowed required : ℕ → Bool) (t u : ℕ → Bool) (p : Progress) → ((j : ℕ) → t j ≡ u j) → bound_from s c price allowed required t p ≡ bound_from s c price allowed required u p
@@ -294,6 +308,14 @@ tour_completes s c moves x tour leads begins feasible =
     let over = (IsSound-moves s c (course_start s c) (moves_of s tour) end (IsSound-start s c) whole).over refl in
     let empty = nobody_carried (not end.before.begun && not (is_idle (state_of s c))) (any_below (rider_count s) end.before.carried) over in
     record { leads = later; ended = refl; empty = λ r lt. any_below-false (rider_count s) end.before.carried r empty lt }
+
+-- so the partial tour can end
+pub tour_can_end : (s : Snapshot) (c : ℕ) (moves : List Move) (x : Course) (tour : List Stop) → course_of s c moves ≡ Some x → BeginsWith s tour moves → IsFeasible s c tour → CanEnd s c x
+tour_can_end s c moves x tour leads begins feasible = record {
+  later = begins.0;
+  last = ended_at (map (risen s) tour) (after_stops s c (start_of s c) tour);
+  completes = tour_completes s c moves x tour leads begins feasible;
+}
 
 pub tour_paid : (s : Snapshot) (c : ℕ) (price : ℕ → ℤ) (tour : List Stop) → int_sum_where (call_count s) (after_stops s c (start_of s c) tour).boarded price ≡ prices_of_tour s price tour
 tour_paid s c price tour =

@@ -282,7 +282,7 @@ shut_leaves s c up b j x g y at leads shut =
     let forth = leg_forth up at.route.floor at.next r.floor g at.on.place way in
     elim shut [ inl past ↦ elim (cases_Bool (eqb g r.floor)) [ inl e ↦ subst (λ (k : ℕ). IsBeyond up (call_of s j).origin k) (sym (eqb-true g r.floor e)) past | inr e ↦ beyond_on up (call_of s j).origin r.floor g past (forth (eqb-false g r.floor e)) ] | inr held ↦ subst (λ (k : ℕ). IsBeyond up k g) held.floor (forth (elsewhere s c r g held.begun stands)) ]
 
-all_more : (p : ℕ → Bool) (xs : List ℕ) (i : ℕ) → list_all p xs ≡ false → list_all p (xs ++ i ∷ []) ≡ false
+pub all_more : (p : ℕ → Bool) (xs : List ℕ) (i : ℕ) → list_all p xs ≡ false → list_all p (xs ++ i ∷ []) ≡ false
 all_more p [] i h = absurd (false≢true (sym h))
 all_more p (x ∷ xs) i h =
     elim (and_cases (p x) (list_all p xs) h) [ inl e ↦ and_left (p x) (list_all p (xs ++ i ∷ [])) e | inr e ↦ and_right (p x) (list_all p (xs ++ i ∷ [])) (all_more p xs i e) ]
@@ -328,7 +328,7 @@ passed_by_here : (s : Snapshot) (c j : ℕ) (up : Bool) (b : ℕ) (x y : Course)
 passed_by_here s c j up b x y at now =
     elim at [ inl passed ↦ passed_here s c j b x y passed now | inr out ↦ absurd (shut_boards s c j up x y out.shut now) ]
 
-has_stopped : (s : Snapshot) (c j : ℕ) (before : Progress) (present : Option Stop) → list_all (λ k. ltb k j) (boards_of present) ≡ false → (progress_after s c before present).begun ≡ true
+pub has_stopped : (s : Snapshot) (c j : ℕ) (before : Progress) (present : Option Stop) → list_all (λ k. ltb k j) (boards_of present) ≡ false → (progress_after s c before present).begun ≡ true
 has_stopped s c j before None h = absurd (false≢true (sym h))
 has_stopped s c j before (Some stop) h = refl
 

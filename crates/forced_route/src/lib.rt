@@ -12,6 +12,8 @@
 //! - `turns_law`: the same with what turns add (`specs/Turns.antt`), for any list of calls that begin away
 //!   from the route's floors, are of different queues, and stand by gains that fall. Which calls are listed
 //!   is free, so a search may leave some out.
+//! - `growing_law`: a move makes no call board sooner along the route, where some tour goes on after it
+//!   (`specs/GrowingRoute.antt`). So a call that adds nothing need not be looked at after later moves.
 //!
 //! `specs/WorkedRoutes.antt` has worked cases: routes, the moments along them, and bounds.
 //!
@@ -38,6 +40,7 @@
 #![tactic(auto)]
 
 ghost use Rattle.forced_route.specs.ForcedRoute.{EndedRouteLaw, RouteLaw};
+ghost use Rattle.forced_route.specs.GrowingRoute.{GrowingLaw};
 ghost use Rattle.forced_route.specs.Turns.{TurnsLaw};
 
 /// A law: the bound along the forced route is at most the value of each feasible tour that begins with the
@@ -54,4 +57,9 @@ pub fn ended_route_law()
 /// A law: the bound holds, too, with what calls at floors of their own add that take turns.
 pub fn turns_law()
     ensures { TurnsLaw }
+{}
+
+/// A law: a move makes no call board sooner, where some tour goes on after it.
+pub fn growing_law()
+    ensures { GrowingLaw }
 {}

@@ -2,7 +2,7 @@
 use Rattle.std.specs.Prelude.{◌≡◌, ℕ, ◌≤◌, ℤ, ◌≤ℤ◌, List, length, Bool, true, false, Some}
 use Rattle.elevator_model.specs.declared.Move.{Move}
 use Rattle.elevator_model.specs.declared.Stop.{Stop}
-use Rattle.elevator_model.specs.Snapshot.{Snapshot, IsAccepted, call_count}
+use Rattle.elevator_model.specs.Snapshot.{Snapshot, IsAccepted}
 use Rattle.elevator_model.specs.Partial.{Course, course_of, course_start}
 use Rattle.search_model.specs.declared.Priced.{Priced}
 use Rattle.search_model.specs.Nodes.{Node, IsTourWithin, IsTourIn, allows, requires_of}
@@ -14,7 +14,7 @@ use Rattle.assign_branch.specs.Pricings.{Pricing, IsWorthSize}
 use Rattle.partial_tours.specs.PartialTour.{PartialTour}
 use Rattle.pricing_bound.specs.Aims.{Aim, value_for, IsBoundSize}
 use Rattle.pricing_bound.specs.Rates.{Rated}
-use Rattle.route_sums.specs.CallRates.{RouteRated}
+use Rattle.route_sums.specs.CallRates.{HasRoomFor, RouteRated}
 use Rattle.pricing_search.specs.Walks.{IsFoundTour}
 
 -- a tour was found
@@ -49,7 +49,7 @@ pub record IsDeskOf (s : Snapshot) (prefix : PartialTour) (rates : Rated) (route
   pub accepted : IsAccepted s
   pub prefix_is : prefix.snapshot ≡ s
   pub rates_are : rates.snapshot ≡ s
-  pub route_rates_fit : length route_rates.rates ≡ call_count s
+  pub route_rates_fit : HasRoomFor s route_rates
   pub held : has_priced ≡ true → (p : Pricing) × HoldsPricing s found has_priced p
 
 -- ---- pricings

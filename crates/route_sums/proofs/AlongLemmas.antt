@@ -38,7 +38,7 @@ added_low s c price required t u newest q stand p h same =
 -- ---- no stop is left
 
 -- the stand's floors ahead are those of the progress
-none_ahead : (s : Snapshot) (c : ℕ) (up : Bool) (newest : Option Newest) (q : Progress) (stand : Stand) (p : Progress) → IsStand s c newest q stand p → ((g : ℕ) → IsBeyond up stand.place.floor g → has stand.bound_for g ≡ false) → forced_stops s up p ≡ []
+pub none_ahead : (s : Snapshot) (c : ℕ) (up : Bool) (newest : Option Newest) (q : Progress) (stand : Stand) (p : Progress) → IsStand s c newest q stand p → ((g : ℕ) → IsBeyond up stand.place.floor g → has stand.bound_for g ≡ false) → forced_stops s up p ≡ []
 none_ahead s c up newest q stand p h none =
     no_stop_left s up p (λ g beyond. sym (h.bound_for g) ∙ none g (subst (λ (f : ℕ). IsBeyond up f g) (sym h.place.floor) beyond))
 
@@ -58,7 +58,7 @@ pub record IsNextStop (up : Bool) (stand : Stand) (f : ℕ) : Type 0 where
   pub ahead : IsBeyond up stand.place.floor f
   pub nearest : (g : ℕ) → IsBeyond up stand.place.floor g → IsBeyond up g f → has stand.bound_for g ≡ false
 
-stops_from : (s : Snapshot) (c : ℕ) (up : Bool) (newest : Option Newest) (q : Progress) (stand : Stand) (p : Progress) (f : ℕ) → IsAccepted s → IsStand s c newest q stand p → IsNextStop up stand f → forced_stops s up p ≡ f ∷ forced_stops s up (halted s c p f)
+pub stops_from : (s : Snapshot) (c : ℕ) (up : Bool) (newest : Option Newest) (q : Progress) (stand : Stand) (p : Progress) (f : ℕ) → IsAccepted s → IsStand s c newest q stand p → IsNextStop up stand f → forced_stops s up p ≡ f ∷ forced_stops s up (halted s c p f)
 stops_from s c up newest q stand p f a h next =
     next_stop_is s c up p f a (sym (h.bound_for f) ∙ next.goes) (subst (λ (k : ℕ). IsBeyond up k f) h.place.floor next.ahead) (λ g beyond before. sym (h.bound_for g) ∙ next.nearest g (subst (λ (k : ℕ). IsBeyond up k g) (sym h.place.floor) beyond) before)
 

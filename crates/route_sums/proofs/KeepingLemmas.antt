@@ -20,19 +20,21 @@ use Rattle.pricing_bound.specs.Aims.{Aim, value_for}
 use Rattle.pricing_bound.specs.Costs.{int_sum_one_off}
 use Rattle.pricing_bound.specs.GrowthLemmas.{Boards, no_boards, paid_here}
 use Rattle.pricing_bound.specs.Standing.{IsStanding}
+use Rattle.forced_route.specs.Completions.{CanEnd}
 use Rattle.forced_route.specs.ForcedRoute.{bound_from, may_still_board, route_bound_for, route_start}
 use Rattle.forced_route.specs.Moves.{boarding, ending, leaving}
 use Rattle.forced_route.specs.EndedRoute.{ended_is_value}
-use Rattle.forced_route.specs.LowerRoute.{route_is_lower, still_same}
+use Rattle.forced_route.specs.LowerRoute.{route_is_lower, still_same, tour_can_end}
 use Rattle.tour_bounds.specs.Undercutting.{UndercutsNone}
 
 through : (u v w : ℤ) → u ≤ℤ v → v ≤ℤ w → u ≤ℤ w
 through u v w h k = omega (arith, ints, h, k)
 
--- No tour has a value below what the bound along the forced route is not below.
-pub undercuts : (a : Aim) (value : ℤ) (x : Course) → value ≤ℤ route_bound_for a x → UndercutsNone a value x
+-- No tour has a value below what the bound along the forced route is not below, as far as some tour goes on.
+pub undercuts : (a : Aim) (value : ℤ) (x : Course) → (CanEnd a.snapshot a.car x → value ≤ℤ route_bound_for a x) → UndercutsNone a value x
 undercuts a value x low moves accepted car leads tour begins within =
-    through value (route_bound_for a x) (value_for a tour) low (route_is_lower a moves x tour accepted car leads begins within)
+    let can = tour_can_end a.snapshot a.car moves x tour leads begins within.feasible in
+    through value (route_bound_for a x) (value_for a tour) (low can) (route_is_lower a moves x tour accepted car leads begins within)
 
 -- ---- where the tour goes on
 
@@ -65,10 +67,15 @@ last_more (b ∷ bs) j k rises =
     let parts = and_parts (ltb b j) (list_all (λ i. ltb i j) bs) rises in
     ap (λ (x : Bool). ltb b k && x) (last_more bs j k parts.1) ∙ elim (cases_Bool (ltb j k)) [ inl e ↦ (let lt = ltb-true b j parts.0 in let more = ltb-true j k e in ap (λ (x : Bool). x && ltb j k) (lt-ltb b k (omega (arith, lt, more)))) | inr e ↦ and_right (ltb b k) (ltb j k) e ∙ sym e ]
 
+-- who may still board after a board
+pub still_board : (s : Snapshot) (c : ℕ) (x : Course) (j : ℕ) (y : Course) → IsStanding s c x → move_on s c x (Board j) ≡ Some y → (k : ℕ) → may_still_board y k ≡ is_after (Some j) k
+still_board s c x j y standing leads k =
+    let at = boarding s c x j y standing leads in
+    ap (λ (o : Option Stop). list_all (λ i. ltb i k) (boards_of o)) at.now ∙ last_more at.stop.boards j k at.rises
+
 pub lower_board : (a : Aim) (v : ℤ) (x : Course) (j : ℕ) (y : Course) → IsStanding a.snapshot a.car x → move_on a.snapshot a.car x (Board j) ≡ Some y → v ≤ℤ bound_from a.snapshot a.car a.price a.allowed a.required (is_after (Some j)) (route_start a.snapshot a.car (reached a.snapshot a.car y)) → v ≤ℤ route_bound_for a y
 lower_board a v x j y standing leads low =
-    let at = boarding a.snapshot a.car x j y standing leads in
-    lower_goes a v (is_after (Some j)) y at.open_end (λ k. ap (λ (o : Option Stop). list_all (λ i. ltb i k) (boards_of o)) at.now ∙ last_more at.stop.boards j k at.rises) low
+    lower_goes a v (is_after (Some j)) y (boarding a.snapshot a.car x j y standing leads).open_end (still_board a.snapshot a.car x j y standing leads) low
 
 -- ---- the prices of the calls that boarded
 

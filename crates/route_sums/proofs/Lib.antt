@@ -2,8 +2,10 @@ mod AlongLemmas
 mod CallRateLemmas
 mod FilterLemmas
 mod GatherLemmas
+mod IdleLemmas
 mod KeepingLemmas
 mod LeavingLemmas
+mod OriginLemmas
 mod RouteLemmas
 mod SizeLemmas
 mod StandLemmas

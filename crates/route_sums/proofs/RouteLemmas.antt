@@ -13,6 +13,7 @@ use Rattle.search_model.proofs.SumLemmas.{int_sum-add, int_sum-same}
 use Rattle.partial_tours.specs.Courses.{any_goes_to}
 use Rattle.pricing_bound.specs.Costs.{sum_one_off}
 use Rattle.forced_route.specs.OnRoute.{goer}
+use Rattle.route_sums.specs.declared.stands.Stand.{Stand}
 
 elsewhere : (a : Bool) (f g : ℕ) → (g ≡ f → ⊥) → a ≡ (a && not (eqb g f))
 elsewhere a f g ne = sym (ap (λ (b : Bool). a && not b) (ne_eqb g f ne) ∙ and_true a)
@@ -31,6 +32,14 @@ above_some s p set f is here lt =
 pub above_none : (s : Snapshot) (p : Progress) (set : ℕ) → ((g : ℕ) → has set g ≡ any_goes_to s p g) → ((g : ℕ) → p.floor < g → has set g ≡ false) → any_above s p ≡ false
 above_none s p set is none =
     false_from_ne_true (any_above s p) (λ e. let one = any_below-true (rider_count s) (goes_above s p) e in let parts = and_parts (p.carried one.0) (ltb p.floor (destination_of s one.0)) one.2 in let there = any_below-at (rider_count s) (gets_off s p (destination_of s one.0)) one.0 one.1 (and_from (p.carried one.0) (eqb (destination_of s one.0) (destination_of s one.0)) parts.0 (eq-eqb (destination_of s one.0) (destination_of s one.0) refl)) in both_ways (has set (destination_of s one.0)) (none (destination_of s one.0) (ltb-true p.floor (destination_of s one.0) parts.1)) (is (destination_of s one.0) ∙ there))
+
+-- the way of the route, as the code finds it
+pub route_way : (s : Snapshot) (p : Progress) (stand : Stand) (up : Bool) → ((g : ℕ) → has stand.bound_for g ≡ any_goes_to s p g) → stand.place.floor ≡ p.floor → (up ≡ true → (g : ℕ) × (has stand.bound_for g ≡ true) × (stand.place.floor < g)) → (up ≡ false → (g : ℕ) → stand.place.floor < g → has stand.bound_for g ≡ false) → up ≡ any_above s p
+route_way s p stand true is at some none =
+    let one = some refl in
+    let below = one.2 in
+    sym (above_some s p stand.bound_for one.0 is one.1 (omega (arith, at, below)))
+route_way s p stand false is at some none = sym (above_none s p stand.bound_for is (λ g lt. none refl g (omega (arith, at, lt))))
 
 -- a set without a member has fewer
 pub fewer : (set new f : ℕ) → ((g : ℕ) → has new g ≡ (has set g && not (eqb g f))) → has set f ≡ true → f < 64 → sum_where 64 (has new) (λ _. 1) < sum_where 64 (has set) (λ _. 1)

@@ -2,10 +2,13 @@
 use Rattle.std.specs.Prelude.{◌≡◌, ◌≤◌, ◌<◌, ℕ, ◌+◌, ◌-◌, ◌*◌, ℤ, pos, Bool, List, length, slice_index_or}
 use Rattle.elevator_model.specs.Snapshot.{Snapshot, call_count, call_of}
 use Rattle.forced_route.specs.ForcedRoute.{cost_if_boarded, part_if_boarded}
+use Rattle.route_sums.specs.Origins.{AreOrigins}
 use Rattle.route_sums.specs.declared.rates.CallRate.{CallRate}
 
--- what a contract sees of laid out rates
+-- what a contract sees of laid out rates: the calls that go up, those that begin below each floor, and the rates
 pub record RouteRated : Type 0 where
+  pub upward : ℕ
+  pub below : List ℕ
   pub rates : List CallRate
 
 -- what the call costs at the rate that boards at the moment m
@@ -15,6 +18,7 @@ cost_at rate m = (rate.wait * (m - rate.released) + rate.over * (m - rate.late))
 -- the rate is that of call j for car c at a price
 pub record IsCallRate (s : Snapshot) (c j : ℕ) (price : ℤ) (required : Bool) (rate : CallRate) : Type 0 where
   pub origin : rate.origin ≡ (call_of s j).origin
+  pub binds : rate.is_required ≡ required
   pub cost : (m : ℕ) → cost_at rate m ≡ cost_if_boarded s c j m
   pub wait : rate.wait ≤ 8000
   pub over : rate.over ≤ 8000
@@ -26,3 +30,13 @@ pub record IsCallRate (s : Snapshot) (c j : ℕ) (price : ℤ) (required : Bool)
 pub record AreCallRates (s : Snapshot) (c : ℕ) (prices : ℕ → ℤ) (required : ℕ → Bool) (rates : List CallRate) : Type 0 where
   pub size : length rates ≡ call_count s
   pub each : (j : ℕ) (d : CallRate) → j < call_count s → IsCallRate s c j (prices j) (required j) (slice_index_or rates j d)
+
+-- there is room for the rates of the calls of the snapshot, whose origins are laid out
+pub record HasRoomFor (s : Snapshot) (laid : RouteRated) : Type 0 where
+  pub origins : AreOrigins s laid.upward laid.below
+  pub size : length laid.rates ≡ call_count s
+
+-- the calls are laid out for car c at these prices
+pub record IsLaidOut (s : Snapshot) (c : ℕ) (prices : ℕ → ℤ) (required : ℕ → Bool) (laid : RouteRated) : Type 0 where
+  pub origins : AreOrigins s laid.upward laid.below
+  pub rates : AreCallRates s c prices required laid.rates

@@ -1,4 +1,6 @@
 pub mod CallRates
 pub mod Gathering
+pub mod Idle
 pub mod Keeping
+pub mod Origins
 pub mod Stands

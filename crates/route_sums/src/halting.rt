@@ -89,19 +89,29 @@ fn with_stop(place: &CarPlace, floor: u32, ending: CallSet) -> CarPlace
 }
 
 impl Stand {
-    /// The earliest moment at which the doors can be open at a floor.
-    pub(crate) fn next_open(&self, snapshot: &Snapshot, car: u32, floor: u32) -> u64
-        requires car { car < car_count snapshot.now }
+    /// The moment at which the doors could be open at a next stop, if there were no way to it.
+    pub(crate) fn ready(&self, snapshot: &Snapshot, car: u32) -> u64
+        requires { car < car_count snapshot.now }
+        ensures value { result ≡ self.now.leaves + (spec_of snapshot.now car).opening }
+        ensures early { result ≤ 99000060000 }
+    {
+        self.leaves + riding::opening_of(snapshot, car)
+    }
+
+    /// The earliest moment at which the doors can be open at a floor, from when the car is ready.
+    pub(crate) fn next_open(&self, snapshot: &Snapshot, ready: u64, floor: u32) -> u64
+        requires ready { ready ≤ 99000060000 }
         requires from { self.now.place.floor < floor_count snapshot.now.building }
         requires to { floor < floor_count snapshot.now.building }
-        ensures value { result ≡ soonest snapshot.now car self.now floor }
+        ensures value { (car : ℕ) → ready ≡ self.now.leaves + (spec_of snapshot.now car).opening
+            → result ≡ soonest snapshot.now car self.now floor }
         ensures early { result ≤ LATEST }
     {
         if self.place.begun && floor == self.place.floor {
             return self.opened;
         }
         let way = snapshot.building().travel().time(self.place.floor, floor);
-        (self.leaves + way + riding::opening_of(snapshot, car)).min(LATEST)
+        (ready + way).min(LATEST)
     }
 
     /// After a stop at a floor where nobody boards.

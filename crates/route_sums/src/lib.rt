@@ -14,14 +14,20 @@
 //! what is settled at the end is what is settled now and what those carried cost. On each leg the calls are
 //! added that can board there (`specs/Gathering.antt`), and at the end the others.
 //!
-//! What each call costs by the moment at which it boards is laid out once for a car and its prices
-//! (`RouteRates`), with a moment from which on it adds nothing.
+//! Which way the calls go and below which floors they begin is laid out as sets, once for a snapshot
+//! (`RouteRates`), so that the calls of a leg are found without a look at each of them; so is what each call
+//! costs by the moment at which it boards, for a car and its prices, with a moment from which on it adds
+//! nothing.
+//!
+//! A call that adds nothing is not looked at again after later moves (`specs/Idle.antt`): where some tour goes
+//! on, no move makes it board sooner (`forced_route::growing_law`), and only then its value has to be a bound.
 //!
 //! Moments and costs are cut at limits that no tour reaches: a value that is too low is still a bound.
 #![tactic(auto)]
 
 mod halting;
 mod leaving;
+mod origins;
 mod parts;
 mod rates;
 mod route;

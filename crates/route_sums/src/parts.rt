@@ -1,7 +1,7 @@
 //! What calls add that have not boarded, in thousandths of a cost unit.
 
 ghost use Rattle.std.specs.Prelude.{◌≡◌, ℕ, ◌+◌, ◌*◌, ◌^◌, ◌<◌, ◌≤◌, ◌≤ℤ◌, ◌-ℤ◌, pos, neg_ℤ, true, length};
-ghost use Rattle.std.specs.Prelude.{if◌then◌else◌, int_lt};
+ghost use Rattle.std.specs.Prelude.{if◌then◌else◌, int_lt, ◌&&◌, ◌==◌, not};
 ghost use Rattle.call_sets.specs.Counting.{has};
 ghost use Rattle.elevator_model.specs.Building.{floor_count};
 ghost use Rattle.elevator_model.specs.Snapshot.{call_count, call_of, car_count};
@@ -10,8 +10,9 @@ ghost use Rattle.forced_route.specs.ForcedRoute.{part_if_boarded};
 ghost use Rattle.price_scale.specs.Scale.{IsPrice};
 ghost use Rattle.search_model.specs.Prices.{price_at};
 ghost use Rattle.search_model.specs.Sums.{int_sum_where};
-ghost use Rattle.route_sums.specs.CallRates.{AreCallRates, IsCallRate};
+ghost use Rattle.route_sums.specs.CallRates.{IsCallRate, IsLaidOut};
 ghost use Rattle.route_sums.specs.Gathering.{highest, lowest};
+ghost use Rattle.route_sums.specs.Idle.{adds as adds_lem};
 ghost use Rattle.route_sums.specs.Stands.{soonest};
 
 use crate::rates::{CallRate, RouteRates};
@@ -35,7 +36,7 @@ pub struct RouteSums<'a, 'r, 'p> {
     ghost known: { car < car_count snapshot.now },
     ghost priced: { length prices.now ≡ call_count snapshot.now },
     ghost worth: { (j : ℕ) → IsPrice (price_at prices.now j) },
-    ghost laid: { AreCallRates snapshot.now car (price_at prices.now) (has required) rates.now.rates },
+    ghost laid: { IsLaidOut snapshot.now car (price_at prices.now) (has required) rates.now },
     ghost within: { (j : ℕ) → has allowed j ≡ true → j < call_count snapshot.now },
 }
 
@@ -49,6 +50,27 @@ fn counted(term: i128, is_required: bool) -> i128
     ensures high { result ≤ℤ pos (2 * 10 ^ 24) }
 {
     if is_required { term } else { term.min(0) }
+}
+
+/// Whether what a call adds is not nothing.
+fn adds(part: i128) -> bool
+    ensures { result ≡ adds_lem part }
+{
+    part < 0 || 0 < part
+}
+
+/// The set, and without the call where it fails.
+fn without_if(set: CallSet, call: u32, fails: bool) -> CallSet
+    ensures { (j : ℕ) → has result j ≡ (has set j && not ((j == call) && fails)) }
+{
+    if fails { set.without(call) } else { set }
+}
+
+/// What calls add, in thousandths of a cost unit, and those of them that add something.
+#[derive(Clone, Copy)]
+pub(crate) struct Gathered {
+    pub(crate) added: i128,
+    pub(crate) waiting: CallSet,
 }
 
 impl<'a, 'r, 'p> RouteSums<'a, 'r, 'p> {
@@ -83,27 +105,39 @@ impl<'a, 'r, 'p> RouteSums<'a, 'r, 'p> {
         if boarded >= rate.enough {
             return 0;
         }
-        counted(rate.term(boarded), self.required.contains(call))
+        counted(rate.term(boarded), rate.is_required)
     }
 
     /// What calls add that board as soon as the doors can be open from this stand.
-    pub(crate) fn parts(&self, stand: &Stand, calls: CallSet) -> i128
+    pub(crate) fn parts(&self, stand: &Stand, calls: CallSet) -> Gathered
         requires from { stand.now.place.floor < floor_count self.now.snapshot.now.building }
         requires within { (j : ℕ) → has calls j ≡ true → j < call_count self.now.snapshot.now }
-        ensures sum { result ≡ int_sum_where (call_count self.now.snapshot.now) (has calls)
+        ensures sum { result.added ≡ int_sum_where (call_count self.now.snapshot.now) (has calls)
             (λ j. part_if_boarded self.now.snapshot.now self.now.car (price_at self.now.prices.now)
             (has self.now.required) j
             (soonest self.now.snapshot.now self.now.car stand.now (call_of self.now.snapshot.now j).origin)) }
-        ensures low { int_sum_where (call_count self.now.snapshot.now) (has calls) lowest ≤ℤ result }
-        ensures high { result ≤ℤ int_sum_where (call_count self.now.snapshot.now) (has calls) highest }
+        ensures low { int_sum_where (call_count self.now.snapshot.now) (has calls) lowest ≤ℤ result.added }
+        ensures high { result.added ≤ℤ int_sum_where (call_count self.now.snapshot.now) (has calls) highest }
+        ensures waiting { (j : ℕ) → has result.waiting j ≡ (has calls j
+            && adds_lem (part_if_boarded self.now.snapshot.now self.now.car (price_at self.now.prices.now)
+            (has self.now.required) j
+            (soonest self.now.snapshot.now self.now.car stand.now
+            (call_of self.now.snapshot.now j).origin))) }
     {
         // For the proof: the snapshot is accepted.
         let _calls = self.snapshot.calls();
+        let ready = stand.ready(self.snapshot, self.car);
         let mut sum = 0;
+        let mut waiting = calls;
         for call in calls.iter() {
-            let boarded = stand.next_open(self.snapshot, self.car, self.rate(call).origin);
-            sum += self.part(call, boarded);
+            let boarded = stand.next_open(self.snapshot, ready, self.rate(call).origin);
+            let added = self.part(call, boarded);
+            sum += added;
+            waiting = without_if(waiting, call, !adds(added));
         }
-        sum
+        Gathered {
+            added: sum,
+            waiting,
+        }
     }
 }

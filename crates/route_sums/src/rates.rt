@@ -7,8 +7,10 @@ ghost use Rattle.elevator_model.specs.Snapshot.{call_count, car_count};
 ghost use Rattle.forced_route.specs.ForcedRoute.{least_ride as least_ride_lem};
 ghost use Rattle.price_scale.specs.Scale.{IsPrice};
 ghost use Rattle.search_model.specs.Prices.{price_at, scaled as scaled_lem};
-ghost use Rattle.route_sums.specs.CallRates.{AreCallRates, IsCallRate, RouteRated, cost_at};
+ghost use Rattle.route_sums.specs.CallRates.{AreCallRates, HasRoomFor, IsCallRate, IsLaidOut};
+ghost use Rattle.route_sums.specs.CallRates.{cost_at};
 
+use crate::origins::{below_table, upward_calls};
 use crate::stands::LATEST;
 use call_sets::CallSet;
 use call_state::Snapshot;
@@ -23,6 +25,8 @@ use std::marker::Model;
 pub(crate) struct CallRate {
     /// The floor where it begins.
     pub(crate) origin: u32,
+    /// Whether a tour has to board it.
+    pub(crate) is_required: bool,
     released: u64,
     /// The moment at which its patience ends.
     late: u64,
@@ -131,6 +135,7 @@ fn rate_of(snapshot: &Snapshot, car: u32, call: u32, price: i128, is_required: b
     let ride = persons * building.travel_weight() * least_ride(snapshot, car, call);
     CallRate {
         origin: rider.origin,
+        is_required,
         released: rider.released,
         late: rider.released + building.patience(),
         wait,
@@ -184,6 +189,7 @@ fn no_rates(alloc: Global, calls: usize) -> Result<Vec<CallRate>, AllocError>
     for j in 0..calls {
         rates.push(CallRate {
             origin: 0,
+            is_required: false,
             released: 0,
             late: 0,
             wait: 0,
@@ -196,9 +202,14 @@ fn no_rates(alloc: Global, calls: usize) -> Result<Vec<CallRate>, AllocError>
     Ok(rates)
 }
 
-/// The rates of the calls of a snapshot for one car and its prices. All memory is taken when they are made.
+/// The calls of a snapshot by way and origin, and their rates for one car and its prices. All memory is taken
+/// when it is made.
 #[derive(Drop)]
 pub struct RouteRates {
+    /// The calls that go up.
+    upward: CallSet,
+    /// For each floor up to one above the highest the calls that begin below it.
+    below: Vec<CallSet>,
     rates: Vec<CallRate>,
 }
 
@@ -207,26 +218,36 @@ impl Model for RouteRates {
 
     ghost Value = { RouteRated };
 
-    ghost view = { λ r. record { rates = r.rates.items } };
+    ghost view = { λ r. record {
+      upward = r.upward;
+      below = r.below.items;
+      rates = r.rates.items;
+    } };
 }
 
 impl RouteRates {
-    /// Room for the rates of the calls of a snapshot. The only error is that memory runs out.
+    /// Lays out the origins of the calls of a snapshot, and takes room for their rates. The only error is that
+    /// memory runs out.
     pub fn new(alloc: Global, snapshot: &Snapshot) -> Result<Self, AllocError>
-        ensures { IfOk result (λ it. length it.rates ≡ call_count snapshot.now) }
+        ensures { IfOk result (λ it. HasRoomFor snapshot.now it) }
     {
+        let upward = upward_calls(snapshot);
+        let below = below_table(alloc, snapshot)?;
+        let rates = no_rates(alloc, snapshot.calls().len())?;
         Ok(RouteRates {
-            rates: no_rates(alloc, snapshot.calls().len())?,
+            upward,
+            below,
+            rates,
         })
     }
 
     /// Takes a car, a price for each call in their order, and the calls that it has to board. It takes no
     /// memory.
     pub fn lay_out(&mut self, snapshot: &Snapshot, car: u32, prices: &[Price], required: CallSet)
-        requires size { length self.old.rates ≡ call_count snapshot.now }
+        requires room { HasRoomFor snapshot.now self.old }
         requires car { car < car_count snapshot.now }
         requires prices { length prices.now ≡ call_count snapshot.now }
-        ensures { AreCallRates snapshot.now car (price_at prices.now) (has required) self.new.rates }
+        ensures { IsLaidOut snapshot.now car (price_at prices.now) (has required) self.new }
     {
         // For the proof: the snapshot is accepted, so it has at most 128 calls.
         let _calls = snapshot.calls();
@@ -239,5 +260,20 @@ impl RouteRates {
         ensures { result.now ≡ slice_index_or self.now.rates call result.now }
     {
         &self.rates[call as usize]
+    }
+
+    /// The calls that go up.
+    pub(crate) fn upward(&self) -> CallSet
+        ensures { result ≡ self.now.upward }
+    {
+        self.upward
+    }
+
+    /// The calls that begin below a floor.
+    pub(crate) fn below(&self, floor: u32) -> CallSet
+        requires { floor < length self.now.below }
+        ensures { result ≡ slice_index_or self.now.below floor result }
+    {
+        self.below[floor as usize]
     }
 }

@@ -1,15 +1,15 @@
 //! The forced route, and what it gathers.
 
-ghost use Rattle.std.specs.Prelude.{◌≡◌, ℕ, ◌*◌, ◌^◌, ◌<◌, ◌≤◌, ◌≤ℤ◌, ◌+ℤ◌, ◌-ℤ◌, ◌&&◌, ◌||◌, ◌==◌};
+ghost use Rattle.std.specs.Prelude.{◌≡◌, ℕ, ◌*◌, ◌^◌, ◌<◌, ◌≤◌, ◌≤ℤ◌, ◌+ℤ◌, ◌-ℤ◌, ◌&&◌};
 ghost use Rattle.std.specs.Prelude.{ℤ, pos, neg_ℤ, not, true, false};
-ghost use Rattle.std.specs.Prelude.{MatchOption, Some, nat_lt};
+ghost use Rattle.std.specs.Prelude.{MatchOption, Some};
 ghost use Rattle.call_sets.specs.Counting.{has};
 ghost use Rattle.elevator_model.specs.Costs.{settled_cost};
 ghost use Rattle.elevator_model.specs.Partial.{Course};
-ghost use Rattle.elevator_model.specs.Snapshot.{Snapshot as SnapshotValue, call_count, call_of};
+ghost use Rattle.elevator_model.specs.Snapshot.{call_count, call_of};
 ghost use Rattle.elevator_model.specs.Tours.{Progress, has_leg as has_leg_lem};
-ghost use Rattle.forced_route.specs.ForcedRoute.{bound_from, forced_stops, is_before as is_before_lem};
-ghost use Rattle.forced_route.specs.ForcedRoute.{rides_along as rides_along_lem};
+ghost use Rattle.forced_route.specs.ForcedRoute.{bound_from, forced_stops, is_before};
+ghost use Rattle.forced_route.specs.ForcedRoute.{part_if_boarded, rides_along};
 ghost use Rattle.forced_route.specs.ForcedRoute.{route_end, route_start as route_start_lem};
 ghost use Rattle.partial_tours.specs.Courses.{is_after, reached};
 ghost use Rattle.partial_tours.specs.PartialTour.{course};
@@ -18,12 +18,12 @@ ghost use Rattle.pricing_bound.specs.Aims.{IsBoundSize};
 ghost use Rattle.search_model.specs.Prices.{price_at, scaled as scaled_lem};
 ghost use Rattle.search_model.specs.Sums.{int_sum_where};
 ghost use Rattle.route_sums.specs.Gathering.{gathered, highest, lowest};
+ghost use Rattle.route_sums.specs.Idle.{AreIdleBut, boards_along};
 ghost use Rattle.route_sums.specs.Stands.{IsStand, StandsFor};
 
 use crate::parts::RouteSums;
 use crate::stands::{Newest, Stand};
 use call_sets::{CallSet, FloorSet};
-use call_state::Call;
 use elevator_model::MOST_CALLS;
 use partial_tours::Prefix;
 use price_scale::scaled;
@@ -47,42 +47,6 @@ fn next_stop(stops: FloorSet, upward: bool, floor: u32) -> Option<u32>
     }
 }
 
-/// The set, and the call in it where it passes.
-fn with_if(set: CallSet, call: u32, passes: bool) -> CallSet
-    requires { call < 128 }
-    ensures { (j : ℕ) → has result j ≡ (has set j || ((j == call) && passes)) }
-{
-    if passes { set.with(call) } else { set }
-}
-
-/// Whether a floor lies on the way from one floor on, before another.
-fn is_before(upward: bool, from: u32, to: u32, floor: u32) -> bool
-    ensures { result ≡ is_before_lem upward from to floor }
-{
-    if upward {
-        from <= floor && floor < to
-    } else {
-        floor <= from && to < floor
-    }
-}
-
-/// Whether a call can board on the way from a floor, where calls after the last index may still board.
-fn rides_along(call: &Call, upward: bool, floor: u32, last: Option<u32>, index: u32) -> bool
-    ensures { (s : SnapshotValue) (p : Progress) → call.now ≡ call_of s index → floor ≡ p.floor
-        → result ≡ rides_along_lem s upward p (is_after last) index }
-{
-    if call.is_upward() != upward {
-        return false;
-    }
-    if call.origin != floor {
-        return true;
-    }
-    match last {
-        None => true,
-        Some(last) => index > last,
-    }
-}
-
 /// What was found at the end of a forced route.
 #[derive(Clone, Copy)]
 pub(crate) struct Found {
@@ -90,6 +54,16 @@ pub(crate) struct Found {
     pub(crate) settled: u64,
     /// What the calls add that have not boarded, in thousandths of a cost unit.
     pub(crate) added: i128,
+    /// The calls that add something.
+    pub(crate) waiting: CallSet,
+}
+
+/// A value that the bound along the forced route is not below, in thousandths of a cost unit, and the calls
+/// that may add something after further moves.
+#[derive(Clone, Copy)]
+pub(crate) struct RouteValue {
+    pub(crate) value: i128,
+    pub(crate) waiting: CallSet,
 }
 
 /// How a car goes on its forced route.
@@ -103,24 +77,26 @@ pub(crate) struct Way {
 impl<'a, 'r, 'p> RouteSums<'a, 'r, 'p> {
     /// Those of the calls that begin on the way from one floor on, before another.
     fn calls_before(&self, upward: bool, from: u32, to: u32, calls: CallSet) -> CallSet
+        requires from { from < 64 }
+        requires to { to < 64 }
         requires within { (j : ℕ) → has calls j ≡ true → j < call_count self.now.snapshot.now }
         ensures { (j : ℕ) → has result j ≡ (has calls j
-            && is_before_lem upward from to (call_of self.now.snapshot.now j).origin) }
+            && is_before upward from to (call_of self.now.snapshot.now j).origin) }
     {
-        let all = self.snapshot.calls();
-        let mut boards = CallSet::empty();
-        for call in calls.iter() {
-            let passes = is_before(upward, from, to, all[call as usize].origin);
-            boards = with_if(boards, call, passes);
+        if upward {
+            self.between(from, to, calls)
+        } else {
+            self.between(to + 1, from + 1, calls)
         }
-        boards
     }
 
     /// The calls of the rest that board on the leg from one floor to another.
     fn boards_before(&self, way: &Way, from: u32, to: u32, rest: CallSet) -> CallSet
+        requires from { from < 64 }
+        requires to { to < 64 }
         requires within { (j : ℕ) → has rest j ≡ true → j < call_count self.now.snapshot.now }
         ensures { (j : ℕ) → has result j ≡ (has rest j && (has way.now.along j
-            && is_before_lem way.now.upward from to (call_of self.now.snapshot.now j).origin)) }
+            && is_before way.now.upward from to (call_of self.now.snapshot.now j).origin)) }
     {
         self.calls_before(way.upward, from, to, rest.intersection(way.along))
     }
@@ -130,15 +106,13 @@ impl<'a, 'r, 'p> RouteSums<'a, 'r, 'p> {
     fn riding_along(&self, at: &Stand, upward: bool, last: Option<u32>, rest: CallSet) -> CallSet
         requires within { (j : ℕ) → has rest j ≡ true → j < call_count self.now.snapshot.now }
         ensures { (p : Progress) → at.now.place.floor ≡ p.floor → (j : ℕ) → has result j
-            ≡ (has rest j && rides_along_lem self.now.snapshot.now upward p (is_after last) j) }
+            ≡ (has rest j && rides_along self.now.snapshot.now upward p (is_after last) j) }
     {
-        let all = self.snapshot.calls();
-        let mut along = CallSet::empty();
-        for call in rest.iter() {
-            let passes = rides_along(&all[call as usize], upward, at.place.floor, last, call);
-            along = with_if(along, call, passes);
+        let way = self.going(upward, rest);
+        match last {
+            None => way,
+            Some(last) => self.not_passed(at.place.floor, last, way),
         }
-        along
     }
 
     /// What is found from a stand on, where these calls have not boarded.
@@ -170,22 +144,39 @@ impl<'a, 'r, 'p> RouteSums<'a, 'r, 'p> {
         ensures low { int_sum_where (call_count self.now.snapshot.now) (has rest) lowest ≤ℤ result.added }
         ensures high { result.added ≤ℤ int_sum_where (call_count self.now.snapshot.now) (has rest) highest }
         ensures small { result.settled ≤ 10 ^ 18 }
+        ensures within { (j : ℕ) → has result.waiting j ≡ true → has rest j ≡ true }
+        ensures idle { (x : Course) (p : Progress) → course prefix.now ≡ Some x
+            → IsStand prefix.now.snapshot prefix.now.car newest
+            (reached prefix.now.snapshot prefix.now.car x) at.now p
+            → (j : ℕ) → has rest j ≡ true → has result.waiting j ≡ false
+            → pos 0 ≤ℤ part_if_boarded prefix.now.snapshot prefix.now.car (price_at self.now.prices.now)
+            (has self.now.required) j (boards_along prefix.now.snapshot prefix.now.car (has way.now.along)
+            way.now.upward p (forced_stops prefix.now.snapshot way.now.upward p) j) }
     {
         // For the proof: the snapshot is accepted.
         prove!(self.snapshot.calls().len() <= MOST_CALLS);
         let Some(floor) = next_stop(at.bound_for, way.upward, at.place.floor) else {
+            let last = self.parts(at, rest);
             return Found {
                 settled: at.settled,
-                added: self.parts(at, rest),
+                added: last.added,
+                waiting: last.waiting,
             };
         };
         let boards = self.boards_before(way, at.place.floor, floor, rest);
-        let added = self.parts(at, boards);
-        let next = at.halted(prefix, newest, floor);
-        let later = self.along_route(prefix, newest, &next, way, rest.minus(boards));
+        let here = self.parts(at, boards);
+        let after = rest.minus(boards);
+        let later = self.along_route(
+            prefix,
+            newest,
+            &at.halted(prefix, newest, floor),
+            way,
+            after,
+        );
         Found {
             settled: later.settled,
-            added: added + later.added,
+            added: here.added + later.added,
+            waiting: here.waiting.union(later.waiting),
         }
     }
 
@@ -198,7 +189,7 @@ impl<'a, 'r, 'p> RouteSums<'a, 'r, 'p> {
     }
 
     /// Where the forced route begins: a coming car has to stop first where it comes to.
-    fn route_start(&self, prefix: &Prefix, newest: Option<Newest>, at: &Stand) -> Stand
+    pub(crate) fn route_start(&self, prefix: &Prefix, newest: Option<Newest>, at: &Stand) -> Stand
         requires same { self.now.snapshot.now ≡ prefix.now.snapshot }
         requires car { self.now.car ≡ prefix.now.car }
         requires stands { (p : Progress) × StandsFor prefix.now newest at.now p }
@@ -217,38 +208,52 @@ impl<'a, 'r, 'p> RouteSums<'a, 'r, 'p> {
     }
 
     /// What is found from the start of the forced route on, where calls after the last index may still board.
+    /// Of the allowed calls all but these are idle: the others are not looked at.
     fn found_from(
         &self,
         prefix: &Prefix,
         newest: Option<Newest>,
         start: &Stand,
         last: Option<u32>,
+        waiting: CallSet,
     ) -> Found
         requires same { self.now.snapshot.now ≡ prefix.now.snapshot }
         requires car { self.now.car ≡ prefix.now.car }
         requires stands { (p : Progress) × StandsFor prefix.now newest start.now p }
+        requires allowed { (j : ℕ) → has waiting j ≡ true → has self.now.allowed j ≡ true }
         ensures lower { (x : Course) (p : Progress) (paid : ℤ) → course prefix.now ≡ Some x
             → IsStand prefix.now.snapshot prefix.now.car newest
             (reached prefix.now.snapshot prefix.now.car x) start.now p
             → paid ≡ int_sum_where (call_count prefix.now.snapshot) p.boarded (price_at self.now.prices.now)
+            → AreIdleBut prefix.now.snapshot prefix.now.car (price_at self.now.prices.now)
+            (has self.now.allowed) (has self.now.required) (is_after last) p waiting
             → ((scaled_lem result.settled +ℤ result.added) -ℤ paid)
             ≤ℤ bound_from prefix.now.snapshot prefix.now.car (price_at self.now.prices.now)
             (has self.now.allowed) (has self.now.required) (is_after last) p }
         ensures low { neg_ℤ (pos (256 * 10 ^ 24)) ≤ℤ result.added }
         ensures high { result.added ≤ℤ pos (256 * 10 ^ 24) }
         ensures small { result.settled ≤ 10 ^ 18 }
+        ensures within { (j : ℕ) → has result.waiting j ≡ true → has waiting j ≡ true }
+        ensures idle { (x : Course) (p : Progress) → course prefix.now ≡ Some x
+            → IsStand prefix.now.snapshot prefix.now.car newest
+            (reached prefix.now.snapshot prefix.now.car x) start.now p
+            → AreIdleBut prefix.now.snapshot prefix.now.car (price_at self.now.prices.now)
+            (has self.now.allowed) (has self.now.required) (is_after last) p waiting
+            → AreIdleBut prefix.now.snapshot prefix.now.car (price_at self.now.prices.now)
+            (has self.now.allowed) (has self.now.required) (is_after last) p result.waiting }
     {
         // For the proof: the snapshot is accepted.
         prove!(self.snapshot.calls().len() <= MOST_CALLS);
         let upward = is_above(start.bound_for, start.place.floor);
-        let rest = self.allowed.minus(start.place.boarded);
+        let rest = waiting.minus(start.place.boarded);
         let along = self.riding_along(start, upward, last, rest);
         let way = Way { upward, along };
         self.along_route(prefix, newest, start, &way, rest)
     }
 
-    /// A value that the bound along the forced route is not below, from a stand where the prices of the calls
-    /// that boarded are `paid`, and calls after the last index may still board.
+    /// A value that the bound along the forced route is not below, from its start on, where the prices of the
+    /// calls that boarded are `paid`, and calls after the last index may still board. Of the allowed calls all
+    /// but those that wait are idle.
     pub(crate) fn value_at(
         &self,
         prefix: &Prefix,
@@ -256,23 +261,36 @@ impl<'a, 'r, 'p> RouteSums<'a, 'r, 'p> {
         at: &Stand,
         last: Option<u32>,
         paid: i128,
-    ) -> i128
+        waiting: CallSet,
+    ) -> RouteValue
         requires same { self.now.snapshot.now ≡ prefix.now.snapshot }
         requires car { self.now.car ≡ prefix.now.car }
         requires stands { (p : Progress) × StandsFor prefix.now newest at.now p }
         requires paid { IsPriceSum paid }
+        requires allowed { (j : ℕ) → has waiting j ≡ true → has self.now.allowed j ≡ true }
         ensures value { (x : Course) (p : Progress) → course prefix.now ≡ Some x
             → IsStand prefix.now.snapshot prefix.now.car newest
             (reached prefix.now.snapshot prefix.now.car x) at.now p
             → paid ≡ int_sum_where (call_count prefix.now.snapshot) p.boarded (price_at self.now.prices.now)
-            → result ≤ℤ bound_from prefix.now.snapshot prefix.now.car (price_at self.now.prices.now)
-            (has self.now.allowed) (has self.now.required) (is_after last)
-            (route_start_lem prefix.now.snapshot prefix.now.car p) }
-        ensures size { IsBoundSize result }
+            → AreIdleBut prefix.now.snapshot prefix.now.car (price_at self.now.prices.now)
+            (has self.now.allowed) (has self.now.required) (is_after last) p waiting
+            → result.value ≤ℤ bound_from prefix.now.snapshot prefix.now.car (price_at self.now.prices.now)
+            (has self.now.allowed) (has self.now.required) (is_after last) p }
+        ensures size { IsBoundSize result.value }
+        ensures within { (j : ℕ) → has result.waiting j ≡ true → has waiting j ≡ true }
+        ensures idle { (x : Course) (p : Progress) → course prefix.now ≡ Some x
+            → IsStand prefix.now.snapshot prefix.now.car newest
+            (reached prefix.now.snapshot prefix.now.car x) at.now p
+            → AreIdleBut prefix.now.snapshot prefix.now.car (price_at self.now.prices.now)
+            (has self.now.allowed) (has self.now.required) (is_after last) p waiting
+            → AreIdleBut prefix.now.snapshot prefix.now.car (price_at self.now.prices.now)
+            (has self.now.allowed) (has self.now.required) (is_after last) p result.waiting }
     {
-        let start = self.route_start(prefix, newest, at);
-        let found = self.found_from(prefix, newest, &start, last);
-        value_of(found.settled, found.added, paid)
+        let found = self.found_from(prefix, newest, at, last, waiting);
+        RouteValue {
+            value: value_of(found.settled, found.added, paid),
+            waiting: found.waiting,
+        }
     }
 }
 

@@ -9,7 +9,7 @@ ghost use Rattle.partial_tours.specs.PartialTour.{course, with_move};
 ghost use Rattle.pricing_bound.specs.Aims.{AimsAt, IsBoundSize, IsNextMove};
 ghost use Rattle.price_scale.specs.Scale.{IsPrice, IsPriceSum};
 ghost use Rattle.search_model.specs.Prices.{price_at, scaled as scaled_lem};
-ghost use Rattle.route_sums.specs.CallRates.{AreCallRates};
+ghost use Rattle.route_sums.specs.CallRates.{IsLaidOut};
 ghost use Rattle.route_sums.specs.Keeping.{AreRouteSums, aim_of};
 
 use crate::halting::stand_at;
@@ -33,6 +33,9 @@ pub struct Sums {
     value: i128,
     /// The prices of the calls that boarded, added up.
     paid: i128,
+    /// Of the allowed calls that have not boarded, those that may still add something: the others take nothing
+    /// off the value of any tour that begins with it.
+    waiting: CallSet,
 }
 
 /// Prices added up, with one more.
@@ -68,8 +71,7 @@ impl<'a, 'r, 'p> RouteSums<'a, 'r, 'p> {
         requires car { car < car_count snapshot.now }
         requires prices { length prices.now ≡ call_count snapshot.now }
         requires worth { (j : ℕ) → IsPrice (price_at prices.now j) }
-        requires laid { AreCallRates snapshot.now car (price_at prices.now) (has required)
-            rates.now.rates }
+        requires laid { IsLaidOut snapshot.now car (price_at prices.now) (has required) rates.now }
         requires within { (j : ℕ) → has allowed j ≡ true → j < call_count snapshot.now }
         ensures { aim_of result ≡ record {
           snapshot = snapshot.now;
@@ -105,8 +107,12 @@ impl<'a, 'r, 'p> RouteSums<'a, 'r, 'p> {
             moment: stand.opened,
         };
         let paid = with_price(sums.paid, self.price(call));
-        let value = self.value_at(prefix, Some(newest), &stand, Some(call), paid);
-        Sums { value, paid }
+        let next = self.value_at(prefix, Some(newest), &stand, Some(call), paid, sums.waiting);
+        Sums {
+            value: next.value,
+            paid,
+            waiting: next.waiting,
+        }
     }
 
     /// The sums after the car goes to a stop.
@@ -117,11 +123,14 @@ impl<'a, 'r, 'p> RouteSums<'a, 'r, 'p> {
         ensures { (y : Course) → course (with_move prefix.now (MoveValue.Leave floor)) ≡ Some y
             → AreRouteSums (aim_of self.now) result y }
     {
+        // For the proof: the snapshot is accepted.
+        let _calls = self.snapshot.calls();
         let stand = stand_at(prefix).halted(prefix, None, floor);
-        let value = self.value_at(prefix, None, &stand, None, sums.paid);
+        let next = self.value_at(prefix, None, &stand, None, sums.paid, sums.waiting);
         Sums {
-            value,
+            value: next.value,
             paid: sums.paid,
+            waiting: next.waiting,
         }
     }
 }
@@ -140,9 +149,12 @@ impl<'a, 'r, 'p> TourBound for RouteSums<'a, 'r, 'p> {
 
     fn start(&self, prefix: &Prefix) -> Sums {
         let stand = stand_at(prefix);
+        let start = self.route_start(prefix, None, &stand);
+        let first = self.value_at(prefix, None, &start, None, 0, self.allowed);
         Sums {
-            value: self.value_at(prefix, None, &stand, None, 0),
+            value: first.value,
             paid: 0,
+            waiting: first.waiting,
         }
     }
 
@@ -153,6 +165,7 @@ impl<'a, 'r, 'p> TourBound for RouteSums<'a, 'r, 'p> {
             Move::End => Sums {
                 value: value_of(prefix.settled(), sums.paid),
                 paid: sums.paid,
+                waiting: sums.waiting,
             },
         }
     }

@@ -30,4 +30,4 @@ returns c =
     let ride = product_small (rider.persons * c.travel_weight.result) time 8000 200000000 (omega (arith, rides)) c.least_ride.ensures.short in
     let stored = stored_price c.args.price c.requires.price in
     let enough = subst (λ (z : ℤ). (k : ℕ) → k ≤ 99000000000 → c.enough_of.result ≤ k → (c.args.is_required ≡ false) × (pos 0 ≤ℤ (scaled (rider.persons * c.wait_weight.result * (k - rider.released) + rider.persons * c.travel_weight.result * time) -ℤ z))) stored c.enough_of.ensures in
-    rate_is s c.args.car j b rider _ c.args.price c.args.is_required time c.building-building.ensures.value of_call c.requires.call c.least_ride.ensures.value refl refl (ap (λ (x : ℕ). rider.released + x) c.patience.ensures.value) (ap (λ (x : ℕ). rider.persons * x) wait) (ap (λ (x : ℕ). rider.persons * x) over) (ap (λ (x : ℕ). rider.persons * x * time) travel) (omega (arith, waits)) (omega (arith, overs)) (omega (arith, ride)) stored enough
+    rate_is s c.args.car j b rider _ c.args.price c.args.is_required time c.building-building.ensures.value of_call c.requires.call c.least_ride.ensures.value refl refl (ap (λ (x : ℕ). rider.released + x) c.patience.ensures.value) (ap (λ (x : ℕ). rider.persons * x) wait) (ap (λ (x : ℕ). rider.persons * x) over) (ap (λ (x : ℕ). rider.persons * x * time) travel) (omega (arith, waits)) (omega (arith, overs)) (omega (arith, ride)) stored refl enough

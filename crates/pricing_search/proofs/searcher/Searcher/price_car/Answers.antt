@@ -14,7 +14,7 @@ use Rattle.tour_extension.proofs.NodeDemands.{node_holds}
 use Rattle.pricing_bound.specs.Aims.{Aim, IsBoundSize}
 use Rattle.pricing_bound.specs.Rates.{ArePrices, Rated, aim_at as aim_of_rates}
 use Rattle.tour_bounds.specs.Undercutting.{HasNoneBelow}
-use Rattle.route_sums.specs.CallRates.{AreCallRates}
+use Rattle.route_sums.specs.CallRates.{IsLaidOut}
 use Rattle.route_sums.specs.Keeping.{aim_of}
 use Rattle.pricing_search.proofs.PricedLemmas.{aim_here, aims_same, same_tests, node_aim, told_of_node, bound_of_node, demands_too, priced}
 use Rattle.pricing_search.proofs.searcher.Searcher.price_car.Goals as goal
@@ -22,8 +22,8 @@ use Rattle.pricing_search.proofs.searcher.Searcher.price_car.Goals as goal
 pub lay_out-requires : goal.lay_out-requires
 lay_out-requires c = c.requires.prices ∙ ap call_count (sym c.requires.own.rates_are)
 
-pub lay_out-requires-2-clause-size : goal.lay_out-requires-2-clause-size
-lay_out-requires-2-clause-size c = c.requires.own.route_rates_fit
+pub lay_out-requires-2-clause-room : goal.lay_out-requires-2-clause-room
+lay_out-requires-2-clause-room c = c.requires.own.route_rates_fit
 
 pub least_worth-least-requires-clause-accepted : goal.least_worth-least-requires-clause-accepted
 least_worth-least-requires-clause-accepted c =
@@ -43,7 +43,7 @@ least_worth-least-requires-clause-for_it c =
 pub new-walk_bound-requires-clause-laid : goal.new-walk_bound-requires-clause-laid
 new-walk_bound-requires-clause-laid c =
     let same = same_tests (has c.required-2.result) (has c.required.result) (λ j. c.required-2.ensures j ∙ sym (c.required.ensures j)) in
-    subst (λ (t : ℕ → Bool). AreCallRates c.args.self.now.snapshot.now c.args.car (price_at c.args.prices.now) t c.lay_out-2.new.self.rates) same c.lay_out-2.ensures
+    subst (λ (t : ℕ → Bool). IsLaidOut c.args.self.now.snapshot.now c.args.car (price_at c.args.prices.now) t c.lay_out-2.new.self) same c.lay_out-2.ensures
 
 pub new-walk_bound-requires-clause-worth : goal.new-walk_bound-requires-clause-worth
 new-walk_bound-requires-clause-worth c = subst (λ (r : Rated). ArePrices r) c.lay_out.ensures c.snapshot-priced.ensures.prices
@@ -125,6 +125,6 @@ returns-clause-own c = record {
   accepted = c.requires.own.accepted;
   prefix_is = ap (λ (q : PartialTour). q.snapshot) (c.search.ensures.prefix ∙ c.restart.ensures) ∙ c.requires.own.prefix_is;
   rates_are = ap (λ (r : Rated). r.snapshot) c.lay_out.ensures ∙ c.requires.own.rates_are;
-  route_rates_fit = c.lay_out-2.ensures.size;
+  route_rates_fit = record { origins = c.lay_out-2.ensures.origins; size = c.lay_out-2.ensures.rates.size };
   held = λ e. (record { car = c.args.car; node = c.args.node.now; prices = c.args.prices.now; answer = c.search.result }, (returns-clause-priced c).held);
 }

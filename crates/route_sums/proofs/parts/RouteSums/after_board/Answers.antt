@@ -1,8 +1,12 @@
-use Rattle.std.proofs.Common.{◌<◌, ◌∙◌, refl, ap, sym, subst}
-use Rattle.std.specs.Prelude.{ℤ, ◌+ℤ◌}
+use Rattle.std.proofs.Common.{◌<◌, ◌∙◌, Some, refl, ap, sym, subst}
+use Rattle.std.specs.Prelude.{ℕ, ℤ, ◌+ℤ◌, ◌≤ℤ◌}
 use Rattle.elevator_model.specs.declared.Move.TheVariants.{Board}
 use Rattle.elevator_model.specs.Snapshot.{Snapshot, call_count}
-use Rattle.partial_tours.specs.Courses.{reached}
+use Rattle.elevator_model.specs.Tours.{Progress}
+use Rattle.forced_route.specs.Completions.{CanEnd}
+use Rattle.forced_route.specs.ForcedRoute.{bound_from}
+use Rattle.route_sums.specs.Idle.{AreIdleBut}
+use Rattle.partial_tours.specs.Courses.{is_after, reached}
 use Rattle.partial_tours.specs.PartialTour.{course, with_move}
 use Rattle.partial_tours.proofs.Follow.{is_some_has}
 use Rattle.partial_tours.proofs.Tallied.{board_call}
@@ -11,7 +15,7 @@ use Rattle.price_scale.specs.Scale.{IsPriceSum}
 use mir.Val.{to_z, of_z}
 use mir.Syntax.{w128}
 use Rattle.pricing_bound.proofs.RateLemmas.{stored_in_range, stored_paid, stored_price}
-use Rattle.route_sums.proofs.SumsLemmas.{board_keeps, board_paid_there, board_size, next_leads, stored_low, stored_size}
+use Rattle.route_sums.proofs.SumsLemmas.{board_idle, board_keeps, board_paid_there, board_size, board_starts, next_leads, stored_low, stored_size}
 use Rattle.route_sums.proofs.parts.RouteSums.after_board.Goals as goal
 
 pub with_board-stand-requires : goal.with_board-stand-requires
@@ -30,14 +34,14 @@ price-requires c =
     let there = next_leads a (AreRouteSums a c.args.sums.now) t (Board c.args.call) led.0 c.requires.for_it c.requires.leads led.1 in
     subst (λ (s : Snapshot). c.args.call < call_count s) (sym c.requires.for_it.snapshot) (board_call t.snapshot t.car c.requires.leads.before c.args.call led.0 there)
 
-pub value_at-value-requires-clause-same : goal.value_at-value-requires-clause-same
-value_at-value-requires-clause-same c = c.requires.for_it.snapshot
+pub value_at-next-requires-clause-same : goal.value_at-next-requires-clause-same
+value_at-next-requires-clause-same c = c.requires.for_it.snapshot
 
-pub value_at-value-requires-clause-car : goal.value_at-value-requires-clause-car
-value_at-value-requires-clause-car c = c.requires.for_it.car
+pub value_at-next-requires-clause-car : goal.value_at-next-requires-clause-car
+value_at-next-requires-clause-car c = c.requires.for_it.car
 
-pub value_at-value-requires-clause-stands : goal.value_at-value-requires-clause-stands
-value_at-value-requires-clause-stands c =
+pub value_at-next-requires-clause-stands : goal.value_at-next-requires-clause-stands
+value_at-next-requires-clause-stands c =
     let a = aim_of c.args.self.now in
     let t = c.args.prefix.now in
     let x = c.requires.leads in
@@ -53,8 +57,8 @@ with_price-paid-requires-clause-paid c =
 pub with_price-paid-requires-clause-price : goal.with_price-paid-requires-clause-price
 with_price-paid-requires-clause-price c = stored_in_range c.price.result c.price.ensures.range
 
-pub value_at-value-requires-clause-paid : goal.value_at-value-requires-clause-paid
-value_at-value-requires-clause-paid c =
+pub value_at-next-requires-clause-paid : goal.value_at-next-requires-clause-paid
+value_at-next-requires-clause-paid c =
     let it = c.args.self.now in
     let a = aim_of it in
     let t = c.args.prefix.now in
@@ -64,6 +68,9 @@ value_at-value-requires-clause-paid c =
     let is = c.with_price-paid.ensures ∙ ap (λ (z : ℤ). z +ℤ to_z w128 (of_z w128 c.price.result)) (stored_paid old.paid x.stands_before.paid_size) ∙ ap (λ (z : ℤ). old.paid +ℤ z) (stored_price c.price.result c.price.ensures.range ∙ c.price.ensures.value) in
     let small = board_size a t c.args.call led.0 old c.with_price-paid.result c.calls-calls.ensures.accepted it.known it.worth c.requires.for_it x led.1 is in
     subst IsPriceSum (sym (stored_paid c.with_price-paid.result small)) small
+
+pub value_at-next-requires-clause-allowed : goal.value_at-next-requires-clause-allowed
+value_at-next-requires-clause-allowed c = c.requires.leads.stands_before.allowed
 
 pub returns : goal.returns
 returns c = λ y e.
@@ -78,5 +85,13 @@ returns c = λ y e.
     let is = c.with_price-paid.ensures ∙ ap (λ (z : ℤ). z +ℤ to_z w128 (of_z w128 c.price.result)) (stored_paid old.paid x.stands_before.paid_size) ∙ ap (λ (z : ℤ). old.paid +ℤ z) (stored_price c.price.result c.price.ensures.range ∙ c.price.ensures.value) in
     let small = board_size a t j y old c.with_price-paid.result accepted it.known it.worth c.requires.for_it x e is in
     let paid = stored_paid c.with_price-paid.result small ∙ is in
-    let low = c.value_at-value.ensures.value x.before (reached t.snapshot t.car y) x.leads (c.with_board-stand.ensures.stands x.before y _ x.leads (c.stand_at.ensures.stands x.before x.leads) (c.stand_at.ensures.opened x.before x.leads) refl c.with_board-stand.ensures.opened there) (board_paid_there a t j y old (to_z w128 (of_z w128 c.with_price-paid.result)) accepted it.known c.requires.for_it x e paid) in
-    board_keeps a t j y old _ accepted it.known it.worth c.requires.for_it x e paid (stored_size c.value_at-value.result c.value_at-value.ensures.size) (stored_low c.value_at-value.result _ c.value_at-value.ensures.size low)
+    let q = reached t.snapshot t.car y in
+    let next = c.value_at-next.result in
+    let stand = c.with_board-stand.ensures.stands x.before y _ x.leads (c.stand_at.ensures.stands x.before x.leads) (c.stand_at.ensures.opened x.before x.leads) refl c.with_board-stand.ensures.opened there in
+    let pays = board_paid_there a t j y old (to_z w128 (of_z w128 c.with_price-paid.result)) accepted it.known c.requires.for_it x e paid in
+    let start = board_starts a t j y old accepted it.known c.requires.for_it x e in
+    let AreIdle : ℕ → Progress → Type 0 = λ waiting p. AreIdleBut t.snapshot t.car a.price a.allowed a.required (is_after (Some j)) p waiting in
+    let idle = λ (can : CanEnd a.snapshot a.car y). subst (AreIdle old.waiting) start (board_idle a t j y old accepted it.known c.requires.for_it x e can) in
+    let lower = λ (can : CanEnd a.snapshot a.car y). subst (λ (p : Progress). next.value ≤ℤ bound_from t.snapshot t.car a.price a.allowed a.required (is_after (Some j)) p) (sym start) (c.value_at-next.ensures.value x.before q x.leads stand pays (idle can)) in
+    let still_idle = λ (can : CanEnd a.snapshot a.car y). subst (AreIdle next.waiting) (sym start) (c.value_at-next.ensures.idle x.before q x.leads stand (idle can)) in
+    board_keeps a t j y old _ accepted it.known it.worth c.requires.for_it x e paid (stored_size next.value c.value_at-next.ensures.size) (λ can. stored_low next.value _ c.value_at-next.ensures.size (lower can)) still_idle c.value_at-next.ensures.within

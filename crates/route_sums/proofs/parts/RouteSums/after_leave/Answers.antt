@@ -7,7 +7,7 @@ use Rattle.partial_tours.proofs.Follow.{is_some_has, leave_leads_to, stands_in}
 use Rattle.price_scale.specs.Scale.{IsPriceSum}
 use Rattle.pricing_bound.proofs.RateLemmas.{stored_paid}
 use Rattle.route_sums.specs.Keeping.{AreRouteSums, aim_of}
-use Rattle.route_sums.proofs.SumsLemmas.{leave_keeps, leave_paid, next_leads, stored_low, stored_size}
+use Rattle.route_sums.proofs.SumsLemmas.{leave_idle, leave_keeps, leave_paid, next_leads, stored_low, stored_size}
 use Rattle.route_sums.proofs.parts.RouteSums.after_leave.Goals as goal
 
 pub halted-stand-requires-clause-to : goal.halted-stand-requires-clause-to
@@ -24,32 +24,38 @@ halted-stand-requires-clause-stands c =
     let x = c.requires.leads in
     (reached t.snapshot t.car x.before, record { there = x.before; leads = x.leads; stands = c.stand_at.ensures.stands x.before x.leads })
 
-pub value_at-value-requires-clause-same : goal.value_at-value-requires-clause-same
-value_at-value-requires-clause-same c = c.requires.for_it.snapshot
+pub value_at-next-requires-clause-same : goal.value_at-next-requires-clause-same
+value_at-next-requires-clause-same c = c.requires.for_it.snapshot
 
-pub value_at-value-requires-clause-car : goal.value_at-value-requires-clause-car
-value_at-value-requires-clause-car c = c.requires.for_it.car
+pub value_at-next-requires-clause-car : goal.value_at-next-requires-clause-car
+value_at-next-requires-clause-car c = c.requires.for_it.car
 
-pub value_at-value-requires-clause-stands : goal.value_at-value-requires-clause-stands
-value_at-value-requires-clause-stands c =
+pub value_at-next-requires-clause-stands : goal.value_at-next-requires-clause-stands
+value_at-next-requires-clause-stands c =
     let t = c.args.prefix.now in
     let x = c.requires.leads in
     let p = reached t.snapshot t.car x.before in
     (halted t.snapshot t.car p c.args.floor, record { there = x.before; leads = x.leads; stands = c.halted-stand.ensures.stands x.before p x.leads (c.stand_at.ensures.stands x.before x.leads) })
 
-pub value_at-value-requires-clause-paid : goal.value_at-value-requires-clause-paid
-value_at-value-requires-clause-paid c =
+pub value_at-next-requires-clause-paid : goal.value_at-next-requires-clause-paid
+value_at-next-requires-clause-paid c =
     let small = c.requires.leads.stands_before.paid_size in
     subst IsPriceSum (sym (stored_paid c.args.sums.now.paid small)) small
 
+pub value_at-next-requires-clause-allowed : goal.value_at-next-requires-clause-allowed
+value_at-next-requires-clause-allowed c = c.requires.leads.stands_before.allowed
+
 pub returns : goal.returns
 returns c = λ y e.
-    let a = aim_of c.args.self.now in
+    let it = c.args.self.now in
+    let a = aim_of it in
     let t = c.args.prefix.now in
     let x = c.requires.leads in
+    let old = c.args.sums.now in
     let p = reached t.snapshot t.car x.before in
-    let same = stored_paid c.args.sums.now.paid x.stands_before.paid_size in
+    let next = c.value_at-next.result in
+    let same = stored_paid old.paid x.stands_before.paid_size in
     let stand = c.halted-stand.ensures.stands x.before p x.leads (c.stand_at.ensures.stands x.before x.leads) in
-    let paid = same ∙ leave_paid a t c.args.floor y c.args.sums.now c.requires.for_it x e in
-    let low = c.value_at-value.ensures.value x.before (halted t.snapshot t.car p c.args.floor) x.leads stand paid in
-    leave_keeps a t c.args.floor y c.args.sums.now _ c.requires.for_it x e same (stored_size c.value_at-value.result c.value_at-value.ensures.size) (stored_low c.value_at-value.result _ c.value_at-value.ensures.size low)
+    let paid = same ∙ leave_paid a t c.args.floor y old c.requires.for_it x e in
+    let idle = leave_idle a t c.args.floor y old c.calls-calls.ensures.accepted it.known c.requires.for_it x e in
+    leave_keeps a t c.args.floor y old _ c.requires.for_it x e same (stored_size next.value c.value_at-next.ensures.size) (λ can. stored_low next.value _ c.value_at-next.ensures.size (c.value_at-next.ensures.value x.before (halted t.snapshot t.car p c.args.floor) x.leads stand paid (idle can))) (λ can. c.value_at-next.ensures.idle x.before (halted t.snapshot t.car p c.args.floor) x.leads stand (idle can)) c.value_at-next.ensures.within
