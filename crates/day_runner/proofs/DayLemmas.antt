@@ -12,7 +12,8 @@ use Rattle.day_laws.specs.Standing.{row_number}
 use Rattle.day_laws.proofs.NoneLost.{end-length}
 use Rattle.lift_text.specs.Reading.{TextState}
 use Rattle.log_text.specs.Texts.{end_text}
-use Rattle.day_runner.specs.Runs.{IsBegun, Right, AreRowsDone, Ran, ReadLines, Reads, Wrote, rows_of}
+use Rattle.day_laws.specs.RowLines.{rows_of}
+use Rattle.day_runner.specs.Runs.{IsBegun, Right, AreRowsDone, Ran, ReadLines, Reads, Wrote}
 use Rattle.day_runner.specs.Days.{IsCutIn, EndedAs, RanDay, ReadsDay, WroteDay, first_line, rows_log}
 use Rattle.day_runner.specs.declared.days.Ended.{Ended}
 use Rattle.day_runner.specs.declared.rows.RunFault.{RunFault}

@@ -20,7 +20,8 @@ use Rattle.lift_text.specs.declared.faults.RawLine.TheVariants.{Line, Long, End}
 use Rattle.lift_text.proofs.PieceLemmas.{ends_with_byte-push}
 use Rattle.lift_text.proofs.ShowLemmas.{concat-pieces}
 use Rattle.lift_text.proofs.SkipLemmas.{size_of, size_of-pieces}
-use Rattle.day_runner.specs.Runs.{Right, AreRowsDone, DidNext, IsLineDone, IsLineBetween, StopsAt, fault_of, rows_of_line, next_after}
+use Rattle.day_laws.specs.RowLines.{rows_of_line}
+use Rattle.day_runner.specs.Runs.{Right, AreRowsDone, DidNext, IsLineDone, IsLineBetween, StopsAt, fault_of, next_after}
 use Rattle.day_runner.specs.declared.rows.RunFault.{RunFault}
 use Rattle.day_runner.specs.declared.rows.NextRow.{NextRow}
 use Rattle.day_runner.specs.declared.rows.RunFault.TheVariants.{TooLong, Read, NoMemory}

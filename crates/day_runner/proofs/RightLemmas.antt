@@ -10,7 +10,8 @@ use Rattle.lift_text.specs.Reading.{TextState}
 use Rattle.day_simulator.specs.declared.days.RowAnswer.{RowAnswer}
 use Rattle.day_laws.specs.Once.{IsServedOnce, events_of_log}
 use Rattle.day_simulator.specs.Rows.{IsRowDone, next_step}
-use Rattle.day_runner.specs.Runs.{Right, AreRowsDone, rows_of}
+use Rattle.day_laws.specs.RowLines.{rows_of}
+use Rattle.day_runner.specs.Runs.{Right, AreRowsDone}
 use Rattle.day_runner.specs.Served.{events_of_rows}
 use Rattle.day_runner.specs.Days.{RanDay}
 use Rattle.day_runner.specs.Inputs.{DayAnswered, DayRan}

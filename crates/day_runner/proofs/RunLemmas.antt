@@ -12,7 +12,8 @@ use Rattle.day_simulator.specs.declared.days.RowAnswer.TheVariants.{Refused as R
 use Rattle.day_laws.specs.Standing.{row_number}
 use Rattle.log_text.specs.Texts.{refused_text}
 use Rattle.day_simulator.specs.Rows.{IsRowDone}
-use Rattle.day_runner.specs.Runs.{Right, AreRowsDone, rows_of, rows_of_line, rows_of_short}
+use Rattle.day_laws.specs.RowLines.{rows_of, rows_of_line, rows_of_short}
+use Rattle.day_runner.specs.Runs.{Right, AreRowsDone}
 
 pub append-nil : {X : Type 0} (xs : List X) → xs ++ [] ≡ xs
 append-nil [] = refl

@@ -12,7 +12,8 @@ use Rattle.byte_streams.specs.Streams.{Rose}
 use Rattle.search_model.specs.Days.{Day}
 use Rattle.lift_text.specs.Lines.{pieces_of, HasWholeLine}
 use Rattle.lift_text.specs.Reading.{TextState, HaveLineFeeds}
-use Rattle.day_runner.specs.Runs.{Right, AreRowsDone, DidNext, IsLineBetween, IsLineDone, IsStopped, Ran, ReadLines, Reads, StopsAt, Wrote, WroteNext, bytes_of, rows_of, next_written}
+use Rattle.day_laws.specs.RowLines.{rows_of}
+use Rattle.day_runner.specs.Runs.{Right, AreRowsDone, DidNext, IsLineBetween, IsLineDone, IsStopped, Ran, ReadLines, Reads, StopsAt, Wrote, WroteNext, bytes_of, next_written}
 use Rattle.day_runner.specs.declared.rows.RunFault.{RunFault}
 use Rattle.day_runner.specs.declared.rows.RunFault.TheVariants.{TooLong, Read, Write, NoMemory}
 use Rattle.day_runner.specs.declared.rows.NextRow.{NextRow}

@@ -5,7 +5,8 @@ use Rattle.elevator_model.specs.Snapshot.{Snapshot}
 use Rattle.search_model.specs.Days.{Day, opening_day, served_of, delivered_count, loses_none}
 use Rattle.lift_text.specs.Reading.{TextState}
 use Rattle.log_text.specs.Texts.{end_text}
-use Rattle.day_runner.specs.Runs.{Right, AreRowsDone, ReadLines, IsTooLong, IsCutOff, rows_of, IsBegun}
+use Rattle.day_laws.specs.RowLines.{rows_of}
+use Rattle.day_runner.specs.Runs.{Right, AreRowsDone, ReadLines, IsTooLong, IsCutOff, IsBegun}
 use Rattle.day_runner.specs.Served.{AreServedOnce}
 use Rattle.day_runner.specs.declared.days.Ended.{Ended}
 use Rattle.day_runner.specs.declared.rows.RunFault.{RunFault}

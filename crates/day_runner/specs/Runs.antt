@@ -8,6 +8,7 @@ use Rattle.search_model.specs.Days.{Day, Row}
 use Rattle.lift_text.specs.Lines.{pieces_of, line_of, HasWholeLine}
 use Rattle.lift_text.specs.Reading.{TextState, line_limit}
 use Rattle.row_text.specs.Records.{row_of_line}
+use Rattle.day_laws.specs.RowLines.{rows_of, rows_of_line}
 use Rattle.day_simulator.specs.declared.days.RowAnswer.{RowAnswer}
 use Rattle.day_simulator.specs.Rows.{IsRowDone}
 use Rattle.lift_text.specs.declared.faults.TextFault.{TextFault}
@@ -16,22 +17,6 @@ use Rattle.day_runner.specs.declared.rows.RunFault.{RunFault}
 use Rattle.day_runner.specs.declared.rows.RunFault.TheVariants.{TooLong, Read, Write, NoMemory}
 use Rattle.day_runner.specs.declared.rows.NextRow.{NextRow}
 use Rattle.day_runner.specs.declared.rows.NextRow.TheVariants.{More, End}
-
--- ---- the rows of lines
-
--- A line of no bytes is no row. What a row says is `None` where it has not four numbers.
-abbrev pub rows_of_short : List ℕ → List (Option Row)
-rows_of_short [] = []
-rows_of_short (b ∷ line) = row_of_line (b ∷ line) ∷ []
-
--- the row of a line without its end, if it is one; an over-long one says nothing
-abbrev pub rows_of_line : List ℕ → List (Option Row)
-rows_of_line line = if nat_lt line_limit (length line) then None ∷ [] else rows_of_short line
-
--- The rows of lines with their ends.
-abbrev pub rows_of : List (List ℕ) → List (Option Row)
-rows_of [] = []
-rows_of (piece ∷ pieces) = rows_of_line (line_of piece) ++ rows_of pieces
 
 -- ---- what rows do
 

@@ -12,7 +12,7 @@ ghost use Rattle.day_laws.specs.Standing.{IsEarly};
 ghost use Rattle.day_runner.specs.Days.{EndedAs, RanDay};
 
 use crate::rows::{RunFault, put, run_rows};
-use byte_streams::{Sink, Source};
+use byte_streams::{Gate, Sink, Source};
 use day_simulator::{Day, Planned, Served, Snapshot};
 use lift_text::{LineReader, TEXT_LIMIT};
 use std::alloc::{AllocError, Global};
@@ -56,13 +56,15 @@ fn end_day<K: Sink>(alloc: Global, day: Day, sink: &mut K) -> Result<Ended, RunF
 /// source is read than what its line takes.
 ///
 /// After a fault the log is written as far as the rows go that were done before it; where a write failed, a
-/// beginning of that. Memory may run out at any row and at the end, and then what was written before stays.
-pub fn run_day<F, S: Source, K: Sink>(
+/// beginning of that. Memory may run out at any row and at the end, and then what was written before stays. The
+/// gate is told after each line how many rows were done.
+pub fn run_day<F, S: Source, K: Sink, G: Gate>(
     alloc: Global,
     plan: &F,
     opening: Snapshot,
     lines: &mut LineReader<S>,
     sink: &mut K,
+    gate: &G,
 ) -> Result<Ended, RunFault>
 where
     F: Fn(&Snapshot) -> Result<Planned, AllocError>,
@@ -90,7 +92,7 @@ where
     let Ok(mut day) = Day::new(alloc, opening) else {
         return Err(RunFault::NoMemory);
     };
-    match run_rows(alloc, plan, lines, &mut day, sink) {
+    match run_rows(alloc, plan, lines, &mut day, sink, gate) {
         Ok(()) => {
             // For the proof: a line's number is at most 67,108,864.
             let _last = lines.line();

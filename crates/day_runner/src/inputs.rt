@@ -11,7 +11,7 @@ ghost use Rattle.day_runner.specs.Inputs.{DayAnswered, EndsUnlessFailed, IsDayTe
 
 use crate::days::{Ended, run_day};
 use crate::rows::RunFault;
-use byte_streams::{Sink, Source};
+use byte_streams::{Gate, Sink, Source};
 use day_simulator::{Planned, Snapshot};
 use lift_text::{LineReader, TextFault};
 use opening_text::read_day_opening;
@@ -28,14 +28,15 @@ pub enum DayFault {
 
 /// Reads what comes before the rows of a day, and runs the day over them, with its log. Where a read fails,
 /// nothing is written only if what comes before the rows is not whole, up to the LF of the header's line, among
-/// the bytes that were taken.
+/// the bytes that were taken. The gate is told after each line how many rows were done.
 ///
 /// The sums of the served calls' times have at most 64 bits.
-pub fn run_day_text<F, S: Source, K: Sink>(
+pub fn run_day_text<F, S: Source, K: Sink, G: Gate>(
     alloc: Global,
     plan: &F,
     lines: &mut LineReader<S>,
     sink: &mut K,
+    gate: &G,
 ) -> Result<Ended, DayFault>
 where
     F: Fn(&Snapshot) -> Result<Planned, AllocError>,
@@ -55,7 +56,7 @@ where
     ensures sink_counted { K.faults sink.old ≤ K.faults sink.new }
 {
     match read_day_opening(alloc, lines) {
-        Ok(opening) => match run_day(alloc, plan, opening, lines, sink) {
+        Ok(opening) => match run_day(alloc, plan, opening, lines, sink, gate) {
             Ok(ended) => Ok(ended),
             Err(fault) => Err(DayFault::Rows(fault)),
         },

@@ -13,10 +13,11 @@ ghost use Rattle.search_model.specs.Days.{day_after_refused, loses_none};
 ghost use Rattle.search_model.specs.declared.RowFault.TheVariants.{NoRow};
 ghost use Rattle.day_laws.specs.Standing.{row_number};
 ghost use Rattle.log_text.specs.Texts.{refused_text};
-ghost use Rattle.day_runner.specs.Runs.{AreRowsDone, DidNext, Ran, WroteNext, fault_of, rows_of_line};
-ghost use Rattle.day_runner.specs.Runs.{rows_of_short, next_after, next_written};
+ghost use Rattle.day_laws.specs.RowLines.{rows_of_line, rows_of_short};
+ghost use Rattle.day_runner.specs.Runs.{AreRowsDone, DidNext, Ran, WroteNext, fault_of};
+ghost use Rattle.day_runner.specs.Runs.{next_after, next_written};
 
-use byte_streams::{Sink, Source, put_all};
+use byte_streams::{Gate, Progress, Sink, Source, put_all};
 use day_simulator::{Day, Planned, Snapshot};
 use lift_text::{LINE_COUNT_BOUND, LINE_LIMIT, LineReader, RawLine, TextFault};
 use std::alloc::{AllocError, Global};
@@ -242,13 +243,15 @@ where
 /// Does what the next lines of the text say, row by row, to their end, and writes what the log says of each
 /// before more of the source is read than what its line takes.
 ///
-/// After a fault the rows before it are done and written; where a write failed, the last of them in part.
-pub(crate) fn run_rows<F, S: Source, K: Sink>(
+/// After a fault the rows before it are done and written; where a write failed, the last of them in part. After
+/// each line the gate is told how many rows were done.
+pub(crate) fn run_rows<F, S: Source, K: Sink, G: Gate>(
     alloc: Global,
     plan: &F,
     lines: &mut LineReader<S>,
     day: &mut Day,
     sink: &mut K,
+    gate: &G,
 ) -> Result<(), RunFault>
 where
     F: Fn(&Snapshot) -> Result<Planned, AllocError>,
@@ -270,7 +273,7 @@ where
 {
     'lines: for _ in 0..LINE_COUNT_BOUND {
         match write_next(alloc, plan, lines, day, sink) {
-            Ok(NextRow::More) => {}
+            Ok(NextRow::More) => gate.tell(Progress::Rows(day.rows())),
             Ok(NextRow::End) => return Ok(()),
             Err(fault) => return Err(fault),
         }

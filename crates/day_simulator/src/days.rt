@@ -1,6 +1,6 @@
 //! A day of calls.
 
-ghost use Rattle.std.specs.Prelude.{◌≡◌, ◌<◌, ◌+◌, ◌++◌, ◌∷◌, ◌^◌, [], None, Some, IsTrue, All, length};
+ghost use Rattle.std.specs.Prelude.{◌≡◌, ◌<◌, ◌≤◌, ◌+◌, ◌++◌, ◌∷◌, ◌^◌, [], None, Some, IsTrue, All, length};
 ghost use Rattle.std.specs.Prelude.{nat_lt, if◌then◌else◌, IfOk, OnOk, OnErr};
 ghost use Rattle.elevator_model.specs.Plans.{IsFeasiblePlan};
 ghost use Rattle.search_model.specs.Advancing.{advanced, events_by};
@@ -154,6 +154,13 @@ impl Day {
         ensures none_lost { IsTrue (loses_none self.now) }
     {
         self.unsolved
+    }
+
+    /// How many rows were done, refused ones too.
+    pub fn rows(&self) -> u32
+        ensures { row_number self.now ≤ 2 ^ 32 → result + 1 ≡ row_number self.now }
+    {
+        self.refused.saturating_add(self.calls.len() as u32)
     }
 
     /// The number of the next row, from 1.
