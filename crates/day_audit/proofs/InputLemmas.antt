@@ -15,10 +15,10 @@ use Rattle.day_state.specs.Openings.{IsOpeningSnapshot}
 use Rattle.day_audit.specs.declared.findings.Finding.{Finding}
 use Rattle.day_audit.specs.declared.findings.Finding.TheVariants.{Differs, Row as BadRow, Text}
 use Rattle.day_audit.specs.declared.logs.Audited.{Audited}
-use Rattle.day_audit.specs.Audits.{LogFinds}
-use Rattle.day_audit.specs.Taking.{IsUnread, TellsFound}
-use Rattle.day_audit.specs.Progress.{IsLogAudited, said_of}
-use Rattle.day_audit.specs.Openings.{AreRowsGiven, TellsNoLog, TellsRows}
+use Rattle.day_audit.specs.Audits.{Found, LogFinds, found_for}
+use Rattle.day_audit.specs.Taking.{IsUnread, TellsFound, TellsOf, found_by}
+use Rattle.log_rows.specs.Rows.{AreRowsGiven, TellsNoLog, TellsRows, said_of}
+use Rattle.day_audit.specs.Progress.{IsLogAudited}
 use Rattle.day_audit.specs.Inputs.{EndsIfJudged, FindsBehind, FindsIn, IsAudit, IsDayAudited, IsShort, IsTextAudited, bad_opening, behind, if_long, in_log, no_log, rows_past}
 use Rattle.day_audit.proofs.TakingLemmas.{tells, tells_found}
 use Rattle.day_audit.proofs.PastLemmas.{text_is_long}
@@ -33,17 +33,16 @@ log_audited opening rows (Some from) (Some log) (Ok audited) given is =
 log_audited opening rows (Some from) (Some log) (Err finding) given told =
     tells_found finding (LogFinds (opening_day opening) (map said_of rows) (reading log)) (FindsBehind opening from) (λ found finds. in_log (map said_of rows) log given finds) told
 
-no_rows_in : (opening : Snapshot) (from : TextState) (finding : Finding) → TellsRows from finding → TellsFound finding (FindsBehind opening from)
-no_rows_in opening from (Differs line) told = no_log line told refl
-no_rows_in opening from (BadRow row reason) told = absurd told
-no_rows_in opening from (Text (Bad line code)) told = absurd told
-no_rows_in opening from (Text TooLong) told = rows_past told refl
-no_rows_in opening from (Text Read) told = tt
-no_rows_in opening from (Text NoMemory) told = tt
+no_rows_in : (opening : Snapshot) (from : TextState) (fault : TextFault) → TellsRows from fault → TellsOf (found_for fault) (FindsBehind opening from (found_for fault))
+no_rows_in opening from (Bad line code) told = no_log line told.0 refl
+no_rows_in opening from TooLong told = rows_past told refl
+no_rows_in opening from Read told = tt
+no_rows_in opening from NoMemory told = tt
 
-pub rows_refused : (opening : Snapshot) (before : Option TextState) (finding : Finding) → TellsNoLog before finding → IsDayAudited opening before (Err finding)
-rows_refused opening None finding told = tt
-rows_refused opening (Some from) finding told = no_rows_in opening from finding told
+pub rows_refused : (opening : Snapshot) (before : Option TextState) (fault : TextFault) (finding : Finding) → found_by finding ≡ found_for fault → TellsNoLog before fault → IsDayAudited opening before (Err finding)
+rows_refused opening None fault finding is told = tt
+rows_refused opening (Some from) fault finding is told =
+    subst (λ (found : Found). TellsOf found (FindsBehind opening from found)) (sym is) (no_rows_in opening from fault told)
 
 -- ---- a text
 

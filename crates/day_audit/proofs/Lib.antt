@@ -1,7 +1,6 @@
 pub mod WordLemmas
 pub mod TakingLemmas
 pub mod ProgressLemmas
-pub mod OpeningLemmas
 pub mod PastLemmas
 pub mod InputLemmas
 pub mod LawLemmas

@@ -26,9 +26,9 @@ use Rattle.opening_text.specs.DayOpenings.{DayOpeningInFront, IsDayOpeningFault}
 use Rattle.check_text.specs.Pairs.{IsPairFault}
 use Rattle.log_text.specs.Texts.{refused_words}
 use Rattle.day_laws.specs.Standing.{row_number}
+use Rattle.log_rows.proofs.RowLemmas.{reads_past}
 use Rattle.day_audit.specs.Audits.{AcceptedFinds, AcceptedInFront, EndFinds, FindsBehind as FindsMore, Found, Lacks, LogFinds, ProofFinds, RowFinds, RowInFront, RowsFind, RowsInFront, accepted_lines, bad_section, bad_row, bad_text, day_after, differs, end_lines_of, next_fault, no_proof}
 use Rattle.day_audit.specs.Inputs.{FindsBehind, FindsIn, bad_opening, behind, in_log, no_log, rows_past}
-use Rattle.day_audit.proofs.OpeningLemmas.{reads_past}
 
 -- ---- what is read goes past the most bytes
 

@@ -23,7 +23,8 @@ use Rattle.day_audit.specs.declared.logs.Audited.{Audited}
 use Rattle.day_audit.specs.declared.logs.LogProgress.{LogProgress}
 use Rattle.day_audit.specs.Audits.{AcceptedFinds, EndFinds, EndInFront, Found, Lacks, LogFinds, RowFinds, RowInFront, RowsFind, RowsInFront, day_after, end_lines, end_lines_of, next_fault, snapshot_of_row}
 use Rattle.day_audit.specs.Taking.{IsProvedPlan, TakesAccepted, TakesEnd, TakesLines, TellsFound}
-use Rattle.day_audit.specs.Progress.{AreRowsTaken, IsDayOf, IsLogAudited, IsNextAccepted, IsRowTaken, after_accepted, after_refused, next_number, said_of}
+use Rattle.log_rows.specs.Rows.{said_of}
+use Rattle.day_audit.specs.Progress.{AreRowsTaken, IsDayOf, IsLogAudited, IsNextAccepted, IsRowTaken, after_accepted, after_refused, next_number}
 use Rattle.day_audit.proofs.TakingLemmas.{tells_found}
 
 pub number_is : (p : LogProgress) (day : Day) → IsDayOf p day → next_number p ≡ row_number day

@@ -8,13 +8,13 @@ use Rattle.lift_text.specs.declared.faults.TextFault.{TextFault}
 use Rattle.lift_text.specs.declared.faults.TextFault.TheVariants.{Bad, NoMemory, Read, TooLong}
 use Rattle.opening_text.specs.DayOpenings.{DayOpeningInFront, IsDayOpeningFault}
 use Rattle.day_state.specs.Openings.{IsOpeningSnapshot}
+use Rattle.log_rows.specs.Rows.{IsWithoutLog, RowsBeforeLog}
 use Rattle.whole_input.specs.declared.reading.InputFault.{InputFault}
 use Rattle.whole_input.specs.declared.reading.InputFault.TheVariants.{Read as FailedRead, NoMemory as MemoryWanting}
 use Rattle.day_audit.specs.declared.findings.Finding.{Finding}
 use Rattle.day_audit.specs.declared.findings.Finding.TheVariants.{Differs, Row as BadRow, Text}
 use Rattle.day_audit.specs.declared.logs.Audited.{Audited}
 use Rattle.day_audit.specs.Audits.{Found, LogFinds, LogHolds, bad_row, bad_text, differs}
-use Rattle.day_audit.specs.Openings.{IsWithoutLog, RowsBeforeLog}
 use Rattle.day_audit.specs.Taking.{TellsFound}
 
 -- ---- behind the opening

@@ -2,6 +2,5 @@ pub mod Words
 pub mod Audits
 pub mod Taking
 pub mod Progress
-pub mod Openings
 pub mod Inputs
 pub mod Laws

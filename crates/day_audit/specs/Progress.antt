@@ -1,13 +1,10 @@
--- How far an audit is in a log, and what rows bring.
-use Rattle.std.specs.Prelude.{◌≡◌, ℕ, ◌+◌, nat_lt, List, length, Option, option_map, IfSome, IsSomeAnd, IsTrue, Result, Ok, Err, if◌then◌else◌}
-use Rattle.elevator_model.specs.Building.{Building}
+-- How far an audit is in a log, and what its rows bring.
+use Rattle.std.specs.Prelude.{◌≡◌, ℕ, ◌+◌, nat_lt, List, length, Option, IfSome, IsSomeAnd, Result, Ok, Err, if◌then◌else◌}
 use Rattle.elevator_model.specs.Snapshot.{Snapshot}
 use Rattle.search_model.specs.declared.Event.{Event}
 use Rattle.search_model.specs.declared.Stated.{Stated}
-use Rattle.search_model.specs.Days.{Day, Row, is_row}
+use Rattle.search_model.specs.Days.{Day, Row}
 use Rattle.lift_text.specs.Reading.{TextState, reading}
-use Rattle.row_text.specs.declared.rows.GoodRow.{GoodRow}
-use Rattle.row_text.specs.Records.{row_as_said}
 use Rattle.day_laws.specs.Standing.{IsStanding}
 use Rattle.day_audit.specs.declared.findings.Finding.{Finding}
 use Rattle.day_audit.specs.declared.logs.Audited.{Audited}
@@ -26,15 +23,6 @@ pub record IsDayOf (p : LogProgress) (day : Day) : Type 0 where
   pub refused : p.refused ≡ day.refused
   pub unsolved : p.unsolved ≡ day.unsolved
   pub standing : IsStanding day
-
--- ---- rows
-
-abbrev pub said_of : Option GoodRow → Option Row
-said_of row = option_map row_as_said row
-
--- the numbers of the row lie in their ranges, where it has some
-abbrev pub IsGood : Building → Option GoodRow → Type 0
-IsGood b row = IfSome row (λ r. IsTrue (is_row b (row_as_said r)))
 
 -- ---- steps
 

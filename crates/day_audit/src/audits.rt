@@ -9,12 +9,12 @@ ghost use Rattle.day_audit.specs.Inputs.{if_long as if_long_lem};
 ghost use Rattle.day_audit.specs.Inputs.{unread as unread_lem};
 ghost use Rattle.day_audit.specs.Taking.{IsUnread};
 
-use crate::findings::{Finding, bad_text};
+use crate::findings::{Finding, bad_text, finding_of};
 use crate::logs::{Audited, audit_log};
-use crate::openings::read_rows;
 use byte_streams::{Gate, Source, SureSource};
 use call_state::Snapshot;
 use lift_text::{LineReader, TEXT_LIMIT, TextFault};
+use log_rows::read_rows;
 use opening_text::read_day_opening;
 use std::alloc::Global;
 use std::marker::Sync;
@@ -39,7 +39,7 @@ fn audit_day<S: Source, R: Threads + Sync, G: Gate + Sync>(
 {
     match read_rows(runtime.alloc, lines, opening.building()) {
         Ok(rows) => audit_log(runtime, lines, opening, rows.as_slice(), workers),
-        Err(finding) => Err(finding),
+        Err(fault) => Err(finding_of(fault)),
     }
 }
 

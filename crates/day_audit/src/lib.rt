@@ -24,7 +24,6 @@ mod findings;
 mod laws;
 mod lines;
 mod logs;
-mod openings;
 mod rows;
 mod words;
 

@@ -13,9 +13,10 @@ ghost use Rattle.lift_text.specs.LineReader.{text, failure};
 ghost use Rattle.row_text.specs.Records.{row_as_said};
 ghost use Rattle.log_text.specs.Texts.{refused_words};
 ghost use Rattle.day_audit.specs.Taking.{IsUnread, TakesLines};
-ghost use Rattle.day_audit.specs.Progress.{AreRowsTaken, IsDayOf, IsGood, IsLogAudited, IsNextAccepted};
+ghost use Rattle.log_rows.specs.Rows.{IsGood, said_of};
+ghost use Rattle.day_audit.specs.Progress.{AreRowsTaken, IsDayOf, IsLogAudited, IsNextAccepted};
 ghost use Rattle.day_audit.specs.Progress.{IsRowTaken};
-ghost use Rattle.day_audit.specs.Progress.{after_accepted, after_refused, next_number, said_of};
+ghost use Rattle.day_audit.specs.Progress.{after_accepted, after_refused, next_number};
 
 use crate::findings::Finding;
 use crate::lines::{Totals, take_end, take_refused};

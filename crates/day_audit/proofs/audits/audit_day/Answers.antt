@@ -1,10 +1,10 @@
-use Rattle.std.proofs.Common.{All, List, Option, ap, arith, length, map, subst, sym}
+use Rattle.std.proofs.Common.{All, Err, List, Option, ap, arith, length, map, subst, sym}
 use Rattle.elevator_model.specs.Building.{Building}
 use Rattle.search_model.specs.Days.{opening_day}
 use Rattle.lift_text.specs.LineReader.{text}
 use Rattle.row_text.specs.declared.rows.GoodRow.{GoodRow}
-use Rattle.day_audit.specs.Openings.{AreRowsGiven}
-use Rattle.day_audit.specs.Progress.{IsGood, IsLogAudited, said_of}
+use Rattle.log_rows.specs.Rows.{AreRowsGiven, IsGood, said_of}
+use Rattle.day_audit.specs.Progress.{IsLogAudited}
 use Rattle.day_audit.proofs.InputLemmas.{log_audited, rows_refused}
 use Rattle.day_audit.proofs.audits.audit_day.Goals as goal
 
@@ -28,4 +28,7 @@ returns-in-Ok-clause-audited g c =
     (subst (λ (taken : List (Option GoodRow)). IsLogAudited (opening_day c.args.opening) (map said_of taken) mid c.audit_log.result) c.as_slice.ensures.value c.audit_log.ensures.audited)
 
 pub returns-in-Err-clause-audited : goal.returns-in-Err-clause-audited
-returns-in-Err-clause-audited g c = rows_refused c.args.opening (text g.S.Source.left c.args.lines.now) c.in-Err.finding c.in-Err.ensures.told
+returns-in-Err-clause-audited g c = rows_refused c.args.opening (text g.S.Source.left c.args.lines.now) c.in-Err.fault c.finding_of.result c.finding_of.ensures.found c.in-Err.ensures.told
+
+pub returns-in-Err-clause-read : goal.returns-in-Err-clause-read
+returns-in-Err-clause-read g c = λ unread. c.in-Err.ensures.read (ap Err (c.finding_of.ensures.unread unread))

@@ -1,6 +1,6 @@
 use Rattle.std.proofs.Common.{map}
 use Rattle.lift_text.specs.LineReader.{text}
-use Rattle.day_audit.specs.Progress.{said_of}
+use Rattle.log_rows.specs.Rows.{said_of}
 use Rattle.day_audit.proofs.ProgressLemmas.{joined, joined_short}
 use Rattle.day_audit.proofs.logs.audit_from.Goals as goal
 

@@ -1,7 +1,7 @@
 use Rattle.std.proofs.Common.{map}
 use Rattle.search_model.specs.Days.{opening_day}
 use Rattle.lift_text.specs.LineReader.{text}
-use Rattle.day_audit.specs.Progress.{said_of}
+use Rattle.log_rows.specs.Rows.{said_of}
 use Rattle.day_audit.proofs.ProgressLemmas.{none_audited}
 use Rattle.day_audit.proofs.logs.audit_log.Goals as goal
 

@@ -1,6 +1,6 @@
 use Rattle.std.proofs.Common.{Err, None, Ok, ◌+◌, get_or, ◌∙◌, refl, arith}
 use Rattle.lift_text.specs.LineReader.{text}
-use Rattle.day_audit.specs.Progress.{said_of}
+use Rattle.log_rows.specs.Rows.{said_of}
 use Rattle.day_audit.proofs.ProgressLemmas.{none_taken, row_building, row_numbered, rows_all, rows_more, rows_short}
 use Rattle.day_audit.proofs.logs.take_rows.Goals as goal
 

@@ -1,7 +1,8 @@
 use Rattle.std.proofs.Common.{◌≡◌, ◌≤◌, ◌+◌, None, Ok, map, take}
 use Rattle.search_model.specs.Days.{Day}
 use Rattle.lift_text.specs.LineReader.{text, failure}
-use Rattle.day_audit.specs.Progress.{AreRowsTaken, IsDayOf, next_number, said_of}
+use Rattle.log_rows.specs.Rows.{said_of}
+use Rattle.day_audit.specs.Progress.{AreRowsTaken, IsDayOf, next_number}
 use Rattle.day_audit.proofs.logs.take_rows.Given as goal
 
 abbrev pub invariant-loop-row : goal.invariant-loop-row

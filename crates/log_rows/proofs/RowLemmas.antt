@@ -9,18 +9,17 @@ use Rattle.search_model.specs.Days.{Row}
 use Rattle.lift_text.specs.Lines.{pieces_of, line_of}
 use Rattle.lift_text.specs.Reading.{TextState, NextRaw, Passed, line_limit}
 use Rattle.lift_text.specs.declared.faults.RawLine.TheVariants.{Line, Long, End}
+use Rattle.lift_text.specs.declared.codes.TextCode.TheVariants.{CutShort}
 use Rattle.lift_text.specs.declared.faults.TextFault.{TextFault}
 use Rattle.lift_text.specs.declared.faults.TextFault.TheVariants.{Bad, NoMemory, Read, TooLong}
 use Rattle.lift_text.proofs.SkipLemmas.{size_of, size_of-pieces}
 use Rattle.row_text.specs.declared.rows.GoodRow.{GoodRow}
 use Rattle.row_text.specs.Records.{row_as_said, row_of_line, row_within}
 use Rattle.day_laws.proofs.RowFaults.{good-row}
-use Rattle.day_audit.specs.declared.findings.Finding.{Finding}
-use Rattle.day_audit.specs.declared.findings.Finding.TheVariants.{Differs, Row as BadRow, Text}
-use Rattle.day_audit.specs.declared.openings.Before.{Before}
-use Rattle.day_audit.specs.declared.openings.Before.TheVariants.{Log, Row as RowLine}
-use Rattle.day_audit.specs.Openings.{AreAdded, AreRowsGiven, BeginsLog, Grows, IsLineJudged, IsNextTaken, IsRowAppended, ReadsLines, RowsInFront, TellsNext, TellsNoLog, TellsRows, after_added, rows_of, rows_of_line, rows_of_short, rows_within}
-use Rattle.day_audit.specs.Progress.{IsGood, said_of}
+use Rattle.day_laws.specs.RowLines.{rows_of, rows_of_line, rows_of_short}
+use Rattle.log_rows.specs.declared.rows.Before.{Before}
+use Rattle.log_rows.specs.declared.rows.Before.TheVariants.{Log, Row as RowLine}
+use Rattle.log_rows.specs.Rows.{AreAdded, AreRowsGiven, BeginsLog, Grows, IsGood, IsLineJudged, IsNextTaken, IsRowAppended, ReadsLines, RowsInFront, TellsNext, TellsNoLog, TellsRows, after_added, rows_within, said_of}
 
 -- ---- a row that is added
 
@@ -51,15 +50,15 @@ long_grows b old new is = row_grows b old new None None is refl
 pub none_grows : (b : Building) (old : List (Option GoodRow)) → Grows b old old
 none_grows b old = record { good = λ all. all; few = omega arith }
 
-pub grows_after : {E : Type 0} (b : Building) (old new : List (Option GoodRow)) (added : Result Unit E) (answer : Result Before Finding) → answer ≡ after_added added → OnOk added (Grows b old new) → OnOk answer (Grows b old new)
-grows_after b old new (Ok done) answer is grows = subst (λ (a : Result Before Finding). OnOk a (Grows b old new)) (sym is) grows
-grows_after b old new (Err error) answer is grows = subst (λ (a : Result Before Finding). OnOk a (Grows b old new)) (sym is) tt
+pub grows_after : {E : Type 0} (b : Building) (old new : List (Option GoodRow)) (added : Result Unit E) (answer : Result Before TextFault) → answer ≡ after_added added → OnOk added (Grows b old new) → OnOk answer (Grows b old new)
+grows_after b old new (Ok done) answer is grows = subst (λ (a : Result Before TextFault). OnOk a (Grows b old new)) (sym is) grows
+grows_after b old new (Err error) answer is grows = subst (λ (a : Result Before TextFault). OnOk a (Grows b old new)) (sym is) tt
 
-pub long_grows_after : {E : Type 0} (b : Building) (old new : List (Option GoodRow)) (added : Result Unit E) (answer : Result Before Finding) → answer ≡ after_added added → OnOk added (new ≡ old ++ None ∷ []) → OnOk answer (Grows b old new)
+pub long_grows_after : {E : Type 0} (b : Building) (old new : List (Option GoodRow)) (added : Result Unit E) (answer : Result Before TextFault) → answer ≡ after_added added → OnOk added (new ≡ old ++ None ∷ []) → OnOk answer (Grows b old new)
 long_grows_after {E} b old new (Ok done) answer is grows = grows_after {E = E} b old new (Ok done) answer is (long_grows b old new grows)
 long_grows_after {E} b old new (Err error) answer is grows = grows_after {E = E} b old new (Err error) answer is tt
 
-pub judged_row : {E : Type 0} (b : Building) (line : List ℕ) (old new : List (Option GoodRow)) (added : Result Unit E) (answer : Result Before Finding) → answer ≡ after_added added → (line ≡ codes "day 1" → ⊥) → OnOk added (AreAdded b (rows_of_short line) old new) → IsLineJudged b line old new answer
+pub judged_row : {E : Type 0} (b : Building) (line : List ℕ) (old new : List (Option GoodRow)) (added : Result Unit E) (answer : Result Before TextFault) → answer ≡ after_added added → (line ≡ codes "day 1" → ⊥) → OnOk added (AreAdded b (rows_of_short line) old new) → IsLineJudged b line old new answer
 judged_row b line old new (Ok done) answer is other grown = subst (IsLineJudged b line old new) (sym is) (other, grown)
 judged_row b line old new (Err error) answer is other grown = subst (IsLineJudged b line old new) (sym is) refl
 
@@ -78,7 +77,7 @@ long_begins_none : (line : List ℕ) → line_limit < length line → line ≡ c
 long_begins_none line long is = let size : length line ≡ 5 = ap length is in absurd (omega (arith, long, size))
 
 module _ (b : Building) (old new : List (Option GoodRow)) where
-  pub line_taken : (before now : Option TextState) (raw : List ℕ) (answer : Result Before Finding) → NextRaw before (Ok Line) raw now → IsLineJudged b raw old new answer → IsNextTaken b old new before answer now
+  pub line_taken : (before now : Option TextState) (raw : List ℕ) (answer : Result Before TextFault) → NextRaw before (Ok Line) raw now → IsLineJudged b raw old new answer → IsNextTaken b old new before answer now
   line_taken None now raw answer next judged = tt
   line_taken (Some from) None raw answer next judged = absurd next
   line_taken (Some from) (Some to) raw (Ok RowLine) next judged = record {
@@ -93,33 +92,32 @@ module _ (b : Building) (old new : List (Option GoodRow)) where
     begins = next.3 ∙ judged.0;
     same = judged.1;
   }
-  line_taken (Some from) (Some to) raw (Err finding) next judged = subst (TellsNext from) (sym judged) tt
+  line_taken (Some from) (Some to) raw (Err fault) next judged = subst (TellsNext from) (sym judged) tt
 
-  pub long_taken : {E : Type 0} (before now : Option TextState) (raw : List ℕ) (added : Result Unit E) (answer : Result Before Finding) → NextRaw before (Ok Long) raw now → answer ≡ after_added added → OnOk added (new ≡ old ++ None ∷ []) → IsNextTaken b old new before answer now
+  pub long_taken : {E : Type 0} (before now : Option TextState) (raw : List ℕ) (added : Result Unit E) (answer : Result Before TextFault) → NextRaw before (Ok Long) raw now → answer ≡ after_added added → OnOk added (new ≡ old ++ None ∷ []) → IsNextTaken b old new before answer now
   long_taken None now raw added answer next is grown = tt
   long_taken (Some from) None raw added answer next is grown = absurd next
   long_taken (Some from) (Some to) raw (Ok done) answer next is grown =
-      subst (λ (a : Result Before Finding). IsNextTaken b old new (Some from) a (Some to)) (sym is) (record {
+      subst (λ (a : Result Before TextFault). IsNextTaken b old new (Some from) a (Some to)) (sym is) (record {
         piece = next.0;
         reads = one_line from to next.0 next.1 next.4 next.5;
         other = long_begins_none (line_of next.0) next.3;
         added = subst (λ (said : List (Option Row)). AreAdded b said old new) (sym (long_rows (line_of next.0) next.3)) (long_added b old new grown);
       })
   long_taken (Some from) (Some to) raw (Err error) answer next is grown =
-      subst (λ (a : Result Before Finding). IsNextTaken b old new (Some from) a (Some to)) (sym is) tt
+      subst (λ (a : Result Before TextFault). IsNextTaken b old new (Some from) a (Some to)) (sym is) tt
 
-  pub end_taken : (before now : Option TextState) (raw : List ℕ) (line number : ℕ) → NextRaw before (Ok End) raw now → IfSome before (λ t. t.line ≡ line) → number ≡ line + 1 → IsNextTaken b old new before (Err (Differs number)) now
+  pub end_taken : (before now : Option TextState) (raw : List ℕ) (line number : ℕ) → NextRaw before (Ok End) raw now → IfSome before (λ t. t.line ≡ line) → number ≡ line + 1 → IsNextTaken b old new before (Err (Bad number CutShort)) now
   end_taken None now raw line number next at is = tt
-  end_taken (Some from) now raw line number next at is = (next.0, is ∙ ap (λ (n : ℕ). n + 1) (sym at))
+  end_taken (Some from) now raw line number next at is = (next.0, is ∙ ap (λ (n : ℕ). n + 1) (sym at), refl)
 
-  pub fault_taken : (before now : Option TextState) (raw : List ℕ) (fault : TextFault) (finding : Finding) → NextRaw before (Err fault) raw now → finding ≡ Text fault → IsNextTaken b old new before (Err finding) now
-  fault_taken None now raw fault finding next is = tt
-  fault_taken (Some from) now raw (Bad line code) finding next is = absurd next
-  fault_taken (Some from) now raw TooLong finding next is =
-      let sizes = ap size_of next.2 in
-      subst (TellsNext from) (sym is) (omega (arith, next.3, sizes, size_of-pieces from.bytes))
-  fault_taken (Some from) now raw Read finding next is = subst (TellsNext from) (sym is) tt
-  fault_taken (Some from) now raw NoMemory finding next is = absurd next
+  pub fault_taken : (before now : Option TextState) (raw : List ℕ) (fault : TextFault) → NextRaw before (Err fault) raw now → IsNextTaken b old new before (Err fault) now
+  fault_taken None now raw fault next = tt
+  fault_taken (Some from) now raw (Bad line code) next = absurd next
+  fault_taken (Some from) now raw TooLong next =
+      let sizes = ap size_of next.2 in omega (arith, next.3, sizes, size_of-pieces from.bytes)
+  fault_taken (Some from) now raw Read next = tt
+  fault_taken (Some from) now raw NoMemory next = absurd next
 
 -- ---- all rows
 
@@ -180,15 +178,13 @@ module _ (b : Building) where
     begins = next.begins;
   }
 
-  told_before : (from mid : TextState) (old new : List (Option GoodRow)) (finding : Finding) → RowsInFront b from (map said_of old) mid → TellsNext mid finding → TellsRows from finding
-  told_before from mid old new (Differs line) so_far told = record { end = mid; front = so_far.front; reads = so_far.reads; none_begins = so_far.none_begins; ended = told.0; line_is = told.1 }
-  told_before from mid old new (BadRow row reason) so_far told = absurd told
-  told_before from mid old new (Text (Bad line code)) so_far told = absurd told
-  told_before from mid old new (Text TooLong) so_far told = reads_past from mid so_far.front so_far.reads told
-  told_before from mid old new (Text Read) so_far told = tt
-  told_before from mid old new (Text NoMemory) so_far told = tt
+  told_before : (from mid : TextState) (old new : List (Option GoodRow)) (fault : TextFault) → RowsInFront b from (map said_of old) mid → TellsNext mid fault → TellsRows from fault
+  told_before from mid old new (Bad line code) so_far told = (record { end = mid; front = so_far.front; reads = so_far.reads; none_begins = so_far.none_begins; ended = told.0; line_is = told.1 }, told.2)
+  told_before from mid old new TooLong so_far told = reads_past from mid so_far.front so_far.reads told
+  told_before from mid old new Read so_far told = tt
+  told_before from mid old new NoMemory so_far told = tt
 
-  pub no_log_found : (before mid now : Option TextState) (old new : List (Option GoodRow)) (finding : Finding) → RowsSoFar b old before mid → IsNextTaken b old new mid (Err finding) now → TellsNoLog before finding
-  no_log_found None mid now old new finding so_far next = tt
-  no_log_found (Some from) None now old new finding so_far next = absurd so_far
-  no_log_found (Some from) (Some mid) now old new finding so_far next = told_before from mid old new finding so_far next
+  pub no_log_found : (before mid now : Option TextState) (old new : List (Option GoodRow)) (fault : TextFault) → RowsSoFar b old before mid → IsNextTaken b old new mid (Err fault) now → TellsNoLog before fault
+  no_log_found None mid now old new fault so_far next = tt
+  no_log_found (Some from) None now old new fault so_far next = absurd so_far
+  no_log_found (Some from) (Some mid) now old new fault so_far next = told_before from mid old new fault so_far next

@@ -1,7 +1,7 @@
 use Rattle.std.proofs.Common.{rules}
 use Rattle.row_text.specs.Records.{row_of_line}
-use Rattle.day_audit.proofs.OpeningLemmas.{row_grows}
-use Rattle.day_audit.proofs.openings.add_row.Goals as goal
+use Rattle.log_rows.proofs.RowLemmas.{row_grows}
+use Rattle.log_rows.proofs.rows.add_row.Goals as goal
 
 pub returns-clause-grows : goal.returns-clause-grows
 returns-clause-grows c =

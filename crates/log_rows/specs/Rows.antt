@@ -1,33 +1,27 @@
--- What stands in front of a log: a building, an opening snapshot of it, the header and the rows.
-use Rattle.std.specs.Prelude.{◌≡◌, ℕ, ◌+◌, ◌<◌, ◌≤◌, nat_lt, List, [], ◌∷◌, ◌++◌, length, map, codes, All, Option, None, Some, IfSome, IsSomeAnd, Result, Ok, Err, if◌then◌else◌}
+-- The rows of a day in front of its log.
+use Rattle.std.specs.Prelude.{◌≡◌, ℕ, ◌+◌, ◌<◌, ◌≤◌, List, [], ◌∷◌, ◌++◌, length, map, codes, All, Option, None, Some, IfSome, IsSomeAnd, IsTrue, option_map, Result, Ok, Err}
 use Rattle.elevator_model.specs.Building.{Building}
-use Rattle.search_model.specs.Days.{Row}
+use Rattle.search_model.specs.Days.{Row, is_row}
 use Rattle.lift_text.specs.Lines.{pieces_of, line_of}
-use Rattle.lift_text.specs.Reading.{TextState, line_limit}
+use Rattle.lift_text.specs.Reading.{TextState}
+use Rattle.lift_text.specs.declared.codes.TextCode.TheVariants.{CutShort}
+use Rattle.lift_text.specs.declared.faults.TextFault.{TextFault}
 use Rattle.lift_text.specs.declared.faults.TextFault.TheVariants.{Bad, NoMemory, Read, TooLong}
 use Rattle.row_text.specs.declared.rows.GoodRow.{GoodRow}
-use Rattle.row_text.specs.Records.{row_of_line, row_within}
-use Rattle.day_audit.specs.declared.findings.Finding.{Finding}
-use Rattle.day_audit.specs.declared.findings.Finding.TheVariants.{Differs, Row as BadRow, Text}
-use Rattle.day_audit.specs.declared.openings.Before.{Before}
-use Rattle.day_audit.specs.declared.openings.Before.TheVariants.{Log, Row as RowLine}
-use Rattle.day_audit.specs.Progress.{IsGood, said_of}
+use Rattle.row_text.specs.Records.{row_as_said, row_within}
+use Rattle.day_laws.specs.RowLines.{rows_of, rows_of_line, rows_of_short}
+use Rattle.log_rows.specs.declared.rows.Before.{Before}
+use Rattle.log_rows.specs.declared.rows.Before.TheVariants.{Log, Row as RowLine}
 
--- ---- the rows of lines
+-- ---- a row that was read
 
--- A line of no bytes is no row.
-abbrev pub rows_of_short : List ℕ → List (Option Row)
-rows_of_short [] = []
-rows_of_short (b ∷ line) = row_of_line (b ∷ line) ∷ []
+-- what it says
+abbrev pub said_of : Option GoodRow → Option Row
+said_of row = option_map row_as_said row
 
--- the row of a line without its end, if it is one; an over-long one says nothing
-abbrev pub rows_of_line : List ℕ → List (Option Row)
-rows_of_line line = if nat_lt line_limit (length line) then None ∷ [] else rows_of_short line
-
--- the rows of lines with their ends
-abbrev pub rows_of : List (List ℕ) → List (Option Row)
-rows_of [] = []
-rows_of (piece ∷ pieces) = rows_of_line (line_of piece) ++ rows_of pieces
+-- its numbers lie in their ranges, where it has some
+abbrev pub IsGood : Building → Option GoodRow → Type 0
+IsGood b row = IfSome row (λ r. IsTrue (is_row b (row_as_said r)))
 
 -- a row whose numbers do not lie in their ranges says none
 abbrev pub rows_within : Building → List (Option Row) → List (Option Row)
@@ -81,24 +75,22 @@ pub record Grows (b : Building) (old new : List (Option GoodRow)) : Type 0 where
   pub few : length new ≤ length old + 1
 
 -- what follows, where a row was to be added
-abbrev pub after_added : {E : Type 0} → Result Unit E → Result Before Finding
+abbrev pub after_added : {E : Type 0} → Result Unit E → Result Before TextFault
 after_added (Ok done) = Ok RowLine
-after_added (Err error) = Err (Text NoMemory)
+after_added (Err error) = Err NoMemory
 
 -- one line was judged, as it stands
-abbrev pub IsLineJudged : Building → List ℕ → List (Option GoodRow) → List (Option GoodRow) → Result Before Finding → Type 0
+abbrev pub IsLineJudged : Building → List ℕ → List (Option GoodRow) → List (Option GoodRow) → Result Before TextFault → Type 0
 IsLineJudged b line old new (Ok Log) = (line ≡ codes "day 1") × (new ≡ old)
 IsLineJudged b line old new (Ok RowLine) = (line ≡ codes "day 1" → ⊥) × AreAdded b (rows_of_short line) old new
-IsLineJudged b line old new (Err finding) = finding ≡ Text NoMemory
+IsLineJudged b line old new (Err fault) = fault ≡ NoMemory
 
 -- what is told of a text whose next line was read
-abbrev pub TellsNext : TextState → Finding → Type 0
-TellsNext from (Differs line) = (from.bytes ≡ []) × (line ≡ from.line + 1)
-TellsNext from (BadRow row reason) = ⊥
-TellsNext from (Text (Bad line code)) = ⊥
-TellsNext from (Text TooLong) = from.limit < length from.bytes
-TellsNext from (Text Read) = Unit {0}
-TellsNext from (Text NoMemory) = Unit {0}
+abbrev pub TellsNext : TextState → TextFault → Type 0
+TellsNext from (Bad line code) = (from.bytes ≡ []) × (line ≡ from.line + 1) × (code ≡ CutShort)
+TellsNext from TooLong = from.limit < length from.bytes
+TellsNext from Read = Unit {0}
+TellsNext from NoMemory = Unit {0}
 
 -- the next line is this one, which begins no log, and its rows were added
 pub record IsRowAppended (b : Building) (from to : TextState) (old new : List (Option GoodRow)) : Type 0 where
@@ -114,23 +106,21 @@ pub record IsLogBegun (from to : TextState) (old new : List (Option GoodRow)) : 
   pub begins : BeginsLog piece
   pub same : new ≡ old
 
-abbrev pub IsNextTaken : Building → List (Option GoodRow) → List (Option GoodRow) → Option TextState → Result Before Finding → Option TextState → Type 0
+abbrev pub IsNextTaken : Building → List (Option GoodRow) → List (Option GoodRow) → Option TextState → Result Before TextFault → Option TextState → Type 0
 IsNextTaken b old new None answer now = Unit {0}
 IsNextTaken b old new (Some from) (Ok RowLine) now = IsSomeAnd now (λ to. IsRowAppended b from to old new)
 IsNextTaken b old new (Some from) (Ok Log) now = IsSomeAnd now (λ to. IsLogBegun from to old new)
-IsNextTaken b old new (Some from) (Err finding) now = TellsNext from finding
+IsNextTaken b old new (Some from) (Err fault) now = TellsNext from fault
 
 -- what is told of a text whose rows were read
-abbrev pub TellsRows : TextState → Finding → Type 0
-TellsRows from (Differs line) = IsWithoutLog from line
-TellsRows from (BadRow row reason) = ⊥
-TellsRows from (Text (Bad line code)) = ⊥
-TellsRows from (Text TooLong) = from.limit < length from.bytes
-TellsRows from (Text Read) = Unit {0}
-TellsRows from (Text NoMemory) = Unit {0}
+abbrev pub TellsRows : TextState → TextFault → Type 0
+TellsRows from (Bad line code) = IsWithoutLog from line × (code ≡ CutShort)
+TellsRows from TooLong = from.limit < length from.bytes
+TellsRows from Read = Unit {0}
+TellsRows from NoMemory = Unit {0}
 
-abbrev pub TellsNoLog : Option TextState → Finding → Type 0
-TellsNoLog before finding = IfSome before (λ from. TellsRows from finding)
+abbrev pub TellsNoLog : Option TextState → TextFault → Type 0
+TellsNoLog before fault = IfSome before (λ from. TellsRows from fault)
 
 -- these rows were read, and the log is left
 abbrev pub AreRowsGiven : Building → List (Option GoodRow) → Option TextState → Option TextState → Type 0

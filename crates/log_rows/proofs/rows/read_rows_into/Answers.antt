@@ -1,15 +1,16 @@
-use Rattle.std.proofs.Common.{All, ap, arith, length, subst, sym}
+use Rattle.std.proofs.Common.{All, ap, arith, length, refl, subst, sym, ◌∙◌}
 use Rattle.std.proofs.lemmas.List.Elements.{All-nil}
 use Rattle.lift_text.specs.LineReader.{text}
-use Rattle.day_audit.specs.Progress.{IsGood}
-use Rattle.day_audit.proofs.OpeningLemmas.{log_found, more_so_far, no_log_found, none_so_far}
-use Rattle.day_audit.proofs.openings.read_rows_into.Goals as goal
+use Rattle.log_rows.specs.Rows.{IsGood}
+use Rattle.log_rows.proofs.RowLemmas.{log_found, more_so_far, no_log_found, none_so_far}
+use Rattle.log_rows.proofs.rows.read_rows_into.Goals as goal
 
 pub lines-init : goal.lines-init
 lines-init g c =
     let b = c.args.building.now in
     let none = c.requires.none in
     record {
+      same_source = refl;
       no_failure = c.requires.whole;
       so_far = none_so_far b (text g.S.Source.left c.args.lines.now) c.args.rows.now.items none;
       good = subst (All (IsGood b)) (sym none) (All-nil (IsGood b));
@@ -25,6 +26,7 @@ lines-preserved g c =
     let before = c.lines.invariant in
     let did = rw c.in-Ok-Row.field-0-is at c.in-Ok-Row.ensures in
     record {
+      same_source = did.same_source ∙ before.same_source;
       no_failure = did.ok;
       so_far = more_so_far c.args.building.now (text left c.args.lines.now) (text left c.lines.lines) (text left new.lines) c.lines.rows.items new.rows.items before.so_far did.taken;
       good = did.grows.good before.good;
@@ -54,4 +56,4 @@ pub returns-in-Err-clause-told : goal.returns-in-Err-clause-told
 returns-in-Err-clause-told g c =
     let left = g.S.Source.left in
     let new = c.take_next.new in
-    no_log_found c.args.building.now (text left c.args.lines.now) (text left c.lines.lines) (text left new.lines) c.lines.rows.items new.rows.items c.in-Err.finding c.lines.invariant.so_far c.in-Err.ensures.taken
+    no_log_found c.args.building.now (text left c.args.lines.now) (text left c.lines.lines) (text left new.lines) c.lines.rows.items new.rows.items c.in-Err.fault c.lines.invariant.so_far c.in-Err.ensures.taken

@@ -1,10 +1,9 @@
-use Rattle.std.proofs.Common.{ℕ, Err, List, ap, arith, subst}
+use Rattle.std.proofs.Common.{ℕ, List, arith, subst}
 use Rattle.lift_text.specs.LineReader.{line, raw, text}
 use Rattle.opening_text.proofs.HeaderLemmas.{number_of}
-use Rattle.day_audit.specs.Openings.{IsLineJudged}
-use Rattle.day_audit.proofs.OpeningLemmas.{end_taken, fault_taken, line_taken, long_grows_after, long_taken}
-use Rattle.day_audit.proofs.TakingLemmas.{unread_is}
-use Rattle.day_audit.proofs.openings.take_next.Goals as goal
+use Rattle.log_rows.specs.Rows.{IsLineJudged}
+use Rattle.log_rows.proofs.RowLemmas.{end_taken, fault_taken, line_taken, long_grows_after, long_taken}
+use Rattle.log_rows.proofs.rows.take_next.Goals as goal
 
 pub returns-in-Ok-Line-clause-taken : goal.returns-in-Ok-Line-clause-taken
 returns-in-Ok-Line-clause-taken g c =
@@ -42,7 +41,4 @@ returns-in-Err-clause-taken g c =
     let left = g.S.Source.left in
     let new = c.raw_line.new.self in
     let rows = c.args.rows.now.items in
-    fault_taken c.args.building.now rows rows (text left c.args.lines.now) (text left new) (raw new) c.in-Err.fault c.bad_text.result (c.in-Err.ensures.next c.requires.whole) c.bad_text.ensures
-
-pub returns-in-Err-clause-read : goal.returns-in-Err-clause-read
-returns-in-Err-clause-read g c = λ unread. c.in-Err.ensures.read c.requires.whole (ap Err (unread_is c.in-Err.fault c.bad_text.result c.bad_text.ensures unread))
+    fault_taken c.args.building.now rows rows (text left c.args.lines.now) (text left new) (raw new) c.in-Err.fault (c.in-Err.ensures.next c.requires.whole)

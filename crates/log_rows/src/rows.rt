@@ -1,17 +1,15 @@
-//! What stands in front of a log: the rows of the day.
+//! The rows of a day in front of its log.
 
 ghost use Rattle.std.specs.Prelude.{◌≡◌, ◌↔◌, ◌≤◌, ◌+◌, ◌∷◌, ◌++◌, [], None, All, IfErr, IfOk, OnOk};
-ghost use Rattle.std.specs.Prelude.{IsTrue, length, codes};
+ghost use Rattle.std.specs.Prelude.{IsErrOf, IsTrue, length, codes};
 ghost use Rattle.byte_streams.specs.Streams.{Rose};
 ghost use Rattle.lift_text.specs.LineReader.{text, line, failure};
-ghost use Rattle.day_audit.specs.Openings.{AreAdded, AreRowsGiven, Grows, IsLineJudged, IsNextTaken};
-ghost use Rattle.day_audit.specs.Openings.{TellsNoLog, after_added as after_added_lem, rows_of_short};
-ghost use Rattle.day_audit.specs.Progress.{IsGood};
-ghost use Rattle.day_audit.specs.Taking.{IsUnread};
+ghost use Rattle.day_laws.specs.RowLines.{rows_of_short};
+ghost use Rattle.log_rows.specs.Rows.{AreAdded, AreRowsGiven, Grows, IsGood, IsLineJudged, IsNextTaken};
+ghost use Rattle.log_rows.specs.Rows.{TellsNoLog, after_added as after_added_lem};
 
-use crate::findings::{Finding, bad_text};
 use call_state::Building;
-use lift_text::{LINE_COUNT_BOUND, LineReader, RawLine, Source, TEXT_LIMIT, TextFault};
+use lift_text::{LINE_COUNT_BOUND, LineReader, RawLine, Source, TEXT_LIMIT, TextCode, TextFault};
 use row_text::{GoodRow, read_row};
 use std::alloc::{AllocError, Global};
 
@@ -62,14 +60,12 @@ fn add_long_row(rows: &mut Vec<Option<GoodRow>>) -> Result<(), AllocError>
 }
 
 /// The line of a row was read, or there is no memory for the row.
-fn after_added(added: Result<(), AllocError>) -> Result<Before, Finding>
+fn after_added(added: Result<(), AllocError>) -> Result<Before, TextFault>
     ensures { result ≡ after_added_lem added }
 {
     match added {
         Ok(()) => Ok(Before::Row),
-        Err(_) => Err(Finding::Text {
-            fault: TextFault::NoMemory,
-        }),
+        Err(_) => Err(TextFault::NoMemory),
     }
 }
 
@@ -79,7 +75,7 @@ fn judge_line(
     building: &Building,
     line: &[u8],
     rows: &mut Vec<Option<GoodRow>>,
-) -> Result<Before, Finding>
+) -> Result<Before, TextFault>
     ensures judged { IsLineJudged building.now line.now rows.old.items rows.new.items result }
     ensures grows { OnOk result (Grows building.now rows.old.items rows.new.items) }
 {
@@ -95,24 +91,26 @@ fn take_next<S: Source>(
     lines: &mut LineReader<S>,
     building: &Building,
     rows: &mut Vec<Option<GoodRow>>,
-) -> Result<Before, Finding>
+) -> Result<Before, TextFault>
     requires whole { failure lines.old ≡ None }
+    ensures same_source { lines.new.source.ghost_name ≡ lines.old.source.ghost_name }
     ensures taken { IsNextTaken building.now rows.old.items rows.new.items (text S.left lines.old) result
         (text S.left lines.new) }
     ensures grows { OnOk result (Grows building.now rows.old.items rows.new.items) }
     ensures ok { OnOk result (failure lines.new ≡ None) }
     ensures line { OnOk result (line lines.new ≡ line lines.old + 1) }
-    ensures read { IsUnread result
+    ensures read { IsErrOf result TextFault.Read
         → Rose (S.faults lines.old.source.now) (S.faults lines.new.source.now) }
     ensures counted { S.faults lines.old.source.now ≤ S.faults lines.new.source.now }
 {
     match lines.raw_line() {
         Ok(RawLine::Line) => judge_line(alloc, building, lines.raw(), rows),
         Ok(RawLine::Long) => after_added(add_long_row(rows)),
-        Ok(RawLine::End) => Err(Finding::Differs {
+        Ok(RawLine::End) => Err(TextFault::Bad {
             line: lines.line() + 1,
+            code: TextCode::CutShort,
         }),
-        Err(fault) => Err(bad_text(fault)),
+        Err(fault) => Err(fault),
     }
 }
 
@@ -122,16 +120,17 @@ fn read_rows_into<S: Source>(
     lines: &mut LineReader<S>,
     building: &Building,
     rows: &mut Vec<Option<GoodRow>>,
-) -> Result<(), Finding>
+) -> Result<(), TextFault>
     requires whole { failure lines.old ≡ None }
     requires none { rows.old.items ≡ [] }
+    ensures same_source { lines.new.source.ghost_name ≡ lines.old.source.ghost_name }
     ensures rows { OnOk result (AreRowsGiven building.now rows.new.items (text S.left lines.old)
         (text S.left lines.new)) }
     ensures good { OnOk result (All (IsGood building.now) rows.new.items) }
     ensures few { OnOk result (length rows.new.items ≤ TEXT_LIMIT + 1) }
     ensures told { IfErr result (TellsNoLog (text S.left lines.old)) }
     ensures ok { OnOk result (failure lines.new ≡ None) }
-    ensures read { IsUnread result
+    ensures read { IsErrOf result TextFault.Read
         → Rose (S.faults lines.old.source.now) (S.faults lines.new.source.now) }
     ensures counted { S.faults lines.old.source.now ≤ S.faults lines.new.source.now }
 {
@@ -141,36 +140,37 @@ fn read_rows_into<S: Source>(
         match take_next(alloc, lines, building, rows) {
             Ok(Before::Row) => {}
             Ok(Before::Log) => return Ok(()),
-            Err(finding) => return Err(finding),
+            Err(fault) => return Err(fault),
         }
     }
     // For the proof: a line's number is at most 67,108,864, so this is never reached.
     let _last = lines.line();
-    Err(Finding::Text {
-        fault: TextFault::TooLong,
-    })
+    Err(TextFault::TooLong)
 }
 
-/// Reads the rows up to the first line of the log, which is read, too.
-pub(crate) fn read_rows<S: Source>(
+/// Reads the rows up to the first line of the log, which is read, too: the first that is exactly `day 1`.
+///
+/// `CutShort` comes where no line is that one, at the line after the last.
+pub fn read_rows<S: Source>(
     alloc: Global,
     lines: &mut LineReader<S>,
     building: &Building,
-) -> Result<Vec<Option<GoodRow>>, Finding>
+) -> Result<Vec<Option<GoodRow>>, TextFault>
     requires whole { failure lines.old ≡ None }
+    ensures same_source { lines.new.source.ghost_name ≡ lines.old.source.ghost_name }
     ensures rows { IfOk result (λ rows. AreRowsGiven building.now rows.items (text S.left lines.old)
         (text S.left lines.new)) }
     ensures good { IfOk result (λ rows. All (IsGood building.now) rows.items) }
     ensures few { IfOk result (λ rows. length rows.items ≤ TEXT_LIMIT + 1) }
     ensures told { IfErr result (TellsNoLog (text S.left lines.old)) }
     ensures ok { OnOk result (failure lines.new ≡ None) }
-    ensures read { IsUnread result
+    ensures read { IsErrOf result TextFault.Read
         → Rose (S.faults lines.old.source.now) (S.faults lines.new.source.now) }
     ensures counted { S.faults lines.old.source.now ≤ S.faults lines.new.source.now }
 {
     let mut rows = Vec::new(alloc);
     match read_rows_into(alloc, lines, building, &mut rows) {
         Ok(()) => Ok(rows),
-        Err(finding) => Err(finding),
+        Err(fault) => Err(fault),
     }
 }
