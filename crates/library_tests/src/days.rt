@@ -6,7 +6,7 @@ ghost use Rattle.lift_text.specs.LineReader.{failure};
 ghost use Rattle.day_simulator.specs.Planning.{IsRightPlan};
 
 use crate::makers::{OfLines, is_so_of};
-use byte_streams::{MemorySink, MemorySource};
+use byte_streams::{MemorySink, MemorySource, OpenGate};
 use call_state::Snapshot;
 use day_runner::{Ended, run_day_text};
 use day_simulator::Planned;
@@ -43,7 +43,7 @@ fn ended(
     let plan = |snapshot: &Snapshot|
         ensures { IfOk result (λ planned. IsRightPlan snapshot.now planned.stated) }
     { planned(alloc, snapshot) };
-    run_day_text(alloc, &plan, lines, sink).ok()
+    run_day_text(alloc, &plan, lines, sink, &OpenGate).ok()
 }
 
 const DAY: &[u8] = b"building 1

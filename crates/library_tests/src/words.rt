@@ -17,6 +17,7 @@ fn are_same(options: SolveOptions, due: SolveOptions) -> bool {
         && options.workers == due.workers
         && options.claims == due.claims
         && options.brief == due.brief
+        && options.progress == due.progress
 }
 
 /// Whether the words are the request with these options.
@@ -40,6 +41,7 @@ fn a_request_has_its_numbers(rt: HostRuntime) {
         workers: 3,
         claims: 29,
         brief: true,
+        progress: false,
     };
     let words = [
         "lift",

@@ -1,12 +1,16 @@
 //! `lift`: exact, machine-checked dispatching of elevator groups.
 //!
-//! `main` takes the real words, source and sink, calls `run` of `lift_commands` and ends with its status.
+//! `main` takes the real words, source and sink, and standard error for what is told of the work's progress,
+//! calls `run` of `lift_commands` and ends with its status.
 #![tactic(auto)]
 
 ghost use Rattle.std.specs.Prelude.{◌≡◌, IfErr};
 
-use byte_streams::{OpenGate, Sink, Source, StdSink, StdSource};
+mod progress;
+
+use byte_streams::{Sink, Source, StdSink, StdSource};
 use lift_commands::{Status, run};
+use progress::ErrorGate;
 use std::alloc::Global;
 use std::marker::Sync;
 use std::process::ExitCode;
@@ -28,13 +32,13 @@ fn words(rt: &HostRuntime) -> Result<Vec<String>, Status>
 /// Runs the command of these words. What `run` promises stays out of the proof of `main`, which lets go of
 /// the words, the source and the sink.
 fn status_of<S: Source, K: Sink>(
-    rt: &(impl Threads + Sync),
+    rt: &(impl Threads + Eprint + Sync),
     alloc: Global,
     words: &[String],
     source: &mut S,
     sink: &mut K,
 ) -> Status {
-    run(rt, alloc, words, source, sink, &OpenGate)
+    run(rt, alloc, words, source, sink, &ErrorGate::new(rt))
 }
 
 fn main(rt: HostRuntime) -> ExitCode {

@@ -22,7 +22,8 @@ use Rattle.day_simulator.specs.Rows.{IsRowDone, next_step}
 use Rattle.day_laws.specs.Standing.{IsStanding, row_number}
 use Rattle.day_laws.proofs.NoneLost.{accepted-stands, opening-stands, refused-stands}
 use Rattle.day_simulator.proofs.RowLemmas.{done-numbered}
-use Rattle.day_runner.specs.Runs.{AreRowsDone, ReadLines, Right, bytes_of, rows_of, rows_of_line, rows_of_short}
+use Rattle.day_laws.specs.RowLines.{rows_of, rows_of_line, rows_of_short}
+use Rattle.day_runner.specs.Runs.{AreRowsDone, ReadLines, Right, bytes_of}
 use Rattle.day_runner.specs.Inputs.{DayRan}
 use Rattle.day_runner.specs.Days.{ReadsDay}
 use Rattle.day_runner.specs.declared.days.Ended.{Ended}

@@ -12,7 +12,8 @@ use Rattle.search_model.specs.Days.{opening_day}
 use Rattle.search_model.specs.Reports.{report_of}
 use Rattle.service_report.specs.ReportTexts.{report_text}
 use Rattle.day_planner.specs.SolvedRows.{AreEnoughFor, IsSolvedRow}
-use Rattle.day_runner.specs.Runs.{Right, rows_of}
+use Rattle.day_laws.specs.RowLines.{rows_of}
+use Rattle.day_runner.specs.Runs.{Right}
 use Rattle.day_runner.specs.Inputs.{DayRan, IsDayText}
 use Rattle.day_runner.specs.declared.days.Ended.{Ended}
 use Rattle.day_runner.specs.declared.rows.RunFault.{RunFault}

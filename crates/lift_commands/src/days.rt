@@ -95,7 +95,7 @@ fn run_input<S: Source, K: Sink, G: Gate + Sync>(
         Ok(lines) => lines,
         Err(_) => return Err(DayFault::Opening(TextFault::NoMemory)),
     };
-    let ended = run_day_text(alloc, &plan, &mut lines, sink);
+    let ended = run_day_text(alloc, &plan, &mut lines, sink, gate);
     lines.into_source();
     ended
 }

@@ -152,6 +152,7 @@ mod making;
 mod running;
 mod solving;
 mod status;
+mod watching;
 
 pub use command_ends::Status;
 pub use running::run;

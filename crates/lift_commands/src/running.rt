@@ -15,6 +15,7 @@ use crate::checking::check;
 use crate::days::{day, report};
 use crate::making::{write_made_case, write_solved_case};
 use crate::solving::solve;
+use crate::watching::{Watch, Watched};
 use audit_command::audit;
 use byte_streams::{Gate, Sink, Source};
 use command_ends::{Status, put};
@@ -54,7 +55,8 @@ const USAGE: &[u8] = b"usage: lift solve/check/day/report/make [options]\n";
 /// - `make` writes a generated case, and `make --run` the cost and the bound of such a case; they read nothing.
 ///
 /// All write what is wrong with an input that they do not take: its first bad line with its code, or that it
-/// is too long. Other words are refused with the usage line.
+/// is too long. Other words are refused with the usage line. The gate is told how far a search of `solve` and
+/// the rows of `day` have come where `--progress` asks for it; nothing else depends on that.
 pub fn run<S: Source, K: Sink, G: Gate + Sync>(
     rt: &(impl Threads + Sync),
     alloc: Global,
@@ -165,27 +167,34 @@ pub fn run<S: Source, K: Sink, G: Gate + Sync>(
     // Words that ask for no input, as those of `make` do, leave the source as it was, whatever the status.
     ensures unread { AskForNoInput (map string_bytes words.now) → source.new ≡ source.old }
 {
+    let quiet = Watch::new(gate, Watched::Nothing);
     match read_words(alloc, words) {
-        Ok(Request::Solve(options)) => solve(rt, alloc, options, source, sink, gate),
-        Ok(Request::Check(options)) => check(rt, alloc, options, source, sink, gate),
-        Ok(Request::Day(options)) => day(rt, alloc, options, source, sink, gate),
+        Ok(Request::Solve(options)) => {
+            let watch = Watch::new(gate, Watched::Search.only_if(options.progress));
+            solve(rt, alloc, options, source, sink, &watch)
+        }
+        Ok(Request::Check(options)) => check(rt, alloc, options, source, sink, &quiet),
+        Ok(Request::Day(options)) => {
+            let watch = Watch::new(gate, Watched::Rows.only_if(options.progress));
+            day(rt, alloc, options, source, sink, &watch)
+        }
         Ok(Request::Report(options)) => report(
             rt,
             alloc,
             options.without_certificates(),
             source,
             sink,
-            gate,
+            &quiet,
         ),
         Ok(Request::Make(sizes)) => write_made_case(alloc, sizes, sink),
-        Ok(Request::Run(options)) => write_solved_case(rt, alloc, options, sink, gate),
+        Ok(Request::Run(options)) => write_solved_case(rt, alloc, options, sink, &quiet),
         Ok(Request::Table) => table(alloc, source, sink),
-        Ok(Request::WhatIf(options)) => ask(rt, alloc, options, source, sink, gate),
-        Ok(Request::Banks(options)) => run_banks(rt, alloc, options, source, sink, gate),
+        Ok(Request::WhatIf(options)) => ask(rt, alloc, options, source, sink, &quiet),
+        Ok(Request::Banks(options)) => run_banks(rt, alloc, options, source, sink, &quiet),
         Ok(Request::Root(options)) => {
             root(rt, alloc, options.rounds, options.moves, source, sink)
         }
-        Ok(Request::Audit(options)) => audit(rt, alloc, options.workers, source, sink, gate),
+        Ok(Request::Audit(options)) => audit(rt, alloc, options.workers, source, sink, &quiet),
         Err(WordsFault::NotTaken) => put(sink, USAGE, Status::Words),
         Err(WordsFault::NoMemory) => Status::Memory,
     }

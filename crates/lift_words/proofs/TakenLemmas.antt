@@ -10,7 +10,7 @@ use Rattle.clap.specs.Simple.{matches_of}
 use Rattle.clap.specs.Takes.{takes}
 use Rattle.lift_words.specs.Table.{app, command_of, word_of}
 use Rattle.lift_words.specs.Repeats.{IsRepeated}
-use Rattle.lift_words.specs.Taken.{AreTaken, Asks, AsksBy, AsksForBrief, AsksForCerts, AsksForDay, AsksForRoot, AsksForSearch, AsksForSizes, AsksToCheck, AsksToRun, AsksToSolve, IsSecond, command_asked}
+use Rattle.lift_words.specs.Taken.{AreTaken, Asks, AsksBy, AsksForBrief, AsksForCerts, AsksForDay, AsksForProgress, AsksForRoot, AsksForSearch, AsksForSizes, AsksToCheck, AsksToRun, AsksToSolve, IsSecond, command_asked}
 use Rattle.lift_words.specs.declared.table.CommandWord.{CommandWord}
 use Rattle.lift_words.specs.declared.table.CommandWord.TheVariants as command
 use Rattle.lift_words.specs.declared.request.Request.{Request}
@@ -144,7 +144,8 @@ asks_to_solve_one rows a b x y =
     let workers = only (sym x.workers ∙ y.workers) in
     let claims = only (sym x.claims ∙ y.claims) in
     let brief = same_truth (AsksForBrief rows) a.brief b.brief x.brief y.brief in
-    λ i. record { rounds = rounds i; moves = moves i; workers = workers i; claims = claims i; brief = brief i }
+    let progress = same_truth (AsksForProgress rows) a.progress b.progress x.progress y.progress in
+    λ i. record { rounds = rounds i; moves = moves i; workers = workers i; claims = claims i; brief = brief i; progress = progress i }
 
 asks_to_check_one : (rows : List Row) (a b : CheckOptions) → AsksToCheck rows a → AsksToCheck rows b → a ≡ b
 asks_to_check_one rows a b x y =
@@ -163,7 +164,8 @@ asks_for_day_one rows a b x y =
     let search = asks_for_search_one rows a.search b.search x.search y.search in
     let claims = only (sym x.claims ∙ y.claims) in
     let certs = same_truth (AsksForCerts rows) a.certs b.certs x.certs y.certs in
-    λ i. record { search = search i; claims = claims i; certs = certs i }
+    let progress = same_truth (AsksForProgress rows) a.progress b.progress x.progress y.progress in
+    λ i. record { search = search i; claims = claims i; certs = certs i; progress = progress i }
 
 asks_for_root_one : (rows : List Row) (a b : RootOptions) → AsksForRoot rows a → AsksForRoot rows b → a ≡ b
 asks_for_root_one rows a b x y =

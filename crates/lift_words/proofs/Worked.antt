@@ -30,14 +30,14 @@ two one other unlike r = by_places r.first r.second r.order r.within r.repeats
     by_places zero (suc (suc k)) order within same = absurd (omega arith)
     by_places (suc j) k order within same = absurd (omega arith)
 
-pub solve_by_defaults : AreTaken (codes "lift" ∷ codes "solve" ∷ codes "--brief" ∷ []) (Solve (record { rounds = 2000; moves = 75000; workers = 1; claims = 1000000000; brief = true }))
+pub solve_by_defaults : AreTaken (codes "lift" ∷ codes "solve" ∷ codes "--brief" ∷ []) (Solve (record { rounds = 2000; moves = 75000; workers = 1; claims = 1000000000; brief = true; progress = false }))
 unfolding clap_on_literals
 solve_by_defaults = record {
   command = refl;
   unrepeated = alone (codes "--brief");
   no_dashes = only;
   accepted = refl;
-  asks = record { brief = (λ _. refl, λ _. refl); rounds = refl; moves = refl; workers = refl; claims = refl };
+  asks = record { brief = (λ _. refl, λ _. refl); progress = (λ e. absurd cc, λ e. absurd cc); rounds = refl; moves = refl; workers = refl; claims = refl };
 }
   where
     only : Contains (codes "--brief" ∷ []) (codes "--") → ⊥
@@ -76,14 +76,14 @@ run_with_five_rounds = record {
     only (suc zero, lt, same) = absurd cc
     only (suc (suc k), lt, same) = absurd (omega arith)
 
-pub solve_with_certificate : AreTaken (codes "lift" ∷ codes "solve" ∷ codes "--rounds=5" ∷ []) (Solve (record { rounds = 5; moves = 75000; workers = 1; claims = 1000000000; brief = false }))
+pub solve_with_certificate : AreTaken (codes "lift" ∷ codes "solve" ∷ codes "--rounds=5" ∷ []) (Solve (record { rounds = 5; moves = 75000; workers = 1; claims = 1000000000; brief = false; progress = false }))
 unfolding clap_on_literals
 solve_with_certificate = record {
   command = refl;
   unrepeated = alone (codes "--rounds=5");
   no_dashes = only;
   accepted = refl;
-  asks = record { brief = (λ e. absurd cc, λ e. absurd cc); rounds = refl; moves = refl; workers = refl; claims = refl };
+  asks = record { brief = (λ e. absurd cc, λ e. absurd cc); progress = (λ e. absurd cc, λ e. absurd cc); rounds = refl; moves = refl; workers = refl; claims = refl };
 }
   where
     only : Contains (codes "--rounds=5" ∷ []) (codes "--") → ⊥
@@ -104,28 +104,42 @@ check_with_three = record {
     only (zero, lt, same) = absurd cc
     only (suc k, lt, same) = absurd (omega arith)
 
-pub day_of_five_rounds : AreTaken (codes "lift" ∷ codes "day" ∷ codes "--rounds=5" ∷ []) (Day (record { search = record { rounds = 5; moves = 75000; workers = 1 }; claims = 1000000000; certs = false }))
+pub day_of_five_rounds : AreTaken (codes "lift" ∷ codes "day" ∷ codes "--rounds=5" ∷ []) (Day (record { search = record { rounds = 5; moves = 75000; workers = 1 }; claims = 1000000000; certs = false; progress = false }))
 unfolding clap_on_literals
 day_of_five_rounds = record {
   command = refl;
   unrepeated = alone (codes "--rounds=5");
   no_dashes = only;
   accepted = refl;
-  asks = record { certs = (λ e. absurd cc, λ e. absurd cc); search = record { rounds = refl; moves = refl; workers = refl }; claims = refl };
+  asks = record { certs = (λ e. absurd cc, λ e. absurd cc); progress = (λ e. absurd cc, λ e. absurd cc); search = record { rounds = refl; moves = refl; workers = refl }; claims = refl };
 }
   where
     only : Contains (codes "--rounds=5" ∷ []) (codes "--") → ⊥
     only (zero, lt, same) = absurd cc
     only (suc k, lt, same) = absurd (omega arith)
 
-pub day_with_certificates : AreTaken (codes "lift" ∷ codes "day" ∷ codes "--certs" ∷ []) (Day (record { search = record { rounds = 2000; moves = 75000; workers = 1 }; claims = 1000000000; certs = true }))
+pub solve_with_progress : AreTaken (codes "lift" ∷ codes "solve" ∷ codes "--progress" ∷ []) (Solve (record { rounds = 2000; moves = 75000; workers = 1; claims = 1000000000; brief = false; progress = true }))
+unfolding clap_on_literals
+solve_with_progress = record {
+  command = refl;
+  unrepeated = alone (codes "--progress");
+  no_dashes = only;
+  accepted = refl;
+  asks = record { brief = (λ e. absurd cc, λ e. absurd cc); progress = (λ _. refl, λ _. refl); rounds = refl; moves = refl; workers = refl; claims = refl };
+}
+  where
+    only : Contains (codes "--progress" ∷ []) (codes "--") → ⊥
+    only (zero, lt, same) = absurd cc
+    only (suc k, lt, same) = absurd (omega arith)
+
+pub day_with_certificates : AreTaken (codes "lift" ∷ codes "day" ∷ codes "--certs" ∷ []) (Day (record { search = record { rounds = 2000; moves = 75000; workers = 1 }; claims = 1000000000; certs = true; progress = false }))
 unfolding clap_on_literals
 day_with_certificates = record {
   command = refl;
   unrepeated = alone (codes "--certs");
   no_dashes = only;
   accepted = refl;
-  asks = record { certs = (λ _. refl, λ _. refl); search = record { rounds = refl; moves = refl; workers = refl }; claims = refl };
+  asks = record { certs = (λ _. refl, λ _. refl); progress = (λ e. absurd cc, λ e. absurd cc); search = record { rounds = refl; moves = refl; workers = refl }; claims = refl };
 }
   where
     only : Contains (codes "--certs" ∷ []) (codes "--") → ⊥

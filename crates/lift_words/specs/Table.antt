@@ -73,9 +73,9 @@ numbers_of Audit = Workers ∷ []
 
 -- and those that take no value
 abbrev pub flags_of : CommandWord → List Text
-flags_of Solve = codes "brief" ∷ []
+flags_of Solve = codes "brief" ∷ codes "progress" ∷ []
 flags_of Check = []
-flags_of Day = codes "certs" ∷ []
+flags_of Day = codes "certs" ∷ codes "progress" ∷ []
 flags_of Report = []
 flags_of Make = codes "run" ∷ []
 flags_of Table = []

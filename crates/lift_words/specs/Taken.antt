@@ -41,8 +41,13 @@ number_of rows option = number_from (setting_of option) (first_of (setting_of op
 abbrev pub AsksForBrief : List Row → Type 0
 AsksForBrief rows = first_of (codes "brief") rows ≡ Some (codes "true")
 
+-- how far the work has come is to be told
+abbrev pub AsksForProgress : List Row → Type 0
+AsksForProgress rows = first_of (codes "progress") rows ≡ Some (codes "true")
+
 pub record AsksToSolve (rows : List Row) (options : SolveOptions) : Type 0 where
   pub brief : IsTrue options.brief ↔ AsksForBrief rows
+  pub progress : IsTrue options.progress ↔ AsksForProgress rows
   pub rounds : number_of rows Rounds ≡ Some options.rounds
   pub moves : number_of rows Moves ≡ Some options.moves
   pub workers : number_of rows Workers ≡ Some options.workers
@@ -63,6 +68,7 @@ AsksForCerts rows = first_of (codes "certs") rows ≡ Some (codes "true")
 
 pub record AsksForDay (rows : List Row) (options : DayOptions) : Type 0 where
   pub certs : IsTrue options.certs ↔ AsksForCerts rows
+  pub progress : IsTrue options.progress ↔ AsksForProgress rows
   pub search : AsksForSearch rows options.search
   pub claims : number_of rows Claims ≡ Some options.claims
 
@@ -72,7 +78,7 @@ most_claims options = if options.certs then Some options.claims else None
 
 -- a day whose certificates are not wanted; what their claims may sum to has no effect
 abbrev pub without_certificates : SearchOptions → DayOptions
-without_certificates options = record { search = options; claims = 1; certs = false }
+without_certificates options = record { search = options; claims = 1; certs = false; progress = false }
 
 pub record AsksForRoot (rows : List Row) (options : RootOptions) : Type 0 where
   pub rounds : number_of rows Turns ≡ Some options.rounds

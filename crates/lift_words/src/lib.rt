@@ -6,8 +6,8 @@
 //!   options and `clap`'s own statement; refuses exactly the words that are not taken (`AreTaken`, in
 //!   `specs/Taken.antt`); or is out of memory.
 //!
-//! A request is `Solve`, `Day`, `Report`, `WhatIf` or `Banks` with its limits (of `Day` also whether
-//! certificates are wanted), `Check` and `Audit` with their workers, `Make` with its sizes, `Run`
+//! A request is `Solve`, `Day`, `Report`, `WhatIf` or `Banks` with its limits (of `Solve` also whether
+//! a certificate is, of `Day` whether certificates are wanted, of both whether progress is to be told), `Check` and `Audit` with their workers, `Make` with its sizes, `Run`
 //! (`make --run`) with sizes and limits, `Root` with its turns and its limit, or `Table`. Words are taken where
 //! the second is a command, no option is repeated and no word is `--` alone, `clap`'s own statement for the
 //! command's row of the table (`takes`) holds of the words, and each value is a number word in its range. The

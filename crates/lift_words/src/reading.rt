@@ -78,7 +78,7 @@ fn asked(command: CommandWord, matches: &ArgMatches<'_>) -> Option<Request>
     }
 }
 
-/// The options of `solve`: those of a search, the limit of claims, and a flag.
+/// The options of `solve`: those of a search, the limit of claims, and two flags.
 fn solve_options(matches: &ArgMatches<'_>) -> Option<SolveOptions>
     ensures asked { let rows = rows_of (found_of matches.now) in
         ExactlyWhere (AsksToSolve rows) result }
@@ -91,6 +91,7 @@ fn solve_options(matches: &ArgMatches<'_>) -> Option<SolveOptions>
         workers: limits.workers,
         claims: number(matches, NumberOption::Claims)?,
         brief: is_given(matches, "brief"),
+        progress: is_given(matches, "progress"),
     })
 }
 
@@ -106,7 +107,7 @@ fn check_options(matches: &ArgMatches<'_>) -> Option<CheckOptions>
     })
 }
 
-/// The options of `day`: those of a search, the limit of claims, and a flag.
+/// The options of `day`: those of a search, the limit of claims, and two flags.
 fn day_options(matches: &ArgMatches<'_>) -> Option<DayOptions>
     ensures asked { let rows = rows_of (found_of matches.now) in
         ExactlyWhere (AsksForDay rows) result }
@@ -116,6 +117,7 @@ fn day_options(matches: &ArgMatches<'_>) -> Option<DayOptions>
         search: search_options(matches)?,
         claims: number(matches, NumberOption::Claims)?,
         certs: is_given(matches, "certs"),
+        progress: is_given(matches, "progress"),
     })
 }
 

@@ -48,6 +48,8 @@ pub struct SolveOptions {
     pub claims: u64,
     /// `--brief`: no certificate is to be written.
     pub brief: bool,
+    /// `--progress`: how far the search has come is to be told.
+    pub progress: bool,
 }
 
 /// The options of `check` and `audit`.
@@ -66,6 +68,8 @@ pub struct DayOptions {
     pub claims: u64,
     /// `--certs`: each plan is to be written with its certificate.
     pub certs: bool,
+    /// `--progress`: how far the day has come is to be told.
+    pub progress: bool,
 }
 
 /// The options of `report`, `whatif` and `banks`, and some of `day`: the limits of each search, and the
@@ -89,6 +93,7 @@ impl SearchOptions {
             search: self,
             claims: 1,
             certs: false,
+            progress: false,
         }
     }
 }

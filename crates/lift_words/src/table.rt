@@ -120,8 +120,8 @@ impl CommandWord {
         ensures { texts result.now ≡ flags_of self }
     {
         match self {
-            CommandWord::Solve => &["brief"],
-            CommandWord::Day => &["certs"],
+            CommandWord::Solve => &["brief", "progress"],
+            CommandWord::Day => &["certs", "progress"],
             CommandWord::Check
             | CommandWord::Report
             | CommandWord::Table
