@@ -1,8 +1,9 @@
 #!/bin/bash
 # large.sh [CASES]: solves generated cases of 15 to 50 calls within the default limits, with one worker, and checks each answer. CASES is a
 # text with a line `FLOORS CARS CALLS NUMBER` for each; without it the table below. For each case it prints how the search ended, cost and
-# bound, the seconds of the processor that the search takes alone (`solve --brief`), the search with its certificate (`solve`) and `check`,
-# and the bytes of the certificate; `-` where a run took more than LIMIT seconds of the clock (300 by default). LIFT is the program.
+# bound, rounds and visits as `--progress` tells them at the end, the seconds of the processor that the search takes alone
+# (`solve --brief`), the search with its certificate (`solve`) and `check`, and the bytes of the certificate; `-` where a run took more
+# than LIMIT seconds of the clock (300 by default). LIFT is the program.
 lift=${LIFT:-$(dirname "$0")/../crates/lift/out/lift}
 limit=${LIMIT:-300}
 [ -x "$lift" ] || (cd "$(dirname "$0")/../crates/lift" && rt run -- solve --brief < ../../examples/lunch.txt > /dev/null) || exit 1
@@ -25,18 +26,19 @@ table='12 2 15 1
 12 8 40 1
 20 8 50 1'
 
-# seconds FILE COMMAND: runs it, with what it writes in FILE, and prints the seconds of the processor that it took
+# seconds FILE COMMAND: runs it, with what it writes in FILE and FILE.told, and prints the seconds of the processor that it took
 seconds() {
     local into=$1
     shift
-    /usr/bin/env time -f '%U' -o "$work/time" timeout "$limit" "$@" > "$into" 2> /dev/null
+    /usr/bin/env time -f '%U' -o "$work/time" timeout "$limit" "$@" > "$into" 2> "$into.told"
     if [ $? -eq 124 ]; then echo -; else tail -1 "$work/time"; fi
 }
 
-echo 'floors cars calls number | ends cost bound | search, with certificate, check (s) | certificate (bytes)'
+echo 'floors cars calls number | ends cost bound | rounds visits | search, with certificate, check (s) | certificate (bytes)'
 if [ $# -gt 0 ]; then cat "$1"; else echo "$table"; fi | while read -r floors cars calls number; do
     "$lift" make --floors "$floors" --cars "$cars" --calls "$calls" --number "$number" > "$work/case"
-    brief=$(seconds "$work/brief" "$lift" solve --brief < "$work/case")
+    brief=$(seconds "$work/brief" "$lift" solve --brief --progress < "$work/case")
+    told=$(awk '$1 == "rounds" { print $2, $4 }' "$work/brief.told" | tail -1)
     ends=$(tail -1 "$work/brief" | sed 's/^# //')
     cost=$(awk '$1 == "cost" { print $2; exit }' "$work/brief")
     bound=$(awk '$1 == "bound" { print $2; exit }' "$work/brief")
@@ -44,5 +46,5 @@ if [ $# -gt 0 ]; then cat "$1"; else echo "$table"; fi | while read -r floors ca
     cat "$work/case" "$work/answer" > "$work/whole"
     check=$(seconds "$work/verdict" "$lift" check < "$work/whole")
     bytes=$(sed -n '/^certificate /,$p' "$work/answer" | wc -c)
-    echo "$floors $cars $calls $number | ${ends:--} ${cost:--} ${bound:--} | $brief $whole $check, $(cut -d' ' -f1 "$work/verdict") | $bytes"
+    echo "$floors $cars $calls $number | ${ends:--} ${cost:--} ${bound:--} | ${told:--} | $brief $whole $check, $(cut -d' ' -f1 "$work/verdict") | $bytes"
 done
