@@ -150,7 +150,7 @@ pub record HasTurns (a : Aim) (x : Course) (later : List Move) (z : Course) (ste
   pub goes : Completes a.snapshot a.car x later z
   pub boards : HasBoardedIn a.snapshot a.car a.allowed a.required x (reached a.snapshot a.car z)
   pub time : IsStopTime a.snapshot a.car step
-  pub each : EachTurn (IsTurn a (may_still_board x) (reached a.snapshot a.car x) step unit) turns
+  pub each : EachTurn (IsTurn floors_of_route a (may_still_board x) (reached a.snapshot a.car x) step unit) turns
   pub order : AreInTurn a.snapshot turns
 
 abbrev extra_for : Aim → Course → Course → List Turn → ℕ → ℕ
@@ -171,7 +171,7 @@ inside_own [] = tt
 inside_own (f ∷ fs) = (or_left (eqb f f) (is_among f fs) (eq-eqb f f refl), inside_more f fs fs (inside_own fs))
 
 -- a call waits at the start
-first_waits : (a : Aim) (x : Course) (later : List Move) (z : Course) (step unit : ℕ) (turns : List Turn) (turn : Turn) → HasTurns a x later z step unit turns → IsTurn a (may_still_board x) (reached a.snapshot a.car x) step unit turn → is_listed turn.call turns ≡ true → IsWaiting a.snapshot a.car (any_above a.snapshot (reached a.snapshot a.car x)) step unit (floors_of_route a.snapshot (reached a.snapshot a.car x)) (boards_first a.snapshot a.car (may_still_board x) (reached a.snapshot a.car x)) (extra_for a x z turns) (reached a.snapshot a.car z) (reached a.snapshot a.car x) (forced_stops a.snapshot (any_above a.snapshot (reached a.snapshot a.car x)) (reached a.snapshot a.car x)) (reached a.snapshot a.car x) turn
+first_waits : (a : Aim) (x : Course) (later : List Move) (z : Course) (step unit : ℕ) (turns : List Turn) (turn : Turn) → HasTurns a x later z step unit turns → IsTurn floors_of_route a (may_still_board x) (reached a.snapshot a.car x) step unit turn → is_listed turn.call turns ≡ true → IsWaiting a.snapshot a.car (any_above a.snapshot (reached a.snapshot a.car x)) step unit (floors_of_route a.snapshot (reached a.snapshot a.car x)) (boards_first a.snapshot a.car (may_still_board x) (reached a.snapshot a.car x)) (extra_for a x z turns) (reached a.snapshot a.car z) (reached a.snapshot a.car x) (forced_stops a.snapshot (any_above a.snapshot (reached a.snapshot a.car x)) (reached a.snapshot a.car x)) (reached a.snapshot a.car x) turn
 first_waits a x later z step unit turns turn has is listed =
     let s = a.snapshot in
     let c = a.car in
@@ -210,7 +210,7 @@ first_left a x later z step unit turns has =
       far = 0;
       later = later_first s c step p has.served;
       kind = inl (record { floor = or_left (eqb p.floor p.floor) (is_among p.floor fs) (eq-eqb p.floor p.floor refl); enough = omega arith });
-      each = each_with (IsTurn a (may_still_board x) p step unit) (λ turn. is_listed turn.call turns ≡ true) (IsWaiting s c up step unit floors (boards_first s c (may_still_board x) p) (extra_for a x z turns) (reached s c z) p fs p) turns (λ turn is listed. first_waits a x later z step unit turns turn has is listed) has.each (own_listed turns);
+      each = each_with (IsTurn floors_of_route a (may_still_board x) p step unit) (λ turn. is_listed turn.call turns ≡ true) (IsWaiting s c up step unit floors (boards_first s c (may_still_board x) p) (extra_for a x z turns) (reached s c z) p fs p) turns (λ turn is listed. first_waits a x later z step unit turns turn has is listed) has.each (own_listed turns);
       leg = has.timed.leg;
     }
 
@@ -224,7 +224,7 @@ turns_most a x later z step unit turns has =
     let most = turns_within s c (any_above s p) step unit (floors_of_route s p) (boards_first s c (may_still_board x) p) extra 0 turns x later z has.accepted has.time has.standing has.order has.goes (first_left a x later z step unit turns has) in
     let none : 0 * unit ≡ 0 = omega arith in
     let same = ap (λ (d : ℕ). sum_of_turns unit d turns) none in
-    let all = sum_over_le s (call_count s) extra turns (each_less (IsTurn a (may_still_board x) p step unit) (λ turn. turn.call < call_count s) turns (λ turn is. is.call) has.each) has.order in
+    let all = sum_over_le s (call_count s) extra turns (each_less (IsTurn floors_of_route a (may_still_board x) p step unit) (λ turn. turn.call < call_count s) turns (λ turn is. is.call) has.each) has.order in
     omega (arith, most, same, all)
 
 listed_extra : (listed boarded : Bool) (wait loss : ℕ) → listed ≡ false → cond listed (cond boarded wait loss) 0 ≡ 0
@@ -240,7 +240,7 @@ are_extras a x later z step unit turns has =
     let up = any_above s p in
     let wait = λ (j : ℕ). 1000 * final_cost s q j - 1000 * least_cost s c up x j in
     let loss = λ (j : ℕ). positive (a.price j -ℤ scaled (least_cost s c up x j)) in
-    let turn_of = λ (j : ℕ) (listed : is_listed j turns ≡ true). each_listed (IsTurn a (may_still_board x) p step unit) j turns has.each listed in
+    let turn_of = λ (j : ℕ) (listed : is_listed j turns ≡ true). each_listed (IsTurn floors_of_route a (may_still_board x) p step unit) j turns has.each listed in
     record {
       rode = λ j b on. listed_extra (is_listed j turns) (q.boarded j) (wait j) (loss j) (false_from_ne_true (is_listed j turns) (λ listed. let one = turn_of j listed in both_ways (p.boarded j) (subst (λ (i : ℕ). p.boarded i ≡ false) one.call one.holds.waits) on));
       boards = λ j b old new. (let rode = call_rode s c up x later z j has.accepted has.standing has.timed has.goes old new in let cost = rode_costs s c j (boards_first s c (may_still_board x) p j) q rode in let told = ap (λ (v : Bool). cond (is_listed j turns) (cond v (wait j) (loss j)) 0) new in cond_both (is_listed j turns) (wait j) 0 (λ (n : ℕ). extra_for a x z turns j ≡ n → 1000 * least_cost s c up x j + extra_for a x z turns j ≤ 1000 * final_cost s q j) (λ e is. omega (arith, cost, is)) (λ e is. omega (arith, cost, is)) told);
@@ -268,12 +268,12 @@ turns_from a x later z step unit turns has =
     with_turns : (settled straight joining whole turns extra : ℕ) (paid waiting paid' : ℤ) → (settled + straight) + joining ≤ whole → ((waiting +ℤ pos extra) -ℤ paid) ≤ℤ (scaled joining -ℤ paid') → turns ≤ extra → ((((scaled settled +ℤ scaled straight) -ℤ paid) +ℤ waiting) +ℤ pos turns) ≤ℤ (scaled whole -ℤ paid')
     with_turns settled straight joining whole turns extra paid waiting paid' h k m = omega (arith, ints, h, k, m)
 
-turns_at : (a : Aim) (x : Course) (later : List Move) (z : Course) (step unit : ℕ) (turns : List Turn) (t : ℕ → Bool) (r : Progress) → ((j : ℕ) → t j ≡ may_still_board x j) → r ≡ reached a.snapshot a.car x → EachTurn (IsTurn a t r step unit) turns → EachTurn (IsTurn a (may_still_board x) (reached a.snapshot a.car x) step unit) turns
+turns_at : (a : Aim) (x : Course) (later : List Move) (z : Course) (step unit : ℕ) (turns : List Turn) (t : ℕ → Bool) (r : Progress) → ((j : ℕ) → t j ≡ may_still_board x j) → r ≡ reached a.snapshot a.car x → EachTurn (IsTurn floors_of_route a t r step unit) turns → EachTurn (IsTurn floors_of_route a (may_still_board x) (reached a.snapshot a.car x) step unit) turns
 turns_at a x later z step unit turns t r h there each =
     let same : t ≡ may_still_board x = λ i j. h j i in
-    subst (λ (p : Progress). EachTurn (IsTurn a (may_still_board x) p step unit) turns) there (subst (λ (still : ℕ → Bool). EachTurn (IsTurn a still r step unit) turns) same each)
+    subst (λ (p : Progress). EachTurn (IsTurn floors_of_route a (may_still_board x) p step unit) turns) there (subst (λ (still : ℕ → Bool). EachTurn (IsTurn floors_of_route a still r step unit) turns) same each)
 
-turns_go : (a : Aim) (x : Course) (later : List Move) (z : Course) (tour : List Stop) (step unit : ℕ) (turns : List Turn) → IsAccepted a.snapshot → IsStanding a.snapshot a.car x → serves a.snapshot.building a.car (reached a.snapshot a.car x).floor ≡ true → x.ended ≡ false → AreTurns a x step unit turns → Completes a.snapshot a.car x later z → ((j : ℕ) → j < call_count a.snapshot → (reached a.snapshot a.car z).boarded j ≡ is_boarded_in tour j) → IsTourWithin a.snapshot a.car a.allowed a.required tour → (bound_from a.snapshot a.car a.price a.allowed a.required (may_still_board x) (route_start a.snapshot a.car (reached a.snapshot a.car x)) +ℤ pos (sum_of_turns unit 0 turns)) ≤ℤ (scaled (settled_cost a.snapshot a.car (reached a.snapshot a.car z)) -ℤ int_sum_where (call_count a.snapshot) (reached a.snapshot a.car z).boarded a.price)
+turns_go : (a : Aim) (x : Course) (later : List Move) (z : Course) (tour : List Stop) (step unit : ℕ) (turns : List Turn) → IsAccepted a.snapshot → IsStanding a.snapshot a.car x → serves a.snapshot.building a.car (reached a.snapshot a.car x).floor ≡ true → x.ended ≡ false → AreTurns floors_of_route a x step unit turns → Completes a.snapshot a.car x later z → ((j : ℕ) → j < call_count a.snapshot → (reached a.snapshot a.car z).boarded j ≡ is_boarded_in tour j) → IsTourWithin a.snapshot a.car a.allowed a.required tour → (bound_from a.snapshot a.car a.price a.allowed a.required (may_still_board x) (route_start a.snapshot a.car (reached a.snapshot a.car x)) +ℤ pos (sum_of_turns unit 0 turns)) ≤ℤ (scaled (settled_cost a.snapshot a.car (reached a.snapshot a.car z)) -ℤ int_sum_where (call_count a.snapshot) (reached a.snapshot a.car z).boarded a.price)
 turns_go a x later z tour step unit turns accepted h served open_end are goes same within =
     let s = a.snapshot in
     let c = a.car in
@@ -281,7 +281,7 @@ turns_go a x later z tour step unit turns accepted h served open_end are goes sa
     let q = reached s c z in
     let most = scaled (settled_cost s c q) -ℤ int_sum_where (call_count s) q.boarded a.price in
     let added = pos (sum_of_turns unit 0 turns) in
-    cond_both (has_leg s c p) p (halted s c p p.floor) (λ (r : Progress). EachTurn (IsTurn a (may_still_board x) r step unit) turns → (bound_from s c a.price a.allowed a.required (may_still_board x) r +ℤ added) ≤ℤ most)
+    cond_both (has_leg s c p) p (halted s c p p.floor) (λ (r : Progress). EachTurn (IsTurn floors_of_route a (may_still_board x) r step unit) turns → (bound_from s c a.price a.allowed a.required (may_still_board x) r +ℤ added) ≤ℤ most)
     (λ leg each. turns_from a x later z step unit turns (record { accepted = accepted; standing = h; timed = timed_reached s c x h leg; served = served; goes = goes; boards = boards_in s c a.allowed a.required x later z tour accepted h goes same within; time = are.time; each = each; order = are.order }))
     (λ leg each. let f = stops_first s c x later z h open_end leg goes in
     let y = f.next in
@@ -293,7 +293,7 @@ turns_go a x later z tour step unit turns accepted h served open_end are goes sa
     subst (λ (v : ℤ). (v +ℤ added) ≤ℤ most) (still_same s c a.price a.allowed a.required (may_still_board y) (may_still_board x) (halted s c p p.floor) (λ j. f.still_next j ∙ sym (f.still j))) there)
     are.each
 
-pub turns_are_lower : TurnsLaw
+pub turns_are_lower : TurnsLaw floors_of_route
 turns_are_lower aim moves x tour step unit turns a b leads open_end are begins within =
     let s = aim.snapshot in
     let c = aim.car in

@@ -41,14 +41,14 @@ boards_first s c still p j = boards_from s c (any_above s p) p (forced_stops s (
 abbrev pub floors_of_route : Snapshot → Progress → List ℕ
 floors_of_route s p = p.floor ∷ forced_stops s (any_above s p) p
 
--- The call is allowed and has not boarded; it begins neither where the route does nor at a forced stop; it
--- has come by the earliest moment at which it can board; and where it is not required its gain is no more
--- than what it lowers the bound by. A longer stop, which it waits for, costs the unit at least.
-pub record IsTurn (a : Aim) (still : ℕ → Bool) (p : Progress) (step unit : ℕ) (turn : Turn) : Type 0 where
+-- The call is allowed and has not boarded; it begins at none of these floors, which have to be those of the
+-- route; it has come by the earliest moment at which it can board; and where it is not required its gain is
+-- no more than what it lowers the bound by. A longer stop, which it waits for, costs the unit at least.
+pub record IsTurn (floors : Snapshot → Progress → List ℕ) (a : Aim) (still : ℕ → Bool) (p : Progress) (step unit : ℕ) (turn : Turn) : Type 0 where
   pub call : turn.call < call_count a.snapshot
   pub allowed : a.allowed turn.call ≡ true
   pub waits : p.boarded turn.call ≡ false
-  pub away : is_among (call_of a.snapshot turn.call).origin (floors_of_route a.snapshot p) ≡ false
+  pub away : is_among (call_of a.snapshot turn.call).origin (floors a.snapshot p) ≡ false
   pub come : (call_of a.snapshot turn.call).released ≤ boards_first a.snapshot a.car still p turn.call
   pub gain : a.required turn.call ≡ false → (pos turn.gain +ℤ scaled (cost_if_boarded a.snapshot a.car turn.call (boards_first a.snapshot a.car still p turn.call))) ≤ℤ a.price turn.call
   pub cost : unit ≤ 1000 * ((call_of a.snapshot turn.call).persons * (a.snapshot.building.wait_weight * step))
@@ -71,13 +71,13 @@ abbrev pub EachTurn : (Turn → Type 0) → List Turn → Type 0
 EachTurn P [] = Unit {0}
 EachTurn P (turn ∷ turns) = P turn × EachTurn P turns
 
--- The turns that a bound may add: of any calls that are, in their order.
-pub record AreTurns (a : Aim) (x : Course) (step unit : ℕ) (turns : List Turn) : Type 0 where
+-- The turns that a bound may add: of any calls that are, away from these floors and in their order.
+pub record AreTurns (floors : Snapshot → Progress → List ℕ) (a : Aim) (x : Course) (step unit : ℕ) (turns : List Turn) : Type 0 where
   pub time : IsStopTime a.snapshot a.car step
-  pub each : EachTurn (IsTurn a (may_still_board x) (route_start a.snapshot a.car (reached a.snapshot a.car x)) step unit) turns
+  pub each : EachTurn (IsTurn floors a (may_still_board x) (route_start a.snapshot a.car (reached a.snapshot a.car x)) step unit) turns
   pub order : AreInTurn a.snapshot turns
 
--- With what the turns add, the bound is still at most the value of each such tour.
-abbrev pub TurnsLaw : Type 0
-TurnsLaw =
-    (a : Aim) (moves : List Move) (x : Course) (tour : List Stop) (step unit : ℕ) (turns : List Turn) → IsAccepted a.snapshot → a.car < car_count a.snapshot → course_of a.snapshot a.car moves ≡ Some x → x.ended ≡ false → AreTurns a x step unit turns → BeginsWith a.snapshot tour moves → IsTourWithin a.snapshot a.car a.allowed a.required tour → (route_bound_for a x +ℤ pos (sum_of_turns unit 0 turns)) ≤ℤ value_for a tour
+-- With what turns away from these floors add, the bound is still at most the value of each such tour.
+abbrev pub TurnsLaw : (floors : Snapshot → Progress → List ℕ) → Type 0
+TurnsLaw floors =
+    (a : Aim) (moves : List Move) (x : Course) (tour : List Stop) (step unit : ℕ) (turns : List Turn) → IsAccepted a.snapshot → a.car < car_count a.snapshot → course_of a.snapshot a.car moves ≡ Some x → x.ended ≡ false → AreTurns floors a x step unit turns → BeginsWith a.snapshot tour moves → IsTourWithin a.snapshot a.car a.allowed a.required tour → (route_bound_for a x +ℤ pos (sum_of_turns unit 0 turns)) ≤ℤ value_for a tour

@@ -41,7 +41,7 @@
 
 ghost use Rattle.forced_route.specs.ForcedRoute.{EndedRouteLaw, RouteLaw};
 ghost use Rattle.forced_route.specs.GrowingRoute.{GrowingLaw};
-ghost use Rattle.forced_route.specs.Turns.{TurnsLaw};
+ghost use Rattle.forced_route.specs.Turns.{TurnsLaw, floors_of_route};
 
 /// A law: the bound along the forced route is at most the value of each feasible tour that begins with the
 /// partial tour, boards each required call, and allowed calls only.
@@ -54,9 +54,9 @@ pub fn ended_route_law()
     ensures { EndedRouteLaw }
 {}
 
-/// A law: the bound holds, too, with what calls at floors of their own add that take turns.
+/// A law: the bound holds, too, with what calls add that take turns, away from the floors of the route.
 pub fn turns_law()
-    ensures { TurnsLaw }
+    ensures { TurnsLaw floors_of_route }
 {}
 
 /// A law: a move makes no call board sooner, where some tour goes on after it.
