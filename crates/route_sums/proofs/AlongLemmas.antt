@@ -104,15 +104,24 @@ next_from false stand f above under =
 pub next_inside : (s : Snapshot) (c : ℕ) (up : Bool) (newest : Option Newest) (q : Progress) (stand : Stand) (p : Progress) (f : ℕ) → IsAccepted s → IsStand s c newest q stand p → IsNextStop up stand f → f < floor_count s.building
 next_inside s c up newest q stand p f a h next = goes_in s p f a (sym (h.bound_for f) ∙ next.goes)
 
--- what was found with no stop left, where the snapshot and the car are named twice
-pub found_none : (s s' : Snapshot) (c c' : ℕ) (price : ℕ → ℤ) (required along rest : ℕ → Bool) (up : Bool) (newest : Option Newest) (q : Progress) (stand : Stand) (p : Progress) (found raw : ℤ) → s' ≡ s → c' ≡ c → found ≡ raw → raw ≡ added_at s' c' price required rest stand → IsStand s c newest q stand p → ((g : ℕ) → IsBeyond up stand.place.floor g → has stand.bound_for g ≡ false) → found ≤ℤ gathered s c price required along up p (forced_stops s up p) rest
-found_none s s' c c' price required along rest up newest q stand p found raw same_s same_c is sum h none =
-    let there : found ≡ added_at s c price required rest stand = is ∙ sum ∙ ap (λ (v : Snapshot). added_at v c' price required rest stand) same_s ∙ ap (λ (v : ℕ). added_at s v price required rest stand) same_c in
-    subst (λ (z : ℤ). z ≤ℤ gathered s c price required along up p (forced_stops s up p) rest) (sym there) (along_none_added s c price required along rest up newest q stand p h none)
+-- the snapshot and the car are named twice
+same_added : (s s' : Snapshot) (c c' : ℕ) (price : ℕ → ℤ) (required test : ℕ → Bool) (stand : Stand) (z : ℤ) → s' ≡ s → c' ≡ c → z ≤ℤ added_at s' c' price required test stand → z ≤ℤ added_at s c price required test stand
+same_added s s' c c' price required test stand z same_s same_c h =
+    subst (λ (v : ℕ). z ≤ℤ added_at s v price required test stand) same_c (subst (λ (v : Snapshot). z ≤ℤ added_at v c' price required test stand) same_s h)
 
-pub found_next : (s s' : Snapshot) (c c' : ℕ) (price : ℕ → ℤ) (required along rest boards left : ℕ → Bool) (up : Bool) (newest : Option Newest) (q : Progress) (stand : Stand) (p : Progress) (f : ℕ) (found now later : ℤ) → s' ≡ s → c' ≡ c → found ≡ now +ℤ later → now ≡ added_at s' c' price required boards stand → IsAccepted s → IsStand s c newest q stand p → IsNextStop up stand f → ((j : ℕ) → boards j ≡ (rest j && (along j && is_before up stand.place.floor f (call_of s' j).origin))) → ((j : ℕ) → left j ≡ (rest j && not (boards j))) → later ≤ℤ gathered s c price required along up (halted s c p f) (forced_stops s up (halted s c p f)) left → found ≤ℤ gathered s c price required along up p (forced_stops s up p) rest
+-- what was found with no stop left, where the snapshot and the car are named twice
+pub found_none : (s s' : Snapshot) (c c' : ℕ) (price : ℕ → ℤ) (required along rest : ℕ → Bool) (up : Bool) (newest : Option Newest) (q : Progress) (stand : Stand) (p : Progress) (found raw : ℤ) → s' ≡ s → c' ≡ c → found ≡ raw → raw ≤ℤ added_at s' c' price required rest stand → IsStand s c newest q stand p → ((g : ℕ) → IsBeyond up stand.place.floor g → has stand.bound_for g ≡ false) → found ≤ℤ gathered s c price required along up p (forced_stops s up p) rest
+found_none s s' c c' price required along rest up newest q stand p found raw same_s same_c is sum h none =
+    through found raw (added_at s c price required rest stand) (gathered s c price required along up p (forced_stops s up p) rest) is (same_added s s' c c' price required rest stand raw same_s same_c sum) (along_none_added s c price required along rest up newest q stand p h none)
+  where
+    through : (found raw at most : ℤ) → found ≡ raw → raw ≤ℤ at → at ≤ℤ most → found ≤ℤ most
+    through found raw at most e h k = omega (arith, ints, e, h, k)
+
+pub found_next : (s s' : Snapshot) (c c' : ℕ) (price : ℕ → ℤ) (required along rest boards left : ℕ → Bool) (up : Bool) (newest : Option Newest) (q : Progress) (stand : Stand) (p : Progress) (f : ℕ) (found now later : ℤ) → s' ≡ s → c' ≡ c → found ≡ now +ℤ later → now ≤ℤ added_at s' c' price required boards stand → IsAccepted s → IsStand s c newest q stand p → IsNextStop up stand f → ((j : ℕ) → boards j ≡ (rest j && (along j && is_before up stand.place.floor f (call_of s' j).origin))) → ((j : ℕ) → left j ≡ (rest j && not (boards j))) → later ≤ℤ gathered s c price required along up (halted s c p f) (forced_stops s up (halted s c p f)) left → found ≤ℤ gathered s c price required along up p (forced_stops s up p) rest
 found_next s s' c c' price required along rest boards left up newest q stand p f found now later same_s same_c is sum a h next board others rests =
-    let at : now ≡ added_at s c price required boards stand = sum ∙ ap (λ (v : Snapshot). added_at v c' price required boards stand) same_s ∙ ap (λ (v : ℕ). added_at s v price required boards stand) same_c in
-    let there : found ≡ added_at s c price required boards stand +ℤ later = is ∙ ap (λ (z : ℤ). z +ℤ later) at in
+    let low = same_added s s' c c' price required boards stand now same_s same_c sum in
     let here = λ (j : ℕ). board j ∙ ap (λ (v : Snapshot). rest j && (along j && is_before up stand.place.floor f (call_of v j).origin)) same_s in
-    subst (λ (z : ℤ). z ≤ℤ gathered s c price required along up p (forced_stops s up p) rest) (sym there) (along_next_added s c price required along rest boards left up newest q stand p f later a h next here others rests)
+    through found now later (added_at s c price required boards stand) (gathered s c price required along up p (forced_stops s up p) rest) is low (along_next_added s c price required along rest boards left up newest q stand p f later a h next here others rests)
+  where
+    through : (found now later at most : ℤ) → found ≡ now +ℤ later → now ≤ℤ at → (at +ℤ later) ≤ℤ most → found ≤ℤ most
+    through found now later at most e h k = omega (arith, ints, e, h, k)

@@ -11,7 +11,8 @@ use Rattle.search_model.specs.Prices.{scaled}
 use Rattle.tour_rules.specs.Leaving.{call_cost}
 use Rattle.tour_rules.proofs.Settled.{cost_of_rider-call}
 use Rattle.forced_route.specs.ForcedRoute.{cost_if_boarded, least_ride}
-use Rattle.route_sums.specs.CallRates.{IsCallRate, cost_at}
+use Rattle.route_sums.specs.CallRates.{IsCallRate}
+use Rattle.route_sums.specs.Rows.{HasRow, cost_at}
 use Rattle.route_sums.specs.declared.rates.CallRate.{CallRate}
 
 -- ---- one rate
@@ -36,8 +37,8 @@ not_counted : (r : Bool) (t : ℤ) → r ≡ false → pos 0 ≤ℤ t → cond r
 not_counted true t e h = absurd (cc)
 not_counted false t e h = grind (arith, ints, h)
 
-pub rate_is : (s : Snapshot) (c j : ℕ) (b : Building) (call : Call) (rate : CallRate) (price : ℤ) (required : Bool) (time : ℕ) → b ≡ s.building → call ≡ call_of s j → j < call_count s → time ≡ least_ride s c j → rate.origin ≡ call.origin → rate.released ≡ call.released → rate.late ≡ call.released + b.patience → rate.wait ≡ call.persons * b.wait_weight → rate.over ≡ call.persons * b.patience_weight → rate.ride ≡ call.persons * b.travel_weight * time → rate.wait ≤ 8000 → rate.over ≤ 8000 → rate.ride ≤ 1600000000000 → rate.price ≡ price → rate.is_required ≡ required → ((k : ℕ) → k ≤ 99000000000 → rate.enough ≤ k → (required ≡ false) × (pos 0 ≤ℤ (scaled (rate.wait * (k - rate.released) + rate.ride) -ℤ price))) → IsCallRate s c j price required rate
-rate_is s c j b call rate price required time same_building same_call lt time_is origin released late wait over ride wait_small over_small ride_small price_is binds enough =
+pub rate_is : (s : Snapshot) (c j : ℕ) (b : Building) (call : Call) (rate : CallRate) (price : ℤ) (required : Bool) (time : ℕ) → b ≡ s.building → call ≡ call_of s j → j < call_count s → time ≡ least_ride s c j → rate.origin ≡ call.origin → rate.released ≡ call.released → rate.late ≡ call.released + b.patience → rate.wait ≡ call.persons * b.wait_weight → rate.over ≡ call.persons * b.patience_weight → rate.ride ≡ call.persons * b.travel_weight * time → rate.wait ≤ 8000 → rate.over ≤ 8000 → rate.ride ≤ 1600000000000 → rate.price ≡ price → rate.is_required ≡ required → rate.released ≤ 1000000000 → (rate.has_row ≡ true → HasRow required price) → ((k : ℕ) → k ≤ 99100000000 → rate.enough ≤ k → (required ≡ false) × (pos 0 ≤ℤ (scaled (rate.wait * (k - rate.released) + rate.ride) -ℤ price))) → IsCallRate s c j price required rate
+rate_is s c j b call rate price required time same_building same_call lt time_is origin released late wait over ride wait_small over_small ride_small price_is binds free has_row enough =
     let cost : (m : ℕ) → cost_at rate m ≡ cost_if_boarded s c j m = λ m. cost_found b call rate time m released late wait over ride ∙ ap (λ (x : Building). call_cost x call m (m + time)) same_building ∙ ap (λ (x : Call). call_cost s.building x m (m + time)) same_call ∙ ap (λ (t : ℕ). call_cost s.building (call_of s j) m (m + t)) time_is ∙ sym (cost_of_rider-call s j m (m + least_ride s c j) lt) in
     record {
       origin = origin ∙ ap (λ (x : Call). x.origin) same_call;
@@ -47,6 +48,8 @@ rate_is s c j b call rate price required time same_building same_call lt time_is
       over = over_small;
       ride = ride_small;
       worth = price_is;
+      released = free;
+      has_row = has_row;
       enough = λ m early le. let at = enough m early le in not_counted required (scaled (cost_if_boarded s c j m) -ℤ price) at.0 (more (rate.wait * (m - rate.released)) (rate.over * (m - rate.late)) rate.ride (cost_if_boarded s c j m) price at.1 (cost m));
     }
   where

@@ -33,28 +33,27 @@ use Rattle.route_sums.proofs.StandLemmas.{soonest_low}
 -- ---- one call
 
 -- what adds nothing takes nothing off
-idle_part : (z : ℤ) → adds z ≡ false → pos 0 ≤ℤ z
+pub idle_part : (z : ℤ) → adds z ≡ false → pos 0 ≤ℤ z
 idle_part z h =
     let below = (or_parts (int_lt z (pos 0)) (int_lt (pos 0) z) h).0 in
     grind (arith, ints, below)
 
 -- the snapshot and the car are named twice
-named : (s s' : Snapshot) (c c' : ℕ) (price : ℕ → ℤ) (required : ℕ → Bool) (stand : Stand) (j : ℕ) → s' ≡ s → c' ≡ c → adds (part_if_boarded s' c' price required j (soonest s' c' stand (call_of s' j).origin)) ≡ false → adds (part_if_boarded s c price required j (soonest s c stand (call_of s j).origin)) ≡ false
+named : (s s' : Snapshot) (c c' : ℕ) (price : ℕ → ℤ) (required : ℕ → Bool) (stand : Stand) (j : ℕ) → s' ≡ s → c' ≡ c → pos 0 ≤ℤ part_if_boarded s' c' price required j (soonest s' c' stand (call_of s' j).origin) → pos 0 ≤ℤ part_if_boarded s c price required j (soonest s c stand (call_of s j).origin)
 named s s' c c' price required stand j same_s same_c h =
-    sym (ap (λ (v : Snapshot). adds (part_if_boarded v c' price required j (soonest v c' stand (call_of v j).origin))) same_s ∙ ap (λ (v : ℕ). adds (part_if_boarded s v price required j (soonest s v stand (call_of s j).origin))) same_c) ∙ h
+    subst (λ (v : ℕ). pos 0 ≤ℤ part_if_boarded s v price required j (soonest s v stand (call_of s j).origin)) same_c (subst (λ (v : Snapshot). pos 0 ≤ℤ part_if_boarded v c' price required j (soonest v c' stand (call_of v j).origin)) same_s h)
 
 -- from a stand on
-stays_idle : (s : Snapshot) (c : ℕ) (price : ℕ → ℤ) (required : ℕ → Bool) (newest : Option Newest) (q : Progress) (stand : Stand) (p : Progress) (j : ℕ) → IsStand s c newest q stand p → adds (part_if_boarded s c price required j (soonest s c stand (call_of s j).origin)) ≡ false → pos 0 ≤ℤ part_if_boarded s c price required j (next_open s c p (call_of s j).origin)
-stays_idle s c price required newest q stand p j h none =
+stays_idle : (s : Snapshot) (c : ℕ) (price : ℕ → ℤ) (required : ℕ → Bool) (newest : Option Newest) (q : Progress) (stand : Stand) (p : Progress) (j : ℕ) → IsStand s c newest q stand p → pos 0 ≤ℤ part_if_boarded s c price required j (soonest s c stand (call_of s j).origin) → pos 0 ≤ℤ part_if_boarded s c price required j (next_open s c p (call_of s j).origin)
+stays_idle s c price required newest q stand p j h low =
     let g = (call_of s j).origin in
-    let low = idle_part (part_if_boarded s c price required j (soonest s c stand g)) none in
     let more = part_later s c price required j (soonest s c stand g) (next_open s c p g) (soonest_low s c newest q stand p g h) in
     omega (arith, ints, low, more)
 
 -- ---- along the forced route
 
 -- no stop is left
-pub idle_none : (s s' : Snapshot) (c c' : ℕ) (price : ℕ → ℤ) (required along : ℕ → Bool) (up : Bool) (newest : Option Newest) (q : Progress) (stand : Stand) (p : Progress) (j : ℕ) → s' ≡ s → c' ≡ c → IsStand s c newest q stand p → ((g : ℕ) → IsBeyond up stand.place.floor g → has stand.bound_for g ≡ false) → adds (part_if_boarded s' c' price required j (soonest s' c' stand (call_of s' j).origin)) ≡ false → pos 0 ≤ℤ part_if_boarded s c price required j (boards_along s c along up p (forced_stops s up p) j)
+pub idle_none : (s s' : Snapshot) (c c' : ℕ) (price : ℕ → ℤ) (required along : ℕ → Bool) (up : Bool) (newest : Option Newest) (q : Progress) (stand : Stand) (p : Progress) (j : ℕ) → s' ≡ s → c' ≡ c → IsStand s c newest q stand p → ((g : ℕ) → IsBeyond up stand.place.floor g → has stand.bound_for g ≡ false) → pos 0 ≤ℤ part_if_boarded s' c' price required j (soonest s' c' stand (call_of s' j).origin) → pos 0 ≤ℤ part_if_boarded s c price required j (boards_along s c along up p (forced_stops s up p) j)
 idle_none s s' c c' price required along up newest q stand p j same_s same_c h none idle =
     let g = (call_of s j).origin in
     let low = stays_idle s c price required newest q stand p j h (named s s' c c' price required stand j same_s same_c idle) in
@@ -67,7 +66,7 @@ not_yet true false x y z h = refl
 not_yet false b x y z h = refl
 
 -- the next stop is at floor f
-pub idle_next : (s s' : Snapshot) (c c' : ℕ) (price : ℕ → ℤ) (required along : ℕ → Bool) (rest boards left here later found : ℕ) (up : Bool) (newest : Option Newest) (q : Progress) (stand : Stand) (p : Progress) (f j : ℕ) → s' ≡ s → c' ≡ c → IsAccepted s → IsStand s c newest q stand p → IsNextStop up stand f → has boards j ≡ (has rest j && (along j && is_before up stand.place.floor f (call_of s' j).origin)) → has left j ≡ (has rest j && not (has boards j)) → has found j ≡ (has here j || has later j) → (has boards j ≡ true → has here j ≡ false → adds (part_if_boarded s' c' price required j (soonest s' c' stand (call_of s' j).origin)) ≡ false) → (has left j ≡ true → has later j ≡ false → pos 0 ≤ℤ part_if_boarded s c price required j (boards_along s c along up (halted s c p f) (forced_stops s up (halted s c p f)) j)) → has rest j ≡ true → has found j ≡ false → pos 0 ≤ℤ part_if_boarded s c price required j (boards_along s c along up p (forced_stops s up p) j)
+pub idle_next : (s s' : Snapshot) (c c' : ℕ) (price : ℕ → ℤ) (required along : ℕ → Bool) (rest boards left here later found : ℕ) (up : Bool) (newest : Option Newest) (q : Progress) (stand : Stand) (p : Progress) (f j : ℕ) → s' ≡ s → c' ≡ c → IsAccepted s → IsStand s c newest q stand p → IsNextStop up stand f → has boards j ≡ (has rest j && (along j && is_before up stand.place.floor f (call_of s' j).origin)) → has left j ≡ (has rest j && not (has boards j)) → has found j ≡ (has here j || has later j) → (has boards j ≡ true → has here j ≡ false → pos 0 ≤ℤ part_if_boarded s' c' price required j (soonest s' c' stand (call_of s' j).origin)) → (has left j ≡ true → has later j ≡ false → pos 0 ≤ℤ part_if_boarded s c price required j (boards_along s c along up (halted s c p f) (forced_stops s up (halted s c p f)) j)) → has rest j ≡ true → has found j ≡ false → pos 0 ≤ℤ part_if_boarded s c price required j (boards_along s c along up p (forced_stops s up p) j)
 idle_next s s' c c' price required along rest boards left here later found up newest q stand p f j same_s same_c a h next board others both now after there none =
     let g = (call_of s j).origin in
     let t = halted s c p f in

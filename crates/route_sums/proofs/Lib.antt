@@ -7,6 +7,8 @@ mod KeepingLemmas
 mod LeavingLemmas
 mod OriginLemmas
 mod RouteLemmas
+mod RowLemmas
+mod RowPartLemmas
 mod SizeLemmas
 mod StandLemmas
 mod SumsLemmas

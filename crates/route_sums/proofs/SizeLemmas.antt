@@ -1,9 +1,10 @@
 -- How great the parts of calls can be.
-use Rattle.std.proofs.Common.{◌≡◌, ℕ, ◌+◌, ◌*◌, ◌^◌, ◌<◌, ◌≤◌, Bool, true, false, cond, ◌&&◌, eqb, min, ap, ◌∙◌, arith}
+use Rattle.std.proofs.Common.{◌≡◌, ℕ, ◌+◌, ◌*◌, ◌^◌, ◌<◌, ◌≤◌, Bool, true, false, cond, ◌&&◌, eqb, ap, ◌∙◌, arith}
 use Rattle.std.specs.Prelude.{ℤ, pos, neg_ℤ, ◌+ℤ◌, ◌-ℤ◌, ◌≤ℤ◌, int_lt}
 use Rattle.std.proofs.lemmas.Int.{ints}
 use Rattle.std.proofs.Math.Nat.{mul-le-mul_left}
 use Rattle.call_sets.specs.Counting.{has}
+use Rattle.elevator_model.specs.Building.{floor_count}
 use Rattle.elevator_model.specs.Snapshot.{Snapshot, IsAccepted, call_count, call_of, car_count, spec_of}
 use Rattle.elevator_model.specs.Travel.{time_between}
 use Rattle.price_scale.specs.Scale.{IsPrice, IsPriceSum}
@@ -28,16 +29,21 @@ term_size false cost price small h = lesser (scaled cost -ℤ price) (let l = h.
     lesser : (t : ℤ) → neg_ℤ (pos (2 * 10 ^ 24)) ≤ℤ t → t ≤ℤ pos (2 * 10 ^ 24) → IsWithin (2 * 10 ^ 24) (cond (int_lt t (pos 0)) t (pos 0))
     lesser t low high = (grind (arith, ints, low), grind (arith, ints, high))
 
-pub part_size : (s : Snapshot) (c : ℕ) (price : ℕ → ℤ) (required : ℕ → Bool) (j m : ℕ) → IsAccepted s → j < call_count s → m ≤ 99000000000 → least_ride s c j ≤ 200000000 → IsPrice (price j) → IsWithin (2 * 10 ^ 24) (part_if_boarded s c price required j m)
+pub part_size : (s : Snapshot) (c : ℕ) (price : ℕ → ℤ) (required : ℕ → Bool) (j m : ℕ) → IsAccepted s → j < call_count s → m ≤ 99100000000 → least_ride s c j ≤ 200000000 → IsPrice (price j) → IsWithin (2 * 10 ^ 24) (part_if_boarded s c price required j m)
 part_size s c price required j m a lt early short h =
     term_size (required j) (cost_if_boarded s c j m) (price j) (rider-le s j m (m + least_ride s c j) a (omega (arith, lt)) (omega (arith, early)) (omega (arith, early, short))) h
 
-pub soonest_small : (s : Snapshot) (c : ℕ) (stand : Stand) (g : ℕ) → soonest s c stand g ≤ 99000000000
-soonest_small s c stand g = either (stand.place.begun && eqb g stand.place.floor) stand.opened (stand.leaves + time_between s.building.travel stand.place.floor g + (spec_of s c).opening) stand.early
+pub soonest_small : (s : Snapshot) (c : ℕ) (stand : Stand) (g : ℕ) → IsAccepted s → c < car_count s → stand.place.floor < floor_count s.building → g < floor_count s.building → soonest s c stand g ≤ 99100000000
+soonest_small s c stand g a car from to =
+    let floors = a.building.travel_floors in
+    let time = a.building.travel.bounded stand.place.floor g (omega (arith, floors, from)) (omega (arith, floors, to)) in
+    let opening = (a.building.cars c car).opening in
+    let left = stand.late in
+    either (stand.place.begun && eqb g stand.place.floor) stand.opened (stand.leaves + time_between s.building.travel stand.place.floor g + (spec_of s c).opening) stand.early (omega (arith, time, opening, left))
   where
-    either : (b : Bool) (o n : ℕ) → o ≤ 99000000000 → cond b o (min n 99000000000) ≤ 99000000000
-    either true o n h = h
-    either false o n h = omega arith
+    either : (b : Bool) (o n : ℕ) → o ≤ 99000000000 → n ≤ 99100000000 → cond b o n ≤ 99100000000
+    either true o n h k = omega (arith, h)
+    either false o n h k = k
 
 some_within : (t : Bool) (z : ℤ) → IsWithin (2 * 10 ^ 24) z → (cond t (neg_ℤ (pos (2 * 10 ^ 24))) (pos 0) ≤ℤ cond t z (pos 0)) × (cond t z (pos 0) ≤ℤ cond t (pos (2 * 10 ^ 24)) (pos 0))
 some_within true z h = h

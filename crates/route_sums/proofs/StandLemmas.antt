@@ -31,17 +31,16 @@ use Rattle.route_sums.specs.Stands.{IsStand, soonest}
 
 -- ---- moments
 
-cut_low : (here : Bool) (o o' l l' w op most : ℕ) → o ≤ o' → l ≤ l' → cond here o (min (l + w + op) most) ≤ cond here o' (l' + w + op)
-cut_low true o o' l l' w op most h k = h
-cut_low false o o' l l' w op most h k = omega (arith, h, k)
+later : (here : Bool) (o o' l l' w op : ℕ) → o ≤ o' → l ≤ l' → cond here o (l + w + op) ≤ cond here o' (l' + w + op)
+later true o o' l l' w op h k = h
+later false o o' l l' w op h k = omega (arith, h, k)
 
 -- the doors can be open no sooner than the stand tells
 pub soonest_low : (s : Snapshot) (c : ℕ) (newest : Option Newest) (q : Progress) (stand : Stand) (p : Progress) (g : ℕ) → IsStand s c newest q stand p → soonest s c stand g ≤ next_open s c p g
 soonest_low s c newest q stand p g h =
     let t = s.building.travel in
-    let most : ℕ = 99000000000 in
-    let low = cut_low (p.begun && eqb g p.floor) stand.opened p.opened stand.leaves p.leaves (time_between t p.floor g) (spec_of s c).opening most h.opened h.leaves in
-    subst (λ (b : Bool). cond (b && eqb g stand.place.floor) stand.opened (min (stand.leaves + time_between t stand.place.floor g + (spec_of s c).opening) most) ≤ next_open s c p g) (sym h.place.begun) (subst (λ (f : ℕ). cond (p.begun && eqb g f) stand.opened (min (stand.leaves + time_between t f g + (spec_of s c).opening) most) ≤ next_open s c p g) (sym h.place.floor) low)
+    let low = later (p.begun && eqb g p.floor) stand.opened p.opened stand.leaves p.leaves (time_between t p.floor g) (spec_of s c).opening h.opened h.leaves in
+    subst (λ (b : Bool). cond (b && eqb g stand.place.floor) stand.opened (stand.leaves + time_between t stand.place.floor g + (spec_of s c).opening) ≤ next_open s c p g) (sym h.place.begun) (subst (λ (f : ℕ). cond (p.begun && eqb g f) stand.opened (stand.leaves + time_between t f g + (spec_of s c).opening) ≤ next_open s c p g) (sym h.place.floor) low)
 
 -- the progress, if it had left at the moment m
 abbrev pub leaving_from : Progress → (m : ℕ) → Progress

@@ -1,19 +1,22 @@
 -- What calls cost one car and are worth to it, laid out.
-use Rattle.std.specs.Prelude.{◌≡◌, ◌≤◌, ◌<◌, ℕ, ◌+◌, ◌-◌, ◌*◌, ℤ, pos, Bool, List, length, slice_index_or}
+use Rattle.std.specs.Prelude.{◌≡◌, ◌≤◌, ◌<◌, ℕ, ◌*◌, ℤ, pos, Bool, List, true, length, slice_index, slice_index_or}
+use Rattle.call_sets.specs.Counting.{has}
+use Rattle.elevator_model.specs.Building.{floor_count}
 use Rattle.elevator_model.specs.Snapshot.{Snapshot, call_count, call_of}
 use Rattle.forced_route.specs.ForcedRoute.{cost_if_boarded, part_if_boarded}
 use Rattle.route_sums.specs.Origins.{AreOrigins}
+use Rattle.route_sums.specs.Rows.{AreTerms, BeginsApart, HasRow, cost_at}
 use Rattle.route_sums.specs.declared.rates.CallRate.{CallRate}
+use Rattle.route_sums.specs.declared.rows.RowTerm.{RowTerm}
 
--- what a contract sees of laid out rates: the calls that go up, those that begin below each floor, and the rates
+-- What a contract sees of laid out rates: the calls that go up, those that begin below each floor, the rates, and for each
+-- floor the calls that have a row and begin elsewhere, and the row.
 pub record RouteRated : Type 0 where
   pub upward : ℕ
   pub below : List ℕ
   pub rates : List CallRate
-
--- what the call costs at the rate that boards at the moment m
-abbrev pub cost_at : CallRate → (m : ℕ) → ℕ
-cost_at rate m = (rate.wait * (m - rate.released) + rate.over * (m - rate.late)) + rate.ride
+  pub apart : List ℕ
+  pub terms : List RowTerm
 
 -- the rate is that of call j for car c at a price
 pub record IsCallRate (s : Snapshot) (c j : ℕ) (price : ℤ) (required : Bool) (rate : CallRate) : Type 0 where
@@ -24,7 +27,9 @@ pub record IsCallRate (s : Snapshot) (c j : ℕ) (price : ℤ) (required : Bool)
   pub over : rate.over ≤ 8000
   pub ride : rate.ride ≤ 1600000000000
   pub worth : rate.price ≡ price
-  pub enough : (m : ℕ) → m ≤ 99000000000 → rate.enough ≤ m → part_if_boarded s c (λ _. price) (λ _. required) j m ≡ pos 0
+  pub released : rate.released ≤ 1000000000
+  pub has_row : rate.has_row ≡ true → HasRow required price
+  pub enough : (m : ℕ) → m ≤ 99100000000 → rate.enough ≤ m → part_if_boarded s c (λ _. price) (λ _. required) j m ≡ pos 0
 
 -- the rates are those of the calls, in their order
 pub record AreCallRates (s : Snapshot) (c : ℕ) (prices : ℕ → ℤ) (required : ℕ → Bool) (rates : List CallRate) : Type 0 where
@@ -35,8 +40,17 @@ pub record AreCallRates (s : Snapshot) (c : ℕ) (prices : ℕ → ℤ) (require
 pub record HasRoomFor (s : Snapshot) (laid : RouteRated) : Type 0 where
   pub origins : AreOrigins s laid.upward laid.below
   pub size : length laid.rates ≡ call_count s
+  pub floors : length laid.apart ≡ floor_count s.building
+  pub places : length laid.terms ≡ floor_count s.building * call_count s
+
+-- the sets of calls by floor have those that have a row and begin elsewhere
+pub record AreApart (s : Snapshot) (rates : List CallRate) (apart : List ℕ) : Type 0 where
+  pub size : length apart ≡ floor_count s.building
+  pub each : (f j : ℕ) → f < floor_count s.building → has (slice_index apart f) j ≡ true → BeginsApart rates f j
 
 -- the calls are laid out for car c at these prices
 pub record IsLaidOut (s : Snapshot) (c : ℕ) (prices : ℕ → ℤ) (required : ℕ → Bool) (laid : RouteRated) : Type 0 where
   pub origins : AreOrigins s laid.upward laid.below
   pub rates : AreCallRates s c prices required laid.rates
+  pub apart : AreApart s laid.rates laid.apart
+  pub terms : AreTerms s c laid.rates laid.terms

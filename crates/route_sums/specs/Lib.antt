@@ -3,4 +3,5 @@ pub mod Gathering
 pub mod Idle
 pub mod Keeping
 pub mod Origins
+pub mod Rows
 pub mod Stands

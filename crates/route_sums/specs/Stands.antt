@@ -1,5 +1,5 @@
 -- Where a partial tour or its forced route is, as the sums keep it, against the definition.
-use Rattle.std.specs.Prelude.{◌≡◌, ℕ, ◌+◌, ◌<◌, ◌≤◌, ◌==◌, ◌&&◌, ◌||◌, Bool, true, min, Option, Some, None, if◌then◌else◌}
+use Rattle.std.specs.Prelude.{◌≡◌, ℕ, ◌+◌, ◌<◌, ◌≤◌, ◌==◌, ◌&&◌, ◌||◌, Bool, true, Option, Some, None, if◌then◌else◌}
 use Rattle.call_sets.specs.Counting.{has}
 use Rattle.elevator_model.specs.Building.{floor_count}
 use Rattle.elevator_model.specs.Costs.{settled_cost}
@@ -46,4 +46,4 @@ pub record StandsFor (t : PartialTour) (newest : Option Newest) (stand : Stand) 
 -- the earliest moment at which the doors can be open at floor g, as the stand tells it
 abbrev pub soonest : Snapshot → ℕ → Stand → (g : ℕ) → ℕ
 soonest s c stand g =
-    if stand.place.begun && (g == stand.place.floor) then stand.opened else min (stand.leaves + time_between s.building.travel stand.place.floor g + (spec_of s c).opening) 99000000000
+    if stand.place.begun && (g == stand.place.floor) then stand.opened else stand.leaves + time_between s.building.travel stand.place.floor g + (spec_of s c).opening

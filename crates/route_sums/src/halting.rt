@@ -17,7 +17,7 @@ ghost use Rattle.route_sums.specs.declared.stands.Newest.{Newest as NewestValue}
 ghost use Rattle.route_sums.specs.Stands.{IsStand, StandsFor, boarding_moment, is_known, soonest};
 
 use crate::leaving::leaving_at;
-use crate::stands::{LATEST, MOST_SETTLED, Newest, Stand};
+use crate::stands::{LATEST, LATEST_OPEN, MOST_SETTLED, Newest, Stand};
 use call_sets::CallSet;
 use call_state::Snapshot;
 use elevator_model::MOMENT_LIMIT;
@@ -105,13 +105,13 @@ impl Stand {
         requires to { floor < floor_count snapshot.now.building }
         ensures value { (car : ℕ) → ready ≡ self.now.leaves + (spec_of snapshot.now car).opening
             → result ≡ soonest snapshot.now car self.now floor }
-        ensures early { result ≤ LATEST }
+        ensures early { result ≤ LATEST_OPEN }
     {
         if self.place.begun && floor == self.place.floor {
             return self.opened;
         }
         let way = snapshot.building().travel().time(self.place.floor, floor);
-        (ready + way).min(LATEST)
+        ready + way
     }
 
     /// After a stop at a floor where nobody boards.

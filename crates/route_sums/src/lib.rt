@@ -19,6 +19,12 @@
 //! costs by the moment at which it boards, for a car and its prices, with a moment from which on it adds
 //! nothing.
 //!
+//! What most calls add from each floor is laid out as a row (`rows`, `specs/Rows.antt`): a constant, and as much
+//! more for each ms until the car leaves, so that a call takes one product, one sum and one test. A call has no
+//! row where it has to board, where its price is beyond 10^16 or where its wait counts more past its patience,
+//! and none is used for a call that begins where the car stands: what those add is found one by one.
+//! Where a call would board before its release, its row tells less than it adds.
+//!
 //! A call that adds nothing is not looked at again after later moves (`specs/Idle.antt`): where some tour goes
 //! on, no move makes it board sooner (`forced_route::growing_law`), and only then its value has to be a bound.
 //!
@@ -31,6 +37,7 @@ mod origins;
 mod parts;
 mod rates;
 mod route;
+mod rows;
 mod stands;
 mod sums;
 

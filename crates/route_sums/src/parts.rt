@@ -1,7 +1,7 @@
 //! What calls add that have not boarded, in thousandths of a cost unit.
 
-ghost use Rattle.std.specs.Prelude.{◌≡◌, ℕ, ◌+◌, ◌*◌, ◌^◌, ◌<◌, ◌≤◌, ◌≤ℤ◌, ◌-ℤ◌, pos, neg_ℤ, true, length};
-ghost use Rattle.std.specs.Prelude.{if◌then◌else◌, int_lt, ◌&&◌, ◌==◌, not};
+ghost use Rattle.std.specs.Prelude.{◌≡◌, ℕ, ◌+◌, ◌*◌, ◌^◌, ◌<◌, ◌≤◌, ◌≤ℤ◌, ◌+ℤ◌, ◌-ℤ◌, pos, neg_ℤ, false, true};
+ghost use Rattle.std.specs.Prelude.{if◌then◌else◌, int_lt, length, ◌&&◌, ◌||◌, ◌==◌, not};
 ghost use Rattle.call_sets.specs.Counting.{has};
 ghost use Rattle.elevator_model.specs.Building.{floor_count};
 ghost use Rattle.elevator_model.specs.Snapshot.{call_count, call_of, car_count};
@@ -16,7 +16,8 @@ ghost use Rattle.route_sums.specs.Idle.{adds as adds_lem};
 ghost use Rattle.route_sums.specs.Stands.{soonest};
 
 use crate::rates::{CallRate, RouteRates};
-use crate::stands::{LATEST, Stand};
+use crate::rows::{RowSum, row_sum};
+use crate::stands::{LATEST_OPEN, Stand};
 use call_sets::CallSet;
 use call_state::Snapshot;
 use price_scale::Price;
@@ -73,6 +74,22 @@ pub(crate) struct Gathered {
     pub(crate) waiting: CallSet,
 }
 
+/// What calls add call by call, and what other ones add by a row.
+fn together(others: &Gathered, row: &RowSum) -> Gathered
+    requires low { neg_ℤ (pos (256 * 10 ^ 24)) ≤ℤ others.now.added }
+    requires high { others.now.added ≤ℤ pos (256 * 10 ^ 24) }
+    requires row_low { neg_ℤ (pos (4 * 10 ^ 18)) ≤ℤ row.now.added }
+    requires row_high { row.now.added ≤ℤ pos 0 }
+    ensures added { result.added ≡ (others.now.added +ℤ row.now.added) }
+    ensures waiting { (j : ℕ) → has result.waiting j
+        ≡ (has others.now.waiting j || has row.now.waiting j) }
+{
+    Gathered {
+        added: others.added + i128::from(row.added),
+        waiting: others.waiting.union(row.waiting),
+    }
+}
+
 impl<'a, 'r, 'p> RouteSums<'a, 'r, 'p> {
     /// The price of a call, in thousandths of a cost unit.
     pub(crate) fn price(&self, call: u32) -> i128
@@ -95,7 +112,7 @@ impl<'a, 'r, 'p> RouteSums<'a, 'r, 'p> {
     /// What a call adds that boards at this moment.
     fn part(&self, call: u32, boarded: u64) -> i128
         requires call { call < call_count self.now.snapshot.now }
-        requires early { boarded ≤ LATEST }
+        requires early { boarded ≤ LATEST_OPEN }
         ensures value { result ≡ part_if_boarded self.now.snapshot.now self.now.car
             (price_at self.now.prices.now) (has self.now.required) call boarded }
         ensures low { neg_ℤ (pos (2 * 10 ^ 24)) ≤ℤ result }
@@ -108,8 +125,8 @@ impl<'a, 'r, 'p> RouteSums<'a, 'r, 'p> {
         counted(rate.term(boarded), rate.is_required)
     }
 
-    /// What calls add that board as soon as the doors can be open from this stand.
-    pub(crate) fn parts(&self, stand: &Stand, calls: CallSet) -> Gathered
+    /// The same call by call.
+    fn each_part(&self, stand: &Stand, calls: CallSet) -> Gathered
         requires from { stand.now.place.floor < floor_count self.now.snapshot.now.building }
         requires within { (j : ℕ) → has calls j ≡ true → j < call_count self.now.snapshot.now }
         ensures sum { result.added ≡ int_sum_where (call_count self.now.snapshot.now) (has calls)
@@ -139,5 +156,34 @@ impl<'a, 'r, 'p> RouteSums<'a, 'r, 'p> {
             added: sum,
             waiting,
         }
+    }
+
+    /// What calls add that board as soon as the doors can be open from this stand, or less.
+    pub(crate) fn parts(&self, stand: &Stand, calls: CallSet) -> Gathered
+        requires from { stand.now.place.floor < floor_count self.now.snapshot.now.building }
+        requires within { (j : ℕ) → has calls j ≡ true → j < call_count self.now.snapshot.now }
+        ensures sum { result.added ≤ℤ int_sum_where (call_count self.now.snapshot.now) (has calls)
+            (λ j. part_if_boarded self.now.snapshot.now self.now.car (price_at self.now.prices.now)
+            (has self.now.required) j
+            (soonest self.now.snapshot.now self.now.car stand.now (call_of self.now.snapshot.now j).origin)) }
+        ensures low { int_sum_where (call_count self.now.snapshot.now) (has calls) lowest ≤ℤ result.added }
+        ensures high { result.added ≤ℤ int_sum_where (call_count self.now.snapshot.now) (has calls) highest }
+        ensures within { (j : ℕ) → has result.waiting j ≡ true → has calls j ≡ true }
+        ensures idle { (j : ℕ) → has calls j ≡ true → has result.waiting j ≡ false → pos 0
+            ≤ℤ part_if_boarded self.now.snapshot.now self.now.car (price_at self.now.prices.now)
+            (has self.now.required) j
+            (soonest self.now.snapshot.now self.now.car stand.now
+            (call_of self.now.snapshot.now j).origin) }
+    {
+        // For the proof: the snapshot is accepted.
+        let _calls = self.snapshot.calls();
+        let floor = stand.place.floor;
+        let elsewhere = self.rates.apart(floor);
+        let apart = calls.intersection(elsewhere);
+        let row = self.rates.row(floor);
+        let by_row = row_sum(row, stand.leaves, apart);
+        let rest = calls.minus(apart);
+        let others = self.each_part(stand, rest);
+        together(&others, &by_row)
     }
 }

@@ -1,17 +1,18 @@
 //! What the calls of a snapshot cost one car and are worth to it, laid out once for all its partial tours.
 
 ghost use Rattle.std.specs.Prelude.{◌≡◌, ℕ, ℤ, pos, neg_ℤ, ◌+◌, ◌-◌, ◌*◌, ◌^◌, ◌<◌, ◌≤◌, ◌≤ℤ◌, ◌-ℤ◌};
-ghost use Rattle.std.specs.Prelude.{false, true, IfOk, length, slice_index_or};
+ghost use Rattle.std.specs.Prelude.{false, true, IfOk, length, slice_index, slice_index_or};
 ghost use Rattle.call_sets.specs.Counting.{has};
 ghost use Rattle.elevator_model.specs.Snapshot.{call_count, car_count};
 ghost use Rattle.forced_route.specs.ForcedRoute.{least_ride as least_ride_lem};
 ghost use Rattle.price_scale.specs.Scale.{IsPrice};
 ghost use Rattle.search_model.specs.Prices.{price_at, scaled as scaled_lem};
 ghost use Rattle.route_sums.specs.CallRates.{AreCallRates, HasRoomFor, IsCallRate, IsLaidOut};
-ghost use Rattle.route_sums.specs.CallRates.{cost_at};
+ghost use Rattle.route_sums.specs.Rows.{cost_at, no_term};
 
 use crate::origins::{below_table, upward_calls};
-use crate::stands::LATEST;
+use crate::rows::{RowTerm, has_row, no_sets, no_terms, set_apart, set_terms};
+use crate::stands::LATEST_OPEN;
 use call_sets::CallSet;
 use call_state::Snapshot;
 use elevator_model::MOST_CALLS;
@@ -27,17 +28,19 @@ pub(crate) struct CallRate {
     pub(crate) origin: u32,
     /// Whether a tour has to board it.
     pub(crate) is_required: bool,
-    released: u64,
+    pub(crate) released: u64,
     /// The moment at which its patience ends.
     late: u64,
-    wait: u64,
+    pub(crate) wait: u64,
     over: u64,
     /// What the least ride costs, in cost units.
-    ride: u64,
+    pub(crate) ride: u64,
     /// Its price, in thousandths of a cost unit.
-    price: i128,
+    pub(crate) price: i128,
     /// From this moment on it adds nothing.
     pub(crate) enough: u64,
+    /// Whether the rows have its terms.
+    pub(crate) has_row: bool,
 }
 
 impl CallRate {
@@ -46,7 +49,7 @@ impl CallRate {
         requires wait { self.now.wait ≤ 8000 }
         requires over { self.now.over ≤ 8000 }
         requires ride { self.now.ride ≤ 1600000000000 }
-        requires early { boarded ≤ LATEST }
+        requires early { boarded ≤ LATEST_OPEN }
         ensures value { result ≡ cost_at self.now boarded }
         ensures small { result ≤ 1600000000000000 }
     {
@@ -61,7 +64,7 @@ impl CallRate {
         requires over { self.now.over ≤ 8000 }
         requires ride { self.now.ride ≤ 1600000000000 }
         requires price { IsPrice self.now.price }
-        requires early { boarded ≤ LATEST }
+        requires early { boarded ≤ LATEST_OPEN }
         ensures value { result ≡ scaled_lem (cost_at self.now boarded) -ℤ self.now.price }
         ensures low { neg_ℤ (pos (2 * 10 ^ 24)) ≤ℤ result }
         ensures high { result ≤ℤ pos (2 * 10 ^ 24) }
@@ -105,7 +108,7 @@ fn enough_of(released: u64, wait: u64, ride: u64, price: i128, is_required: bool
     requires wait { wait ≤ 8000 }
     requires ride { ride ≤ 1600000000000 }
     requires price { IsPrice price }
-    ensures { (k : ℕ) → k ≤ 99000000000 → result ≤ k → (is_required ≡ false)
+    ensures { (k : ℕ) → k ≤ 99100000000 → result ≤ k → (is_required ≡ false)
         × (pos 0 ≤ℤ (scaled_lem (wait * (k - released) + ride) -ℤ price)) }
 {
     if is_required || wait == 0 {
@@ -132,6 +135,7 @@ fn rate_of(snapshot: &Snapshot, car: u32, call: u32, price: i128, is_required: b
     let rider = &snapshot.calls()[call as usize];
     let persons = rider.persons as u64;
     let wait = persons * building.wait_weight();
+    let over = persons * building.patience_weight();
     let ride = persons * building.travel_weight() * least_ride(snapshot, car, call);
     CallRate {
         origin: rider.origin,
@@ -139,10 +143,11 @@ fn rate_of(snapshot: &Snapshot, car: u32, call: u32, price: i128, is_required: b
         released: rider.released,
         late: rider.released + building.patience(),
         wait,
-        over: persons * building.patience_weight(),
+        over,
         ride,
         price,
         enough: enough_of(rider.released, wait, ride, price, is_required),
+        has_row: has_row(is_required, over, price),
     }
 }
 
@@ -197,6 +202,7 @@ fn no_rates(alloc: Global, calls: usize) -> Result<Vec<CallRate>, AllocError>
             ride: 0,
             price: 0,
             enough: 0,
+            has_row: false,
         })?;
     }
     Ok(rates)
@@ -211,6 +217,10 @@ pub struct RouteRates {
     /// For each floor up to one above the highest the calls that begin below it.
     below: Vec<CallSet>,
     rates: Vec<CallRate>,
+    /// For each floor the calls that have a row and begin elsewhere.
+    apart: Vec<CallSet>,
+    /// For each floor its row: the terms of the calls, in their order.
+    terms: Vec<RowTerm>,
 }
 
 impl Model for RouteRates {
@@ -222,6 +232,8 @@ impl Model for RouteRates {
       upward = r.upward;
       below = r.below.items;
       rates = r.rates.items;
+      apart = r.apart.items;
+      terms = r.terms.items;
     } };
 }
 
@@ -233,11 +245,17 @@ impl RouteRates {
     {
         let upward = upward_calls(snapshot);
         let below = below_table(alloc, snapshot)?;
-        let rates = no_rates(alloc, snapshot.calls().len())?;
+        let calls = snapshot.calls().len();
+        let floors = snapshot.building().travel().floors() as usize;
+        let rates = no_rates(alloc, calls)?;
+        let apart = no_sets(alloc, floors)?;
+        let terms = no_terms(alloc, floors * calls)?;
         Ok(RouteRates {
             upward,
             below,
             rates,
+            apart,
+            terms,
         })
     }
 
@@ -252,6 +270,13 @@ impl RouteRates {
         // For the proof: the snapshot is accepted, so it has at most 128 calls.
         let _calls = snapshot.calls();
         set_rates(self.rates.as_mut_slice(), snapshot, car, prices, required);
+        set_apart(self.apart.as_mut_slice(), self.rates.as_slice());
+        set_terms(
+            self.terms.as_mut_slice(),
+            snapshot,
+            car,
+            self.rates.as_slice(),
+        );
     }
 
     /// The rate of a call.
@@ -275,5 +300,25 @@ impl RouteRates {
         ensures { result ≡ slice_index_or self.now.below floor result }
     {
         self.below[floor as usize]
+    }
+
+    /// The calls that have a row and do not begin at a floor.
+    pub(crate) fn apart(&self, floor: u32) -> CallSet
+        requires { floor < length self.now.apart }
+        ensures { result ≡ slice_index self.now.apart floor }
+    {
+        self.apart[floor as usize]
+    }
+
+    /// The row of a floor.
+    pub(crate) fn row(&self, floor: u32) -> &[RowTerm]
+        requires { floor * length self.now.rates + length self.now.rates ≤ length self.now.terms }
+        ensures size { length result.now ≡ length self.now.rates }
+        ensures terms { (j : ℕ) → j < length self.now.rates → slice_index_or result.now j no_term
+            ≡ slice_index_or self.now.terms (floor * length self.now.rates + j) no_term }
+    {
+        let calls = self.rates.len();
+        let start = floor as usize * calls;
+        &self.terms[start..start + calls]
     }
 }

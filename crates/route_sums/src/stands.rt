@@ -8,6 +8,9 @@ use tour_rules::places::CarPlace;
 /// Moments in ms are cut here. No tour is as late.
 pub(crate) const LATEST: u64 = 99_000_000_000;
 
+/// No doors are found to open later, in ms.
+pub(crate) const LATEST_OPEN: u64 = 99_100_000_000;
+
 /// Costs in cost units are cut here. No tour costs as much.
 pub(crate) const MOST_SETTLED: u64 = 500_000_000_000_000_000;
 

@@ -1,10 +1,11 @@
-use Rattle.std.proofs.Common.{◌≡◌, ◌+◌, ◌-◌, ◌*◌, ◌≤◌, ℕ, List, false, get_or, refl, ap, subst, sym, arith}
+use Rattle.std.proofs.Common.{◌≡◌, ◌+◌, ◌-◌, ◌*◌, ◌≤◌, ℕ, List, false, true, get_or, refl, ap, subst, sym, arith}
 use Rattle.std.specs.Prelude.{ℤ, pos, ◌-ℤ◌, ◌≤ℤ◌}
 use Rattle.elevator_model.specs.declared.Call.{Call}
 use Rattle.elevator_model.specs.Snapshot.{no_call}
 use Rattle.search_model.specs.Prices.{scaled}
 use Rattle.partial_tours.proofs.Departing.{product_small}
 use Rattle.pricing_bound.proofs.RateLemmas.{stored_price}
+use Rattle.route_sums.specs.Rows.{HasRow}
 use Rattle.route_sums.proofs.CallRateLemmas.{rate_is}
 use Rattle.route_sums.proofs.rates.rate_of.Goals as goal
 
@@ -29,5 +30,8 @@ returns c =
     let rides = product_small rider.persons c.travel_weight.result 8 1000 persons (omega (arith, travel, travel_small)) in
     let ride = product_small (rider.persons * c.travel_weight.result) time 8000 200000000 (omega (arith, rides)) c.least_ride.ensures.short in
     let stored = stored_price c.args.price c.requires.price in
-    let enough = subst (λ (z : ℤ). (k : ℕ) → k ≤ 99000000000 → c.enough_of.result ≤ k → (c.args.is_required ≡ false) × (pos 0 ≤ℤ (scaled (rider.persons * c.wait_weight.result * (k - rider.released) + rider.persons * c.travel_weight.result * time) -ℤ z))) stored c.enough_of.ensures in
-    rate_is s c.args.car j b rider _ c.args.price c.args.is_required time c.building-building.ensures.value of_call c.requires.call c.least_ride.ensures.value refl refl (ap (λ (x : ℕ). rider.released + x) c.patience.ensures.value) (ap (λ (x : ℕ). rider.persons * x) wait) (ap (λ (x : ℕ). rider.persons * x) over) (ap (λ (x : ℕ). rider.persons * x * time) travel) (omega (arith, waits)) (omega (arith, overs)) (omega (arith, ride)) stored refl enough
+    let free = subst (λ (call : Call). call.released ≤ s.moment) (sym of_call) (c.calls.ensures.accepted.calls j c.requires.call).released in
+    let moment = c.calls.ensures.accepted.moment in
+    let has_row = λ (e : c.has_row.result ≡ true). subst (HasRow c.args.is_required) stored (c.has_row.ensures e) in
+    let enough = subst (λ (z : ℤ). (k : ℕ) → k ≤ 99100000000 → c.enough_of.result ≤ k → (c.args.is_required ≡ false) × (pos 0 ≤ℤ (scaled (rider.persons * c.wait_weight.result * (k - rider.released) + rider.persons * c.travel_weight.result * time) -ℤ z))) stored c.enough_of.ensures in
+    rate_is s c.args.car j b rider _ c.args.price c.args.is_required time c.building-building.ensures.value of_call c.requires.call c.least_ride.ensures.value refl refl (ap (λ (x : ℕ). rider.released + x) c.patience.ensures.value) (ap (λ (x : ℕ). rider.persons * x) wait) (ap (λ (x : ℕ). rider.persons * x) over) (ap (λ (x : ℕ). rider.persons * x * time) travel) (omega (arith, waits)) (omega (arith, overs)) (omega (arith, ride)) stored refl (omega (arith, free, moment)) has_row enough

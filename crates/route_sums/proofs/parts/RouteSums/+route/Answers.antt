@@ -5,7 +5,7 @@ use Rattle.forced_route.specs.ForcedRoute.{is_before as is_before_lem}
 use Rattle.partial_tours.specs.Courses.{reached}
 use Rattle.search_model.specs.Prices.{price_at}
 use Rattle.route_sums.specs.Gathering.{highest, lowest}
-use Rattle.std.proofs.Common.{Bool, true, false, ap, inl, inr, sym, ◌∙◌, subst, arith}
+use Rattle.std.proofs.Common.{inl, inr, sym, ◌∙◌, subst, arith}
 use Rattle.std.proofs.lemmas.Bool.{and_parts, or_cases}
 use Rattle.elevator_model.specs.Snapshot.{IsAccepted}
 use Rattle.forced_route.specs.ForcedRoute.{halted}
@@ -95,23 +95,19 @@ returns-clause-high t c =
     let two = c.along_route-later.ensures.high in
     omega (arith, ints, whole, apart, one, two)
 
--- what is in a set of those that add something, and what adds nothing
-not_added : (w h a : Bool) → w ≡ (h && a) → h ≡ true → w ≡ false → a ≡ false
-not_added w h a is on off = sym (ap (λ (b : Bool). b && a) on) ∙ sym is ∙ off
-
 pub returns-in_default-clause-within : goal.returns-in_default-clause-within
-returns-in_default-clause-within t c = λ j e. (and_parts (has c.args.rest j) _ (sym (c.parts-last.ensures.waiting j) ∙ e)).0
+returns-in_default-clause-within t c = c.parts-last.ensures.within
 
 pub returns-in_default-clause-idle : goal.returns-in_default-clause-idle
 returns-in_default-clause-idle t c x p leads at = λ j on off.
-    idle_none c.args.prefix.now.snapshot c.args.self.now.snapshot.now c.args.prefix.now.car c.args.self.now.car (price_at c.args.self.now.prices.now) (has c.args.self.now.required) (has c.args.way.now.along) c.args.way.now.upward c.args.newest (reached c.args.prefix.now.snapshot c.args.prefix.now.car x) c.args.at.now p j c.requires.same c.requires.car at (none_from c.args.way.now.upward c.args.at.now.place.floor c.args.at.now.bound_for c.in_default.ensures.up c.in_default.ensures.down) (not_added (has c.parts-last.result.waiting j) (has c.args.rest j) _ (c.parts-last.ensures.waiting j) on off)
+    idle_none c.args.prefix.now.snapshot c.args.self.now.snapshot.now c.args.prefix.now.car c.args.self.now.car (price_at c.args.self.now.prices.now) (has c.args.self.now.required) (has c.args.way.now.along) c.args.way.now.upward c.args.newest (reached c.args.prefix.now.snapshot c.args.prefix.now.car x) c.args.at.now p j c.requires.same c.requires.car at (none_from c.args.way.now.upward c.args.at.now.place.floor c.args.at.now.bound_for c.in_default.ensures.up c.in_default.ensures.down) (c.parts-last.ensures.idle j on off)
 
 pub returns-clause-within : goal.returns-clause-within
 returns-clause-within t c = λ j e.
-    elim (or_cases (has c.parts-here.result.waiting j) (has c.along_route-later.result.waiting j) (sym (c.union.ensures j) ∙ e)) [ inl h ↦ (and_parts (has c.args.rest j) _ (sym (c.boards_before-boards.ensures j) ∙ (and_parts (has c.boards_before-boards.result j) _ (sym (c.parts-here.ensures.waiting j) ∙ h)).0)).0 | inr h ↦ (and_parts (has c.args.rest j) _ (sym (c.minus-after.ensures j) ∙ c.along_route-later.ensures.within j h)).0 ]
+    elim (or_cases (has c.parts-here.result.waiting j) (has c.along_route-later.result.waiting j) (sym (c.union.ensures j) ∙ e)) [ inl h ↦ (and_parts (has c.args.rest j) _ (sym (c.boards_before-boards.ensures j) ∙ c.parts-here.ensures.within j h)).0 | inr h ↦ (and_parts (has c.args.rest j) _ (sym (c.minus-after.ensures j) ∙ c.along_route-later.ensures.within j h)).0 ]
 
 pub returns-clause-idle : goal.returns-clause-idle
 returns-clause-idle t c x p leads at = λ j on off.
     let s = c.args.prefix.now.snapshot in
     let next = next_from c.args.way.now.upward c.args.at.now c.in-Some.floor c.in-Some.ensures.up c.in-Some.ensures.down in
-    idle_next s c.args.self.now.snapshot.now c.args.prefix.now.car c.args.self.now.car (price_at c.args.self.now.prices.now) (has c.args.self.now.required) (has c.args.way.now.along) c.args.rest c.boards_before-boards.result c.minus-after.result c.parts-here.result.waiting c.along_route-later.result.waiting c.union.result c.args.way.now.upward c.args.newest (reached s c.args.prefix.now.car x) c.args.at.now p c.in-Some.floor j c.requires.same c.requires.car (subst IsAccepted c.requires.same c.calls.ensures.accepted) at next.0 (c.boards_before-boards.ensures j) (c.minus-after.ensures j) (c.union.ensures j) (λ here none. not_added (has c.parts-here.result.waiting j) (has c.boards_before-boards.result j) _ (c.parts-here.ensures.waiting j) here none) (λ left none. c.along_route-later.ensures.idle x (halted s c.args.prefix.now.car p c.in-Some.floor) leads (c.halted.ensures.stands x p leads at) j left none) on off
+    idle_next s c.args.self.now.snapshot.now c.args.prefix.now.car c.args.self.now.car (price_at c.args.self.now.prices.now) (has c.args.self.now.required) (has c.args.way.now.along) c.args.rest c.boards_before-boards.result c.minus-after.result c.parts-here.result.waiting c.along_route-later.result.waiting c.union.result c.args.way.now.upward c.args.newest (reached s c.args.prefix.now.car x) c.args.at.now p c.in-Some.floor j c.requires.same c.requires.car (subst IsAccepted c.requires.same c.calls.ensures.accepted) at next.0 (c.boards_before-boards.ensures j) (c.minus-after.ensures j) (c.union.ensures j) (λ here none. c.parts-here.ensures.idle j here none) (λ left none. c.along_route-later.ensures.idle x (halted s c.args.prefix.now.car p c.in-Some.floor) leads (c.halted.ensures.stands x p leads at) j left none) on off

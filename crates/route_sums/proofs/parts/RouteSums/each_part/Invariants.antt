@@ -7,7 +7,7 @@ use Rattle.forced_route.specs.ForcedRoute.{part_if_boarded}
 use Rattle.route_sums.specs.Idle.{adds}
 use Rattle.route_sums.specs.Stands.{soonest}
 use Rattle.route_sums.proofs.FilterLemmas.{IsFiltered}
-use Rattle.route_sums.proofs.parts.RouteSums.parts.Given as goal
+use Rattle.route_sums.proofs.parts.RouteSums.each_part.Given as goal
 
 abbrev pub invariant-loop-call : goal.invariant-loop-call
 invariant-loop-call l = record {
