@@ -1,5 +1,6 @@
 mod Vain
 mod Visiting
+mod Stops
 mod StepLemmas
 mod DiveLemmas
 mod SearchLemmas

@@ -1,44 +1,51 @@
 -- What a walk keeps, move after move.
-use Rattle.std.proofs.Common.{◌≡◌, ℕ, zero, suc, ◌+◌, ◌<◌, ◌≤◌, Bool, true, false, cond, List, [], ◌∷◌, ◌++◌, length, get_or, refl, sym, ap, ◌∙◌, subst, inl, inr, arith, Option, Some, None}
+use Rattle.std.proofs.Common.{◌≡◌, ℕ, zero, suc, ◌+◌, ◌<◌, ◌≤◌, Bool, true, false, cond, List, [], ◌∷◌, ◌++◌, length, take, get_or, refl, sym, ap, ◌∙◌, subst, inl, inr, arith, length-append, append-nil, Option, Some}
 use Rattle.std.specs.Prelude.{ℤ, ◌≤ℤ◌, int_lt, not}
-use Rattle.std.specs.List.{flat_map}
+use Rattle.std.specs.List.{filter, flat_map}
 use Rattle.std.proofs.Math.Nat.{eq-or-lt_of_le}
 use Rattle.std.proofs.lemmas.Int.{ints}
+use Rattle.std.proofs.lemmas.Bool.{both_ways, cases_Bool}
+use Rattle.std.proofs.lemmas.List.{take_more}
 use Rattle.call_sets.specs.Counting.{has}
 use Rattle.elevator_model.specs.declared.Move.{Move}
 use Rattle.elevator_model.specs.declared.Move.TheVariants.{Board, End}
 use Rattle.elevator_model.specs.declared.Stop.{Stop}
-use Rattle.elevator_model.specs.Partial.{Course, boards_allowed, moves_of_stop}
+use Rattle.elevator_model.specs.Partial.{Course, boards_allowed, move_on, moves_of_stop}
 use Rattle.search_model.specs.Nodes.{IsTourWithin}
-use Rattle.search_model.specs.Orders.{BeginsWith, any_course, AreAllowed}
+use Rattle.search_model.specs.Orders.{BeginsWith, any_course, AreAllowed, lists_at, lists_from}
 use Rattle.tour_rules.specs.Measure.{moves_left}
 use Rattle.tour_rules.proofs.Measure.{moves_left-falls}
 use Rattle.partial_tours.specs.PartialTour.{PartialTour, course, with_move}
-use Rattle.partial_tours.proofs.Lawful.{In, at_place}
+use Rattle.partial_tours.proofs.Lawful.{In}
 use Rattle.tour_extension.specs.declared.demands.Demand.{Demand}
 use Rattle.tour_extension.proofs.Extended.{allowed_append, allowed_stops}
 use Rattle.pricing_bound.specs.Aims.{Aim, value_for}
 use Rattle.tour_bounds.specs.Undercutting.{HasNoneBelow, UndercutsNone}
 use Rattle.kept_tours.specs.Walking.{aim_at, IsWalking, IsOpen}
-use Rattle.kept_tours.proofs.Followers.{followers, IsAt, at_move, at_end, at_place_of, follower, in_followers, past_out}
+use Rattle.kept_tours.proofs.Followers.{followers, followers_are, IsAt, at_move, at_place_of, follower, in_followers, past_out}
 use Rattle.kept_tours.proofs.EndLemmas.{ended_within, ended_value, HasNext, has_next}
-use Rattle.kept_tours.proofs.ListLemmas.{first_lists, own_lists, next_lists, own_one, own_all}
+use Rattle.kept_tours.proofs.ListLemmas.{flat_map-append, lists_after, own_lists, own_one}
 use Rattle.pricing_search.specs.declared.progress.Progress.{Progress}
 use Rattle.pricing_search.specs.Steps.{IsVain}
 use Rattle.pricing_search.specs.Walks.{IsFoundTour, HasFound, GoesOn, MayAnswer, BelowAll, Visited}
-use Rattle.pricing_search.proofs.Vain.{GoesToWorth, none_below_there}
+use Rattle.pricing_search.proofs.Vain.{GoesToWorth, IsLater, is_no_leave, none_below_there}
 
--- What a walk through the followers before a place has done.
+-- the partial tours to which some of the moves that may follow lead
+abbrev pub lists_of : PartialTour → (set n : ℕ) → Course → List Move → List (List Move)
+lists_of t set n x firsts = lists_after t.snapshot t.car (has set) any_course n t.moves x firsts
+
+-- What a walk has done with the followers before a place that are no leaves.
 pub record VisitsBefore (t : PartialTour) (demand : Demand) (price : ℕ → ℤ) (most : ℕ) (old new : Progress) (place : ℕ) : Type 0 where
   pub on : GoesOn most old new
   pub found : HasFound (aim_at t demand price) new
-  pub below : (k : ℕ) → k < place → BelowAll t demand price (t.moves ++ get_or (followers t demand.allowed) k (Board 0) ∷ []) new
-  pub few : (x : Course) → course t ≡ Some x → (n : ℕ) → moves_left t.snapshot t.car x ≤ n → new.visits ≤ old.visits + length (first_lists t demand.allowed any_course n x place)
+  pub below : (k : ℕ) → k < place → is_no_leave (get_or (followers t demand.allowed) k (Board 0)) ≡ true → BelowAll t demand price (t.moves ++ get_or (followers t demand.allowed) k (Board 0) ∷ []) new
+  pub few : (x : Course) → course t ≡ Some x → (n : ℕ) → moves_left t.snapshot t.car x ≤ n → new.visits ≤ old.visits + length (lists_of t demand.allowed n x (filter is_no_leave (take place (followers t demand.allowed))))
 
 -- What it has done before the next move.
 pub record Visits (t : PartialTour) (demand : Demand) (price : ℕ → ℤ) (most : ℕ) (next : Option Move) (old new : Progress) : Type 0 where
   pub place : ℕ
   pub at : IsAt t demand.allowed next place
+  pub own : (m : Move) → next ≡ Some m → is_no_leave m ≡ true
   pub done : VisitsBefore t demand price most old new place
 
 pub goes_nowhere : (most : ℕ) (p : Progress) → p.visits ≤ most → GoesOn most p p
@@ -74,7 +81,7 @@ not_less a b h = grind (arith, ints)
 
 -- ---- move after move
 
-goes_through : (most : ℕ) (old mid new : Progress) → GoesOn most old mid → GoesOn most mid new → GoesOn most old new
+pub goes_through : (most : ℕ) (old mid new : Progress) → GoesOn most old mid → GoesOn most mid new → GoesOn most old new
 goes_through most old mid new first more_on =
     let r = first.rises in let r2 = more_on.rises in
     let b = first.best in let b2 = more_on.best in
@@ -87,54 +94,102 @@ goes_through most old mid new first more_on =
       unspent = λ lt. more_on.unspent lt ∙ first.unspent (omega (arith, lt, r2));
     }
 
+filter-append : (test : Move → Bool) (xs ys : List Move) → filter test (xs ++ ys) ≡ filter test xs ++ filter test ys
+filter-append test [] ys = refl
+filter-append test (x ∷ xs) ys = by_test (test x) (filter-append test xs ys)
+  where
+    by_test : (b : Bool) → filter test (xs ++ ys) ≡ filter test xs ++ filter test ys → cond b (x ∷ filter test (xs ++ ys)) (filter test (xs ++ ys)) ≡ cond b (x ∷ filter test xs) (filter test xs) ++ filter test ys
+    by_test true later = ap (λ (l : List Move). x ∷ l) later
+    by_test false later = later
+
 -- one follower more
-one_visited : (t : PartialTour) (demand : Demand) (price : ℕ → ℤ) (most : ℕ) (at : Course) (m : Move) (place : ℕ) (old mid new : Progress) → course t ≡ Some at → IsAt t demand.allowed (Some m) place → VisitsBefore t demand price most old mid place → Visited (with_move t m) demand price most mid new → VisitsBefore t demand price most old new (place + 1)
-one_visited t demand price most at m place old mid new leads stands first more_on =
+before_one : (xs : List Move) (k : ℕ) → k < length xs → filter is_no_leave (take (k + 1) xs) ≡ filter is_no_leave (take k xs) ++ cond (is_no_leave (get_or xs k (Board 0))) (get_or xs k (Board 0) ∷ []) []
+before_one xs k lt = ap (filter is_no_leave) (take_more xs k (Board 0) lt) ∙ filter-append is_no_leave (take k xs) (get_or xs k (Board 0) ∷ [])
+
+leave_adds_none : (xs : List Move) (k : ℕ) → k < length xs → is_no_leave (get_or xs k (Board 0)) ≡ false → filter is_no_leave (take (k + 1) xs) ≡ filter is_no_leave (take k xs)
+leave_adds_none xs k lt e =
+    before_one xs k lt ∙ ap (λ (b : Bool). filter is_no_leave (take k xs) ++ cond b (get_or xs k (Board 0) ∷ []) []) e ∙ append-nil (filter is_no_leave (take k xs))
+
+other_adds_own : (t : PartialTour) (set n : ℕ) (x y : Course) (m : Move) (place : ℕ) → IsAt t set (Some m) place → is_no_leave m ≡ true → move_on t.snapshot t.car x m ≡ Some y → length (lists_of t set n x (filter is_no_leave (take (place + 1) (followers t set)))) ≡ length (lists_of t set n x (filter is_no_leave (take place (followers t set)))) + length (own_lists (with_move t m) set any_course n y)
+other_adds_own t set n x y m place stands stays moved =
+    let here = at_move t set m place stands in
+    let fs = followers t set in
+    let first = filter is_no_leave (take place fs) in
+    let f = λ (v : Move). lists_at (lists_from t.snapshot t.car (has set) any_course n (t.moves ++ v ∷ [])) (move_on t.snapshot t.car x v) in
+    let one : cond (is_no_leave (get_or fs place (Board 0))) (get_or fs place (Board 0) ∷ []) [] ≡ m ∷ [] = ap (λ (v : Move). cond (is_no_leave v) (v ∷ []) []) (sym here.1) ∙ ap (λ (b : Bool). cond b (m ∷ []) []) stays in
+    let split : filter is_no_leave (take (place + 1) fs) ≡ first ++ m ∷ [] = before_one fs place here.0 ∙ ap (λ (l : List Move). first ++ l) one in
+    let lists : flat_map f (filter is_no_leave (take (place + 1) fs)) ≡ flat_map f first ++ (f m ++ []) = ap (flat_map f) split ∙ flat_map-append f first (m ∷ []) in
+    let sizes = length-append (flat_map f first) (f m ++ []) in
+    let last = ap (λ (l : List (List Move)). length l) (append-nil (f m)) in
+    let own : f m ≡ own_lists (with_move t m) set any_course n y = ap (lists_at (lists_from t.snapshot t.car (has set) any_course n (t.moves ++ m ∷ []))) moved in
+    let same = ap (λ (l : List (List Move)). length l) own in
+    let all = ap (λ (l : List (List Move)). length l) lists in
+    omega (arith, sizes, last, same, all)
+
+one_visited : (t : PartialTour) (demand : Demand) (price : ℕ → ℤ) (most : ℕ) (at : Course) (m : Move) (place : ℕ) (old mid new : Progress) → course t ≡ Some at → IsAt t demand.allowed (Some m) place → is_no_leave m ≡ true → VisitsBefore t demand price most old mid place → Visited (with_move t m) demand price most mid new → VisitsBefore t demand price most old new (place + 1)
+one_visited t demand price most at m place old mid new leads stands stays first more_on =
     let set = demand.allowed in
     let here = at_move t set m place stands in record {
       on = goes_through most old mid new first.on more_on.on;
       found = more_on.found;
-      below = λ k b worth tour may within begins. (
+      below = λ k b own worth tour may within begins. (
           let le : k ≤ place = omega (arith, b) in
-          elim (eq-or-lt_of_le le) [ inl e ↦ more_on.below worth tour may within (subst (λ (v : Move). BeginsWith t.snapshot tour (t.moves ++ v ∷ [])) (ap (λ (i : ℕ). get_or (followers t set) i (Board 0)) e ∙ sym here.1) begins) | inr lt ↦ first.below k lt worth tour (might_answer most mid new worth more_on.on may) within begins ]
+          elim (eq-or-lt_of_le le) [ inl e ↦ more_on.below worth tour may within (subst (λ (v : Move). BeginsWith t.snapshot tour (t.moves ++ v ∷ [])) (ap (λ (i : ℕ). get_or (followers t set) i (Board 0)) e ∙ sym here.1) begins) | inr lt ↦ first.below k lt own worth tour (might_answer most mid new worth more_on.on may) within begins ]
           );
       few = λ x there n lt. (
           let fx = follower t set x m place there stands in
           let falls = moves_left-falls t.snapshot t.car x m fx.next fx.moved in
           let a = first.few x there n lt in
           let b = more_on.few fx.next fx.leads n (omega (arith, falls, lt)) in
-          let one_more = next_lists t set any_course n x fx.next m place there stands fx.moved in
+          let one_more = other_adds_own t set n x fx.next m place stands stays fx.moved in
           omega (arith, a, b, one_more)
           );
     }
 
--- The followers up to the next move are vain for the best value of before, so there is nothing to visit.
+-- a leave comes later
+one_later : (t : PartialTour) (demand : Demand) (price : ℕ → ℤ) (most : ℕ) (place : ℕ) (old new : Progress) → place < length (followers t demand.allowed) → is_no_leave (get_or (followers t demand.allowed) place (Board 0)) ≡ false → VisitsBefore t demand price most old new place → VisitsBefore t demand price most old new (place + 1)
+one_later t demand price most place old new within leave first = record {
+  on = first.on;
+  found = first.found;
+  below = λ k b own. (
+      let le : k ≤ place = omega (arith, b) in
+      elim (eq-or-lt_of_le le) [ inl e ↦ absurd (both_ways (is_no_leave (get_or (followers t demand.allowed) place (Board 0))) leave (subst (λ (i : ℕ). is_no_leave (get_or (followers t demand.allowed) i (Board 0)) ≡ true) e own)) | inr lt ↦ first.below k lt own ]
+      );
+  few = λ x there n lt. subst (λ (l : List Move). new.visits ≤ old.visits + length (lists_of t demand.allowed n x l)) (sym (leave_adds_none (followers t demand.allowed) place within leave)) (first.few x there n lt);
+}
+
+-- The followers up to the next move are leaves, or vain for the best value of before, so there is nothing to visit.
 visits_to : (t : PartialTour) (demand : Demand) (price : ℕ → ℤ) (most : ℕ) (at : Course) (next : Option Move) (from : ℕ) (old new : Progress) → course t ≡ Some at → GoesToWorth t demand price old.best next from → VisitsBefore t demand price most old new from → Visits t demand price most next old new
 visits_to t demand price most at next from old new leads goes before = record {
-  place = goes.place;
-  at = goes.at;
-  done = past_out (IsVain demand price old.best t) t demand.allowed next from (VisitsBefore t demand price most old new) goes one_out before;
+  place = goes.past.place;
+  at = goes.past.at;
+  own = goes.own;
+  done = past_out (IsLater demand price old.best t) t demand.allowed next from (VisitsBefore t demand price most old new) goes.past one_out before;
 }
   where
-    one_out : (k : ℕ) → k < length (followers t demand.allowed) → IsVain demand price old.best t (get_or (followers t demand.allowed) k (Board 0)) → VisitsBefore t demand price most old new k → VisitsBefore t demand price most old new (k + 1)
+    one_out : (k : ℕ) → k < length (followers t demand.allowed) → IsLater demand price old.best t (get_or (followers t demand.allowed) k (Board 0)) → VisitsBefore t demand price most old new k → VisitsBefore t demand price most old new (k + 1)
     one_out k lt out done =
         let m = get_or (followers t demand.allowed) k (Board 0) in
         let stands = at_place_of t demand.allowed k lt in
         let f = follower t demand.allowed at m k leads stands in
-        one_visited t demand price most at m k old new new leads stands done (left_aside (with_move t m) demand price most new old.best done.on.best done.on.limit done.found (out f.next f.leads))
+        elim (cases_Bool (is_no_leave m)) [ inl stays ↦ one_visited t demand price most at m k old new new leads stands stays done (left_aside (with_move t m) demand price most new old.best done.on.best done.on.limit done.found (vain_of m stays out f.next f.leads)) | inr leave ↦ one_later t demand price most k old new lt leave done ]
+      where
+        vain_of : (m : Move) → is_no_leave m ≡ true → IsLater demand price old.best t m → IsVain demand price old.best t m
+        vain_of m stays (inl leave) = absurd (both_ways (is_no_leave m) leave stays)
+        vain_of m stays (inr vain) = vain
 
 pub visits_first : (t : PartialTour) (demand : Demand) (price : ℕ → ℤ) (most : ℕ) (at : Course) (next : Option Move) (p : Progress) → course t ≡ Some at → GoesToWorth t demand price p.best next 0 → p.visits ≤ most → HasFound (aim_at t demand price) p → Visits t demand price most next p p
 visits_first t demand price most at next p leads goes le found =
     visits_to t demand price most at next 0 p p leads goes (record {
       on = goes_nowhere most p le;
       found = found;
-      below = λ k b. absurd (omega arith);
+      below = λ k b own. absurd (omega arith);
       few = λ x there n lt. omega arith;
     })
 
 pub visits_on : (t : PartialTour) (demand : Demand) (price : ℕ → ℤ) (most : ℕ) (at : Course) (m : Move) (next : Option Move) (old mid new : Progress) → course t ≡ Some at → (first : Visits t demand price most (Some m) old mid) → Visited (with_move t m) demand price most mid new → GoesToWorth t demand price old.best next (first.place + 1) → Visits t demand price most next old new
 visits_on t demand price most at m next old mid new leads first more_on goes =
-    visits_to t demand price most at next (first.place + 1) old new leads goes (one_visited t demand price most at m first.place old mid new leads first.at first.done more_on)
+    visits_to t demand price most at next (first.place + 1) old new leads goes (one_visited t demand price most at m first.place old mid new leads first.at (first.own m refl) first.done more_on)
 
 -- ---- what was done in all
 
@@ -207,19 +262,26 @@ ended_visited a demand t stands most old now new value w o over lt found counted
     no_more : (u v z : ℤ) → u ≡ v → v ≡ z → u ≤ℤ z
     no_more u v z e d = omega (arith, ints, e, d)
 
+-- What a walk has done with all followers.
+pub record VisitsAll (t : PartialTour) (demand : Demand) (price : ℕ → ℤ) (most : ℕ) (old new : Progress) : Type 0 where
+  pub on : GoesOn most old new
+  pub found : HasFound (aim_at t demand price) new
+  pub below : (m : Move) → In m (followers t demand.allowed) → BelowAll t demand price (t.moves ++ m ∷ []) new
+  pub few : (x : Course) → course t ≡ Some x → (n : ℕ) → moves_left t.snapshot t.car x ≤ n → new.visits ≤ old.visits + length (lists_of t demand.allowed n x (followers t demand.allowed))
+
 -- Its followers were visited.
-pub all_visited : (a : Aim) (demand : Demand) (t : PartialTour) (stands : Course → Type 0) (most : ℕ) (old now new : Progress) → IsWalking a demand t → (o : IsOpen stands demand t) → o.at.ended ≡ false → IsCounted old now → Visits t demand a.price most None now new → Visited t demand a.price most old new
+pub all_visited : (a : Aim) (demand : Demand) (t : PartialTour) (stands : Course → Type 0) (most : ℕ) (old now new : Progress) → IsWalking a demand t → (o : IsOpen stands demand t) → o.at.ended ≡ false → IsCounted old now → VisitsAll t demand a.price most now new → Visited t demand a.price most old new
 all_visited a demand t stands most old now new w o runs counted all =
     let s = t.snapshot in
-    let on = all.done.on in
+    let on = all.on in
     let rises = on.rises in let b = on.best in let u = on.untried in
     let visits = counted.visits in let best = counted.best in let untried = counted.untried in
     record {
       on = record { limit = on.limit; rises = omega (arith, rises, visits); best = omega (arith, ints, b, best); untried = omega (arith, ints, u, untried); unspent = λ lt. on.unspent lt ∙ untried };
-      found = all.done.found;
+      found = all.found;
       below = λ worth tour may inside begins. (
           let next = has_next s t.car t.moves o.at tour o.leads runs inside.feasible begins in
-          through_all worth tour may inside next.move (among tour inside next) next.begins
+          all.below next.move (among tour inside next) worth tour may inside next.begins
           );
       few = λ x there n lt. few_of x there n lt;
     }
@@ -230,14 +292,10 @@ all_visited a demand t stands most old now new w o runs counted all =
     among : (tour : List Stop) → IsTourWithin t.snapshot t.car (has demand.allowed) (has demand.required) tour → (next : HasNext t.snapshot t.car t.moves o.at tour) → In next.move (followers t demand.allowed)
     among tour inside next = in_followers t demand.allowed o.at next.next next.move o.leads (allowed_next tour inside next) next.moved
 
-    through_all : (worth : ℤ) (tour : List Stop) → MayAnswer new worth → IsTourWithin t.snapshot t.car (has demand.allowed) (has demand.required) tour → (m : Move) → In m (followers t demand.allowed) → BeginsWith t.snapshot tour (t.moves ++ m ∷ []) → worth ≤ℤ value_for (aim_at t demand a.price) tour
-    through_all worth tour may inside m one begins =
-        at_place (λ (v : Move). BeginsWith t.snapshot tour (t.moves ++ v ∷ []) → worth ≤ℤ value_for (aim_at t demand a.price) tour) m (followers t demand.allowed) (Board 0) one (λ k b begins. let end = at_end t demand.allowed all.place all.at in all.done.below k (omega (arith, b, end)) worth tour may inside begins) begins
-
     few_of : (x : Course) → course t ≡ Some x → (n : ℕ) → moves_left t.snapshot t.car x < n → new.visits ≤ old.visits + length (own_lists t demand.allowed any_course n x)
     few_of x there zero lt = absurd (omega (arith, lt))
     few_of x there (suc n) lt =
-        let whole = own_all t demand.allowed x all.place n there all.at in
-        let f = all.done.few x there n (omega (arith, lt)) in
+        let whole : length (own_lists t demand.allowed any_course (suc n) x) ≡ suc (length (lists_of t demand.allowed n x (followers t demand.allowed))) = ap (λ (l : List Move). suc (length (lists_of t demand.allowed n x l))) (sym (followers_are t demand.allowed x there)) in
+        let f = all.few x there n (omega (arith, lt)) in
         let visits = counted.visits in
         omega (arith, whole, f, visits)

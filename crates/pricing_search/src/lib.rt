@@ -9,7 +9,7 @@
 //!   checker walks.
 //!
 //! First a dive goes from each partial tour to the follower that promises most, to a first tour (`dive`;
-//! there always is a follower, by `step_forth`). Then `visit` walks depth first in the order of moves and
+//! there always is a follower, by `step_forth`). Then `visit` walks depth first, to near stops first, and
 //! passes by what has a bound not below the best value. Any bound serves that is never above the value of a
 //! tour (`TourBound`); it need not grow along the moves. Its contract is one record, `Visited`
 //! (`specs/Walks.antt`), over every worth that may still be answered: no tour that begins with this partial
@@ -24,6 +24,7 @@ mod dive;
 mod found;
 mod guides;
 mod least;
+mod order;
 mod progress;
 mod search;
 mod searcher;

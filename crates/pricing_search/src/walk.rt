@@ -6,6 +6,7 @@ ghost use Rattle.kept_tours.specs.Walking.{IsWalking, IsOpen, MayFollow, aim_at}
 ghost use Rattle.pricing_search.specs.Walks.{HasFound, Visited};
 
 use crate::guides::Guide;
+use crate::order::nearest;
 use crate::progress::Progress;
 use crate::steps::{followers_below, step_below};
 use elevator_model::Move;
@@ -14,8 +15,9 @@ use tour_bounds::TourBound;
 
 /// Visits a partial tour that some tour of the node begins with, and those that begin with it.
 ///
-/// It goes depth first in the order of moves, and passes by what has a bound not below the best value. Once
-/// as many were visited as the limit says, the least bound of those that are left out is noted.
+/// It goes depth first, boards and the end before leaves, and those to near floors first, and passes by what
+/// has a bound not below the best value. Once as many were visited as the limit says, the least bound of those
+/// that are left out is noted.
 #[cycle(walk)]
 pub(crate) fn visit<B: TourBound>(
     guide: &Guide<B>,
@@ -49,10 +51,18 @@ pub(crate) fn visit<B: TourBound>(
     }
     let departure = bound.depart(prefix, sums);
     let followers = followers_below(bound, guide.demand, prefix, &departure, progress.best);
-    let mut next = followers.first();
+    let mut stops = followers.leaves();
+    let others = followers.without_leaves(stops);
+    let mut next = others.first();
     while let Some(choice) = next {
         visit_after(guide, limit, prefix, sums, &departure, choice, progress);
-        next = followers.after(choice);
+        next = others.after(choice);
+    }
+    let here = prefix.floor();
+    while let Some(floor) = nearest(stops, here) {
+        stops = stops.without(floor);
+        let leave = Move::Leave(floor);
+        visit_after(guide, limit, prefix, sums, &departure, leave, progress);
     }
 }
 

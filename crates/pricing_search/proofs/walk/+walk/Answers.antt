@@ -1,9 +1,10 @@
-use Rattle.std.proofs.Common.{◌≡◌, ◌∙◌, refl, sym, ap, subst, arith, rules, Option}
+use Rattle.std.proofs.Common.{◌≡◌, ℕ, ◌∙◌, refl, sym, ap, subst, arith, rules, Option}
 use Rattle.std.specs.Prelude.{ℤ}
 use Rattle.std.proofs.lemmas.Int.{ints}
 use mir.Val.{to_z, of_z}
 use mir.Syntax.{w128}
 use Rattle.elevator_model.specs.declared.Move.{Move}
+use Rattle.elevator_model.specs.declared.Move.TheVariants.{Leave}
 use Rattle.partial_tours.specs.PartialTour.{PartialTour, course, with_move}
 use Rattle.partial_tours.proofs.Follow.{is_some_has}
 use Rattle.partial_tours.proofs.Search.{left_in, left_falls, from_next}
@@ -14,8 +15,9 @@ use Rattle.kept_tours.proofs.WalkingLemmas.{back_again, departs_there, reached_t
 use Rattle.pricing_search.specs.Steps.{AreFollowersWorth, IsVain}
 use Rattle.pricing_search.specs.Walks.{HasFound, Visited}
 use Rattle.pricing_search.proofs.StepLemmas.{none_there}
-use Rattle.pricing_search.proofs.Vain.{first_worth, next_worth}
+use Rattle.pricing_search.proofs.Vain.{AreOthers, first_worth, next_worth, no_leaves}
 use Rattle.pricing_search.proofs.Visiting.{Visits, IsCounted, counted_found, reached_best, left_out, left_aside, ended_visited, all_visited, visits_first, visits_on}
+use Rattle.pricing_search.proofs.Stops.{VisitsBut, fewer_left, follower_in, gone_there, stops_begin, stops_end, stops_on}
 use Rattle.pricing_search.proofs.walk.+walk.Goals as goal
 
 pub visit-returns-then-is_reached-clause-visited : goal.visit-returns-then-is_reached-clause-visited
@@ -60,7 +62,8 @@ visit-loop-next-init g t c =
     let best = to_z w128 (of_z w128 c.count.new.self.best) in
     let whole : best ≡ c.count.new.self.best = search rules in
     let below = subst (λ (worth : ℤ). AreFollowersWorth demand price worth p o.at c.followers_below-followers.result) whole (c.followers_below-followers.ensures o.at o.leads) in
-    let goes = first_worth p demand price c.count.new.self.best o.at c.followers_below-followers.result c.first-next.result o.leads below c.first-next.ensures in
+    let others : AreOthers p demand price c.count.new.self.best o.at c.followers_below-followers.result c.without_leaves-others.result = record { all = below; without = no_leaves c.followers_below-followers.result c.without_leaves-others.result c.leaves-stops.result c.leaves-stops.ensures c.without_leaves-others.ensures.boards c.without_leaves-others.ensures.leaves c.without_leaves-others.ensures.ends } in
+    let goes = first_worth p demand price c.count.new.self.best o.at c.followers_below-followers.result c.without_leaves-others.result c.first-next.result o.leads others c.first-next.ensures in
     record { same = refl; visits = visits_first p demand price c.args.limit o.at c.first-next.result c.count.new.self o.leads goes (omega (arith, lt, up)) (counted_found (aim_at p demand price) c.args.progress.now c.count.new.self counted c.requires.found) }
 
 pub visit-depart-departure-requires-clause-reached : goal.visit-depart-departure-requires-clause-reached
@@ -90,7 +93,8 @@ visit-loop-next-smaller g t c =
     let choice = c.in-Some.choice in
     let at = subst (λ (next : Option Move). IsAt p demand.allowed next c.loop-next.invariant.visits.place) c.in-Some.is c.loop-next.invariant.visits.at in
     let below = c.followers_below-followers.ensures o.at o.leads in
-    let falls = (next_worth p demand price (to_z w128 (of_z w128 c.count.new.self.best)) o.at c.followers_below-followers.result choice c.after-next.result c.loop-next.invariant.visits.place o.leads below at c.after-next.ensures).1 in
+    let others : AreOthers p demand price (to_z w128 (of_z w128 c.count.new.self.best)) o.at c.followers_below-followers.result c.without_leaves-others.result = record { all = below; without = no_leaves c.followers_below-followers.result c.without_leaves-others.result c.leaves-stops.result c.leaves-stops.ensures c.without_leaves-others.ensures.boards c.without_leaves-others.ensures.leaves c.without_leaves-others.ensures.ends } in
+    let falls = (next_worth p demand price (to_z w128 (of_z w128 c.count.new.self.best)) o.at c.followers_below-followers.result c.without_leaves-others.result choice c.after-next.result c.loop-next.invariant.visits.place o.leads others at c.after-next.ensures).1 in
     let here = ap (λ (v : Option Move). from_next v (followers p demand.allowed)) c.in-Some.is in
     omega (arith, falls, here)
 
@@ -107,18 +111,65 @@ visit-loop-next-preserved g t c =
     let best = to_z w128 (of_z w128 c.count.new.self.best) in
     let whole : best ≡ c.count.new.self.best = search rules in
     let below = subst (λ (worth : ℤ). AreFollowersWorth demand price worth p o.at c.followers_below-followers.result) whole (c.followers_below-followers.ensures o.at o.leads) in
-    let goes = (next_worth p demand price c.count.new.self.best o.at c.followers_below-followers.result choice c.after-next.result visits.place o.leads below visits.at c.after-next.ensures).0 in
+    let others : AreOthers p demand price c.count.new.self.best o.at c.followers_below-followers.result c.without_leaves-others.result = record { all = below; without = no_leaves c.followers_below-followers.result c.without_leaves-others.result c.leaves-stops.result c.leaves-stops.ensures c.without_leaves-others.ensures.boards c.without_leaves-others.ensures.leaves c.without_leaves-others.ensures.ends } in
+    let goes = (next_worth p demand price c.count.new.self.best o.at c.followers_below-followers.result c.without_leaves-others.result choice c.after-next.result visits.place o.leads others visits.at c.after-next.ensures).0 in
     record { same = c.visit_after.ensures.prefix ∙ same; visits = visits_on p demand price c.args.limit o.at choice c.after-next.result c.count.new.self c.loop-next.progress c.visit_after.new.progress o.leads visits more goes }
+
+pub visit-loop-floor-init : goal.visit-loop-floor-init
+visit-loop-floor-init g t c =
+    let p = c.args.prefix.now in
+    let o = c.requires.stands in
+    let demand = c.args.guide.now.demand.now in
+    let price = (g.B.TourBound.aim c.args.guide.now.bound.now).price in
+    let none = none_there c.loop-next.next c.in_default.not-Some in
+    let counted : IsCounted c.args.progress.now c.count.new.self = record { visits = c.count.ensures.visits; best = c.count.ensures.best; untried = c.count.ensures.untried; found = c.count.ensures.found } in
+    let visits = subst (λ (next : Option Move). Visits p demand price c.args.limit next c.count.new.self c.loop-next.progress) none c.loop-next.invariant.visits in
+    let best = to_z w128 (of_z w128 c.count.new.self.best) in
+    let whole : best ≡ c.count.new.self.best = search rules in
+    let below = subst (λ (worth : ℤ). AreFollowersWorth demand price worth p o.at c.followers_below-followers.result) whole (c.followers_below-followers.ensures o.at o.leads) in
+    let begins = stops_begin p demand price c.args.limit o.at c.followers_below-followers.result c.count.new.self c.loop-next.progress o.leads below visits in
+    record { same = c.loop-next.invariant.same; before = c.count.new.self; counted = counted; visits = subst (λ (left : ℕ). VisitsBut p demand price c.args.limit left c.count.new.self c.loop-next.progress) (sym c.leaves-stops.ensures) begins }
+
+pub visit-visit_after-requires-in-Some-nearest : goal.visit-visit_after-requires-in-Some-nearest
+visit-visit_after-requires-in-Some-nearest g t c κs within =
+    let p = c.args.prefix.now in
+    let o = c.requires.stands in
+    let held = c.loop-floor.invariant in
+    let same = held.same in
+    let choice = Leave c.in-Some-nearest.floor in
+    let a = g.B.TourBound.aim c.args.guide.now.bound.now in
+    let one = held.visits.some c.in-Some-nearest.floor c.in-Some-nearest.ensures.0 in
+    let f = follower_in p c.args.guide.now.demand.now.allowed o.at choice o.leads one in
+    let next : MayFollow c.args.guide.now.demand.now p choice = record { lawful = f.lawful; may = f.may } in
+    let departs = departs_there (g.B.TourBound.stands c.args.guide.now.bound.now c.args.sums.now) (g.B.TourBound.departs c.args.guide.now.bound.now c.depart-departure.result) c.args.guide.now.demand.now p o c.depart-departure.ensures in
+    let here = ap left_in same in
+    (omega (arith, here), (search rules, (search rules, (search rules, (subst (λ (q : PartialTour). IsWalking a c.args.guide.now.demand.now q) (sym same) c.requires.walking, (subst (λ (q : PartialTour). IsOpen (g.B.TourBound.stands c.args.guide.now.bound.now c.args.sums.now) c.args.guide.now.demand.now q) (sym same) o, (subst (λ (q : PartialTour). IsOpen (g.B.TourBound.departs c.args.guide.now.bound.now c.depart-departure.result) c.args.guide.now.demand.now q) (sym same) departs, (subst (λ (q : PartialTour). MayFollow c.args.guide.now.demand.now q choice) (sym same) next, (held.visits.on.limit, subst (λ (q : PartialTour). HasFound (aim_at q c.args.guide.now.demand.now a.price) c.loop-floor.progress) (sym same) held.visits.found)))))))))
+
+pub visit-loop-floor-smaller : goal.visit-loop-floor-smaller
+visit-loop-floor-smaller g t c =
+    let is = c.in-Some-nearest.ensures in
+    fewer_left c.loop-floor.stops c.without-stops.result c.in-Some-nearest.floor c.without-stops.ensures is.0 is.1
+
+pub visit-loop-floor-preserved : goal.visit-loop-floor-preserved
+visit-loop-floor-preserved g t c =
+    let p = c.args.prefix.now in
+    let held = c.loop-floor.invariant in
+    let same = held.same in
+    let demand = c.args.guide.now.demand.now in
+    let price = (g.B.TourBound.aim c.args.guide.now.bound.now).price in
+    let is = c.in-Some-nearest.ensures in
+    let more = subst (λ (q : PartialTour). Visited (with_move q (Leave c.in-Some-nearest.floor)) demand price c.args.limit c.loop-floor.progress c.visit_after-in-Some-nearest.new.progress) same c.visit_after-in-Some-nearest.ensures.visited in
+    let gone = gone_there c.loop-floor.stops c.without-stops.result c.in-Some-nearest.floor c.without-stops.ensures in
+    record { same = c.visit_after-in-Some-nearest.ensures.prefix ∙ same; before = held.before; counted = held.counted; visits = stops_on p demand price c.args.limit c.loop-floor.stops c.without-stops.result c.in-Some-nearest.floor held.before c.loop-floor.progress c.visit_after-in-Some-nearest.new.progress held.visits is.0 gone c.without-stops.ensures more }
 
 pub visit-returns-clause-visited : goal.visit-returns-clause-visited
 visit-returns-clause-visited g t c =
     let p = c.args.prefix.now in
     let o = c.requires.stands in
     let a = g.B.TourBound.aim c.args.guide.now.bound.now in
-    let none = none_there c.loop-next.next c.in_default.not-Some in
-    let counted : IsCounted c.args.progress.now c.count.new.self = record { visits = c.count.ensures.visits; best = c.count.ensures.best; untried = c.count.ensures.untried; found = c.count.ensures.found } in
-    let visits = subst (λ (next : Option Move). Visits p c.args.guide.now.demand.now a.price c.args.limit next c.count.new.self c.loop-next.progress) none c.loop-next.invariant.visits in
-    all_visited a c.args.guide.now.demand.now p (g.B.TourBound.stands c.args.guide.now.bound.now c.args.sums.now) c.args.limit c.args.progress.now c.count.new.self c.loop-next.progress c.requires.walking o (sym (c.point.ensures o.at o.leads).ended ∙ c.if-point.false) counted visits
+    let held = c.loop-floor.invariant in
+    let all = stops_end p c.args.guide.now.demand.now a.price c.args.limit c.loop-floor.stops held.before c.loop-floor.progress held.visits c.in_default-nearest.ensures in
+    all_visited a c.args.guide.now.demand.now p (g.B.TourBound.stands c.args.guide.now.bound.now c.args.sums.now) c.args.limit c.args.progress.now held.before c.loop-floor.progress c.requires.walking o (sym (c.point.ensures o.at o.leads).ended ∙ c.if-point.false) held.counted all
 
 pub visit_after-returns-in_default-clause-prefix : goal.visit_after-returns-in_default-clause-prefix
 visit_after-returns-in_default-clause-prefix g t c = (c.step_below.ensures.none (none_there c.step_below.result c.in_default.not-Some)).0

@@ -1,9 +1,10 @@
-use Rattle.std.proofs.Common.{◌≡◌, ◌∙◌, ℕ, Bool, [], sym, ap, subst, rules}
+use Rattle.std.proofs.Common.{◌≡◌, ◌∙◌, ◌*◌, ℕ, Bool, [], sym, ap, subst, rules}
 use Rattle.std.specs.Prelude.{ℤ, nat_lt}
 use mir.Val.{to_z, of_z}
 use mir.Syntax.{w128}
 use Rattle.std.proofs.lemmas.Bool.{and_parts, ltb-true}
 use Rattle.call_sets.specs.Counting.{has}
+use Rattle.elevator_model.specs.Building.{floor_count}
 use Rattle.elevator_model.specs.Snapshot.{Snapshot, IsAccepted, call_count}
 use Rattle.search_model.specs.Extending.{IsDemand}
 use Rattle.search_model.specs.Nodes.{allows, requires_of}
@@ -125,6 +126,11 @@ returns-clause-own c = record {
   accepted = c.requires.own.accepted;
   prefix_is = ap (λ (q : PartialTour). q.snapshot) (c.search.ensures.prefix ∙ c.restart.ensures) ∙ c.requires.own.prefix_is;
   rates_are = ap (λ (r : Rated). r.snapshot) c.lay_out.ensures ∙ c.requires.own.rates_are;
-  route_rates_fit = record { origins = c.lay_out-2.ensures.origins; size = c.lay_out-2.ensures.rates.size };
+  route_rates_fit = record {
+    origins = c.lay_out-2.ensures.origins;
+    size = c.lay_out-2.ensures.rates.size;
+    floors = c.lay_out-2.ensures.apart.size;
+    places = c.lay_out-2.ensures.terms.size ∙ ap (λ (n : ℕ). floor_count c.args.self.now.snapshot.now.building * n) c.lay_out-2.ensures.rates.size;
+  };
   held = λ e. (record { car = c.args.car; node = c.args.node.now; prices = c.args.prices.now; answer = c.search.result }, (returns-clause-priced c).held);
 }
