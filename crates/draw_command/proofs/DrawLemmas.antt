@@ -1,18 +1,19 @@
 -- How the program ends, from what was read and put.
-use Rattle.std.proofs.Common.{◌≡◌, ℕ, List, Option, None, Some, Ok, Err, option_map, subst}
+use Rattle.std.proofs.Common.{◌≡◌, ℕ, List, Option, Some, Ok, Err, option_map, refl, subst}
 use Rattle.lift_text.specs.Reading.{whole_text}
 use Rattle.lift_text.specs.declared.codes.TextCode.{TextCode}
 use Rattle.lift_text.specs.declared.faults.TextFault.{TextFault}
 use Rattle.lift_text.specs.declared.faults.TextFault.TheVariants.{Bad, TooLong}
 use Rattle.lift_picture.specs.declared.scenes.Scene.{Scene}
 use Rattle.command_ends.specs.declared.status.Status.{Status}
-use Rattle.command_ends.specs.declared.status.Status.TheVariants.{Done, Words}
+use Rattle.command_ends.specs.declared.status.Status.TheVariants.{Done, Words, Stopped, Refused, Input, Read, Write, Memory}
 use Rattle.command_ends.specs.Ends.{Ends, IsRefusalLine, Puts, Streams}
-use Rattle.command_ends.proofs.EndLemmas.{ends_put, told_by_line}
+use Rattle.command_ends.proofs.EndLemmas.{ends_more, ends_put, told_by_line}
 use Rattle.draw_command.specs.declared.words.Request.{Request}
 use Rattle.draw_command.specs.declared.words.Subject.{Subject}
 use Rattle.draw_command.specs.declared.words.Subject.TheVariants.{Day, Plan}
-use Rattle.draw_command.specs.Outcome.{DrawRefusalIsDue, DrawsDue, DueFor, EndsDraws, EndsFor, IsSceneAnswered, IsSceneFault, PictureIsDue, TellsScene, UsageDue}
+use Rattle.draw_command.specs.Outcome.{AskForNone, DrawDue, DrawRefusalIsDue, DrawsDue, IsSceneAnswered, IsSceneFault, PictureIsDue, TellsScene, UsageIsDue, usage_text}
+use Rattle.draw_command.specs.Words.{AreTaken}
 
 -- ---- of what was read
 
@@ -45,20 +46,23 @@ refusal_due subject left fault text is_line answered = record {
 pub ends_drawn : (request : Request) (left left' : Option (List ℕ)) (old new : Streams) (text : List ℕ) (result : Status) → PictureIsDue request left left' text → Puts text Done result old.taken new.taken old.write_faults new.write_faults → Ends (DrawsDue request left left') old new result
 ends_drawn request left left' old new text result due put = ends_put (DrawsDue request left left') old new text Done result due (λ wrote. wrote) put
 
-pub ends_usage : (left left' : Option (List ℕ)) (old new : Streams) (text : List ℕ) (result : Status) → UsageDue Words text → Puts text Words result old.taken new.taken old.write_faults new.write_faults → Ends (DueFor None left left') old new result
-ends_usage left left' old new text result due put = ends_put (DueFor None left left') old new text Words result due (λ wrote. wrote) put
-
 -- ---- by the words
 
-module _ (asked : Option Request) where
-  pub ends_asked : (request : Request) (left left' : Option (List ℕ)) (old new : Streams) (result : Status) → Some request ≡ asked → Ends (DrawsDue request left left') old new result → Ends (DueFor asked left left') old new result
-  ends_asked request left left' old new result is ends = subst (λ (o : Option Request). Ends (DueFor o left left') old new result) is ends
+-- what is due of what is asked for is due by the words
+asked_due : (words : List (List ℕ)) (left left' : Option (List ℕ)) (request : Request) → AreTaken words request → (status : Status) (text : List ℕ) → DrawsDue request left left' status text → DrawDue words left left' status text
+asked_due words left left' request taken Done text due = record { request = request; taken = taken; due = due }
+asked_due words left left' request taken Words text due = absurd due
+asked_due words left left' request taken Stopped text due = absurd due
+asked_due words left left' request taken Refused text due = absurd due
+asked_due words left left' request taken Input text due = record { request = request; taken = taken; due = due }
+asked_due words left left' request taken Read text due = absurd due
+asked_due words left left' request taken Write text due = absurd due
+asked_due words left left' request taken Memory text due = absurd due
 
-  pub draws_asked : (request : Request) (old new : Streams) (result : Status) → Some request ≡ asked → EndsDraws old new result → EndsFor asked old new result
-  draws_asked request old new result is ends = subst (λ (o : Option Request). EndsFor o old new result) is ends
+pub ends_asked : (words : List (List ℕ)) (left left' : Option (List ℕ)) (old new : Streams) (result : Status) (request : Request) → AreTaken words request → Ends (DrawsDue request left left') old new result → Ends (DrawDue words left left') old new result
+ends_asked words left left' old new result request taken ends = ends_more (DrawsDue request left left') (DrawDue words left left') old new result (asked_due words left left' request taken) ends
 
-  pub ends_unasked : (left left' : Option (List ℕ)) (old new : Streams) (result : Status) → None ≡ asked → Ends (DueFor None left left') old new result → Ends (DueFor asked left left') old new result
-  ends_unasked left left' old new result is ends = subst (λ (o : Option Request). Ends (DueFor o left left') old new result) is ends
-
-  pub draws_unasked : (old new : Streams) (result : Status) → None ≡ asked → EndsFor None old new result → EndsFor asked old new result
-  draws_unasked old new result is ends = subst (λ (o : Option Request). EndsFor o old new result) is ends
+pub ends_usage : (words : List (List ℕ)) (left : Option (List ℕ)) (old new : Streams) (result : Status) → AskForNone words → Puts usage_text Words result old.taken new.taken old.write_faults new.write_faults → Ends (DrawDue words left left) old new result
+ends_usage words left old new result none put =
+    let due : UsageIsDue words left left usage_text = record { not_taken = none; unread = refl; is_text = refl } in
+    ends_put (DrawDue words left left) old new usage_text Words result due (λ wrote. wrote) put

@@ -1,38 +1,84 @@
--- What words ask for, by how many there are.
-use Rattle.std.proofs.Common.{◌≡◌, ℕ, List, [], ◌∷◌, length, map, None, Some, slice_index_or, refl, arith}
-use Rattle.draw_command.specs.Words.{no_option, request_asked, request_of, size_by_one, size_by_two, size_of}
+-- Which picture the words ask for.
+use Rattle.std.proofs.Common.{◌≡◌, ◌∙◌, Bool, true, false, cond, List, codes, Option, Some, None, slice_get, IfSome, subst, sym, ap, refl}
+use Rattle.std.specs.Str.{bytes_eq}
+use Rattle.std.proofs.lemmas.Slice.Eq.{bytes_eq-Decides}
+use Rattle.clap.specs.Walk.{Row, Text}
+use Rattle.clap.proofs.OnLiterals.{clap_on_literals}
+use Rattle.option_words.specs.Given.{AreGiven}
+use Rattle.option_words.specs.Options.{IsPlain}
+use Rattle.lift_picture.specs.declared.frames.Size.{Size}
+use Rattle.draw_command.specs.Words.{AreTaken, AsksForSize, IsSecond, app, subject_named, word_of}
+use Rattle.draw_command.specs.declared.words.Request.{Request}
+use Rattle.draw_command.specs.declared.words.Subject.{Subject}
+use Rattle.draw_command.specs.declared.words.Subject.TheVariants.{Day, Plan}
 
-module _ {X : Type 0} (f : X → List ℕ) where
-  pub asked_none : (words : List X) (what : X) → length words ≡ 2 → what ≡ slice_index_or words 1 what → request_of (f what) (Some (size_of no_option)) ≡ request_asked (map f words)
-  asked_none [] what size first = absurd (omega (arith, size))
-  asked_none (program ∷ []) what size first = absurd (omega (arith, size))
-  asked_none (program ∷ a ∷ []) what size first = λ i. request_of (f (first i)) (Some (size_of no_option))
-  asked_none (program ∷ a ∷ b ∷ words) what size first = absurd (omega (arith, size))
+pub plain : (subject : Subject) → IsPlain (app subject)
+unfolding clap_on_literals
+plain Day = record { simple = refl; simple_and_free = refl; no_subcommand = refl; defaults_pass = refl; free = refl }
+plain Plan = record { simple = refl; simple_and_free = refl; no_subcommand = refl; defaults_pass = refl; free = refl }
 
-  pub asked_one : (words : List X) (what name word : X) → length words ≡ 4 → what ≡ slice_index_or words 1 what → name ≡ slice_index_or words 2 name → word ≡ slice_index_or words 3 word → request_of (f what) (size_by_one (f name) (f word)) ≡ request_asked (map f words)
-  asked_one [] what name word size first second third = absurd (omega (arith, size))
-  asked_one (program ∷ []) what name word size first second third = absurd (omega (arith, size))
-  asked_one (program ∷ a ∷ []) what name word size first second third = absurd (omega (arith, size))
-  asked_one (program ∷ a ∷ b ∷ []) what name word size first second third = absurd (omega (arith, size))
-  asked_one (program ∷ a ∷ b ∷ c ∷ []) what name word size first second third = λ i. request_of (f (first i)) (size_by_one (f (second i)) (f (third i)))
-  asked_one (program ∷ a ∷ b ∷ c ∷ d ∷ words) what name word size first second third = absurd (omega (arith, size))
+-- ---- the subject
 
-  pub asked_two : (words : List X) (what name word other number : X) → length words ≡ 6 → what ≡ slice_index_or words 1 what → name ≡ slice_index_or words 2 name → word ≡ slice_index_or words 3 word → other ≡ slice_index_or words 4 other → number ≡ slice_index_or words 5 number → request_of (f what) (size_by_two (f name) (f word) (f other) (f number)) ≡ request_asked (map f words)
-  asked_two [] what name word other number size first second third fourth fifth = absurd (omega (arith, size))
-  asked_two (program ∷ []) what name word other number size first second third fourth fifth = absurd (omega (arith, size))
-  asked_two (program ∷ a ∷ []) what name word other number size first second third fourth fifth = absurd (omega (arith, size))
-  asked_two (program ∷ a ∷ b ∷ []) what name word other number size first second third fourth fifth = absurd (omega (arith, size))
-  asked_two (program ∷ a ∷ b ∷ c ∷ []) what name word other number size first second third fourth fifth = absurd (omega (arith, size))
-  asked_two (program ∷ a ∷ b ∷ c ∷ d ∷ []) what name word other number size first second third fourth fifth = absurd (omega (arith, size))
-  asked_two (program ∷ a ∷ b ∷ c ∷ d ∷ e ∷ []) what name word other number size first second third fourth fifth = λ i. request_of (f (first i)) (size_by_two (f (second i)) (f (third i)) (f (fourth i)) (f (fifth i)))
-  asked_two (program ∷ a ∷ b ∷ c ∷ d ∷ e ∷ g ∷ words) what name word other number size first second third fourth fifth = absurd (omega (arith, size))
+only : {X : Type 0} {a b : X} → Some a ≡ Some b → a ≡ b
+only e = cc
 
-  pub asked_no : (words : List X) → (length words ≡ 2 → ⊥) → (length words ≡ 4 → ⊥) → (length words ≡ 6 → ⊥) → None ≡ request_asked (map f words)
-  asked_no [] two four six = refl
-  asked_no (program ∷ []) two four six = refl
-  asked_no (program ∷ a ∷ []) two four six = absurd (two refl)
-  asked_no (program ∷ a ∷ b ∷ []) two four six = refl
-  asked_no (program ∷ a ∷ b ∷ c ∷ []) two four six = absurd (four refl)
-  asked_no (program ∷ a ∷ b ∷ c ∷ d ∷ []) two four six = refl
-  asked_no (program ∷ a ∷ b ∷ c ∷ d ∷ e ∷ []) two four six = absurd (six refl)
-  asked_no (program ∷ a ∷ b ∷ c ∷ d ∷ e ∷ g ∷ words) two four six = refl
+named_word : (word : Text) (named : Subject) → subject_named word ≡ Some named → word ≡ word_of named
+named_word word named is = by_day (bytes_eq word (codes "day")) refl is
+  where
+    names : (subject : Subject) → bytes_eq word (word_of subject) ≡ true → Some subject ≡ Some named → word ≡ word_of named
+    names subject e same = (bytes_eq-Decides word (word_of subject)).0 e ∙ ap word_of (only same)
+
+    by_plan : (b : Bool) → bytes_eq word (codes "plan") ≡ b → cond b (Some Plan) None ≡ Some named → word ≡ word_of named
+    by_plan true e same = names Plan e same
+    by_plan false e same = absurd cc
+
+    by_day : (b : Bool) → bytes_eq word (codes "day") ≡ b → cond b (Some Day) (cond (bytes_eq word (codes "plan")) (Some Plan) None) ≡ Some named → word ≡ word_of named
+    by_day true e same = names Day e same
+    by_day false e same = by_plan (bytes_eq word (codes "plan")) refl same
+
+pub known : (words : List Text) (word : Text) (found : Option Subject) → slice_get words 1 ≡ Some word → found ≡ subject_named word → IfSome found (IsSecond words)
+known words word None second is = tt
+known words word (Some named) second is = second ∙ ap Some (named_word word named (sym is))
+
+word_names : (named : Subject) → subject_named (word_of named) ≡ Some named
+word_names Day = refl
+word_names Plan = refl
+
+-- ---- what is asked for
+
+size_one : (rows : List Row) (a b : Size) → AsksForSize rows a → AsksForSize rows b → a ≡ b
+size_one rows a b x y =
+    let width = only (sym x.width ∙ y.width) in
+    let height = only (sym x.height ∙ y.height) in
+    λ i. record { width = width i; height = height i }
+
+module _ (words : List Text) (named : Subject) (second : IsSecond words named) where
+  taken_subject : (request : Request) → AreTaken words request → request.subject ≡ named
+  taken_subject request t =
+      let same : word_of request.subject ≡ word_of named = only (sym t.subject ∙ second) in
+      only (sym (word_names request.subject) ∙ ap subject_named same ∙ word_names named)
+
+  taken_given : (request : Request) (t : AreTaken words request) → AreGiven (app named) words t.rows
+  taken_given request t = subst (λ k. AreGiven (app k) words t.rows) (taken_subject request t) t.given
+
+  pub taken : (rows : List Row) (size : Size) → AreGiven (app named) words rows → AsksForSize rows size → AreTaken words (record { subject = named; size = size })
+  taken rows size given asks = record { subject = second; rows = rows; given = given; size = asks }
+
+  taken_size : (rows : List Row) → AreGiven (app named) words rows → (request : Request) → AreTaken words request → AsksForSize rows request.size
+  taken_size rows given request t =
+      let mine = taken_given request t in
+      subst (λ r. AsksForSize r request.size) (mine.found ∙ sym given.found) t.size
+
+  pub taken_one : (rows : List Row) (size : Size) → AreGiven (app named) words rows → AsksForSize rows size → (other : Request) → AreTaken words other → other ≡ record { subject = named; size = size }
+  taken_one rows size given asks other t =
+      let subject = taken_subject other t in
+      let same = size_one rows other.size size (taken_size rows given other t) asks in
+      λ i. record { subject = subject i; size = same i }
+
+  -- where options are not given so, no picture is asked for
+  pub refused_by_options : ((rows : List Row) → AreGiven (app named) words rows → ⊥) → (request : Request) → AreTaken words request → ⊥
+  refused_by_options none request t = none t.rows (taken_given request t)
+
+  -- nor where they ask for no size
+  pub refused_by_rows : (rows : List Row) → AreGiven (app named) words rows → ((size : Size) → AsksForSize rows size → ⊥) → (request : Request) → AreTaken words request → ⊥
+  refused_by_rows rows given none request t = none request.size (taken_size rows given request t)

@@ -1,5 +1,5 @@
 -- What the program leaves: what was read and written, and why it ended.
-use Rattle.std.specs.Prelude.{◌≡◌, ℕ, ◌⊎◌, List, codes, Option, None, Some, Result}
+use Rattle.std.specs.Prelude.{◌≡◌, ℕ, ◌⊎◌, List, codes, Option, Some, Result}
 use Rattle.std.specs.Io.KnownBytes.{IsAtEnd}
 use Rattle.byte_streams.specs.Streams.{Rose}
 use Rattle.lift_text.specs.Reading.{TextState, reading, whole_text}
@@ -14,7 +14,7 @@ use Rattle.command_ends.specs.declared.status.Status.TheVariants.{Done, Words, S
 use Rattle.draw_command.specs.declared.words.Request.{Request}
 use Rattle.draw_command.specs.declared.words.Subject.{Subject}
 use Rattle.draw_command.specs.declared.words.Subject.TheVariants.{Day, Plan}
-use Rattle.draw_command.specs.Words.{request_asked}
+use Rattle.draw_command.specs.Words.{AreTaken}
 
 -- the text tells this scene: of a day, or of a plan
 abbrev pub TellsScene : Subject → TextState → Scene → Type 0
@@ -58,34 +58,42 @@ DrawsDue request left left' Memory text = ⊥
 abbrev pub usage_text : List ℕ
 usage_text = codes "usage: lift_draw day|plan [--width N] [--height N]\n"
 
--- where words ask for nothing, the usage line is due
-abbrev pub UsageDue : DueTexts
-UsageDue Done text = ⊥
-UsageDue Words text = text ≡ usage_text
-UsageDue Stopped text = ⊥
-UsageDue Refused text = ⊥
-UsageDue Input text = ⊥
-UsageDue Read text = ⊥
-UsageDue Write text = ⊥
-UsageDue Memory text = ⊥
+-- the words ask for no picture
+abbrev pub AskForNone : (words : List (List ℕ)) → Type 0
+AskForNone words = (request : Request) → AreTaken words request → ⊥
 
--- the texts of the program, by what the words ask for
-abbrev pub DueFor : Option Request → (left left' : Option (List ℕ)) → DueTexts
-DueFor None left left' = UsageDue
-DueFor (Some request) left left' = DrawsDue request left left'
+-- The usage line is due where the words ask for no picture, and nothing is read.
+pub record UsageIsDue (words : List (List ℕ)) (left left' : Option (List ℕ)) (text : List ℕ) : Type 0 where
+  pub not_taken : AskForNone words
+  pub unread : left' ≡ left
+  pub is_text : text ≡ usage_text
 
+-- the words ask for this, and its text is due
+pub record IsAsked (words : List (List ℕ)) (left left' : Option (List ℕ)) (status : Status) (text : List ℕ) : Type 0 where
+  pub request : Request
+  pub taken : AreTaken words request
+  pub due : DrawsDue request left left' status text
+
+-- the texts of the program
 abbrev pub DrawDue : (words : List (List ℕ)) → (left left' : Option (List ℕ)) → DueTexts
-DrawDue words left left' = DueFor (request_asked words) left left'
+DrawDue words left left' Done text = IsAsked words left left' Done text
+DrawDue words left left' Words text = UsageIsDue words left left' text
+DrawDue words left left' Stopped text = ⊥
+DrawDue words left left' Refused text = ⊥
+DrawDue words left left' Input text = IsAsked words left left' Input text
+DrawDue words left left' Read text = ⊥
+DrawDue words left left' Write text = ⊥
+DrawDue words left left' Memory text = ⊥
 
 -- the picture is drawn or the input refused, unless the source or the sink fails or memory runs out
 abbrev pub EndsDraws : (old new : Streams) → Status → Type 0
 EndsDraws old new status =
     (Rose old.read_faults new.read_faults → ⊥) → (Rose old.write_faults new.write_faults → ⊥) → (status ≡ Done) ⊎ (status ≡ Input) ⊎ (status ≡ Memory)
 
--- so by words that ask for a picture; others are refused, unless the sink fails
-abbrev pub EndsFor : Option Request → (old new : Streams) → Status → Type 0
-EndsFor None old new status = (Rose old.write_faults new.write_faults → ⊥) → status ≡ Words
-EndsFor (Some request) old new status = EndsDraws old new status
+-- so by words that ask for a picture
+abbrev pub DrawsByWords : (words : List (List ℕ)) → (old new : Streams) → Status → Type 0
+DrawsByWords words old new status = (request : Request) → AreTaken words request → EndsDraws old new status
 
-abbrev pub EndsRun : (words : List (List ℕ)) → (old new : Streams) → Status → Type 0
-EndsRun words old new status = EndsFor (request_asked words) old new status
+-- other words are refused, unless the sink fails or memory runs out
+abbrev pub RefusesWords : (words : List (List ℕ)) → (old new : Streams) → Status → Type 0
+RefusesWords words old new status = AskForNone words → (Rose old.write_faults new.write_faults → ⊥) → (status ≡ Words) ⊎ (status ≡ Memory)

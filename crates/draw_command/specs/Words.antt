@@ -1,63 +1,52 @@
--- What the words of the command line ask for.
-use Rattle.std.specs.Prelude.{ℕ, ◌&&◌, nat_le, is_none, List, [], ◌∷◌, codes, Option, None, Some, unwrap_or, option_and_then, if◌then◌else◌}
+-- Which words of the command line ask for which picture.
+use Rattle.std.specs.Prelude.{◌≡◌, ℕ, List, codes, slice_get, Option, None, Some, if◌then◌else◌}
 use Rattle.std.specs.Str.{bytes_eq}
-use Rattle.lift_text.specs.Numbers.{digits_number}
+use Rattle.clap.specs.Walk.{Row, Text, first_of}
+use Rattle.clap.specs.Simple.{App, new_app}
+use Rattle.option_words.specs.Given.{AreGiven}
+use Rattle.option_words.specs.Options.{OptionRow, number_from, row, with_option}
 use Rattle.lift_picture.specs.declared.frames.Size.{Size}
-use Rattle.draw_command.specs.declared.words.Options.{Options}
 use Rattle.draw_command.specs.declared.words.Request.{Request}
+use Rattle.draw_command.specs.declared.words.SizeOption.{SizeOption}
+use Rattle.draw_command.specs.declared.words.SizeOption.TheVariants.{Width, Height}
 use Rattle.draw_command.specs.declared.words.Subject.{Subject}
 use Rattle.draw_command.specs.declared.words.Subject.TheVariants.{Day, Plan}
 
-abbrev pub within : ℕ → Option ℕ
-within n = if nat_le 400 n && nat_le n 10000 then Some n else None
+-- the word by which a subject is asked for
+abbrev pub word_of : Subject → Text
+word_of Day = codes "day"
+word_of Plan = codes "plan"
 
--- the number that a word writes, where it is one of a width or a height: 400 to 10000
-abbrev pub number_word : List ℕ → Option ℕ
-number_word word = option_and_then within (digits_number word)
+-- what is drawn by this word
+abbrev pub subject_named : Text → Option Subject
+subject_named word = if bytes_eq word (codes "day") then Some Day else (if bytes_eq word (codes "plan") then Some Plan else None)
 
-abbrev pub no_option : Options
-no_option = record { width = None; height = None }
+-- each option, with its least and its greatest number, and the one where it is not given
+abbrev pub setting_of : SizeOption → OptionRow
+setting_of Width = row (codes "width") 400 10000 1200
+setting_of Height = row (codes "height") 400 10000 600
 
--- one option more, which is not given yet
-abbrev pub with_width : Options → ℕ → Option Options
-with_width options number = if is_none options.width then Some (record options { width = Some number }) else None
+-- as `clap` sees the words from the subject on
+abbrev pub app : Subject → App
+app subject = with_option (with_option (new_app (word_of subject)) (setting_of Width).name) (setting_of Height).name
 
-abbrev pub with_height : Options → ℕ → Option Options
-with_height options number = if is_none options.height then Some (record options { height = Some number }) else None
+-- the number of an option, by what `clap` found
+abbrev pub number_of : List Row → SizeOption → Option ℕ
+number_of rows option = number_from (setting_of option) (first_of (setting_of option).name rows)
 
-abbrev pub with_number : Options → (name : List ℕ) → ℕ → Option Options
-with_number options name number =
-    if bytes_eq name (codes "--width") then with_width options number
-    else (if bytes_eq name (codes "--height") then with_height options number else None)
+pub record AsksForSize (rows : List Row) (size : Size) : Type 0 where
+  pub width : number_of rows Width ≡ Some size.width
+  pub height : number_of rows Height ≡ Some size.height
 
-abbrev pub with_option : Options → (name word : List ℕ) → Option Options
-with_option options name word = option_and_then (with_number options name) (number_word word)
+-- the second word is that of the subject
+abbrev pub IsSecond : List Text → Subject → Type 0
+IsSecond words subject = slice_get words 1 ≡ Some (word_of subject)
 
--- an option that is not given has its default
-abbrev pub size_of : Options → Size
-size_of options = record { width = unwrap_or options.width 1200; height = unwrap_or options.height 600 }
-
--- what one option asks for, and what two do
-abbrev pub size_by_one : (name word : List ℕ) → Option Size
-size_by_one name word = option_and_then (λ (options : Options). Some (size_of options)) (with_option no_option name word)
-
-abbrev pub size_by_two : (name word other number : List ℕ) → Option Size
-size_by_two name word other number = option_and_then (λ (options : Options). option_and_then (λ (both : Options). Some (size_of both)) (with_option options other number)) (with_option no_option name word)
-
--- what is drawn by this name
-abbrev pub subject_named : List ℕ → Option Subject
-subject_named name = if bytes_eq name (codes "day") then Some Day else (if bytes_eq name (codes "plan") then Some Plan else None)
-
-abbrev pub request_of : (name : List ℕ) → Option Size → Option Request
-request_of name size = option_and_then (λ (subject : Subject). option_and_then (λ (s : Size). Some (record { subject = subject; size = s })) size) (subject_named name)
-
--- What the words ask for, the program's name first: what is drawn, and each option at most once.
-abbrev pub request_asked : List (List ℕ) → Option Request
-request_asked [] = None
-request_asked (program ∷ []) = None
-request_asked (program ∷ subject ∷ []) = request_of subject (Some (size_of no_option))
-request_asked (program ∷ subject ∷ name ∷ []) = None
-request_asked (program ∷ subject ∷ name ∷ word ∷ []) = request_of subject (size_by_one name word)
-request_asked (program ∷ subject ∷ name ∷ word ∷ other ∷ []) = None
-request_asked (program ∷ subject ∷ name ∷ word ∷ other ∷ number ∷ []) = request_of subject (size_by_two name word other number)
-request_asked (program ∷ subject ∷ name ∷ word ∷ other ∷ number ∷ more ∷ words) = None
+-- The words of the command line, the program's name first, ask for this picture.
+pub record AreTaken (words : List Text) (request : Request) : Type 0 where
+  pub subject : IsSecond words request.subject
+  -- what `clap` finds in the options behind it
+  pub rows : List Row
+  pub given : AreGiven (app request.subject) words rows
+  -- each value is a number word in its range; the size has the values, or the defaults
+  pub size : AsksForSize rows request.size

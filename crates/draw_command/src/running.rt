@@ -6,14 +6,16 @@ ghost use Rattle.byte_streams.specs.Streams.{Rose};
 ghost use Rattle.command_ends.specs.Ends.{Ends, streams};
 ghost use Rattle.lift_text.specs.LineReader.{failure, text};
 ghost use Rattle.lift_text.specs.Reading.{whole_text};
-ghost use Rattle.draw_command.specs.Outcome.{DrawDue, DrawsDue, EndsDraws, EndsRun, IsSceneAnswered};
+ghost use Rattle.draw_command.specs.Outcome.{AskForNone, DrawDue, DrawsByWords, DrawsDue, EndsDraws};
+ghost use Rattle.draw_command.specs.Outcome.{IsSceneAnswered, RefusesWords};
 
-use crate::words::{Request, Subject, request_asked};
+use crate::words::{Request, Subject, read_words};
 use byte_streams::{Sink, Source};
 use command_ends::{Status, put, put_fault};
 use lift_picture::{Scene, draw_scene};
 use lift_text::{LineReader, TextFault};
 use log_reader::read_day_scene;
+use option_words::WordsFault;
 use plan_reader::read_plan_scene;
 use std::alloc::Global;
 
@@ -95,13 +97,20 @@ pub fn run<S: Source, K: Sink>(
         (streams (S.left source.old) (K.taken sink.old) (S.faults source.old) (K.faults sink.old))
         (streams (S.left source.new) (K.taken sink.new) (S.faults source.new)
         (K.faults sink.new)) result }
-    ensures draws { EndsRun (map string_bytes words.now)
+    ensures draws { DrawsByWords (map string_bytes words.now)
         (streams (S.left source.old) (K.taken sink.old) (S.faults source.old) (K.faults sink.old))
         (streams (S.left source.new) (K.taken sink.new) (S.faults source.new)
         (K.faults sink.new)) result }
+    ensures refuses { RefusesWords (map string_bytes words.now)
+        (streams (S.left source.old) (K.taken sink.old) (S.faults source.old) (K.faults sink.old))
+        (streams (S.left source.new) (K.taken sink.new) (S.faults source.new)
+        (K.faults sink.new)) result }
+    // Words that ask for no picture leave the source as it was, whatever the status.
+    ensures unread { AskForNone (map string_bytes words.now) → source.new ≡ source.old }
 {
-    match request_asked(words) {
-        Some(request) => draw(alloc, request, source, sink),
-        None => put(sink, USAGE, Status::Words),
+    match read_words(alloc, words) {
+        Ok(request) => draw(alloc, request, source, sink),
+        Err(WordsFault::NotTaken) => put(sink, USAGE, Status::Words),
+        Err(WordsFault::NoMemory) => Status::Memory,
     }
 }

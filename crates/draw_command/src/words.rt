@@ -1,25 +1,29 @@
 //! What the words of the command line ask for.
-ghost use Rattle.std.specs.Prelude.{◌≡◌, map, string_bytes};
-ghost use Rattle.draw_command.specs.Words.{number_word as number_word_lem};
-ghost use Rattle.draw_command.specs.Words.{request_asked as request_asked_lem, request_of as request_of_lem};
-ghost use Rattle.draw_command.specs.Words.{subject_named as subject_named_lem};
-ghost use Rattle.draw_command.specs.Words.{no_option, size_of, with_height, with_number, with_option};
-ghost use Rattle.draw_command.specs.Words.{size_by_one, size_by_two, with_width};
+ghost use Rattle.std.specs.Prelude.{◌≡◌, ◌≤◌, None, IfErr, IfOk, IfSome, List, length, map, string_bytes};
+ghost use Rattle.clap.specs.Words.{Row, app_of, found_of, rows_of};
+ghost use Rattle.option_words.specs.Given.{AreGiven};
+ghost use Rattle.option_words.specs.Options.{ExactlyWhere, Shows};
+ghost use Rattle.draw_command.specs.Words.{AreTaken, AsksForSize, IsSecond, app, number_of, setting_of};
+ghost use Rattle.draw_command.specs.Words.{subject_named, word_of};
+ghost use Rattle.draw_command.specs.declared.words.Request.{Request};
+ghost use Rattle.draw_command.specs.declared.words.Subject.{Subject};
 
+use clap::{ArgMatches, Command};
 use lift_picture::Size;
-use lift_text::number_in;
+use option_words::{Setting, WordsFault, options_given, with_option};
+use std::alloc::{AllocError, Global};
 
 /// The smallest width and height.
-const LEAST: u32 = 400;
+const LEAST: u64 = 400;
 
 /// The greatest width and height.
-const MOST: u32 = 10_000;
+const MOST: u64 = 10_000;
 
 /// The width where none is given.
-const WIDTH: u32 = 1_200;
+const WIDTH: u64 = 1_200;
 
 /// The height where none is given.
-const HEIGHT: u32 = 600;
+const HEIGHT: u64 = 600;
 
 /// What is drawn.
 #[derive(Clone, Copy)]
@@ -30,6 +34,13 @@ pub(crate) enum Subject {
     Plan,
 }
 
+/// An option of a picture's size.
+#[derive(Clone, Copy)]
+pub(crate) enum SizeOption {
+    Width,
+    Height,
+}
+
 /// What is asked for.
 #[derive(Clone, Copy)]
 pub(crate) struct Request {
@@ -37,147 +48,113 @@ pub(crate) struct Request {
     pub size: Size,
 }
 
-/// The options that are given.
-#[derive(Clone, Copy)]
-pub(crate) struct Options {
-    pub width: Option<u32>,
-    pub height: Option<u32>,
-}
-
-/// The number that a word writes, where it is a number word in the range of a width or a height.
-fn number_word(word: &str) -> Option<u32>
-    ensures { result ≡ number_word_lem word.now }
-{
-    match number_in(word.as_bytes(), i128::from(LEAST), i128::from(MOST)) {
-        Ok(number) => Some(number as u32),
-        Err(_) => None,
-    }
-}
-
-impl Options {
-    /// No option is given.
-    fn none() -> Options
-        ensures { result ≡ no_option }
+impl Subject {
+    /// What is drawn by this word.
+    fn named(word: &str) -> Option<Subject>
+        ensures { result ≡ subject_named word.now }
     {
-        Options {
-            width: None,
-            height: None,
-        }
-    }
-
-    /// With this width, where none is given yet.
-    fn with_width(self, number: u32) -> Option<Options>
-        ensures { result ≡ with_width self number }
-    {
-        match self.width {
-            None => Some(Options {
-                width: Some(number),
-                height: self.height,
-            }),
-            Some(_) => None,
-        }
-    }
-
-    /// With this height, where none is given yet.
-    fn with_height(self, number: u32) -> Option<Options>
-        ensures { result ≡ with_height self number }
-    {
-        match self.height {
-            None => Some(Options {
-                width: self.width,
-                height: Some(number),
-            }),
-            Some(_) => None,
-        }
-    }
-
-    /// With this number for the option of this name, where it is one of the two and not given yet.
-    fn with_number(self, name: &str, number: u32) -> Option<Options>
-        ensures { result ≡ with_number self name.now number }
-    {
-        match name {
-            "--width" => self.with_width(number),
-            "--height" => self.with_height(number),
+        match word {
+            "day" => Some(Subject::Day),
+            "plan" => Some(Subject::Plan),
             _ => None,
         }
     }
 
-    /// With the option of this name, where the word is a number in its range.
-    fn with(self, name: &str, word: &str) -> Option<Options>
-        ensures { result ≡ with_option self name.now word.now }
+    /// The word by which it is asked for.
+    fn word(self) -> &'static str
+        ensures { result.now ≡ word_of self }
     {
-        let number = number_word(word)?;
-        self.with_number(name, number)
-    }
-
-    /// The size that they ask for.
-    fn size(self) -> Size
-        ensures { result ≡ size_of self }
-    {
-        Size {
-            width: self.width.unwrap_or(WIDTH),
-            height: self.height.unwrap_or(HEIGHT),
+        match self {
+            Subject::Day => "day",
+            Subject::Plan => "plan",
         }
     }
 }
 
-/// The size that one option asks for.
-fn size_by_one(name: &str, word: &str) -> Option<Size>
-    ensures { result ≡ size_by_one name.now word.now }
-{
-    let options = Options::none().with(name, word)?;
-    Some(options.size())
-}
+impl SizeOption {
+    /// Its name, its range and its default.
+    fn setting(self) -> Setting
+        ensures { Shows result (setting_of self) }
+    {
+        match self {
+            SizeOption::Width => Setting::new("width", LEAST, MOST, WIDTH),
+            SizeOption::Height => Setting::new("height", LEAST, MOST, HEIGHT),
+        }
+    }
 
-/// The size that two options ask for.
-fn size_by_two(name: &str, word: &str, other: &str, number: &str) -> Option<Size>
-    ensures { result ≡ size_by_two name.now word.now other.now number.now }
-{
-    let options = Options::none().with(name, word)?;
-    let both = options.with(other, number)?;
-    Some(both.size())
-}
-
-/// What is drawn by this name.
-fn subject_named(name: &str) -> Option<Subject>
-    ensures { result ≡ subject_named_lem name.now }
-{
-    match name {
-        "day" => Some(Subject::Day),
-        "plan" => Some(Subject::Plan),
-        _ => None,
+    /// The number that it is given, where that is in its range, or its default.
+    fn number(self, matches: &ArgMatches<'_>) -> Option<u32>
+        ensures { result ≡ number_of (rows_of (found_of matches.now)) self }
+    {
+        let number = self.setting().number(matches)?;
+        Some(number as u32)
     }
 }
 
-/// What is asked for by the name of a subject and a size.
-fn request_of(name: &str, size: Option<Size>) -> Option<Request>
-    ensures { result ≡ request_of_lem name.now size }
+/// The subject with its options, for `clap`.
+fn as_command<'a>(alloc: Global, subject: Subject) -> Result<Command<'a>, AllocError>
+    ensures { IfOk result (λ built. app_of built ≡ app subject) }
 {
-    let subject = subject_named(name)?;
-    let size = size?;
-    Some(Request { subject, size })
+    let word: &'a str = subject.word();
+    let width: &'a str = SizeOption::Width.setting().name;
+    let height: &'a str = SizeOption::Height.setting().name;
+    let with_width = with_option(alloc, Command::new(alloc, word), width)?;
+    with_option(alloc, with_width, height)
 }
 
-/// What the words of the command line ask for, of which the first is the program's name: `day` or `plan`, and
-/// up to two options, each with its number as the next word. `None` comes exactly where they ask for nothing.
-pub(crate) fn request_asked(words: &[String]) -> Option<Request>
-    ensures { result ≡ request_asked_lem (map string_bytes words.now) }
+/// What `clap` finds in the words of the command line, of which the second is that of the subject.
+fn parse<'a>(
+    alloc: Global,
+    subject: Subject,
+    words: &'a [String],
+) -> Result<ArgMatches<'a>, WordsFault>
+    requires { 2 ≤ length words.now }
+    ensures given { IfOk result (λ m.
+        AreGiven (app subject) (map string_bytes words.entry.now) (rows_of (found_of m))) }
+    ensures refused { IfErr result (λ fault. fault ≡ WordsFault.NotTaken → (rows : List Row)
+        → AreGiven (app subject) (map string_bytes words.entry.now) rows → ⊥) }
 {
-    match words.len() {
-        2 => request_of(words[1].as_str(), Some(Options::none().size())),
-        4 => request_of(
-            words[1].as_str(),
-            size_by_one(words[2].as_str(), words[3].as_str()),
-        ),
-        6 => request_of(
-            words[1].as_str(),
-            size_by_two(
-                words[2].as_str(),
-                words[3].as_str(),
-                words[4].as_str(),
-                words[5].as_str(),
-            ),
-        ),
-        _ => None,
+    match as_command(alloc, subject) {
+        Ok(command) => options_given(command, words),
+        Err(_) => Err(WordsFault::NoMemory),
+    }
+}
+
+/// The size that is asked for.
+fn size_asked(matches: &ArgMatches<'_>) -> Option<Size>
+    ensures { ExactlyWhere (AsksForSize (rows_of (found_of matches.now))) result }
+{
+    let width = SizeOption::Width.number(matches)?;
+    let height = SizeOption::Height.number(matches)?;
+    Some(Size { width, height })
+}
+
+/// The subject that the second word names.
+fn subject_in(words: &[String]) -> Option<Subject>
+    ensures known { IfSome result (λ subject. IsSecond (map string_bytes words.now) subject) }
+    ensures long { IfSome result (λ _. 2 ≤ length words.now) }
+    ensures none { result ≡ None → (subject : Subject) → IsSecond (map string_bytes words.now) subject → ⊥ }
+{
+    let word = words.get(1)?;
+    Subject::named(word.as_str())
+}
+
+/// Reads the words of the command line, of which the first is the program's name: `day` or `plan`, and the
+/// options of the picture's size, each at most once. `NotTaken` comes exactly where they ask for no picture,
+/// unless memory runs out.
+pub(crate) fn read_words(alloc: Global, words: &[String]) -> Result<Request, WordsFault>
+    ensures taken { IfOk result (λ request. AreTaken (map string_bytes words.now) request) }
+    ensures refused { IfErr result (λ fault. fault ≡ WordsFault.NotTaken
+        → (request : Request) → AreTaken (map string_bytes words.now) request → ⊥) }
+    ensures one { IfOk result (λ request. (other : Request)
+        → AreTaken (map string_bytes words.now) other → other ≡ request) }
+{
+    let Some(subject) = subject_in(words) else {
+        return Err(WordsFault::NotTaken);
+    };
+    let matches = parse(alloc, subject, words)?;
+    match size_asked(&matches) {
+        Some(size) => Ok(Request { subject, size }),
+        None => Err(WordsFault::NotTaken),
     }
 }

@@ -1,5 +1,3 @@
-pub mod ParseLemmas
-pub mod RepeatLemmas
+pub mod PlainLemmas
 pub mod TakenLemmas
-pub mod TakesLemmas
 pub mod Worked

@@ -1,15 +1,13 @@
 -- What the words are taken as.
-use Rattle.std.proofs.Common.{◌≡◌, ◌∙◌, ◌-◌, ◌<◌, ℕ, Bool, true, false, IsTrue, cond, List, [], ◌∷◌, map, length, take, drop, codes, Option, Some, None, slice_get, slice_index_or, IfSome, subst, sym, ap, refl, arith}
+use Rattle.std.proofs.Common.{◌≡◌, ◌∙◌, Bool, true, false, IsTrue, cond, List, drop, codes, Option, Some, None, slice_get, IfSome, subst, sym, ap, inl, inr, refl}
 use Rattle.std.specs.Prelude.{◌↔◌}
-use Rattle.std.specs.List.{Contains}
 use Rattle.std.specs.Str.{bytes_eq}
-use Rattle.std.proofs.lemmas.List.{drop-map, take_rest}
 use Rattle.std.proofs.lemmas.Slice.Eq.{bytes_eq-Decides}
 use Rattle.clap.specs.Walk.{Row, Text}
 use Rattle.clap.specs.Simple.{matches_of}
 use Rattle.clap.specs.Takes.{takes}
 use Rattle.lift_words.specs.Table.{app, command_of, word_of}
-use Rattle.lift_words.specs.Repeats.{IsRepeated}
+use Rattle.option_words.specs.Given.{AreGiven}
 use Rattle.lift_words.specs.Taken.{AreTaken, Asks, AsksBy, AsksForBrief, AsksForCerts, AsksForDay, AsksForProgress, AsksForRoot, AsksForSearch, AsksForSizes, AsksToCheck, AsksToRun, AsksToSolve, IsSecond, command_asked}
 use Rattle.lift_words.specs.declared.table.CommandWord.{CommandWord}
 use Rattle.lift_words.specs.declared.table.CommandWord.TheVariants as command
@@ -22,16 +20,6 @@ use Rattle.lift_words.specs.declared.request.SearchOptions.{SearchOptions}
 use Rattle.lift_words.specs.declared.request.RootOptions.{RootOptions}
 use Rattle.lift_words.specs.declared.request.CaseSizes.{CaseSizes}
 use Rattle.lift_words.specs.declared.request.RunOptions.{RunOptions}
-
--- ---- the words behind some of them
-
-pub rest_is : {X : Type 0} (f : X → Text) (xs : List X) (n : ℕ) → map f (take (length xs - n) (drop n xs)) ≡ drop n (map f xs)
-rest_is f xs n = ap (map f) (take_rest xs n) ∙ sym (drop-map f n xs)
-
-pub second_is : {X : Type 0} (f : X → Text) (xs : List X) (x : X) → 1 < length xs → x ≡ slice_index_or xs 1 x → slice_get (map f xs) 1 ≡ Some (f x)
-second_is f [] x lt at = absurd (omega arith)
-second_is f (y ∷ []) x lt at = absurd (omega arith)
-second_is f (y ∷ z ∷ xs) x lt at = sym (ap (λ v. Some (f v)) at)
 
 -- ---- the command
 
@@ -323,44 +311,34 @@ module _ (words : List Text) (named : CommandWord) (second : IsSecond words name
       let same : word_of (command_asked request) ≡ word_of named = only (sym t.command ∙ second) in
       only (sym (word_names (command_asked request)) ∙ ap command_of same ∙ word_names named)
 
-  pub taken_accepted : (request : Request) → AreTaken words request → takes (app named) (drop 1 words) ≡ true
-  taken_accepted request t = subst (λ k. takes (app k) (drop 1 words) ≡ true) (taken_command request t) t.accepted
+  -- where words are taken, their options are given
+  taken_given : (request : Request) → AreTaken words request → AreGiven (app named) words (matches_of (app named) (drop 1 words))
+  taken_given request t = record {
+    clear = λ unclear. elim unclear [ inl dashes ↦ t.no_dashes dashes | inr repeated ↦ t.unrepeated repeated ];
+    accepted = subst (λ k. takes (app k) (drop 1 words) ≡ true) (taken_command request t) t.accepted;
+    found = refl;
+  }
 
-  pub taken_asks : (rows : List Row) → rows ≡ matches_of (app named) (drop 1 words) → (request : Request) → AreTaken words request → AsksBy named rows request
-  taken_asks rows is request t =
+  pub taken_asks : (rows : List Row) → AreGiven (app named) words rows → (request : Request) → AreTaken words request → AsksBy named rows request
+  taken_asks rows given request t =
       let same = taken_command request t in
-      (same, subst (λ r. Asks r request) (ap (λ k. matches_of (app k) (drop 1 words)) same ∙ sym is) t.asks)
+      (same, subst (λ r. Asks r request) (ap (λ k. matches_of (app k) (drop 1 words)) same ∙ sym given.found) t.asks)
 
-  pub taken : (rows : List Row) (request : Request) → (IsRepeated (drop 2 words) → ⊥) → (Contains (drop 2 words) (codes "--") → ⊥)
-      → takes (app named) (drop 1 words) ≡ true → rows ≡ matches_of (app named) (drop 1 words) → AsksBy named rows request → AreTaken words request
-  taken rows request unrepeated no_dashes accepted is asks =
+  pub taken : (rows : List Row) (request : Request) → AreGiven (app named) words rows → AsksBy named rows request → AreTaken words request
+  taken rows request given asks =
       let same = sym asks.0 in
       record {
         command = second ∙ ap (λ k. Some (word_of k)) same;
-        unrepeated = unrepeated;
-        no_dashes = no_dashes;
-        accepted = subst (λ k. takes (app k) (drop 1 words) ≡ true) same accepted;
-        asks = subst (λ r. Asks r request) (is ∙ ap (λ k. matches_of (app k) (drop 1 words)) same) asks.1;
+        unrepeated = λ repeated. given.clear (inr repeated);
+        no_dashes = λ dashes. given.clear (inl dashes);
+        accepted = subst (λ k. takes (app k) (drop 1 words) ≡ true) same given.accepted;
+        asks = subst (λ r. Asks r request) (given.found ∙ ap (λ k. matches_of (app k) (drop 1 words)) same) asks.1;
       }
 
--- ---- the same of the words as the program has them
+  -- where options are not given so, no request is asked
+  pub refused_by_options : ((rows : List Row) → AreGiven (app named) words rows → ⊥) → (request : Request) → AreTaken words request → ⊥
+  refused_by_options none request t = none (matches_of (app named) (drop 1 words)) (taken_given request t)
 
-module _ {X : Type 0} (f : X → Text) (xs : List X) (named : CommandWord) where
-  -- the words from the command on
-  abbrev pub from_command : List Text
-  from_command = map f (take (length xs - 1) (drop 1 xs))
-
-  pub accepted_rest : takes (app named) from_command ≡ true → takes (app named) (drop 1 (map f xs)) ≡ true
-  accepted_rest h = sym (ap (takes (app named)) (rest_is f xs 1)) ∙ h
-
-  pub rows_rest : (rows : List Row) → rows ≡ matches_of (app named) from_command → rows ≡ matches_of (app named) (drop 1 (map f xs))
-  rows_rest rows h = h ∙ ap (matches_of (app named)) (rest_is f xs 1)
-
-  -- where `clap` does not take them, no request is asked
-  pub refused_by_parse : IsSecond (map f xs) named → (takes (app named) from_command ≡ true → ⊥) → (request : Request) → AreTaken (map f xs) request → ⊥
-  refused_by_parse second untaken request t = untaken (ap (takes (app named)) (rest_is f xs 1) ∙ taken_accepted (map f xs) named second request t)
-
-  -- nor where the rows ask for none
-  pub refused_by_rows : IsSecond (map f xs) named → (rows : List Row) → rows ≡ matches_of (app named) from_command
-      → ((request : Request) → AsksBy named rows request → ⊥) → (request : Request) → AreTaken (map f xs) request → ⊥
-  refused_by_rows second rows is none request t = none request (taken_asks (map f xs) named second rows (rows_rest rows is) request t)
+  -- nor where they ask for none
+  pub refused_by_rows : (rows : List Row) → AreGiven (app named) words rows → ((request : Request) → AsksBy named rows request → ⊥) → (request : Request) → AreTaken words request → ⊥
+  refused_by_rows rows given none request t = none request (taken_asks rows given request t)

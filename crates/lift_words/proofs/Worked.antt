@@ -4,7 +4,7 @@ use Rattle.std.proofs.Common.{ap, arith, lit<}
 use Rattle.std.specs.List.{Contains}
 use Rattle.clap.proofs.OnLiterals.{clap_on_literals}
 use Rattle.clap.specs.Walk.{Text}
-use Rattle.lift_words.specs.Repeats.{IsRepeated, Repeats}
+use Rattle.option_words.specs.Repeats.{IsRepeated, Repeats}
 use Rattle.lift_words.specs.Taken.{AreTaken}
 use Rattle.lift_words.specs.declared.request.Request.{Request}
 use Rattle.lift_words.specs.declared.request.Request.TheVariants.{Solve, Check, Day, Report, Make, Run, Table, WhatIf, Banks, Root, Audit}

@@ -1,4 +1,2 @@
 pub mod Table
-pub mod Repeats
 pub mod Taken
-pub mod Faults

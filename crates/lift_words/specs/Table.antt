@@ -1,27 +1,15 @@
 -- The table of commands and their options.
-use Rattle.std.specs.Prelude.{◌≡◌, ◌^◌, ◌-◌, ℕ, List, [], ◌∷◌, map, fold, codes, Option, Some, None, if◌then◌else◌}
-use Rattle.std.specs.Borrow.{Bor}
+use Rattle.std.specs.Prelude.{◌^◌, ◌-◌, List, [], ◌∷◌, fold, codes, Option, Some, None, if◌then◌else◌}
 use Rattle.std.specs.Str.{bytes_eq}
-use Rattle.clap.specs.Walk.{Rule, Text}
-use Rattle.clap.specs.Simple.{App, new_app, new_rule, with_rule}
-use Rattle.clap.specs.declared.builder.action.ArgAction.TheVariants.{SetTrue}
+use Rattle.clap.specs.Walk.{Text}
+use Rattle.clap.specs.Simple.{App, new_app}
+use Rattle.option_words.specs.Options.{OptionRow, row, with_flag, with_option}
 use Rattle.lift_words.specs.declared.table.CommandWord.{CommandWord}
 use Rattle.lift_words.specs.declared.table.CommandWord.TheVariants.{Solve, Check, Day, Report, Make, Table, WhatIf, Banks, Root, Audit}
 use Rattle.lift_words.specs.declared.table.NumberOption.{NumberOption}
 use Rattle.lift_words.specs.declared.table.NumberOption.TheVariants.{Rounds, Turns, Moves, Claims, Workers, Number, Floors, Cars, Calls}
-use Rattle.lift_words.specs.declared.table.Setting.{Setting}
 
--- an option that takes a number: its name without the dashes, its least and its greatest value, and
--- the value where it is not given
-pub record OptionRow : Type 0 where
-  pub name : Text
-  pub low : ℕ
-  pub high : ℕ
-  pub default : ℕ
-
-abbrev pub row : Text → ℕ → ℕ → ℕ → OptionRow
-row name low high default = record { name = name; low = low; high = high; default = default }
-
+-- what the table says of each option that takes a number
 abbrev pub setting_of : NumberOption → OptionRow
 setting_of Rounds = row (codes "rounds") 1 (10 ^ 18) 2000
 setting_of Turns = row (codes "rounds") 1 31 20
@@ -84,31 +72,11 @@ flags_of Banks = []
 flags_of Root = []
 flags_of Audit = []
 
--- ---- as `clap` sees it: long options alone, each with one value, and flags
-
-abbrev pub option_rule : Text → Rule
-option_rule name = record (new_rule name) { long = Some name }
-
-abbrev pub flag_rule : Text → Rule
-flag_rule name = record (option_rule name) { action = Some SetTrue }
+-- ---- as `clap` sees it
 
 abbrev pub with_number : App → NumberOption → App
-with_number app option = with_rule app (option_rule (setting_of option).name)
-
-abbrev pub with_flag : App → Text → App
-with_flag app name = with_rule app (flag_rule name)
+with_number app option = with_option app (setting_of option).name
 
 -- the command as one simple command of `clap`
 abbrev pub app : CommandWord → App
 app command = fold with_flag (fold with_number (new_app (word_of command)) (numbers_of command)) (flags_of command)
-
--- ---- what the program's own values show
-
-abbrev pub texts : List (Bor Text) → List Text
-texts = map (λ s. s.now)
-
-pub record Shows (setting : Setting) (shown : OptionRow) : Type 0 where
-  pub name : setting.name.now ≡ shown.name
-  pub low : setting.low ≡ shown.low
-  pub high : setting.high ≡ shown.high
-  pub default : setting.default ≡ shown.default

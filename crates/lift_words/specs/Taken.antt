@@ -1,12 +1,12 @@
 -- Which words are taken, and what they ask for.
-use Rattle.std.specs.Prelude.{◌≡◌, ◌≤◌, ◌↔◌, ◌&&◌, ℕ, List, drop, codes, slice_get, nat_le, true, false, IsTrue, Option, Some, None, IsSome, if◌then◌else◌, option_and_then}
+use Rattle.std.specs.Prelude.{◌≡◌, ◌↔◌, ℕ, List, drop, codes, slice_get, true, false, IsTrue, Option, Some, None, IsSome, if◌then◌else◌}
 use Rattle.std.specs.List.{Contains}
-use Rattle.lift_text.specs.Numbers.{digits_number}
 use Rattle.clap.specs.Walk.{Row, Text, first_of}
 use Rattle.clap.specs.Simple.{matches_of}
 use Rattle.clap.specs.Takes.{takes}
-use Rattle.lift_words.specs.Table.{OptionRow, app, setting_of, word_of}
-use Rattle.lift_words.specs.Repeats.{IsRepeated}
+use Rattle.lift_words.specs.Table.{app, setting_of, word_of}
+use Rattle.option_words.specs.Options.{IsInRange as IsInRangeOf, number_from}
+use Rattle.option_words.specs.Repeats.{IsRepeated}
 use Rattle.lift_words.specs.declared.table.CommandWord.{CommandWord}
 use Rattle.lift_words.specs.declared.table.CommandWord.TheVariants as command
 use Rattle.lift_words.specs.declared.table.NumberOption.{NumberOption}
@@ -21,19 +21,7 @@ use Rattle.lift_words.specs.declared.request.RootOptions.{RootOptions}
 use Rattle.lift_words.specs.declared.request.CaseSizes.{CaseSizes}
 use Rattle.lift_words.specs.declared.request.RunOptions.{RunOptions}
 
-abbrev pub within : ℕ → ℕ → ℕ → Option ℕ
-within low high n = if nat_le low n && nat_le n high then Some n else None
-
--- the number that a word writes, where it is a number word from low to high
-abbrev pub number_in_range : ℕ → ℕ → Text → Option ℕ
-number_in_range low high word = option_and_then (within low high) (digits_number word)
-
--- the number of an option: that of its value, or the default where it has none
-abbrev pub number_from : OptionRow → Option Text → Option ℕ
-number_from row None = Some row.default
-number_from row (Some word) = number_in_range row.low row.high word
-
--- the same, by what `clap` found
+-- the number of an option, by what `clap` found
 abbrev pub number_of : List Row → NumberOption → Option ℕ
 number_of rows option = number_from (setting_of option) (first_of (setting_of option).name rows)
 
@@ -137,11 +125,6 @@ Asks rows (Audit options) = AsksToCheck rows options
 abbrev pub AsksBy : CommandWord → List Row → Request → Type 0
 AsksBy command rows request = (command_asked request ≡ command) × Asks rows request
 
--- an answer is one that passes, and there is none only where none passes
-abbrev pub ExactlyWhere : {X : Type 0} → (X → Type 0) → Option X → Type 0
-ExactlyWhere P (Some x) = P x
-ExactlyWhere {X} P None = (x : X) → P x → ⊥
-
 -- the second word is that of the command
 abbrev pub IsSecond : List Text → CommandWord → Type 0
 IsSecond words command = slice_get words 1 ≡ Some (word_of command)
@@ -162,7 +145,7 @@ pub record AreTaken (words : List Text) (request : Request) : Type 0 where
 -- ---- the ranges of what is asked
 
 abbrev pub IsInRange : NumberOption → ℕ → Type 0
-IsInRange option n = ((setting_of option).low ≤ n) × (n ≤ (setting_of option).high)
+IsInRange option n = IsInRangeOf (setting_of option) n
 
 pub record AreSolveOptions (options : SolveOptions) : Type 0 where
   pub rounds : IsInRange Rounds options.rounds

@@ -1,32 +1,30 @@
 //! What `clap` makes of the words of a command.
-ghost use Rattle.std.specs.Prelude.{◌≡◌, ◌≢◌, IfErr, IfOk, true, fold, map, string_bytes};
-ghost use Rattle.clap.specs.Words.{app_of, found_of, matches_of, rows_of, takes};
-ghost use Rattle.lift_words.specs.Table.{app, texts, with_flag, with_number};
+ghost use Rattle.std.specs.Prelude.{◌≡◌, ◌≤◌, IfErr, IfOk, List, fold, length, map, string_bytes};
+ghost use Rattle.clap.specs.Words.{Row, app_of, found_of, rows_of};
+ghost use Rattle.lift_words.specs.Table.{app, with_number};
+ghost use Rattle.option_words.specs.Given.{AreGiven};
+ghost use Rattle.option_words.specs.Options.{texts, with_flag};
 
-use crate::request::WordsFault;
 use crate::table::{CommandWord, NumberOption};
-use clap::error::ErrorKind;
-use clap::{Arg, ArgAction, ArgMatches, Command};
+use clap::{ArgMatches, Command};
+use option_words::{WordsFault, options_given, with_flag, with_option};
 use std::alloc::{AllocError, Global};
 
-/// What `clap` finds in the words of a command, of which the first is the command's own.
+/// What `clap` finds in the words of the command line, of which the second is that of the command.
 pub(crate) fn parse<'a>(
     alloc: Global,
     command: CommandWord,
     words: &'a [String],
 ) -> Result<ArgMatches<'a>, WordsFault>
-    ensures taken { IfOk result (λ _. takes (app command) (map string_bytes words.entry.now) ≡ true) }
-    ensures rows { IfOk result (λ m. rows_of (found_of m)
-        ≡ matches_of (app command) (map string_bytes words.entry.now)) }
-    ensures refused { IfErr result (λ fault. fault ≡ WordsFault.NotTaken
-        → takes (app command) (map string_bytes words.entry.now) ≢ true) }
+    requires { 2 ≤ length words.now }
+    ensures given { IfOk result (λ m.
+        AreGiven (app command) (map string_bytes words.entry.now) (rows_of (found_of m))) }
+    ensures refused { IfErr result (λ fault. fault ≡ WordsFault.NotTaken → (rows : List Row)
+        → AreGiven (app command) (map string_bytes words.entry.now) rows → ⊥) }
 {
-    match as_command(alloc, command)?.try_get_matches_from(words) {
-        Ok(matches) => Ok(matches),
-        Err(error) => match error.kind() {
-            ErrorKind::OutOfMemory => Err(WordsFault::NoMemory),
-            _ => Err(WordsFault::NotTaken),
-        },
+    match as_command(alloc, command) {
+        Ok(built) => options_given(built, words),
+        Err(_) => Err(WordsFault::NoMemory),
     }
 }
 
@@ -61,7 +59,7 @@ fn with_number<'a>(
     ensures { IfOk result (λ built. app_of built ≡ with_number (app_of command.entry) option) }
 {
     let name: &'a str = option.setting().name;
-    command.arg(Arg::new(alloc, name).long(name))
+    with_option(alloc, command, name)
 }
 
 /// The command with these flags.
@@ -76,15 +74,4 @@ fn with_flags<'a>(
         command = with_flag(alloc, command, flag)?;
     }
     Ok(command)
-}
-
-fn with_flag<'a>(
-    alloc: Global,
-    command: Command<'a>,
-    flag: &'a str,
-) -> Result<Command<'a>, AllocError>
-    ensures { IfOk result (λ built. app_of built ≡ with_flag (app_of command.entry) flag.entry.now) }
-{
-    let argument = Arg::new(alloc, flag).long(flag).action(ArgAction::SetTrue);
-    command.arg(argument)
 }

@@ -1,25 +1,23 @@
 //! Reads the words.
-ghost use Rattle.std.specs.Prelude.{◌≡◌, ◌≤◌, IfErr, IfOk, IfSome, None, length, IsTrue, ◌↔◌, Some, codes};
-ghost use Rattle.std.specs.Prelude.{map, option_map, string_bytes};
-ghost use Rattle.clap.specs.Words.{first_of, found_of, rows_of};
+ghost use Rattle.std.specs.Prelude.{◌≡◌, ◌≤◌, IfErr, IfOk, IfSome, None, length, map, string_bytes};
+ghost use Rattle.clap.specs.Words.{found_of, rows_of};
 ghost use Rattle.lift_words.specs.Taken.{AreCaseSizes, AreCheckOptions, AreDayOptions, AreRootOptions};
 ghost use Rattle.lift_words.specs.Taken.{AreSearchOptions, AreSolveOptions};
 ghost use Rattle.lift_words.specs.Taken.{AreTaken, AsksBy, AsksForDay, AsksForRoot, AsksForSearch};
 ghost use Rattle.lift_words.specs.Taken.{AsksForSizes, AsksToCheck};
-ghost use Rattle.lift_words.specs.Taken.{AsksToSolve, ExactlyWhere, IsInRange, IsSecond, IsWithin};
-ghost use Rattle.lift_words.specs.Taken.{number_in_range, number_of};
+ghost use Rattle.lift_words.specs.Taken.{AsksToSolve, IsInRange, IsSecond, IsWithin, number_of};
+ghost use Rattle.option_words.specs.Options.{ExactlyWhere};
 ghost use Rattle.lift_words.specs.declared.request.Request.{Request};
 ghost use Rattle.lift_words.specs.declared.table.CommandWord.{CommandWord};
 
 use crate::parsing::parse;
-use crate::repeats::{has_lone_dashes, has_repeats};
 use crate::request::{
     CaseSizes, CheckOptions, DayOptions, Request, RootOptions, RunOptions, SearchOptions,
-    SolveOptions, WordsFault,
+    SolveOptions,
 };
 use crate::table::{CommandWord, NumberOption};
 use clap::ArgMatches;
-use lift_text::number_in;
+use option_words::{WordsFault, is_given};
 use std::alloc::Global;
 
 /// Reads the words of the command line, of which the first is the program's name.
@@ -38,11 +36,7 @@ pub fn read_words(alloc: Global, words: &[String]) -> Result<Request, WordsFault
     let Some(command) = command_in(words) else {
         return Err(WordsFault::NotTaken);
     };
-    let options = &words[2..];
-    if has_lone_dashes(options) || has_repeats(options) {
-        return Err(WordsFault::NotTaken);
-    }
-    let matches = parse(alloc, command, &words[1..])?;
+    let matches = parse(alloc, command, words)?;
     match asked(command, &matches) {
         Some(request) => Ok(request),
         None => Err(WordsFault::NotTaken),
@@ -187,41 +181,10 @@ fn case_sizes(matches: &ArgMatches<'_>) -> Option<CaseSizes>
     })
 }
 
-/// Whether the flag is given.
-fn is_given(matches: &ArgMatches<'_>, flag: &str) -> bool
-    ensures { IsTrue result ↔ (first_of flag.now (rows_of (found_of matches.now)) ≡ Some (codes "true")) }
-{
-    match value(matches, flag) {
-        Some(value) => value == "true",
-        None => false,
-    }
-}
-
-/// The value that an option is given.
-fn value<'a>(matches: &ArgMatches<'a>, name: &str) -> Option<&'a str>
-    ensures { option_map (λ s. s.now) result ≡ first_of name.now (rows_of (found_of matches.now)) }
-{
-    matches.get_str(name)
-}
-
 /// The number of an option: its value, where that is a number word in the range, or the default.
 fn number(matches: &ArgMatches<'_>, option: NumberOption) -> Option<u64>
     ensures value { result ≡ number_of (rows_of (found_of matches.now)) option }
     ensures within { IfSome result (IsInRange option) }
 {
-    let setting = option.setting();
-    match value(matches, setting.name) {
-        None => Some(setting.default),
-        Some(word) => number_word(word, setting.low, setting.high),
-    }
-}
-
-/// The number that a word writes, where it is a number word in the range.
-fn number_word(word: &str, low: u64, high: u64) -> Option<u64>
-    ensures { result ≡ number_in_range low high word.now }
-{
-    match number_in(word.as_bytes(), i128::from(low), i128::from(high)) {
-        Ok(number) => Some(number as u64),
-        Err(_) => None,
-    }
+    option.setting().number(matches)
 }

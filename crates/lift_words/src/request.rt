@@ -1,12 +1,6 @@
 //! What the words ask for.
-ghost use Rattle.std.specs.Prelude.{◌≡◌, ◌≤◌, ◌^◌, IfSome, Some};
-ghost use Rattle.lift_words.specs.Faults.{printed};
+ghost use Rattle.std.specs.Prelude.{◌≡◌, ◌≤◌, ◌^◌, IfSome};
 ghost use Rattle.lift_words.specs.Taken.{AreDayOptions, most_claims, without_certificates};
-ghost use Rattle.lift_words.specs.declared.request.WordsFault.TheVariants.{NoMemory};
-
-use std::alloc::{AllocError, AllocFailed};
-use std::error::Error;
-use std::fmt;
 
 /// What the words of the command line ask for.
 #[derive(Clone, Copy)]
@@ -141,34 +135,4 @@ pub struct RunOptions {
     pub rounds: u64,
     /// `--moves`: at most this many partial tours in one pricing, 1 to 10^18. The default is 75000.
     pub moves: u64,
-}
-
-/// Why the words give no request.
-#[derive(Clone, Copy, Debug, PartialEq, Eq)]
-pub enum WordsFault {
-    /// The words are not taken.
-    NotTaken,
-    /// Out of memory.
-    NoMemory,
-}
-
-impl fmt::Display for WordsFault {
-    ghost output = { λ fault. Some (printed fault) };
-
-    fn fmt<W: fmt::Write>(&self, f: &mut fmt::Formatter<W>) -> fmt::Result {
-        match self {
-            WordsFault::NotTaken => write!(f, "the words are not taken"),
-            WordsFault::NoMemory => write!(f, "out of memory"),
-        }
-    }
-}
-
-impl Error for WordsFault {}
-
-impl From<AllocError> for WordsFault {
-    ghost from_gives = { λ _ fault. fault ≡ NoMemory };
-
-    fn from(_error: AllocError) -> WordsFault {
-        WordsFault::NoMemory
-    }
 }

@@ -1,7 +1,9 @@
 //! The table of commands and their options.
 ghost use Rattle.std.specs.Prelude.{◌≡◌};
-ghost use Rattle.lift_words.specs.Table.{Shows, command_of, flags_of, numbers_of, setting_of, texts, word_of};
+ghost use Rattle.lift_words.specs.Table.{command_of, flags_of, numbers_of, setting_of, word_of};
+ghost use Rattle.option_words.specs.Options.{Shows, texts};
 
+use option_words::Setting;
 use search_model::MOST_CLAIM;
 
 /// A command.
@@ -32,16 +34,6 @@ pub(crate) enum NumberOption {
     Floors,
     Cars,
     Calls,
-}
-
-/// What the table says of an option that takes a number: its name without the dashes, its least and its
-/// greatest value, and the value where it is not given.
-#[derive(Clone, Copy)]
-pub(crate) struct Setting {
-    pub(crate) name: &'static str,
-    pub(crate) low: u64,
-    pub(crate) high: u64,
-    pub(crate) default: u64,
 }
 
 /// The greatest number of rounds, and of moves.
@@ -140,26 +132,15 @@ impl NumberOption {
         ensures { Shows result (setting_of self) }
     {
         match self {
-            NumberOption::Rounds => make_setting("rounds", 1, MOST, 2000),
-            NumberOption::Turns => make_setting("rounds", 1, 31, 20),
-            NumberOption::Moves => make_setting("moves", 1, MOST, 75000),
-            NumberOption::Claims => make_setting("claims", 1, MOST_CLAIM, 1_000_000_000),
-            NumberOption::Workers => make_setting("workers", 1, 16, 1),
-            NumberOption::Number => make_setting("number", 0, u64::MAX, 1),
-            NumberOption::Floors => make_setting("floors", 2, 64, 12),
-            NumberOption::Cars => make_setting("cars", 1, 8, 4),
-            NumberOption::Calls => make_setting("calls", 0, 64, 20),
+            NumberOption::Rounds => Setting::new("rounds", 1, MOST, 2000),
+            NumberOption::Turns => Setting::new("rounds", 1, 31, 20),
+            NumberOption::Moves => Setting::new("moves", 1, MOST, 75000),
+            NumberOption::Claims => Setting::new("claims", 1, MOST_CLAIM, 1_000_000_000),
+            NumberOption::Workers => Setting::new("workers", 1, 16, 1),
+            NumberOption::Number => Setting::new("number", 0, u64::MAX, 1),
+            NumberOption::Floors => Setting::new("floors", 2, 64, 12),
+            NumberOption::Cars => Setting::new("cars", 1, 8, 4),
+            NumberOption::Calls => Setting::new("calls", 0, 64, 20),
         }
-    }
-}
-
-fn make_setting(name: &'static str, low: u64, high: u64, default: u64) -> Setting
-    ensures { result ≡ record { name = name.entry; low = low; high = high; default = default } }
-{
-    Setting {
-        name,
-        low,
-        high,
-        default,
     }
 }

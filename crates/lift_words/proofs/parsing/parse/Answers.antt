@@ -1,17 +1,15 @@
-use Rattle.std.proofs.Common.{◌∙◌}
-use Rattle.lift_words.proofs.ParseLemmas.{no_fault, same_rows, not_taken}
-use Rattle.lift_words.proofs.TakesLemmas.{takes_where_no_fault}
+use Rattle.std.proofs.Common.{◌≡◌, List, IfErr, map, string_bytes, subst, sym}
+use Rattle.clap.specs.Walk.{Row}
+use Rattle.clap.specs.Simple.{App}
+use Rattle.option_words.specs.Given.{AreGiven}
+use Rattle.option_words.specs.Options.{IsPlain}
+use Rattle.option_words.specs.declared.faults.WordsFault.TheVariants.{NotTaken}
+use Rattle.lift_words.proofs.PlainLemmas.{plain}
 use Rattle.lift_words.proofs.parsing.parse.Goals as goal
 
-pub returns-in-Ok-clause-taken : goal.returns-in-Ok-clause-taken
-returns-in-Ok-clause-taken c = takes_where_no_fault c.args.command _ (no_fault _ c.args.command _ c.in_ok-as_command.ensures c.in-Ok.ensures.kinds)
+pub options_given-requires-clause-plain : goal.options_given-requires-clause-plain
+options_given-requires-clause-plain c = subst IsPlain (sym c.in-Ok.ensures) (plain c.args.command)
 
-pub returns-in-Ok-clause-rows : goal.returns-in-Ok-clause-rows
-returns-in-Ok-clause-rows c = same_rows _ c.args.command _ c.in_ok-as_command.ensures _ c.in-Ok.ensures.matches
-
-pub returns : goal.returns
-returns c = record {
-  taken = tt;
-  rows = tt;
-  refused = λ _. not_taken _ c.args.command _ c.in_ok-as_command.ensures _ (λ memory. c.in_default.not-OutOfMemory (c.kind.ensures ∙ memory)) c.in-Err.ensures.passes;
-}
+pub returns-in-Ok-clause-refused : goal.returns-in-Ok-clause-refused
+returns-in-Ok-clause-refused c =
+    subst (λ (a : App). IfErr c.options_given.result (λ fault. fault ≡ NotTaken → (rows : List Row) → AreGiven a (map string_bytes c.args.words.now) rows → ⊥)) c.in-Ok.ensures c.options_given.ensures.refused

@@ -1,6 +1,6 @@
 use Rattle.std.proofs.Common.{◌≡◌, fold, drop}
 use Rattle.clap.specs.Words.{app_of}
-use Rattle.lift_words.specs.Table.{texts, with_flag}
+use Rattle.option_words.specs.Options.{texts, with_flag}
 use Rattle.lift_words.proofs.parsing.with_flags.Given as goal
 
 abbrev pub invariant-loop-flag : goal.invariant-loop-flag

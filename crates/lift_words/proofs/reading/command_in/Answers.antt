@@ -1,5 +1,6 @@
 use Rattle.std.proofs.Common.{◌∙◌, ap, map, string_bytes, sym, Some}
-use Rattle.lift_words.proofs.TakenLemmas.{known, second_is}
+use Rattle.option_words.proofs.ParseLemmas.{second_is}
+use Rattle.lift_words.proofs.TakenLemmas.{known}
 use Rattle.lift_words.proofs.reading.command_in.Goals as goal
 
 pub returns-clause-known : goal.returns-clause-known

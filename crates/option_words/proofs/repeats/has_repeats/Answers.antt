@@ -1,7 +1,7 @@
 use Rattle.std.proofs.Common.{◌+◌, [], map, drop, string_bytes, slice_index_or, refl}
-use Rattle.lift_words.specs.Repeats.{RepeatsOneOf}
-use Rattle.lift_words.proofs.RepeatLemmas.{below_more, from_rest, never, none_repeated, refuted, repeated, to_rest}
-use Rattle.lift_words.proofs.repeats.has_repeats.Goals as goal
+use Rattle.option_words.specs.Repeats.{RepeatsOneOf}
+use Rattle.option_words.proofs.RepeatLemmas.{below_more, from_rest, never, none_repeated, refuted, repeated, to_rest}
+use Rattle.option_words.proofs.repeats.has_repeats.Goals as goal
 
 pub returns-then-is_repeated_in : goal.returns-then-is_repeated_in
 returns-then-is_repeated_in c = (

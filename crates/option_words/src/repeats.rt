@@ -1,10 +1,18 @@
 //! Tests of the words after the command, before `clap` reads them.
 ghost use Rattle.std.specs.Prelude.{◌≡◌, ◌↔◌, IsTrue, codes, map, string_bytes, take};
 ghost use Rattle.std.specs.List.{Contains};
-ghost use Rattle.lift_words.specs.Repeats.{IsRepeated, Repeats, RepeatsOneOf, named_part};
+ghost use Rattle.option_words.specs.Given.{AreUnclear};
+ghost use Rattle.option_words.specs.Repeats.{IsRepeated, Repeats, RepeatsOneOf, named_part};
+
+/// Whether a word is `--` alone, or an option is repeated.
+pub(crate) fn are_unclear(options: &[String]) -> bool
+    ensures { IsTrue result ↔ AreUnclear (map string_bytes options.now) }
+{
+    has_lone_dashes(options) || has_repeats(options)
+}
 
 /// Whether a word is `--` alone.
-pub(crate) fn has_lone_dashes(words: &[String]) -> bool
+fn has_lone_dashes(words: &[String]) -> bool
     ensures { IsTrue result ↔ Contains (map string_bytes words.now) (codes "--") }
 {
     for word in words {
@@ -22,7 +30,7 @@ fn is_lone_dashes(word: &String) -> bool
 }
 
 /// Whether an option is repeated.
-pub(crate) fn has_repeats(words: &[String]) -> bool
+fn has_repeats(words: &[String]) -> bool
     ensures { IsTrue result ↔ IsRepeated (map string_bytes words.now) }
 {
     for place in 0..words.len() {

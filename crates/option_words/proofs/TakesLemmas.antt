@@ -16,11 +16,7 @@ use Rattle.clap.specs.Takes.{action_passes, built_takes, bundle_step_passes, cou
 use Rattle.clap.specs.Kinds.{Kinds, or_else, range_kinds, value_kinds, values_kinds}
 use Rattle.clap.specs.Faults.{action_fault, bundle_step_fault, check_fault, count_fault, defaults_fault, fault_of, flag_word_fault, flags_fault, level_fault, long_fault, option_fault, other_fault, positional_fault, react_fault, repeat_fault, set_fault, settle_fault, short_fault, step_fault, stray_fault, turn_fault, use_fault, values_fault, walk_fault, word_fault}
 use Rattle.clap.proofs.FaultLemmas.{leaf_fault}
-use Rattle.clap.proofs.OnLiterals.{clap_on_literals}
-use Rattle.lift_words.specs.Table.{app}
-use Rattle.lift_words.proofs.ParseLemmas.{simple}
-use Rattle.lift_words.specs.declared.table.CommandWord.{CommandWord}
-use Rattle.lift_words.specs.declared.table.CommandWord.TheVariants.{Solve, Check, Day, Report, Make, Table, WhatIf, Banks, Root, Audit}
+use Rattle.option_words.specs.Options.{IsPlain}
 use Rattle.clap.specs.declared.builder.action.ArgAction.{ArgAction}
 use Rattle.clap.specs.declared.builder.action.ArgAction.TheVariants as action
 use Rattle.clap.specs.declared.builder.value_parser.ValueParser.{ValueParser}
@@ -288,50 +284,12 @@ leaf_takes a words none passes =
     by_stop None = passes
     by_stop (Some p) = passes
 
--- ---- the commands of the table
+-- ---- plain commands
 
-no_subcommand : (command : CommandWord) → (built (app command)).subs ≡ []
-no_subcommand Solve = refl
-no_subcommand Check = refl
-no_subcommand Day = refl
-no_subcommand Report = refl
-no_subcommand Make = refl
-no_subcommand Table = refl
-no_subcommand WhatIf = refl
-no_subcommand Banks = refl
-no_subcommand Root = refl
-no_subcommand Audit = refl
-
-defaults_pass : (command : CommandWord) → list_all default_passes (built (app command)).top.rules ≡ true
-unfolding clap_on_literals
-defaults_pass Solve = refl
-defaults_pass Check = refl
-defaults_pass Day = refl
-defaults_pass Report = refl
-defaults_pass Make = refl
-defaults_pass Table = refl
-defaults_pass WhatIf = refl
-defaults_pass Banks = refl
-defaults_pass Root = refl
-defaults_pass Audit = refl
-
-is_free : (command : CommandWord) → list_all (λ a. a.is_free) (built (app command)).top.rules ≡ true
-unfolding clap_on_literals
-is_free Solve = refl
-is_free Check = refl
-is_free Day = refl
-is_free Report = refl
-is_free Make = refl
-is_free Table = refl
-is_free WhatIf = refl
-is_free Banks = refl
-is_free Root = refl
-is_free Audit = refl
-
--- where `clap` finds no fault in the words of a command, it takes them
-pub takes_where_no_fault : (command : CommandWord) (words : List Text) → fault_of (app command) words ≡ [] → takes (app command) words ≡ true
-takes_where_no_fault command words e =
-    let a = built (app command) in
-    let rest = argument_words (app command) words in
-    both _ _ (simple command) (leaf_takes a rest (no_subcommand command)
-    (level_ok a.top rest (defaults_pass command) (is_free command) (sym (leaf_fault a nothing_held rest (no_subcommand command)) ∙ e)))
+-- where `clap` finds no fault in the words of a plain command, it takes them
+pub takes_where_no_fault : (app : App) (words : List Text) → IsPlain app → fault_of app words ≡ [] → takes app words ≡ true
+takes_where_no_fault app words plain e =
+    let a = built app in
+    let rest = argument_words app words in
+    both _ _ plain.simple (leaf_takes a rest plain.no_subcommand
+    (level_ok a.top rest plain.defaults_pass plain.free (sym (leaf_fault a nothing_held rest plain.no_subcommand) ∙ e)))

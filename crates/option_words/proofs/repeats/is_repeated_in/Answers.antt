@@ -1,7 +1,7 @@
 use Rattle.std.proofs.Common.{[], map, string_bytes, slice_index_or, subst}
-use Rattle.lift_words.specs.Repeats.{Repeats}
-use Rattle.lift_words.proofs.RepeatLemmas.{below_more, refuted, word_is}
-use Rattle.lift_words.proofs.repeats.is_repeated_in.Goals as goal
+use Rattle.option_words.specs.Repeats.{Repeats}
+use Rattle.option_words.proofs.RepeatLemmas.{below_more, refuted, word_is}
+use Rattle.option_words.proofs.repeats.is_repeated_in.Goals as goal
 
 pub loop-other-preserved : goal.loop-other-preserved
 loop-other-preserved c = below_more (λ k. Repeats (string_bytes c.args.word.now) (slice_index_or (map string_bytes c.args.words.now) k [])) c.loop-other.other-index c.loop-other.invariant

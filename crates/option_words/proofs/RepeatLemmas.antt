@@ -4,7 +4,7 @@ use Rattle.std.specs.List.{Contains}
 use Rattle.std.proofs.lemmas.List.{get_or-map, get_or-drop, drop-map, take_rest, length-drop, length-map}
 use Rattle.std.proofs.lemmas.Bool.{cases_lt}
 use Rattle.clap.specs.Walk.{Text}
-use Rattle.lift_words.specs.Repeats.{IsRepeated, Repeats, RepeatsOneOf}
+use Rattle.option_words.specs.Repeats.{IsRepeated, Repeats, RepeatsOneOf}
 
 -- what holds below n and at n holds below n + 1
 pub below_more : (P : ℕ → Type 0) (n : ℕ) → ((k : ℕ) → k < n → P k → ⊥) → (P n → ⊥) → (k : ℕ) → k < n + 1 → P k → ⊥

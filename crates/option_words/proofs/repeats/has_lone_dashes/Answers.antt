@@ -1,6 +1,6 @@
 use Rattle.std.proofs.Common.{◌≡◌, ◌∙◌, codes, map, string_bytes, slice_index_or, sym, refl}
-use Rattle.lift_words.proofs.RepeatLemmas.{below_more, found, refuted, word_is}
-use Rattle.lift_words.proofs.repeats.has_lone_dashes.Goals as goal
+use Rattle.option_words.proofs.RepeatLemmas.{below_more, found, refuted, word_is}
+use Rattle.option_words.proofs.repeats.has_lone_dashes.Goals as goal
 
 pub returns-then-is_lone_dashes : goal.returns-then-is_lone_dashes
 returns-then-is_lone_dashes c = (

@@ -1,0 +1,4 @@
+pub mod ParseLemmas
+pub mod RepeatLemmas
+pub mod SettingLemmas
+pub mod TakesLemmas

@@ -1,0 +1,4 @@
+pub mod Options
+pub mod Repeats
+pub mod Given
+pub mod Faults
