@@ -1,3 +1,4 @@
 pub mod AuditTexts
 pub mod AuditOutcome
 pub mod WorkedTexts
+pub mod OneText

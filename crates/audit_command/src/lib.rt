@@ -14,10 +14,15 @@
 //! whose log nothing is found. `specs/AuditTexts.antt` has the texts, worked in `specs/WorkedTexts.antt`, and
 //! `specs/AuditOutcome.antt` the definitions: `ends` says for each status what was read and written
 //! (`AuditDue`), `audits` that nothing else comes (`EndsAudits`).
+//!
+//! **`text_laws`.** One status and one text are due for an input, so two audits of it that come to write a whole
+//! text end alike (`specs/OneText.antt`).
 #![tactic(auto)]
 
 mod auditing;
+mod laws;
 mod worked;
 mod writing;
 
 pub use auditing::audit;
+pub use laws::text_laws;

@@ -7,6 +7,7 @@ use Rattle.std.proofs.lemmas.List.{append-nil, take-append-le, take_all}
 use Rattle.elevator_model.specs.Snapshot.{Snapshot, IsAccepted}
 use Rattle.search_model.specs.Days.{opening_day}
 use Rattle.lift_text.specs.Reading.{TextState, reading, whole_text}
+use Rattle.lift_text.specs.declared.codes.TextCode.{TextCode}
 use Rattle.lift_text.specs.declared.faults.TextFault.{TextFault}
 use Rattle.lift_text.specs.declared.faults.TextFault.TheVariants.{Bad, NoMemory, Read, TooLong}
 use Rattle.row_text.specs.declared.rows.GoodRow.{GoodRow}
@@ -15,11 +16,13 @@ use Rattle.day_state.specs.Openings.{IsOpeningSnapshot}
 use Rattle.day_audit.specs.declared.findings.Finding.{Finding}
 use Rattle.day_audit.specs.declared.findings.Finding.TheVariants.{Differs, Row as BadRow, Text}
 use Rattle.day_audit.specs.declared.logs.Audited.{Audited}
-use Rattle.day_audit.specs.Audits.{Found, LogFinds, found_for}
+use Rattle.day_audit.specs.Audits.{Found, LogFinds, bad_row, bad_text, differs, found_for}
 use Rattle.day_audit.specs.Taking.{IsUnread, TellsFound, TellsOf, found_by}
 use Rattle.log_rows.specs.Rows.{AreRowsGiven, TellsNoLog, TellsRows, said_of}
 use Rattle.day_audit.specs.Progress.{IsLogAudited}
-use Rattle.day_audit.specs.Inputs.{EndsIfJudged, FindsBehind, FindsIn, IsAudit, IsDayAudited, IsShort, IsTextAudited, bad_opening, behind, if_long, in_log, no_log, rows_past}
+use Rattle.day_audit.specs.Inputs.{EndsIfJudged, FindsBehind, FindsIn, HasNoBadLine, IsAudit, IsDayAudited, IsShort, IsTextAudited, bad_opening, behind, if_long, in_log, no_log, rows_past}
+use Rattle.day_audit.specs.OneAnswer.{IsFoundInText}
+use Rattle.day_audit.proofs.InputOnce.{text_finds_once, text_or_finds}
 use Rattle.day_audit.proofs.TakingLemmas.{tells, tells_found}
 use Rattle.day_audit.proofs.PastLemmas.{text_is_long}
 
@@ -73,12 +76,16 @@ short_audited input (Err (Text TooLong)) short told = let long = text_is_long (w
 short_audited input (Err (Text Read)) short told = tt
 short_audited input (Err (Text NoMemory)) short told = tt
 
+-- what is found besides is no bad line
+found_besides : (input : List ℕ) (found : Found) → IsFoundInText found → ((line : ℕ) (code : TextCode) → found ≡ bad_text (Bad line code) → ⊥) → FindsIn (whole_text input) found → HasNoBadLine input
+found_besides input found told other finds line code bad = other line code (text_finds_once (whole_text input) found (bad_text (Bad line code)) told tt finds bad)
+
 pub long_audited : (input : List ℕ) (answer : Result Audited Finding) → 67108864 < length input → IsTextAudited (Some (whole_text input)) answer → IsAudit input (if_long answer)
-long_audited input (Ok audited) long holds = long
-long_audited input (Err (Differs line)) long told = long
-long_audited input (Err (BadRow row reason)) long told = long
+long_audited input (Ok audited) long holds = (long, λ line code bad. text_or_finds (whole_text input) audited (bad_text (Bad line code)) tt holds bad)
+long_audited input (Err (Differs line)) long told = (long, found_besides input (differs line) tt (λ number code is. absurd cc) told)
+long_audited input (Err (BadRow row reason)) long told = (long, found_besides input (bad_row row reason.items) tt (λ number code is. absurd cc) told)
 long_audited input (Err (Text (Bad line code))) long told = told
-long_audited input (Err (Text TooLong)) long told = long
+long_audited input (Err (Text TooLong)) long told = (long, found_besides input (bad_text TooLong) tt (λ number code is. absurd cc) told)
 long_audited input (Err (Text Read)) long told = tt
 long_audited input (Err (Text NoMemory)) long told = tt
 

@@ -2,6 +2,9 @@ pub mod WordLemmas
 pub mod TakingLemmas
 pub mod ProgressLemmas
 pub mod PastLemmas
+pub mod OpeningOnce
+pub mod LogOnce
+pub mod InputOnce
 pub mod InputLemmas
 pub mod LawLemmas
 pub mod Worked

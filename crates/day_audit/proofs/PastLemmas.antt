@@ -26,7 +26,7 @@ use Rattle.opening_text.specs.DayOpenings.{DayOpeningInFront, IsDayOpeningFault}
 use Rattle.check_text.specs.Pairs.{IsPairFault}
 use Rattle.log_text.specs.Texts.{refused_words}
 use Rattle.day_laws.specs.Standing.{row_number}
-use Rattle.log_rows.proofs.RowLemmas.{reads_past}
+use Rattle.log_rows.proofs.RowLemmas.{reads_past, rows_are_past}
 use Rattle.day_audit.specs.Audits.{AcceptedFinds, AcceptedInFront, EndFinds, FindsBehind as FindsMore, Found, Lacks, LogFinds, ProofFinds, RowFinds, RowInFront, RowsFind, RowsInFront, accepted_lines, bad_section, bad_row, bad_text, day_after, differs, end_lines_of, next_fault, no_proof}
 use Rattle.day_audit.specs.Inputs.{FindsBehind, FindsIn, bad_opening, behind, in_log, no_log, rows_past}
 
@@ -151,7 +151,7 @@ log_past day rows read found (inr end) is = rows_front_past day rows read end.0 
 -- ---- behind the opening
 
 behind_past : (opening : Snapshot) (from : TextState) (found : Found) → FindsBehind opening from found → found ≡ bad_text TooLong → from.limit < length from.bytes
-behind_past opening from found (rows_past past told) is = past
+behind_past opening from found (rows_past past told) is = rows_are_past from past
 behind_past opening from found (no_log line without told) is = absurd (no_line found line TooLong told is)
 behind_past opening from found (in_log rows log front finds) is =
     let past = text_past log (log_past (opening_day opening) rows (reading log) found finds is) in

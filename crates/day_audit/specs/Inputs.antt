@@ -4,11 +4,12 @@ use Rattle.std.specs.Io.KnownBytes.{IsAtEnd}
 use Rattle.elevator_model.specs.Snapshot.{Snapshot, IsAccepted}
 use Rattle.search_model.specs.Days.{Day, Row, opening_day}
 use Rattle.lift_text.specs.Reading.{TextState, reading, whole_text}
+use Rattle.lift_text.specs.declared.codes.TextCode.{TextCode}
 use Rattle.lift_text.specs.declared.faults.TextFault.{TextFault}
 use Rattle.lift_text.specs.declared.faults.TextFault.TheVariants.{Bad, NoMemory, Read, TooLong}
 use Rattle.opening_text.specs.DayOpenings.{DayOpeningInFront, IsDayOpeningFault}
 use Rattle.day_state.specs.Openings.{IsOpeningSnapshot}
-use Rattle.log_rows.specs.Rows.{IsWithoutLog, RowsBeforeLog}
+use Rattle.log_rows.specs.Rows.{AreRowsPast, IsWithoutLog, RowsBeforeLog}
 use Rattle.whole_input.specs.declared.reading.InputFault.{InputFault}
 use Rattle.whole_input.specs.declared.reading.InputFault.TheVariants.{Read as FailedRead, NoMemory as MemoryWanting}
 use Rattle.day_audit.specs.declared.findings.Finding.{Finding}
@@ -31,7 +32,7 @@ pub record HoldsBehind (opening : Snapshot) (from : TextState) (audited : Audite
 
 -- What is found first there: the rows go past the most bytes that may be read, or no log follows, or what its lines lack.
 pub data FindsBehind (opening : Snapshot) (from : TextState) (found : Found) : Type 0 where
-  rows_past : from.limit < length from.bytes → found ≡ bad_text TooLong → FindsBehind opening from found
+  rows_past : AreRowsPast from → found ≡ bad_text TooLong → FindsBehind opening from found
   no_log : (line : ℕ) → IsWithoutLog from line → found ≡ differs line → FindsBehind opening from found
   in_log : (rows : List (Option Row)) → (log : TextState) → RowsBeforeLog opening.building from rows log → LogFinds (opening_day opening) rows (reading log) found → FindsBehind opening from found
 
@@ -67,6 +68,10 @@ IsTextAudited (Some text) (Err finding) = TellsFound finding (FindsIn text)
 abbrev pub IsShort : List ℕ → Type 0
 IsShort input = length input ≤ 67108864
 
+-- it is no bad line that is found first in the text
+abbrev pub HasNoBadLine : List ℕ → Type 0
+HasNoBadLine input = (line : ℕ) (code : TextCode) → FindsIn (whole_text input) (bad_text (Bad line code)) → ⊥
+
 -- What an audit of an input answers. A bad line of the opening, of an answer or of a certificate comes before the input's
 -- length, and that before what is found elsewhere.
 abbrev pub IsAudit : List ℕ → Result Audited Finding → Type 0
@@ -74,7 +79,7 @@ IsAudit input (Ok audited) = IsShort input × HoldsIn (whole_text input) audited
 IsAudit input (Err (Differs line)) = IsShort input × FindsIn (whole_text input) (differs line)
 IsAudit input (Err (BadRow row reason)) = IsShort input × FindsIn (whole_text input) (bad_row row reason.items)
 IsAudit input (Err (Text (Bad line code))) = FindsIn (whole_text input) (bad_text (Bad line code))
-IsAudit input (Err (Text TooLong)) = 67108864 < length input
+IsAudit input (Err (Text TooLong)) = (67108864 < length input) × HasNoBadLine input
 IsAudit input (Err (Text Read)) = Unit {0}
 IsAudit input (Err (Text NoMemory)) = Unit {0}
 

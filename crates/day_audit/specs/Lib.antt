@@ -4,3 +4,4 @@ pub mod Taking
 pub mod Progress
 pub mod Inputs
 pub mod Laws
+pub mod OneAnswer

@@ -14,6 +14,9 @@
 //! - `audit_laws`: where nothing is found, each printed plan is feasible and has its cost, and no feasible
 //!   plan costs less than its bound; so each is optimal where no bound is below its cost. No accepted call is
 //!   lost, and each is delivered (`AuditLaw`).
+//! - `answer_laws`: an input has one answer, but for a failed read and running out of memory (`OneAnswerLaw`). To one of
+//!   more than 67,108,864 bytes it is the bad line that is found first, if there is one, and else that it is
+//!   too long.
 //!
 //! A finding is a line that is not the one due (`Differs`), an answer that its certificate does not prove
 //! (`Row`), or a bad line of these or that the input could not be read on (`Text`).
@@ -29,5 +32,5 @@ mod words;
 
 pub use audits::audit;
 pub use findings::Finding;
-pub use laws::audit_laws;
+pub use laws::{answer_laws, audit_laws};
 pub use logs::{Audited, audit_log};

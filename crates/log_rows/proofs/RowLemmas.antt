@@ -19,7 +19,7 @@ use Rattle.day_laws.proofs.RowFaults.{good-row}
 use Rattle.day_laws.specs.RowLines.{rows_of, rows_of_line, rows_of_short}
 use Rattle.log_rows.specs.declared.rows.Before.{Before}
 use Rattle.log_rows.specs.declared.rows.Before.TheVariants.{Log, Row as RowLine}
-use Rattle.log_rows.specs.Rows.{AreAdded, AreRowsGiven, BeginsLog, Grows, IsGood, IsLineJudged, IsNextTaken, IsRowAppended, ReadsLines, RowsInFront, TellsNext, TellsNoLog, TellsRows, after_added, rows_within, said_of}
+use Rattle.log_rows.specs.Rows.{AreAdded, AreRowsGiven, AreRowsPast, BeginsLog, Grows, IsGood, IsLineJudged, IsNextPast, IsNextTaken, IsRowAppended, ReadsLines, RowsInFront, TellsNext, TellsNoLog, TellsRows, after_added, rows_within, said_of}
 
 -- ---- a row that is added
 
@@ -114,8 +114,7 @@ module _ (b : Building) (old new : List (Option GoodRow)) where
   pub fault_taken : (before now : Option TextState) (raw : List ℕ) (fault : TextFault) → NextRaw before (Err fault) raw now → IsNextTaken b old new before (Err fault) now
   fault_taken None now raw fault next = tt
   fault_taken (Some from) now raw (Bad line code) next = absurd next
-  fault_taken (Some from) now raw TooLong next =
-      let sizes = ap size_of next.2 in omega (arith, next.3, sizes, size_of-pieces from.bytes)
+  fault_taken (Some from) now raw TooLong next = record { piece = next.0; pieces = next.1; next = next.2; past = next.3 }
   fault_taken (Some from) now raw Read next = tt
   fault_taken (Some from) now raw NoMemory next = absurd next
 
@@ -140,8 +139,16 @@ reads_more from mid to front piece first second = record {
   limit_is = omega (arith, first.limit_is, second.limit_is);
 }
 
+-- a line past the most bytes shows that there are more of them
+next_past : (from : TextState) → IsNextPast from → from.limit < length from.bytes
+next_past from next = let sizes = ap size_of next.next in omega (arith, next.past, sizes, size_of-pieces from.bytes)
+
 pub reads_past : (from to : TextState) (front : List (List ℕ)) → ReadsLines from front to → to.limit < length to.bytes → from.limit < length from.bytes
 reads_past from to front reads past = omega (arith, reads.limit_is, past)
+
+-- rows past the most bytes that may be read show that there are more bytes
+pub rows_are_past : (from : TextState) → AreRowsPast from → from.limit < length from.bytes
+rows_are_past from rows = reads_past from rows.here rows.front rows.reads (next_past rows.here rows.past)
 
 -- the rows so far
 abbrev pub RowsSoFar : Building → List (Option GoodRow) → Option TextState → Option TextState → Type 0
@@ -180,7 +187,7 @@ module _ (b : Building) where
 
   told_before : (from mid : TextState) (old new : List (Option GoodRow)) (fault : TextFault) → RowsInFront b from (map said_of old) mid → TellsNext mid fault → TellsRows from fault
   told_before from mid old new (Bad line code) so_far told = (record { end = mid; front = so_far.front; reads = so_far.reads; none_begins = so_far.none_begins; ended = told.0; line_is = told.1 }, told.2)
-  told_before from mid old new TooLong so_far told = reads_past from mid so_far.front so_far.reads told
+  told_before from mid old new TooLong so_far told = record { here = mid; front = so_far.front; reads = so_far.reads; none_begins = so_far.none_begins; past = told }
   told_before from mid old new Read so_far told = tt
   told_before from mid old new NoMemory so_far told = tt
 

@@ -63,6 +63,21 @@ pub record IsWithoutLog (from : TextState) (line : ℕ) : Type 0 where
   pub ended : end.bytes ≡ []
   pub line_is : line ≡ end.line + 1
 
+-- the next line goes past the most bytes that may be read
+pub record IsNextPast (from : TextState) : Type 0 where
+  pub piece : List ℕ
+  pub pieces : List (List ℕ)
+  pub next : pieces_of from.bytes ≡ piece ∷ pieces
+  pub past : from.limit < length piece
+
+-- No line that may be read begins a log, and the one behind these goes past the most bytes that may be read.
+pub record AreRowsPast (from : TextState) : Type 0 where
+  pub here : TextState
+  pub front : List (List ℕ)
+  pub reads : ReadsLines from front here
+  pub none_begins : All (λ piece. BeginsLog piece → ⊥) front
+  pub past : IsNextPast here
+
 -- ---- what the readers answer
 
 -- these rows were added to those before them
@@ -88,7 +103,7 @@ IsLineJudged b line old new (Err fault) = fault ≡ NoMemory
 -- what is told of a text whose next line was read
 abbrev pub TellsNext : TextState → TextFault → Type 0
 TellsNext from (Bad line code) = (from.bytes ≡ []) × (line ≡ from.line + 1) × (code ≡ CutShort)
-TellsNext from TooLong = from.limit < length from.bytes
+TellsNext from TooLong = IsNextPast from
 TellsNext from Read = Unit {0}
 TellsNext from NoMemory = Unit {0}
 
@@ -115,7 +130,7 @@ IsNextTaken b old new (Some from) (Err fault) now = TellsNext from fault
 -- what is told of a text whose rows were read
 abbrev pub TellsRows : TextState → TextFault → Type 0
 TellsRows from (Bad line code) = IsWithoutLog from line × (code ≡ CutShort)
-TellsRows from TooLong = from.limit < length from.bytes
+TellsRows from TooLong = AreRowsPast from
 TellsRows from Read = Unit {0}
 TellsRows from NoMemory = Unit {0}
 
