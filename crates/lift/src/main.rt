@@ -6,11 +6,9 @@
 
 ghost use Rattle.std.specs.Prelude.{◌≡◌, IfErr};
 
-mod progress;
-
 use byte_streams::{Sink, Source, StdSink, StdSource};
 use lift_commands::{Status, run};
-use progress::ErrorGate;
+use progress_gates::ErrorGate;
 use std::alloc::Global;
 use std::marker::Sync;
 use std::process::ExitCode;

@@ -1,12 +1,1 @@
 pub mod Outcomes
-pub mod MadeCases
-pub mod SearchBounds
-pub mod Solutions
-pub mod SolvedCases
-pub mod SaidYes
-pub mod Printed
-pub mod Enough
-pub mod Verdicts
-pub mod EnoughRows
-pub mod KeptRows
-pub mod DayOutcomes

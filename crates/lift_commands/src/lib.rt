@@ -3,12 +3,13 @@
 //!
 //! # What is promised
 //!
-//! Sixteen clauses of `run`, over the definitions in `specs/Outcome.antt`, `specs/DayOutcome.antt`,
-//! `specs/DayRows.antt`, `specs/Further.antt` and `specs/Unread.antt`, and in `specs/Ends.antt` of
-//! `command_ends`, `specs/TableOutcome.antt` and `specs/WhatIfOutcome.antt` of `further_commands`,
-//! `specs/BanksOutcome.antt` of `group_commands`, `specs/RootOutcome.antt` of `root_command` and
-//! `specs/AuditOutcome.antt` of `audit_command`. What they say of the input holds where the source tells what
-//! it has left.
+//! Sixteen clauses of `run`, over the definitions in `specs/Outcome.antt`, `specs/Further.antt` and
+//! `specs/Unread.antt`, and those of the commands: `specs/Ends.antt` of `command_ends` says how any of them ends,
+//! `specs/SolveOutcome.antt`, `specs/CheckOutcome.antt` and `specs/MakeOutcome.antt` of `case_commands`,
+//! `specs/DayOutcome.antt` of `day_commands`, `specs/TableOutcome.antt` and `specs/WhatIfOutcome.antt` of
+//! `further_commands`, `specs/BanksOutcome.antt` of `group_commands`, `specs/RootOutcome.antt` of
+//! `root_command` and `specs/AuditOutcome.antt` of `audit_command` what is written. What they say of the
+//! input holds where the source tells what it has left.
 //!
 //! **`solve`.** Status 0: the whole input was read and is the text of an accepted snapshot, and what was
 //! written is an **optimal** plan of it, its cost and an equal bound, for 1 to 16 workers, and without
@@ -132,11 +133,6 @@
 //! - `unread`: words that ask for no input (`AskForNoInput`) leave the source as it was, its count of faults
 //!   too, with every status.
 //!
-//! `proofs/SolvedTrees.antt` and `proofs/SaidYes.antt` show that what `solve` writes is checked with a yes:
-//! the tree of a search within the default limits has a text of less than 60,000,000 bytes, and the verdict
-//! on it is yes. `day` and `report` run one day (`run_input`) whose planner is a search within the limits
-//! (`plan_within`), the one over the sink, the other over a sink that keeps nothing.
-//!
 //! A further command has its words in `lift_words` and its function in a crate of its own on `command_ends`,
 //! which says how any command ends. Here it takes one arm of `run` and a clause of its own by its words, as
 //! `day` has (`DaysByWords`); its words are left out of `ends` as those of `day` are (`AskOthers`), and
@@ -145,14 +141,7 @@
 
 mod asking;
 mod banking;
-mod checking;
-mod days;
-mod endings;
-mod making;
 mod running;
-mod solving;
-mod status;
-mod watching;
 
 pub use command_ends::Status;
 pub use running::run;

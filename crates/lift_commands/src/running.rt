@@ -2,25 +2,23 @@
 
 ghost use Rattle.std.specs.Prelude.{◌≡◌, map, string_bytes};
 ghost use Rattle.command_ends.specs.Ends.{Ends, streams};
-ghost use Rattle.lift_commands.specs.DayOutcome.{DaysByWords, ReportsByWords};
 ghost use Rattle.lift_commands.specs.Further.{AskOthers, AuditsByWords, BanksByWords, RootByWords};
 ghost use Rattle.lift_commands.specs.Further.{TablesByWords, WhatIfByWords};
 ghost use Rattle.lift_commands.specs.Outcome.{RunDue, SolvesByWords, RefusesByWords, ChecksByWords};
-ghost use Rattle.lift_commands.specs.Outcome.{RefusesChecksByWords, MakesByWords, RunsByWords, RefusesWords};
+ghost use Rattle.lift_commands.specs.Outcome.{RefusesChecksByWords, DaysByWords, ReportsByWords, MakesByWords};
+ghost use Rattle.lift_commands.specs.Outcome.{RunsByWords, RefusesWords};
 ghost use Rattle.lift_commands.specs.Unread.{AskForNoInput};
 
 use crate::asking::ask;
 use crate::banking::run_banks;
-use crate::checking::check;
-use crate::days::{day, report};
-use crate::making::{write_made_case, write_solved_case};
-use crate::solving::solve;
-use crate::watching::{Watch, Watched};
 use audit_command::audit;
 use byte_streams::{Gate, Sink, Source};
+use case_commands::{check, solve, write_made_case, write_solved_case};
 use command_ends::{Status, put};
+use day_commands::{day, report};
 use further_commands::table;
 use lift_words::{Request, WordsFault, read_words};
+use progress_gates::{Watch, Watched};
 use root_command::root;
 use std::alloc::Global;
 use std::marker::Sync;

@@ -9,10 +9,13 @@ use Rattle.lift_words.specs.declared.request.Request.TheVariants.{Solve, Check, 
 use Rattle.command_ends.specs.declared.status.Status.TheVariants.{Words}
 use Rattle.command_ends.specs.Ends.{streams}
 use Rattle.command_ends.proofs.EndLemmas.{ends_put, ends_more}
-use Rattle.lift_commands.specs.Outcome.{IsAnswered, IsCaseSolved, SolveDue, CheckDue, MakeDue, SolvedCaseDue, RunDue, UsageIsDue, usage_line}
-use Rattle.lift_commands.specs.DayOutcome.{ReportsDay, RunsDay}
+use Rattle.case_commands.specs.SolveOutcome.{IsAnswered, SolveDue}
+use Rattle.case_commands.specs.CheckOutcome.{CheckDue}
+use Rattle.case_commands.specs.MakeOutcome.{IsCaseSolved, MakeDue, SolvedCaseDue}
+use Rattle.lift_commands.specs.Outcome.{RunDue, UsageIsDue, usage_line}
+use Rattle.day_commands.specs.DayOutcome.{ReportsDay, RunsDay}
 use Rattle.lift_commands.specs.Further.{RunsBanks, RunsRoot, RunsWhatIf}
-use Rattle.lift_commands.proofs.DayOutcomes.{plain-within}
+use Rattle.day_commands.proofs.DayOutcomes.{plain-within}
 use Rattle.lift_commands.proofs.Outcomes.{solve_due, check_due, make_due, solved_case_due, not_run_and_make}
 use Rattle.lift_commands.proofs.running.run.Goals as goal
 

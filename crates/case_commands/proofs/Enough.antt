@@ -1,0 +1,29 @@
+-- With limits that are enough an answer ends solved.
+use Rattle.std.proofs.Common.{◌≡◌, ℕ, ◌+◌, ◌*◌, ◌≤◌, ◌==◌, Bool, true, false, List, length, refl, sym, ap, ◌∙◌}
+use Rattle.std.proofs.lemmas.Bool.{eq-eqb}
+use Rattle.elevator_model.specs.Snapshot.{Snapshot}
+use Rattle.search_model.specs.declared.Stated.{Stated}
+use Rattle.search_model.specs.declared.Twig.{Twig}
+use Rattle.search_model.specs.declared.Turn.{Turn}
+use Rattle.search_model.specs.declared.StopReason.{StopReason}
+use Rattle.search_model.specs.declared.StopReason.TheVariants.{Solved, Rounds, Moves}
+use Rattle.search_model.specs.Solving.{IsSolveAnswer}
+use Rattle.certified_search.proofs.Enough.{certified_same}
+use Rattle.lift_words.specs.declared.request.SolveOptions.{SolveOptions}
+use Rattle.command_ends.specs.declared.status.Status.{Status}
+use Rattle.command_ends.specs.declared.status.Status.TheVariants.{Done}
+use Rattle.case_commands.specs.declared.endings.Ending.{Ending}
+use Rattle.case_commands.specs.SolveOutcome.{AreEnough, IsPrinted, ending_of, status_of_ending}
+
+printed_same : (options : SolveOptions) (s : Snapshot) (stated : Stated) (tree : List Twig) (bound : ℕ) (certificate : List Twig) → IsPrinted options s stated tree bound certificate → (brief : Bool) → options.brief ≡ brief → length tree ≤ 8 * options.rounds + 1 → AreEnough options s → bound ≡ stated.bound
+printed_same options s stated tree bound certificate printed true is few enough = printed.brief is
+printed_same options s stated tree bound certificate printed false is few enough = certified_same options.rounds options.claims s stated tree bound certificate (printed.certified is) few (enough.claims is)
+
+pub done_where_enough : (options : SolveOptions) (s : Snapshot) (stated : Stated) (tree : List Twig) (turns : List Turn) (why : StopReason) → IsSolveAnswer s options.rounds options.moves stated.plan stated.cost stated.bound tree turns why
+    → (bound : ℕ) (certificate : List Twig) → IsPrinted options s stated tree bound certificate → (end : Ending) (status : Status) → end ≡ ending_of why options.claims (stated.cost == bound) → status ≡ status_of_ending end → why ≡ Solved → AreEnough options s → status ≡ Done
+done_where_enough options s stated tree turns Solved answer bound certificate printed end status end_is is solved enough =
+    let same = printed_same options s stated tree bound certificate printed options.brief refl answer.twigs enough in
+    let equal : (stated.cost == bound) ≡ true = eq-eqb stated.cost bound (answer.reason ∙ sym same) in
+    is ∙ ap status_of_ending end_is ∙ ap (λ (b : Bool). status_of_ending (ending_of Solved options.claims b)) equal
+done_where_enough options s stated tree turns (Rounds done) answer bound certificate printed end status end_is is solved enough = absurd cc
+done_where_enough options s stated tree turns (Moves car count) answer bound certificate printed end status end_is is solved enough = absurd cc

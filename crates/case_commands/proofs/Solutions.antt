@@ -1,0 +1,117 @@
+-- What is written of what a search answers.
+use Rattle.std.proofs.Common.{◌≡◌, ℕ, ◌≤◌, ◌==◌, Bool, true, false, List, ◌++◌, refl, sym, ap, ◌∙◌, subst, inl, inr, arith}
+use Rattle.std.specs.Prelude.{◌⊎◌, Option}
+use Rattle.std.proofs.lemmas.Bool.{eqb-true}
+use Rattle.elevator_model.specs.declared.Stop.{Stop}
+use Rattle.elevator_model.specs.Snapshot.{Snapshot, IsAccepted, car_count}
+use Rattle.elevator_model.specs.Plans.{IsOptimal, plan_cost_of}
+use Rattle.search_model.specs.declared.Twig.{Twig}
+use Rattle.search_model.specs.declared.Turn.{Turn}
+use Rattle.search_model.specs.declared.StopReason.{StopReason}
+use Rattle.search_model.specs.declared.StopReason.TheVariants.{Solved, Rounds, Moves}
+use Rattle.search_model.specs.Solving.{IsSolveAnswer, IsReason}
+use Rattle.search_model.specs.Certificates.{Proves}
+use Rattle.search_model.proofs.TreeLemmas.{proves-bound}
+use Rattle.call_state.proofs.PossibleLemmas.{most_cars-le}
+use Rattle.search_model.specs.declared.Stated.{Stated}
+use Rattle.answer_text.specs.Texts.{answer_text}
+use Rattle.lift_words.specs.declared.request.SolveOptions.{SolveOptions}
+use Rattle.command_ends.specs.declared.status.Status.{Status}
+use Rattle.command_ends.specs.declared.status.Status.TheVariants.{Done, Stopped, Memory}
+use Rattle.case_commands.specs.declared.endings.Ending.{Ending}
+use Rattle.case_commands.specs.declared.endings.Ending.TheVariants.{IsSolved, OfRounds, OfMoves, OfClaims}
+use Rattle.command_ends.specs.Ends.{Streams, Ends, Puts}
+use Rattle.command_ends.proofs.EndLemmas.{ends_either}
+use Rattle.case_commands.specs.SolveOutcome.{SolveDue, AnswerIsDue, AreEnough, IsAnswered, IsPrinted, IsSolution, certificate_part, closing_line, ending_of, status_of_ending}
+use Rattle.case_commands.specs.MakeOutcome.{status_of}
+use Rattle.case_commands.proofs.SearchBounds.{bound_low}
+
+pub cars-le : (s : Snapshot) → IsAccepted s → car_count s ≤ 16
+cars-le s accepted = let high = accepted.building.cars_high in omega (arith, high, most_cars-le s.building.version)
+
+-- where the status of a search is done, its cost is its bound
+cost_is_bound : (s : Snapshot) (rounds moves cost bound : ℕ) (tree : List Twig) (why : StopReason) → status_of why ≡ Done → IsReason s rounds moves cost bound tree why → cost ≡ bound
+cost_is_bound s rounds moves cost bound tree Solved e reason = reason
+cost_is_bound s rounds moves cost bound tree (Rounds done) e reason = absurd (cc e)
+cost_is_bound s rounds moves cost bound tree (Moves car count) e reason = absurd (cc e)
+
+-- a plan whose cost is a bound that a tree proves is optimal
+best_plan : (s : Snapshot) (plan : List (List Stop)) (cost bound : ℕ) (tree : List Twig) → IsAccepted s → Proves s plan cost bound tree → cost ≡ bound → IsOptimal s plan
+best_plan s plan cost bound tree accepted proves same =
+    let reaches : plan_cost_of s plan ≡ bound = proves.costs ∙ same in
+    record { feasible = proves.feasible; least = λ other feasible. subst (λ (n : ℕ). n ≤ plan_cost_of s other) (sym reaches) (proves-bound s plan cost bound tree (cars-le s accepted) proves other feasible) }
+
+-- so is that of a search that is done
+pub optimal : (s : Snapshot) (rounds moves : ℕ) (plan : List (List Stop)) (cost bound : ℕ) (tree : List Twig) (turns : List Turn) (why : StopReason) → IsAccepted s → IsSolveAnswer s rounds moves plan cost bound tree turns why → (status : Status) → status ≡ status_of why → status ≡ Done → IsOptimal s plan
+optimal s rounds moves plan cost bound tree turns why accepted answer status is done =
+    best_plan s plan cost bound tree accepted answer.proves (cost_is_bound s rounds moves cost bound tree why (sym is ∙ done) answer.reason)
+
+-- what is done is solved
+solved_where_done : (why : StopReason) (limit : ℕ) (solved : Bool) → status_of_ending (ending_of why limit solved) ≡ Done → solved ≡ true
+solved_where_done why limit true e = refl
+solved_where_done Solved limit false e = absurd (cc e)
+solved_where_done (Rounds done) limit false e = absurd (cc e)
+solved_where_done (Moves car count) limit false e = absurd (cc e)
+
+-- the bound that is printed is at most that of the search, also without a certificate
+printed_low : (options : SolveOptions) (s : Snapshot) (stated : Stated) (tree : List Twig) (bound : ℕ) (certificate : List Twig) → IsPrinted options s stated tree bound certificate → (brief : Bool) → options.brief ≡ brief → bound ≤ stated.bound
+printed_low options s stated tree bound certificate printed true e = (let same = printed.brief e in omega (arith, same))
+printed_low options s stated tree bound certificate printed false e = (printed.certified e).low
+
+module _ (options : SolveOptions) (s : Snapshot) (stated : Stated) (tree : List Twig) (turns : List Turn) (why : StopReason) (accepted : IsAccepted s) (answer : IsSolveAnswer s options.rounds options.moves stated.plan stated.cost stated.bound tree turns why)
+    (bound : ℕ) (certificate : List Twig) (printed : IsPrinted options s stated tree bound certificate) where
+  abbrev shown : Stated
+  shown = record { plan = stated.plan; cost = stated.cost; bound = bound }
+
+  abbrev ending : Ending
+  ending = ending_of why options.claims (stated.cost == bound)
+
+  -- where cost and printed bound are equal, they are those of the search
+  best : stated.cost ≡ bound → IsOptimal s stated.plan
+  best same =
+      let low = bound_low s options.rounds options.moves stated.plan stated.cost stated.bound tree turns why answer in
+      let lower = printed_low options s stated tree bound certificate printed options.brief refl in
+      best_plan s stated.plan stated.cost stated.bound tree accepted answer.proves (omega (arith, low, lower, same))
+
+  pub is_solution : (end : Ending) (status : Status) (text : List ℕ) → end ≡ ending → status ≡ status_of_ending end → text ≡ answer_text s shown ++ certificate_part options s certificate ++ closing_line s end → IsSolution options s status text
+  is_solution end status text end_is is written =
+      record {
+        stated = stated;
+        tree = tree;
+        turns = turns;
+        why = why;
+        answer = answer;
+        bound = bound;
+        certificate = certificate;
+        printed = printed;
+        ending = end;
+        ending_is = end_is;
+        status_is = is;
+        optimal = λ done. best (eqb-true stated.cost bound (solved_where_done why options.claims (stated.cost == bound) (ap status_of_ending (sym end_is) ∙ sym is ∙ done)));
+        is_text = written;
+      }
+
+-- the status of an answer
+pub ended_by : (ending : Ending) (status : Status) → status ≡ status_of_ending ending → (status ≡ Done) ⊎ (status ≡ Stopped)
+ended_by IsSolved status is = inl is
+ended_by (OfRounds done) status is = inr is
+ended_by (OfMoves car count) status is = inr is
+ended_by (OfClaims limit) status is = inr is
+
+-- the answer that was put, unless the sink failed
+pub is_answered : (options : SolveOptions) (s t : Snapshot) (status result : Status) (text : List ℕ) → s ≡ t → result ≡ status → IsSolution options s status text → (AreEnough options s → status ≡ Done) → IsAnswered options t result
+is_answered options s t status result text same put solution enough =
+    record {
+      ended = elim (ended_by solution.ending status solution.status_is) [ inl done ↦ first (put ∙ done) | inr stopped ↦ second (put ∙ stopped) ];
+      enough = λ all. inl (put ∙ enough (subst (AreEnough options) (sym same) all));
+    }
+  where
+    first : result ≡ Done → (result ≡ Done) ⊎ (result ≡ Stopped) ⊎ (result ≡ Memory)
+    first e = inl e
+
+    second : result ≡ Stopped → (result ≡ Done) ⊎ (result ≡ Stopped) ⊎ (result ≡ Memory)
+    second e = inr (inl e)
+
+pub ends_answered : (options : SolveOptions) (left left' : Option (List ℕ)) (old new : Streams) (text : List ℕ) (status result : Status) → AnswerIsDue options left left' status text → Puts text status result old.taken new.taken old.write_faults new.write_faults → Ends (SolveDue options left left') old new result
+ends_answered options left left' old new text status result due put =
+    ends_either (SolveDue options left left') old new text Done Stopped status result (λ (x : Status). AnswerIsDue options left left' x text) (λ due. due) (λ wrote. wrote) (λ due. due) (λ wrote. wrote) (ended_by due.solution.ending status due.solution.status_is) due put

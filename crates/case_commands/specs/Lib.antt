@@ -1,0 +1,3 @@
+pub mod SolveOutcome
+pub mod CheckOutcome
+pub mod MakeOutcome

@@ -1,0 +1,119 @@
+//! The command `make`, with `--run` and without it.
+ghost use Rattle.std.specs.Prelude.{◌≡◌, ◌≤◌, ◌⊎◌, ℕ, List, Option, IfOk};
+ghost use Rattle.byte_streams.specs.Streams.{Rose};
+ghost use Rattle.elevator_model.specs.Snapshot.{IsAccepted, Snapshot as SnapshotLem};
+ghost use Rattle.search_model.specs.Verdicts.{moves_enough, rounds_enough};
+ghost use Rattle.lift_words.specs.Taken.{AreCaseSizes, AreRunOptions};
+ghost use Rattle.command_ends.specs.Ends.{Ends, streams};
+ghost use Rattle.case_commands.specs.MakeOutcome.{IsCaseOf, IsCaseSolved, IsMadeCase, IsSolvedCase, MakeDue};
+ghost use Rattle.case_commands.specs.MakeOutcome.{SolvedCaseDue, run_text};
+
+use crate::status::status_of;
+use byte_streams::{Gate, Sink};
+use call_state::Snapshot;
+use case_maker::make;
+use case_text::write_case;
+use command_ends::{Answer, Status, put};
+use lift_text::put_line;
+use lift_words::{CaseSizes, RunOptions};
+use snapshot_solver::{Limits, solve};
+use std::alloc::{AllocError, Global};
+use std::marker::Sync;
+use std::thread::Threads;
+
+/// The generated case with this number and these sizes.
+fn case_of(alloc: Global, sizes: CaseSizes) -> Result<Snapshot, AllocError>
+    requires { AreCaseSizes sizes }
+    ensures case { IfOk result (λ snapshot. IsCaseOf sizes snapshot) }
+    ensures accepted { IfOk result (λ snapshot. IsAccepted snapshot) }
+{
+    make(alloc, sizes.number, sizes.floors, sizes.cars, sizes.calls)
+}
+
+/// The text of the generated case with this number and these sizes.
+fn made_case(alloc: Global, sizes: CaseSizes) -> Result<Vec<u8>, AllocError>
+    requires { AreCaseSizes sizes }
+    ensures { IfOk result (λ text. IsMadeCase sizes text.items) }
+{
+    let snapshot = case_of(alloc, sizes)?;
+    let mut text = Vec::new(alloc);
+    write_case(alloc, &snapshot, &mut text)?;
+    Ok(text)
+}
+
+/// Writes a generated case. Nothing is read.
+pub fn write_made_case<K: Sink>(alloc: Global, sizes: CaseSizes, sink: &mut K) -> Status
+    requires { AreCaseSizes sizes }
+    ensures ends { (left : Option (List ℕ)) (faults : ℕ) → Ends (MakeDue sizes)
+        (streams left (K.taken sink.old) faults (K.faults sink.old))
+        (streams left (K.taken sink.new) faults (K.faults sink.new)) result }
+    ensures makes { (Rose (K.faults sink.old) (K.faults sink.new) → ⊥)
+        → (result ≡ Status.Done) ⊎ (result ≡ Status.Memory) }
+{
+    match made_case(alloc, sizes) {
+        Ok(text) => put(sink, text.as_slice(), Status::Done),
+        Err(_) => Status::Memory,
+    }
+}
+
+/// The lines of a case that was solved.
+fn run_lines(alloc: Global, sizes: CaseSizes, cost: u64, bound: u64) -> Result<Vec<u8>, AllocError>
+    ensures { IfOk result (λ text. text.items ≡ run_text sizes cost bound) }
+{
+    let mut text = Vec::new(alloc);
+    put_line(&mut text, b"number", &[sizes.number])?;
+    put_line(&mut text, b"floors", &[u64::from(sizes.floors)])?;
+    put_line(&mut text, b"cars", &[u64::from(sizes.cars)])?;
+    put_line(&mut text, b"calls", &[u64::from(sizes.calls)])?;
+    put_line(&mut text, b"cost", &[cost])?;
+    put_line(&mut text, b"bound", &[bound])?;
+    Ok(text)
+}
+
+/// What one worker finds of the generated case within the limits, as lines.
+fn solved_case<G: Gate + Sync>(
+    rt: &(impl Threads + Sync),
+    alloc: Global,
+    options: RunOptions,
+    gate: &G,
+) -> Result<Answer, AllocError>
+    requires { AreRunOptions options }
+    ensures solved { IfOk result (λ answer. IsSolvedCase options answer.status answer.text.items) }
+    ensures enough { (s : SnapshotLem) → IsCaseOf options.sizes s
+        → rounds_enough s ≤ options.rounds → moves_enough s ≤ options.moves
+        → IfOk result (λ answer. answer.status ≡ Status.Done) }
+{
+    let sizes = options.sizes;
+    let snapshot = case_of(alloc, sizes)?;
+    let limits = Limits {
+        rounds: options.rounds,
+        most_tours: options.moves,
+    };
+    let found = solve(rt, alloc, &snapshot, limits, 1, gate)?;
+    let text = run_lines(alloc, sizes, found.stated.cost, found.stated.bound)?;
+    Ok(Answer {
+        status: status_of(found.why),
+        text,
+    })
+}
+
+/// Solves a generated case and writes its number and sizes, and the cost and the bound that were found.
+/// Nothing is read.
+pub fn write_solved_case<K: Sink, G: Gate + Sync>(
+    rt: &(impl Threads + Sync),
+    alloc: Global,
+    options: RunOptions,
+    sink: &mut K,
+    gate: &G,
+) -> Status
+    requires { AreRunOptions options }
+    ensures ends { (left : Option (List ℕ)) (faults : ℕ) → Ends (SolvedCaseDue options)
+        (streams left (K.taken sink.old) faults (K.faults sink.old))
+        (streams left (K.taken sink.new) faults (K.faults sink.new)) result }
+    ensures solves { (Rose (K.faults sink.old) (K.faults sink.new) → ⊥) → IsCaseSolved options result }
+{
+    match solved_case(rt, alloc, options, gate) {
+        Ok(answer) => put(sink, answer.text.as_slice(), answer.status),
+        Err(_) => Status::Memory,
+    }
+}

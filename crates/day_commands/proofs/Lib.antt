@@ -1,0 +1,3 @@
+pub mod EnoughRows
+pub mod KeptRows
+pub mod DayOutcomes

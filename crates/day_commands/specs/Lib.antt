@@ -1,0 +1,2 @@
+pub mod DayRows
+pub mod DayOutcome
