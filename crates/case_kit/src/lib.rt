@@ -1,12 +1,14 @@
 //! What tests and measurements of several crates make: draws, the texts of snapshots and the snapshots in
 //! them, tours and plans in short texts, what these cost (also where they may break a rule), counts of
-//! checks, and a gate that tells whether jobs are done side by side.
+//! checks, a run of the program over a source and a sink in memory, and a gate that tells whether jobs are
+//! done side by side.
 //!
 //! What answers an `Option` or a `bool` says `None` or no when out of memory, so that a test fails then. With
 //! few early returns, and few values to drop at them, what calls it is proved fast.
 #![tactic(auto)]
 
 mod checks;
+mod commands;
 mod costs;
 mod draws;
 mod lending;
@@ -16,6 +18,7 @@ mod reading;
 mod written;
 
 pub use checks::{Checks, are_right, print_kinds};
+pub use commands::{push_word, status_of};
 pub use costs::{boards_of, lawful_cost, plan_price};
 pub use draws::draws_of_case;
 pub use lending::is_so_of;

@@ -3,7 +3,7 @@
 use crate::pieces::Text;
 use crate::report::Report;
 use byte_streams::{MemorySink, MemorySource, OpenGate};
-use lift_commands::run;
+use case_kit::{push_word, status_of};
 use std::alloc::Global;
 use std::marker::Sync;
 use std::mem;
@@ -82,14 +82,6 @@ impl Ran {
     }
 }
 
-/// Appends a word of the command line, in two parts. False out of memory.
-fn push_word(alloc: Global, words: &mut Vec<String>, first: &str, second: &str) -> bool {
-    match String::from_str(alloc, first) {
-        Ok(mut word) => word.push_str(second).is_ok() && words.push(word).is_ok(),
-        Err(_) => false,
-    }
-}
-
 /// Appends the words of a line, between single spaces; the word `''` is the empty one. Workers that are not 0
 /// are one word more. False out of memory.
 fn push_line(alloc: Global, words: &mut Vec<String>, line: &str, workers: &str) -> bool {
@@ -102,18 +94,6 @@ fn push_line(alloc: Global, words: &mut Vec<String>, line: &str, workers: &str) 
         is_whole &= push_word(alloc, words, "--workers=", workers);
     }
     is_whole
-}
-
-/// How a run of the program ends. What `run` promises stays out of the proofs of those who let go of its
-/// words, source and sink.
-fn status_of<R: Threads + Sync>(
-    runtime: &R,
-    alloc: Global,
-    words: &[String],
-    source: &mut MemorySource,
-    sink: &mut MemorySink,
-) -> u8 {
-    run(runtime, alloc, words, source, sink, &OpenGate) as u8
 }
 
 /// What runs the program: its input, what its last two runs came to, what is due, and what is told of the
@@ -155,7 +135,15 @@ impl<'r, R: Threads + Sync> Bench<'r, R> {
     fn run_from(&mut self, words: &[String], source: &mut MemorySource, streams: Streams) -> bool {
         match streams.sink(self.alloc) {
             Some(mut sink) => {
-                self.ran.status = status_of(self.runtime, self.alloc, words, source, &mut sink);
+                let ended = status_of(
+                    self.runtime,
+                    self.alloc,
+                    words,
+                    source,
+                    &mut sink,
+                    &OpenGate,
+                );
+                self.ran.status = ended as u8;
                 self.ran.text.put(sink.taken());
                 self.ran.text.is_whole
             }

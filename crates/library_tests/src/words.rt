@@ -1,14 +1,16 @@
 //! The words of the command line: a request with its numbers, and the texts of the faults.
 
+use case_kit::push_word;
 use lift_words::{Request, SolveOptions, WordsFault, read_words};
 use std::alloc::Global;
 
-/// Appends the words, as a command line has them.
-pub(crate) fn put_words(alloc: Global, words: &[&str], all: &mut Vec<String>) -> Option<()> {
+/// Appends the words, as a command line has them. False out of memory.
+pub(crate) fn put_words(alloc: Global, words: &[&str], all: &mut Vec<String>) -> bool {
+    let mut are_whole = true;
     for word in words {
-        all.push(String::from_str(alloc, word).ok()?).ok()?;
+        are_whole &= push_word(alloc, all, word, "");
     }
-    Some(())
+    are_whole
 }
 
 fn are_same(options: SolveOptions, due: SolveOptions) -> bool {
@@ -30,7 +32,7 @@ fn is_solve(alloc: Global, words: &[String], due: SolveOptions) -> bool {
 
 fn are_words_of(alloc: Global, words: &[&str], due: SolveOptions) -> bool {
     let mut all = Vec::new(alloc);
-    put_words(alloc, words, &mut all).is_some() && is_solve(alloc, all.as_slice(), due)
+    put_words(alloc, words, &mut all) && is_solve(alloc, all.as_slice(), due)
 }
 
 #[test]

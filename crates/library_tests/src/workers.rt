@@ -2,8 +2,8 @@
 
 use crate::words::put_words;
 use byte_streams::{MemorySource, SureSink};
-use case_kit::{Lookout, WORKED_CASE};
-use lift_commands::{Status, run};
+use case_kit::{Lookout, WORKED_CASE, status_of};
+use command_ends::Status;
 use std::alloc::Global;
 use std::marker::Sync;
 use std::thread::Threads;
@@ -60,7 +60,7 @@ fn does(
     let Ok(mut sink) = SureSink::new(alloc, 1 << 17) else {
         return false;
     };
-    let ended = run(rt, alloc, words, source, &mut sink, gate);
+    let ended = status_of(rt, alloc, words, source, &mut sink, gate);
     ended == Status::Done && sink.taken().starts_with(asked.begins)
 }
 
@@ -82,7 +82,7 @@ fn does_with(
 
 fn two_do(rt: &(impl Threads + Sync), alloc: Global, asked: Asked, gate: &Lookout) -> bool {
     let mut words = Vec::new(alloc);
-    put_words(alloc, asked.words, &mut words).is_some() && does_with(rt, alloc, asked, &words, gate)
+    put_words(alloc, asked.words, &mut words) && does_with(rt, alloc, asked, &words, gate)
 }
 
 /// Whether it does so, and both jobs of a round began before either ended.
