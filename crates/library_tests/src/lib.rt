@@ -1,30 +1,24 @@
-//! Tests of what no whole command shows: texts that are written again, what stays unread, certificates twig
-//! by twig and at once, a day with another planner, and workers side by side. They stand apart from what they
-//! test, since a crate with tests is proved twice.
+//! Tests of what no whole command shows, from the values that all else rests on to texts that are written
+//! again. They stand apart from the crates that they test, since a crate with tests is proved twice, and
+//! together, since each program of tests has costs of its own.
 //!
-//! A helper that answers a `bool` says no, and one that answers an `Option` has none, where there is no
-//! memory or a text is refused, so that its test fails.
+//! - `values`: streams of bytes, prices, travel times, the worked cases of the definitions (which the proof of
+//!   this crate computes), work that is drawn from a line, and what texts are made of.
+//! - `search`: what a search for a cheapest plan rests on, with a walk over all partial tours of a car.
+//! - `plans`: snapshots, their plans and the worlds of days, and what the builds of parts refuse.
+//! - `texts`: texts that are written again, what stays unread, certificates twig by twig and at once, a day with
+//!   another planner, and workers side by side.
+//!
+//! A helper that answers a `bool` says no, and one that answers an `Option` has none, when out of memory or
+//! where a text is refused, so that its test fails. With few early returns, and few values to drop at them,
+//! the tests are proved fast.
 #![tactic(auto)]
 
 #[cfg(test)]
-mod answers;
+mod plans;
 #[cfg(test)]
-mod buildings;
+mod search;
 #[cfg(test)]
-mod certificates;
+mod texts;
 #[cfg(test)]
-mod days;
-#[cfg(test)]
-mod makers;
-#[cfg(test)]
-mod sections;
-#[cfg(test)]
-mod sized;
-#[cfg(test)]
-mod snapshots;
-#[cfg(test)]
-mod whole_trees;
-#[cfg(test)]
-mod words;
-#[cfg(test)]
-mod workers;
+mod values;

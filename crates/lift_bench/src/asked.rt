@@ -8,6 +8,7 @@ use crate::pricings::Pricing;
 pub(crate) enum Asked {
     Kinds { count: u32 },
     Costs { cases: Cases },
+    Lists,
     OfInput { asked: OfInput },
 }
 
@@ -73,6 +74,7 @@ fn named(name: &str, words: usize, numbers: [u32; 4]) -> Option<Asked> {
                 count,
             },
         }),
+        ("lists", 2) => Some(Asked::Lists),
         _ => Some(Asked::OfInput {
             asked: of_input(name, words, numbers)?,
         }),

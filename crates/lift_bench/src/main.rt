@@ -5,15 +5,17 @@
 //!     pricing FACTOR LIMIT ROUNDS     prices the cars of the snapshot that it reads
 //!     walk TOURS                      walks this many partial tours of that snapshot's first car
 //!     read ROUNDS CASES               reads and writes the building, snapshot and answer that it reads
+//!     lists                           compares pricings, and what is chosen from pools, with lists of everything
 //!     all                             takes each of these once, with small numbers
 //!
-//! Times go to standard error alone.
+//! Times go to standard error alone. Where a check of `lists` fails, the status is 1.
 #![tactic(auto)]
 
 mod asked;
 mod first_plans;
 mod input;
 mod kinds;
+mod lists;
 mod pricings;
 mod rounds;
 mod walks;
@@ -24,6 +26,7 @@ use case_kit::snapshot_in;
 use case_maker::make;
 use first_plans::{print_costs, print_kinds};
 use input::input;
+use lists::compare_lists;
 use pricings::{Pricing, print_pricing};
 use rounds::print_rounds;
 use std::process::ExitCode;
@@ -53,7 +56,8 @@ fn walk(rt: &HostRuntime, snapshot: Snapshot, tours: u32) -> io::Result<bool> {
     printed
 }
 
-/// Each measurement once: of drawn snapshots, of generated ones, and of the text that is the input.
+/// Each measurement once: of drawn snapshots, of generated ones, and of the text that is the input; and the
+/// comparisons. False where the text is not what it is taken of, or a check failed.
 fn print_all(rt: &HostRuntime, text: &[u8]) -> io::Result<bool> {
     print_kinds(rt, 31)?;
     let pricing = Pricing {
@@ -63,7 +67,7 @@ fn print_all(rt: &HostRuntime, text: &[u8]) -> io::Result<bool> {
     };
     price(rt, make(rt.alloc(), 1, 10, 2, 8)?, pricing)?;
     walk(rt, make(rt.alloc(), 1, 8, 1, 8)?, 2000)?;
-    print_rounds(rt, text, 3, 2)
+    Ok(print_rounds(rt, text, 3, 2)? && compare_lists(rt)?)
 }
 
 /// Prices the cars of the snapshot whose text this is. False where there is none, or memory is wanting.
@@ -100,11 +104,12 @@ fn measure_input(rt: &HostRuntime, asked: OfInput) -> io::Result<bool> {
     }
 }
 
-/// Takes the measurement. False where the input is not what it is taken of.
+/// Takes the measurement. False where the input is not what it is taken of, or a check failed.
 fn measure(rt: &HostRuntime, asked: Asked) -> io::Result<bool> {
     match asked {
         Asked::Kinds { count } => print_kinds(rt, count),
         Asked::Costs { cases } => print_costs(rt, cases),
+        Asked::Lists => compare_lists(rt),
         Asked::OfInput { asked } => measure_input(rt, asked),
     }
 }
@@ -112,12 +117,12 @@ fn measure(rt: &HostRuntime, asked: Asked) -> io::Result<bool> {
 fn main(rt: HostRuntime) -> io::Result<ExitCode> {
     let words = words_given(&rt)?;
     let Some(asked) = asked_in(&words) else {
-        eprintln!(rt; "usage: lift_bench first_plan/pricing/walk/read/all [numbers]")?;
+        eprintln!(rt; "usage: lift_bench first_plan/pricing/walk/read/lists/all [numbers]")?;
         return Ok(ExitCode::from(2));
     };
     if measure(&rt, asked)? {
         return Ok(ExitCode::SUCCESS);
     }
-    eprintln!(rt; "the input is not what is measured")?;
+    eprintln!(rt; "the input is not what is measured, or a check failed")?;
     Ok(ExitCode::from(1))
 }

@@ -1,4 +1,0 @@
-use Rattle.listing_compare.proofs.pricings.answers.compare.Given as goal
-
-abbrev pub invariant-loop-limit : goal.invariant-loop-limit
-invariant-loop-limit g l = g.P.Pricer.owns l.pricer l.desk

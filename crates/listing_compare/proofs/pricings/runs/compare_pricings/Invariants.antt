@@ -1,4 +1,0 @@
-use Rattle.listing_compare.proofs.pricings.runs.compare_pricings.Given as goal
-
-abbrev pub invariant-loop-pricing : goal.invariant-loop-pricing
-invariant-loop-pricing g l = g.P.Pricer.owns l.pricer l.desk

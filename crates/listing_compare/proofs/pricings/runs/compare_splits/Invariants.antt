@@ -1,8 +1,0 @@
-use Rattle.search_model.specs.Nodes.{IsNodeOf}
-use Rattle.listing_compare.proofs.pricings.runs.compare_splits.Given as goal
-
-abbrev pub invariant-loop-half : goal.invariant-loop-half
-invariant-loop-half g l = record {
-  node : IsNodeOf l.snapshot l.node;
-  own : g.P.Pricer.owns l.pricer l.desk;
-}

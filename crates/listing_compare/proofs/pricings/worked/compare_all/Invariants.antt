@@ -1,4 +1,0 @@
-use Rattle.listing_compare.proofs.pricings.worked.compare_all.Given as goal
-
-abbrev pub invariant-loop-due : goal.invariant-loop-due
-invariant-loop-due g l = g.P.Pricer.owns l.pricer l.desk
