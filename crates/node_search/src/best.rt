@@ -10,6 +10,7 @@ ghost use Rattle.node_search.specs.Best.{IsBest};
 
 use call_state::Snapshot;
 use elevator_model::Plan;
+use partition_relaxation::{Column, SeenTours};
 use price_scale::Price;
 use restricted_master::{Choice, Pool};
 use root_turns::{pool_of, put_turn};
@@ -24,6 +25,21 @@ pub(crate) struct Best<'a> {
     /// In cost units.
     pub(crate) cost: u64,
     pub(crate) pool: Pool<'a>,
+    /// The columns of all tours that were ever in the pool.
+    pub(crate) seen: SeenTours,
+}
+
+/// Puts the newest tour of each car into the tours seen. It fails only where there is no memory left.
+fn put_newest(seen: &mut SeenTours, pool: &Pool) -> Result<(), AllocError> {
+    let cars = pool.snapshot().building().cars().len();
+    for car in 0..cars as u32 {
+        if let Some(newest) = pool.columns(car).last() {
+            if let Some(column) = Column::new(newest.cost, car, newest.calls) {
+                seen.put(column)?;
+            }
+        }
+    }
+    Ok(())
 }
 
 impl<'a> Best<'a> {
@@ -33,10 +49,14 @@ impl<'a> Best<'a> {
         ensures best { IfOk result (IsBest snapshot.now) }
         ensures few { IfOk result (λ best. (c : ℕ) → length (tours_of_car best.pool c) ≤ 1) }
     {
+        let pool = pool_of(alloc, snapshot, &plan)?;
+        let mut seen = SeenTours::new(alloc);
+        put_newest(&mut seen, &pool)?;
         Ok(Best {
             cost: plan_cost(snapshot, &plan),
-            pool: pool_of(alloc, snapshot, &plan)?,
+            pool,
             plan,
+            seen,
         })
     }
 
@@ -67,6 +87,7 @@ impl<'a> Best<'a> {
         ensures cars { length self.old.pool.tours ≡ car_count self.old.pool.snapshot }
     {
         put_turn(&mut self.pool, alloc, cars)?;
+        put_newest(&mut self.seen, &self.pool)?;
         Ok(())
     }
 

@@ -14,7 +14,7 @@ ghost use Rattle.node_search.specs.Best.{IsBest};
 ghost use Rattle.node_search.specs.Searches.{HasSettled, IsPlanOf, IsPricingOf, IsUnderWay};
 
 use crate::best::Best;
-use crate::steps::{note, split};
+use crate::steps::{split, take_in};
 use assign_branch::{Node, Pricer};
 use elevator_model::{MOST_CALLS, Plan};
 use price_scale::{Price, SCALE};
@@ -175,7 +175,8 @@ impl<'a> Search<'a> {
         ensures way { OnOk result (IsUnderWay (P.snapshot pricer.now) most_tours self.new) }
         ensures settled { OnOk result (HasSettled (P.snapshot pricer.now) self.old self.new place) }
     {
-        note(&mut self.tree, place, prices, cars);
+        let Best { cost, seen, .. } = &self.best;
+        take_in(&mut self.tree, alloc, place, prices, cars, *cost, seen)?;
         if self.is_due(place) {
             split(&mut self.tree, alloc, place, prices.len(), first)?;
         }

@@ -10,6 +10,7 @@ ghost use Rattle.node_search.specs.Searches.{IsSplit};
 
 use assign_branch::Node;
 use elevator_model::MOST_CALLS;
+use partition_relaxation::SeenTours;
 use price_scale::Price;
 use price_steps::Steps;
 use restricted_master::Pool;
@@ -43,8 +44,8 @@ fn note_gain(tree: &mut SearchTree<Steps>, place: usize, cars: &[TurnOf], gain: 
     tree.payload_mut(place).note(cars, gain, spent);
 }
 
-/// Takes in a pricing of all cars in the node at this place, at these prices.
-pub(crate) fn note(tree: &mut SearchTree<Steps>, place: usize, prices: &[Price], cars: &[TurnOf])
+/// Notes a pricing of all cars in the node at this place, at these prices.
+fn note(tree: &mut SearchTree<Steps>, place: usize, prices: &[Price], cars: &[TurnOf])
     requires place { place < length tree.old.branches }
     requires calls { length prices.now ≡ length (at_place tree.old.branches place).sheet.prices }
     requires cars { length cars.now ≡ length (at_place tree.old.branches place).sheet.worths }
@@ -59,6 +60,47 @@ pub(crate) fn note(tree: &mut SearchTree<Steps>, place: usize, prices: &[Price],
     let gain = branch.sheet.sum().saturating_sub(sum);
     let spent = branch.spent.is_some();
     note_gain(tree, place, cars, gain, spent);
+}
+
+/// Takes in what the relaxation over the tours seen says of the node at this place after a pricing, where the best
+/// known plan costs this many cost units. It fails only where there is no memory left.
+pub(crate) fn look_ahead(
+    tree: &mut SearchTree<Steps>,
+    alloc: Global,
+    place: usize,
+    cost: u64,
+    seen: &SeenTours,
+) -> Result<(), AllocError>
+    requires { place < length tree.old.branches }
+    ensures { OnOk result (tree.new.branches ≡ tree.old.branches) }
+{
+    let Branch { sheet, node, .. } = &tree.branches()[place];
+    let outlook = tree.payload(place).outlook(alloc, sheet, cost, node, seen)?;
+    tree.payload_mut(place).take(outlook);
+    Ok(())
+}
+
+/// Takes in a pricing of all cars in the node at this place, at these prices, and what the relaxation over the tours
+/// seen says of the node then. It fails only where there is no memory left.
+pub(crate) fn take_in(
+    tree: &mut SearchTree<Steps>,
+    alloc: Global,
+    place: usize,
+    prices: &[Price],
+    cars: &[TurnOf],
+    cost: u64,
+    seen: &SeenTours,
+) -> Result<(), AllocError>
+    requires place { place < length tree.old.branches }
+    requires calls { length prices.now ≡ length (at_place tree.old.branches place).sheet.prices }
+    requires cars { length cars.now ≡ length (at_place tree.old.branches place).sheet.worths }
+    requires sizes { AreTurnSizes cars.now }
+    requires rounds { (at_place tree.old.branches place).rounds < MOST_PRICINGS }
+    ensures { OnOk result (tree.new.branches ≡ slice_set tree.old.branches place
+        (noted (at_place tree.old.branches place) prices.now cars.now)) }
+{
+    note(tree, place, prices, cars);
+    look_ahead(tree, alloc, place, cost, seen)
 }
 
 /// The prices of the node's next pricing: first those of its leaf. It fails only where there is no memory

@@ -27,7 +27,7 @@ fn value_of(column: &Column, prices: &[Price]) -> i128 {
 }
 
 /// Whether a tour that takes these calls may be one of the car in the node.
-fn is_in(node: &Node, car: u32, calls: CallSet) -> bool {
+pub(crate) fn is_in(node: &Node, car: u32, calls: CallSet) -> bool {
     calls.minus(node.allowed(car)).is_empty() && node.required(car).minus(calls).is_empty()
 }
 

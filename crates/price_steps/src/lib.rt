@@ -24,8 +24,10 @@ mod boards;
 mod columns;
 mod fixed;
 mod moves;
+mod outlooks;
 mod parts;
 mod shares;
 mod steps;
 
+pub use outlooks::Outlook;
 pub use steps::Steps;

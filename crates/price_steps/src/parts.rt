@@ -41,15 +41,15 @@ impl Shares {
         }
     }
 
-    /// The call whose cars' shares are divided the most evenly, the first of equal ones, and how it is
-    /// divided.
-    pub(crate) fn most_even(&self, node: &Node, calls: usize) -> Option<SplitAt>
+    /// The call whose cars' shares are divided the most evenly, the first of equal ones, and how it is divided,
+    /// where the lesser side has more than this share, in 2^20ths.
+    pub(crate) fn most_even(&self, node: &Node, calls: usize, least: i64) -> Option<SplitAt>
         requires { calls ≤ MOST_CALLS }
         ensures { IfSome result
             (λ at. (at.call < calls) × (is_part_lem (set_of node.now at.call) at.part ≡ true)) }
     {
         let mut best = None;
-        let mut most = -1;
+        let mut most = least;
         for call in 0..calls as u32 {
             let set = node.set(call);
             let part = self.part(call as usize, set);

@@ -7,8 +7,8 @@ use assign_branch::{CallSet, CarSet};
 use elevator_model::{MOST_CALLS, MOST_CARS};
 use std::alloc::{AllocError, Global};
 
-/// For each call and car a running share of the pricings in which the car took the call, in 2^20ths: 0 is
-/// never, and 2^20 always. The newest pricing makes a quarter of it.
+/// For each call and car a share, in 2^20ths: of the pricings in which the car took the call, where 0 is never and
+/// 2^20 always and the newest pricing makes a quarter of it, or of the tours of a relaxation.
 #[derive(Drop)]
 pub(crate) struct Shares {
     calls: usize,
@@ -53,6 +53,16 @@ impl Shares {
             if let Some(share) = self.items.get_mut(place) {
                 let newest = if calls.contains(call as u32) { ONE } else { 0 };
                 *share = share.saturating_add(newest.saturating_sub(*share) / 4);
+            }
+        }
+    }
+
+    /// Adds a share of a tour of the car that takes these calls, in 2^40ths.
+    pub(crate) fn add(&mut self, car: usize, calls: CallSet, share: i64) {
+        for call in calls.iter() {
+            let place = self.place(call as usize, car);
+            if let Some(sum) = self.items.get_mut(place) {
+                *sum = sum.saturating_add(share / ONE);
             }
         }
     }

@@ -9,9 +9,11 @@ use crate::boards::calls_in;
 use crate::columns::NodeTours;
 use crate::fixed::ONE;
 use crate::moves::take_back;
+use crate::outlooks::Outlook;
 use crate::shares::Shares;
 use assign_branch::Node;
 use elevator_model::{MOST_CALLS, MOST_CARS};
+use partition_relaxation::SeenTours;
 use price_ascent::{Lacks, percent_of, raise};
 use price_scale::{Price, SCALE};
 use restricted_master::Pool;
@@ -29,6 +31,9 @@ const MOST_BACK: u32 = 3;
 const LEAST_RATE: i64 = ONE / 64;
 
 const LEAST_NEW_RATE: i64 = ONE / 8;
+
+/// A call counts as divided by a relaxation where each side has more than this share, in 2^20ths.
+const LEAST_SIDE: i64 = ONE / 1024;
 
 /// How many cars there may be.
 const CARS: usize = MOST_CARS as usize;
@@ -52,6 +57,13 @@ pub struct Steps {
     pricings: u32,
     /// How many partial tours each car's last pricing tried, in the node or in one above it.
     tried: [u64; CARS],
+    /// What the relaxation said after the last pricing.
+    outlook: Outlook,
+}
+
+/// A cost, in cost units, as thousandths of a cost unit.
+fn scaled(cost: u64) -> i128 {
+    SCALE.saturating_mul(i128::from(cost))
 }
 
 impl Steps {
@@ -65,6 +77,7 @@ impl Steps {
             gains: [0; 4],
             pricings: 0,
             tried: [0; CARS],
+            outlook: Outlook::new(alloc, calls, cars)?,
         })
     }
 
@@ -78,6 +91,7 @@ impl Steps {
             gains: [0; 4],
             pricings: 0,
             tried: self.tried,
+            outlook: self.outlook.part(alloc)?,
         })
     }
 
@@ -89,7 +103,27 @@ impl Steps {
             self.note_tours(cars);
         }
         self.note_gain(gain, spent);
+        self.outlook.note_gain(gain);
         self.note_tried(cars);
+    }
+
+    /// What the relaxation over the tours seen says of the node after a pricing, where its leaf is this one and the
+    /// best known plan costs this many cost units. It fails only where there is no memory left.
+    pub fn outlook(
+        &self,
+        alloc: Global,
+        leaf: &Sheet,
+        target_cost: u64,
+        node: &Node,
+        seen: &SeenTours,
+    ) -> Result<Outlook, AllocError> {
+        let gap = scaled(target_cost).saturating_sub(leaf.sum());
+        self.outlook.next(alloc, leaf, gap, node, seen)
+    }
+
+    /// Takes in what the relaxation says.
+    pub fn take(&mut self, outlook: Outlook) {
+        self.outlook = outlook;
     }
 
     /// Takes in how many partial tours each car's pricing tried.
@@ -141,7 +175,7 @@ impl Steps {
     /// The prices at which the node is priced next, where its leaf is this one and the best known plan costs
     /// this many cost units. It fails only where there is no memory left.
     ///
-    /// They lie on the way to prices at which the pool's tours in the node say more than the leaf does. Where
+    /// They are those of the relaxation, where it says anything. Else they lie on the way to prices at which the pool's tours in the node say more than the leaf does. Where
     /// the leaf's own are the best that are found, they are a step from there by what the calls lacked on
     /// average.
     pub fn next_prices(
@@ -154,8 +188,12 @@ impl Steps {
     ) -> Result<Vec<Price>, AllocError>
         ensures { IfOk result (λ prices. length prices.items ≡ length leaf.now.prices) }
     {
-        let target = SCALE.saturating_mul(i128::from(target_cost));
+        let target = scaled(target_cost);
         let from = leaf.prices();
+        let told = self.outlook.prices.as_slice();
+        if told.len() == from.len() && told != from {
+            return told.to_vec(alloc);
+        }
         let mut prices = from.to_vec(alloc)?;
         let mut room = from.to_vec(alloc)?;
         let sum = raise(
@@ -181,9 +219,12 @@ impl Steps {
     }
 
     /// Whether the node is to be split, where its leaf's sum is below the cost of the best known plan by this
-    /// much, in thousandths of a cost unit: its last four pricings together closed less than a tenth of the
-    /// gap, or it had as many as a node may have.
+    /// much, in thousandths of a cost unit: the relaxation promises less than a tenth of the gap, or, where it says
+    /// nothing, the last four pricings together closed less; or it had as many as a node may have.
     pub fn is_due(&self, gap: i128) -> bool {
+        if self.outlook.is_told() {
+            return MOST_PRICINGS <= self.pricings || self.outlook.is_slow(gap);
+        }
         let mut gained: i128 = 0;
         for gain in &self.gains {
             gained = gained.saturating_add(*gain);
@@ -192,14 +233,18 @@ impl Steps {
         MOST_PRICINGS <= self.pricings || JUDGED <= self.pricings && is_slow
     }
 
-    /// At which call the node is split, of this many, and how: such that the pricings' tours are divided as
-    /// evenly as may be. None exactly where each call has one car.
+    /// At which call the node is split, of this many, and how: such that the tours of the relaxation are divided as
+    /// evenly as may be, or, where they are not divided, those of the pricings. None exactly where each call has
+    /// one car.
     pub fn choice(&self, node: &Node, calls: usize) -> Option<SplitAt>
         requires { calls ≤ MOST_CALLS }
         ensures call { MatchOption result (AreSingle calls node.now) (λ at. at.call < calls) }
         ensures part { IfSome result (λ at. is_part (set_of node.now at.call) at.part ≡ true) }
     {
-        match self.shares.most_even(node, calls) {
+        if let Some(at) = self.outlook.shares.most_even(node, calls, LEAST_SIDE) {
+            return Some(at);
+        }
+        match self.shares.most_even(node, calls, -1) {
             Some(at) => Some(at),
             None => first_choice(node, calls),
         }
