@@ -30,6 +30,8 @@ pub struct Relaxation {
     pub shares: Vec<Share>,
     /// Whether some call is not taken once, so that its price was held at its reach.
     pub is_held: bool,
+    /// Whether no tour lowers the cost any more: else a limit of steps was reached.
+    pub is_least: bool,
 }
 
 /// A price that is moved by a way, as a cost of the linear program: None where it is too large.
@@ -160,13 +162,14 @@ pub fn relax(
         return Ok(None);
     };
     let mut simplex = Simplex::new(alloc, costs, cars)?;
-    if simplex.run(first, columns).is_none() {
+    let Some(is_least) = simplex.run(first, columns) else {
         return Ok(None);
-    }
+    };
     Ok(Some(Relaxation {
         prices: prices_in(alloc, &simplex, centre, reach)?,
         value: simplex.value(),
         shares: shares_in(alloc, &simplex)?,
         is_held: is_held_in(&simplex),
+        is_least,
     }))
 }

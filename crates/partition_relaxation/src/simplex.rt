@@ -212,18 +212,18 @@ impl Simplex {
         Some(has_entered)
     }
 
-    /// Turns until nothing lowers the cost or a limit is reached; the columns of `first` are tried first. None
-    /// where a number would not fit.
-    pub(crate) fn run(&mut self, first: &[Column], columns: &[Column]) -> Option<()> {
+    /// Turns until nothing lowers the cost or a limit is reached; the columns of `first` are tried first. It says
+    /// whether nothing lowers the cost any more. None where a number would not fit.
+    pub(crate) fn run(&mut self, first: &[Column], columns: &[Column]) -> Option<bool> {
         for column in first {
             self.enter(&Entry::Tour(*column))?;
         }
         for _ in 0..MOST_TURNS {
             if !self.turn(columns)? {
-                break;
+                return Some(self.pivots < MOST_PIVOTS);
             }
         }
-        Some(())
+        Some(false)
     }
 
     /// The dual value at a place, from the costs of what is basic: in thousandths of a cost unit.
