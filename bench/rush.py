@@ -1,5 +1,5 @@
 #!/usr/bin/env python3
-"""rush [make FOLDER | states [FOLDER] | days] [NUMBERS]: searches at the busiest moments of days, and whole heavy days.
+"""rush.py [make FOLDER | states [FOLDER] | days] [NUMBERS]: searches at the busiest moments of days, and whole heavy days.
 
     make     writes the states of such moments to FOLDER, as inputs of `lift solve`: KIND-NUMBER-ROW.txt
     states   solves them, or those that are in FOLDER, one by one with `lift solve --brief --progress`: one worker, the
