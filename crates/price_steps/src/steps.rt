@@ -55,6 +55,8 @@ pub struct Steps {
     gains: [i128; 4],
     /// How many pricings the node had.
     pricings: u32,
+    /// Whether some car's last pricing reached the limit of partial tours.
+    was_spent: bool,
     /// How many partial tours each car's last pricing tried, in the node or in one above it.
     tried: [u64; CARS],
     /// What the relaxation said after the last pricing.
@@ -76,6 +78,7 @@ impl Steps {
             back: 0,
             gains: [0; 4],
             pricings: 0,
+            was_spent: false,
             tried: [0; CARS],
             outlook: Outlook::new(alloc, calls, cars)?,
         })
@@ -90,6 +93,7 @@ impl Steps {
             back: 0,
             gains: [0; 4],
             pricings: 0,
+            was_spent: false,
             tried: self.tried,
             outlook: self.outlook.part(alloc)?,
         })
@@ -169,6 +173,7 @@ impl Steps {
         };
         let [first, second, third, _] = self.gains;
         self.gains = [gain, first, second, third];
+        self.was_spent = spent;
         self.pricings = self.pricings.saturating_add(1);
     }
 
@@ -219,11 +224,14 @@ impl Steps {
     }
 
     /// Whether the node is to be split, where its leaf's sum is below the cost of the best known plan by this
-    /// much, in thousandths of a cost unit: the relaxation promises less than a tenth of the gap, or, where it says
-    /// nothing, the last four pricings together closed less; or it had as many as a node may have.
+    /// much, in thousandths of a cost unit: the relaxation promises less than a tenth of the gap, or the last
+    /// pricing closed less and reached the limit of partial tours; where the relaxation says nothing, the last four
+    /// pricings together closed less; or it had as many as a node may have.
     pub fn is_due(&self, gap: i128) -> bool {
         if self.outlook.is_told() {
-            return MOST_PRICINGS <= self.pricings || self.outlook.is_slow(gap);
+            return MOST_PRICINGS <= self.pricings
+                || self.outlook.is_slow(gap)
+                || self.is_stuck(gap);
         }
         let mut gained: i128 = 0;
         for gain in &self.gains {
@@ -231,6 +239,13 @@ impl Steps {
         }
         let is_slow = gained.saturating_mul(10) < gap.saturating_add(gained);
         MOST_PRICINGS <= self.pricings || JUDGED <= self.pricings && is_slow
+    }
+
+    /// Whether the last pricing reached the limit of partial tours and closed less than a tenth of the gap: so may
+    /// the next ones at this node, whatever the relaxation promises.
+    fn is_stuck(&self, gap: i128) -> bool {
+        let [last, ..] = self.gains;
+        1 < self.pricings && self.was_spent && last.saturating_mul(10) < gap
     }
 
     /// At which call the node is split, of this many, and how: such that the tours of the relaxation are divided as
