@@ -23,7 +23,7 @@ use crate::best::Best;
 use crate::choosing::first_wanted;
 use crate::root::{MOST_TURNS, Root};
 use crate::search::Search;
-use crate::steps::{look_ahead, note_turns, split};
+use crate::steps::{note_turns, split};
 use assign_branch::{Pricer, Tree};
 use byte_streams::{Gate, Progress};
 use call_state::Snapshot;
@@ -139,7 +139,6 @@ fn split_where_due(
     tree: &mut SearchTree<Steps>,
     turns: usize,
     calls: usize,
-    best: &Best,
 ) -> Result<(), AllocError>
     requires some { 0 < length tree.old.branches }
     requires calls { calls ≤ MOST_CALLS }
@@ -151,7 +150,6 @@ fn split_where_due(
         return Ok(());
     }
     if let Some(first) = first_choice(&tree.branches()[0].node, calls) {
-        look_ahead(tree, alloc, 0, best.cost, &best.seen)?;
         split(tree, alloc, 0, calls, first)?;
     }
     Ok(())
@@ -181,7 +179,7 @@ fn begin<'a, P: Pricer>(
     } = root;
     let calls = prices.len();
     note_turns(&mut tree, &turns);
-    split_where_due(alloc, &mut tree, turns.len(), calls, &best)?;
+    split_where_due(alloc, &mut tree, turns.len(), calls)?;
     let done = turns.len() as u64;
     let search = Search { tree, best, done };
     Ok(Begun { search, turns })

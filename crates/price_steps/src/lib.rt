@@ -13,11 +13,11 @@
 //!
 //! `Steps` belongs to a node of the tree: how far calls were boarded too often or not at all, how much the
 //! last pricings gained, which car took which call how often, and how many partial tours each car's last
-//! pricing tried; the parts of a split begin with most of it. After each pricing an `Outlook` looks at the tours
-//! seen that lie in the node: the linear relaxation of set partitioning over them gives the prices of the next
-//! pricing, promises how much they gain, and tells how the calls are shared by the cars. With few calls, or where
-//! the relaxation says nothing, the prices come from thirty steps of ascent over the pool's tours in the node,
-//! taken back towards the leaf's prices where that gained nothing, or are a step along the averaged violation.
+//! pricing tried; the parts of a split begin with most of it. The prices of the next pricing come from thirty
+//! steps of ascent over the pool's tours in the node, taken back towards the leaf's prices where that gained
+//! nothing, or are a step along the averaged violation. Where that gains little, an `Outlook` looks after each
+//! pricing at the tours seen that lie in the node: the linear relaxation of set partitioning over them gives the
+//! next prices, promises how much they gain, and tells how the calls are shared by the cars.
 //! `is_due` says when a node is split, `choice` at which call and how; `tried` foretells how long each pricing may
 //! take.
 #![tactic(auto)]

@@ -10,9 +10,6 @@ use price_scale::Price;
 use search_tree::Sheet;
 use std::alloc::{AllocError, Global};
 
-/// Up to this many calls the ascent's prices are as good, and it takes less time.
-const FEW_CALLS: usize = 12;
-
 /// How often the reach is widened at most.
 const MOST_WIDER: u32 = 8;
 
@@ -38,6 +35,8 @@ pub struct Outlook {
     promise: i128,
     /// In thousandths of a cost unit.
     reach: u64,
+    /// Whether a relaxation was solved for the node or one above it.
+    is_used: bool,
 }
 
 /// The columns that lie in the node. It fails only where there is no memory left.
@@ -78,6 +77,7 @@ impl Outlook {
             basis: Vec::new(alloc),
             promise: 0,
             reach: 0,
+            is_used: false,
         })
     }
 
@@ -89,12 +89,18 @@ impl Outlook {
             basis: self.basis.as_slice().to_vec(alloc)?,
             promise: 0,
             reach: self.reach,
+            is_used: self.is_used,
         })
     }
 
     /// Whether the relaxation says anything.
     pub(crate) fn is_told(&self) -> bool {
         !self.prices.is_empty()
+    }
+
+    /// Whether a relaxation was solved for the node or one above it.
+    pub(crate) fn is_used(&self) -> bool {
+        self.is_used
     }
 
     /// Takes in by how much the pricing at its prices raised the leaf's sum, in thousandths of a cost unit.
@@ -134,6 +140,7 @@ impl Outlook {
             shares,
             basis,
             reach,
+            is_used: true,
         })
     }
 
@@ -149,9 +156,6 @@ impl Outlook {
         node: &Node,
         seen: &SeenTours,
     ) -> Result<Self, AllocError> {
-        if leaf.prices().len() <= FEW_CALLS {
-            return self.part(alloc);
-        }
         let columns = columns_in(alloc, node, seen.as_slice())?;
         let first = columns_in(alloc, node, &self.basis)?;
         let mut next = self.part(alloc)?;

@@ -24,6 +24,12 @@ use std::alloc::{AllocError, Global};
 /// How many pricings are judged together.
 const JUDGED: u32 = 4;
 
+/// After how many pricings at the ascent's prices the relaxation may be asked.
+const EARLY: u32 = 3;
+
+/// Up to this many calls the ascent's prices are as good, and it takes less time.
+const FEW_CALLS: usize = 12;
+
 /// How often the way to the model's prices is halved at most.
 const MOST_BACK: u32 = 3;
 
@@ -111,8 +117,20 @@ impl Steps {
         self.note_tried(cars);
     }
 
+    /// Whether the relaxation is asked, where the leaf's sum is below the cost of the best known plan by this much,
+    /// in thousandths of a cost unit: with more than a few calls, once the last three pricings together closed less
+    /// than a fifth of the gap; and from then on, also in the node's parts.
+    fn asks_relaxation(&self, gap: i128) -> bool {
+        let [first, second, third, _] = self.gains;
+        let gained = first.saturating_add(second).saturating_add(third);
+        let is_slow = gained.saturating_mul(5) < gap.saturating_add(gained);
+        FEW_CALLS < self.violation.len()
+            && (self.outlook.is_used() || EARLY <= self.pricings && is_slow)
+    }
+
     /// What the relaxation over the tours seen says of the node after a pricing, where its leaf is this one and the
-    /// best known plan costs this many cost units. It fails only where there is no memory left.
+    /// best known plan costs this many cost units; nothing, where it is not asked. It fails only where there is no
+    /// memory left.
     pub fn outlook(
         &self,
         alloc: Global,
@@ -122,6 +140,9 @@ impl Steps {
         seen: &SeenTours,
     ) -> Result<Outlook, AllocError> {
         let gap = scaled(target_cost).saturating_sub(leaf.sum());
+        if !self.asks_relaxation(gap) {
+            return self.outlook.part(alloc);
+        }
         self.outlook.next(alloc, leaf, gap, node, seen)
     }
 
