@@ -2,6 +2,7 @@
 
 use crate::first_plans::Cases;
 use crate::pricings::Pricing;
+use crate::relaxations::Numbers;
 
 /// A measurement.
 #[derive(Clone, Copy)]
@@ -9,6 +10,7 @@ pub(crate) enum Asked {
     Kinds { count: u32 },
     Costs { cases: Cases },
     Lists,
+    Relaxations { numbers: Numbers },
     OfInput { asked: OfInput },
 }
 
@@ -75,6 +77,9 @@ fn named(name: &str, words: usize, numbers: [u32; 4]) -> Option<Asked> {
             },
         }),
         ("lists", 2) => Some(Asked::Lists),
+        ("relaxations", _) => Some(Asked::Relaxations {
+            numbers: Numbers::asked(words, first, second)?,
+        }),
         _ => Some(Asked::OfInput {
             asked: of_input(name, words, numbers)?,
         }),

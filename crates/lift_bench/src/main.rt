@@ -6,6 +6,7 @@
 //!     walk TOURS                      walks this many partial tours of that snapshot's first car
 //!     read ROUNDS CASES               reads and writes the building, snapshot and answer that it reads
 //!     lists                           compares pricings, and what is chosen from pools, with lists of everything
+//!     relaxations [COUNT [FIRST]]     relaxes drawn pools of columns, which `tests/relaxations` judges
 //!     all                             takes each of these once, with small numbers
 //!
 //! Times go to standard error alone. Where a check of `lists` fails, the status is 1.
@@ -17,6 +18,7 @@ mod input;
 mod kinds;
 mod lists;
 mod pricings;
+mod relaxations;
 mod rounds;
 mod walks;
 
@@ -28,6 +30,7 @@ use first_plans::{print_costs, print_kinds};
 use input::input;
 use lists::compare_lists;
 use pricings::{Pricing, print_pricing};
+use relaxations::print_relaxations;
 use rounds::print_rounds;
 use std::process::ExitCode;
 use std::{env, io};
@@ -110,6 +113,7 @@ fn measure(rt: &HostRuntime, asked: Asked) -> io::Result<bool> {
         Asked::Kinds { count } => print_kinds(rt, count),
         Asked::Costs { cases } => print_costs(rt, cases),
         Asked::Lists => compare_lists(rt),
+        Asked::Relaxations { numbers } => print_relaxations(rt, numbers),
         Asked::OfInput { asked } => measure_input(rt, asked),
     }
 }
@@ -117,7 +121,9 @@ fn measure(rt: &HostRuntime, asked: Asked) -> io::Result<bool> {
 fn main(rt: HostRuntime) -> io::Result<ExitCode> {
     let words = words_given(&rt)?;
     let Some(asked) = asked_in(&words) else {
-        eprintln!(rt; "usage: lift_bench first_plan/pricing/walk/read/lists/all [numbers]")?;
+        eprintln!(rt;
+            "usage: lift_bench first_plan/pricing/walk/read/lists/relaxations/all [numbers]"
+        )?;
         return Ok(ExitCode::from(2));
     };
     if measure(&rt, asked)? {
