@@ -56,13 +56,14 @@ fn costs_of(alloc: Global, centre: &[Price], way: i128) -> Result<Option<Vec<i64
     Ok(Some(costs))
 }
 
-/// What a car without a tour costs: more than any of these tours and all calls together.
-fn idle_cost(columns: &[Column], untaken: &[i64]) -> i64 {
+/// What a car without a tour costs: more than any of these tours, and than any calls that are taken or not for its
+/// sake.
+fn idle_cost(columns: &[Column], untaken: &[i64], doubled: &[i64]) -> i64 {
     let mut cost: i64 = 1;
     for column in columns {
         cost = cost.max(column.cost);
     }
-    for call in untaken {
+    for call in untaken.iter().chain(doubled) {
         cost = cost.saturating_add(call.saturating_abs());
     }
     cost
@@ -86,7 +87,7 @@ fn costs_in(
     for cost in doubled.iter_mut() {
         *cost = cost.saturating_neg();
     }
-    let idle = idle_cost(columns, &untaken);
+    let idle = idle_cost(columns, &untaken, &doubled);
     Ok(Some(Costs {
         untaken,
         doubled,

@@ -9,10 +9,10 @@ use elevator_model::MOST_CARS;
 use std::alloc::{AllocError, Global};
 
 /// How many pivots are made at most.
-const MOST_PIVOTS: u32 = 2_000;
+const MOST_PIVOTS: u32 = 4_000;
 
 /// How often all columns are looked through at most.
-const MOST_TURNS: u32 = 500;
+const MOST_TURNS: u32 = 1_000;
 
 /// An entry lowers the cost only where its reduced cost is below this, in parts of a dual value: half a
 /// thousandth of a cost unit.

@@ -185,6 +185,10 @@ impl Outlook {
         let Some(relaxation) = relax(alloc, cars, leaf.prices(), reach, first, columns)? else {
             return Ok(true);
         };
+        // At a limit of its steps it tells too little.
+        if !relaxation.is_least {
+            return Ok(true);
+        }
         let is_held = relaxation.is_held;
         *self = Outlook::of(alloc, leaf, reach, relaxation)?;
         Ok(!is_held || !self.is_slow(gap))
