@@ -26,8 +26,8 @@ pub(crate) struct Numbers {
 const POOLS: u32 = 2000;
 
 impl Numbers {
-    /// Those that a count and the first number ask for, where there are so many words with the names of the
-    /// program and the measurement.
+    /// Those that a count and the first number ask for. `words` counts all words, with the names of the program
+    /// and of the measurement; any other count of words is rejected.
     pub(crate) fn asked(words: usize, count: u32, first: u32) -> Option<Self> {
         match words {
             2 => Some(Numbers {

@@ -111,7 +111,7 @@ fn drawn_firsts(draws: &mut Draws) -> Firsts {
     }
 }
 
-/// All of so many, but with a chance of one in eight only some.
+/// The whole number, but with a chance of one in eight a lesser one.
 fn all_or_some(draws: &mut Draws, all: u32) -> u32 {
     if draws.pick(8) == 0 {
         draws.pick(all.max(1))
