@@ -1,28 +1,9 @@
 -- Ids in a list: where one stands, and that a new one is among none.
-use Rattle.std.proofs.Common.{◌≡◌, ℕ, ◌<◌, ◌≤◌, nat_eq, ◌==◌, refl, cond, if◌then◌else◌, List, [], ◌∷◌, ◌++◌, length, map, get_or, take, position, Option, Some, None, MatchOption, nat_lt, sym, ◌∙◌, ap, arith}
-use Rattle.std.specs.List.{list_any, position_or_len}
-use Rattle.std.proofs.lemmas.Bool.{eqb-true, ne_eqb, eq-eqb, false≢true, cond-false}
+use Rattle.std.proofs.Common.{◌≡◌, ℕ, ◌<◌, ◌==◌, refl, List, [], ◌∷◌, length, map, get_or, take, Option, Some, None, MatchOption, sym, ◌∙◌, ap, arith}
+use Rattle.std.specs.List.{list_any}
 use Rattle.std.proofs.lemmas.Bool.Decides.{nat_tests}
 use Rattle.std.proofs.lemmas.List.{get_or-map, get_or-take, length-map, length-take-le}
-use Rattle.std.proofs.lemmas.List.Sums.{fails_before_first}
-use Rattle.std.proofs.lemmas.List.Quantifiers.{position-Some}
 use Rattle.call_state.specs.Ids.{AreDifferent}
-use Rattle.call_state.proofs.ListTests.{list_any_false}
-
-position-None : (a b : ℕ) → cond (nat_lt a b) (Some a) None ≡ None → b ≤ a
-position-None a b none = grind (arith, nat_tests)
-
-pub position-place : (ids : List ℕ) (id : ℕ) (r : Option ℕ) → r ≡ position (nat_eq id) ids → MatchOption r ((k : ℕ) → k < length ids → get_or ids k 0 ≡ id → ⊥) (λ k. (k < length ids) × (get_or ids k 0 ≡ id))
-position-place ids id None is =
-    let none = position-None (position_or_len (nat_eq id) ids) (length ids) (sym is) in
-    λ k within same. false≢true (sym (fails_before_first (nat_eq id) ids k 0 (omega arith)) ∙ eq-eqb id (get_or ids k 0) (sym same))
-position-place ids id (Some k) is =
-    let found = position-Some (nat_eq id) ids k 0 (sym is) in
-    (found.0, sym (eqb-true id (get_or ids k 0) found.1))
-
-pub insert-new : (ids : List ℕ) (id : ℕ) → ((k : ℕ) → k < length ids → get_or ids k 0 ≡ id → ⊥) → (if list_any (nat_eq id) ids then ids else ids ++ id ∷ []) ≡ ids ++ id ∷ []
-insert-new ids id new =
-    cond-false (list_any (nat_eq id) ids) ids (ids ++ id ∷ []) (list_any_false (nat_eq id) ids 0 (λ k within. ne_eqb id (get_or ids k 0) (λ same. new k within (sym same))))
 
 -- an id of a list of items with different ids is new after those before it
 pub new_after : {X : Type 0} (id : X → ℕ) (xs : List X) (i : ℕ) (d : X) (ids : List ℕ) → AreDifferent (map id xs) → i < length xs → ids ≡ map id (take i xs) → (k : ℕ) → k < length ids → get_or ids k 0 ≡ id (get_or xs i d) → ⊥

@@ -1,4 +1,4 @@
-//! The place of each id in a list, found without going through the list.
+//! The place of each id in a list.
 
 ghost use Rattle.std.specs.Prelude.{◌≡◌, ℕ, ◌<◌, ◌==◌, ◌∷◌, ◌++◌, [], length, map, slice_index, IfOk, OnOk};
 ghost use Rattle.std.specs.Prelude.{OnErr, MatchOption};
@@ -8,14 +8,15 @@ ghost use Rattle.elevator_model.specs.declared.Call.{Call};
 ghost use Rattle.call_state.specs.Ids.{AreDifferent};
 
 use elevator_model::{Call, CarSpec};
-use indexmap::IndexSet;
 use std::alloc::{AllocError, Global};
 use std::marker::Model;
 
-/// Different ids in their order, of which each is found without going through them.
+/// Different ids in their order.
+///
+/// They are few, the cars of a building or the calls of a snapshot, so an id is found by going through them.
 #[derive(Drop)]
 pub struct IdIndex {
-    ids: IndexSet<u32>,
+    ids: Vec<u32>,
 }
 
 impl Model for IdIndex {
@@ -23,7 +24,7 @@ impl Model for IdIndex {
 
     ghost Value = { List ℕ };
 
-    ghost view = { λ x. x.ids.keys };
+    ghost view = { λ x. x.ids.items };
 }
 
 impl IdIndex {
@@ -32,7 +33,7 @@ impl IdIndex {
         ensures { result ≡ [] }
     {
         IdIndex {
-            ids: IndexSet::new(alloc),
+            ids: Vec::new(alloc),
         }
     }
 
@@ -43,7 +44,7 @@ impl IdIndex {
         ensures added { OnOk result (self.new ≡ self.old ++ id ∷ []) }
         ensures unchanged { OnErr result (self.new ≡ self.old) }
     {
-        self.ids.insert(id)?;
+        self.ids.push(id)?;
         Ok(())
     }
 
@@ -61,7 +62,7 @@ impl IdIndex {
             ((k : ℕ) → k < length self.now → slice_index self.now k ≡ id → ⊥)
             (λ k. (k < length self.now) × (slice_index self.now k ≡ id)) }
     {
-        self.ids.get_index_of(&id)
+        self.ids.iter().position(|other| *other == id)
     }
 
     /// The ids of cars, in their order. It fails only where there is no memory left.
