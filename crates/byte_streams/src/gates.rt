@@ -1,4 +1,6 @@
-//! A place where work can be watched, or slowed before a job begins.
+//! A place where work can be watched, slowed before a job begins, or stopped.
+
+ghost use Rattle.std.specs.Prelude.{IsTrue};
 
 /// Where a search stands.
 #[derive(Clone, Copy)]
@@ -28,20 +30,33 @@ pub enum Progress {
     Rows(u32),
 }
 
-/// Told of each job before it begins, and of how far the work has come. It returns always and tells
-/// nothing, so no answer depends on it.
+/// Told of each job before it begins, and of how far the work has come, and asked whether the work may go on.
+/// It returns always, and of an answer only this depends on it: whether the work was ended early.
 pub trait Gate {
+    /// The work may go on whenever this gate is asked.
+    ghost never_stops: { Self → Type 0 };
+
     /// Lets the job with this number begin.
     fn enter(&self, job: u32);
 
     /// Takes note of how far the work has come.
     fn tell(&self, _progress: Progress) {}
+
+    /// Whether the work may go on.
+    fn may_go_on(&self) -> bool
+        ensures { never_stops self.now → IsTrue result };
 }
 
-/// A gate that does nothing.
+/// A gate that does nothing and never stops the work.
 #[derive(Clone, Copy, Default)]
 pub struct OpenGate;
 
 impl Gate for OpenGate {
+    ghost never_stops = { λ _. Unit {0} };
+
     fn enter(&self, _job: u32) {}
+
+    fn may_go_on(&self) -> bool {
+        true
+    }
 }

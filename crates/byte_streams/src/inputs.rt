@@ -3,9 +3,9 @@
 ghost use Rattle.std.specs.Prelude.{◌≡◌, ◌+◌, ◌<◌, ◌≤◌, ◌-◌, [], length, IfOk, OnOk, IsErrOf, true, false};
 ghost use Rattle.std.specs.Io.KnownBytes.{prepend_known, IsAtEnd};
 ghost use Rattle.byte_streams.specs.Streams.{Rose};
-ghost use Rattle.whole_input.specs.Inputs.{HasGained};
+ghost use Rattle.byte_streams.specs.Inputs.{HasGained};
 
-use byte_streams::{Source, read_full};
+use crate::sources::{Source, read_full};
 use std::alloc::{AllocError, Global};
 
 /// The most bytes that are asked of a source at once.
