@@ -1,5 +1,7 @@
 -- What the words are taken as.
-use Rattle.std.proofs.Common.{◌≡◌, ◌∙◌, Bool, true, false, IsTrue, cond, List, drop, codes, Option, Some, None, slice_get, IfSome, subst, sym, ap, inl, inr, refl}
+use mathlib.Core.HLevel.{is_prop→PathP}
+use Rattle.std.proofs.Common.{◌≡◌, ◌≤◌, ◌^◌, ◌∙◌, ℕ, Bool, true, false, IsTrue, cond, List, drop, codes, Option, Some, None, slice_get, IfSome, subst, sym, ap, inl, inr, refl}
+use Rattle.std.specs.Coded.{le_prop}
 use Rattle.std.specs.Prelude.{◌↔◌}
 use Rattle.std.specs.Str.{bytes_eq}
 use Rattle.std.proofs.lemmas.Slice.Eq.{bytes_eq-Decides}
@@ -20,6 +22,8 @@ use Rattle.lift_words.specs.declared.request.SearchOptions.{SearchOptions}
 use Rattle.lift_words.specs.declared.request.RootOptions.{RootOptions}
 use Rattle.lift_words.specs.declared.request.CaseSizes.{CaseSizes}
 use Rattle.lift_words.specs.declared.request.RunOptions.{RunOptions}
+use Rattle.search_model.specs.declared.limits.Limits.{Limits}
+use Rattle.work_fan.specs.declared.runtime.Workers.{Workers}
 
 -- ---- the command
 
@@ -125,27 +129,42 @@ same_truth P true false x y = absurd (let no : false ≡ true = y.1 (x.0 refl) i
 same_truth P false true x y = absurd (let no : false ≡ true = x.1 (y.0 refl) in cc)
 same_truth P false false x y = refl
 
+abbrev AreLimits : ℕ → ℕ → Type 0
+AreLimits rounds most_tours = ((1 ≤ rounds) × (rounds ≤ 10 ^ 18)) × ((1 ≤ most_tours) × (most_tours ≤ 10 ^ 18))
+
+-- limits are their numbers, since the range that they keep can hold in one way
+same_limits : (a b : Limits) → a.rounds ≡ b.rounds → a.most_tours ≡ b.most_tours → a ≡ b
+same_limits a b rounds most_tours = λ i. record {
+  rounds = rounds i;
+  most_tours = most_tours i;
+  range = is_prop→PathP (λ j. AreLimits (rounds j) (most_tours j)) (λ j. hlevel le_prop) a.range b.range i;
+}
+
+same_workers : (a b : Workers) → a.count ≡ b.count → a ≡ b
+same_workers a b count = λ i. record {
+  count = count i;
+  range = is_prop→PathP (λ j. (1 ≤ count j) × (count j ≤ 16)) (λ j. hlevel le_prop) a.range b.range i;
+}
+
 asks_to_solve_one : (rows : List Row) (a b : SolveOptions) → AsksToSolve rows a → AsksToSolve rows b → a ≡ b
 asks_to_solve_one rows a b x y =
-    let rounds = only (sym x.rounds ∙ y.rounds) in
-    let moves = only (sym x.moves ∙ y.moves) in
-    let workers = only (sym x.workers ∙ y.workers) in
+    let limits = same_limits a.limits b.limits (only (sym x.rounds ∙ y.rounds)) (only (sym x.moves ∙ y.moves)) in
+    let workers = same_workers a.workers b.workers (only (sym x.workers ∙ y.workers)) in
     let claims = only (sym x.claims ∙ y.claims) in
     let brief = same_truth (AsksForBrief rows) a.brief b.brief x.brief y.brief in
     let progress = same_truth (AsksForProgress rows) a.progress b.progress x.progress y.progress in
-    λ i. record { rounds = rounds i; moves = moves i; workers = workers i; claims = claims i; brief = brief i; progress = progress i }
+    λ i. record { limits = limits i; workers = workers i; claims = claims i; brief = brief i; progress = progress i }
 
 asks_to_check_one : (rows : List Row) (a b : CheckOptions) → AsksToCheck rows a → AsksToCheck rows b → a ≡ b
 asks_to_check_one rows a b x y =
-    let workers = only (sym x ∙ y) in
+    let workers = same_workers a.workers b.workers (only (sym x ∙ y)) in
     λ i. record { workers = workers i }
 
 asks_for_search_one : (rows : List Row) (a b : SearchOptions) → AsksForSearch rows a → AsksForSearch rows b → a ≡ b
 asks_for_search_one rows a b x y =
-    let rounds = only (sym x.rounds ∙ y.rounds) in
-    let moves = only (sym x.moves ∙ y.moves) in
-    let workers = only (sym x.workers ∙ y.workers) in
-    λ i. record { rounds = rounds i; moves = moves i; workers = workers i }
+    let limits = same_limits a.limits b.limits (only (sym x.rounds ∙ y.rounds)) (only (sym x.moves ∙ y.moves)) in
+    let workers = same_workers a.workers b.workers (only (sym x.workers ∙ y.workers)) in
+    λ i. record { limits = limits i; workers = workers i }
 
 asks_for_day_one : (rows : List Row) (a b : DayOptions) → AsksForDay rows a → AsksForDay rows b → a ≡ b
 asks_for_day_one rows a b x y =
@@ -172,9 +191,8 @@ asks_for_sizes_one rows a b x y =
 asks_to_run_one : (rows : List Row) (a b : RunOptions) → AsksToRun rows a → AsksToRun rows b → a ≡ b
 asks_to_run_one rows a b x y =
     let sizes = asks_for_sizes_one rows a.sizes b.sizes x.case y.case in
-    let rounds = only (sym x.rounds ∙ y.rounds) in
-    let moves = only (sym x.moves ∙ y.moves) in
-    λ i. record { sizes = sizes i; rounds = rounds i; moves = moves i }
+    let limits = same_limits a.limits b.limits (only (sym x.rounds ∙ y.rounds)) (only (sym x.moves ∙ y.moves)) in
+    λ i. record { sizes = sizes i; limits = limits i }
 
 -- rows ask for one request of a command
 asks_of_one : (rows : List Row) (a b : Request) → command_asked a ≡ command_asked b → Asks rows a → Asks rows b → a ≡ b

@@ -1,6 +1,6 @@
 -- Worked rows: words that are taken, and words that are not.
-use Rattle.std.specs.Prelude.{◌≡◌, ◌<◌, ℕ, zero, suc, true, false, [], ◌∷◌, codes, refl, slice_index_or, Option, Some, None}
-use Rattle.std.proofs.Common.{ap, arith, lit<}
+use Rattle.std.specs.Prelude.{◌≡◌, ◌<◌, ◌^◌, ℕ, T, leb, zero, suc, true, false, [], ◌∷◌, codes, refl, slice_index_or, Option, Some, None}
+use Rattle.std.proofs.Common.{ap, arith, lit<, lit≤}
 use Rattle.std.specs.List.{Contains}
 use Rattle.clap.proofs.OnLiterals.{clap_on_literals}
 use Rattle.clap.specs.Walk.{Text}
@@ -8,6 +8,22 @@ use Rattle.option_words.specs.Repeats.{IsRepeated, Repeats}
 use Rattle.lift_words.specs.Taken.{AreTaken}
 use Rattle.lift_words.specs.declared.request.Request.{Request}
 use Rattle.lift_words.specs.declared.request.Request.TheVariants.{Solve, Check, Day, Report, Make, Run, Table, WhatIf, Banks, Root, Audit}
+use Rattle.search_model.specs.declared.limits.Limits.{Limits}
+use Rattle.work_fan.specs.declared.runtime.Workers.{Workers}
+
+-- numbers that compute to be in a range
+abbrev IsFrom1To : ℕ → ℕ → Type 0
+IsFrom1To most n = T (leb 1 n) × T (leb n most)
+
+abbrev limits_of : (rounds most_tours : ℕ) → IsFrom1To (10 ^ 18) rounds → IsFrom1To (10 ^ 18) most_tours → Limits
+limits_of rounds most_tours few_rounds few_tours = record {
+  rounds = rounds;
+  most_tours = most_tours;
+  range = ((lit≤ few_rounds.0, lit≤ few_rounds.1), (lit≤ few_tours.0, lit≤ few_tours.1));
+}
+
+abbrev workers_of : (count : ℕ) → IsFrom1To 16 count → Workers
+workers_of count few = record { count = count; range = (lit≤ few.0, lit≤ few.1) }
 
 -- one word alone repeats none
 alone : (word : Text) → IsRepeated (word ∷ []) → ⊥
@@ -30,7 +46,7 @@ two one other unlike r = by_places r.first r.second r.order r.within r.repeats
     by_places zero (suc (suc k)) order within same = absurd (omega arith)
     by_places (suc j) k order within same = absurd (omega arith)
 
-pub solve_by_defaults : AreTaken (codes "lift" ∷ codes "solve" ∷ codes "--brief" ∷ []) (Solve (record { rounds = 2000; moves = 75000; workers = 1; claims = 1000000000; brief = true; progress = false }))
+pub solve_by_defaults : AreTaken (codes "lift" ∷ codes "solve" ∷ codes "--brief" ∷ []) (Solve (record { limits = limits_of 2000 75000 (tt, tt) (tt, tt); workers = workers_of 1 (tt, tt); claims = 1000000000; brief = true; progress = false }))
 unfolding clap_on_literals
 solve_by_defaults = record {
   command = refl;
@@ -58,7 +74,7 @@ make_with_four_floors = record {
     only (zero, lt, same) = absurd cc
     only (suc k, lt, same) = absurd (omega arith)
 
-pub run_with_five_rounds : AreTaken (codes "lift" ∷ codes "make" ∷ codes "--run" ∷ codes "--rounds=5" ∷ []) (Run (record { sizes = record { number = 1; floors = 12; cars = 4; calls = 20 }; rounds = 5; moves = 75000 }))
+pub run_with_five_rounds : AreTaken (codes "lift" ∷ codes "make" ∷ codes "--run" ∷ codes "--rounds=5" ∷ []) (Run (record { sizes = record { number = 1; floors = 12; cars = 4; calls = 20 }; limits = limits_of 5 75000 (tt, tt) (tt, tt) }))
 unfolding clap_on_literals
 run_with_five_rounds = record {
   command = refl;
@@ -76,7 +92,7 @@ run_with_five_rounds = record {
     only (suc zero, lt, same) = absurd cc
     only (suc (suc k), lt, same) = absurd (omega arith)
 
-pub solve_with_certificate : AreTaken (codes "lift" ∷ codes "solve" ∷ codes "--rounds=5" ∷ []) (Solve (record { rounds = 5; moves = 75000; workers = 1; claims = 1000000000; brief = false; progress = false }))
+pub solve_with_certificate : AreTaken (codes "lift" ∷ codes "solve" ∷ codes "--rounds=5" ∷ []) (Solve (record { limits = limits_of 5 75000 (tt, tt) (tt, tt); workers = workers_of 1 (tt, tt); claims = 1000000000; brief = false; progress = false }))
 unfolding clap_on_literals
 solve_with_certificate = record {
   command = refl;
@@ -90,7 +106,7 @@ solve_with_certificate = record {
     only (zero, lt, same) = absurd cc
     only (suc k, lt, same) = absurd (omega arith)
 
-pub check_with_three : AreTaken (codes "lift" ∷ codes "check" ∷ codes "--workers=3" ∷ []) (Check (record { workers = 3 }))
+pub check_with_three : AreTaken (codes "lift" ∷ codes "check" ∷ codes "--workers=3" ∷ []) (Check (record { workers = workers_of 3 (tt, tt) }))
 unfolding clap_on_literals
 check_with_three = record {
   command = refl;
@@ -104,7 +120,7 @@ check_with_three = record {
     only (zero, lt, same) = absurd cc
     only (suc k, lt, same) = absurd (omega arith)
 
-pub day_of_five_rounds : AreTaken (codes "lift" ∷ codes "day" ∷ codes "--rounds=5" ∷ []) (Day (record { search = record { rounds = 5; moves = 75000; workers = 1 }; claims = 1000000000; certs = false; progress = false }))
+pub day_of_five_rounds : AreTaken (codes "lift" ∷ codes "day" ∷ codes "--rounds=5" ∷ []) (Day (record { search = record { limits = limits_of 5 75000 (tt, tt) (tt, tt); workers = workers_of 1 (tt, tt) }; claims = 1000000000; certs = false; progress = false }))
 unfolding clap_on_literals
 day_of_five_rounds = record {
   command = refl;
@@ -118,7 +134,7 @@ day_of_five_rounds = record {
     only (zero, lt, same) = absurd cc
     only (suc k, lt, same) = absurd (omega arith)
 
-pub solve_with_progress : AreTaken (codes "lift" ∷ codes "solve" ∷ codes "--progress" ∷ []) (Solve (record { rounds = 2000; moves = 75000; workers = 1; claims = 1000000000; brief = false; progress = true }))
+pub solve_with_progress : AreTaken (codes "lift" ∷ codes "solve" ∷ codes "--progress" ∷ []) (Solve (record { limits = limits_of 2000 75000 (tt, tt) (tt, tt); workers = workers_of 1 (tt, tt); claims = 1000000000; brief = false; progress = true }))
 unfolding clap_on_literals
 solve_with_progress = record {
   command = refl;
@@ -132,7 +148,7 @@ solve_with_progress = record {
     only (zero, lt, same) = absurd cc
     only (suc k, lt, same) = absurd (omega arith)
 
-pub day_with_certificates : AreTaken (codes "lift" ∷ codes "day" ∷ codes "--certs" ∷ []) (Day (record { search = record { rounds = 2000; moves = 75000; workers = 1 }; claims = 1000000000; certs = true; progress = false }))
+pub day_with_certificates : AreTaken (codes "lift" ∷ codes "day" ∷ codes "--certs" ∷ []) (Day (record { search = record { limits = limits_of 2000 75000 (tt, tt) (tt, tt); workers = workers_of 1 (tt, tt) }; claims = 1000000000; certs = true; progress = false }))
 unfolding clap_on_literals
 day_with_certificates = record {
   command = refl;
@@ -146,7 +162,7 @@ day_with_certificates = record {
     only (zero, lt, same) = absurd cc
     only (suc k, lt, same) = absurd (omega arith)
 
-pub report_with_three : AreTaken (codes "lift" ∷ codes "report" ∷ codes "--workers=3" ∷ []) (Report (record { rounds = 2000; moves = 75000; workers = 3 }))
+pub report_with_three : AreTaken (codes "lift" ∷ codes "report" ∷ codes "--workers=3" ∷ []) (Report (record { limits = limits_of 2000 75000 (tt, tt) (tt, tt); workers = workers_of 3 (tt, tt) }))
 unfolding clap_on_literals
 report_with_three = record {
   command = refl;
@@ -184,7 +200,7 @@ table_with_a_word (Banks options) t = let bytes : 116 ≡ 98 = ap first_byte t.c
 table_with_a_word (Root options) t = let other = t.command in absurd cc
 table_with_a_word (Audit options) t = let bytes : 116 ≡ 97 = ap first_byte t.command in absurd (omega (arith, bytes))
 
-pub whatif_of_five_moves : AreTaken (codes "lift" ∷ codes "whatif" ∷ codes "--moves=5" ∷ []) (WhatIf (record { rounds = 2000; moves = 5; workers = 1 }))
+pub whatif_of_five_moves : AreTaken (codes "lift" ∷ codes "whatif" ∷ codes "--moves=5" ∷ []) (WhatIf (record { limits = limits_of 2000 5 (tt, tt) (tt, tt); workers = workers_of 1 (tt, tt) }))
 unfolding clap_on_literals
 whatif_of_five_moves = record {
   command = refl;
@@ -212,7 +228,7 @@ brief_whatif (Banks options) t = let other = t.command in absurd cc
 brief_whatif (Root options) t = let other = t.command in absurd cc
 brief_whatif (Audit options) t = let other = t.command in absurd cc
 
-pub banks_of_three_workers : AreTaken (codes "lift" ∷ codes "banks" ∷ codes "--workers=3" ∷ []) (Banks (record { rounds = 2000; moves = 75000; workers = 3 }))
+pub banks_of_three_workers : AreTaken (codes "lift" ∷ codes "banks" ∷ codes "--workers=3" ∷ []) (Banks (record { limits = limits_of 2000 75000 (tt, tt) (tt, tt); workers = workers_of 3 (tt, tt) }))
 unfolding clap_on_literals
 banks_of_three_workers = record {
   command = refl;
@@ -240,7 +256,7 @@ root_of_five_turns = record {
     only (zero, lt, same) = absurd cc
     only (suc k, lt, same) = absurd (omega arith)
 
-pub audit_of_three_workers : AreTaken (codes "lift" ∷ codes "audit" ∷ codes "--workers=3" ∷ []) (Audit (record { workers = 3 }))
+pub audit_of_three_workers : AreTaken (codes "lift" ∷ codes "audit" ∷ codes "--workers=3" ∷ []) (Audit (record { workers = workers_of 3 (tt, tt) }))
 unfolding clap_on_literals
 audit_of_three_workers = record {
   command = refl;

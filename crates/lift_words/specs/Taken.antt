@@ -20,6 +20,8 @@ use Rattle.lift_words.specs.declared.request.SearchOptions.{SearchOptions}
 use Rattle.lift_words.specs.declared.request.RootOptions.{RootOptions}
 use Rattle.lift_words.specs.declared.request.CaseSizes.{CaseSizes}
 use Rattle.lift_words.specs.declared.request.RunOptions.{RunOptions}
+use Rattle.search_model.specs.declared.limits.Limits.{Limits}
+use Rattle.work_fan.specs.declared.runtime.Workers.{Workers as WorkerCount}
 
 -- the number of an option, by what `clap` found
 abbrev pub number_of : List Row → NumberOption → Option ℕ
@@ -33,22 +35,31 @@ AsksForBrief rows = first_of (codes "brief") rows ≡ Some (codes "true")
 abbrev pub AsksForProgress : List Row → Type 0
 AsksForProgress rows = first_of (codes "progress") rows ≡ Some (codes "true")
 
+-- how far a search may go
+pub record AsksForLimits (rows : List Row) (limits : Limits) : Type 0 where
+  pub rounds : number_of rows Rounds ≡ Some limits.rounds
+  pub moves : number_of rows Moves ≡ Some limits.most_tours
+
+-- how many share the work
+abbrev pub AsksForWorkers : List Row → WorkerCount → Type 0
+AsksForWorkers rows workers = number_of rows Workers ≡ Some workers.count
+
 pub record AsksToSolve (rows : List Row) (options : SolveOptions) : Type 0 where
   pub brief : IsTrue options.brief ↔ AsksForBrief rows
   pub progress : IsTrue options.progress ↔ AsksForProgress rows
-  pub rounds : number_of rows Rounds ≡ Some options.rounds
-  pub moves : number_of rows Moves ≡ Some options.moves
-  pub workers : number_of rows Workers ≡ Some options.workers
+  pub rounds : number_of rows Rounds ≡ Some options.limits.rounds
+  pub moves : number_of rows Moves ≡ Some options.limits.most_tours
+  pub workers : number_of rows Workers ≡ Some options.workers.count
   pub claims : number_of rows Claims ≡ Some options.claims
 
 abbrev pub AsksToCheck : List Row → CheckOptions → Type 0
-AsksToCheck rows options = number_of rows Workers ≡ Some options.workers
+AsksToCheck rows options = number_of rows Workers ≡ Some options.workers.count
 
 -- by the words of `report`, `whatif` or `banks`, or among those of `day`
 pub record AsksForSearch (rows : List Row) (options : SearchOptions) : Type 0 where
-  pub rounds : number_of rows Rounds ≡ Some options.rounds
-  pub moves : number_of rows Moves ≡ Some options.moves
-  pub workers : number_of rows Workers ≡ Some options.workers
+  pub rounds : number_of rows Rounds ≡ Some options.limits.rounds
+  pub moves : number_of rows Moves ≡ Some options.limits.most_tours
+  pub workers : number_of rows Workers ≡ Some options.workers.count
 
 -- certificates are to be written
 abbrev pub AsksForCerts : List Row → Type 0
@@ -92,8 +103,8 @@ pub record AsksToMake (rows : List Row) (sizes : CaseSizes) : Type 0 where
 pub record AsksToRun (rows : List Row) (options : RunOptions) : Type 0 where
   pub run : AsksForRun rows
   pub case : AsksForSizes rows options.sizes
-  pub rounds : number_of rows Rounds ≡ Some options.rounds
-  pub moves : number_of rows Moves ≡ Some options.moves
+  pub rounds : number_of rows Rounds ≡ Some options.limits.rounds
+  pub moves : number_of rows Moves ≡ Some options.limits.most_tours
 
 abbrev pub command_asked : Request → CommandWord
 command_asked (Solve options) = command.Solve
@@ -142,27 +153,15 @@ pub record AreTaken (words : List Text) (request : Request) : Type 0 where
   -- defaults
   pub asks : Asks (matches_of (app (command_asked request)) (drop 1 words)) request
 
--- ---- the ranges of what is asked
+-- ---- the ranges of what is asked; limits and workers keep their own
 
 abbrev pub IsInRange : NumberOption → ℕ → Type 0
 IsInRange option n = IsInRangeOf (setting_of option) n
 
 pub record AreSolveOptions (options : SolveOptions) : Type 0 where
-  pub rounds : IsInRange Rounds options.rounds
-  pub moves : IsInRange Moves options.moves
-  pub workers : IsInRange Workers options.workers
   pub claims : IsInRange Claims options.claims
 
-pub record AreCheckOptions (options : CheckOptions) : Type 0 where
-  pub workers : IsInRange Workers options.workers
-
-pub record AreSearchOptions (options : SearchOptions) : Type 0 where
-  pub rounds : IsInRange Rounds options.rounds
-  pub moves : IsInRange Moves options.moves
-  pub workers : IsInRange Workers options.workers
-
 pub record AreDayOptions (options : DayOptions) : Type 0 where
-  pub search : AreSearchOptions options.search
   pub claims : IsInRange Claims options.claims
 
 pub record AreRootOptions (options : RootOptions) : Type 0 where
@@ -177,18 +176,16 @@ pub record AreCaseSizes (sizes : CaseSizes) : Type 0 where
 
 pub record AreRunOptions (options : RunOptions) : Type 0 where
   pub sizes : AreCaseSizes options.sizes
-  pub rounds : IsInRange Rounds options.rounds
-  pub moves : IsInRange Moves options.moves
 
 abbrev pub IsWithin : Request → Type 0
 IsWithin (Solve options) = AreSolveOptions options
-IsWithin (Check options) = AreCheckOptions options
+IsWithin (Check options) = Unit {0}
 IsWithin (Day options) = AreDayOptions options
-IsWithin (Report options) = AreSearchOptions options
+IsWithin (Report options) = Unit {0}
 IsWithin (Make sizes) = AreCaseSizes sizes
 IsWithin (Run options) = AreRunOptions options
 IsWithin Table = Unit {0}
-IsWithin (WhatIf options) = AreSearchOptions options
-IsWithin (Banks options) = AreSearchOptions options
+IsWithin (WhatIf options) = Unit {0}
+IsWithin (Banks options) = Unit {0}
 IsWithin (Root options) = AreRootOptions options
-IsWithin (Audit options) = AreCheckOptions options
+IsWithin (Audit options) = Unit {0}

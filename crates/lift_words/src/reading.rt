@@ -1,10 +1,9 @@
 //! Reads the words.
-ghost use Rattle.std.specs.Prelude.{◌≡◌, ◌≤◌, IfErr, IfOk, IfSome, None, length, map, string_bytes};
+ghost use Rattle.std.specs.Prelude.{◌≡◌, ◌≤◌, IfErr, IfOk, IfSome, IsSome, None, length, map, string_bytes};
 ghost use Rattle.clap.specs.Words.{found_of, rows_of};
-ghost use Rattle.lift_words.specs.Taken.{AreCaseSizes, AreCheckOptions, AreDayOptions, AreRootOptions};
-ghost use Rattle.lift_words.specs.Taken.{AreSearchOptions, AreSolveOptions};
-ghost use Rattle.lift_words.specs.Taken.{AreTaken, AsksBy, AsksForDay, AsksForRoot, AsksForSearch};
-ghost use Rattle.lift_words.specs.Taken.{AsksForSizes, AsksToCheck};
+ghost use Rattle.lift_words.specs.Taken.{AreCaseSizes, AreDayOptions, AreRootOptions, AreSolveOptions};
+ghost use Rattle.lift_words.specs.Taken.{AreTaken, AsksBy, AsksForDay, AsksForLimits, AsksForRoot};
+ghost use Rattle.lift_words.specs.Taken.{AsksForSearch, AsksForSizes, AsksForWorkers, AsksToCheck};
 ghost use Rattle.lift_words.specs.Taken.{AsksToSolve, IsInRange, IsSecond, IsWithin, number_of};
 ghost use Rattle.option_words.specs.Options.{ExactlyWhere};
 ghost use Rattle.lift_words.specs.declared.request.Request.{Request};
@@ -18,7 +17,9 @@ use crate::request::{
 use crate::table::{CommandWord, NumberOption};
 use clap::ArgMatches;
 use option_words::{WordsFault, is_given};
+use search_model::Limits;
 use std::alloc::Global;
+use work_fan::Workers;
 
 /// Reads the words of the command line, of which the first is the program's name.
 ///
@@ -72,17 +73,15 @@ fn asked(command: CommandWord, matches: &ArgMatches<'_>) -> Option<Request>
     }
 }
 
-/// The options of `solve`: those of a search, the limit of claims, and two flags.
+/// The options of `solve`: limits and workers of a search, the limit of claims, and two flags.
 fn solve_options(matches: &ArgMatches<'_>) -> Option<SolveOptions>
     ensures asked { let rows = rows_of (found_of matches.now) in
         ExactlyWhere (AsksToSolve rows) result }
     ensures within { IfSome result AreSolveOptions }
 {
-    let limits = search_options(matches)?;
     Some(SolveOptions {
-        rounds: limits.rounds,
-        moves: limits.moves,
-        workers: limits.workers,
+        limits: limits(matches)?,
+        workers: workers(matches)?,
         claims: number(matches, NumberOption::Claims)?,
         brief: is_given(matches, "brief"),
         progress: is_given(matches, "progress"),
@@ -91,13 +90,11 @@ fn solve_options(matches: &ArgMatches<'_>) -> Option<SolveOptions>
 
 /// The options of `check` and `audit`.
 fn check_options(matches: &ArgMatches<'_>) -> Option<CheckOptions>
-    ensures asked { let rows = rows_of (found_of matches.now) in
+    ensures { let rows = rows_of (found_of matches.now) in
         ExactlyWhere (AsksToCheck rows) result }
-    ensures within { IfSome result AreCheckOptions }
 {
-    let workers = number(matches, NumberOption::Workers)?;
     Some(CheckOptions {
-        workers: workers as u32,
+        workers: workers(matches)?,
     })
 }
 
@@ -117,18 +114,35 @@ fn day_options(matches: &ArgMatches<'_>) -> Option<DayOptions>
 
 /// The options of a search.
 fn search_options(matches: &ArgMatches<'_>) -> Option<SearchOptions>
-    ensures asked { let rows = rows_of (found_of matches.now) in
+    ensures { let rows = rows_of (found_of matches.now) in
         ExactlyWhere (AsksForSearch rows) result }
-    ensures within { IfSome result AreSearchOptions }
+{
+    Some(SearchOptions {
+        limits: limits(matches)?,
+        workers: workers(matches)?,
+    })
+}
+
+/// How far a search may go.
+fn limits(matches: &ArgMatches<'_>) -> Option<Limits>
+    ensures asked { let rows = rows_of (found_of matches.now) in
+        ExactlyWhere (AsksForLimits rows) result }
+    ensures none { let rows = rows_of (found_of matches.now) in
+        result ≡ None → IsSome (number_of rows NumberOption.Rounds)
+        → IsSome (number_of rows NumberOption.Moves) → ⊥ }
 {
     let rounds = number(matches, NumberOption::Rounds)?;
-    let moves = number(matches, NumberOption::Moves)?;
-    let workers = number(matches, NumberOption::Workers)?;
-    Some(SearchOptions {
-        rounds,
-        moves,
-        workers: workers as u32,
-    })
+    let most_tours = number(matches, NumberOption::Moves)?;
+    Limits::new(rounds, most_tours)
+}
+
+/// How many workers share the work.
+fn workers(matches: &ArgMatches<'_>) -> Option<Workers>
+    ensures { let rows = rows_of (found_of matches.now) in
+        ExactlyWhere (AsksForWorkers rows) result }
+{
+    let count = number(matches, NumberOption::Workers)?;
+    Workers::new(count as u32)
 }
 
 /// The options of `root`.
@@ -153,8 +167,7 @@ fn asked_of_make(matches: &ArgMatches<'_>) -> Option<Request>
 {
     let options = RunOptions {
         sizes: case_sizes(matches)?,
-        rounds: number(matches, NumberOption::Rounds)?,
-        moves: number(matches, NumberOption::Moves)?,
+        limits: limits(matches)?,
     };
     if is_given(matches, "run") {
         Some(Request::Run(options))

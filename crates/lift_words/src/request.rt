@@ -2,6 +2,9 @@
 ghost use Rattle.std.specs.Prelude.{◌≡◌, ◌≤◌, ◌^◌, IfSome};
 ghost use Rattle.lift_words.specs.Taken.{AreDayOptions, most_claims, without_certificates};
 
+use search_model::Limits;
+use work_fan::Workers;
+
 /// What the words of the command line ask for.
 #[derive(Clone, Copy)]
 pub enum Request {
@@ -32,12 +35,11 @@ pub enum Request {
 /// The options of `solve`.
 #[derive(Clone, Copy)]
 pub struct SolveOptions {
-    /// `--rounds`: at most this many rounds, 1 to 10^18. The default is 2000.
-    pub rounds: u64,
-    /// `--moves`: at most this many partial tours in one pricing, 1 to 10^18. The default is 75000.
-    pub moves: u64,
+    /// `--rounds` and `--moves`: at most this many rounds, and at most this many partial tours in one pricing,
+    /// each 1 to 10^18. The defaults are 2000 and 75000.
+    pub limits: Limits,
     /// `--workers`: this many threads, 1 to 16. The default is 1.
-    pub workers: u32,
+    pub workers: Workers,
     /// `--claims`: the claims of the certificate sum to at most this, 1 to 10^10. The default is 10^9.
     pub claims: u64,
     /// `--brief`: no certificate is to be written.
@@ -50,7 +52,7 @@ pub struct SolveOptions {
 #[derive(Clone, Copy)]
 pub struct CheckOptions {
     /// `--workers`: this many threads, 1 to 16. The default is 1.
-    pub workers: u32,
+    pub workers: Workers,
 }
 
 /// The options of `day`.
@@ -70,12 +72,11 @@ pub struct DayOptions {
 /// workers.
 #[derive(Clone, Copy)]
 pub struct SearchOptions {
-    /// `--rounds`: at most this many rounds, 1 to 10^18. The default is 2000.
-    pub rounds: u64,
-    /// `--moves`: at most this many partial tours in one pricing, 1 to 10^18. The default is 75000.
-    pub moves: u64,
+    /// `--rounds` and `--moves`: at most this many rounds, and at most this many partial tours in one pricing,
+    /// each 1 to 10^18. The defaults are 2000 and 75000.
+    pub limits: Limits,
     /// `--workers`: this many threads, 1 to 16. The default is 1.
-    pub workers: u32,
+    pub workers: Workers,
 }
 
 impl SearchOptions {
@@ -131,8 +132,7 @@ pub struct CaseSizes {
 pub struct RunOptions {
     /// The sizes of the case.
     pub sizes: CaseSizes,
-    /// `--rounds`: at most this many rounds, 1 to 10^18. The default is 2000.
-    pub rounds: u64,
-    /// `--moves`: at most this many partial tours in one pricing, 1 to 10^18. The default is 75000.
-    pub moves: u64,
+    /// `--rounds` and `--moves`: at most this many rounds, and at most this many partial tours in one pricing,
+    /// each 1 to 10^18. The defaults are 2000 and 75000.
+    pub limits: Limits,
 }

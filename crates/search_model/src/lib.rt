@@ -30,11 +30,13 @@
 
 mod draws;
 mod items;
+mod limits;
 
 use call_sets::CarSet;
 pub use draws::Draws;
 use elevator_model::{BadPlan, Plan, Tour};
 pub use items::Items;
+pub use limits::Limits;
 use price_scale::Price;
 
 /// The price of a call, in a leaf of a certificate.
