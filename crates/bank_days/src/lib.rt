@@ -5,22 +5,22 @@
 //!
 //! # What is promised
 //!
-//! - `run_banks`, for any planner and 1 to 16 workers: in place `k` stands a log of the day of bank `k` over
+//! - `run_banks`, for any planner and any crew: in place `k` stands a log of the day of bank `k` over
 //!   its own rows (`AreBankLogs`). Each row does its step of the definition, with a plan that is right in the
 //!   planner's sense where it is accepted. No accepted call is lost: each boards once and is delivered once,
 //!   not before its release and not before it boards. Whether some bound is below its cost is told exactly.
 //!   It fails only where there is no memory left.
 //!
-//! A planner is a trait and not a function, so that one that starts threads can be asked in a job: what it
-//! needs for that is told by `can_plan`. What a row does and what a log says are the definitions of a day
-//! over the lines of a text (`day_runner`).
+//! What a row does and what a log says are the definitions of a day over the lines of a text (`day_runner`).
 #![tactic(auto)]
 
+mod crews;
 mod logs;
 mod planners;
 mod running;
 
 pub use bank_text::{Bank, BankRow};
+pub use crews::BanksCrew;
 pub use logs::BankLog;
 pub use planners::Planner;
-pub use running::run_banks;
+pub use running::{BankJobs, run_banks};

@@ -13,12 +13,8 @@ pub trait Planner {
     /// The plan with its cost and bound is right for the snapshot, with what a log says in their place.
     ghost right: { Self → SnapshotValue → Stated → List ℕ → Type 0 };
 
-    /// It can be asked for a plan.
-    ghost can_plan: { Self → Type 0 };
-
     /// A plan of the snapshot. It fails only where there is no memory left.
     fn plan(&self, snapshot: &Snapshot) -> Result<Planned, AllocError>
-        requires { can_plan self.now }
         ensures { IfOk result (λ planned.
             right self.now snapshot.now planned.stated planned.proof.items) };
 }

@@ -11,6 +11,7 @@ ghost use Rattle.day_laws.specs.Standing.{row_number};
 ghost use Rattle.bank_text.specs.BankRows.{row_said};
 ghost use Rattle.bank_days.specs.Banks.{AreBankLogs, AreRowsAppended, IsDayLog, IsRunnable};
 
+use crate::crews::BanksCrew;
 use crate::logs::BankLog;
 use crate::planners::Planner;
 use bank_text::{Bank, BankRow};
@@ -20,8 +21,7 @@ use day_runner::FIRST_LINE;
 use day_simulator::{Day, RowAnswer};
 use std::alloc::{AllocError, Global};
 use std::marker::Sync;
-use std::thread::Threads;
-use work_fan::{Jobs, MOST_WORKERS, Runtime, fan};
+use work_fan::{Jobs, MOST_WORKERS, Runtime};
 
 /// A worker has nothing at its desk.
 const MOST_DESKS: usize = MOST_WORKERS as usize;
@@ -35,7 +35,6 @@ fn run_line<P: Planner>(
     day: &mut Day,
     log: &mut Vec<u8>,
 ) -> Result<RowAnswer, AllocError>
-    requires can_plan { P.can_plan planner.now }
     requires sound { PlannerLaw (P.right planner.now) }
     requires number { row_number day.old < 2 ^ 32 }
     ensures done { IfOk result (IsRowDone (P.right planner.now) day.old (row_of_line line.now)
@@ -44,7 +43,6 @@ fn run_line<P: Planner>(
     ensures number { OnOk result (row_number day.new ≡ row_number day.old + 1) }
 {
     let plan = |snapshot: &Snapshot|
-        requires { P.can_plan planner.now }
         ensures { IfOk result (λ planned.
             P.right planner.entry.now snapshot.now planned.stated planned.proof.items) }
     { planner.plan(snapshot) };
@@ -60,7 +58,6 @@ fn run_row<P: Planner>(
     day: &mut Day,
     log: &mut Vec<u8>,
 ) -> Result<RowAnswer, AllocError>
-    requires can_plan { P.can_plan planner.now }
     requires sound { PlannerLaw (P.right planner.now) }
     requires number { row_number day.old < 2 ^ 32 }
     ensures done { IfOk result (IsRowDone (P.right planner.now) day.old (row_said row.now)
@@ -83,7 +80,6 @@ fn run_rows<P: Planner>(
     day: &mut Day,
     log: &mut Vec<u8>,
 ) -> Result<(), AllocError>
-    requires can_plan { P.can_plan planner.now }
     requires sound { PlannerLaw (P.right planner.now) }
     requires few { row_number day.old + length rows.now ≤ 2 ^ 32 }
     requires none_lost { IsTrue (loses_none day.old) }
@@ -113,15 +109,12 @@ fn open_day(alloc: Global, opening: &Snapshot) -> Result<Day, AllocError>
 }
 
 /// Runs the day of the opening over the rows. It fails only where there is no memory left.
-///
-/// It does not ask that threads may share the planner: where it did, no job could call it.
 fn run_day<P: Planner>(
     alloc: Global,
     planner: &P,
     opening: &Snapshot,
     rows: &[BankRow],
 ) -> Result<BankLog, AllocError>
-    requires can_plan { P.can_plan planner.now }
     requires sound { PlannerLaw (P.right planner.now) }
     requires opening { IsOpeningSnapshot opening.now }
     requires few { length rows.now < 2 ^ 32 }
@@ -137,7 +130,7 @@ fn run_day<P: Planner>(
 
 /// Banks: job `k` is to run the day of bank `k`.
 #[derive(Drop)]
-struct BankJobs<'a, P: Planner + Sync> {
+pub struct BankJobs<'a, P: Planner + Sync> {
     alloc: Global,
     planner: &'a P,
     banks: &'a [Bank],
@@ -157,7 +150,7 @@ impl<'a, P: Planner + Sync> Jobs for BankJobs<'a, P> {
 
     ghost number = { λ it. length it.banks.now };
 
-    ghost serves = { λ it desk. P.can_plan it.planner.now × PlannerLaw (P.right it.planner.now) };
+    ghost serves = { λ it desk. PlannerLaw (P.right it.planner.now) };
 
     ghost is_right = { λ it k log. (bank : BankValue) → slice_get it.banks.now k ≡ Some bank
         → IsBankLog (P.right it.planner.now) bank log };
@@ -177,22 +170,18 @@ impl<'a, P: Planner + Sync> Jobs for BankJobs<'a, P> {
     }
 }
 
-/// Runs the day of each bank over its rows, with 1 to 16 workers: in place `k` stands a log of bank `k`.
+/// Runs the day of each bank over its rows, by the runtime's crew: in place `k` stands a log of bank `k`.
 ///
 /// Each bank is one job, and rows are numbered in their bank. Each opening has no calls and nobody aboard,
-/// and each bank has fewer than 2^32 rows. `gate` is told of each bank before it begins. It fails only where
-/// there is no memory left.
-pub fn run_banks<P: Planner + Sync, R: Threads + Sync, G: Gate + Sync>(
-    runtime: &Runtime<R, G>,
+/// and each bank has fewer than 2^32 rows. It fails only where there is no memory left.
+pub fn run_banks<P: Planner + Sync, C: BanksCrew<P>, G: Gate>(
+    runtime: &Runtime<C, G>,
     planner: &P,
     banks: &[Bank],
-    workers: u32,
 ) -> Result<Vec<BankLog>, AllocError>
-    requires can_plan { P.can_plan planner.now }
     requires sound { PlannerLaw (P.right planner.now) }
     requires few { length banks.now < 2 ^ 32 }
     requires banks { All IsRunnable banks.now }
-    requires workers { (1 ≤ workers) × (workers ≤ MOST_WORKERS) }
     ensures { IfOk result (λ logs. AreBankLogs (P.right planner.now) banks.now logs.items) }
 {
     let jobs = BankJobs {
@@ -201,11 +190,8 @@ pub fn run_banks<P: Planner + Sync, R: Threads + Sync, G: Gate + Sync>(
         banks,
     };
     let mut desks = [(); MOST_DESKS];
-    fan(
-        runtime.threads,
-        runtime.alloc,
-        &jobs,
-        &mut desks[..workers as usize],
-        runtime.gate,
-    )
+    let workers = runtime.workers.count() as usize;
+    runtime
+        .crew
+        .run_all(runtime.alloc, &jobs, &mut desks[..workers])
 }

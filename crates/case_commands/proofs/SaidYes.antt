@@ -157,7 +157,7 @@ behind_input input a b c = ap (λ (x : List ℕ). x ++ c) (append_assoc input a 
 
 -- what `solve` writes, where that is so
 pub said_yes : (options : SolveOptions) (s : Snapshot) → IsAccepted s → (stated : Stated) (tree : List Twig) (turns : List Turn) (why : StopReason)
-    → IsSolveAnswer s options.rounds options.moves stated.plan stated.cost stated.bound tree turns why → (bound : ℕ) (certificate : List Twig) → IsPrinted options s stated tree bound certificate → All IsSizedTwig certificate → length certificate ≤ length tree
+    → IsSolveAnswer s options.limits.rounds options.limits.most_tours stated.plan stated.cost stated.bound tree turns why → (bound : ℕ) (certificate : List Twig) → IsPrinted options s stated tree bound certificate → All IsSizedTwig certificate → length certificate ≤ length tree
     → (input text : List ℕ) → IsCaseText input s → CanBeChecked options input → (solved : Bool)
     → text ≡ answer_text s (record { plan = stated.plan; cost = stated.cost; bound = bound }) ++ certificate_part options s certificate ++ closing_line s (ending_of why options.claims solved) → IsSaidYes (input ++ text) s
 said_yes options s accepted stated tree turns why answer bound certificate printed sized shorter input text case can solved is =
@@ -168,13 +168,13 @@ said_yes options s accepted stated tree turns why answer bound certificate print
     let one : input ++ answer_text s shown ++ cert_text s certificate ++ closing ≡ input ++ text = behind_input input (answer_text s shown) (cert_text s certificate) closing ∙ sym (ap (λ (x : List ℕ). input ++ x) there) in
     let twigs = answer.twigs in
     let rounds = can.rounds in
-    let low = bound_low s options.rounds options.moves stated.plan stated.cost stated.bound tree turns why answer in
+    let low = bound_low s options.limits.rounds options.limits.most_tours stated.plan stated.cost stated.bound tree turns why answer in
     let lower = certified.low in
-    subst (λ (x : List ℕ). IsSaidYes x s) one (yes_behind s accepted options.claims stated tree bound certificate certified sized input closing case can.ended can.short (omega (arith, low, lower)) (omega (arith, shorter, twigs, rounds)) can.claims (λ ids. closes s options.rounds options.moves options.claims stated.cost stated.bound bound tree why ids can.rounds can.moves can.claims answer.reason solved))
+    subst (λ (x : List ℕ). IsSaidYes x s) one (yes_behind s accepted options.claims stated tree bound certificate certified sized input closing case can.ended can.short (omega (arith, low, lower)) (omega (arith, shorter, twigs, rounds)) can.claims (λ ids. closes s options.limits.rounds options.limits.most_tours options.claims stated.cost stated.bound bound tree why ids can.rounds can.moves can.claims answer.reason solved))
 
 -- the same, with the ending as it was found
 pub said_yes_as : (options : SolveOptions) (s : Snapshot) → IsAccepted s → (stated : Stated) (tree : List Twig) (turns : List Turn) (why : StopReason)
-    → IsSolveAnswer s options.rounds options.moves stated.plan stated.cost stated.bound tree turns why → (bound : ℕ) (certificate : List Twig) → IsPrinted options s stated tree bound certificate → All IsSizedTwig certificate → length certificate ≤ length tree
+    → IsSolveAnswer s options.limits.rounds options.limits.most_tours stated.plan stated.cost stated.bound tree turns why → (bound : ℕ) (certificate : List Twig) → IsPrinted options s stated tree bound certificate → All IsSizedTwig certificate → length certificate ≤ length tree
     → (input text : List ℕ) → IsCaseText input s → CanBeChecked options input → (solved : Bool) (end : Ending) → end ≡ ending_of why options.claims solved
     → text ≡ answer_text s (record { plan = stated.plan; cost = stated.cost; bound = bound }) ++ certificate_part options s certificate ++ closing_line s end → IsSaidYes (input ++ text) s
 said_yes_as options s accepted stated tree turns why answer bound certificate printed sized shorter input text case can solved end end_is is =

@@ -58,7 +58,7 @@ printed_low : (options : SolveOptions) (s : Snapshot) (stated : Stated) (tree : 
 printed_low options s stated tree bound certificate printed true e = (let same = printed.brief e in omega (arith, same))
 printed_low options s stated tree bound certificate printed false e = (printed.certified e).low
 
-module _ (options : SolveOptions) (s : Snapshot) (stated : Stated) (tree : List Twig) (turns : List Turn) (why : StopReason) (accepted : IsAccepted s) (answer : IsSolveAnswer s options.rounds options.moves stated.plan stated.cost stated.bound tree turns why)
+module _ (options : SolveOptions) (s : Snapshot) (stated : Stated) (tree : List Twig) (turns : List Turn) (why : StopReason) (accepted : IsAccepted s) (answer : IsSolveAnswer s options.limits.rounds options.limits.most_tours stated.plan stated.cost stated.bound tree turns why)
     (bound : ℕ) (certificate : List Twig) (printed : IsPrinted options s stated tree bound certificate) where
   abbrev shown : Stated
   shown = record { plan = stated.plan; cost = stated.cost; bound = bound }
@@ -69,7 +69,7 @@ module _ (options : SolveOptions) (s : Snapshot) (stated : Stated) (tree : List 
   -- where cost and printed bound are equal, they are those of the search
   best : stated.cost ≡ bound → IsOptimal s stated.plan
   best same =
-      let low = bound_low s options.rounds options.moves stated.plan stated.cost stated.bound tree turns why answer in
+      let low = bound_low s options.limits.rounds options.limits.most_tours stated.plan stated.cost stated.bound tree turns why answer in
       let lower = printed_low options s stated tree bound certificate printed options.brief refl in
       best_plan s stated.plan stated.cost stated.bound tree accepted answer.proves (omega (arith, low, lower, same))
 

@@ -53,7 +53,7 @@ module _ (s : Snapshot) (rounds moves cost bound : ℕ) (tree : List Twig) (stat
 -- ---- the lines, and how the command ends
 
 module _ (options : RunOptions) (s : Snapshot) (plan : List (List Stop)) (cost bound : ℕ) (tree : List Twig) (turns : List Turn) (why : StopReason) where
-  pub solved_lines : IsCaseOf options.sizes s → IsAccepted s → IsSolveAnswer s options.rounds options.moves plan cost bound tree turns why
+  pub solved_lines : IsCaseOf options.sizes s → IsAccepted s → IsSolveAnswer s options.limits.rounds options.limits.most_tours plan cost bound tree turns why
       → (status : Status) (text : List ℕ) → status ≡ status_of why → text ≡ run_text options.sizes cost bound → IsSolvedCase options status text
   solved_lines case accepted answer status text is written = record {
     snapshot = s;
@@ -66,14 +66,14 @@ module _ (options : RunOptions) (s : Snapshot) (plan : List (List Stop)) (cost b
     turns = turns;
     why = why;
     answer = answer;
-    done = done_at s options.rounds options.moves cost bound tree status why is answer.reason;
-    stopped = stopped_at s options.rounds options.moves cost bound tree status why is answer.reason;
-    optimal = optimal s options.rounds options.moves plan cost bound tree turns why accepted answer status is;
+    done = done_at s options.limits.rounds options.limits.most_tours cost bound tree status why is answer.reason;
+    stopped = stopped_at s options.limits.rounds options.limits.most_tours cost bound tree status why is answer.reason;
+    optimal = optimal s options.limits.rounds options.limits.most_tours plan cost bound tree turns why accepted answer status is;
     is_text = written;
   }
 
 module _ (options : RunOptions) (status : Status) (text : List ℕ) (solved : IsSolvedCase options status text) where
-  by_reason : (why : StopReason) → IsReason solved.snapshot options.rounds options.moves solved.cost solved.bound solved.tree why → (status ≡ Done) ⊎ (status ≡ Stopped)
+  by_reason : (why : StopReason) → IsReason solved.snapshot options.limits.rounds options.limits.most_tours solved.cost solved.bound solved.tree why → (status ≡ Done) ⊎ (status ≡ Stopped)
   by_reason Solved reason = inl (solved.done.1 reason)
   by_reason (Rounds done) reason = inr (solved.stopped.1 reason.below)
   by_reason (Moves car count) reason = inr (solved.stopped.1 reason.below)
@@ -83,7 +83,7 @@ module _ (options : RunOptions) (status : Status) (text : List ℕ) (solved : Is
 
   -- the lines that were put, unless the sink failed
   pub is_case_solved : (result : Status) → result ≡ status
-      → ((s : Snapshot) → IsCaseOf options.sizes s → rounds_enough s ≤ options.rounds → moves_enough s ≤ options.moves → status ≡ Done) → IsCaseSolved options result
+      → ((s : Snapshot) → IsCaseOf options.sizes s → rounds_enough s ≤ options.limits.rounds → moves_enough s ≤ options.limits.most_tours → status ≡ Done) → IsCaseSolved options result
   is_case_solved result put enough = record {
     ended = elim is_ended [ inl done ↦ first (put ∙ done) | inr stopped ↦ second (put ∙ stopped) ];
     enough = λ s case rounds moves. inl (put ∙ enough s case rounds moves);

@@ -69,7 +69,7 @@ pub record IsSolvedCase (options : RunOptions) (status : Status) (text : List �
   pub tree : List Twig
   pub turns : List Turn
   pub why : StopReason
-  pub answer : IsSolveAnswer snapshot options.rounds options.moves plan cost bound tree turns why
+  pub answer : IsSolveAnswer snapshot options.limits.rounds options.limits.most_tours plan cost bound tree turns why
   pub done : (status ≡ Done) ↔ (cost ≡ bound)
   pub stopped : (status ≡ Stopped) ↔ (bound < cost)
   pub optimal : status ≡ Done → IsOptimal snapshot plan
@@ -89,5 +89,5 @@ SolvedCaseDue options Memory text = ⊥
 -- The case is solved within the limits, or memory is wanting; and where the limits are enough for it, no limit is reached.
 pub record IsCaseSolved (options : RunOptions) (status : Status) : Type 0 where
   pub ended : (status ≡ Done) ⊎ (status ≡ Stopped) ⊎ (status ≡ Memory)
-  pub enough : (s : Snapshot) → IsCaseOf options.sizes s → rounds_enough s ≤ options.rounds → moves_enough s ≤ options.moves
+  pub enough : (s : Snapshot) → IsCaseOf options.sizes s → rounds_enough s ≤ options.limits.rounds → moves_enough s ≤ options.limits.most_tours
       → (status ≡ Done) ⊎ (status ≡ Memory)

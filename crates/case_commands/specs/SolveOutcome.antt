@@ -73,7 +73,7 @@ pub record IsSolution (options : SolveOptions) (s : Snapshot) (status : Status) 
   pub tree : List Twig
   pub turns : List Turn
   pub why : StopReason
-  pub answer : IsSolveAnswer s options.rounds options.moves stated.plan stated.cost stated.bound tree turns why
+  pub answer : IsSolveAnswer s options.limits.rounds options.limits.most_tours stated.plan stated.cost stated.bound tree turns why
   pub bound : ℕ
   pub certificate : List Twig
   pub printed : IsPrinted options s stated tree bound certificate
@@ -98,8 +98,8 @@ pub record IsSaidYes (bytes : List ℕ) (s : Snapshot) : Type 0 where
 -- are no greater than the defaults.
 pub record CanBeChecked (options : SolveOptions) (input : List ℕ) : Type 0 where
   pub certificate : options.brief ≡ false
-  pub rounds : options.rounds ≤ 2000
-  pub moves : options.moves ≤ 75000
+  pub rounds : options.limits.rounds ≤ 2000
+  pub moves : options.limits.most_tours ≤ 75000
   pub claims : options.claims ≤ 1000000000
   pub ended : IsTrue (ends_with_byte 10 input)
   pub short : length input ≤ 1000000
@@ -135,9 +135,9 @@ SolveDue options left left' Memory text = ⊥
 
 -- the limits are enough for the snapshot: those of the search, and for a certificate also the limit of claims
 pub record AreEnough (options : SolveOptions) (s : Snapshot) : Type 0 where
-  pub rounds : rounds_enough s ≤ options.rounds
-  pub moves : moves_enough s ≤ options.moves
-  pub claims : options.brief ≡ false → AreClaimsEnough options.rounds options.claims s
+  pub rounds : rounds_enough s ≤ options.limits.rounds
+  pub moves : moves_enough s ≤ options.limits.most_tours
+  pub claims : options.brief ≡ false → AreClaimsEnough options.limits.rounds options.claims s
 
 -- The input is the text of a snapshot, so a plan is answered, unless the source or the sink fails or memory is wanting;
 -- and where the limits are enough for the snapshot, no limit is reached.

@@ -6,30 +6,24 @@ ghost use Rattle.lift_text.specs.Reading.{whole_text};
 ghost use Rattle.lift_text.specs.Shows.{FaultShows};
 ghost use Rattle.check_text.specs.CheckTexts.{IsChecked, IsRefusedCheck, TakesChecks};
 ghost use Rattle.check_text.specs.VerdictTexts.{IsToldOf, verdict_text};
-ghost use Rattle.lift_words.specs.Taken.{AreCheckOptions};
 ghost use Rattle.command_ends.specs.Ends.{Ends, streams};
 ghost use Rattle.case_commands.specs.CheckOutcome.{CheckDue, Checks, RefusesChecks};
 ghost use Rattle.case_commands.specs.CheckOutcome.{status_of_verdict as status_of_verdict_lem};
 
 use crate::status::status_of_verdict;
 use byte_streams::{Gate, Sink, Source};
+use cert_checker::JudgingCrew;
 use check_text::{Checked, read_check, write_verdict};
 use command_ends::{Answer, Status, put, put_fault};
 use lift_text::{LineReader, TextFault};
-use lift_words::CheckOptions;
 use std::alloc::{AllocError, Global};
-use std::marker::Sync;
-use std::thread::Threads;
+use work_fan::Runtime;
 
 /// What the whole input states, and the verdict on it.
-fn read_input<S: Source, G: Gate + Sync>(
-    rt: &(impl Threads + Sync),
-    alloc: Global,
-    options: CheckOptions,
+fn read_input<S: Source, C: JudgingCrew, G: Gate>(
+    runtime: &Runtime<C, G>,
     source: &mut S,
-    gate: &G,
 ) -> Result<Checked, TextFault>
-    requires { AreCheckOptions options }
     ensures checked { IfOk result (IsChecked (option_map whole_text (S.left source.old))) }
     ensures refused { IfErr result (IsRefusedCheck (option_map whole_text (S.left source.old))) }
     ensures takes { TakesChecks (option_map whole_text (S.left source.old)) result }
@@ -40,11 +34,11 @@ fn read_input<S: Source, G: Gate + Sync>(
     ensures read { IsErrOf result TextFault.Read
         → Rose (S.faults source.old) (S.faults source.new) }
 {
-    let mut lines = match LineReader::new(alloc, source) {
+    let mut lines = match LineReader::new(runtime.alloc, source) {
         Ok(lines) => lines,
         Err(_) => return Err(TextFault::NoMemory),
     };
-    let read = read_check(rt, alloc, &mut lines, options.workers, gate);
+    let read = read_check(runtime, &mut lines);
     lines.into_source();
     read
 }
@@ -64,15 +58,11 @@ fn verdict_answer(alloc: Global, checked: &Checked) -> Result<Answer, AllocError
 
 /// Reads a case with an answer and a certificate, and writes whether the certificate proves the answer, or
 /// why not; or what is wrong with the input.
-pub fn check<S: Source, K: Sink, G: Gate + Sync>(
-    rt: &(impl Threads + Sync),
-    alloc: Global,
-    options: CheckOptions,
+pub fn check<S: Source, K: Sink, C: JudgingCrew, G: Gate>(
+    runtime: &Runtime<C, G>,
     source: &mut S,
     sink: &mut K,
-    gate: &G,
 ) -> Status
-    requires { AreCheckOptions options }
     ensures ends { Ends (CheckDue (S.left source.old) (S.left source.new))
         (streams (S.left source.old) (K.taken sink.old) (S.faults source.old) (K.faults sink.old))
         (streams (S.left source.new) (K.taken sink.new) (S.faults source.new)
@@ -86,11 +76,11 @@ pub fn check<S: Source, K: Sink, G: Gate + Sync>(
         (streams (S.left source.new) (K.taken sink.new) (S.faults source.new)
         (K.faults sink.new)) result }
 {
-    match read_input(rt, alloc, options, source, gate) {
-        Ok(checked) => match verdict_answer(alloc, &checked) {
+    match read_input(runtime, source) {
+        Ok(checked) => match verdict_answer(runtime.alloc, &checked) {
             Ok(answer) => put(sink, answer.text.as_slice(), answer.status),
             Err(_) => Status::Memory,
         },
-        Err(fault) => put_fault(alloc, fault, sink),
+        Err(fault) => put_fault(runtime.alloc, fault, sink),
     }
 }

@@ -16,10 +16,9 @@ use case_text::write_case;
 use command_ends::{Answer, Status, put};
 use lift_text::put_line;
 use lift_words::{CaseSizes, RunOptions};
-use snapshot_solver::{Limits, solve};
+use snapshot_solver::{SearchCrew, solve};
 use std::alloc::{AllocError, Global};
-use std::marker::Sync;
-use std::thread::Threads;
+use work_fan::Runtime;
 
 /// The generated case with this number and these sizes.
 fn case_of(alloc: Global, sizes: CaseSizes) -> Result<Snapshot, AllocError>
@@ -70,27 +69,21 @@ fn run_lines(alloc: Global, sizes: CaseSizes, cost: u64, bound: u64) -> Result<V
     Ok(text)
 }
 
-/// What one worker finds of the generated case within the limits, as lines.
-fn solved_case<G: Gate + Sync>(
-    rt: &(impl Threads + Sync),
-    alloc: Global,
+/// What the search finds of the generated case within the limits, as lines.
+fn solved_case<C: SearchCrew, G: Gate>(
+    runtime: &Runtime<C, G>,
     options: RunOptions,
-    gate: &G,
 ) -> Result<Answer, AllocError>
     requires { AreRunOptions options }
     ensures solved { IfOk result (λ answer. IsSolvedCase options answer.status answer.text.items) }
     ensures enough { (s : SnapshotLem) → IsCaseOf options.sizes s
-        → rounds_enough s ≤ options.rounds → moves_enough s ≤ options.moves
+        → rounds_enough s ≤ options.limits.rounds → moves_enough s ≤ options.limits.most_tours
         → IfOk result (λ answer. answer.status ≡ Status.Done) }
 {
     let sizes = options.sizes;
-    let snapshot = case_of(alloc, sizes)?;
-    let limits = Limits {
-        rounds: options.rounds,
-        most_tours: options.moves,
-    };
-    let found = solve(rt, alloc, &snapshot, limits, 1, gate)?;
-    let text = run_lines(alloc, sizes, found.stated.cost, found.stated.bound)?;
+    let snapshot = case_of(runtime.alloc, sizes)?;
+    let found = solve(runtime, &snapshot, options.limits)?;
+    let text = run_lines(runtime.alloc, sizes, found.stated.cost, found.stated.bound)?;
     Ok(Answer {
         status: status_of(found.why),
         text,
@@ -99,12 +92,10 @@ fn solved_case<G: Gate + Sync>(
 
 /// Solves a generated case and writes its number and sizes, and the cost and the bound that were found.
 /// Nothing is read.
-pub fn write_solved_case<K: Sink, G: Gate + Sync>(
-    rt: &(impl Threads + Sync),
-    alloc: Global,
+pub fn write_solved_case<K: Sink, C: SearchCrew, G: Gate>(
+    runtime: &Runtime<C, G>,
     options: RunOptions,
     sink: &mut K,
-    gate: &G,
 ) -> Status
     requires { AreRunOptions options }
     ensures ends { (left : Option (List ℕ)) (faults : ℕ) → Ends (SolvedCaseDue options)
@@ -112,7 +103,7 @@ pub fn write_solved_case<K: Sink, G: Gate + Sync>(
         (streams left (K.taken sink.new) faults (K.faults sink.new)) result }
     ensures solves { (Rose (K.faults sink.old) (K.faults sink.new) → ⊥) → IsCaseSolved options result }
 {
-    match solved_case(rt, alloc, options, gate) {
+    match solved_case(runtime, options) {
         Ok(answer) => put(sink, answer.text.as_slice(), answer.status),
         Err(_) => Status::Memory,
     }

@@ -25,7 +25,7 @@ use assign_branch::Tree;
 use byte_streams::{Gate, Sink, Source};
 use call_state::Snapshot;
 use case_text::read_lone_case;
-use cert_claims::Claimed;
+use cert_claims::{Claimed, CountingCrew};
 use cert_text::write_cert;
 use certified_search::certify;
 use command_ends::{Answer, Status, put, put_fault};
@@ -33,10 +33,8 @@ use elevator_model::MOST_CALLS;
 use lift_text::{LineReader, TextFault, put_line};
 use lift_words::SolveOptions;
 use search_model::{Stated, Twig};
-use snapshot_solver::{Limits, solve as solve_within};
+use snapshot_solver::{SearchCrew, solve as solve_within};
 use std::alloc::{AllocError, Global};
-use std::marker::Sync;
-use std::thread::Threads;
 use work_fan::Runtime;
 
 /// The snapshot that the whole input is the text of.
@@ -82,8 +80,8 @@ fn put_closing(snapshot: &Snapshot, ending: Ending, text: &mut Vec<u8>) -> Resul
 /// that this proves.
 ///
 /// It fails only where there is no memory left.
-fn printed<G: Gate + Sync>(
-    runtime: &Runtime<impl Threads + Sync, G>,
+fn printed<C: CountingCrew, G: Gate>(
+    runtime: &Runtime<C, G>,
     options: SolveOptions,
     snapshot: &Snapshot,
     stated: &Stated,
@@ -107,14 +105,7 @@ fn printed<G: Gate + Sync>(
             cut: false,
         });
     }
-    certify(
-        runtime,
-        snapshot,
-        stated,
-        tree,
-        options.claims,
-        options.workers,
-    )
+    certify(runtime, snapshot, stated, tree, options.claims)
 }
 
 /// Appends the certificate, where one is wanted.
@@ -159,12 +150,10 @@ fn text_of(
 
 /// The text of a plan with its cost and a bound, with its certificate unless none is wanted, and why the
 /// search for it ended.
-fn solution_of<'a, G: Gate + Sync>(
-    rt: &'a (impl Threads + Sync),
-    alloc: Global,
+fn solution_of<C: SearchCrew + CountingCrew, G: Gate>(
+    runtime: &Runtime<C, G>,
     options: SolveOptions,
     snapshot: &Snapshot,
-    gate: &'a G,
 ) -> Result<Answer, AllocError>
     requires options { AreSolveOptions options }
     ensures solution { IfOk result (λ answer. IsSolution options snapshot.now answer.status answer.text.items) }
@@ -173,18 +162,9 @@ fn solution_of<'a, G: Gate + Sync>(
         → IfOk result (λ answer. IsSaidYes (input ++ answer.text.items) snapshot.now) }
 {
     prove!(snapshot.calls().len() <= MOST_CALLS);
-    let limits = Limits {
-        rounds: options.rounds,
-        most_tours: options.moves,
-    };
-    let found = solve_within(rt, alloc, snapshot, limits, options.workers, gate)?;
-    let runtime = Runtime {
-        threads: rt,
-        alloc,
-        gate,
-    };
+    let found = solve_within(runtime, snapshot, options.limits)?;
     let tree = found.tree;
-    let claimed = printed(&runtime, options, snapshot, &found.stated, tree)?;
+    let claimed = printed(runtime, options, snapshot, &found.stated, tree)?;
     let ending = Ending::of(
         found.why,
         options.claims,
@@ -194,7 +174,14 @@ fn solution_of<'a, G: Gate + Sync>(
         bound: claimed.bound,
         ..found.stated
     };
-    let text = text_of(alloc, options, snapshot, &stated, &claimed.tree, ending)?;
+    let text = text_of(
+        runtime.alloc,
+        options,
+        snapshot,
+        &stated,
+        &claimed.tree,
+        ending,
+    )?;
     Ok(Answer {
         status: ending.status(),
         text,
@@ -203,13 +190,11 @@ fn solution_of<'a, G: Gate + Sync>(
 
 /// Reads a case and writes the cheapest plan of it that the search finds within the limits, or what is wrong
 /// with the input.
-pub fn solve<S: Source, K: Sink, G: Gate + Sync>(
-    rt: &(impl Threads + Sync),
-    alloc: Global,
+pub fn solve<S: Source, K: Sink, C: SearchCrew + CountingCrew, G: Gate>(
+    runtime: &Runtime<C, G>,
     options: SolveOptions,
     source: &mut S,
     sink: &mut K,
-    gate: &G,
 ) -> Status
     requires { AreSolveOptions options }
     ensures ends { Ends (SolveDue options (S.left source.old) (S.left source.new))
@@ -225,11 +210,11 @@ pub fn solve<S: Source, K: Sink, G: Gate + Sync>(
         (streams (S.left source.new) (K.taken sink.new) (S.faults source.new)
         (K.faults sink.new)) result }
 {
-    match read_input(alloc, source) {
-        Ok(snapshot) => match solution_of(rt, alloc, options, &snapshot, gate) {
+    match read_input(runtime.alloc, source) {
+        Ok(snapshot) => match solution_of(runtime, options, &snapshot) {
             Ok(answer) => put(sink, answer.text.as_slice(), answer.status),
             Err(_) => Status::Memory,
         },
-        Err(fault) => put_fault(alloc, fault, sink),
+        Err(fault) => put_fault(runtime.alloc, fault, sink),
     }
 }

@@ -15,10 +15,11 @@ mod lending;
 mod lines;
 mod lookout;
 mod reading;
+mod watched;
 mod written;
 
 pub use checks::{Checks, are_right, print_kinds};
-pub use commands::{push_word, status_of};
+pub use commands::{push_word, status_of, watched_status_of};
 pub use costs::{boards_of, lawful_cost, plan_price};
 pub use draws::draws_of_case;
 pub use lending::is_so_of;

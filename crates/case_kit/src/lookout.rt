@@ -59,10 +59,16 @@ impl Lookout {
 }
 
 impl Gate for Lookout {
+    ghost never_stops = { λ _. Unit {0} };
+
     fn enter(&self, job: u32) {
         self.seen.fetch_or(bit_of(job), Ordering::SeqCst);
         if self.looks_out(job) && !self.sees_all() {
             self.seen.fetch_or(MISSED, Ordering::SeqCst);
         }
+    }
+
+    fn may_go_on(&self) -> bool {
+        true
     }
 }

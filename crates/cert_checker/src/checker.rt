@@ -10,6 +10,7 @@ ghost use Rattle.search_model.specs.Verdicts.{verdict_of};
 ghost use Rattle.cert_checker.specs.Judging.{HasSeen, HasWorthSizes, IsCheckerOf, IsStateOf, GoesOnTo};
 ghost use Rattle.cert_checker.specs.Judging.{reason_of_bad as reason_of_bad_lem};
 
+use crate::crews::JudgingCrew;
 use crate::judging::judge_tasks;
 use crate::plans::judge_stated;
 use crate::tasks::Piece;
@@ -18,9 +19,7 @@ use byte_streams::Gate;
 use call_state::Snapshot;
 use search_model::{Reason, Stated, Twig, Verdict};
 use std::alloc::{AllocError, Global};
-use std::marker::Sync;
-use std::thread::Threads;
-use work_fan::{MOST_WORKERS, Runtime};
+use work_fan::Runtime;
 
 /// What a checker has seen.
 #[derive(Drop)]
@@ -63,25 +62,20 @@ impl Checker {
     }
 
     /// Takes the next twigs of the tree, in preorder. Each leaf among them that is still to be judged is one
-    /// job, numbered from 0, of which `gate` is told before it begins; they are shared by `workers` workers,
-    /// 1 to 16.
+    /// job, numbered from 0; the runtime's crew does them.
     ///
     /// The snapshot has to be the checker's own. In all a checker takes fewer than 2^32 twigs, of which each
     /// worth is of absolute value at most 10^27. It fails only where there is no memory left, and then it is
     /// as before.
-    pub fn feed<G: Gate + Sync>(
+    pub fn feed<C: JudgingCrew, G: Gate>(
         &mut self,
-        rt: &(impl Threads + Sync),
-        alloc: Global,
+        runtime: &Runtime<C, G>,
         snapshot: &Snapshot,
         twigs: &[Twig],
-        workers: u32,
-        gate: &G,
     ) -> Result<(), AllocError>
         requires own { IsCheckerOf snapshot.now self.old }
         requires few { length twigs.now < 2 ^ 32 }
         requires sizes { All HasWorthSizes twigs.now }
-        requires workers { (1 ≤ workers) × (workers ≤ MOST_WORKERS) }
         ensures own { IsCheckerOf snapshot.now self.new }
         ensures seen { OnOk result ((stated : StatedValue) (fed : List TwigValue)
             → length fed + length twigs.now < 2 ^ 32 → HasSeen snapshot.now stated fed self.old
@@ -92,12 +86,7 @@ impl Checker {
             return Ok(());
         };
         let bound = self.bound;
-        let runtime = Runtime {
-            threads: rt,
-            alloc,
-            gate,
-        };
-        self.state = goes_on(&runtime, snapshot, bound, places, *seen, twigs, workers)?;
+        self.state = goes_on(runtime, snapshot, bound, places, *seen, twigs)?;
         Ok(())
     }
 
@@ -123,19 +112,17 @@ fn reason_of_bad(bad: Option<u32>) -> Option<Reason>
 }
 
 /// What a checker has seen after some twigs more, where no reason was found before.
-fn goes_on<R: Threads + Sync, G: Gate + Sync>(
-    runtime: &Runtime<R, G>,
+fn goes_on<C: JudgingCrew, G: Gate>(
+    runtime: &Runtime<C, G>,
     snapshot: &Snapshot,
     bound: u64,
     places: &Places,
     seen: u32,
     twigs: &[Twig],
-    workers: u32,
 ) -> Result<State, AllocError>
     requires own { All (IsNodeOf snapshot.now) places.now }
     requires few { length twigs.now < 2 ^ 32 }
     requires sizes { All HasWorthSizes twigs.now }
-    requires workers { (1 ≤ workers) × (workers ≤ MOST_WORKERS) }
     ensures own { IfOk result (IsStateOf snapshot.now) }
     ensures on { IfOk result (GoesOnTo snapshot.now bound places.now seen twigs.now) }
 {
@@ -143,7 +130,7 @@ fn goes_on<R: Threads + Sync, G: Gate + Sync>(
     let _calls = snapshot.calls();
     let mut places = places.copy(runtime.alloc)?;
     let piece = Piece::of_twigs(runtime.alloc, &mut places, seen, twigs)?;
-    let found = judge_tasks(runtime, snapshot, bound, &piece.tasks, workers)?;
+    let found = judge_tasks(runtime, snapshot, bound, &piece.tasks)?;
     if let Some(reason) = found.or(reason_of_bad(piece.bad)) {
         return Ok(State::Found(reason));
     }
@@ -155,25 +142,20 @@ fn goes_on<R: Threads + Sync, G: Gate + Sync>(
 /// preorder.
 ///
 /// The plan has to have one tour per car, the tree fewer than 2^32 twigs, of which each worth is of absolute
-/// value at most 10^27. Its leaves are shared by `workers` workers, 1 to 16, and `gate` is told of each
-/// before it begins. It fails only where there is no memory left.
-pub fn check<G: Gate + Sync>(
-    rt: &(impl Threads + Sync),
-    alloc: Global,
+/// value at most 10^27. The runtime's crew judges its leaves. It fails only where there is no memory left.
+pub fn check<C: JudgingCrew, G: Gate>(
+    runtime: &Runtime<C, G>,
     snapshot: &Snapshot,
     stated: &Stated,
     tree: &[Twig],
-    workers: u32,
-    gate: &G,
 ) -> Result<Verdict, AllocError>
     requires cars { length stated.now.plan ≡ car_count snapshot.now }
     requires few { length tree.now < 2 ^ 32 }
     requires sizes { All HasWorthSizes tree.now }
-    requires workers { (1 ≤ workers) × (workers ≤ MOST_WORKERS) }
     ensures { IfOk result (λ verdict. verdict
         ≡ verdict_of snapshot.now stated.now.plan stated.now.cost stated.now.bound tree.now) }
 {
-    let mut checker = Checker::new(alloc, snapshot, stated)?;
-    checker.feed(rt, alloc, snapshot, tree, workers, gate)?;
+    let mut checker = Checker::new(runtime.alloc, snapshot, stated)?;
+    checker.feed(runtime, snapshot, tree)?;
     Ok(checker.verdict())
 }

@@ -4,6 +4,7 @@ ghost use Rattle.std.specs.Prelude.{◌≡◌, ◌<◌, ◌≤◌, ◌^◌, All,
 ghost use Rattle.elevator_model.specs.Snapshot.{Snapshot as SnapshotValue};
 ghost use Rattle.cert_checker.specs.Judging.{IsTask, first_some, reason_of_tasks};
 
+use crate::crews::JudgingCrew;
 use crate::leaves::judge_leaf;
 use crate::tasks::Task;
 use byte_streams::Gate;
@@ -11,13 +12,11 @@ use call_state::Snapshot;
 use kept_count::{Desk, desks_for};
 use search_model::Reason;
 use std::alloc::{AllocError, Global};
-use std::marker::Sync;
-use std::thread::Threads;
-use work_fan::{Jobs, MOST_WORKERS, Runtime, fan};
+use work_fan::{Jobs, Runtime};
 
 /// The leaves of a piece: job `k` is to judge that of task `k`.
 #[derive(Drop)]
-struct Judging<'a> {
+pub struct Judging<'a> {
     snapshot: &'a Snapshot,
     bound: u64,
     tasks: &'a [Task<'a>],
@@ -70,19 +69,17 @@ fn first_of(mut answers: Vec<Option<Reason>>) -> Option<Reason>
     first
 }
 
-/// The first reason of the leaves, which these workers judge. `gate` is told of each before it begins.
+/// The first reason of the leaves, which the runtime's crew judges.
 ///
 /// It fails only where there is no memory left.
-pub(crate) fn judge_tasks<R: Threads + Sync, G: Gate + Sync>(
-    runtime: &Runtime<R, G>,
+pub(crate) fn judge_tasks<C: JudgingCrew, G: Gate>(
+    runtime: &Runtime<C, G>,
     snapshot: &Snapshot,
     bound: u64,
     tasks: &[Task],
-    workers: u32,
 ) -> Result<Option<Reason>, AllocError>
     requires few { length tasks.now < 2 ^ 32 }
     requires tasks { All (IsTask snapshot.now) tasks.now }
-    requires workers { (1 ≤ workers) × (workers ≤ MOST_WORKERS) }
     ensures { IfOk result (λ reason. reason ≡ reason_of_tasks snapshot.now bound tasks.now) }
 {
     if tasks.is_empty() {
@@ -94,13 +91,9 @@ pub(crate) fn judge_tasks<R: Threads + Sync, G: Gate + Sync>(
         tasks,
         alloc: runtime.alloc,
     };
-    let mut desks = desks_for(runtime.alloc, snapshot, workers)?;
-    let answers = fan(
-        runtime.threads,
-        runtime.alloc,
-        &judging,
-        desks.as_mut_slice(),
-        runtime.gate,
-    )?;
+    let mut desks = desks_for(runtime.alloc, snapshot, runtime.workers.count())?;
+    let answers = runtime
+        .crew
+        .judge_all(runtime.alloc, &judging, desks.as_mut_slice())?;
     Ok(first_of(answers))
 }

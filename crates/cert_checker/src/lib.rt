@@ -28,6 +28,7 @@
 #![tactic(auto)]
 
 mod checker;
+mod crews;
 mod judging;
 mod laws;
 mod leaves;
@@ -35,5 +36,7 @@ mod plans;
 mod tasks;
 
 pub use checker::{Checker, check};
+pub use crews::JudgingCrew;
+pub use judging::Judging;
 pub use laws::verdict_laws;
 pub use search_model::{Leaf, Reason, Stated, Twig, Verdict};

@@ -5,22 +5,21 @@ ghost use Rattle.std.specs.Prelude.{drop, length, map, option_map, take};
 ghost use Rattle.elevator_model.specs.Snapshot.{Snapshot as SnapshotValue};
 ghost use Rattle.cert_claims.specs.Leaves.{AreAllWithin, AreAnswers, HasTaken, IsProvedTask, LeafAt, leaf_at};
 
+use crate::crews::CountingCrew;
 use crate::leaves::{Claims, claims_within};
 use crate::tasks::Task;
 use byte_streams::Gate;
 use call_state::Snapshot;
 use kept_count::{Desk, desks_for};
 use std::alloc::{AllocError, Global};
-use std::marker::Sync;
-use std::thread::Threads;
-use work_fan::{Jobs, MOST_WORKERS, Runtime, fan};
+use work_fan::{Jobs, MOST_WORKERS, Runtime};
 
 /// How many leaves are shared out at a time, for each worker.
 const LEAVES_A_WORKER: usize = 4;
 
 /// Leaves: job `k` is to find the claims of that of task `k`.
 #[derive(Drop)]
-struct Counting<'a> {
+pub struct Counting<'a> {
     snapshot: &'a Snapshot,
     tasks: &'a [Task<'a>],
     /// How far the claims of one leaf may go beyond 1.
@@ -88,8 +87,8 @@ impl ClaimsSoFar {
 /// Finds the claims of the next leaves and takes them: false where they go further beyond 1 than is spare.
 ///
 /// It fails only where there is no memory left.
-fn count_some<'a, R: Threads + Sync, G: Gate + Sync>(
-    runtime: &Runtime<R, G>,
+fn count_some<'a, C: CountingCrew, G: Gate>(
+    runtime: &Runtime<C, G>,
     snapshot: &'a Snapshot,
     tasks: &'a [Task<'a>],
     desks: &mut [Desk<'a>],
@@ -109,13 +108,7 @@ fn count_some<'a, R: Threads + Sync, G: Gate + Sync>(
         tasks,
         spare: tally.spare,
     };
-    let answers = fan(
-        runtime.threads,
-        runtime.alloc,
-        &counting,
-        desks,
-        runtime.gate,
-    )?;
+    let answers = runtime.crew.count_all(runtime.alloc, &counting, desks)?;
     tally.take(answers.as_slice())
 }
 
@@ -131,8 +124,8 @@ fn next_tasks<'t, 'a>(tasks: &'t [Task<'a>], done: usize, step: usize) -> &'t [T
 /// Finds the claims of all leaves and takes them: false where they go further beyond 1 than is spare.
 ///
 /// It fails only where there is no memory left.
-fn count_all<'a, R: Threads + Sync, G: Gate + Sync>(
-    runtime: &Runtime<R, G>,
+fn count_all<'a, C: CountingCrew, G: Gate>(
+    runtime: &Runtime<C, G>,
     snapshot: &'a Snapshot,
     tasks: &'a [Task<'a>],
     desks: &mut [Desk<'a>],
@@ -157,22 +150,19 @@ fn count_all<'a, R: Threads + Sync, G: Gate + Sync>(
 
 /// The claims that are due at these leaves: None where they go further beyond 1, in all, than is spare.
 ///
-/// The leaves are shared by `workers` workers. `gate` is told of each before it begins. It fails only where
-/// there is no memory left.
-pub(crate) fn claims_of_all<'a, R: Threads + Sync, G: Gate + Sync>(
-    runtime: &Runtime<R, G>,
+/// The runtime's crew finds them. It fails only where there is no memory left.
+pub(crate) fn claims_of_all<'a, C: CountingCrew, G: Gate>(
+    runtime: &Runtime<C, G>,
     snapshot: &'a Snapshot,
     tasks: &'a [Task<'a>],
     spare: u64,
-    workers: u32,
 ) -> Result<Option<Vec<Claims>>, AllocError>
     requires small { spare < 2 ^ 63 }
     requires tasks { All (IsProvedTask snapshot.now) tasks.now }
-    requires workers { (1 ≤ workers) × (workers ≤ MOST_WORKERS) }
     ensures { IfOk result (λ found. AreAllWithin snapshot.now spare (map leaf_at tasks.now)
         (option_map (λ claims. claims.items) found)) }
 {
-    let mut desks = desks_for(runtime.alloc, snapshot, workers)?;
+    let mut desks = desks_for(runtime.alloc, snapshot, runtime.workers.count())?;
     let mut tally = ClaimsSoFar {
         claims: Vec::new(runtime.alloc),
         spare,

@@ -15,7 +15,7 @@ use search_model::{Items, Leaf, WorthOf};
 
 /// The claims that are due at a leaf.
 #[derive(Clone, Copy)]
-pub(crate) struct Claims {
+pub struct Claims {
     /// For each car its claim.
     pub(crate) by_car: [u64; 16],
     /// How far they go beyond 1 each, in all.

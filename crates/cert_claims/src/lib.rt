@@ -22,9 +22,13 @@
 #![tactic(auto)]
 
 mod counting;
+mod crews;
 mod leaves;
 mod lowering;
 mod stating;
 mod tasks;
 
+pub use counting::Counting;
+pub use crews::CountingCrew;
+pub use leaves::Claims;
 pub use stating::{Claimed, LastResort, state_claims};

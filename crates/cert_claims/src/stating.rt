@@ -12,6 +12,7 @@ ghost use Rattle.cert_claims.specs.Lowering.{IsSizedTwig, lesser_bounds as lesse
 ghost use Rattle.cert_claims.specs.Stating.{IsClaimed, IsLastResort};
 
 use crate::counting::claims_of_all;
+use crate::crews::CountingCrew;
 use crate::leaves::{Claims, with_claims};
 use crate::lowering::lowered_tree;
 use crate::tasks::leaves_of;
@@ -20,9 +21,7 @@ use byte_streams::Gate;
 use call_state::Snapshot;
 use search_model::{Items, Leaf, Stated, Twig};
 use std::alloc::{AllocError, Global};
-use std::marker::Sync;
-use std::thread::Threads;
-use work_fan::{MOST_WORKERS, Runtime};
+use work_fan::Runtime;
 
 /// The tree of a certificate, with its claims.
 #[derive(Drop)]
@@ -76,16 +75,14 @@ fn write_claims(alloc: Global, tree: Tree, all: &[Claims]) -> Result<Tree, Alloc
 /// The claims that are due in a tree: None where they go further than the limit allows.
 ///
 /// It fails only where there is no memory left.
-fn claims_of<R: Threads + Sync, G: Gate + Sync>(
-    runtime: &Runtime<R, G>,
+fn claims_of<C: CountingCrew, G: Gate>(
+    runtime: &Runtime<C, G>,
     snapshot: &Snapshot,
     tree: &Tree,
     limit: u64,
-    workers: u32,
 ) -> Result<Option<Vec<Claims>>, AllocError>
     requires proved { IsProvedTree snapshot.now tree.now.twigs }
     requires limit { limit < 2 ^ 63 }
-    requires workers { (1 ≤ workers) × (workers ≤ MOST_WORKERS) }
     ensures { IfOk result (λ found. AreAllWithin snapshot.now (limit - worths_of_tree tree.now.twigs)
         (leaves_from (root_of snapshot.now ∷ []) tree.now.twigs) (option_map (λ all. all.items) found)) }
 {
@@ -99,7 +96,6 @@ fn claims_of<R: Threads + Sync, G: Gate + Sync>(
         snapshot,
         tasks.as_slice(),
         limit.saturating_sub(worths),
-        workers,
     )
 }
 
@@ -140,23 +136,21 @@ fn lesser_bounds(bound: u64, least: u64) -> [u64; 3]
 /// the limit allows.
 ///
 /// It fails only where there is no memory left.
-fn claimed_at<R: Threads + Sync, G: Gate + Sync>(
-    runtime: &Runtime<R, G>,
+fn claimed_at<C: CountingCrew, G: Gate>(
+    runtime: &Runtime<C, G>,
     snapshot: &Snapshot,
     tree: &Tree,
     bound: u64,
     limit: u64,
-    workers: u32,
 ) -> Result<Option<Claimed>, AllocError>
     requires tree { IsSizedTree snapshot.now bound tree.now.twigs }
     requires limit { limit < 2 ^ 63 }
-    requires workers { (1 ≤ workers) × (workers ≤ MOST_WORKERS) }
     ensures { IfOk result (IsTried snapshot.now bound limit tree.now.twigs) }
 {
     // For the proof: the reader says that the snapshot is accepted, so a leaf's sum is small.
     let _calls = snapshot.calls();
     let lowered = lowered_tree(runtime.alloc, tree.twigs.as_slice(), bound)?;
-    match claims_of(runtime, snapshot, &lowered, limit, workers)? {
+    match claims_of(runtime, snapshot, &lowered, limit)? {
         Some(all) => Ok(Some(Claimed {
             tree: write_claims(runtime.alloc, lowered, all.as_slice())?,
             bound,
@@ -170,25 +164,23 @@ fn claimed_at<R: Threads + Sync, G: Gate + Sync>(
 /// limit allows; or the last resort.
 ///
 /// It fails only where there is no memory left.
-fn cut<R: Threads + Sync, G: Gate + Sync>(
-    runtime: &Runtime<R, G>,
+fn cut<C: CountingCrew, G: Gate>(
+    runtime: &Runtime<C, G>,
     snapshot: &Snapshot,
     tree: &Tree,
     bound: u64,
     resort: LastResort,
     limit: u64,
-    workers: u32,
 ) -> Result<Claimed, AllocError>
     requires tree { IsSizedTree snapshot.now bound tree.now.twigs }
     requires resort { IsLastResort snapshot.now resort.bound resort.leaf }
     requires least { resort.bound ≤ bound }
     requires limit { limit < 2 ^ 63 }
-    requires workers { (1 ≤ workers) × (workers ≤ MOST_WORKERS) }
     ensures { IfOk result (IsCut snapshot.now bound tree.now.twigs resort limit) }
 {
     let bounds = lesser_bounds(bound, resort.bound);
     for lesser in bounds.as_slice() {
-        match claimed_at(runtime, snapshot, tree, *lesser, limit, workers)? {
+        match claimed_at(runtime, snapshot, tree, *lesser, limit)? {
             Some(claimed) => return Ok(claimed),
             None => {}
         }
@@ -198,16 +190,15 @@ fn cut<R: Threads + Sync, G: Gate + Sync>(
 
 /// States the claims of a tree that proves what is stated: for each worth the one that is due.
 ///
-/// Where these go further than the limit allows, worths are lowered. The leaves are shared by `workers`
-/// workers, and `runtime.gate` is told of each before it begins. It fails only where there is no memory left.
-pub fn state_claims<R: Threads + Sync, G: Gate + Sync>(
-    runtime: &Runtime<R, G>,
+/// Where these go further than the limit allows, worths are lowered. The runtime's crew finds the claims. It
+/// fails only where there is no memory left.
+pub fn state_claims<C: CountingCrew, G: Gate>(
+    runtime: &Runtime<C, G>,
     snapshot: &Snapshot,
     stated: &Stated,
     tree: Tree,
     resort: LastResort,
     limit: u64,
-    workers: u32,
 ) -> Result<Claimed, AllocError>
     requires proves { Proves snapshot.now stated.now.plan stated.now.cost stated.now.bound tree.twigs }
     requires cars { All HasCars tree.twigs }
@@ -215,23 +206,14 @@ pub fn state_claims<R: Threads + Sync, G: Gate + Sync>(
     requires resort { IsLastResort snapshot.now resort.bound resort.leaf }
     requires least { resort.bound ≤ stated.now.bound }
     requires limit { limit ≤ 10 ^ 10 }
-    requires workers { (1 ≤ workers) × (workers ≤ MOST_WORKERS) }
     ensures { IfOk result (IsClaimed snapshot.now stated.now tree.twigs resort limit) }
 {
-    match claims_of(runtime, snapshot, &tree, limit, workers)? {
+    match claims_of(runtime, snapshot, &tree, limit)? {
         Some(all) => Ok(Claimed {
             tree: write_claims(runtime.alloc, tree, all.as_slice())?,
             bound: stated.bound,
             cut: false,
         }),
-        None => cut(
-            runtime,
-            snapshot,
-            &tree,
-            stated.bound,
-            resort,
-            limit,
-            workers,
-        ),
+        None => cut(runtime, snapshot, &tree, stated.bound, resort, limit),
     }
 }

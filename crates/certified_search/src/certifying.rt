@@ -11,14 +11,12 @@ ghost use Rattle.certified_search.specs.Certified.{IsCertified};
 use assign_branch::Tree;
 use byte_streams::Gate;
 use call_state::Snapshot;
-use cert_claims::{Claimed, LastResort, state_claims};
+use cert_claims::{Claimed, CountingCrew, LastResort, state_claims};
 use kept_count::sum_of_leaf;
 use search_model::Stated;
 use snapshot_solver::start_leaf;
 use std::alloc::{AllocError, Global};
-use std::marker::Sync;
-use std::thread::Threads;
-use work_fan::{MOST_WORKERS, Runtime};
+use work_fan::Runtime;
 
 /// The leaf with which a search starts, as the last resort of a certificate.
 ///
@@ -37,22 +35,20 @@ fn last_resort(alloc: Global, snapshot: &Snapshot, most: u64) -> Result<LastReso
 }
 
 /// The tree of a search with the claims that are due in it, and the bound that it proves, where they sum to no
-/// more than this; else a tree with fewer, and its lesser bound. With 1 to 16 workers.
+/// more than this; else a tree with fewer, and its lesser bound.
 ///
 /// It fails only where there is no memory left.
-pub fn certify<G: Gate + Sync>(
-    runtime: &Runtime<impl Threads + Sync, G>,
+pub fn certify<C: CountingCrew, G: Gate>(
+    runtime: &Runtime<C, G>,
     snapshot: &Snapshot,
     stated: &Stated,
     tree: Tree,
     claims: u64,
-    workers: u32,
 ) -> Result<Claimed, AllocError>
     requires proves { Proves snapshot.now stated.now.plan stated.now.cost stated.now.bound tree.twigs }
     requires least { floor_of_bound snapshot.now ≤ stated.now.bound }
     requires sized { All IsSizedTwig tree.twigs }
     requires claims { claims ≤ 10 ^ 10 }
-    requires workers { (1 ≤ workers) × (workers ≤ MOST_WORKERS) }
     ensures certified { IfOk result (λ claimed.
         IsCertified snapshot.now claims stated.now tree.twigs claimed.bound claimed.tree.twigs) }
     ensures sized { IfOk result (λ claimed. All IsSizedTwig claimed.tree.twigs) }
@@ -62,5 +58,5 @@ pub fn certify<G: Gate + Sync>(
     // For the proof: the reader says that the snapshot is accepted.
     let _calls = snapshot.calls();
     let resort = last_resort(runtime.alloc, snapshot, stated.bound)?;
-    state_claims(runtime, snapshot, stated, tree, resort, claims, workers)
+    state_claims(runtime, snapshot, stated, tree, resort, claims)
 }

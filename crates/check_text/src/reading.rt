@@ -21,14 +21,12 @@ use answer_text::read_answer;
 use byte_streams::Gate;
 use call_state::Snapshot;
 use case_text::{read_case, read_end};
-use cert_checker::Checker;
+use cert_checker::{Checker, JudgingCrew};
 use cert_text::TreeReader;
 use lift_text::{LineReader, Source, TextFault};
 use search_model::{Items, Stated, Twig, Verdict};
 use std::alloc::Global;
-use std::marker::Sync;
-use std::thread::Threads;
-use work_fan::{MOST_WORKERS, Runtime};
+use work_fan::Runtime;
 
 /// The most twigs of a piece.
 const MOST_TWIGS: usize = 256;
@@ -101,19 +99,17 @@ fn read_piece<S: Source>(
 }
 
 /// Reads a piece and hands it to the checker. True where the tree is complete.
-fn check_piece<S: Source, R: Threads + Sync, G: Gate + Sync>(
-    runtime: &Runtime<R, G>,
+fn check_piece<S: Source, C: JudgingCrew, G: Gate>(
+    runtime: &Runtime<C, G>,
     reader: &mut TreeReader,
     lines: &mut LineReader<S>,
     snapshot: &Snapshot,
     checker: &mut Checker,
-    workers: u32,
 ) -> Result<bool, TextFault>
     requires whole { failure lines.old ≡ None }
     requires sound { failure_of reader.old.begun ≡ None }
     requires begun { HasHandedOut snapshot.now reader.old (text S.left lines.old) }
     requires own { IsCheckerOf snapshot.now checker.old }
-    requires workers { (1 ≤ workers) × (workers ≤ MOST_WORKERS) }
     ensures same_source { lines.new.source.ghost_name ≡ lines.old.source.ghost_name }
     ensures feeds { FeedsPieceFor snapshot.now reader.old checker.old
         (text S.left lines.old) result reader.new checker.new (text S.left lines.new) }
@@ -129,29 +125,20 @@ fn check_piece<S: Source, R: Threads + Sync, G: Gate + Sync>(
 {
     let mut piece = Items::new(runtime.alloc);
     let is_whole = read_piece(reader, lines, snapshot, &mut piece)?;
-    checker.feed(
-        runtime.threads,
-        runtime.alloc,
-        snapshot,
-        piece.as_slice(),
-        workers,
-        runtime.gate,
-    )?;
+    checker.feed(runtime, snapshot, piece.as_slice())?;
     Ok(is_whole)
 }
 
 /// Reads a certificate and hands it to the checker, piece by piece.
-fn check_tree<S: Source, R: Threads + Sync, G: Gate + Sync>(
-    runtime: &Runtime<R, G>,
+fn check_tree<S: Source, C: JudgingCrew, G: Gate>(
+    runtime: &Runtime<C, G>,
     lines: &mut LineReader<S>,
     snapshot: &Snapshot,
     checker: &mut Checker,
-    workers: u32,
 ) -> Result<(), TextFault>
     requires whole { failure lines.old ≡ None }
     requires own { IsCheckerOf snapshot.now checker.old }
     requires seen { HasSeenNone snapshot.now checker.old }
-    requires workers { (1 ≤ workers) × (workers ≤ MOST_WORKERS) }
     ensures same_source { lines.new.source.ghost_name ≡ lines.old.source.ghost_name }
     ensures feeds { (claims : StatedValue) → HasSeen snapshot.now claims [] checker.old
         → FeedsTree snapshot.now claims (text S.left lines.old) result checker.new (text S.left lines.new) }
@@ -165,7 +152,7 @@ fn check_tree<S: Source, R: Threads + Sync, G: Gate + Sync>(
 {
     let mut reader = TreeReader::begin(runtime.alloc, lines)?;
     for count in 0..MOST_PIECES {
-        let is_whole = check_piece(runtime, &mut reader, lines, snapshot, checker, workers)?;
+        let is_whole = check_piece(runtime, &mut reader, lines, snapshot, checker)?;
         if is_whole {
             return Ok(());
         }
@@ -174,16 +161,14 @@ fn check_tree<S: Source, R: Threads + Sync, G: Gate + Sync>(
 }
 
 /// Reads a certificate of a plan up to its line `end`, and says what it proves.
-fn read_verdict<S: Source, R: Threads + Sync, G: Gate + Sync>(
-    runtime: &Runtime<R, G>,
+fn read_verdict<S: Source, C: JudgingCrew, G: Gate>(
+    runtime: &Runtime<C, G>,
     lines: &mut LineReader<S>,
     snapshot: &Snapshot,
     stated: &Stated,
-    workers: u32,
 ) -> Result<Verdict, TextFault>
     requires whole { failure lines.old ≡ None }
     requires cars { length stated.now.plan ≡ car_count snapshot.now }
-    requires workers { (1 ≤ workers) × (workers ≤ MOST_WORKERS) }
     ensures same_source { lines.new.source.ghost_name ≡ lines.old.source.ghost_name }
     ensures verdict { IfOk result (IsVerdictRead (text S.left lines.old) snapshot.now stated.now
         (text S.left lines.new)) }
@@ -200,7 +185,7 @@ fn read_verdict<S: Source, R: Threads + Sync, G: Gate + Sync>(
         Ok(checker) => checker,
         Err(_) => return Err(TextFault::NoMemory),
     };
-    match check_tree(runtime, lines, snapshot, &mut checker, workers) {
+    match check_tree(runtime, lines, snapshot, &mut checker) {
         Ok(()) => Ok(checker.verdict()),
         Err(fault) => Err(fault),
     }
@@ -216,19 +201,16 @@ pub struct Certified {
 }
 
 /// Reads an answer to the snapshot and a certificate of it, up to the line `end` of the certificate, and says
-/// what the certificate proves: what follows stays unread. The certificate is checked while it is read, by
-/// `workers` workers.
+/// what the certificate proves: what follows stays unread. The certificate is checked while it is read.
 ///
 /// The first bad line decides, with its number and one code, also if it comes after what makes the verdict a
 /// no. `Read` comes only where a read of the source failed.
-pub fn read_certified<S: Source, R: Threads + Sync, G: Gate + Sync>(
-    runtime: &Runtime<R, G>,
+pub fn read_certified<S: Source, C: JudgingCrew, G: Gate>(
+    runtime: &Runtime<C, G>,
     lines: &mut LineReader<S>,
     snapshot: &Snapshot,
-    workers: u32,
 ) -> Result<Certified, TextFault>
     requires whole { failure lines.old ≡ None }
-    requires workers { (1 ≤ workers) × (workers ≤ MOST_WORKERS) }
     ensures same_source { lines.new.source.ghost_name ≡ lines.old.source.ghost_name }
     ensures certified { IfOk result (λ certified. IsCertified (text S.left lines.old) snapshot.now
         certified.stated certified.verdict (text S.left lines.new)) }
@@ -246,23 +228,21 @@ pub fn read_certified<S: Source, R: Threads + Sync, G: Gate + Sync>(
         Ok(stated) => stated,
         Err(fault) => return Err(fault),
     };
-    match read_verdict(runtime, lines, snapshot, &stated, workers) {
+    match read_verdict(runtime, lines, snapshot, &stated) {
         Ok(verdict) => Ok(Certified { stated, verdict }),
         Err(fault) => Err(fault),
     }
 }
 
 /// Reads a certificate of a plan and the text to its end, and says what the certificate proves.
-fn judge_tree<S: Source, R: Threads + Sync, G: Gate + Sync>(
-    runtime: &Runtime<R, G>,
+fn judge_tree<S: Source, C: JudgingCrew, G: Gate>(
+    runtime: &Runtime<C, G>,
     lines: &mut LineReader<S>,
     snapshot: &Snapshot,
     stated: &Stated,
-    workers: u32,
 ) -> Result<Verdict, TextFault>
     requires whole { failure lines.old ≡ None }
     requires cars { length stated.now.plan ≡ car_count snapshot.now }
-    requires workers { (1 ≤ workers) × (workers ≤ MOST_WORKERS) }
     ensures same_source { lines.new.source.ghost_name ≡ lines.old.source.ghost_name }
     ensures verdict { IfOk result (IsVerdict (text S.left lines.old) snapshot.now stated.now) }
     ensures refused { IfErr result (IsRefusedTree (text S.left lines.old) snapshot.now) }
@@ -274,7 +254,7 @@ fn judge_tree<S: Source, R: Threads + Sync, G: Gate + Sync>(
         → Rose (S.faults lines.old.source.now) (S.faults lines.new.source.now) }
     ensures counted { S.faults lines.old.source.now ≤ S.faults lines.new.source.now }
 {
-    match read_verdict(runtime, lines, snapshot, stated, workers) {
+    match read_verdict(runtime, lines, snapshot, stated) {
         Ok(verdict) => match read_end(lines) {
             Ok(()) => Ok(verdict),
             Err(fault) => Err(fault),
@@ -293,14 +273,12 @@ struct Judged {
 
 /// Reads an answer to the snapshot, a certificate of it and the text to its end, and says what the
 /// certificate proves.
-fn judge<S: Source, R: Threads + Sync, G: Gate + Sync>(
-    runtime: &Runtime<R, G>,
+fn judge<S: Source, C: JudgingCrew, G: Gate>(
+    runtime: &Runtime<C, G>,
     lines: &mut LineReader<S>,
     snapshot: &Snapshot,
-    workers: u32,
 ) -> Result<Judged, TextFault>
     requires whole { failure lines.old ≡ None }
-    requires workers { (1 ≤ workers) × (workers ≤ MOST_WORKERS) }
     ensures same_source { lines.new.source.ghost_name ≡ lines.old.source.ghost_name }
     ensures judged { IfOk result (IsJudged (text S.left lines.old) snapshot.now) }
     ensures refused { IfErr result (IsRefusedCertified (text S.left lines.old) snapshot.now) }
@@ -316,7 +294,7 @@ fn judge<S: Source, R: Threads + Sync, G: Gate + Sync>(
         Ok(stated) => stated,
         Err(fault) => return Err(fault),
     };
-    match judge_tree(runtime, lines, snapshot, &stated, workers) {
+    match judge_tree(runtime, lines, snapshot, &stated) {
         Ok(verdict) => Ok(Judged {
             cost: stated.cost,
             bound: stated.bound,
@@ -327,23 +305,18 @@ fn judge<S: Source, R: Threads + Sync, G: Gate + Sync>(
 }
 
 /// Reads a case, an answer to it and a certificate, one after the other, and the text to its end, and says
-/// whether the certificate proves the answer. The runtime and the allocator come first.
+/// whether the certificate proves the answer.
 ///
-/// The certificate is checked while it is read, at most 256 twigs at a time: the leaves among them are shared
-/// by `workers` workers, 1 to 16, and `gate` is told of each before it begins. The answer's plan need not be
-/// feasible.
+/// The certificate is checked while it is read, at most 256 twigs at a time: the runtime's crew judges the
+/// leaves among them. The answer's plan need not be feasible.
 ///
 /// The first bad line decides, with its number and one code, also if it comes after what makes the verdict a
 /// no. Its end shows in the bytes that were taken. `Read` comes only where a read of the source failed.
-pub fn read_check<S: Source, G: Gate + Sync>(
-    rt: &(impl Threads + Sync),
-    alloc: Global,
+pub fn read_check<S: Source, C: JudgingCrew, G: Gate>(
+    runtime: &Runtime<C, G>,
     lines: &mut LineReader<S>,
-    workers: u32,
-    gate: &G,
 ) -> Result<Checked, TextFault>
     requires whole { failure lines.old ≡ None }
-    requires workers { (1 ≤ workers) × (workers ≤ MOST_WORKERS) }
     ensures same_source { lines.new.source.ghost_name ≡ lines.old.source.ghost_name }
     ensures checked { IfOk result (IsChecked (text S.left lines.old)) }
     ensures told { IfOk result (λ checked. IsToldOf checked.snapshot checked.verdict) }
@@ -356,16 +329,11 @@ pub fn read_check<S: Source, G: Gate + Sync>(
         → Rose (S.faults lines.old.source.now) (S.faults lines.new.source.now) }
     ensures counted { S.faults lines.old.source.now ≤ S.faults lines.new.source.now }
 {
-    let snapshot = match read_case(alloc, lines) {
+    let snapshot = match read_case(runtime.alloc, lines) {
         Ok(snapshot) => snapshot,
         Err(fault) => return Err(fault),
     };
-    let runtime = Runtime {
-        threads: rt,
-        alloc,
-        gate,
-    };
-    match judge(&runtime, lines, &snapshot, workers) {
+    match judge(runtime, lines, &snapshot) {
         Ok(judged) => Ok(Checked {
             snapshot,
             cost: judged.cost,

@@ -10,8 +10,8 @@ use Rattle.lift_text.specs.declared.faults.TextFault.TheVariants.{Bad, NoMemory,
 use Rattle.opening_text.specs.DayOpenings.{DayOpeningInFront, IsDayOpeningFault}
 use Rattle.day_state.specs.Openings.{IsOpeningSnapshot}
 use Rattle.log_rows.specs.Rows.{AreRowsPast, IsWithoutLog, RowsBeforeLog}
-use Rattle.whole_input.specs.declared.reading.InputFault.{InputFault}
-use Rattle.whole_input.specs.declared.reading.InputFault.TheVariants.{Read as FailedRead, NoMemory as MemoryWanting}
+use Rattle.byte_streams.specs.declared.inputs.InputFault.{InputFault}
+use Rattle.byte_streams.specs.declared.inputs.InputFault.TheVariants.{Read as FailedRead, NoMemory as MemoryWanting}
 use Rattle.day_audit.specs.declared.findings.Finding.{Finding}
 use Rattle.day_audit.specs.declared.findings.Finding.TheVariants.{Differs, Row as BadRow, Text}
 use Rattle.day_audit.specs.declared.logs.Audited.{Audited}

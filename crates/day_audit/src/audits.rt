@@ -11,26 +11,21 @@ ghost use Rattle.day_audit.specs.Taking.{IsUnread};
 
 use crate::findings::{Finding, bad_text, finding_of};
 use crate::logs::{Audited, audit_log};
-use byte_streams::{Gate, Source, SureSource};
+use byte_streams::{Gate, InputFault, Source, SureSource, read_whole};
 use call_state::Snapshot;
+use cert_checker::JudgingCrew;
 use lift_text::{LineReader, TEXT_LIMIT, TextFault};
 use log_rows::read_rows;
 use opening_text::read_day_opening;
-use std::alloc::Global;
-use std::marker::Sync;
-use std::thread::Threads;
-use whole_input::{InputFault, read_whole};
-use work_fan::{MOST_WORKERS, Runtime};
+use work_fan::Runtime;
 
 /// Audits the rows and the log of the day that opens with this snapshot.
-fn audit_day<S: Source, R: Threads + Sync, G: Gate + Sync>(
-    runtime: &Runtime<R, G>,
+fn audit_day<S: Source, C: JudgingCrew, G: Gate>(
+    runtime: &Runtime<C, G>,
     lines: &mut LineReader<S>,
     opening: Snapshot,
-    workers: u32,
 ) -> Result<Audited, Finding>
     requires whole { failure lines.old ≡ None }
-    requires workers { (1 ≤ workers) × (workers ≤ MOST_WORKERS) }
     requires opening { IsOpeningSnapshot opening }
     ensures audited { IsDayAudited opening (text S.left lines.old) result }
     ensures read { IsUnread result
@@ -38,26 +33,24 @@ fn audit_day<S: Source, R: Threads + Sync, G: Gate + Sync>(
     ensures counted { S.faults lines.old.source.now ≤ S.faults lines.new.source.now }
 {
     match read_rows(runtime.alloc, lines, opening.building()) {
-        Ok(rows) => audit_log(runtime, lines, opening, rows.as_slice(), workers),
+        Ok(rows) => audit_log(runtime, lines, opening, rows.as_slice()),
         Err(fault) => Err(finding_of(fault)),
     }
 }
 
 /// Audits a text, which holds an opening, rows and a log.
-fn audit_text<S: Source, R: Threads + Sync, G: Gate + Sync>(
-    runtime: &Runtime<R, G>,
+fn audit_text<S: Source, C: JudgingCrew, G: Gate>(
+    runtime: &Runtime<C, G>,
     lines: &mut LineReader<S>,
-    workers: u32,
 ) -> Result<Audited, Finding>
     requires whole { failure lines.old ≡ None }
-    requires workers { (1 ≤ workers) × (workers ≤ MOST_WORKERS) }
     ensures audited { IsTextAudited (text S.left lines.old) result }
     ensures read { IsUnread result
         → Rose (S.faults lines.old.source.now) (S.faults lines.new.source.now) }
     ensures counted { S.faults lines.old.source.now ≤ S.faults lines.new.source.now }
 {
     match read_day_opening(runtime.alloc, lines) {
-        Ok(opening) => audit_day(runtime, lines, opening, workers),
+        Ok(opening) => audit_day(runtime, lines, opening),
         Err(fault) => Err(bad_text(fault)),
     }
 }
@@ -75,12 +68,10 @@ fn if_long(answer: Result<Audited, Finding>) -> Result<Audited, Finding>
 }
 
 /// Audits these bytes, which are all of an input, or more than it may have.
-fn audit_bytes<R: Threads + Sync, G: Gate + Sync>(
-    runtime: &Runtime<R, G>,
+fn audit_bytes<C: JudgingCrew, G: Gate>(
+    runtime: &Runtime<C, G>,
     input: Vec<u8>,
-    workers: u32,
 ) -> Result<Audited, Finding>
-    requires workers { (1 ≤ workers) × (workers ≤ MOST_WORKERS) }
     ensures audit { IsAudit input.items result }
     ensures read { IsUnread result → ⊥ }
 {
@@ -91,7 +82,7 @@ fn audit_bytes<R: Threads + Sync, G: Gate + Sync>(
             fault: TextFault::NoMemory,
         });
     };
-    let answer = audit_text(runtime, &mut lines, workers);
+    let answer = audit_text(runtime, &mut lines);
     if is_long { if_long(answer) } else { answer }
 }
 
@@ -106,33 +97,23 @@ fn unread(fault: InputFault) -> TextFault
 }
 
 /// Audits an input: a building, an opening snapshot, the header and the rows, and behind the line `day 1` the
-/// log of their day. Its lines are judged in order, and the first finding decides. The runtime and the
-/// allocator come first.
+/// log of their day. Its lines are judged in order, and the first finding decides.
 ///
 /// The input is read whole before, up to 67,108,865 bytes, and with 1 to 16 workers the answer is the same.
 /// `Read` comes only where a read of the source failed. After a finding of the log, as after none, the source
 /// is at its end: such an answer to an input of more than 67,108,864 bytes is `TooLong`.
-pub fn audit<S: Source, G: Gate + Sync>(
-    rt: &(impl Threads + Sync),
-    alloc: Global,
+pub fn audit<S: Source, C: JudgingCrew, G: Gate>(
+    runtime: &Runtime<C, G>,
     source: &mut S,
-    workers: u32,
-    gate: &G,
 ) -> Result<Audited, Finding>
-    requires workers { (1 ≤ workers) × (workers ≤ MOST_WORKERS) }
     ensures audit { IfSome (S.left source.old) (λ input. IsAudit (take 67108865 input) result) }
     ensures ended { EndsIfJudged result (S.left source.new) }
     ensures read { IsUnread result → Rose (S.faults source.old) (S.faults source.new) }
     ensures counted { S.faults source.old ≤ S.faults source.new }
 {
-    let input = match read_whole(alloc, source, TEXT_LIMIT + 1) {
+    let input = match read_whole(runtime.alloc, source, TEXT_LIMIT + 1) {
         Ok(input) => input,
         Err(fault) => return Err(bad_text(unread(fault))),
     };
-    let runtime = Runtime {
-        threads: rt,
-        alloc,
-        gate,
-    };
-    audit_bytes(&runtime, input, workers)
+    audit_bytes(runtime, input)
 }

@@ -23,16 +23,15 @@ use crate::lines::{Totals, take_end, take_refused};
 use crate::rows::take_accepted;
 use byte_streams::Gate;
 use call_state::Snapshot;
+use cert_checker::JudgingCrew;
 use day_laws::world_of_row;
 use day_state::World;
 use lift_text::{LineReader, Source, TextFault};
 use row_text::GoodRow;
 use search_model::{Event, RowFault, Stated};
 use std::alloc::{AllocError, Global};
-use std::marker::Sync;
 use std::mem;
-use std::thread::Threads;
-use work_fan::{MOST_WORKERS, Runtime};
+use work_fan::Runtime;
 
 /// What a log tells of which every line is right.
 #[derive(Clone, Copy)]
@@ -126,16 +125,14 @@ fn refuse_next<S: Source>(
 
 /// Takes the lines of the next row, which is accepted: this world has taken its call, and this is what
 /// happened until its time.
-fn accept_next<S: Source, R: Threads + Sync, G: Gate + Sync>(
-    runtime: &Runtime<R, G>,
+fn accept_next<S: Source, C: JudgingCrew, G: Gate>(
+    runtime: &Runtime<C, G>,
     lines: &mut LineReader<S>,
     progress: &mut LogProgress,
     world: &mut World,
     events: &[Event],
-    workers: u32,
 ) -> Result<(), Finding>
     requires whole { failure lines.old ≡ None }
-    requires workers { (1 ≤ workers) × (workers ≤ MOST_WORKERS) }
     requires number { next_number progress.old < 2 ^ 32 }
     requires few { progress.old.unsolved ≤ progress.old.accepted }
     ensures takes { IsNextAccepted progress.old world.old.snapshot events.now (text S.left lines.old) result
@@ -147,7 +144,7 @@ fn accept_next<S: Source, R: Threads + Sync, G: Gate + Sync>(
     ensures counted { S.faults lines.old.source.now ≤ S.faults lines.new.source.now }
 {
     let number = progress.number();
-    match take_accepted(runtime, lines, number, events, world.snapshot(), workers) {
+    match take_accepted(runtime, lines, number, events, world.snapshot()) {
         Ok(printed) => {
             progress.accept(world, printed);
             Ok(())
@@ -157,15 +154,13 @@ fn accept_next<S: Source, R: Threads + Sync, G: Gate + Sync>(
 }
 
 /// Takes the lines of the next row, whose numbers lie in their ranges.
-fn take_good_row<S: Source, R: Threads + Sync, G: Gate + Sync>(
-    runtime: &Runtime<R, G>,
+fn take_good_row<S: Source, C: JudgingCrew, G: Gate>(
+    runtime: &Runtime<C, G>,
     lines: &mut LineReader<S>,
     progress: &mut LogProgress,
     row: &GoodRow,
-    workers: u32,
 ) -> Result<(), Finding>
     requires whole { failure lines.old ≡ None }
-    requires workers { (1 ≤ workers) × (workers ≤ MOST_WORKERS) }
     requires number { next_number progress.old < 2 ^ 32 }
     requires good { IsTrue (is_row progress.old.world.snapshot.building (row_as_said row.now)) }
     requires day { (day : Day) × IsDayOf progress.old day }
@@ -181,7 +176,7 @@ fn take_good_row<S: Source, R: Threads + Sync, G: Gate + Sync>(
     match world_of_row(runtime.alloc, &progress.world, number, row, &mut events) {
         Ok(Ok(mut world)) => {
             let events = events.as_slice();
-            accept_next(runtime, lines, progress, &mut world, events, workers)
+            accept_next(runtime, lines, progress, &mut world, events)
         }
         Ok(Err(fault)) => refuse_next(lines, progress, fault),
         Err(_) => Err(Finding::Text {
@@ -191,15 +186,13 @@ fn take_good_row<S: Source, R: Threads + Sync, G: Gate + Sync>(
 }
 
 /// Takes the lines of the next row; none is one that says no numbers in their ranges.
-fn take_row<S: Source, R: Threads + Sync, G: Gate + Sync>(
-    runtime: &Runtime<R, G>,
+fn take_row<S: Source, C: JudgingCrew, G: Gate>(
+    runtime: &Runtime<C, G>,
     lines: &mut LineReader<S>,
     progress: &mut LogProgress,
     row: &Option<GoodRow>,
-    workers: u32,
 ) -> Result<(), Finding>
     requires whole { failure lines.old ≡ None }
-    requires workers { (1 ≤ workers) × (workers ≤ MOST_WORKERS) }
     requires number { next_number progress.old < 2 ^ 32 }
     requires good { IsGood progress.old.world.snapshot.building row.now }
     requires day { (day : Day) × IsDayOf progress.old day }
@@ -211,21 +204,19 @@ fn take_row<S: Source, R: Threads + Sync, G: Gate + Sync>(
     ensures counted { S.faults lines.old.source.now ≤ S.faults lines.new.source.now }
 {
     match row {
-        Some(row) => take_good_row(runtime, lines, progress, row, workers),
+        Some(row) => take_good_row(runtime, lines, progress, row),
         None => refuse_next(lines, progress, RowFault::NoRow),
     }
 }
 
 /// Takes the lines of the rows, one after another.
-fn take_rows<S: Source, R: Threads + Sync, G: Gate + Sync>(
-    runtime: &Runtime<R, G>,
+fn take_rows<S: Source, C: JudgingCrew, G: Gate>(
+    runtime: &Runtime<C, G>,
     lines: &mut LineReader<S>,
     progress: &mut LogProgress,
     rows: &[Option<GoodRow>],
-    workers: u32,
 ) -> Result<(), Finding>
     requires whole { failure lines.old ≡ None }
-    requires workers { (1 ≤ workers) × (workers ≤ MOST_WORKERS) }
     requires few { next_number progress.old + length rows.now ≤ 2 ^ 32 }
     requires good { All (IsGood progress.old.world.snapshot.building) rows.now }
     requires day { (day : Day) × IsDayOf progress.old day }
@@ -237,7 +228,7 @@ fn take_rows<S: Source, R: Threads + Sync, G: Gate + Sync>(
     ensures counted { S.faults lines.old.source.now ≤ S.faults lines.new.source.now }
 {
     for row in rows {
-        match take_row(runtime, lines, progress, row, workers) {
+        match take_row(runtime, lines, progress, row) {
             Ok(()) => {}
             Err(finding) => return Err(finding),
         }
@@ -299,15 +290,13 @@ fn take_last<S: Source>(
 }
 
 /// Audits the lines of the rows and those after them.
-fn audit_from<S: Source, R: Threads + Sync, G: Gate + Sync>(
-    runtime: &Runtime<R, G>,
+fn audit_from<S: Source, C: JudgingCrew, G: Gate>(
+    runtime: &Runtime<C, G>,
     lines: &mut LineReader<S>,
     progress: &mut LogProgress,
     rows: &[Option<GoodRow>],
-    workers: u32,
 ) -> Result<Audited, Finding>
     requires whole { failure lines.old ≡ None }
-    requires workers { (1 ≤ workers) × (workers ≤ MOST_WORKERS) }
     requires few { next_number progress.old + length rows.now ≤ 2 ^ 32 }
     requires good { All (IsGood progress.old.world.snapshot.building) rows.now }
     requires day { (day : Day) × IsDayOf progress.old day }
@@ -317,7 +306,7 @@ fn audit_from<S: Source, R: Threads + Sync, G: Gate + Sync>(
         → Rose (S.faults lines.old.source.now) (S.faults lines.new.source.now) }
     ensures counted { S.faults lines.old.source.now ≤ S.faults lines.new.source.now }
 {
-    match take_rows(runtime, lines, progress, rows, workers) {
+    match take_rows(runtime, lines, progress, rows) {
         Ok(()) => take_last(runtime.alloc, lines, progress),
         Err(finding) => Err(finding),
     }
@@ -325,15 +314,13 @@ fn audit_from<S: Source, R: Threads + Sync, G: Gate + Sync>(
 
 /// Audits the log of the day that opens with this snapshot, over these rows: all lines behind its first. The
 /// rows are at most 2^32 - 1; those that say no numbers in their ranges are none.
-pub fn audit_log<S: Source, R: Threads + Sync, G: Gate + Sync>(
-    runtime: &Runtime<R, G>,
+pub fn audit_log<S: Source, C: JudgingCrew, G: Gate>(
+    runtime: &Runtime<C, G>,
     lines: &mut LineReader<S>,
     opening: Snapshot,
     rows: &[Option<GoodRow>],
-    workers: u32,
 ) -> Result<Audited, Finding>
     requires whole { failure lines.old ≡ None }
-    requires workers { (1 ≤ workers) × (workers ≤ MOST_WORKERS) }
     requires opening { IsOpeningSnapshot opening }
     requires good { All (IsGood opening.building) rows.now }
     requires few { length rows.now + 1 ≤ 2 ^ 32 }
@@ -344,7 +331,7 @@ pub fn audit_log<S: Source, R: Threads + Sync, G: Gate + Sync>(
     ensures counted { S.faults lines.old.source.now ≤ S.faults lines.new.source.now }
 {
     match LogProgress::opening(runtime.alloc, opening) {
-        Ok(mut progress) => audit_from(runtime, lines, &mut progress, rows, workers),
+        Ok(mut progress) => audit_from(runtime, lines, &mut progress, rows),
         Err(_) => Err(Finding::Text {
             fault: TextFault::NoMemory,
         }),

@@ -11,13 +11,12 @@ use crate::findings::Finding;
 use crate::lines::take_accepted_lines;
 use byte_streams::Gate;
 use call_state::Snapshot;
+use cert_checker::JudgingCrew;
 use check_text::{Certified, put_reason, read_certified};
 use lift_text::{LineReader, Source, TextFault};
 use search_model::{Event, Reason, Stated, Verdict};
 use std::alloc::Global;
-use std::marker::Sync;
-use std::thread::Threads;
-use work_fan::{MOST_WORKERS, Runtime};
+use work_fan::Runtime;
 
 /// The row with this number is not proved, for this reason.
 fn not_proved(alloc: Global, number: u32, snapshot: &Snapshot, reason: &Reason) -> Finding
@@ -57,15 +56,13 @@ fn proved(
 
 /// Takes the answer and the certificate of the accepted row with this number, whose call is the last one of
 /// the snapshot.
-fn take_proof<S: Source, R: Threads + Sync, G: Gate + Sync>(
-    runtime: &Runtime<R, G>,
+fn take_proof<S: Source, C: JudgingCrew, G: Gate>(
+    runtime: &Runtime<C, G>,
     lines: &mut LineReader<S>,
     number: u32,
     snapshot: &Snapshot,
-    workers: u32,
 ) -> Result<Stated, Finding>
     requires whole { failure lines.old ≡ None }
-    requires workers { (1 ≤ workers) × (workers ≤ MOST_WORKERS) }
     ensures takes { TakesProof snapshot.now number (text S.left lines.old) result (text S.left lines.new) }
     ensures proved { IfOk result (IsProvedPlan snapshot.now) }
     ensures ok { OnOk result (failure lines.new ≡ None) }
@@ -75,7 +72,7 @@ fn take_proof<S: Source, R: Threads + Sync, G: Gate + Sync>(
 {
     // For the proof: a reader tells that the snapshot keeps the rules.
     let _moment = snapshot.now();
-    match read_certified(runtime, lines, snapshot, workers) {
+    match read_certified(runtime, lines, snapshot) {
         Ok(certified) => proved(runtime.alloc, number, snapshot, certified),
         Err(fault) => Err(Finding::Text { fault }),
     }
@@ -83,17 +80,15 @@ fn take_proof<S: Source, R: Threads + Sync, G: Gate + Sync>(
 
 /// Takes the lines of the accepted row with this number: what happened until its time, and an answer and a
 /// certificate for the snapshot with its call. It gives the printed plan, with its cost and its bound; or it
-/// finds what is wrong first. The certificate is checked by 1 to 16 workers.
-pub(crate) fn take_accepted<S: Source, R: Threads + Sync, G: Gate + Sync>(
-    runtime: &Runtime<R, G>,
+/// finds what is wrong first.
+pub(crate) fn take_accepted<S: Source, C: JudgingCrew, G: Gate>(
+    runtime: &Runtime<C, G>,
     lines: &mut LineReader<S>,
     number: u32,
     events: &[Event],
     snapshot: &Snapshot,
-    workers: u32,
 ) -> Result<Stated, Finding>
     requires whole { failure lines.old ≡ None }
-    requires workers { (1 ≤ workers) × (workers ≤ MOST_WORKERS) }
     ensures takes { TakesAccepted number events.now snapshot.now (text S.left lines.old) result
         (text S.left lines.new) }
     ensures proved { IfOk result (IsProvedPlan snapshot.now) }
@@ -103,7 +98,7 @@ pub(crate) fn take_accepted<S: Source, R: Threads + Sync, G: Gate + Sync>(
     ensures counted { S.faults lines.old.source.now ≤ S.faults lines.new.source.now }
 {
     match take_accepted_lines(lines, number, events) {
-        Ok(()) => take_proof(runtime, lines, number, snapshot, workers),
+        Ok(()) => take_proof(runtime, lines, number, snapshot),
         Err(finding) => Err(finding),
     }
 }

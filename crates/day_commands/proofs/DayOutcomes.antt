@@ -19,7 +19,7 @@ use Rattle.day_runner.specs.Inputs.{EndsUnlessFailed}
 use Rattle.day_runner.proofs.StepLemmas.{rose-before}
 use Rattle.lift_words.specs.declared.request.DayOptions.{DayOptions}
 use Rattle.lift_words.specs.declared.request.SearchOptions.{SearchOptions}
-use Rattle.lift_words.specs.Taken.{AreDayOptions, AreSearchOptions, without_certificates}
+use Rattle.lift_words.specs.Taken.{AreDayOptions, without_certificates}
 use Rattle.command_ends.specs.declared.status.Status.{Status}
 use Rattle.command_ends.specs.declared.status.Status.TheVariants.{Done, Stopped, Input, Memory}
 use Rattle.command_ends.specs.Ends.{Streams, Puts, PutsFault, PutsRefusal, IsRefusalLine}
@@ -150,8 +150,8 @@ pub report-stopped : (options : DayOptions) (old new : Streams) (fault : RunFaul
 report-stopped options old new fault result ran = report-stopped-within options old new fault result (ran-within options old.left new.left None None (Err fault) ran)
 
 -- the options of a report are those of a day without certificates
-pub plain-within : (options : SearchOptions) → AreSearchOptions options → AreDayOptions (without_certificates options)
-plain-within options are = record { search = are; claims = (omega arith, omega arith) }
+pub plain-within : (options : SearchOptions) → AreDayOptions (without_certificates options)
+plain-within options = record { claims = (omega arith, omega arith) }
 
 -- a sink that counts no fault has none
 pub no-faults : Rose 0 0 → ⊥

@@ -120,7 +120,7 @@ module _ (right : Right) (AreEnough : Snapshot → Type 0) (law : (s : Snapshot)
 -- what a search answers within limits that are enough has a bound that is its cost
 not-enough : (options : DayOptions) (s : Snapshot) (stated : Stated) (proof : List ℕ) → SolvedBy options s stated proof → stated.bound < stated.cost → AreEnoughBy options s → ⊥
 not-enough options s stated proof row below enough =
-    let equal = solved-where-enough options.search.rounds options.search.moves (most_claims options) s stated proof row enough in
+    let equal = solved-where-enough options.search.limits.rounds options.search.limits.most_tours (most_claims options) s stated proof row enough in
     less-self stated.bound (subst (λ (n : ℕ). stated.bound < n) equal below)
 
 some-unsolved : (n : ℕ) → status_of_unsolved n ≡ Stopped → 0 < n

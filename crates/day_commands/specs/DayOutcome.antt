@@ -33,11 +33,11 @@ status_of_unsolved (suc n) = Stopped
 
 -- what a search within the options answers at a row
 abbrev pub SolvedBy : DayOptions → Right
-SolvedBy options = IsSolvedRow options.search.rounds options.search.moves (most_claims options)
+SolvedBy options = IsSolvedRow options.search.limits.rounds options.search.limits.most_tours (most_claims options)
 
 -- the options are enough for a search of the snapshot, and for its certificate
 abbrev pub AreEnoughBy : DayOptions → Snapshot → Type 0
-AreEnoughBy options s = AreEnoughFor options.search.rounds options.search.moves (most_claims options) s
+AreEnoughBy options s = AreEnoughFor options.search.limits.rounds options.search.limits.most_tours (most_claims options) s
 
 -- Of the rows that were done one was accepted where the limits are not enough, and its bound is below its cost.
 abbrev pub IsDayStopped : (options : DayOptions) {before : Option TextState} {left taken taken' : Option (List ℕ)} {result : Result Ended RunFault} → DayRan (SolvedBy options) before left taken taken' result → Type 0

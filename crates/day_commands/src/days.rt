@@ -13,6 +13,7 @@ ghost use Rattle.day_commands.specs.DayOutcome.{status_of_unsolved as status_of_
 
 use byte_streams::{Gate, Sink, SinkFault, Source};
 use call_state::Snapshot;
+use cert_claims::CountingCrew;
 use command_ends::{Status, put, put_fault, put_too_long};
 use day_planner::plan_within;
 use day_runner::{DayFault, Ended, RunFault, run_day_text};
@@ -20,10 +21,9 @@ use day_simulator::Planned;
 use lift_text::{LineReader, TextFault};
 use lift_words::DayOptions;
 use service_report::{report_of, write_report};
-use snapshot_solver::Limits;
+use snapshot_solver::SearchCrew;
 use std::alloc::{AllocError, Global};
-use std::marker::Sync;
-use std::thread::Threads;
+use work_fan::Runtime;
 
 /// Takes all and keeps nothing.
 #[derive(Drop)]
@@ -42,40 +42,28 @@ impl Sink for Nowhere {
 }
 
 /// A plan of the snapshot, as a search by these options finds it.
-fn plan_row<G: Gate + Sync>(
-    rt: &(impl Threads + Sync),
-    alloc: Global,
+fn plan_row<C: SearchCrew + CountingCrew, G: Gate>(
+    runtime: &Runtime<C, G>,
     options: DayOptions,
     snapshot: &Snapshot,
-    gate: &G,
 ) -> Result<Planned, AllocError>
     requires { AreDayOptions options }
     ensures { IfOk result (λ planned. SolvedBy options snapshot.now planned.stated planned.proof.items) }
 {
-    let asked = options.search;
-    let limits = Limits {
-        rounds: asked.rounds,
-        most_tours: asked.moves,
-    };
     plan_within(
-        rt,
-        alloc,
-        limits,
+        runtime,
+        options.search.limits,
         options.most_claims(),
-        asked.workers,
         snapshot,
-        gate,
     )
 }
 
 /// Runs the day of an opening and rows, with a plan of a search at each row that is accepted.
-fn run_input<S: Source, K: Sink, G: Gate + Sync>(
-    rt: &(impl Threads + Sync),
-    alloc: Global,
+fn run_input<S: Source, K: Sink, C: SearchCrew + CountingCrew, G: Gate>(
+    runtime: &Runtime<C, G>,
     options: DayOptions,
     source: &mut S,
     sink: &mut K,
-    gate: &G,
 ) -> Result<Ended, DayFault>
     requires { AreDayOptions options }
     ensures answered { DayAnswered (SolvedBy options)
@@ -90,12 +78,12 @@ fn run_input<S: Source, K: Sink, G: Gate + Sync>(
     let plan = |snapshot: &Snapshot|
         requires { AreDayOptions options }
         ensures { IfOk result (λ planned. SolvedBy options snapshot.now planned.stated planned.proof.items) }
-    { plan_row(rt, alloc, options, snapshot, gate) };
-    let mut lines = match LineReader::new(alloc, source) {
+    { plan_row(runtime, options, snapshot) };
+    let mut lines = match LineReader::new(runtime.alloc, source) {
         Ok(lines) => lines,
         Err(_) => return Err(DayFault::Opening(TextFault::NoMemory)),
     };
-    let ended = run_day_text(alloc, &plan, &mut lines, sink, gate);
+    let ended = run_day_text(runtime.alloc, &plan, &mut lines, sink, runtime.gate);
     lines.into_source();
     ended
 }
@@ -127,13 +115,11 @@ fn put_rows_fault<K: Sink>(fault: RunFault, sink: &mut K) -> Status
 
 /// Reads an opening and rows, and writes the log of their day as the rows come, or what is wrong with the
 /// input.
-pub fn day<S: Source, K: Sink, G: Gate + Sync>(
-    rt: &(impl Threads + Sync),
-    alloc: Global,
+pub fn day<S: Source, K: Sink, C: SearchCrew + CountingCrew, G: Gate>(
+    runtime: &Runtime<C, G>,
     options: DayOptions,
     source: &mut S,
     sink: &mut K,
-    gate: &G,
 ) -> Status
     requires { AreDayOptions options }
     ensures { RunsDay options
@@ -141,9 +127,9 @@ pub fn day<S: Source, K: Sink, G: Gate + Sync>(
         (streams (S.left source.new) (K.taken sink.new) (S.faults source.new)
         (K.faults sink.new)) result }
 {
-    match run_input(rt, alloc, options, source, sink, gate) {
+    match run_input(runtime, options, source, sink) {
         Ok(ended) => status_of_unsolved(ended.unsolved),
-        Err(DayFault::Opening(fault)) => put_fault(alloc, fault, sink),
+        Err(DayFault::Opening(fault)) => put_fault(runtime.alloc, fault, sink),
         Err(DayFault::Rows(fault)) => put_rows_fault(fault, sink),
     }
 }
@@ -160,13 +146,11 @@ fn report_text(alloc: Global, ended: &Ended) -> Result<Vec<u8>, AllocError>
 }
 
 /// Reads an opening and rows, and writes the report of their day, or what is wrong with the input.
-pub fn report<S: Source, K: Sink, G: Gate + Sync>(
-    rt: &(impl Threads + Sync),
-    alloc: Global,
+pub fn report<S: Source, K: Sink, C: SearchCrew + CountingCrew, G: Gate>(
+    runtime: &Runtime<C, G>,
     options: DayOptions,
     source: &mut S,
     sink: &mut K,
-    gate: &G,
 ) -> Status
     requires options { AreDayOptions options }
     ensures { ReportsDay options
@@ -174,12 +158,12 @@ pub fn report<S: Source, K: Sink, G: Gate + Sync>(
         (streams (S.left source.new) (K.taken sink.new) (S.faults source.new)
         (K.faults sink.new)) result }
 {
-    match run_input(rt, alloc, options, source, &mut Nowhere, gate) {
-        Ok(ended) => match report_text(alloc, &ended) {
+    match run_input(runtime, options, source, &mut Nowhere) {
+        Ok(ended) => match report_text(runtime.alloc, &ended) {
             Ok(text) => put(sink, text.as_slice(), status_of_unsolved(ended.unsolved)),
             Err(_) => Status::Memory,
         },
-        Err(DayFault::Opening(fault)) => put_fault(alloc, fault, sink),
+        Err(DayFault::Opening(fault)) => put_fault(runtime.alloc, fault, sink),
         Err(DayFault::Rows(fault)) => put_rows_fault(fault, sink),
     }
 }

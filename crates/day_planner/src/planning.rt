@@ -11,38 +11,35 @@ use answer_text::write_answer;
 use assign_branch::Tree;
 use byte_streams::Gate;
 use call_state::Snapshot;
+use cert_claims::CountingCrew;
 use cert_text::write_cert;
 use certified_search::certify;
 use day_simulator::Planned;
-use search_model::Stated;
-use snapshot_solver::{Limits, solve};
-use std::alloc::{AllocError, Global};
-use std::marker::Sync;
-use std::thread::Threads;
-use work_fan::{MOST_WORKERS, Runtime};
+use search_model::{Limits, Stated};
+use snapshot_solver::{SearchCrew, solve};
+use std::alloc::AllocError;
+use work_fan::Runtime;
 
 /// The plan that a search found, written as an answer with its certificate, whose claims sum to no more than
 /// this; with the bound that the certificate proves. It fails only where there is no memory left.
-fn with_certificate<G: Gate + Sync>(
-    runtime: &Runtime<impl Threads + Sync, G>,
+fn with_certificate<C: CountingCrew, G: Gate>(
+    runtime: &Runtime<C, G>,
     snapshot: &Snapshot,
     stated: Stated,
     tree: Tree,
     claims: u64,
-    workers: u32,
 ) -> Result<Planned, AllocError>
     requires proves { Proves snapshot.now stated.plan stated.cost stated.bound tree.twigs }
     requires least { floor_of_bound snapshot.now ≤ stated.bound }
     requires sized { All IsSizedTwig tree.twigs }
     requires tours { FitsSnapshot snapshot.now stated.plan }
     requires claims { claims ≤ 10 ^ 10 }
-    requires workers { (1 ≤ workers) × (workers ≤ MOST_WORKERS) }
     ensures plan { IfOk result (λ planned. planned.stated.plan ≡ stated.plan) }
     ensures cost { IfOk result (λ planned. planned.stated.cost ≡ stated.cost) }
     ensures written { IfOk result (λ planned. IsCertifiedRow snapshot.now claims stated tree.twigs
         planned.stated planned.proof.items) }
 {
-    let claimed = certify(runtime, snapshot, &stated, tree, claims, workers)?;
+    let claimed = certify(runtime, snapshot, &stated, tree, claims)?;
     let printed = Stated {
         bound: claimed.bound,
         ..stated
@@ -56,37 +53,26 @@ fn with_certificate<G: Gate + Sync>(
     })
 }
 
-/// A plan of the snapshot, as a search within these limits finds it, with 1 to 16 workers; written with its
+/// A plan of the snapshot, as a search within these limits finds it; written with its
 /// certificate where the claims of that have a limit. It fails only where there is no memory left.
-pub fn plan_within<G: Gate + Sync>(
-    rt: &(impl Threads + Sync),
-    alloc: Global,
+pub fn plan_within<C: SearchCrew + CountingCrew, G: Gate>(
+    runtime: &Runtime<C, G>,
     limits: Limits,
     claims: Option<u64>,
-    workers: u32,
     snapshot: &Snapshot,
-    gate: &G,
 ) -> Result<Planned, AllocError>
-    requires rounds { (1 ≤ limits.rounds) × (limits.rounds ≤ 10 ^ 18) }
-    requires most_tours { (1 ≤ limits.most_tours) × (limits.most_tours ≤ 10 ^ 18) }
     requires claims { IfSome claims (λ most. most ≤ 10 ^ 10) }
-    requires workers { (1 ≤ workers) × (workers ≤ MOST_WORKERS) }
     ensures { IfOk result (λ planned. IsSolvedRow limits.rounds limits.most_tours claims snapshot.now
         planned.stated planned.proof.items) }
 {
     // For the proof: a reader tells that the snapshot keeps the rules.
     let _moment = snapshot.now();
-    let found = solve(rt, alloc, snapshot, limits, workers, gate)?;
+    let found = solve(runtime, snapshot, limits)?;
     let Some(most) = claims else {
         return Ok(Planned {
             stated: found.stated,
-            proof: Vec::new(alloc),
+            proof: Vec::new(runtime.alloc),
         });
     };
-    let runtime = Runtime {
-        threads: rt,
-        alloc,
-        gate,
-    };
-    with_certificate(&runtime, snapshot, found.stated, found.tree, most, workers)
+    with_certificate(runtime, snapshot, found.stated, found.tree, most)
 }

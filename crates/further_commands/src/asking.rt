@@ -16,13 +16,12 @@ use byte_streams::{Gate, Sink, Source};
 use call_state::Snapshot;
 use command_ends::{Answer, Status, put, put_fault, put_nothing_asked};
 use lift_text::{LineReader, TextFault};
-use snapshot_solver::Limits;
+use search_model::Limits;
+use snapshot_solver::SearchCrew;
 use std::alloc::{AllocError, Global};
-use std::marker::Sync;
-use std::thread::Threads;
 use what_if::{Extra, are_settled, what_if};
 use whatif_text::{AskFault, read_asked_case};
-use work_fan::{MOST_WORKERS, Runtime};
+use work_fan::Runtime;
 
 /// The snapshot that the whole input is the text of, whose last call is asked about.
 fn read_input<S: Source>(alloc: Global, source: &mut S) -> Result<Snapshot, AskFault>
@@ -59,29 +58,18 @@ fn status_of(extras: &[Extra]) -> Status
 
 /// The text of what the last call costs with each car, and its status. It fails only where there is no memory
 /// left.
-fn answer_of<R: Threads + Sync, G: Gate + Sync>(
-    runtime: &Runtime<R, G>,
+fn answer_of<C: SearchCrew, G: Gate>(
+    runtime: &Runtime<C, G>,
     limits: Limits,
-    workers: u32,
     snapshot: &Snapshot,
 ) -> Result<Answer, AllocError>
     requires asked { HasAskedCall snapshot.now }
-    requires rounds { (1 ≤ limits.rounds) × (limits.rounds ≤ 10 ^ 18) }
-    requires most_tours { (1 ≤ limits.most_tours) × (limits.most_tours ≤ 10 ^ 18) }
-    requires workers { (1 ≤ workers) × (workers ≤ MOST_WORKERS) }
     ensures told { IfOk result (λ answer.
         IsTold snapshot.now limits.rounds limits.most_tours answer.status answer.text.items) }
     ensures enough { AreEnough snapshot.now limits.rounds limits.most_tours
         → IfOk result (λ answer. answer.status ≡ Status.Done) }
 {
-    let costs = what_if(
-        runtime.threads,
-        runtime.alloc,
-        snapshot,
-        limits,
-        workers,
-        runtime.gate,
-    )?;
+    let costs = what_if(runtime, snapshot, limits)?;
     let text = what_if_text(runtime.alloc, snapshot, &costs)?;
     let status = status_of(costs.extras.as_slice());
     Ok(Answer { status, text })
@@ -99,17 +87,13 @@ fn put_ask_fault<K: Sink>(alloc: Global, fault: AskFault, sink: &mut K) -> Statu
 }
 
 /// Reads a case, and writes what its last call costs with each car and what it costs to send the nearest one,
-/// as far as searches within the limits tell it, with 1 to 16 workers; or what is wrong with the input.
-pub fn whatif<S: Source, K: Sink, R: Threads + Sync, G: Gate + Sync>(
-    runtime: &Runtime<R, G>,
+/// as far as searches within the limits tell it; or what is wrong with the input.
+pub fn whatif<S: Source, K: Sink, C: SearchCrew, G: Gate>(
+    runtime: &Runtime<C, G>,
     limits: Limits,
-    workers: u32,
     source: &mut S,
     sink: &mut K,
 ) -> Status
-    requires rounds { (1 ≤ limits.rounds) × (limits.rounds ≤ 10 ^ 18) }
-    requires most_tours { (1 ≤ limits.most_tours) × (limits.most_tours ≤ 10 ^ 18) }
-    requires workers { (1 ≤ workers) × (workers ≤ MOST_WORKERS) }
     ensures ends { Ends
         (WhatIfDue limits.rounds limits.most_tours (S.left source.old) (S.left source.new))
         (streams (S.left source.old) (K.taken sink.old) (S.faults source.old) (K.faults sink.old))
@@ -125,7 +109,7 @@ pub fn whatif<S: Source, K: Sink, R: Threads + Sync, G: Gate + Sync>(
         (K.faults sink.new)) result }
 {
     match read_input(runtime.alloc, source) {
-        Ok(snapshot) => match answer_of(runtime, limits, workers, &snapshot) {
+        Ok(snapshot) => match answer_of(runtime, limits, &snapshot) {
             Ok(answer) => put(sink, answer.text.as_slice(), answer.status),
             Err(_) => Status::Memory,
         },

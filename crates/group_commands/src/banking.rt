@@ -10,6 +10,7 @@ ghost use Rattle.command_ends.specs.Ends.{Ends, streams};
 ghost use Rattle.group_commands.specs.BanksOutcome.{AnswersBanks, AreTold, BanksDue, PutsBankFault};
 ghost use Rattle.group_commands.specs.BanksOutcome.{RefusesBanks, status_of_logs as status_of_logs_lem};
 
+use crate::crews::{ByCrew, GroupCrew};
 use crate::planning::Searches;
 use crate::writing::banks_text;
 use bank_days::{BankLog, run_banks};
@@ -17,11 +18,9 @@ use bank_text::{BankFault, BankInput, MOST_BANKS, read_banks};
 use byte_streams::{Gate, Sink, Source};
 use command_ends::{Answer, Status, put, put_fault, put_too_many_banks, put_used_id};
 use lift_text::{LineReader, TextFault};
-use snapshot_solver::Limits;
+use search_model::Limits;
 use std::alloc::{AllocError, Global};
-use std::marker::Sync;
-use std::thread::Threads;
-use work_fan::{MOST_WORKERS, Runtime};
+use work_fan::Runtime;
 
 /// The banks, with their rows, that the whole input is the text of.
 fn read_input<S: Source>(alloc: Global, source: &mut S) -> Result<BankInput, BankFault>
@@ -64,49 +63,34 @@ fn status_of_logs(logs: &[BankLog]) -> Status
     }
 }
 
-/// The logs of the days of banks, each a job of its own. It fails only where there is no memory left.
-///
-/// The planner is lent and not made here: where it was, no job could be given it.
-fn answer_by<R: Threads + Sync, G: Gate + Sync>(
-    runtime: &Runtime<R, G>,
-    planner: &Searches<R>,
-    workers: u32,
-    banks: &BankInput,
-) -> Result<Answer, AllocError>
-    requires ready { All IsReadyBank banks.now.banks.items }
-    requires few { length banks.now.banks.items ≤ MOST_BANKS }
-    requires workers { (1 ≤ workers) × (workers ≤ MOST_WORKERS) }
-    ensures { IfOk result (λ answer. AreTold planner.now.limits.rounds planner.now.limits.most_tours
-        banks.now answer.status answer.text.items) }
-{
-    let all = banks.banks.as_slice();
-    let logs = run_banks(runtime, planner, all, workers)?;
-    let status = status_of_logs(logs.as_slice());
-    let text = banks_text(runtime.alloc, all, logs.as_slice(), banks.strays)?;
-    Ok(Answer { status, text })
-}
-
-/// The same, by searches within these limits.
-fn answer_of<R: Threads + Sync, G: Gate + Sync>(
-    runtime: &Runtime<R, G>,
+/// The logs of the days of banks, each a job of its own, as searches within these limits plan them. It fails
+/// only where there is no memory left.
+fn answer_of<C: GroupCrew, G: Gate>(
+    runtime: &Runtime<C, G>,
     limits: Limits,
-    workers: u32,
     banks: &BankInput,
 ) -> Result<Answer, AllocError>
-    requires rounds { (1 ≤ limits.rounds) × (limits.rounds ≤ 10 ^ 18) }
-    requires most_tours { (1 ≤ limits.most_tours) × (limits.most_tours ≤ 10 ^ 18) }
     requires ready { All IsReadyBank banks.now.banks.items }
     requires few { length banks.now.banks.items ≤ MOST_BANKS }
-    requires workers { (1 ≤ workers) × (workers ≤ MOST_WORKERS) }
     ensures { IfOk result (λ answer. AreTold limits.rounds limits.most_tours banks.now answer.status
         answer.text.items) }
 {
     let planner = Searches {
-        threads: runtime.threads,
         alloc: runtime.alloc,
         limits,
     };
-    answer_by(runtime, &planner, workers, banks)
+    let by_crew = ByCrew { crew: runtime.crew };
+    let days = Runtime {
+        crew: &by_crew,
+        workers: runtime.workers,
+        alloc: runtime.alloc,
+        gate: runtime.gate,
+    };
+    let all = banks.banks.as_slice();
+    let logs = run_banks(&days, &planner, all)?;
+    let status = status_of_logs(logs.as_slice());
+    let text = banks_text(runtime.alloc, all, logs.as_slice(), banks.strays)?;
+    Ok(Answer { status, text })
 }
 
 /// Writes what is wrong with an input. After a failed read, and when out of memory, nothing is written.
@@ -122,17 +106,13 @@ fn put_bank_fault<K: Sink>(alloc: Global, fault: BankFault, sink: &mut K) -> Sta
 }
 
 /// Reads banks of cars and the rows of all of them, and writes the log of each bank's day over its own rows,
-/// and how many rows name no bank, with 1 to 16 workers; or what is wrong with the input.
-pub fn banks<S: Source, K: Sink, R: Threads + Sync, G: Gate + Sync>(
-    runtime: &Runtime<R, G>,
+/// and how many rows name no bank; or what is wrong with the input.
+pub fn banks<S: Source, K: Sink, C: GroupCrew, G: Gate>(
+    runtime: &Runtime<C, G>,
     limits: Limits,
-    workers: u32,
     source: &mut S,
     sink: &mut K,
 ) -> Status
-    requires rounds { (1 ≤ limits.rounds) × (limits.rounds ≤ 10 ^ 18) }
-    requires most_tours { (1 ≤ limits.most_tours) × (limits.most_tours ≤ 10 ^ 18) }
-    requires workers { (1 ≤ workers) × (workers ≤ MOST_WORKERS) }
     ensures ends { Ends
         (BanksDue limits.rounds limits.most_tours (S.left source.old) (S.left source.new))
         (streams (S.left source.old) (K.taken sink.old) (S.faults source.old) (K.faults sink.old))
@@ -148,7 +128,7 @@ pub fn banks<S: Source, K: Sink, R: Threads + Sync, G: Gate + Sync>(
         (K.faults sink.new)) result }
 {
     match read_input(runtime.alloc, source) {
-        Ok(banks) => match answer_of(runtime, limits, workers, &banks) {
+        Ok(banks) => match answer_of(runtime, limits, &banks) {
             Ok(answer) => put(sink, answer.text.as_slice(), answer.status),
             Err(_) => Status::Memory,
         },

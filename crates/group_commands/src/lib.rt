@@ -18,8 +18,11 @@
 #![tactic(auto)]
 
 mod banking;
+mod crews;
 mod planning;
 mod worked;
 mod writing;
 
 pub use banking::banks;
+pub use crews::GroupCrew;
+pub use planning::Searches;

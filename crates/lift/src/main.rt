@@ -1,7 +1,7 @@
 //! `lift`: exact, machine-checked dispatching of elevator groups.
 //!
-//! `main` takes the real words, source and sink, and standard error for what is told of the work's progress,
-//! calls `run` of `lift_commands` and ends with its status.
+//! `main` takes the real words, source and sink, threads for the work that is shared out, and standard error for
+//! what is told of the work's progress, calls `run` of `lift_commands` and ends with its status.
 #![tactic(auto)]
 
 ghost use Rattle.std.specs.Prelude.{◌≡◌, IfErr};
@@ -10,10 +10,10 @@ use byte_streams::{Sink, Source, StdSink, StdSource};
 use lift_commands::{Status, run};
 use progress_gates::ErrorGate;
 use std::alloc::Global;
-use std::marker::Sync;
 use std::process::ExitCode;
 use std::thread::Threads;
 use std::{env, io};
+use thread_crew::InThreads;
 
 /// The words of the command line. Where one is not text there are none, and no such words are taken. An
 /// `Err` is the status of running out of memory.
@@ -30,13 +30,14 @@ fn words(rt: &HostRuntime) -> Result<Vec<String>, Status>
 /// Runs the command of these words. What `run` promises stays out of the proof of `main`, which lets go of
 /// the words, the source and the sink.
 fn status_of<S: Source, K: Sink>(
-    rt: &(impl Threads + Eprint + Sync),
+    rt: &(impl Threads + Eprint),
     alloc: Global,
     words: &[String],
     source: &mut S,
     sink: &mut K,
 ) -> Status {
-    run(rt, alloc, words, source, sink, &ErrorGate::new(rt))
+    let crew = InThreads::new(rt);
+    run(&crew, alloc, words, source, sink, &ErrorGate::new(rt))
 }
 
 fn main(rt: HostRuntime) -> ExitCode {

@@ -26,8 +26,8 @@ TablesByWords words old new status = AreTaken words Table → RunsTable old new 
 
 -- what was read and written, and that a case whose last call is asked about is answered and anything else refused
 pub record RunsWhatIf (options : SearchOptions) (old new : Streams) (status : Status) : Type 0 where
-  pub ends : Ends (WhatIfDue options.rounds options.moves old.left new.left) old new status
-  pub answers : AnswersAsked options.rounds options.moves old new status
+  pub ends : Ends (WhatIfDue options.limits.rounds options.limits.most_tours old.left new.left) old new status
+  pub answers : AnswersAsked options.limits.rounds options.limits.most_tours old new status
   pub refuses : RefusesUnasked old new status
 
 -- words of `whatif` tell what the last call of a case costs
@@ -36,7 +36,7 @@ WhatIfByWords words old new status = (options : SearchOptions) → AreTaken word
 
 -- what was read and written, and that the text of banks is answered and anything else refused
 pub record RunsBanks (options : SearchOptions) (old new : Streams) (status : Status) : Type 0 where
-  pub ends : Ends (BanksDue options.rounds options.moves old.left new.left) old new status
+  pub ends : Ends (BanksDue options.limits.rounds options.limits.most_tours old.left new.left) old new status
   pub answers : AnswersBanks old new status
   pub refuses : RefusesBanks old new status
 

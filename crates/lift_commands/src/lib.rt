@@ -139,8 +139,6 @@
 //! `ReadsNothing` says whether they ask for input.
 #![tactic(auto)]
 
-mod asking;
-mod banking;
 mod running;
 
 pub use command_ends::Status;

@@ -9,23 +9,39 @@ ghost use Rattle.lift_commands.specs.Outcome.{RefusesChecksByWords, DaysByWords,
 ghost use Rattle.lift_commands.specs.Outcome.{RunsByWords, RefusesWords};
 ghost use Rattle.lift_commands.specs.Unread.{AskForNoInput};
 
-use crate::asking::ask;
-use crate::banking::run_banks;
 use audit_command::audit;
 use byte_streams::{Gate, Sink, Source};
 use case_commands::{check, solve, write_made_case, write_solved_case};
+use cert_checker::JudgingCrew;
+use cert_claims::CountingCrew;
 use command_ends::{Status, put};
 use day_commands::{day, report};
-use further_commands::table;
+use further_commands::{table, whatif};
+use group_commands::{GroupCrew, banks};
 use lift_words::{Request, WordsFault, read_words};
 use progress_gates::{Watch, Watched};
 use root_command::root;
+use snapshot_solver::SearchCrew;
 use std::alloc::Global;
-use std::marker::Sync;
-use std::thread::Threads;
+use work_fan::{Runtime, Workers};
 
 /// What is written where the words are not taken.
 const USAGE: &[u8] = b"usage: lift solve/check/day/report/make [options]\n";
+
+/// What the work of one command is done with.
+fn runtime<'a, C, G>(
+    crew: &'a C,
+    workers: Workers,
+    alloc: Global,
+    gate: &'a G,
+) -> Runtime<'a, C, G> {
+    Runtime {
+        crew,
+        workers,
+        alloc,
+        gate,
+    }
+}
 
 /// Runs the program: what the words of the command line ask for, the program's name first, from the source to
 /// the sink.
@@ -54,9 +70,10 @@ const USAGE: &[u8] = b"usage: lift solve/check/day/report/make [options]\n";
 ///
 /// All write what is wrong with an input that they do not take: its first bad line with its code, or that it
 /// is too long. Other words are refused with the usage line. The gate is told how far a search of `solve` and
-/// the rows of `day` have come where `--progress` asks for it; nothing else depends on that.
-pub fn run<S: Source, K: Sink, G: Gate + Sync>(
-    rt: &(impl Threads + Sync),
+/// the rows of `day` have come where `--progress` asks for it; nothing else depends on that. The crew does what
+/// `--workers` shares out.
+pub fn run<S: Source, K: Sink, C: SearchCrew + CountingCrew + JudgingCrew + GroupCrew, G: Gate>(
+    crew: &C,
     alloc: Global,
     words: &[String],
     source: &mut S,
@@ -169,30 +186,41 @@ pub fn run<S: Source, K: Sink, G: Gate + Sync>(
     match read_words(alloc, words) {
         Ok(Request::Solve(options)) => {
             let watch = Watch::new(gate, Watched::Search.only_if(options.progress));
-            solve(rt, alloc, options, source, sink, &watch)
+            let runtime = runtime(crew, options.workers, alloc, &watch);
+            solve(&runtime, options, source, sink)
         }
-        Ok(Request::Check(options)) => check(rt, alloc, options, source, sink, &quiet),
+        Ok(Request::Check(options)) => {
+            let runtime = runtime(crew, options.workers, alloc, &quiet);
+            check(&runtime, source, sink)
+        }
         Ok(Request::Day(options)) => {
             let watch = Watch::new(gate, Watched::Rows.only_if(options.progress));
-            day(rt, alloc, options, source, sink, &watch)
+            let runtime = runtime(crew, options.search.workers, alloc, &watch);
+            day(&runtime, options, source, sink)
         }
-        Ok(Request::Report(options)) => report(
-            rt,
-            alloc,
-            options.without_certificates(),
-            source,
-            sink,
-            &quiet,
-        ),
+        Ok(Request::Report(options)) => {
+            let runtime = runtime(crew, options.workers, alloc, &quiet);
+            report(&runtime, options.without_certificates(), source, sink)
+        }
         Ok(Request::Make(sizes)) => write_made_case(alloc, sizes, sink),
-        Ok(Request::Run(options)) => write_solved_case(rt, alloc, options, sink, &quiet),
-        Ok(Request::Table) => table(alloc, source, sink),
-        Ok(Request::WhatIf(options)) => ask(rt, alloc, options, source, sink, &quiet),
-        Ok(Request::Banks(options)) => run_banks(rt, alloc, options, source, sink, &quiet),
-        Ok(Request::Root(options)) => {
-            root(rt, alloc, options.rounds, options.moves, source, sink)
+        Ok(Request::Run(options)) => {
+            let runtime = runtime(crew, Workers::one(), alloc, &quiet);
+            write_solved_case(&runtime, options, sink)
         }
-        Ok(Request::Audit(options)) => audit(rt, alloc, options.workers, source, sink, &quiet),
+        Ok(Request::Table) => table(alloc, source, sink),
+        Ok(Request::WhatIf(options)) => {
+            let runtime = runtime(crew, options.workers, alloc, &quiet);
+            whatif(&runtime, options.limits, source, sink)
+        }
+        Ok(Request::Banks(options)) => {
+            let runtime = runtime(crew, options.workers, alloc, &quiet);
+            banks(&runtime, options.limits, source, sink)
+        }
+        Ok(Request::Root(options)) => root(alloc, options.rounds, options.moves, source, sink),
+        Ok(Request::Audit(options)) => {
+            let runtime = runtime(crew, options.workers, alloc, &quiet);
+            audit(&runtime, source, sink)
+        }
         Err(WordsFault::NotTaken) => put(sink, USAGE, Status::Words),
         Err(WordsFault::NoMemory) => Status::Memory,
     }

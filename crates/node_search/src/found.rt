@@ -29,22 +29,11 @@ use byte_streams::{Gate, Progress};
 use call_state::Snapshot;
 use elevator_model::{MOST_CALLS, Plan};
 use price_steps::Steps;
-use pricing_rounds::desks_for;
-use search_model::{Items, Stated, StopReason, Turn};
+use pricing_rounds::{PricingCrew, desks_for};
+use search_model::{Items, Limits, Stated, StopReason, Turn};
 use search_tree::{Branch, SearchTree, Sheet, first_choice};
 use std::alloc::{AllocError, Global};
-use std::marker::Sync;
-use std::thread::Threads;
-use work_fan::{MOST_WORKERS, Runtime};
-
-/// How long a search may go on.
-#[derive(Clone, Copy)]
-pub struct Limits {
-    /// How many rounds it may do: 1 to 10^18.
-    pub rounds: u64,
-    /// How many partial tours each pricing may try: 1 to 10^18.
-    pub most_tours: u64,
-}
+use work_fan::Runtime;
 
 /// What a search answers.
 #[derive(Drop)]
@@ -186,8 +175,8 @@ fn begin<'a, P: Pricer>(
 }
 
 /// The rounds below a root that is open after its turns. It fails only where there is no memory left.
-fn go_on<'a, P: Pricer, R: Threads + Sync, G: Gate + Sync>(
-    runtime: &Runtime<R, G>,
+fn go_on<'a, P: Pricer, C: PricingCrew<P>, G: Gate>(
+    runtime: &Runtime<C, G>,
     pricer: &P,
     root: Root<'a>,
     limits: Limits,
@@ -197,8 +186,6 @@ fn go_on<'a, P: Pricer, R: Threads + Sync, G: Gate + Sync>(
     requires turned { (start : PriceSheet)
         × IsTurned (P.snapshot pricer.now) limits.rounds limits.most_tours start root }
     requires open_yet { IsOpenRoot root }
-    requires rounds { (1 ≤ limits.rounds) × (limits.rounds ≤ 10 ^ 18) }
-    requires most_tours { (1 ≤ limits.most_tours) × (limits.most_tours ≤ 10 ^ 18) }
     requires desks { Serving (P.owns pricer.now) desks.old }
     ensures { IfOk result (λ begun. (start : PriceSheet)
         → IsTurned (P.snapshot pricer.now) limits.rounds limits.most_tours start
@@ -206,7 +193,7 @@ fn go_on<'a, P: Pricer, R: Threads + Sync, G: Gate + Sync>(
         begun.turns.items begun.search) }
 {
     let Begun { mut search, turns } = begin(runtime.alloc, pricer, root, limits)?;
-    search.run(runtime, pricer, limits.rounds, limits.most_tours, desks)?;
+    search.run(runtime, pricer, limits.rounds(), limits.most_tours(), desks)?;
     Ok(Begun { search, turns })
 }
 
@@ -233,7 +220,7 @@ fn end<P: Pricer>(
 {
     let Begun { search, turns } = begun;
     let calls = search.best.pool.snapshot().calls().len();
-    let why = search.reason(calls, limits.most_tours);
+    let why = search.reason(calls, limits.most_tours());
     let Search { tree, best, .. } = search;
     answer(alloc, tree, best, turns, why)
 }
@@ -266,8 +253,8 @@ fn close<P: Pricer>(
 }
 
 /// The root after the turns that are due. It fails only where there is no memory left.
-fn turned<'a, P: Pricer, R: Threads + Sync, G: Gate + Sync>(
-    runtime: &Runtime<R, G>,
+fn turned<'a, P: Pricer, C: PricingCrew<P>, G: Gate>(
+    runtime: &Runtime<C, G>,
     snapshot: &'a Snapshot,
     pricer: &P,
     start: Plan,
@@ -278,8 +265,6 @@ fn turned<'a, P: Pricer, R: Threads + Sync, G: Gate + Sync>(
     requires snapshot { P.snapshot pricer.now ≡ snapshot.now }
     requires start { IsFeasiblePlan snapshot.now start }
     requires sheet { IsSheetIn snapshot.now (root_of snapshot.now) sheet }
-    requires rounds { 1 ≤ limits.rounds }
-    requires most_tours { (1 ≤ limits.most_tours) × (limits.most_tours ≤ 10 ^ 18) }
     requires desks { Serving (P.owns pricer.now) desks.old }
     ensures turned { IfOk result (IsTurned (P.snapshot pricer.now) limits.rounds limits.most_tours sheet) }
     ensures accepted { IsAccepted (P.snapshot pricer.now) }
@@ -288,13 +273,13 @@ fn turned<'a, P: Pricer, R: Threads + Sync, G: Gate + Sync>(
     prove!(snapshot.calls().len() <= MOST_CALLS);
     let mut root = Root::new(runtime.alloc, snapshot, start, sheet)?;
     runtime.gate.tell(Progress::Begins(root.state()));
-    root.turn_as_due(runtime, pricer, limits.rounds, limits.most_tours, desks)?;
+    root.turn_as_due(runtime, pricer, limits.rounds(), limits.most_tours(), desks)?;
     Ok(root)
 }
 
 /// Searches as `find_plan` does, with one worker for each desk.
-fn find_at<P: Pricer, R: Threads + Sync, G: Gate + Sync>(
-    runtime: &Runtime<R, G>,
+fn find_at<P: Pricer, C: PricingCrew<P>, G: Gate>(
+    runtime: &Runtime<C, G>,
     snapshot: &Snapshot,
     pricer: &P,
     start: Plan,
@@ -306,8 +291,6 @@ fn find_at<P: Pricer, R: Threads + Sync, G: Gate + Sync>(
     requires start { IsFeasiblePlan snapshot.now start }
     requires sheet { IsSheetIn snapshot.now (root_of snapshot.now) sheet }
     requires sum { pos 0 ≤ℤ sum_of_sheet sheet }
-    requires rounds { (1 ≤ limits.rounds) × (limits.rounds ≤ 10 ^ 18) }
-    requires most_tours { (1 ≤ limits.most_tours) × (limits.most_tours ≤ 10 ^ 18) }
     requires desks { Serving (P.owns pricer.now) desks.old }
     ensures found { IfOk result (λ f. IsFound sheet.prices (rounded_up (sum_of_sheet sheet)) snapshot.now
         limits.rounds limits.most_tours f.stated.plan f.stated.cost f.stated.bound f.tree.twigs f.turns f.why) }
@@ -332,29 +315,24 @@ fn find_at<P: Pricer, R: Threads + Sync, G: Gate + Sync>(
 /// Then rounds each price a few leaves of the tree, which are split in time, until cost and bound are the
 /// same, as many rounds were done as `limits` allows, or nothing is left to split. Where the last two come
 /// together, the reason is that nothing is left: `Moves`. Each price and each worth of the tree lies in its
-/// range. `workers` is 1 to 16, and `gate` is told of each pricing before it begins, and of how far the search
-/// has come. It fails only where there is no memory left.
-pub fn find_plan<P: Pricer, R: Threads + Sync, G: Gate + Sync>(
-    runtime: &Runtime<R, G>,
+/// range. The runtime's gate is told how far the search has come. It fails only where there is no memory left.
+pub fn find_plan<P: Pricer, C: PricingCrew<P>, G: Gate>(
+    runtime: &Runtime<C, G>,
     snapshot: &Snapshot,
     pricer: &P,
     start: Plan,
     sheet: Sheet,
     limits: Limits,
-    workers: u32,
 ) -> Result<Found, AllocError>
     requires snapshot { P.snapshot pricer.now ≡ snapshot.now }
     requires start { IsFeasiblePlan snapshot.now start }
     requires sheet { IsSheetIn snapshot.now (root_of snapshot.now) sheet }
     requires sum { pos 0 ≤ℤ sum_of_sheet sheet }
-    requires rounds { (1 ≤ limits.rounds) × (limits.rounds ≤ 10 ^ 18) }
-    requires most_tours { (1 ≤ limits.most_tours) × (limits.most_tours ≤ 10 ^ 18) }
-    requires workers { (1 ≤ workers) × (workers ≤ MOST_WORKERS) }
     ensures found { IfOk result (λ f. IsFound sheet.prices (rounded_up (sum_of_sheet sheet)) snapshot.now
         limits.rounds limits.most_tours f.stated.plan f.stated.cost f.stated.bound f.tree.twigs f.turns f.why) }
     ensures why { IfOk result (HasReason snapshot.now limits.rounds limits.most_tours sheet) }
     ensures sized { IfOk result (λ f. All IsSizedTwig f.tree.twigs) }
 {
-    let mut desks = desks_for(runtime.alloc, pricer, workers)?;
+    let mut desks = desks_for(runtime.alloc, pricer, runtime.workers.count())?;
     find_at(runtime, snapshot, pricer, start, sheet, limits, &mut desks)
 }

@@ -37,6 +37,6 @@ mod steps;
 mod telling;
 
 pub(crate) use best::Best;
-pub use found::{Found, Limits, find_plan};
+pub use found::{Found, find_plan};
 pub(crate) use root::Root;
 pub(crate) use search::Search;

@@ -17,14 +17,12 @@ use call_state::Snapshot;
 use elevator_model::Plan;
 use price_scale::Price;
 use price_steps::Steps;
-use pricing_rounds::Task;
+use pricing_rounds::{PricingCrew, Task};
 use root_turns::{greatest_of, price_turn, prices_after, step_after};
 use search_model::{Items, Turn, TurnOf};
 use search_tree::{SearchTree, Sheet, first_choice};
 use std::alloc::{AllocError, Global};
-use std::marker::Sync;
 use std::mem::replace;
-use std::thread::Threads;
 use work_fan::Runtime;
 
 /// The root, which is not split yet, and the turns that were made at it.
@@ -102,9 +100,9 @@ impl<'a> Root<'a> {
     }
 
     /// The pricings of all cars at the present prices. It fails only where there is no memory left.
-    fn price<P: Pricer, R: Threads + Sync, G: Gate + Sync>(
+    fn price<P: Pricer, C: PricingCrew<P>, G: Gate>(
         &self,
-        runtime: &Runtime<R, G>,
+        runtime: &Runtime<C, G>,
         pricer: &P,
         most_tours: u64,
         desks: &mut [P::Desk],
@@ -196,9 +194,9 @@ impl<'a> Root<'a> {
     }
 
     /// One turn: the pricings of all cars at the present prices. It fails only where there is no memory left.
-    fn turn<P: Pricer, R: Threads + Sync, G: Gate + Sync>(
+    fn turn<P: Pricer, C: PricingCrew<P>, G: Gate>(
         &mut self,
-        runtime: &Runtime<R, G>,
+        runtime: &Runtime<C, G>,
         pricer: &P,
         most_tours: u64,
         desks: &mut [P::Desk],
@@ -223,9 +221,9 @@ impl<'a> Root<'a> {
     }
 
     /// Turns until there are this many or the root is not open. It fails only where there is no memory left.
-    pub(crate) fn turn_until<P: Pricer, R: Threads + Sync, G: Gate + Sync>(
+    pub(crate) fn turn_until<P: Pricer, C: PricingCrew<P>, G: Gate>(
         &mut self,
-        runtime: &Runtime<R, G>,
+        runtime: &Runtime<C, G>,
         pricer: &P,
         most_tours: u64,
         most: usize,
@@ -279,9 +277,9 @@ impl<'a> Root<'a> {
 
     /// The only turn of a root in which each call has one car: where no car reached the limit, its tours make
     /// a plan that costs no more than the leaf's bound. It fails only where there is no memory left.
-    pub(crate) fn turn_once<P: Pricer, R: Threads + Sync, G: Gate + Sync>(
+    pub(crate) fn turn_once<P: Pricer, C: PricingCrew<P>, G: Gate>(
         &mut self,
-        runtime: &Runtime<R, G>,
+        runtime: &Runtime<C, G>,
         pricer: &P,
         most_tours: u64,
         desks: &mut [P::Desk],
@@ -305,9 +303,9 @@ impl<'a> Root<'a> {
 
     /// The turns that are due: where some call has two cars, as many as there may be rounds and 20 at most,
     /// or until the root is not open; else one where it is open. It fails only where there is no memory left.
-    pub(crate) fn turn_as_due<P: Pricer, R: Threads + Sync, G: Gate + Sync>(
+    pub(crate) fn turn_as_due<P: Pricer, C: PricingCrew<P>, G: Gate>(
         &mut self,
-        runtime: &Runtime<R, G>,
+        runtime: &Runtime<C, G>,
         pricer: &P,
         rounds: u64,
         most_tours: u64,

@@ -12,11 +12,9 @@ use crate::steps::next_prices;
 use assign_branch::Pricer;
 use byte_streams::{Gate, Progress};
 use price_scale::Price;
-use pricing_rounds::{Task, price_nodes};
+use pricing_rounds::{PricingCrew, Task, price_nodes};
 use search_model::TurnOf;
 use std::alloc::{AllocError, Global};
-use std::marker::Sync;
-use std::thread::Threads;
 use work_fan::Runtime;
 
 /// A leaf that a round prices, and at which prices.
@@ -89,9 +87,9 @@ impl<'a> Search<'a> {
 
     /// Prices every car in each of these leaves, with one worker for each desk. It fails only where there is
     /// no memory left.
-    fn price<P: Pricer, R: Threads + Sync, G: Gate + Sync>(
+    fn price<P: Pricer, C: PricingCrew<P>, G: Gate>(
         &self,
-        runtime: &Runtime<R, G>,
+        runtime: &Runtime<C, G>,
         pricer: &P,
         most_tours: u64,
         chosen: &[Chosen],
@@ -142,9 +140,9 @@ impl<'a> Search<'a> {
 
     /// Prices up to four leaves and takes in what was answered. False, and all is as before, exactly where no
     /// leaf may be priced any more. It fails only where there is no memory left.
-    fn round<P: Pricer, R: Threads + Sync, G: Gate + Sync>(
+    fn round<P: Pricer, C: PricingCrew<P>, G: Gate>(
         &mut self,
-        runtime: &Runtime<R, G>,
+        runtime: &Runtime<C, G>,
         pricer: &P,
         most_tours: u64,
         desks: &mut [P::Desk],
@@ -180,9 +178,9 @@ impl<'a> Search<'a> {
 
     /// Rounds until this many were done or no leaf may be priced any more. It fails only where there is no
     /// memory left.
-    pub(crate) fn run<P: Pricer, R: Threads + Sync, G: Gate + Sync>(
+    pub(crate) fn run<P: Pricer, C: PricingCrew<P>, G: Gate>(
         &mut self,
-        runtime: &Runtime<R, G>,
+        runtime: &Runtime<C, G>,
         pricer: &P,
         rounds: u64,
         most_tours: u64,

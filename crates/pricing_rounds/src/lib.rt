@@ -4,19 +4,21 @@
 //!
 //! # What is promised
 //!
-//! - `price_nodes` prices every car at each of at most four nodes, by any `Pricer` and 1 to 16 workers: each
+//! - `price_nodes` prices every car at each of at most four nodes, by any `Pricer` and any crew at 1 to 16 desks: each
 //!   place has a right answer, in the order of the nodes and, within one, of the cars (`AreAnswersOf`).
 //!
-//! Each pricing is one job of `fan`, drawn by as many workers as there are desks. The jobs are drawn by
-//! falling size (`drawing_order`), which the caller foretells. No clause rests on what it foretells, since
+//! Each pricing is one job of a `Round`, which a crew does (`PricingCrew`): the calling thread alone, or several
+//! threads with a desk for each. The jobs are drawn by falling size (`drawing_order`), which the caller foretells. No clause rests on what it foretells, since
 //! `in_places` puts each answer of the drawn order into its place.
 #![tactic(auto)]
 
+mod crews;
 mod desks;
 mod drawing;
 mod rounds;
 mod tasks;
 
+pub use crews::PricingCrew;
 pub use desks::desks_for;
-pub use rounds::price_nodes;
+pub use rounds::{Round, price_nodes};
 pub use tasks::Task;

@@ -5,20 +5,19 @@ ghost use Rattle.elevator_model.specs.Snapshot.{IsAccepted, car_count};
 ghost use Rattle.work_fan.specs.Work.{Serving};
 ghost use Rattle.pricing_rounds.specs.Rounds.{AreAnswersOf, IsRound, IsTaskOf};
 
+use crate::crews::PricingCrew;
 use crate::drawing::{drawing_order, in_places};
 use crate::tasks::Task;
 use assign_branch::Pricer;
 use byte_streams::{Gate, Progress};
 use search_model::TurnOf;
 use std::alloc::{AllocError, Global};
-use std::marker::Sync;
-use std::thread::Threads;
-use work_fan::{Jobs, Runtime, fan};
+use work_fan::{Jobs, Runtime};
 
 /// The pricings of every car at each of the nodes: pricing `p` is that of car `p % cars` at the node of
 /// task `p / cars`, and job `k` is pricing `order[k]`.
 #[derive(Drop)]
-struct Round<'a, P: Pricer> {
+pub struct Round<'a, P: Pricer> {
     pricer: &'a P,
     tasks: &'a [Task<'a>],
     cars: u32,
@@ -69,17 +68,16 @@ fn visits_of(priced: &[TurnOf]) -> u64 {
     visits
 }
 
-/// Prices every car at each of the nodes, with one worker for each desk: at `i * cars + c` stands the pricing
+/// Prices every car at each of the nodes, by the runtime's crew: at `i * cars + c` stands the pricing
 /// of car `c` at the node of task `i`, of at most `most_tours` partial tours, and the tour that it gave.
 ///
 /// `sizes` tells how many partial tours each pricing may try, as far as one can tell, in the order of the
 /// answers. It only says which pricings are drawn first, and may be of any length.
 ///
 /// It needs at most four tasks and 1 to 16 desks of the pricer, which are its own afterwards too, also where
-/// memory ran out. `gate` is told of each pricing before it begins, and after the last one how many partial tours
-/// were visited. It fails only where there is no memory left.
-pub fn price_nodes<P: Pricer, R: Threads + Sync, G: Gate + Sync>(
-    runtime: &Runtime<R, G>,
+/// memory ran out. The runtime's gate is told after the last pricing how many partial tours were visited. It fails only where there is no memory left.
+pub fn price_nodes<P: Pricer, C: PricingCrew<P>, G: Gate>(
+    runtime: &Runtime<C, G>,
     pricer: &P,
     cars: u32,
     tasks: &[Task],
@@ -108,7 +106,7 @@ pub fn price_nodes<P: Pricer, R: Threads + Sync, G: Gate + Sync>(
         order: &order,
         alloc: runtime.alloc,
     };
-    let drawn = fan(runtime.threads, runtime.alloc, &round, desks, runtime.gate)?;
+    let drawn = runtime.crew.price_all(runtime.alloc, &round, desks)?;
     runtime.gate.tell(Progress::Priced(visits_of(&drawn)));
     in_places(runtime.alloc, count, &order, drawn)
 }

@@ -92,6 +92,8 @@ impl<'a, G: Gate> Watch<'a, G> {
 }
 
 impl<G: Gate> Gate for Watch<'_, G> {
+    ghost never_stops = { λ it. G.never_stops it.gate.now };
+
     fn enter(&self, job: u32) {
         self.gate.enter(job);
     }
@@ -102,5 +104,9 @@ impl<G: Gate> Gate for Watch<'_, G> {
             Watched::Search => self.watch_search(progress),
             Watched::Rows => self.watch_rows(progress),
         }
+    }
+
+    fn may_go_on(&self) -> bool {
+        self.gate.may_go_on()
     }
 }

@@ -46,6 +46,8 @@ fn hundredths_of_percent(part: u64, whole: u64) -> u128 {
 }
 
 impl<E: Eprint> Gate for ErrorGate<'_, E> {
+    ghost never_stops = { λ _. Unit {0} };
+
     fn enter(&self, _job: u32) {}
 
     fn tell(&self, progress: Progress) {
@@ -59,5 +61,9 @@ impl<E: Eprint> Gate for ErrorGate<'_, E> {
             }
             Progress::Rows(rows) => eprintln!(self.standard_error; "rows {rows}"),
         };
+    }
+
+    fn may_go_on(&self) -> bool {
+        true
     }
 }

@@ -19,8 +19,6 @@ use lift_text::{LineReader, TextFault};
 use root_prices::{MOST_ROUNDS, RootReason};
 use snapshot_solver::solve_root;
 use std::alloc::{AllocError, Global};
-use std::marker::Sync;
-use std::thread::Threads;
 
 /// The snapshot that the whole input is the text of.
 fn read_input<S: Source>(alloc: Global, source: &mut S) -> Result<Snapshot, TextFault>
@@ -55,7 +53,6 @@ fn status_of(why: RootReason) -> Status
 
 /// The text of what turns at the root tell, and its status. It fails only where there is no memory left.
 fn answer_of(
-    rt: &(impl Threads + Sync),
     alloc: Global,
     rounds: u32,
     most_tours: u64,
@@ -66,7 +63,7 @@ fn answer_of(
     ensures { IfOk result (λ answer.
         IsRootTold snapshot.now rounds most_tours answer.status answer.text.items) }
 {
-    let answer = solve_root(rt, alloc, snapshot, rounds, most_tours)?;
+    let answer = solve_root(alloc, snapshot, rounds, most_tours)?;
     let text = root_text(alloc, snapshot, &answer)?;
     let status = status_of(answer.why);
     Ok(Answer { status, text })
@@ -76,7 +73,6 @@ fn answer_of(
 /// their tours, and whether the two meet; or what is wrong with the input. Each pricing tries at most
 /// `most_tours` partial tours, and the search for the plan in halves as many partial pairings.
 pub fn root<S: Source, K: Sink>(
-    rt: &(impl Threads + Sync),
     alloc: Global,
     rounds: u32,
     most_tours: u64,
@@ -99,7 +95,7 @@ pub fn root<S: Source, K: Sink>(
         (K.faults sink.new)) result }
 {
     match read_input(alloc, source) {
-        Ok(snapshot) => match answer_of(rt, alloc, rounds, most_tours, &snapshot) {
+        Ok(snapshot) => match answer_of(alloc, rounds, most_tours, &snapshot) {
             Ok(answer) => put(sink, answer.text.as_slice(), answer.status),
             Err(_) => Status::Memory,
         },

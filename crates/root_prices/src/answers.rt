@@ -16,12 +16,10 @@ use byte_streams::Gate;
 use call_state::Snapshot;
 use elevator_model::Plan;
 use half_plans::{Share, mixture_laws};
-use pricing_rounds::desks_for;
+use pricing_rounds::{PricingCrew, desks_for};
 use search_model::{Items, Turn};
 use search_tree::Sheet;
 use std::alloc::{AllocError, Global};
-use std::marker::Sync;
-use std::thread::Threads;
 use work_fan::Runtime;
 
 /// The most turns that may be asked for: with the start plan they have 32 tours of a car, as many as a pool
@@ -81,8 +79,8 @@ fn answer(alloc: Global, series: Series, most_tours: u64) -> Result<RootAnswer, 
 ///
 /// Each pricing tries at most `most_tours` partial tours, and the search for the plan in halves as many
 /// partial pairings. It fails only where there is no memory left.
-pub fn root_best<P: Pricer, R: Threads + Sync, G: Gate + Sync>(
-    runtime: &Runtime<R, G>,
+pub fn root_best<P: Pricer, C: PricingCrew<P>, G: Gate>(
+    runtime: &Runtime<C, G>,
     snapshot: &Snapshot,
     pricer: &P,
     start: &Plan,

@@ -15,15 +15,13 @@ use byte_streams::Gate;
 use call_state::Snapshot;
 use elevator_model::{MOST_CALLS, MOST_CARS, Plan};
 use price_scale::Price;
-use pricing_rounds::Task;
+use pricing_rounds::{PricingCrew, Task};
 use restricted_master::Pool;
 use root_turns::{greatest_of, pool_of, price_turn, prices_after, put_turn, step_after};
 use search_model::{Items, Turn, TurnOf};
 use search_tree::Sheet;
 use std::alloc::{AllocError, Global};
-use std::marker::Sync;
 use std::mem::replace;
-use std::thread::Threads;
 use work_fan::Runtime;
 
 /// The turns so far, and what is kept of them.
@@ -117,9 +115,9 @@ impl<'a> Series<'a> {
 
     /// The pricings of all cars in the root at the present prices. It fails only where there is no memory
     /// left.
-    fn price<P: Pricer, R: Threads + Sync, G: Gate + Sync>(
+    fn price<P: Pricer, C: PricingCrew<P>, G: Gate>(
         &self,
-        runtime: &Runtime<R, G>,
+        runtime: &Runtime<C, G>,
         pricer: &P,
         node: &Node,
         most_tours: u64,
@@ -183,9 +181,9 @@ impl<'a> Series<'a> {
     }
 
     /// One turn: the pricings of all cars at the present prices. It fails only where there is no memory left.
-    fn turn<P: Pricer, R: Threads + Sync, G: Gate + Sync>(
+    fn turn<P: Pricer, C: PricingCrew<P>, G: Gate>(
         &mut self,
-        runtime: &Runtime<R, G>,
+        runtime: &Runtime<C, G>,
         pricer: &P,
         node: &Node,
         most_tours: u64,
@@ -211,9 +209,9 @@ impl<'a> Series<'a> {
     }
 
     /// This many turns, one after another. It fails only where there is no memory left.
-    pub(crate) fn run<P: Pricer, R: Threads + Sync, G: Gate + Sync>(
+    pub(crate) fn run<P: Pricer, C: PricingCrew<P>, G: Gate>(
         &mut self,
-        runtime: &Runtime<R, G>,
+        runtime: &Runtime<C, G>,
         pricer: &P,
         node: &Node,
         rounds: u32,

@@ -8,11 +8,9 @@ ghost use Rattle.pricing_rounds.specs.Rounds.{IsTaskOf};
 
 use assign_branch::Pricer;
 use byte_streams::Gate;
-use pricing_rounds::{Task, price_nodes};
+use pricing_rounds::{PricingCrew, Task, price_nodes};
 use search_model::{Turn, TurnOf};
 use std::alloc::{AllocError, Global};
-use std::marker::Sync;
-use std::thread::Threads;
 use work_fan::Runtime;
 
 /// How many partial tours each car's pricing tried in the turn; none where there is no turn. It fails only
@@ -27,10 +25,10 @@ fn sizes_of(alloc: Global, turn: Option<&Turn>) -> Result<Vec<u64>, AllocError> 
     Ok(sizes)
 }
 
-/// The pricings of all cars in one node at these prices, with one worker for each desk. The last turn, if
+/// The pricings of all cars in one node at these prices, by the runtime's crew. The last turn, if
 /// there was one, only tells which pricings are drawn first. It fails only where there is no memory left.
-pub fn price_turn<P: Pricer, R: Threads + Sync, G: Gate + Sync>(
-    runtime: &Runtime<R, G>,
+pub fn price_turn<P: Pricer, C: PricingCrew<P>, G: Gate>(
+    runtime: &Runtime<C, G>,
     pricer: &P,
     cars: u32,
     task: Task,

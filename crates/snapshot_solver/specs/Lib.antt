@@ -1,2 +1,3 @@
 pub mod Starts
 pub mod Roots
+pub mod Crews

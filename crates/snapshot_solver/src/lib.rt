@@ -8,7 +8,8 @@
 //!
 //! - `solve` is the search of `node_search` for a snapshot, with the searcher of `pricing_search`, the plan
 //!   of `first` and the prices and worths of `start_leaf`. It answers `IsSolveAnswer`, and it ends solved
-//!   wherever the limits are enough for the snapshot. It states no claims: what states them comes after it.
+//!   wherever the limits are enough for the snapshot. It states no claims: what states them comes after it. A
+//!   crew makes its pricings (`SearchCrew`), the calling thread alone or one that starts threads.
 //! - `solve_root` makes turns at the root, as many as is asked for, with the same pricer, plan and prices, by
 //!   `root_prices` (`IsRootSolution`).
 //! - `start_leaf` gives the leaf with which a search starts, as a certificate states it: the price of a call
@@ -19,11 +20,13 @@
 #![tactic(auto)]
 
 mod costs;
+mod crews;
 mod rooting;
 mod solving;
 mod starts;
 
-pub use node_search::{Found, Limits};
+pub use crews::SearchCrew;
+pub use node_search::Found;
 pub use rooting::solve_root;
 pub use solving::solve;
 pub use starts::start_leaf;

@@ -3,6 +3,7 @@
 ghost use Rattle.std.specs.Prelude.{◌≤◌, ◌^◌, IfOk};
 ghost use Rattle.snapshot_solver.specs.Roots.{IsRootSolution};
 
+use crate::crews::ByCrew;
 use crate::starts::start_sheet;
 use byte_streams::OpenGate;
 use call_state::Snapshot;
@@ -10,15 +11,12 @@ use first_plan::first;
 use pricing_search::Searcher;
 use root_prices::{MOST_ROUNDS, RootAnswer, root_best};
 use std::alloc::{AllocError, Global};
-use std::marker::Sync;
-use std::thread::Threads;
-use work_fan::Runtime;
+use work_fan::{Alone, Runtime, Workers};
 
 /// Makes turns at the root of the snapshot, 1 to 31 rounds of them, from the prices and the plan with which
 /// `solve` starts, and answers the best prices of them, the cheapest plan in halves of their tours, and
-/// whether the two meet. One worker makes them. It fails only where there is no memory left.
+/// whether the two meet. The calling thread alone makes them. It fails only where there is no memory left.
 pub fn solve_root(
-    rt: &(impl Threads + Sync),
     alloc: Global,
     snapshot: &Snapshot,
     rounds: u32,
@@ -31,8 +29,10 @@ pub fn solve_root(
     let start = first(alloc, snapshot)?;
     let sheet = start_sheet(alloc, snapshot)?;
     let searcher = Searcher::new(snapshot);
+    let alone = Alone::new(&OpenGate);
     let runtime = Runtime {
-        threads: rt,
+        crew: &ByCrew { crew: &alone },
+        workers: Workers::one(),
         alloc,
         gate: &OpenGate,
     };

@@ -61,12 +61,3 @@ pub record AreExtrasBelow (s : Snapshot) (rounds moves : ℕ) (before : Searched
   pub count : length extras ≡ n
   pub each : (c : ℕ) → c < n → IsExtraOf s rounds moves before c (extra_at extras c)
   pub ranged : (c : ℕ) → c < n → IsRanged (extra_at extras c)
-
--- limits and workers in their ranges
-pub record AreLimits (rounds moves workers : ℕ) : Type 0 where
-  pub rounds_low : 1 ≤ rounds
-  pub rounds_high : rounds ≤ 10 ^ 18
-  pub moves_low : 1 ≤ moves
-  pub moves_high : moves ≤ 10 ^ 18
-  pub workers_low : 1 ≤ workers
-  pub workers_high : workers ≤ 16

@@ -5,7 +5,7 @@ ghost use Rattle.elevator_model.specs.Snapshot.{call_count, car_count};
 ghost use Rattle.what_if.specs.WhatIf.{AreEnough, AreExtras, AreSettled, CanTakeAsked, IsExtraOf};
 ghost use Rattle.what_if.specs.WhatIf.{IsRegret, IsSearched};
 ghost use Rattle.what_if.specs.WhatIf.{with_pin as with_pin_lem, without_last as without_last_lem};
-ghost use Rattle.what_if.specs.Ends.{AreExtrasBelow, AreLimits, IsRanged};
+ghost use Rattle.what_if.specs.Ends.{AreExtrasBelow, IsRanged};
 
 use crate::extras::{Extra, Searched, extra_between};
 use crate::nearest::{nearest_car, takes_last};
@@ -13,11 +13,10 @@ use crate::regrets::{Regret, regret_of};
 use crate::variants::{with_pin, without_last};
 use byte_streams::Gate;
 use call_state::Snapshot;
-use snapshot_solver::{Limits, solve};
-use std::alloc::{AllocError, Global};
-use std::marker::Sync;
-use std::thread::Threads;
-use work_fan::{MOST_WORKERS, Runtime};
+use search_model::Limits;
+use snapshot_solver::{SearchCrew, solve};
+use std::alloc::AllocError;
+use work_fan::Runtime;
 
 /// What one more call costs.
 #[derive(Drop)]
@@ -29,25 +28,16 @@ pub struct ExtraCosts {
 }
 
 /// The cost and the bound that the search of a snapshot answers.
-fn search<R: Threads + Sync, G: Gate + Sync>(
-    runtime: &Runtime<R, G>,
+fn search<C: SearchCrew, G: Gate>(
+    runtime: &Runtime<C, G>,
     snapshot: &Snapshot,
     limits: Limits,
-    workers: u32,
 ) -> Result<Searched, AllocError>
-    requires { AreLimits limits.rounds limits.most_tours workers }
     ensures { IfOk result (IsSearched snapshot.now limits.rounds limits.most_tours) }
 {
     // For the proof: a reader tells that the snapshot keeps the rules.
     let _moment = snapshot.now();
-    let found = solve(
-        runtime.threads,
-        runtime.alloc,
-        snapshot,
-        limits,
-        workers,
-        runtime.gate,
-    )?;
+    let found = solve(runtime, snapshot, limits)?;
     Ok(Searched {
         cost: found.stated.cost,
         bound: found.stated.bound,
@@ -55,52 +45,46 @@ fn search<R: Threads + Sync, G: Gate + Sync>(
 }
 
 /// What the search without the last call answers.
-fn search_without<R: Threads + Sync, G: Gate + Sync>(
-    runtime: &Runtime<R, G>,
+fn search_without<C: SearchCrew, G: Gate>(
+    runtime: &Runtime<C, G>,
     snapshot: &Snapshot,
     limits: Limits,
-    workers: u32,
 ) -> Result<Searched, AllocError>
     requires last { 1 ≤ call_count snapshot.now }
-    requires limits { AreLimits limits.rounds limits.most_tours workers }
     ensures { IfOk result
         (IsSearched (without_last_lem snapshot.now) limits.rounds limits.most_tours) }
 {
     let other = without_last(runtime.alloc, snapshot)?;
-    search(runtime, &other, limits, workers)
+    search(runtime, &other, limits)
 }
 
 /// What the search with the last call pinned to a car that can take it answers.
-fn search_with<R: Threads + Sync, G: Gate + Sync>(
-    runtime: &Runtime<R, G>,
+fn search_with<C: SearchCrew, G: Gate>(
+    runtime: &Runtime<C, G>,
     snapshot: &Snapshot,
     car: u32,
     limits: Limits,
-    workers: u32,
 ) -> Result<Searched, AllocError>
     requires last { 1 ≤ call_count snapshot.now }
     requires takes { CanTakeAsked snapshot.now car }
-    requires limits { AreLimits limits.rounds limits.most_tours workers }
     ensures { IfOk result
         (IsSearched (with_pin_lem snapshot.now car) limits.rounds limits.most_tours) }
 {
     let other = with_pin(runtime.alloc, snapshot, car)?;
-    search(runtime, &other, limits, workers)
+    search(runtime, &other, limits)
 }
 
 /// The extra cost with this car, after the search without the last call.
-fn extra_of<R: Threads + Sync, G: Gate + Sync>(
-    runtime: &Runtime<R, G>,
+fn extra_of<C: SearchCrew, G: Gate>(
+    runtime: &Runtime<C, G>,
     snapshot: &Snapshot,
     car: u32,
     before: Searched,
     limits: Limits,
-    workers: u32,
 ) -> Result<Extra, AllocError>
     requires last { 1 ≤ call_count snapshot.now }
     requires car { car < car_count snapshot.now }
     requires before { IsSearched (without_last_lem snapshot.now) limits.rounds limits.most_tours before }
-    requires limits { AreLimits limits.rounds limits.most_tours workers }
     ensures told { IfOk result
         (IsExtraOf snapshot.now limits.rounds limits.most_tours before car) }
     ensures ranged { IfOk result IsRanged }
@@ -108,63 +92,49 @@ fn extra_of<R: Threads + Sync, G: Gate + Sync>(
     if !takes_last(snapshot, car) {
         return Ok(Extra::None);
     }
-    let after = search_with(runtime, snapshot, car, limits, workers)?;
+    let after = search_with(runtime, snapshot, car, limits)?;
     Ok(extra_between(before, after))
 }
 
 /// The extra cost with each car, after the search without the last call.
-fn extras_of<R: Threads + Sync, G: Gate + Sync>(
-    runtime: &Runtime<R, G>,
+fn extras_of<C: SearchCrew, G: Gate>(
+    runtime: &Runtime<C, G>,
     snapshot: &Snapshot,
     before: Searched,
     limits: Limits,
-    workers: u32,
 ) -> Result<Vec<Extra>, AllocError>
     requires last { 1 ≤ call_count snapshot.now }
     requires before { IsSearched (without_last_lem snapshot.now) limits.rounds limits.most_tours before }
-    requires limits { AreLimits limits.rounds limits.most_tours workers }
     ensures { IfOk result (λ extras. AreExtrasBelow snapshot.now limits.rounds limits.most_tours before
         (car_count snapshot.now) extras.items) }
 {
     let mut extras = Vec::new(runtime.alloc);
     for car in 0..snapshot.building().cars().len() as u32 {
-        let extra = extra_of(runtime, snapshot, car, before, limits, workers)?;
+        let extra = extra_of(runtime, snapshot, car, before, limits)?;
         extras.push(extra)?;
     }
     Ok(extras)
 }
 
 /// What the last call costs with each car: the least cost with the call pinned to the car less the least
-/// cost without the call, as far as searches within the limits tell it, with 1 to 16 workers.
+/// cost without the call, as far as searches within the limits tell it.
 ///
 /// The snapshot without the call is searched once, and that with the call pinned to a car once for each car
-/// that can take it, one after another. `gate` is told of each pricing before it begins. It fails only where
-/// there is no memory left.
-pub fn what_if<G: Gate + Sync>(
-    rt: &(impl Threads + Sync),
-    alloc: Global,
+/// that can take it, one after another. It fails only where there is no memory left.
+pub fn what_if<C: SearchCrew, G: Gate>(
+    runtime: &Runtime<C, G>,
     snapshot: &Snapshot,
     limits: Limits,
-    workers: u32,
-    gate: &G,
 ) -> Result<ExtraCosts, AllocError>
     requires last { 1 ≤ call_count snapshot.now }
-    requires rounds { (1 ≤ limits.rounds) × (limits.rounds ≤ 10 ^ 18) }
-    requires most_tours { (1 ≤ limits.most_tours) × (limits.most_tours ≤ 10 ^ 18) }
-    requires workers { (1 ≤ workers) × (workers ≤ MOST_WORKERS) }
     ensures extras { IfOk result
         (λ costs. AreExtras snapshot.now limits.rounds limits.most_tours costs.extras.items) }
     ensures nearest { IfOk result (λ costs. IsRegret snapshot.now costs.extras.items costs.nearest) }
     ensures enough { AreEnough snapshot.now limits.rounds limits.most_tours
         → IfOk result (λ costs. AreSettled costs.extras.items) }
 {
-    let runtime = Runtime {
-        threads: rt,
-        alloc,
-        gate,
-    };
-    let before = search_without(&runtime, snapshot, limits, workers)?;
-    let extras = extras_of(&runtime, snapshot, before, limits, workers)?;
+    let before = search_without(runtime, snapshot, limits)?;
+    let extras = extras_of(runtime, snapshot, before, limits)?;
     let nearest = regret_of(&extras, nearest_car(snapshot));
     Ok(ExtraCosts { extras, nearest })
 }

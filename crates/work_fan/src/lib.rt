@@ -1,20 +1,22 @@
 //! Work that is drawn from one line of jobs, by workers in threads of their own.
 //!
 //! The calling thread starts the workers and waits for them (`work_at`); a lone worker is the calling thread
-//! itself. While jobs are drawn and done no worker waits for another: there is no lock, no channel and no
+//! itself, and `fan_alone` has no other. While jobs are drawn and done no worker waits for another: there is no lock, no channel and no
 //! loop that waits.
 //!
 //! # What is promised
 //!
-//! - `JobLine`, `fan`: the numbers 0, 1, .. are drawn from one shared word, each once and none past the
+//! - `JobLine`, `fan`, `fan_alone`: the numbers 0, 1, .. are drawn from one shared word, each once and none past the
 //!   count; each answer is a right one and takes its job's place.
 //! - `in_order`: answers of jobs, each done at least once, in the order of the jobs.
 #![tactic(auto)]
 
+mod crews;
 mod line;
 mod runtime;
 mod workers;
 
+pub use crews::Alone;
 pub use line::{JobLine, JobSeat, MOST_WORKERS};
-pub use runtime::Runtime;
-pub use workers::{Done, Jobs, fan, in_order};
+pub use runtime::{Runtime, Workers};
+pub use workers::{Done, Jobs, fan, fan_alone, in_order};

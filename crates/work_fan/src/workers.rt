@@ -7,7 +7,6 @@ ghost use Rattle.work_fan.specs.Line.{times};
 ghost use Rattle.work_fan.specs.Work.{Finished, SameSeat, Serving, Starts, jobs_of};
 
 use crate::line::{JobLine, JobSeat};
-use crate::runtime::Runtime;
 use byte_streams::Gate;
 use std::alloc::{AllocError, Global};
 use std::marker::{Send, Sync};
@@ -55,6 +54,14 @@ struct Worker<A> {
     done: Vec<Done<A>>,
 }
 
+// What the threads of one call take.
+#[derive(Drop)]
+struct ThreadsOf<'a, R: Threads, G: Gate + Sync> {
+    rt: &'a R,
+    alloc: Global,
+    gate: &'a G,
+}
+
 // Draws jobs from the line, and does them one after another, until none is left.
 fn work_through<D, A: Drop, J: Jobs<Desk = D, Answer = A>, G: Gate>(
     line: &JobLine,
@@ -81,7 +88,7 @@ fn work_through<D, A: Drop, J: Jobs<Desk = D, Answer = A>, G: Gate>(
 // The worker of a desk draws from the line, in a thread of its own where one can be made, and this thread
 // waits.
 fn work_aside<
-    R: Threads + Sync,
+    R: Threads,
     D: Send,
     A: Send + Drop,
     J: Jobs<Desk = D, Answer = A> + Sync,
@@ -120,7 +127,7 @@ fn work_aside<
 // a thread that it starts behind it, on the same processor, for milliseconds while others are idle.
 #[cycle(desks)]
 fn work_at<
-    R: Threads + Sync,
+    R: Threads,
     D: Send,
     A: Send + Drop,
     J: Jobs<Desk = D, Answer = A> + Sync,
@@ -149,13 +156,9 @@ fn work_at<
         seat: line.split(&mut worker.seat, 1),
         done: Vec::new(alloc),
     };
-    let runtime = Runtime {
-        threads: rt,
-        alloc,
-        gate,
-    };
+    let threads = ThreadsOf { rt, alloc, gate };
     let (mine, theirs) = first_and_rest(
-        &runtime,
+        &threads,
         line,
         jobs,
         worker,
@@ -174,13 +177,13 @@ fn work_at<
 // A separate function from `work_at`, so that what the closures require is what this function is given.
 #[cycle(desks)]
 fn first_and_rest<
-    R: Threads + Sync,
+    R: Threads,
     D: Send,
     A: Send + Drop,
     J: Jobs<Desk = D, Answer = A> + Sync,
     G: Gate + Sync,
 >(
-    runtime: &Runtime<R, G>,
+    threads: &ThreadsOf<R, G>,
     line: &JobLine,
     jobs: &J,
     worker: &mut Worker<A>,
@@ -198,9 +201,9 @@ fn first_and_rest<
     ensures seats { SameSeat worker.old worker.new × SameSeat other.old other.new }
     ensures desks { All (J.serves jobs.now) rest.new × J.serves jobs.now first.new }
 {
-    let (rt, alloc, gate) = (runtime.threads, runtime.alloc, runtime.gate);
+    let (rt, alloc, gate) = (threads.rt, threads.alloc, threads.gate);
     let mut mine = || -> Result<(), AllocError>
-        requires threads { IsSync R.row × IsSync J.row × IsSync G.row × IsSend D.row
+        requires threads { IsSync J.row × IsSync G.row × IsSend D.row
             × IsSend A.row }
         requires jobs { line.now.count ≡ J.number jobs.now }
         requires worker { Starts line.now (length rest.now) worker.now }
@@ -226,7 +229,7 @@ fn first_and_rest<
 
 // The worker of each desk draws from the line: a lone one in this thread, several in threads of their own.
 fn work_with<
-    R: Threads + Sync,
+    R: Threads,
     D: Send,
     A: Send + Drop,
     J: Jobs<Desk = D, Answer = A> + Sync,
@@ -314,7 +317,7 @@ pub fn in_order<A: Drop>(
 /// where they can be made. `gate` is told of each job before it begins. It needs 1 to 16 desks, each of which
 /// serves the jobs, and serves them afterwards too, also where memory ran out.
 pub fn fan<J: Jobs, G: Gate + Sync>(
-    rt: &(impl Threads + Sync),
+    rt: &impl Threads,
     alloc: Global,
     jobs: &J,
     desks: &mut [J::Desk],
@@ -332,6 +335,31 @@ pub fn fan<J: Jobs, G: Gate + Sync>(
         done: Vec::new(alloc),
     };
     let worked = work_with(rt, alloc, &line, jobs, gate, &mut all, desks);
+    let Worker { seat, done } = all;
+    line.close(seat);
+    worked?;
+    in_order(alloc, jobs.count(), done)
+}
+
+/// The same, by the calling thread alone, at the first of the desks.
+pub fn fan_alone<J: Jobs, G: Gate>(
+    alloc: Global,
+    jobs: &J,
+    desks: &mut [J::Desk],
+    gate: &G,
+) -> Result<Vec<J::Answer>, AllocError>
+    requires { Serving (J.serves jobs.now) desks.old }
+    ensures count { IfOk result (λ answers. length answers.items ≡ J.number jobs.now) }
+    ensures right { IfOk result (λ answers.
+        (k : ℕ) (a : J.Answer) → slice_get answers.items k ≡ Some a → J.is_right jobs.now k a) }
+    ensures desks { All (J.serves jobs.now) desks.new }
+{
+    let (line, seat) = JobLine::begin(alloc, jobs.count(), 1)?;
+    let mut all = Worker {
+        seat,
+        done: Vec::new(alloc),
+    };
+    let worked = work_through(&line, jobs, gate, &mut all, &mut desks[0]);
     let Worker { seat, done } = all;
     line.close(seat);
     worked?;

@@ -3,11 +3,12 @@
 use byte_streams::OpenGate;
 use call_state::Snapshot;
 use case_kit::snapshot_in;
-use snapshot_solver::Limits;
+use search_model::Limits;
 use std::alloc::Global;
-use std::marker::Sync;
 use std::thread::Threads;
+use thread_crew::InThreads;
 use what_if::{Extra, ExtraCosts, what_if};
+use work_fan::{Runtime, Workers};
 
 /// A person at floor 0 wants to go to floor 1. One car stands there, and another at the top.
 const ONE_STANDS_THERE: &str = "building 1
@@ -67,26 +68,26 @@ fn are_due(costs: &ExtraCosts, due: DueExtras) -> bool {
         && costs.nearest.high == due.regret
 }
 
-fn costs_so(
-    rt: &(impl Threads + Sync),
-    alloc: Global,
-    snapshot: &Snapshot,
-    due: DueExtras,
-) -> bool {
+fn costs_so(rt: &impl Threads, alloc: Global, snapshot: &Snapshot, due: DueExtras) -> bool {
     if snapshot.calls().is_empty() {
         return false;
     }
-    let limits = Limits {
-        rounds: 2000,
-        most_tours: 75000,
+    let (Some(limits), Some(workers)) = (Limits::new(2000, 75000), Workers::new(2)) else {
+        return false;
     };
-    match what_if(rt, alloc, snapshot, limits, 2, &OpenGate) {
+    let runtime = Runtime {
+        crew: &InThreads::new(rt),
+        workers,
+        alloc,
+        gate: &OpenGate,
+    };
+    match what_if(&runtime, snapshot, limits) {
         Ok(costs) => are_due(&costs, due),
         Err(_) => false,
     }
 }
 
-fn text_costs_so(rt: &(impl Threads + Sync), alloc: Global, text: &str, due: DueExtras) -> bool {
+fn text_costs_so(rt: &impl Threads, alloc: Global, text: &str, due: DueExtras) -> bool {
     match snapshot_in(alloc, text.as_bytes()) {
         Some(snapshot) => costs_so(rt, alloc, &snapshot, due),
         None => false,

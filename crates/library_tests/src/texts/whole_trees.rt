@@ -10,8 +10,9 @@ use cert_text::read_cert;
 use lift_text::LineReader;
 use search_model::{Stated, Twig, Verdict};
 use std::alloc::Global;
-use std::marker::Sync;
 use std::thread::Threads;
+use thread_crew::InThreads;
+use work_fan::{Runtime, Workers};
 
 /// Two cars, of which each may take the call; the first one is nearer.
 const TWO_CARS: &[u8] = b"building 1
@@ -52,12 +53,7 @@ struct Certified<'a> {
 }
 
 /// Whether this many workers say yes.
-fn is_proved_by(
-    rt: &(impl Threads + Sync),
-    alloc: Global,
-    certified: Certified,
-    workers: u32,
-) -> bool {
+fn is_proved_by(rt: &impl Threads, alloc: Global, certified: Certified, workers: u32) -> bool {
     let Certified {
         snapshot,
         stated,
@@ -65,17 +61,23 @@ fn is_proved_by(
     } = certified;
     let cars = snapshot.building().cars().len();
     let fits = twigs.len() < 1000 && have_sized_worths(twigs) && stated.plan.tours().len() == cars;
-    if !fits || workers < 1 || workers > 16 {
+    let Some(workers) = Workers::new(workers) else {
+        return false;
+    };
+    if !fits {
         return false;
     }
-    matches!(
-        check(rt, alloc, snapshot, stated, twigs, workers, &OpenGate),
-        Ok(Verdict::Yes)
-    )
+    let runtime = Runtime {
+        crew: &InThreads::new(rt),
+        workers,
+        alloc,
+        gate: &OpenGate,
+    };
+    matches!(check(&runtime, snapshot, stated, twigs), Ok(Verdict::Yes))
 }
 
 /// Whether each number of workers says yes.
-fn is_proved_by_all(rt: &(impl Threads + Sync), alloc: Global, certified: Certified) -> bool {
+fn is_proved_by_all(rt: &impl Threads, alloc: Global, certified: Certified) -> bool {
     for workers in [1, 2, 3, 16] {
         if !is_proved_by(rt, alloc, certified, workers) {
             return false;
@@ -86,7 +88,7 @@ fn is_proved_by_all(rt: &(impl Threads + Sync), alloc: Global, certified: Certif
 
 /// Whether the certificate of the lines proves what is stated.
 fn lines_prove(
-    rt: &(impl Threads + Sync),
+    rt: &impl Threads,
     alloc: Global,
     lines: &mut LineReader<MemorySource>,
     snapshot: &Snapshot,
@@ -108,7 +110,7 @@ fn lines_prove(
 
 /// Whether the certificate of the source does.
 fn source_proves(
-    rt: &(impl Threads + Sync),
+    rt: &impl Threads,
     alloc: Global,
     source: &mut MemorySource,
     snapshot: &Snapshot,
@@ -122,7 +124,7 @@ fn source_proves(
 
 /// Whether two leaves prove what is stated.
 fn is_stated_proved(
-    rt: &(impl Threads + Sync),
+    rt: &impl Threads,
     alloc: Global,
     snapshot: &Snapshot,
     stated: &Stated,
@@ -134,7 +136,7 @@ fn is_stated_proved(
 }
 
 /// Whether they prove that the cheapest plan costs 7500.
-fn is_proved(rt: &(impl Threads + Sync), alloc: Global, snapshot: &Snapshot) -> bool {
+fn is_proved(rt: &impl Threads, alloc: Global, snapshot: &Snapshot) -> bool {
     match plan_in(alloc, "0:0 1 /") {
         Some(plan) => {
             let (cost, bound) = (7500, 7500);
@@ -144,7 +146,7 @@ fn is_proved(rt: &(impl Threads + Sync), alloc: Global, snapshot: &Snapshot) -> 
     }
 }
 
-fn is_case_proved(rt: &(impl Threads + Sync), alloc: Global) -> bool {
+fn is_case_proved(rt: &impl Threads, alloc: Global) -> bool {
     match snapshot_in(alloc, TWO_CARS) {
         Some(snapshot) => is_proved(rt, alloc, &snapshot),
         None => false,

@@ -2,7 +2,9 @@
 
 use case_kit::push_word;
 use lift_words::{Request, SolveOptions, WordsFault, read_words};
+use search_model::Limits;
 use std::alloc::Global;
+use work_fan::Workers;
 
 /// Appends the words, as a command line has them. False out of memory.
 pub(crate) fn put_words(alloc: Global, words: &[&str], all: &mut Vec<String>) -> bool {
@@ -14,9 +16,9 @@ pub(crate) fn put_words(alloc: Global, words: &[&str], all: &mut Vec<String>) ->
 }
 
 fn are_same(options: SolveOptions, due: SolveOptions) -> bool {
-    options.rounds == due.rounds
-        && options.moves == due.moves
-        && options.workers == due.workers
+    options.limits.rounds() == due.limits.rounds()
+        && options.limits.most_tours() == due.limits.most_tours()
+        && options.workers.count() == due.workers.count()
         && options.claims == due.claims
         && options.brief == due.brief
         && options.progress == due.progress
@@ -30,21 +32,26 @@ fn is_solve(alloc: Global, words: &[String], due: SolveOptions) -> bool {
     }
 }
 
-fn are_words_of(alloc: Global, words: &[&str], due: SolveOptions) -> bool {
+fn are_words_of(alloc: Global, words: &[&str], due: Option<SolveOptions>) -> bool {
+    let Some(due) = due else {
+        return false;
+    };
     let mut all = Vec::new(alloc);
     put_words(alloc, words, &mut all) && is_solve(alloc, all.as_slice(), due)
 }
 
-#[test]
-fn a_request_has_its_numbers(rt: HostRuntime) {
-    let options = SolveOptions {
-        rounds: 11,
-        moves: 7,
-        workers: 3,
+fn options_due() -> Option<SolveOptions> {
+    Some(SolveOptions {
+        limits: Limits::new(11, 7)?,
+        workers: Workers::new(3)?,
         claims: 29,
         brief: true,
         progress: false,
-    };
+    })
+}
+
+#[test]
+fn a_request_has_its_numbers(rt: HostRuntime) {
     let words = [
         "lift",
         "solve",
@@ -55,7 +62,7 @@ fn a_request_has_its_numbers(rt: HostRuntime) {
         "3",
         "--rounds=011",
     ];
-    assert!(rt; are_words_of(rt.alloc(), &words, options));
+    assert!(rt; are_words_of(rt.alloc(), &words, options_due()));
 }
 
 fn has_text(alloc: Global, fault: WordsFault, due: &str) -> bool {

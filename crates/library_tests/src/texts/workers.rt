@@ -2,10 +2,9 @@
 
 use crate::texts::words::put_words;
 use byte_streams::{MemorySource, SureSink};
-use case_kit::{Lookout, WORKED_CASE, status_of};
+use case_kit::{Lookout, WORKED_CASE, watched_status_of};
 use command_ends::Status;
 use std::alloc::Global;
-use std::marker::Sync;
 use std::thread::Threads;
 
 /// A command for two workers, and how what it writes begins.
@@ -50,7 +49,7 @@ bank,time,origin,destination,persons
 
 /// Whether the program does what is asked of it with this source, where each job passes the gate.
 fn does(
-    rt: &(impl Threads + Sync),
+    rt: &impl Threads,
     alloc: Global,
     asked: Asked,
     words: &[String],
@@ -60,12 +59,12 @@ fn does(
     let Ok(mut sink) = SureSink::new(alloc, 1 << 17) else {
         return false;
     };
-    let ended = status_of(rt, alloc, words, source, &mut sink, gate);
+    let ended = watched_status_of(rt, alloc, words, source, &mut sink, gate);
     ended == Status::Done && sink.taken().starts_with(asked.begins)
 }
 
 fn does_with(
-    rt: &(impl Threads + Sync),
+    rt: &impl Threads,
     alloc: Global,
     asked: Asked,
     words: &[String],
@@ -80,13 +79,13 @@ fn does_with(
     }
 }
 
-fn two_do(rt: &(impl Threads + Sync), alloc: Global, asked: Asked, gate: &Lookout) -> bool {
+fn two_do(rt: &impl Threads, alloc: Global, asked: Asked, gate: &Lookout) -> bool {
     let mut words = Vec::new(alloc);
     put_words(alloc, asked.words, &mut words) && does_with(rt, alloc, asked, &words, gate)
 }
 
 /// Whether it does so, and both jobs of a round began before either ended.
-fn work_side_by_side(rt: &(impl Threads + Sync), alloc: Global, asked: Asked) -> bool {
+fn work_side_by_side(rt: &impl Threads, alloc: Global, asked: Asked) -> bool {
     let gate = Lookout::new(false, None);
     two_do(rt, alloc, asked, &gate) && gate.saw_all()
 }

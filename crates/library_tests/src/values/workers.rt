@@ -5,7 +5,6 @@ ghost use Rattle.std.specs.Prelude.{◌≤◌};
 use byte_streams::{Gate, OpenGate};
 use case_kit::Lookout;
 use std::alloc::{AllocError, Global};
-use std::marker::Sync;
 use std::sync::atomic::{AtomicU32, Ordering};
 use std::thread::Threads;
 use work_fan::{JobLine, Jobs, fan};
@@ -73,8 +72,14 @@ fn bit_of(job: u32) -> u32 {
 }
 
 impl Gate for Told {
+    ghost never_stops = { λ _. Unit {0} };
+
     fn enter(&self, job: u32) {
         self.begun.fetch_or(bit_of(job), Ordering::SeqCst);
+    }
+
+    fn may_go_on(&self) -> bool {
+        true
     }
 }
 
@@ -99,7 +104,7 @@ impl Jobs for Told {
 }
 
 /// Whether this many workers answer five jobs in their order.
-fn answer_in_order(rt: &(impl Threads + Sync), alloc: Global, workers: usize) -> bool
+fn answer_in_order(rt: &impl Threads, alloc: Global, workers: usize) -> bool
     requires { (1 ≤ workers) × (workers ≤ 16) }
 {
     let mut desks = [0; 16];
@@ -123,7 +128,7 @@ fn answers_in_the_order_of_the_jobs(rt: HostRuntime) {
 }
 
 /// Whether each of three jobs finds that the gate was told of it.
-fn is_told_before(rt: &(impl Threads + Sync), alloc: Global) -> bool {
+fn is_told_before(rt: &impl Threads, alloc: Global) -> bool {
     let told = Told {
         begun: AtomicU32::new(0),
     };
@@ -139,7 +144,7 @@ fn the_gate_is_told_of_a_job_before_it_begins(rt: HostRuntime) {
 }
 
 /// Whether two workers do `count` jobs, and each that looks out is told of the others while it waits.
-fn see_others(rt: &(impl Threads + Sync), alloc: Global, count: u32, looker: Option<u32>) -> bool {
+fn see_others(rt: &impl Threads, alloc: Global, count: u32, looker: Option<u32>) -> bool {
     let gate = Lookout::new(count == 3, looker);
     let is_done = fan(rt, alloc, &Tens { count }, &mut [0, 0], &gate).is_ok();
     is_done && gate.saw_all()

@@ -14,4 +14,4 @@ pub returns-clause-enough : goal.returns-clause-enough
 returns-clause-enough g c = λ s case rounds moves.
     let options = c.args.options in
     let same = one_case options.sizes s c.in_ok-snapshot.snapshot case c.in_ok-snapshot.ensures.case in
-    c.status_of.ensures ∙ ap status_of (c.in_ok-found.ensures.enough (subst (λ (x : Snapshot). rounds_enough x ≤ options.rounds) same rounds) (subst (λ (x : Snapshot). moves_enough x ≤ options.moves) same moves))
+    c.status_of.ensures ∙ ap status_of (c.in_ok-found.ensures.enough (subst (λ (x : Snapshot). rounds_enough x ≤ options.limits.rounds) same rounds) (subst (λ (x : Snapshot). moves_enough x ≤ options.limits.most_tours) same moves))

@@ -7,7 +7,7 @@ use Rattle.certified_search.proofs.KnownTrees.{tree_known}
 use Rattle.case_commands.proofs.solving.solution_of.Goals as goal
 
 pub printed-requires-clause-known : goal.printed-requires-clause-known
-printed-requires-clause-known g c κs within =
+printed-requires-clause-known g c =
     let f = c.in_ok-found.found in
     let answer = c.in_ok-found.ensures.answer in
     tree_known c.args.snapshot.now c.calls.ensures.accepted f.stated.bound f.tree.twigs answer.proves.whole answer.proves.sound c.in_ok-found.ensures.sized

@@ -5,7 +5,7 @@ use Rattle.cert_checker.specs.Judging.{IsTask}
 use Rattle.cert_checker.proofs.checker.goes_on.Goals as goal
 
 pub judge_tasks-requires-clause-tasks : goal.judge_tasks-requires-clause-tasks
-judge_tasks-requires-clause-tasks g c κs within =
+judge_tasks-requires-clause-tasks g c =
     let s = c.args.snapshot.now in
     let nodes = subst (All (IsNodeOf s)) (sym c.in_ok-places.ensures) c.requires.own in
     let tasks = c.in_ok-piece.ensures.tasks s c.calls-calls.ensures.accepted nodes c.requires.sizes in

@@ -12,7 +12,7 @@ lowered_tree-requires g c =
     record { can = subst (All (CanBeLowered c.args.bound)) same (can_be c.args.snapshot.now c.calls-calls.ensures.accepted c.args.bound c.args.tree.now.twigs c.requires.tree) }
 
 pub claims_of-requires-clause-proved : goal.claims_of-requires-clause-proved
-claims_of-requires-clause-proved g c κs within =
+claims_of-requires-clause-proved g c =
     let e : c.in_ok-lowered.lowered.twigs ≡ lowered_tree c.args.bound c.args.tree.now.twigs = search rules in
     subst (IsProvedTree c.args.snapshot.now) (sym e) (lowered_proved c.args.snapshot.now c.calls-calls.ensures.accepted c.args.bound c.args.tree.now.twigs c.requires.tree)
 

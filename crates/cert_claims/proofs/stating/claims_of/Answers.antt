@@ -8,7 +8,7 @@ use Rattle.cert_claims.proofs.StatingLemmas.{spare_is, tasks_proved}
 use Rattle.cert_claims.proofs.stating.claims_of.Goals as goal
 
 pub claims_of_all-requires-clause-tasks : goal.claims_of_all-requires-clause-tasks
-claims_of_all-requires-clause-tasks g c κs within =
+claims_of_all-requires-clause-tasks g c =
     let s = c.args.snapshot.now in
     let tree = c.args.tree.now.twigs in
     let tasks = c.in_ok-tasks.tasks.items in

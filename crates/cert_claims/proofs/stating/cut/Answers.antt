@@ -5,7 +5,7 @@ use Rattle.cert_claims.proofs.StatingLemmas.{beyond_more, bound_low, cut_lowered
 use Rattle.cert_claims.proofs.stating.cut.Goals as goal
 
 pub claimed_at-requires-clause-tree : goal.claimed_at-requires-clause-tree
-claimed_at-requires-clause-tree g c κs within =
+claimed_at-requires-clause-tree g c =
     let are : c.as_slice-lesser-items.result.now ≡ lesser_bounds c.args.bound c.args.resort.bound = search rules in
     sized_less c.args.snapshot.now c.args.bound _ c.args.tree.now.twigs (bound_low c.args.snapshot.now c.args.bound c.args.tree.now.twigs c.args.resort c.args.limit c.as_slice-lesser-items.result.now are c.loop-lesser.lesser-index 0 c.loop-lesser-test.true) c.requires.tree
 

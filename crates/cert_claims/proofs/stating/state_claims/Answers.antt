@@ -4,7 +4,7 @@ use Rattle.cert_claims.proofs.StatingLemmas.{cut_claimed, whole_claimed}
 use Rattle.cert_claims.proofs.stating.state_claims.Goals as goal
 
 pub claims_of-requires-clause-proved : goal.claims_of-requires-clause-proved
-claims_of-requires-clause-proved g c κs within =
+claims_of-requires-clause-proved g c =
     let proves = c.requires.proves in
     record { bound = c.args.stated.now.bound; whole = proves.whole; sound = proves.sound; cars = c.requires.cars }
 
@@ -19,7 +19,7 @@ on_ok (Ok x) P Q on h = on x h
 on_ok (Err e) P Q on h = tt
 
 pub cut-requires-clause-tree : goal.cut-requires-clause-tree
-cut-requires-clause-tree g c κs within =
+cut-requires-clause-tree g c =
     let proves = c.requires.proves in
     record { whole = proves.whole; sound = proves.sound; cars = c.requires.cars; sizes = c.requires.sizes }
 

@@ -7,10 +7,10 @@ on_ok (Ok x) P Q on h = on x h
 on_ok (Err e) P Q on h = tt
 
 pub state_claims-requires-clause-cars : goal.state_claims-requires-clause-cars
-state_claims-requires-clause-cars g c κs within = tree_cars c.args.tree.twigs c.requires.sized
+state_claims-requires-clause-cars g c = tree_cars c.args.tree.twigs c.requires.sized
 
 pub state_claims-requires-clause-sizes : goal.state_claims-requires-clause-sizes
-state_claims-requires-clause-sizes g c κs within = tree_sizes c.args.tree.twigs c.requires.sized
+state_claims-requires-clause-sizes g c = tree_sizes c.args.tree.twigs c.requires.sized
 
 pub returns-clause-certified : goal.returns-clause-certified
 returns-clause-certified g c =

@@ -8,12 +8,12 @@ use Rattle.check_text.proofs.PieceLemmas.{piece_sizes, fed_piece, fed_fault, fed
 use Rattle.check_text.proofs.reading.check_piece.Goals as goal
 
 pub feed-requires-clause-few : goal.feed-requires-clause-few
-feed-requires-clause-few g c κs within =
+feed-requires-clause-few g c =
     let same = ap length c.as_slice.ensures in
     omega (arith, same, c.in_ok-is_whole.ensures.few)
 
 pub feed-requires-clause-sizes : goal.feed-requires-clause-sizes
-feed-requires-clause-sizes g c κs within =
+feed-requires-clause-sizes g c =
     let left = g.S.Source.left in
     subst (All HasWorthSizes) (sym c.as_slice.ensures)
     (piece_sizes c.args.snapshot.now c.args.reader.now c.read_piece.new.reader c.read_piece.new.piece (text left c.args.lines.now) (text left c.read_piece.new.lines) c.in_ok-is_whole.is_whole c.requires.begun c.in_ok-is_whole.ensures.reads)

@@ -20,7 +20,7 @@ loop-count-init g c =
     }
 
 pub check_piece-requires-clause-begun : goal.check_piece-requires-clause-begun
-check_piece-requires-clause-begun g c κs within =
+check_piece-requires-clause-begun g c =
     let left = g.S.Source.left in
     tree_handed c.args.snapshot.now (text left c.args.lines.now) c.args.checker.now c.loop-count.reader c.loop-count.checker (text left c.loop-count.lines) (256 * c.loop-count.count) c.requires.seen c.loop-count.invariant.stands
 

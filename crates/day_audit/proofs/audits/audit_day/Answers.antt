@@ -9,11 +9,11 @@ use Rattle.day_audit.proofs.InputLemmas.{log_audited, rows_refused}
 use Rattle.day_audit.proofs.audits.audit_day.Goals as goal
 
 pub audit_log-requires-clause-good : goal.audit_log-requires-clause-good
-audit_log-requires-clause-good g c κs within =
+audit_log-requires-clause-good g c =
     subst (All (IsGood c.args.opening.building)) (sym c.as_slice.ensures.value) (subst (λ (b : Building). All (IsGood b) c.in-Ok.rows.items) c.building.ensures.value c.in-Ok.ensures.good)
 
 pub audit_log-requires-clause-few : goal.audit_log-requires-clause-few
-audit_log-requires-clause-few g c κs within =
+audit_log-requires-clause-few g c =
     let size = ap length c.as_slice.ensures.value in
     let few = c.in-Ok.ensures.few in
     omega (arith, size, few)

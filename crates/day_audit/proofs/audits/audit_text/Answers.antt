@@ -5,7 +5,7 @@ use Rattle.day_audit.proofs.TakingLemmas.{unread_is}
 use Rattle.day_audit.proofs.audits.audit_text.Goals as goal
 
 pub audit_day-requires-clause-opening : goal.audit_day-requires-clause-opening
-audit_day-requires-clause-opening g c κs within = opening_empty c.in-Ok.opening c.in-Ok.ensures.empty
+audit_day-requires-clause-opening g c = opening_empty c.in-Ok.opening c.in-Ok.ensures.empty
 
 pub returns-in-Ok-clause-audited : goal.returns-in-Ok-clause-audited
 returns-in-Ok-clause-audited g c =

@@ -6,7 +6,7 @@ use Rattle.day_audit.proofs.ProgressLemmas.{none_audited}
 use Rattle.day_audit.proofs.logs.audit_log.Goals as goal
 
 pub audit_from-requires-clause-day : goal.audit_from-requires-clause-day
-audit_from-requires-clause-day g c κs within = (opening_day c.args.opening, c.in-Ok.ensures)
+audit_from-requires-clause-day g c = (opening_day c.args.opening, c.in-Ok.ensures)
 
 pub returns-in-Ok-clause-audited : goal.returns-in-Ok-clause-audited
 returns-in-Ok-clause-audited g c = c.audit_from.ensures.audited (opening_day c.args.opening) c.in-Ok.ensures

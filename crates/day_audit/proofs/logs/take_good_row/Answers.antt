@@ -37,6 +37,6 @@ returns-in-Ok-Err-clause-taken g c = λ day at.
     good_refused c.args.progress.now day (row_as_said c.args.row.now) c.number-number.result at c.number-number.ensures c.refuse_next.new.progress c.world_of_row.new.events.items c.in-Ok-Err.fault (text left c.args.lines.now) (text left c.refuse_next.new.lines) c.refuse_next.result c.requires.number (rw c.in-Ok-Err.field-0-is at c.in-Ok-Err.ensures) c.refuse_next.ensures.takes c.refuse_next.ensures.progress)
 
 pub accept_next-requires-clause-few : goal.accept_next-requires-clause-few
-accept_next-requires-clause-few g c κs within =
+accept_next-requires-clause-few g c =
     let at = c.requires.day.1 in
     omega (arith, at.unsolved, at.accepted, at.standing.unsolved)

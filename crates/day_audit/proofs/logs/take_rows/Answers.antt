@@ -15,7 +15,7 @@ loop-row-init g c = record {
 
 -- the day at which the audit stands: the end of what was taken
 pub take_row-requires-clause-day : goal.take_row-requires-clause-day
-take_row-requires-clause-day g c κs within =
+take_row-requires-clause-day g c =
     let so_far = c.loop-row.invariant.taken c.requires.day.0 c.requires.day.1 in
     (so_far.0, so_far.1)
 

@@ -17,7 +17,7 @@ returns-in_default g c =
     subst (λ (claims : Option ℕ). IsSolvedRow limits.rounds limits.most_tours claims s found.stated c.new.result.items) (sym (none-there c.args.claims c.in_default.not-Some)) (solved-row limits.rounds limits.most_tours s c.now-moment.ensures.accepted found.stated found.tree.twigs found.turns found.why c.in_ok-found.ensures.answer c.in_ok-found.ensures.enough c.new.result.items c.new.ensures.items)
 
 pub with_certificate-requires-clause-tours : goal.with_certificate-requires-clause-tours
-with_certificate-requires-clause-tours g c κs within = feasible_fits c.args.snapshot.now c.in_ok-found.found.stated.plan c.in_ok-found.ensures.answer.proves.feasible
+with_certificate-requires-clause-tours g c = feasible_fits c.args.snapshot.now c.in_ok-found.found.stated.plan c.in_ok-found.ensures.answer.proves.feasible
 
 pub returns : goal.returns
 returns g c =

@@ -1,8 +1,8 @@
 use Rattle.further_commands.proofs.WhatIfLemmas.{done_where_settled, is_told}
 use Rattle.further_commands.proofs.asking.answer_of.Goals as goal
 
-pub what_if-requires-clause-last : goal.what_if-requires-clause-last
-what_if-requires-clause-last g c κs within = c.requires.asked.some
+pub what_if-requires : goal.what_if-requires
+what_if-requires g c = record { last = c.requires.asked.some }
 
 pub returns-clause-told : goal.returns-clause-told
 returns-clause-told g c =

@@ -137,8 +137,8 @@ returns-in-Ok-Day-clause-days g c options taken =
     let new = streams (g.S.Source.left c.day.new.source) (g.K.Sink.taken c.day.new.sink) (g.S.Source.faults c.day.new.source) (g.K.Sink.faults c.day.new.sink) in
     subst (λ (o : DayOptions). RunsDay o old new c.day.result) (sym is) c.day.ensures
 
-pub report-requires-clause-options : goal.report-requires-clause-options
-report-requires-clause-options g c κs within = subst AreDayOptions (sym c.without_certificates.ensures) (plain-within c.in-Ok-Report.options (subst IsWithin c.in-Ok-Report.field-0-is c.in-Ok-Report.ensures.within))
+pub report-requires : goal.report-requires
+report-requires g c = record { options = subst AreDayOptions (sym c.without_certificates.ensures) (plain-within c.in-Ok-Report.options) }
 
 pub returns-in-Ok-Report-clause-ends : goal.returns-in-Ok-Report-clause-ends
 returns-in-Ok-Report-clause-ends g c = λ none.
@@ -171,8 +171,9 @@ returns-in-Ok-WhatIf-clause-what_if g c options taken =
     let same : WhatIf options ≡ WhatIf c.in-Ok-WhatIf.options = c.in-Ok-WhatIf.ensures.one (WhatIf options) taken ∙ c.in-Ok-WhatIf.field-0-is in
     let is : options ≡ c.in-Ok-WhatIf.options = cc same in
     let old = streams (g.S.Source.left c.args.source.now) (g.K.Sink.taken c.args.sink.now) (g.S.Source.faults c.args.source.now) (g.K.Sink.faults c.args.sink.now) in
-    let new = streams (g.S.Source.left c.ask.new.source) (g.K.Sink.taken c.ask.new.sink) (g.S.Source.faults c.ask.new.source) (g.K.Sink.faults c.ask.new.sink) in
-    subst (λ (o : SearchOptions). RunsWhatIf o old new c.ask.result) (sym is) c.ask.ensures
+    let new = streams (g.S.Source.left c.whatif.new.source) (g.K.Sink.taken c.whatif.new.sink) (g.S.Source.faults c.whatif.new.source) (g.K.Sink.faults c.whatif.new.sink) in
+    let ensures = c.whatif.ensures in
+    subst (λ (o : SearchOptions). RunsWhatIf o old new c.whatif.result) (sym is) (record { ends = ensures.ends; answers = ensures.answers; refuses = ensures.refuses })
 
 pub returns-in-Err-NotTaken-clause-what_if : goal.returns-in-Err-NotTaken-clause-what_if
 returns-in-Err-NotTaken-clause-what_if g c = λ options taken.
@@ -187,8 +188,9 @@ returns-in-Ok-Banks-clause-banks g c options taken =
     let same : Banks options ≡ Banks c.in-Ok-Banks.options = c.in-Ok-Banks.ensures.one (Banks options) taken ∙ c.in-Ok-Banks.field-0-is in
     let is : options ≡ c.in-Ok-Banks.options = cc same in
     let old = streams (g.S.Source.left c.args.source.now) (g.K.Sink.taken c.args.sink.now) (g.S.Source.faults c.args.source.now) (g.K.Sink.faults c.args.sink.now) in
-    let new = streams (g.S.Source.left c.run_banks.new.source) (g.K.Sink.taken c.run_banks.new.sink) (g.S.Source.faults c.run_banks.new.source) (g.K.Sink.faults c.run_banks.new.sink) in
-    subst (λ (o : SearchOptions). RunsBanks o old new c.run_banks.result) (sym is) c.run_banks.ensures
+    let new = streams (g.S.Source.left c.banks.new.source) (g.K.Sink.taken c.banks.new.sink) (g.S.Source.faults c.banks.new.source) (g.K.Sink.faults c.banks.new.sink) in
+    let ensures = c.banks.ensures in
+    subst (λ (o : SearchOptions). RunsBanks o old new c.banks.result) (sym is) (record { ends = ensures.ends; answers = ensures.answers; refuses = ensures.refuses })
 
 pub returns-in-Err-NotTaken-clause-banks : goal.returns-in-Err-NotTaken-clause-banks
 returns-in-Err-NotTaken-clause-banks g c = λ options taken.

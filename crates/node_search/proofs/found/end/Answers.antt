@@ -1,4 +1,4 @@
-use Rattle.std.proofs.Common.{length, sym, ap, ◌∙◌}
+use Rattle.std.proofs.Common.{ℕ, length, sym, ap, subst, ◌∙◌}
 use Rattle.elevator_model.specs.Snapshot.{call_count}
 use Rattle.search_tree.specs.Standing.{bound_of_sheet}
 use Rattle.node_search.specs.Found.{IsAnswerOf, IsReasonOf}
@@ -22,7 +22,8 @@ returns-clause-found g c =
     let why = c.reason-why.result in
     let ended = c.requires.ended.2 in
     let same = ended.begun.searching.under_way.best.snapshot in
-    let reason : IsReasonOf s c.args.limits.most_tours x why = c.reason-why.ensures s (sym (ap length c.calls-calls.ensures.value ∙ ap call_count (c.snapshot.ensures.value ∙ same))) in
+    let reason : IsReasonOf s c.args.limits.most_tours x why =
+    subst (λ (n : ℕ). IsReasonOf s n x why) c.most_tours.ensures.value (c.reason-why.ensures s (sym (ap length c.calls-calls.ensures.value ∙ ap call_count (c.snapshot.ensures.value ∙ same)))) in
     if_ok c.answer.result (IsAnswerOf x.tree.branches x.best turns why) _ (λ f is start ended'. answer_found start.prices (bound_of_sheet start) s c.args.limits.rounds c.args.limits.most_tours x.tree.branches x.best turns why f is (found_ended s c.args.limits.rounds c.args.limits.most_tours start turns x ended' f.stated.bound why is.bound (reason_is s c.args.limits.rounds c.args.limits.most_tours start turns x ended' f.stated.bound why is.bound reason))) c.answer.ensures.answer
 
 pub returns-clause-why : goal.returns-clause-why
@@ -32,5 +33,6 @@ returns-clause-why g c =
     let turns = c.args.begun.turns.items in
     let why = c.reason-why.result in
     let same = c.requires.ended.2.begun.searching.under_way.best.snapshot in
-    let reason : IsReasonOf s c.args.limits.most_tours x why = c.reason-why.ensures s (sym (ap length c.calls-calls.ensures.value ∙ ap call_count (c.snapshot.ensures.value ∙ same))) in
+    let reason : IsReasonOf s c.args.limits.most_tours x why =
+    subst (λ (n : ℕ). IsReasonOf s n x why) c.most_tours.ensures.value (c.reason-why.ensures s (sym (ap length c.calls-calls.ensures.value ∙ ap call_count (c.snapshot.ensures.value ∙ same)))) in
     if_ok c.answer.result (IsAnswerOf x.tree.branches x.best turns why) _ (λ f is start ended. last_state s c.args.limits.rounds c.args.limits.most_tours start turns x why f ended is reason) c.answer.ensures.answer

@@ -4,7 +4,7 @@ use Rattle.snapshot_solver.proofs.SolveLaws.{if_ok}
 use Rattle.snapshot_solver.proofs.rooting.solve_root.Goals as goal
 
 pub returns : goal.returns
-returns g c =
+returns c =
     let s = c.args.snapshot.now in
     let sheet = c.in_ok-sheet.sheet in
     if_ok (IsRootAnswer s c.in_ok-start.start sheet c.args.rounds c.args.most_tours) (IsRootSolution s c.args.rounds c.args.most_tours) (λ a answer. record {

@@ -1,4 +1,4 @@
-use Rattle.std.proofs.Common.{◌+◌, ◌-◌, ◌*◌, length}
+use Rattle.std.proofs.Common.{◌+◌, ◌*◌, length}
 use Rattle.work_fan.proofs.workers.+desks.Given as goal
 
 abbrev pub decreases-work_at : goal.decreases-work_at

@@ -1,4 +1,4 @@
-use Rattle.group_commands.proofs.banking.answer_by.Goals as goal
+use Rattle.group_commands.proofs.banking.answer_of.Goals as goal
 
 pub returns : goal.returns
 returns g c =

@@ -1,0 +1,34 @@
+//! Who makes the pricings of a round.
+
+ghost use Rattle.std.specs.Prelude.{◌≡◌, ℕ, ◌*◌, All, IfOk, Some, length, slice_get, slice_index};
+ghost use Rattle.work_fan.specs.Work.{Serving};
+ghost use Rattle.pricing_rounds.specs.Rounds.{IsAnswerAt};
+
+use crate::rounds::Round;
+use assign_branch::Pricer;
+use search_model::TurnOf;
+use std::alloc::{AllocError, Global};
+
+/// Who makes the pricings of a round.
+///
+/// It is implemented where the pricer is a concrete type: in an `impl` that knows the pricer by its bounds only,
+/// no thread takes it.
+pub trait PricingCrew<P: Pricer> {
+    /// Makes all pricings of a round, at 1 to 16 desks of its pricer: in place `k` stands an answer of the
+    /// pricing that the round draws as its `k`-th. The desks are the pricer's own afterwards too, also where
+    /// memory ran out. It fails only where there is no memory left.
+    fn price_all(
+        &self,
+        alloc: Global,
+        round: &Round<P>,
+        desks: &mut [P::Desk],
+    ) -> Result<Vec<TurnOf>, AllocError>
+        requires { Serving (P.owns round.now.pricer.now) desks.old }
+        ensures count { IfOk result (λ answers.
+            length answers.items ≡ length round.now.tasks.now * round.now.cars) }
+        ensures right { IfOk result (λ answers.
+            (k : ℕ) (a : TurnOf) → slice_get answers.items k ≡ Some a
+            → IsAnswerAt (P.snapshot round.now.pricer.now) round.now.most_tours
+            round.now.tasks.now round.now.cars (slice_index round.now.order.now k) a) }
+        ensures desks { All (P.owns round.now.pricer.now) desks.new };
+}
