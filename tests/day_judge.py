@@ -7,6 +7,8 @@ import csv
 import re
 import subprocess
 
+from travel import least_time
+
 
 class World:
     """A snapshot and the tours that hold in it. A rider is a dictionary: an open call, or a group aboard a car."""
@@ -18,7 +20,7 @@ class World:
         for words in filter(None, (line.split('#')[0].split() for line in lines)):
             self.take(words)
         if not self.times:
-            self.times = [[self.time_over(abs(a - b)) for b in self.heights] for a in self.heights]
+            self.times = [[least_time(abs(a - b), self.speed, self.acceleration) for b in self.heights] for a in self.heights]
         self.tours = {car['id']: self.opening_tour(car) for car in self.cars}
 
     def take(self, words):
@@ -43,22 +45,6 @@ class World:
             served = range(len(self.heights)) if numbers[6] == 'all' else map(int, numbers[6:])
             names = ('id', 'capacity', 'opening', 'closing', 'boarding', 'alighting')
             self.cars.append({**dict(zip(names, map(int, numbers))), 'floors': set(served)})
-
-    def time_over(self, distance):
-        """The least time from rest to rest over a distance."""
-        speed, acceleration = self.speed, self.acceleration
-
-        def covers(time):
-            if acceleration * time <= 2000 * speed:
-                return 4_000_000 * distance <= acceleration * time * time
-            return 1000 * acceleration * distance <= acceleration * speed * time - 1000 * speed * speed
-        low, high = -1, 1
-        while not covers(high):
-            high *= 2
-        while high - low > 1:
-            middle = (low + high) // 2
-            low, high = (low, middle) if covers(middle) else (middle, high)
-        return high
 
     def is_open(self, car, state, now, floor):
         """Whether a moving car can still stop at the floor."""
