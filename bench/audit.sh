@@ -3,8 +3,8 @@
 # For each it prints the seconds of the processor and the greatest memory in KB; and last what the audit said, the bytes of the log, and
 # what part of the day's seconds the audit took.
 rows="${1:-500}"
-lift="$(dirname "$0")/../crates/lift/out/lift"
-[ -x "$lift" ] || (cd "$(dirname "$0")/../crates/lift" && rt run -- solve --brief < ../../examples/lunch.txt > /dev/null) || exit 1
+. "$(dirname "$0")/common.sh"
+lift=$(program lift) || exit 1
 folder=$(mktemp -d) || exit 1
 trap 'rm -rf "$folder"' EXIT
 {

@@ -3,8 +3,8 @@
 # what was written. For each case it prints the ms of `solve` and of `check`, the bytes of the certificate, and the verdict.
 numbers="${1:-2}"
 workers="${2:-1}"
-lift="$(dirname "$0")/../crates/lift/out/lift"
-[ -x "$lift" ] || (cd "$(dirname "$0")/../crates/lift" && rt run -- solve --brief < ../../examples/lunch.txt > /dev/null) || exit 1
+. "$(dirname "$0")/common.sh"
+lift=$(program lift) || exit 1
 folder=$(mktemp -d) || exit 1
 trap 'rm -rf "$folder"' EXIT
 for floors in 12 20; do

@@ -4,8 +4,8 @@
 # run), and prints for each case the sum of the claims, the three counts, what `solve` takes more than `solve --brief` for each 100
 # of `check`, and, where OTHER is another build of the program, its `solve` and what this one takes for each 100 of it.
 other="$1"
-lift="$(dirname "$0")/../crates/lift/out/lift"
-[ -x "$lift" ] || (cd "$(dirname "$0")/../crates/lift" && rt run -- solve --brief < ../../examples/lunch.txt > /dev/null) || exit 1
+. "$(dirname "$0")/common.sh"
+lift=$(program lift) || exit 1
 folder=$(mktemp -d) || exit 1
 trap 'rm -rf "$folder"' EXIT
 # count INPUT OUTPUT PROGRAM WORDS..: the instructions, in thousands

@@ -6,8 +6,8 @@ peak="${1:-500}"
 quiet="${2:-20000}"
 rounds="${3:-2000}"
 moves="${4:-75000}"
-lift="$(dirname "$0")/../crates/lift/out/lift"
-[ -x "$lift" ] || (cd "$(dirname "$0")/../crates/lift" && rt run -- solve --brief < ../../examples/lunch.txt > /dev/null) || exit 1
+. "$(dirname "$0")/common.sh"
+lift=$(program lift) || exit 1
 folder=$(mktemp -d) || exit 1
 trap 'rm -rf "$folder"' EXIT
 opening() {

@@ -4,9 +4,9 @@
 # bound, rounds and visits as `--progress` tells them at the end, the seconds of the processor that the search takes alone
 # (`solve --brief`), the search with its certificate (`solve`) and `check`, and the bytes of the certificate; `-` where a run took more
 # than LIMIT seconds of the clock (300 by default). LIFT is the program.
-lift=${LIFT:-$(dirname "$0")/../crates/lift/out/lift}
 limit=${LIMIT:-300}
-[ -x "$lift" ] || (cd "$(dirname "$0")/../crates/lift" && rt run -- solve --brief < ../../examples/lunch.txt > /dev/null) || exit 1
+. "$(dirname "$0")/common.sh"
+lift=$(program lift) || exit 1
 work=$(mktemp -d) || exit 1
 trap 'rm -rf "$work"' EXIT
 table='12 2 15 1

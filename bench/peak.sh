@@ -6,8 +6,8 @@
 rows="${1:-300}"
 workers="${2:-2}"
 every="${3:-1800}"
-lift="${LIFT:-$(dirname "$0")/../crates/lift/out/lift}"
-[ -x "$lift" ] || (cd "$(dirname "$0")/../crates/lift" && rt run -- solve --brief < ../../examples/lunch.txt > /dev/null) || exit 1
+. "$(dirname "$0")/common.sh"
+lift=$(program lift) || exit 1
 folder=$(mktemp -d) || exit 1
 trap 'rm -rf "$folder"' EXIT
 {

@@ -5,22 +5,21 @@
 # pricings' own time, and last the harmonic mean of these and how many are above 5,000,000.
 limit="${1:-2000000}"
 times="${2:-3}"
-cd "$(dirname "$0")/../crates/lift_bench" || exit 1
-lift=../lift/out/lift
-[ -x "$lift" ] || (cd ../lift && rt run -- solve --brief < ../../examples/lunch.txt > /dev/null) || exit 1
-mkdir -p out
-rt run -- all < stdin > out/first_run.txt 2>&1 || { cat out/first_run.txt; exit 1; }
+. "$(dirname "$0")/common.sh"
+lift=$(program lift) && lift_bench=$(program lift_bench) || exit 1
+folder=$(mktemp -d) || exit 1
+trap 'rm -rf "$folder"' EXIT
 
-# priced FACTOR ROUNDS: the program's line for them; how long it took goes to out/took.txt.
+# priced FACTOR ROUNDS: the program's line for them; how long it took goes to a file.
 priced() {
-    ./out/lift_bench pricing "$1" "$limit" "$2" < out/case.txt 2> out/took.txt
+    "$lift_bench" pricing "$1" "$limit" "$2" < "$folder/case" 2> "$folder/took"
 }
 
 # Number, floors, cars and calls of each case.
 printf '%s\n' "1 10 2 8" "2 12 3 10" "3 12 4 12" "4 16 4 15" "5 20 5 18" "6 20 6 20" "7 24 8 24" "8 30 8 30" "9 8 1 9" \
     "10 14 3 14" "11 18 4 16" "12 26 7 28" | while read -r number floors cars calls; do
     case=$((number - 1))
-    "$lift" make --number "$number" --floors "$floors" --cars "$cars" --calls "$calls" > out/case.txt || exit 1
+    "$lift" make --number "$number" --floors "$floors" --cars "$cars" --calls "$calls" > "$folder/case" || exit 1
     for factor in 0 2 4; do
         once=$(priced "$factor" 1) || exit 1
         visits=$(echo "$once" | sed 's/.* visits \([0-9]*\) .*/\1/')
@@ -29,7 +28,7 @@ printf '%s\n' "1 10 2 8" "2 12 3 10" "3 12 4 12" "4 16 4 15" "5 20 5 18" "6 20 6
         for _ in $(seq 1 "$times"); do
             line=$(priced "$factor" "$rounds") || exit 1
             all=$(echo "$line" | sed 's/.* visits \([0-9]*\) .*/\1/')
-            took=$(sed 's/microseconds //' out/took.txt)
+            took=$(sed 's/microseconds //' "$folder/took")
             a_second=$((all * 1000000 / (took + 1)))
             [ "$a_second" -gt "$most" ] && most=$a_second
         done

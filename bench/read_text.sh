@@ -6,8 +6,10 @@
 # about ten, since what is read costs as many steps as it has bytes. Then both of a small case with a long answer: 2,048 stops
 # at which eight calls board.
 rounds="${1:-1000}"
-cd "$(dirname "$0")/../crates/lift_bench" || exit 1
-rt run -- all < stdin > out/first_run.txt 2>&1 || { cat out/first_run.txt; exit 1; }
+. "$(dirname "$0")/common.sh"
+lift_bench=$(program lift_bench) || exit 1
+folder=$(mktemp -d) || exit 1
+trap 'rm -rf "$folder"' EXIT
 awk 'BEGIN {
     print "building 3"; print "speed 6100"; print "accel 1300"; print "weights 3 2"; print "patience 30000 5"
     line = "floors"; for (f = 0; f < 64; f++) line = line " " 3300 * f + f % 7; print line
@@ -24,7 +26,7 @@ awk 'BEGIN {
     print "end"; print "answer 1"; print "cost 987654321"; print "bound 987654320"
     for (c = 1; c <= 16; c++) print "tour " c
     print "end"
-}' > out/large.txt
+}' > "$folder/large"
 awk 'BEGIN {
     print "building 2"; print "speed 2500"; print "accel 1000"; print "weights 2 1"; print "patience 40000 3"
     print "floors 0 4000 8000 12000"
@@ -42,11 +44,11 @@ awk 'BEGIN {
         }
     }
     print "end"
-}' > out/answer.txt
+}' > "$folder/answer"
 
 # The program's line, and the processor time that it took, in seconds: `sh` tells that of its children by `times`.
 measured() {
-    sh -c './out/lift_bench read "$1" "$2" < "$3" && times' sh "$1" "$2" "$3"
+    sh -c '"$0" read "$1" "$2" < "$3" && times' "$lift_bench" "$1" "$2" "$3"
 }
 
 # What `measured` printed for one case and for ten, with the speed and the times.
@@ -64,7 +66,7 @@ shown() {
 
 for text in large answer; do
     echo "$text"
-    measured "$rounds" 1 "out/$text.txt" > out/one.txt || exit 1
-    measured "$((rounds / 10))" 10 "out/$text.txt" > out/ten.txt || exit 1
-    cat out/one.txt out/ten.txt | shown
+    measured "$rounds" 1 "$folder/$text" > "$folder/one" || exit 1
+    measured "$((rounds / 10))" 10 "$folder/$text" > "$folder/ten" || exit 1
+    cat "$folder/one" "$folder/ten" | shown
 done

@@ -6,8 +6,8 @@
 # last how many cases had each answer. LIFT names another built program.
 numbers="${1:-2}"
 seconds="${2:-60}"
-lift="${LIFT:-$(dirname "$0")/../crates/lift/out/lift}"
-[ -x "$lift" ] || (cd "$(dirname "$0")/../crates/lift" && rt run -- solve --brief < ../../examples/lunch.txt > /dev/null) || exit 1
+. "$(dirname "$0")/common.sh"
+lift=$(program lift) || exit 1
 folder=$(mktemp -d) || exit 1
 trap 'rm -rf "$folder"' EXIT
 for cars in 2 4 8; do

@@ -3,8 +3,8 @@
 # NUMBERS of each size (3 by default), it finds the least --rounds with which the case is solved, by halving, and prints it for
 # each case and the mean of all. Groups of more than seven calls a car are left out, as in solve.sh.
 numbers="${1:-3}"
-lift="$(dirname "$0")/../crates/lift/out/lift"
-[ -x "$lift" ] || (cd "$(dirname "$0")/../crates/lift" && rt run -- solve --brief < ../../examples/lunch.txt > /dev/null) || exit 1
+. "$(dirname "$0")/common.sh"
+lift=$(program lift) || exit 1
 case=$(mktemp)
 trap 'rm -f "$case"' EXIT
 solved_with() { [ "$("$lift" solve --brief --rounds "$1" < "$case" | tail -1)" = "# solved" ]; }

@@ -4,8 +4,8 @@
 # Groups of more than seven calls a car are left out: a single car cannot be priced there within its limit of partial tours.
 numbers="${1:-3}"
 workers="${2:-1}"
-lift="$(dirname "$0")/../crates/lift/out/lift"
-[ -x "$lift" ] || (cd "$(dirname "$0")/../crates/lift" && rt run -- solve --brief < ../../examples/lunch.txt > /dev/null) || exit 1
+. "$(dirname "$0")/common.sh"
+lift=$(program lift) || exit 1
 for floors in 12 20; do
     for cars in 2 4 6 8; do
         for calls in 4 6 8 10 12 15 20; do

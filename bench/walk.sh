@@ -2,11 +2,10 @@
 # walk.sh [TOURS]: walks the partial tours of a car depth first (first move, next move, push, settled cost, pop) on snapshots of 8
 # to 128 calls, TOURS partial tours each (8,000,000 by default), and prints partial tours a second.
 tours="${1:-8000000}"
-cd "$(dirname "$0")/../crates/lift_bench" || exit 1
-lift=../lift/out/lift
-[ -x "$lift" ] || (cd ../lift && rt run -- solve --brief < ../../examples/lunch.txt > /dev/null) || exit 1
-mkdir -p out
-rt run -- all < stdin > out/first_run.txt 2>&1 || { cat out/first_run.txt; exit 1; }
+. "$(dirname "$0")/common.sh"
+lift=$(program lift) && lift_bench=$(program lift_bench) || exit 1
+case=$(mktemp) || exit 1
+trap 'rm -f "$case"' EXIT
 
 # A generated case with this number and these floors, cars and calls.
 made() {
@@ -31,9 +30,9 @@ largest() {
 
 for sizes in "1 8 1 8" "1 12 4 16" "1 20 6 32" "1 24 8 64" largest; do
     # shellcheck disable=SC2086
-    if [ "$sizes" = largest ]; then largest; else made $sizes; fi > out/case.txt || exit 1
+    if [ "$sizes" = largest ]; then largest; else made $sizes; fi > "$case" || exit 1
     start=$(date +%s%N)
-    line=$(./out/lift_bench walk "$tours" < out/case.txt) || exit 1
+    line=$("$lift_bench" walk "$tours" < "$case") || exit 1
     end=$(date +%s%N)
     walked=$(echo "$line" | sed 's/.* tours \([0-9]*\) .*/\1/')
     echo "$line a_second $((walked * 1000000000 / (end - start)))"

@@ -6,8 +6,8 @@ numbers="${1:-10}"
 cars="${2:-8}"
 calls="${3:-20}"
 workers="${4:-1}"
-lift="$(dirname "$0")/../crates/lift/out/lift"
-[ -x "$lift" ] || (cd "$(dirname "$0")/../crates/lift" && rt run -- solve --brief < ../../examples/lunch.txt > /dev/null) || exit 1
+. "$(dirname "$0")/common.sh"
+lift=$(program lift) || exit 1
 for number in $(seq 1 "$numbers"); do
     start=$(date +%s%N)
     text=$("$lift" make --number "$number" --cars "$cars" --calls "$calls" | "$lift" whatif --workers "$workers")

@@ -4,8 +4,8 @@
 # times less four workers take than one worker alone and than one of the four programs. The second compares processors that
 # are all in use: a lone worker may have a faster clock, or a whole core where two virtual processors share one.
 times="${1:-5}"
-lift="$(dirname "$0")/../crates/lift/out/lift"
-[ -x "$lift" ] || (cd "$(dirname "$0")/../crates/lift" && rt run -- solve --brief < ../../examples/lunch.txt > /dev/null) || exit 1
+. "$(dirname "$0")/common.sh"
+lift=$(program lift) || exit 1
 folder=$(mktemp -d) || exit 1
 trap 'rm -r "$folder"' EXIT
 

@@ -1,22 +1,12 @@
 """A case as numbers, for programs that know nothing of `lift`: what `lift solve` reads, a building of version
 1 to 3 and a snapshot of version 1 or 2. Moments are counted from that of the snapshot. The text has to be one
 that `lift solve` takes."""
+import os
+import sys
 from dataclasses import dataclass, field
 
-
-def least_time(distance, speed, acceleration):
-    """The least whole ms in which a car covers the distance from rest to rest."""
-    def covers(time):
-        if acceleration * time <= 2000 * speed:
-            return 4_000_000 * distance <= acceleration * time * time
-        return 1000 * acceleration * distance <= acceleration * speed * time - 1000 * speed * speed
-    low, high = -1, 1
-    while not covers(high):
-        high *= 2
-    while high - low > 1:
-        middle = (low + high) // 2
-        low, high = (low, middle) if covers(middle) else (middle, high)
-    return high
+sys.path.append(os.path.join(os.path.dirname(os.path.abspath(__file__)), '../../tests'))
+from travel import least_time  # noqa: E402
 
 
 @dataclass

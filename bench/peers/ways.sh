@@ -1,12 +1,8 @@
 # Ways to a proved optimum of the case in "$work/case", for bench/peers.sh and bench/peers/agree.sh: each
 # function prints the cost where its program comes to a proof within "$limit" seconds of a processor and 8 GB,
-# and else nothing. LIFT names another built program. They need g++ and Debian's coinor-cbc, minizinc and
-# flatzinc.
-top=$(cd "$(dirname "${BASH_SOURCE[0]}")/../.." && pwd)
-lift=${LIFT:-$top/crates/lift/out/lift}
-[ -x "$lift" ] || (
-    cd "$top/crates/lift" && rt run -- solve --brief < ../../examples/lunch.txt > /dev/null
-) || exit 1
+# and else nothing. They need g++ and Debian's coinor-cbc, minizinc and flatzinc.
+. "$(dirname "${BASH_SOURCE[0]}")/../common.sh"
+lift=$(program lift) || exit 1
 work=$(mktemp -d) || exit 1
 trap 'rm -rf "$work"' EXIT
 g++ -std=c++17 -O2 -o "$work/columns" "$top/bench/peers/columns.cpp" || exit 1
