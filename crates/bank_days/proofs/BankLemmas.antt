@@ -7,10 +7,10 @@ use Rattle.elevator_model.specs.Snapshot.{Snapshot, IsAccepted}
 use Rattle.search_model.specs.Days.{Day, delivered_count, loses_none, opening_day}
 use Rattle.day_state.specs.Openings.{IsOpeningSnapshot}
 use Rattle.day_simulator.specs.Planning.{PlannerLaw}
-use Rattle.log_text.specs.Texts.{end_text}
-use Rattle.day_runner.specs.Runs.{Right, AreRowsDone}
-use Rattle.day_runner.specs.Days.{first_line}
-use Rattle.day_runner.proofs.ServedRows.{served-rows}
+use Rattle.day_text.specs.LogTexts.{end_text}
+use Rattle.day_simulator.specs.RowRuns.{Right, AreRowsDone}
+use Rattle.day_simulator.specs.DayRuns.{first_line}
+use Rattle.day_simulator.proofs.ServedRows.{served-rows}
 use Rattle.bank_text.specs.declared.banks.Bank.{Bank}
 use Rattle.bank_days.specs.declared.logs.BankLog.{BankLog}
 use Rattle.bank_text.specs.declared.banks.BankRow.{BankRow}

@@ -7,13 +7,13 @@ use Rattle.elevator_model.specs.Snapshot.{Snapshot}
 use Rattle.search_model.specs.declared.RowFault.TheVariants.{NoRow}
 use Rattle.search_model.specs.declared.Stated.{Stated}
 use Rattle.search_model.specs.Days.{Day, Row}
-use Rattle.row_text.specs.Records.{row_of_line}
+use Rattle.day_text.specs.Records.{row_of_line}
 use Rattle.day_simulator.specs.declared.days.RowAnswer.{RowAnswer}
 use Rattle.day_simulator.specs.Rows.{IsRefused, IsRowDone, next_step}
-use Rattle.log_text.specs.Texts.{row_text}
-use Rattle.day_runner.specs.Runs.{Right, AreRowsDone}
-use Rattle.day_runner.proofs.RightLemmas.{IsWider, row-wider}
-use Rattle.day_runner.proofs.RunLemmas.{append-assoc, append-nil, no_plan, one-row, rows-more}
+use Rattle.day_text.specs.LogTexts.{row_text}
+use Rattle.day_simulator.specs.RowRuns.{Right, AreRowsDone}
+use Rattle.day_simulator.proofs.RightLemmas.{IsWider, row-wider}
+use Rattle.day_simulator.proofs.RowRunLemmas.{append-assoc, append-nil, no_plan, one-row, rows-more}
 use Rattle.bank_text.specs.declared.banks.BankRow.{BankRow}
 use Rattle.bank_text.specs.declared.banks.BankRow.TheVariants.{Fields, Other}
 use Rattle.bank_text.specs.BankRows.{row_said, rows_said}

@@ -8,11 +8,11 @@ use Rattle.elevator_model.specs.Snapshot.{Snapshot}
 use Rattle.search_model.specs.declared.RowFault.TheVariants.{NoRow}
 use Rattle.search_model.specs.Days.{Day, Row, day_after_refused, opening_day}
 use Rattle.search_model.specs.WorkedDays.{opening, row}
-use Rattle.row_text.specs.Records.{end_of_field, row_of_line, without_spaces_before}
-use Rattle.log_text.specs.Texts.{events_text, refused_text, total_text}
-use Rattle.day_runner.specs.Runs.{Right, AreRowsDone}
-use Rattle.day_runner.specs.Days.{day_log}
-use Rattle.day_runner.proofs.RunLemmas.{append-nil}
+use Rattle.day_text.specs.Records.{end_of_field, row_of_line, without_spaces_before}
+use Rattle.day_text.specs.LogTexts.{events_text, refused_text, total_text}
+use Rattle.day_simulator.specs.RowRuns.{Right, AreRowsDone}
+use Rattle.day_simulator.specs.DayRuns.{day_log}
+use Rattle.day_simulator.proofs.RowRunLemmas.{append-nil}
 use Rattle.bank_text.specs.declared.banks.BankRow.{BankRow}
 use Rattle.bank_text.specs.declared.banks.BankRow.TheVariants.{Fields, Other}
 use Rattle.bank_text.specs.declared.banks.Bank.{Bank}

@@ -4,9 +4,9 @@ use Rattle.elevator_model.specs.Snapshot.{Snapshot}
 use Rattle.search_model.specs.Days.{Day, delivered_count, loses_none, opening_day}
 use Rattle.day_state.specs.Openings.{IsOpeningSnapshot}
 use Rattle.bank_text.specs.BankRows.{rows_said}
-use Rattle.day_runner.specs.Runs.{Right, AreRowsDone}
-use Rattle.day_runner.specs.Served.{AreServedOnce}
-use Rattle.day_runner.specs.Days.{day_log}
+use Rattle.day_simulator.specs.RowRuns.{Right, AreRowsDone}
+use Rattle.day_simulator.specs.Served.{AreServedOnce}
+use Rattle.day_simulator.specs.DayRuns.{day_log}
 use Rattle.bank_text.specs.declared.banks.BankRow.{BankRow}
 use Rattle.bank_text.specs.declared.banks.Bank.{Bank}
 use Rattle.bank_days.specs.declared.logs.BankLog.{BankLog}

@@ -11,7 +11,8 @@
 //!   not before its release and not before it boards. Whether some bound is below its cost is told exactly.
 //!   It fails only where there is no memory left.
 //!
-//! What a row does and what a log says are the definitions of a day over the lines of a text (`day_runner`).
+//! What a row does and what a log says are the definitions of a day over the lines of a text
+//! (`day_simulator`).
 #![tactic(auto)]
 
 mod crews;

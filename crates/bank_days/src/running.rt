@@ -4,7 +4,7 @@ ghost use Rattle.std.specs.Prelude.{◌≡◌, ◌<◌, ◌≤◌, ◌+◌, ◌^
 ghost use Rattle.elevator_model.specs.Snapshot.{IsAccepted};
 ghost use Rattle.search_model.specs.Days.{loses_none, opening_day};
 ghost use Rattle.day_state.specs.Openings.{IsOpeningSnapshot};
-ghost use Rattle.row_text.specs.Records.{row_of_line};
+ghost use Rattle.day_text.specs.Records.{row_of_line};
 ghost use Rattle.day_simulator.specs.Planning.{PlannerLaw};
 ghost use Rattle.day_simulator.specs.Rows.{IsRowDone};
 ghost use Rattle.day_laws.specs.Standing.{row_number};
@@ -17,8 +17,7 @@ use crate::planners::Planner;
 use bank_text::{Bank, BankRow};
 use byte_streams::Gate;
 use call_state::Snapshot;
-use day_runner::FIRST_LINE;
-use day_simulator::{Day, RowAnswer};
+use day_simulator::{Day, FIRST_LINE, RowAnswer};
 use std::alloc::{AllocError, Global};
 use std::marker::Sync;
 use work_fan::{Jobs, MOST_WORKERS, Runtime};

@@ -9,7 +9,7 @@ use Rattle.csv.specs.Machine.{Read, next_record}
 use Rattle.csv.specs.Reading.{default_config, strip_bom}
 use Rattle.csv.specs.declared.parser.State.TheVariants as st
 use Rattle.csv.proofs.RoundTrip.{record-same, start-same}
-use Rattle.row_text.specs.Records.{begins_with_mark, end_of_field, ends_line, fields_of_line, fields_read, is_set_apart, row_of_fields, row_of_line, row_of_record, without_spaces, without_spaces_before}
+use Rattle.day_text.specs.Records.{begins_with_mark, end_of_field, ends_line, fields_of_line, fields_read, is_set_apart, row_of_fields, row_of_line, row_of_record, without_spaces, without_spaces_before}
 use Rattle.bank_text.specs.BankRows.{is_number}
 
 -- ---- digits

@@ -16,7 +16,7 @@ use Rattle.text_sections.specs.Between.{StandsBehind}
 use Rattle.building_text.specs.BuildingText.{IsRefusedBuilding, StandsInFront}
 use Rattle.snapshot_text.specs.Snapshots.{IsRefusedSnapshot, IsSaid}
 use Rattle.case_text.specs.CaseTexts.{Tells}
-use Rattle.opening_text.proofs.OpeningLemmas.{both_next, building_next, empty_read}
+use Rattle.day_text.proofs.OpeningLemmas.{both_next, building_next, empty_read}
 use Rattle.bank_text.specs.Heads.{IsSaidNext, IsUnsaid, head_said}
 use Rattle.bank_text.specs.Banks.{AreDistinct, BankView, ids_of, view_of, views_of}
 use Rattle.bank_text.specs.BankTexts.{AreHeadsRead, AreHeadsRefused, AreRowsDue, BankHead, BankInFront, BanksBetween, IsBankPut, IsBankTaken, IsFaultDue, IsFaultInOpening, IsNewBank, IsOpeningRead, IsOpeningRefused, IsReadyOpening, IsRefusal, SaysNext, TellsBanks, has_some, head_ids, most_banks, opened}

@@ -6,7 +6,7 @@ use Rattle.std.proofs.lemmas.Option.{cond_some, same_Some}
 use Rattle.csv.specs.Records.{field_at}
 use Rattle.lift_text.specs.Numbers.{digits_number}
 use Rattle.search_model.specs.Days.{Row}
-use Rattle.row_text.specs.Records.{number_of_field, row_of_fields, row_of_line, row_of_numbers, without_spaces}
+use Rattle.day_text.specs.Records.{number_of_field, row_of_fields, row_of_line, row_of_numbers, without_spaces}
 use Rattle.bank_text.specs.declared.banks.BankRow.{BankRow}
 use Rattle.bank_text.specs.BankRows.{RowTexts, digits_said, four_texts, id_said, is_number, row_behind, row_said, said_of_fields, said_with, texts_line}
 use Rattle.bank_text.proofs.DigitLemmas.{digits_of, row_again, whole_text}

@@ -15,10 +15,10 @@ use Rattle.text_sections.specs.Sections.{Line}
 use Rattle.building_text.specs.BuildingText.{TakesBuildings, IsAnswered as IsBuildingAnswered}
 use Rattle.snapshot_text.specs.Snapshots.{StandsFor, ReadsLines, IsAnswered as IsSnapshotAnswered}
 use Rattle.case_text.specs.CaseTexts.{Tells}
-use Rattle.row_text.specs.declared.headers.Header.TheVariants.{BankRows}
-use Rattle.opening_text.specs.Headers.{IsHeaderFault, IsHeaderRead}
-use Rattle.opening_text.specs.DayOpenings.{IsAnswered}
-use Rattle.opening_text.proofs.PlaceLemmas.{begins, no_fault, place_of, same_rows}
+use Rattle.day_text.specs.declared.headers.Header.TheVariants.{BankRows}
+use Rattle.day_text.specs.Headers.{IsHeaderFault, IsHeaderRead}
+use Rattle.day_text.specs.DayOpenings.{IsAnswered}
+use Rattle.day_text.proofs.PlaceLemmas.{begins, no_fault, place_of, same_rows}
 use Rattle.bank_text.specs.Heads.{IsSaidNext, IsUnsaid, first_said, head_said}
 use Rattle.bank_text.specs.BankRows.{lines_of, said_of_line, strays_of}
 use Rattle.bank_text.specs.Banks.{AreRowsRead, BankView, IsRowsFault, all_with, ids_of, views_of}

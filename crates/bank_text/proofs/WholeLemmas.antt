@@ -10,8 +10,8 @@ use Rattle.lift_text.specs.declared.faults.TextFault.{TextFault}
 use Rattle.lift_text.specs.declared.faults.TextFault.TheVariants.{Read, TooLong, Bad, NoMemory}
 use Rattle.lift_text.proofs.ShowLemmas.{end_behind, fault_behind}
 use Rattle.case_text.specs.CaseTexts.{Tells}
-use Rattle.row_text.specs.declared.headers.Header.TheVariants.{BankRows}
-use Rattle.opening_text.specs.Headers.{IsHeaderFault, IsHeaderRead}
+use Rattle.day_text.specs.declared.headers.Header.TheVariants.{BankRows}
+use Rattle.day_text.specs.Headers.{IsHeaderFault, IsHeaderRead}
 use Rattle.bank_text.specs.Heads.{IsSaidNext, first_said}
 use Rattle.bank_text.specs.BankRows.{Said, lines_of, row_said, rows_of, said_in, said_of_line, strays_of}
 use Rattle.bank_text.specs.Banks.{AreRowsAdded, AreRowsRead, BankView, IsRowsFault, all_with, view_of, views_of, with_saids}

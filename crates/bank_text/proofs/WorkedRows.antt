@@ -4,7 +4,7 @@ use Rattle.std.specs.Prelude.{codes}
 use Rattle.csv.specs.Machine.{next_record}
 use Rattle.csv.specs.Reading.{strip_bom}
 use Rattle.search_model.specs.Days.{Row}
-use Rattle.row_text.specs.Records.{end_of_field, without_spaces_before}
+use Rattle.day_text.specs.Records.{end_of_field, without_spaces_before}
 use Rattle.bank_text.specs.BankRows.{rows_of, said_of_line, strays_of}
 use Rattle.bank_text.specs.BankTexts.{IsRefusal}
 use Rattle.bank_text.specs.declared.faults.BankFault.TheVariants.{UsedId}

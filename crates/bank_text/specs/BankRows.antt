@@ -5,7 +5,7 @@ use Rattle.std.specs.Char.{is_ascii_digit}
 use Rattle.search_model.specs.Days.{Row}
 use Rattle.lift_text.specs.Lines.{pieces_of, line_of}
 use Rattle.lift_text.specs.Reading.{TextState, line_limit}
-use Rattle.row_text.specs.Records.{at_most, fields_of_line, number_of_field, row_of_fields, row_of_line, without_spaces}
+use Rattle.day_text.specs.Records.{at_most, fields_of_line, number_of_field, row_of_fields, row_of_line, without_spaces}
 use Rattle.bank_text.specs.declared.banks.BankRow.{BankRow}
 use Rattle.bank_text.specs.declared.banks.BankRow.TheVariants.{Fields, Other}
 use Rattle.bank_text.specs.declared.bank_rows.NamedRow.{NamedRow}

@@ -8,9 +8,9 @@ use Rattle.text_sections.specs.Between.{IsNextLine}
 use Rattle.text_sections.specs.Judging.{Judged}
 use Rattle.text_sections.specs.Sections.{Line}
 use Rattle.case_text.specs.CaseTexts.{IsBuildingFault, Tells}
-use Rattle.row_text.specs.declared.headers.Header.TheVariants.{BankRows}
-use Rattle.opening_text.specs.Headers.{HeaderInFront, IsHeaderFault}
-use Rattle.opening_text.specs.DayOpenings.{BuildingNext, IsEmptySnapshot, IsOpeningFault, OpeningNext}
+use Rattle.day_text.specs.declared.headers.Header.TheVariants.{BankRows}
+use Rattle.day_text.specs.Headers.{HeaderInFront, IsHeaderFault}
+use Rattle.day_text.specs.DayOpenings.{BuildingNext, IsEmptySnapshot, IsOpeningFault, OpeningNext}
 use Rattle.bank_text.specs.Heads.{IsUnsaid, first_said, head_said}
 use Rattle.bank_text.specs.BankRows.{lines_of, said_of_line, strays_of}
 use Rattle.bank_text.specs.Banks.{BankView, AreRowsRead, IsRowsFault, all_with, ids_of, views_of}

@@ -4,9 +4,9 @@ use Rattle.elevator_model.specs.Snapshot.{Snapshot}
 use Rattle.lift_text.specs.Reading.{TextState}
 use Rattle.lift_text.specs.declared.faults.TextFault.{TextFault}
 use Rattle.case_text.specs.CaseTexts.{Tells}
-use Rattle.row_text.specs.declared.headers.Header.TheVariants.{BankRows}
-use Rattle.opening_text.specs.Headers.{HeaderInFront}
-use Rattle.opening_text.specs.DayOpenings.{IsAnswered}
+use Rattle.day_text.specs.declared.headers.Header.TheVariants.{BankRows}
+use Rattle.day_text.specs.Headers.{HeaderInFront}
+use Rattle.day_text.specs.DayOpenings.{IsAnswered}
 use Rattle.bank_text.specs.Heads.{head_said}
 use Rattle.bank_text.specs.Banks.{BankView, AreRowsRead, ids_of, views_of}
 use Rattle.bank_text.specs.BankTexts.{AreBanksIn, BankHead, BankInFront, BanksBetween, IsNewBank, OpeningInFront, SaysNext, TellsBanks, has_some, head_ids, opened}

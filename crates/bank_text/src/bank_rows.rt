@@ -5,7 +5,7 @@ ghost use Rattle.std.specs.List.{list_all};
 ghost use Rattle.std.specs.Char.{is_ascii_digit};
 ghost use Rattle.csv.specs.Records.{fields_of, field_at};
 ghost use Rattle.lift_text.specs.Numbers.{digits_number};
-ghost use Rattle.row_text.specs.Records.{at_most, row_of_line};
+ghost use Rattle.day_text.specs.Records.{at_most, row_of_line};
 ghost use Rattle.bank_text.specs.BankRows.{digits_said, four_texts, greatest_id, id_said};
 ghost use Rattle.bank_text.specs.BankRows.{is_number as is_number_lem, row_behind as row_behind_lem};
 ghost use Rattle.bank_text.specs.BankRows.{row_said, said_by, said_of_fields, said_of_short};
@@ -13,8 +13,8 @@ ghost use Rattle.bank_text.specs.BankRows.{texts_line, texts_of};
 
 use crate::banks::BankRow;
 use csv::ByteRecord;
+use day_text::{record_of, without_spaces};
 use lift_text::number_in;
-use row_text::{record_of, without_spaces};
 use std::alloc::{AllocError, Global};
 
 /// A row with the id of its bank.

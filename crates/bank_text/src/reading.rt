@@ -20,9 +20,8 @@ use crate::heads::{Head, read_first, read_head};
 use crate::row_lines::{place_of, read_rows};
 use building_text::read_building;
 use call_state::Snapshot;
+use day_text::{Header, read_header};
 use lift_text::{LineReader, Source, TEXT_LIMIT, TextFault};
-use opening_text::read_header;
-use row_text::Header;
 use snapshot_text::read_opening;
 use std::alloc::Global;
 

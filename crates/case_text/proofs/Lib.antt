@@ -1,2 +1,11 @@
 pub mod CaseLemmas
 pub mod AgainLemmas
+pub mod TableLineLemmas
+pub mod TableLinesRead
+pub mod TableLinesMade
+pub mod TableSquareLemmas
+pub mod TableAnswerLemmas
+pub mod AskedCallLemmas
+pub mod AskedEndLemmas
+pub mod AskedLemmas
+pub mod WorkedAsked

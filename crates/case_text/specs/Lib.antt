@@ -1,1 +1,6 @@
 pub mod CaseTexts
+pub mod TableOrder
+pub mod TableDrafts
+pub mod TableTexts
+pub mod WorkedTables
+pub mod AskedCases

@@ -13,10 +13,10 @@ use Rattle.search_model.specs.declared.Reason.TheVariants.{Sum, Lists, Under as 
 use Rattle.search_model.specs.Nodes.{Node}
 use Rattle.search_model.specs.Certificates.{has_whole_lists, sum_of_leaf, sum_needed, price_in, worth_in, claim_in}
 use Rattle.search_model.specs.Verdicts.{first_under, kept_at, reason_of_visit, reason_of_car, reason_of_cars, reason_of_leaf}
-use Rattle.kept_count.specs.declared.counts.Count.{Count}
-use Rattle.kept_count.specs.declared.counts.Count.TheVariants.{Whole, Longer, Under}
-use Rattle.kept_count.specs.declared.entries.Stake.{Stake}
-use Rattle.kept_count.specs.Counting.{IsCounted}
+use Rattle.kept_tours.specs.declared.counts.Count.{Count}
+use Rattle.kept_tours.specs.declared.counts.Count.TheVariants.{Whole, Longer, Under}
+use Rattle.kept_tours.specs.declared.entries.Stake.{Stake}
+use Rattle.kept_tours.specs.Counting.{IsCounted}
 use Rattle.cert_checker.specs.Judging.{reason_of_count}
 
 -- the first car with a reason gives the leaf's

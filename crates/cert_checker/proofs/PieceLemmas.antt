@@ -15,7 +15,7 @@ use Rattle.assign_branch.specs.Splits.{KeepsNodes}
 use Rattle.cert_checker.specs.declared.tasks.Task.{Task}
 use Rattle.cert_checker.specs.declared.tasks.Piece.{Piece}
 use Rattle.search_model.specs.Verdicts.{reason_of_leaf}
-use Rattle.kept_count.specs.Leaves.{HasWorthSize}
+use Rattle.kept_tours.specs.Leaves.{HasWorthSize}
 use Rattle.cert_checker.specs.Judging.{nodes_after, nodes_left, reason_of_node, reason_from, reason_of_task, reason_of_tasks, reason_of_bad, reason_of_piece, HasWorthSizes, IsTask, PlacesTwig, IsPiece, first_some}
 use Rattle.cert_checker.proofs.TreeLemmas.{first_assoc, first_none, none_from, none_left}
 

@@ -41,8 +41,8 @@ use Rattle.tour_extension.proofs.NodeDemands.{node_holds}
 use Rattle.pricing_bound.specs.LowerLemmas.{bound_is_lower}
 use Rattle.kept_tours.proofs.EndLemmas.{ended_within, ended_value}
 use Rattle.kept_tours.proofs.KeptLaws.{kept_holds}
-use Rattle.kept_count.proofs.LeafLemmas.{cars_few}
-use Rattle.kept_count.proofs.WorthLemmas.{IsWithinRoot, both_none, first_parts, none_of_worth, worth_of_car}
+use Rattle.kept_tours.proofs.LeafLemmas.{cars_few}
+use Rattle.kept_tours.proofs.WorthLemmas.{IsWithinRoot, both_none, first_parts, none_of_worth, worth_of_car}
 use Rattle.cert_checker.specs.Laws.{HasEnough, SufficientLaw, YesLaw}
 
 -- ---- parts of a reason

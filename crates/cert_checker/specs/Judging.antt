@@ -12,10 +12,10 @@ use Rattle.search_model.specs.Nodes.{Node, IsNodeOf, set_of, is_part, root_of, f
 use Rattle.search_model.specs.Certificates.{placed_twigs}
 use Rattle.search_model.specs.Verdicts.{reason_of_leaf, reason_of_tree, reason_of_plan, reason_of_cost}
 use Rattle.assign_branch.specs.Splits.{KeepsNodes}
-use Rattle.kept_count.specs.declared.counts.Count.{Count}
-use Rattle.kept_count.specs.declared.counts.Count.TheVariants.{Whole, Longer, Under}
-use Rattle.kept_count.specs.declared.entries.Stake.{Stake}
-use Rattle.kept_count.specs.Leaves.{HasWorthSize}
+use Rattle.kept_tours.specs.declared.counts.Count.{Count}
+use Rattle.kept_tours.specs.declared.counts.Count.TheVariants.{Whole, Longer, Under}
+use Rattle.kept_tours.specs.declared.entries.Stake.{Stake}
+use Rattle.kept_tours.specs.Leaves.{HasWorthSize}
 use Rattle.cert_checker.specs.declared.checker.Checker.{Checker}
 use Rattle.cert_checker.specs.declared.checker.State.{State}
 use Rattle.cert_checker.specs.declared.checker.State.TheVariants.{Found, Open}

@@ -7,7 +7,7 @@ ghost use Rattle.cert_checker.specs.Judging.{reason_of_task};
 
 use crate::judging::Judging;
 use byte_streams::Gate;
-use kept_count::Desk;
+use kept_tours::Desk;
 use search_model::Reason;
 use std::alloc::{AllocError, Global};
 use work_fan::{Alone, fan_alone};

@@ -9,7 +9,7 @@ use crate::leaves::judge_leaf;
 use crate::tasks::Task;
 use byte_streams::Gate;
 use call_state::Snapshot;
-use kept_count::{Desk, desks_for};
+use kept_tours::{Desk, desks_for};
 use search_model::Reason;
 use std::alloc::{AllocError, Global};
 use work_fan::{Jobs, Runtime};

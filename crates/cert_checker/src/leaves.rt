@@ -6,12 +6,12 @@ ghost use Rattle.search_model.specs.declared.Leaf.{Leaf as LeafValue};
 ghost use Rattle.search_model.specs.Certificates.{sum_needed as sum_needed_lem};
 ghost use Rattle.search_model.specs.Nodes.{IsNodeOf};
 ghost use Rattle.search_model.specs.Verdicts.{reason_of_car, reason_of_cars, reason_of_leaf};
-ghost use Rattle.kept_count.specs.Counting.{Holds, StaysLaidOut, found_tour};
-ghost use Rattle.kept_count.specs.Leaves.{HasWorthSize};
+ghost use Rattle.kept_tours.specs.Counting.{Holds, StaysLaidOut, found_tour};
+ghost use Rattle.kept_tours.specs.Leaves.{HasWorthSize};
 ghost use Rattle.cert_checker.specs.Judging.{reason_of_count as reason_of_count_lem};
 
 use assign_branch::Node;
-use kept_count::{Count, Desk, Stake, is_whole, sum_of_leaf};
+use kept_tours::{Count, Desk, Stake, is_whole, sum_of_leaf};
 use search_model::{Leaf, Reason};
 use std::alloc::{AllocError, Global};
 

@@ -24,7 +24,7 @@
 //! shared by workers (`judge_tasks`, over `work_fan::fan`), and the first reason among their answers comes
 //! before a bad split, which is after all of them. At a leaf the entries are tested first (`is_whole`), so no
 //! sum can overflow; then the cars go in order, each by a count of its kept list up to its claim
-//! (`kept_count::Desk::count`), which takes no memory, and the answer is the reason (`judge_car`).
+//! (`kept_tours::Desk::count`), which takes no memory, and the answer is the reason (`judge_car`).
 #![tactic(auto)]
 
 mod checker;

@@ -18,7 +18,7 @@ use Rattle.search_model.specs.Nodes.{Node, allows, requires_of}
 use Rattle.search_model.specs.Prices.{IsWorth}
 use Rattle.search_model.specs.Kept.{kept_list}
 use Rattle.search_model.specs.Certificates.{IsSoundLeaf, are_each_once, claim_in, has_whole_lists, price_in, sum_needed, sum_of_leaf, worth_in}
-use Rattle.kept_count.proofs.EntryLemmas.{claims_once, place_of, among-once, once-from, once-length}
+use Rattle.kept_tours.proofs.EntryLemmas.{claims_once, place_of, among-once, once-from, once-length}
 use Rattle.cert_claims.specs.Due.{claim_due, claims_of}
 use Rattle.cert_claims.specs.Leaves.{AreDue, LeafAt, extra_of, leaf_of, with_claim, with_claims}
 

@@ -17,9 +17,9 @@ use Rattle.search_model.specs.declared.Twig.TheVariants.{Split, Leaf as Tip}
 use Rattle.search_model.specs.Sums.{int_sum_by}
 use Rattle.search_model.specs.Nodes.{Node}
 use Rattle.search_model.specs.Certificates.{IsSound, IsSoundLeaf, TreePlace, Placed, are_each_once, has_whole_lists, is_filled, placed_from, places_after, sum_needed, sum_of_leaf}
-use Rattle.kept_count.specs.Leaves.{HasWorthSize}
-use Rattle.kept_count.proofs.EntryLemmas.{stored}
-use Rattle.kept_count.proofs.LeafLemmas.{whole_few}
+use Rattle.kept_tours.specs.Leaves.{HasWorthSize}
+use Rattle.kept_tours.proofs.EntryLemmas.{stored}
+use Rattle.kept_tours.proofs.LeafLemmas.{whole_few}
 use Rattle.cert_claims.specs.Due.{HasCars, worths_of, worths_of_tree}
 use Rattle.cert_claims.specs.Lowered.{CanBeLowered, IsWideLeaf}
 use Rattle.cert_claims.specs.Lowering.{IsSizedTwig, lowered_leaf, lowered_tree, lowered_worth, share_of}

@@ -10,9 +10,9 @@ use Rattle.search_model.specs.Nodes.{Node, IsNodeOf, allows, requires_of}
 use Rattle.search_model.specs.Certificates.{price_in, worth_in}
 use Rattle.search_model.specs.Kept.{kept_list}
 use Rattle.search_model.specs.Verdicts.{first_under, kept_at, tour_under_at}
-use Rattle.kept_count.specs.declared.counts.Count.TheVariants.{Whole, Longer, Under}
-use Rattle.kept_count.specs.Counting.{IsCounted}
-use Rattle.kept_count.proofs.WorthLemmas.{both_none, first_parts, none_of_worth}
+use Rattle.kept_tours.specs.declared.counts.Count.TheVariants.{Whole, Longer, Under}
+use Rattle.kept_tours.specs.Counting.{IsCounted}
+use Rattle.kept_tours.proofs.WorthLemmas.{both_none, first_parts, none_of_worth}
 use Rattle.cert_claims.specs.Due.{claim_due}
 use Rattle.cert_claims.specs.Leaves.{HasWorths}
 

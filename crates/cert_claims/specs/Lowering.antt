@@ -9,7 +9,7 @@ use Rattle.search_model.specs.declared.Leaf.{Leaf}
 use Rattle.search_model.specs.declared.Twig.{Twig}
 use Rattle.search_model.specs.declared.Twig.TheVariants.{Split, Leaf as Tip}
 use Rattle.search_model.specs.Certificates.{sum_needed, sum_of_leaf}
-use Rattle.kept_count.specs.Leaves.{HasWorthSize}
+use Rattle.kept_tours.specs.Leaves.{HasWorthSize}
 use Rattle.cert_claims.specs.Due.{due_of_tree, most_of_tree}
 
 -- ---- sizes

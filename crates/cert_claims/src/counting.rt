@@ -10,7 +10,7 @@ use crate::leaves::{Claims, claims_within};
 use crate::tasks::Task;
 use byte_streams::Gate;
 use call_state::Snapshot;
-use kept_count::{Desk, desks_for};
+use kept_tours::{Desk, desks_for};
 use std::alloc::{AllocError, Global};
 use work_fan::{Jobs, MOST_WORKERS, Runtime};
 

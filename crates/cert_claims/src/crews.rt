@@ -8,7 +8,7 @@ ghost use Rattle.cert_claims.specs.Leaves.{AreClaimsWithin, leaf_at};
 use crate::counting::Counting;
 use crate::leaves::Claims;
 use byte_streams::Gate;
-use kept_count::Desk;
+use kept_tours::Desk;
 use std::alloc::{AllocError, Global};
 use work_fan::{Alone, fan_alone};
 

@@ -4,13 +4,13 @@ ghost use Rattle.std.specs.Prelude.{◌≡◌, ◌<◌, ◌^◌};
 ghost use Rattle.elevator_model.specs.Snapshot.{Snapshot as SnapshotValue, car_count};
 ghost use Rattle.search_model.specs.declared.Leaf.{Leaf as LeafValue};
 ghost use Rattle.search_model.specs.Nodes.{IsNodeOf};
-ghost use Rattle.kept_count.specs.Counting.{Holds, StaysLaidOut};
+ghost use Rattle.kept_tours.specs.Counting.{Holds, StaysLaidOut};
 ghost use Rattle.cert_claims.specs.Leaves.{AreClaimsWithin, HasWorths, IsClaimWithin};
 ghost use Rattle.cert_claims.specs.Leaves.{IsProvedLeaf, leaf_of, with_claim as with_claim_lem};
 ghost use Rattle.cert_claims.specs.Leaves.{with_claims as with_claims_lem};
 
 use assign_branch::Node;
-use kept_count::{Count, Desk};
+use kept_tours::{Count, Desk};
 use search_model::{Items, Leaf, WorthOf};
 
 /// The claims that are due at a leaf.

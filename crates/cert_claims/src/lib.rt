@@ -1,7 +1,7 @@
 //! A pass over the tree of a search that has ended: it states the claims of its certificate.
 //!
 //! A search finds worths, and states no claims. The claim that is due for a worth is the length of its kept
-//! list, which a checker walks, and at least 1: no lesser one fits. `kept_count` counts it, as a checker
+//! list, which a checker walks, and at least 1: no lesser one fits. `kept_tours` counts it, as a checker
 //! does, so the pass takes about the time of a check.
 //!
 //! # What is promised

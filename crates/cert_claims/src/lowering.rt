@@ -6,10 +6,10 @@ ghost use Rattle.cert_claims.specs.Lowering.{IsSizedLeaf, lowered_leaf as lowere
 ghost use Rattle.cert_claims.specs.Lowering.{lowered_tree as lowered_tree_lem, lowered_twig as lowered_twig_lem};
 ghost use Rattle.cert_claims.specs.Lowering.{lowered_worth as lowered_worth_lem, share_of};
 ghost use Rattle.cert_claims.specs.Lowered.{CanBeLowered, IsWideLeaf};
-ghost use Rattle.kept_count.specs.Leaves.{HasWorthSize};
+ghost use Rattle.kept_tours.specs.Leaves.{HasWorthSize};
 
 use assign_branch::Tree;
-use kept_count::sum_of_leaf;
+use kept_tours::sum_of_leaf;
 use price_scale::MOST_WORTH;
 use search_model::{Items, Leaf, Twig, WorthOf};
 use std::alloc::{AllocError, Global};

@@ -21,7 +21,7 @@ use Rattle.search_model.proofs.SetLemmas.{set_where-below}
 use Rattle.search_model.proofs.SnapshotNodes.{root_is_node, first_is_node, second_is_node, set_of-root}
 use Rattle.search_model.proofs.TreeLemmas.{part-index}
 use Rattle.search_tree.specs.Sheets.{IsSizedTwig}
-use Rattle.kept_count.proofs.EntryLemmas.{all_at, claims_once, once-from, once-length}
+use Rattle.kept_tours.proofs.EntryLemmas.{all_at, claims_once, once-from, once-length}
 use Rattle.tour_cost.proofs.Short.{calls-le}
 use Rattle.cert_text.specs.Trees.{IsWorthWithin, IsLeafWithin, IsSplitWithin, IsTwigWithin, IsWithin, IsKnownLeaf, IsKnownTwig, AreTwigsKnown, claims_of, sum_of_claims}
 use Rattle.cert_text.specs.Texts.{cert_text}

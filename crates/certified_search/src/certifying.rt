@@ -12,7 +12,7 @@ use assign_branch::Tree;
 use byte_streams::Gate;
 use call_state::Snapshot;
 use cert_claims::{Claimed, CountingCrew, LastResort, state_claims};
-use kept_count::sum_of_leaf;
+use kept_tours::sum_of_leaf;
 use search_model::Stated;
 use snapshot_solver::start_leaf;
 use std::alloc::{AllocError, Global};

@@ -10,8 +10,8 @@ use Rattle.lift_text.specs.Reading.{TextState, reading, whole_text}
 use Rattle.lift_text.specs.declared.codes.TextCode.{TextCode}
 use Rattle.lift_text.specs.declared.faults.TextFault.{TextFault}
 use Rattle.lift_text.specs.declared.faults.TextFault.TheVariants.{Bad, NoMemory, Read, TooLong}
-use Rattle.row_text.specs.declared.rows.GoodRow.{GoodRow}
-use Rattle.opening_text.specs.DayOpenings.{IsDayOpeningRead, IsDayOpeningRefused, IsEmptySnapshot}
+use Rattle.day_text.specs.declared.rows.GoodRow.{GoodRow}
+use Rattle.day_text.specs.DayOpenings.{IsDayOpeningRead, IsDayOpeningRefused, IsEmptySnapshot}
 use Rattle.day_state.specs.Openings.{IsOpeningSnapshot}
 use Rattle.day_audit.specs.declared.findings.Finding.{Finding}
 use Rattle.day_audit.specs.declared.findings.Finding.TheVariants.{Differs, Row as BadRow, Text}

@@ -13,7 +13,7 @@ use Rattle.lift_text.proofs.SkipLemmas.{size_of, size_of-pieces}
 use Rattle.day_laws.specs.RowLines.{rows_of}
 use Rattle.log_rows.specs.Rows.{AreRowsPast, BeginsLog, IsWithoutLog, ReadsLines, RowsBeforeLog, rows_within}
 use Rattle.log_rows.proofs.RowLemmas.{rows_are_past}
-use Rattle.opening_text.proofs.PieceLemmas.{same_bytes}
+use Rattle.day_text.proofs.PieceLemmas.{same_bytes}
 use Rattle.day_audit.specs.declared.findings.Finding.{Finding}
 use Rattle.day_audit.specs.declared.findings.Finding.TheVariants.{Differs, Row as BadRow, Text}
 use Rattle.day_audit.specs.declared.logs.Audited.{Audited}

@@ -25,7 +25,7 @@ use Rattle.case_text.specs.CaseTexts.{IsRefusedWith}
 use Rattle.check_text.specs.CheckTexts.{AnswerInFront, TreeInFront}
 use Rattle.check_text.specs.Pairs.{IsPairFault, PairInFront}
 use Rattle.check_text.specs.VerdictTexts.{reason_text}
-use Rattle.log_text.specs.Texts.{refused_words}
+use Rattle.day_text.specs.LogTexts.{refused_words}
 use Rattle.day_laws.specs.Standing.{row_number}
 use Rattle.day_audit.specs.Audits.{AcceptedFinds, AcceptedInFront, EndFinds, EndInFront, FindsBehind as FindsMore, Found, Lacks, LogFinds, LogHolds, ProofFinds, ProofInFront, RowFinds, RowInFront, RowsFind, RowsInFront, accepted_lines, bad_row, bad_section, bad_text, day_after, end_lines_of, next_fault, no_proof, snapshot_of_row}
 use Rattle.day_audit.specs.OneAnswer.{IsFoundInText, IsOfText}

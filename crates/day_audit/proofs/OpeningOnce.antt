@@ -16,11 +16,11 @@ use Rattle.building_text.proofs.LawLemmas.{takes_read}
 use Rattle.building_text.proofs.ReadLemmas.{given}
 use Rattle.snapshot_text.specs.Drafts.{Draft, blank, snapshot_read, after as after_snapshot_line}
 use Rattle.snapshot_text.proofs.Again.{complete}
-use Rattle.row_text.specs.declared.headers.Header.{Header}
-use Rattle.row_text.specs.declared.headers.Header.TheVariants.{Rows}
-use Rattle.opening_text.specs.Headers.{HeaderInFront, IsHeaderFault, NoHeaderFirst}
-use Rattle.opening_text.specs.DayOpenings.{BuildingNext, DayOpeningInFront, IsDayOpeningFault, IsFaultOfHeader, IsOpeningFault, OpeningNext}
-use Rattle.opening_text.proofs.PlaceLemmas.{begins, no_fault, place_of, same_rows}
+use Rattle.day_text.specs.declared.headers.Header.{Header}
+use Rattle.day_text.specs.declared.headers.Header.TheVariants.{Rows}
+use Rattle.day_text.specs.Headers.{HeaderInFront, IsHeaderFault, NoHeaderFirst}
+use Rattle.day_text.specs.DayOpenings.{BuildingNext, DayOpeningInFront, IsDayOpeningFault, IsFaultOfHeader, IsOpeningFault, OpeningNext}
+use Rattle.day_text.proofs.PlaceLemmas.{begins, no_fault, place_of, same_rows}
 use Rattle.day_audit.specs.OneAnswer.{IsOfText}
 
 -- ---- sections

@@ -15,16 +15,16 @@ use Rattle.lift_text.proofs.SkipLemmas.{size_of, size_of-pieces}
 use Rattle.text_sections.specs.Sections.{Line, Step, outcome, continued, goes_on, is_whole, is_bad, too_long}
 use Rattle.text_sections.specs.Canonical.{BeginsWith}
 use Rattle.text_sections.specs.Between.{AreBetween}
-use Rattle.row_text.specs.declared.headers.Header.{Header}
-use Rattle.row_text.specs.declared.headers.Header.TheVariants.{Rows}
+use Rattle.day_text.specs.declared.headers.Header.{Header}
+use Rattle.day_text.specs.declared.headers.Header.TheVariants.{Rows}
 use Rattle.building_text.specs.Drafts.{no_draft, after as after_building_line}
 use Rattle.snapshot_text.specs.Drafts.{blank, after as after_snapshot_line}
 use Rattle.answer_text.specs.Drafts.{blank as no_answer, after as after_answer_line}
 use Rattle.cert_text.specs.Drafts.{blank as no_tree, after as after_tree_line}
-use Rattle.opening_text.specs.Headers.{HeaderFirst, NoHeaderFirst}
-use Rattle.opening_text.specs.DayOpenings.{DayOpeningInFront, IsDayOpeningFault}
+use Rattle.day_text.specs.Headers.{HeaderFirst, NoHeaderFirst}
+use Rattle.day_text.specs.DayOpenings.{DayOpeningInFront, IsDayOpeningFault}
 use Rattle.check_text.specs.Pairs.{IsPairFault}
-use Rattle.log_text.specs.Texts.{refused_words}
+use Rattle.day_text.specs.LogTexts.{refused_words}
 use Rattle.day_laws.specs.Standing.{row_number}
 use Rattle.log_rows.proofs.RowLemmas.{reads_past, rows_are_past}
 use Rattle.day_audit.specs.Audits.{AcceptedFinds, AcceptedInFront, EndFinds, FindsBehind as FindsMore, Found, Lacks, LogFinds, ProofFinds, RowFinds, RowInFront, RowsFind, RowsInFront, accepted_lines, bad_section, bad_row, bad_text, day_after, differs, end_lines_of, next_fault, no_proof}

@@ -10,8 +10,8 @@ use Rattle.search_model.specs.declared.Stated.{Stated}
 use Rattle.search_model.specs.Advancing.{World, events_by, last_events}
 use Rattle.search_model.specs.Days.{Day, Row, day_after_accepted, day_after_refused, step_by}
 use Rattle.lift_text.specs.Reading.{TextState, Reading, reading}
-use Rattle.row_text.specs.declared.rows.GoodRow.{GoodRow}
-use Rattle.log_text.specs.Texts.{refused_words}
+use Rattle.day_text.specs.declared.rows.GoodRow.{GoodRow}
+use Rattle.day_text.specs.LogTexts.{refused_words}
 use Rattle.day_laws.specs.Arrivals.{IsBrought}
 use Rattle.day_laws.specs.Standing.{row_number}
 use Rattle.day_laws.proofs.NoneLost.{accepted-stands, end-delivered, refused-stands}

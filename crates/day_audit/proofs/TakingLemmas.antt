@@ -17,7 +17,7 @@ use Rattle.lift_text.specs.declared.faults.TextFault.TheVariants.{Bad, Read, Too
 use Rattle.text_sections.specs.Sections.{Line}
 use Rattle.text_sections.specs.Canonical.{BeginsWith}
 use Rattle.case_text.specs.CaseTexts.{Tells}
-use Rattle.log_text.specs.Texts.{event_words}
+use Rattle.day_text.specs.LogTexts.{event_words}
 use Rattle.cert_checker.proofs.VerdictLaws.{yes_holds}
 use Rattle.check_text.specs.Pairs.{IsCertified, IsRefusedPair, PairInFront}
 use Rattle.day_audit.specs.declared.findings.Finding.{Finding}

@@ -18,7 +18,7 @@ use Rattle.text_sections.specs.Sections.{Line}
 use Rattle.text_sections.specs.Canonical.{BeginsWith}
 use Rattle.check_text.specs.Pairs.{IsPairFault, PairInFront}
 use Rattle.check_text.specs.VerdictTexts.{reason_text}
-use Rattle.log_text.specs.Texts.{accepted_words, event_words, refused_words, total_words}
+use Rattle.day_text.specs.LogTexts.{accepted_words, event_words, refused_words, total_words}
 use Rattle.day_laws.specs.Standing.{row_number}
 
 -- ---- what is found first

@@ -7,7 +7,7 @@ use Rattle.lift_text.specs.Reading.{TextState, reading, whole_text}
 use Rattle.lift_text.specs.declared.codes.TextCode.{TextCode}
 use Rattle.lift_text.specs.declared.faults.TextFault.{TextFault}
 use Rattle.lift_text.specs.declared.faults.TextFault.TheVariants.{Bad, NoMemory, Read, TooLong}
-use Rattle.opening_text.specs.DayOpenings.{DayOpeningInFront, IsDayOpeningFault}
+use Rattle.day_text.specs.DayOpenings.{DayOpeningInFront, IsDayOpeningFault}
 use Rattle.day_state.specs.Openings.{IsOpeningSnapshot}
 use Rattle.log_rows.specs.Rows.{AreRowsPast, IsWithoutLog, RowsBeforeLog}
 use Rattle.byte_streams.specs.declared.inputs.InputFault.{InputFault}

@@ -14,9 +14,9 @@ use crate::logs::{Audited, audit_log};
 use byte_streams::{Gate, InputFault, Source, SureSource, read_whole};
 use call_state::Snapshot;
 use cert_checker::JudgingCrew;
+use day_text::read_day_opening;
 use lift_text::{LineReader, TEXT_LIMIT, TextFault};
 use log_rows::read_rows;
-use opening_text::read_day_opening;
 use work_fan::Runtime;
 
 /// Audits the rows and the log of the day that opens with this snapshot.

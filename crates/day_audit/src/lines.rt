@@ -3,15 +3,15 @@
 ghost use Rattle.std.specs.Prelude.{◌≡◌, ◌≤◌, ◌∷◌, [], None, OnOk};
 ghost use Rattle.byte_streams.specs.Streams.{Rose};
 ghost use Rattle.lift_text.specs.LineReader.{text, failure};
-ghost use Rattle.log_text.specs.Texts.{event_words, refused_words};
+ghost use Rattle.day_text.specs.LogTexts.{event_words, refused_words};
 ghost use Rattle.day_audit.specs.Words.{due_words};
 ghost use Rattle.day_audit.specs.Audits.{accepted_lines, end_lines, event_lines, last_lines};
 ghost use Rattle.day_audit.specs.Taking.{IsUnread, TakesEnd, TakesLines, said_at as said_at_lem};
 
 use crate::findings::{Finding, finding_of};
 use crate::words::{DueWord, says};
+use day_text::code_of;
 use lift_text::{LineReader, Source};
-use log_text::code_of;
 use search_model::{Event, RowFault};
 
 /// What is found of a line, by whether it says what is due.

@@ -6,17 +6,17 @@ use Rattle.byte_streams.specs.Streams.{Rose}
 use Rattle.lift_text.specs.Reading.{whole_text}
 use Rattle.lift_text.specs.declared.faults.TextFault.{TextFault}
 use Rattle.lift_text.specs.declared.faults.TextFault.TheVariants.{Read as FailedRead, TooLong as LongText, Bad, NoMemory as NoRoom}
-use Rattle.opening_text.specs.DayOpenings.{HoldsNoOpening, IsDayOpeningRefused}
+use Rattle.day_text.specs.DayOpenings.{HoldsNoOpening, IsDayOpeningRefused}
 use Rattle.case_text.specs.CaseTexts.{Tells}
 use Rattle.search_model.specs.Reports.{report_of}
 use Rattle.service_report.specs.ReportTexts.{report_text}
-use Rattle.day_runner.specs.Inputs.{DayRan, IsDayText}
-use Rattle.day_runner.specs.declared.days.Ended.{Ended}
-use Rattle.day_runner.specs.declared.rows.RunFault.{RunFault}
-use Rattle.day_runner.specs.declared.rows.RunFault.TheVariants.{TooLong, Read as RowsUnread, Write as RowsUnwritten, NoMemory}
-use Rattle.day_runner.specs.declared.inputs.DayFault.TheVariants.{Opening, Rows}
-use Rattle.day_runner.specs.Inputs.{EndsUnlessFailed}
-use Rattle.day_runner.proofs.StepLemmas.{rose-before}
+use Rattle.day_simulator.specs.TextRuns.{DayRan, IsDayText}
+use Rattle.day_simulator.specs.declared.day_runs.Ended.{Ended}
+use Rattle.day_simulator.specs.declared.row_runs.RunFault.{RunFault}
+use Rattle.day_simulator.specs.declared.row_runs.RunFault.TheVariants.{TooLong, Read as RowsUnread, Write as RowsUnwritten, NoMemory}
+use Rattle.day_simulator.specs.declared.text_runs.DayFault.TheVariants.{Opening, Rows}
+use Rattle.day_simulator.specs.TextRuns.{EndsUnlessFailed}
+use Rattle.day_simulator.proofs.StepLemmas.{rose-before}
 use Rattle.lift_words.specs.declared.request.DayOptions.{DayOptions}
 use Rattle.lift_words.specs.declared.request.SearchOptions.{SearchOptions}
 use Rattle.lift_words.specs.Taken.{AreDayOptions, without_certificates}

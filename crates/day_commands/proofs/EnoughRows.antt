@@ -12,9 +12,9 @@ use Rattle.day_simulator.specs.declared.days.RowAnswer.TheVariants.{Taken}
 use Rattle.day_simulator.specs.Rows.{IsRowDone, answer_of}
 use Rattle.day_laws.specs.Standing.{row_number}
 use Rattle.day_laws.specs.RowLines.{rows_of}
-use Rattle.day_runner.specs.Runs.{Right, AreRowsDone}
-use Rattle.day_runner.specs.Inputs.{DayRan}
-use Rattle.day_runner.specs.declared.days.Ended.{Ended}
+use Rattle.day_simulator.specs.RowRuns.{Right, AreRowsDone}
+use Rattle.day_simulator.specs.TextRuns.{DayRan}
+use Rattle.day_simulator.specs.declared.day_runs.Ended.{Ended}
 use Rattle.lift_words.specs.declared.request.DayOptions.{DayOptions}
 use Rattle.command_ends.specs.declared.status.Status.TheVariants.{Stopped}
 use Rattle.day_commands.specs.DayRows.{IsStoppedIn}

@@ -12,9 +12,9 @@ use Rattle.lift_text.specs.Lines.{line_of, pieces_of}
 use Rattle.lift_text.specs.Reading.{Passed, TextState, line_limit, whole_text}
 use Rattle.text_sections.specs.Sections.{Line}
 use Rattle.text_sections.specs.Between.{AreBetween}
-use Rattle.opening_text.specs.DayOpenings.{DayOpeningInFront}
-use Rattle.opening_text.proofs.OpeningLemmas.{limit_of_rows}
-use Rattle.opening_text.proofs.PieceLemmas.{joined_again}
+use Rattle.day_text.specs.DayOpenings.{DayOpeningInFront}
+use Rattle.day_text.proofs.OpeningLemmas.{limit_of_rows}
+use Rattle.day_text.proofs.PieceLemmas.{joined_again}
 use Rattle.day_state.specs.Openings.{IsOpeningSnapshot}
 use Rattle.day_state.proofs.OpeningLaws.{opening-feasible}
 use Rattle.day_simulator.specs.declared.days.RowAnswer.{RowAnswer}
@@ -23,11 +23,11 @@ use Rattle.day_laws.specs.Standing.{IsStanding, row_number}
 use Rattle.day_laws.proofs.NoneLost.{accepted-stands, opening-stands, refused-stands}
 use Rattle.day_simulator.proofs.RowLemmas.{done-numbered}
 use Rattle.day_laws.specs.RowLines.{rows_of, rows_of_line, rows_of_short}
-use Rattle.day_runner.specs.Runs.{AreRowsDone, ReadLines, Right, bytes_of}
-use Rattle.day_runner.specs.Inputs.{DayRan}
-use Rattle.day_runner.specs.Days.{ReadsDay}
-use Rattle.day_runner.specs.declared.days.Ended.{Ended}
-use Rattle.day_runner.specs.declared.rows.RunFault.{RunFault}
+use Rattle.day_simulator.specs.RowRuns.{AreRowsDone, ReadLines, Right, bytes_of}
+use Rattle.day_simulator.specs.TextRuns.{DayRan}
+use Rattle.day_simulator.specs.DayRuns.{ReadsDay}
+use Rattle.day_simulator.specs.declared.day_runs.Ended.{Ended}
+use Rattle.day_simulator.specs.declared.row_runs.RunFault.{RunFault}
 use Rattle.lift_words.specs.declared.request.DayOptions.{DayOptions}
 use Rattle.day_commands.specs.DayRows.{AreRowsKept}
 use Rattle.day_commands.specs.DayOutcome.{RanWithin, SolvedBy}

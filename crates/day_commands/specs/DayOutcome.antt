@@ -6,18 +6,18 @@ use Rattle.lift_text.specs.Reading.{TextState, whole_text}
 use Rattle.lift_text.specs.Shows.{FaultShows}
 use Rattle.lift_text.specs.declared.faults.TextFault.{TextFault}
 use Rattle.lift_text.specs.declared.faults.TextFault.TheVariants.{TooLong as LongText}
-use Rattle.opening_text.specs.DayOpenings.{HoldsNoOpening, IsDayOpeningRefused}
+use Rattle.day_text.specs.DayOpenings.{HoldsNoOpening, IsDayOpeningRefused}
 use Rattle.elevator_model.specs.Snapshot.{Snapshot}
 use Rattle.search_model.specs.Days.{opening_day}
 use Rattle.search_model.specs.Reports.{report_of}
 use Rattle.service_report.specs.ReportTexts.{report_text}
 use Rattle.day_planner.specs.SolvedRows.{AreEnoughFor, IsSolvedRow}
 use Rattle.day_laws.specs.RowLines.{rows_of}
-use Rattle.day_runner.specs.Runs.{Right}
-use Rattle.day_runner.specs.Inputs.{DayRan, IsDayText}
-use Rattle.day_runner.specs.declared.days.Ended.{Ended}
-use Rattle.day_runner.specs.declared.rows.RunFault.{RunFault}
-use Rattle.day_runner.specs.declared.rows.RunFault.TheVariants.{TooLong, Read as RowsUnread, Write as RowsUnwritten, NoMemory}
+use Rattle.day_simulator.specs.RowRuns.{Right}
+use Rattle.day_simulator.specs.TextRuns.{DayRan, IsDayText}
+use Rattle.day_simulator.specs.declared.day_runs.Ended.{Ended}
+use Rattle.day_simulator.specs.declared.row_runs.RunFault.{RunFault}
+use Rattle.day_simulator.specs.declared.row_runs.RunFault.TheVariants.{TooLong, Read as RowsUnread, Write as RowsUnwritten, NoMemory}
 use Rattle.lift_words.specs.declared.request.DayOptions.{DayOptions}
 use Rattle.lift_words.specs.Taken.{most_claims}
 use Rattle.command_ends.specs.Ends.{Streams, Ends, Puts, IsRefusalLine}

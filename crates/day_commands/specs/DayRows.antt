@@ -5,7 +5,7 @@ use Rattle.search_model.specs.Days.{Day, Row, loses_none}
 use Rattle.day_simulator.specs.declared.days.RowAnswer.{RowAnswer}
 use Rattle.day_simulator.specs.declared.days.RowAnswer.TheVariants.{Taken}
 use Rattle.day_simulator.specs.Rows.{IsRowDone}
-use Rattle.day_runner.specs.Runs.{Right, AreRowsDone}
+use Rattle.day_simulator.specs.RowRuns.{Right, AreRowsDone}
 
 -- Rows were done that led from one day to another and wrote this text, and one of them was accepted with a bound below its
 -- cost, in a snapshot for which the limits are not enough.

@@ -15,7 +15,7 @@ use Rattle.search_model.specs.declared.Stated.{Stated}
 use Rattle.search_model.specs.Advancing.{World, advanced, events_by}
 use Rattle.search_model.specs.Days.{Day, DayCall, Row, calls_after, is_row, call_of_row, fault_of_row, fault_of_good_row, fault_of_new_call, step_by, day_after_refused}
 use Rattle.day_state.specs.Openings.{IsNewCall, taken}
-use Rattle.row_text.specs.Records.{row_within}
+use Rattle.day_text.specs.Records.{row_within}
 use Rattle.day_laws.specs.Arrivals.{IsBrought, IsWorldBrought}
 use Rattle.day_laws.specs.Standing.{IsStanding, row_number}
 use Rattle.day_laws.proofs.NoneLost.{later-calls-known, later-aboard-known, calls-noted, noted_by}

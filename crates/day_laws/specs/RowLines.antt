@@ -3,7 +3,7 @@ use Rattle.std.specs.Prelude.{ℕ, nat_lt, List, [], ◌∷◌, ◌++◌, length
 use Rattle.search_model.specs.Days.{Row}
 use Rattle.lift_text.specs.Lines.{line_of}
 use Rattle.lift_text.specs.Reading.{line_limit}
-use Rattle.row_text.specs.Records.{row_of_line}
+use Rattle.day_text.specs.Records.{row_of_line}
 
 -- A line of no bytes is no row. What a row says is `None` where it has not four numbers.
 abbrev pub rows_of_short : List ℕ → List (Option Row)

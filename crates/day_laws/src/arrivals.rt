@@ -5,11 +5,11 @@ ghost use Rattle.elevator_model.specs.Plans.{IsFeasiblePlan};
 ghost use Rattle.search_model.specs.Advancing.{advanced, events_by};
 ghost use Rattle.search_model.specs.Days.{call_of_row, fault_of_new_call, is_row};
 ghost use Rattle.day_state.specs.Openings.{IsNewCall, taken};
-ghost use Rattle.row_text.specs.Records.{row_as_said};
+ghost use Rattle.day_text.specs.Records.{row_as_said};
 ghost use Rattle.day_laws.specs.Arrivals.{IsBrought};
 
 use day_state::{Call, NotTaken, World};
-use row_text::GoodRow;
+use day_text::GoodRow;
 use search_model::{Event, RowFault};
 use std::alloc::{AllocError, Global};
 

@@ -3,7 +3,7 @@ use Rattle.std.specs.Prelude.{nat_lt, if◌then◌else◌, ◌^◌, Result, Ok, 
 use Rattle.std.specs.Borrow.{Bor}
 use Rattle.std.specs.Fn.{FnReturnsAt, Shared}
 use Rattle.std.specs.declared.alloc.AllocError.{AllocError}
-use Rattle.log_text.specs.declared.printed.Planned.{Planned}
+use Rattle.day_text.specs.declared.printed_plans.Planned.{Planned}
 use Rattle.std.proofs.Common.{◌≡◌, ℕ, ◌+◌, ◌<◌, List, [], ◌∷◌, ◌++◌, refl, sym, ap, ◌∙◌, subst, Option, Some, None}
 use Rattle.search_model.specs.declared.RowFault.{RowFault}
 use Rattle.search_model.specs.declared.Stated.{Stated}
@@ -19,7 +19,7 @@ use Rattle.search_model.specs.Days.RowLog.{Refused, Accepted}
 use Rattle.day_simulator.specs.declared.days.RowAnswer.{RowAnswer}
 use Rattle.day_simulator.specs.declared.days.RowAnswer.TheVariants.{Taken}
 use Rattle.day_laws.specs.Standing.{IsStanding, row_number}
-use Rattle.log_text.specs.Texts.{row_text, accepted_text}
+use Rattle.day_text.specs.LogTexts.{row_text, accepted_text}
 use Rattle.day_simulator.specs.Rows.{right_by, next_step, answer_of, DoesRow, IsRowDone, IsRefused}
 use Rattle.day_laws.proofs.NoneLost.{accepted-stands}
 use Rattle.day_laws.proofs.RowFaults.{refused-number, step-number}

@@ -8,9 +8,9 @@ use Rattle.search_model.specs.Days.{Day, Row, RowLog, Step, IsRightLog, code_of_
 use Rattle.search_model.specs.Days.RowLog.{Refused, Accepted}
 use Rattle.day_simulator.specs.declared.days.RowAnswer.{RowAnswer}
 use Rattle.day_simulator.specs.declared.days.RowAnswer.TheVariants.{Taken, Refused as RefusedBy}
-use Rattle.log_text.specs.declared.printed.Planned.{Planned}
+use Rattle.day_text.specs.declared.printed_plans.Planned.{Planned}
 use Rattle.day_laws.specs.Standing.{row_number}
-use Rattle.log_text.specs.Texts.{row_text, refused_text}
+use Rattle.day_text.specs.LogTexts.{row_text, refused_text}
 
 -- What is right where a planner answers so: what it answers.
 abbrev pub right_by : (Snapshot → Result Planned AllocError → Type 0) → Snapshot → Stated → (proof : List ℕ) → Type 0

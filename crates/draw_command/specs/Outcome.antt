@@ -6,8 +6,8 @@ use Rattle.lift_text.specs.Reading.{TextState, reading, whole_text}
 use Rattle.lift_text.specs.declared.faults.TextFault.{TextFault}
 use Rattle.lift_picture.specs.declared.scenes.Scene.{Scene}
 use Rattle.lift_picture.specs.Svg.{picture_text}
-use Rattle.log_reader.specs.Scenes.{IsAnswered, IsDayFault, IsDayRead}
-use Rattle.plan_reader.specs.PlanTexts.{IsPlanAnswered, IsPlanFault, IsPlanRead}
+use Rattle.picture_reader.specs.DayScenes.{IsAnswered, IsDayFault, IsDayRead}
+use Rattle.picture_reader.specs.PlanScenes.{IsPlanAnswered, IsPlanFault, IsPlanRead}
 use Rattle.command_ends.specs.Ends.{Streams, DueTexts, IsRefusalLine}
 use Rattle.command_ends.specs.declared.status.Status.{Status}
 use Rattle.command_ends.specs.declared.status.Status.TheVariants.{Done, Words, Stopped, Refused, Input, Read, Write, Memory}

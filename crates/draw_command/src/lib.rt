@@ -11,7 +11,7 @@
 //! `specs/Words.antt` says which words ask for what (`AreTaken`), by a table of two options and `clap`'s own
 //! statement; `specs/Outcome.antt` has the definitions: `ends` says for each status what was read and written
 //! (`DrawDue`), `draws` and `refuses` that nothing else comes (`DrawsByWords`, `RefusesWords`). What is read
-//! is defined in `log_reader` (`IsDayRead`) and `plan_reader` (`IsPlanRead`), the picture in `lift_picture`
+//! is defined in `picture_reader` (`IsDayRead`, `IsPlanRead`), the picture in `lift_picture`
 //! (`picture_text`).
 #![tactic(auto)]
 

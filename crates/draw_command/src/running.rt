@@ -14,9 +14,8 @@ use byte_streams::{Sink, Source};
 use command_ends::{Status, put, put_fault};
 use lift_picture::{Scene, draw_scene};
 use lift_text::{LineReader, TextFault};
-use log_reader::read_day_scene;
 use option_words::WordsFault;
-use plan_reader::read_plan_scene;
+use picture_reader::{read_day_scene, read_plan_scene};
 use std::alloc::Global;
 
 /// What is written where the words are not taken.

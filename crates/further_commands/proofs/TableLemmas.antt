@@ -9,7 +9,7 @@ use Rattle.lift_text.specs.Shows.{FaultShows}
 use Rattle.lift_text.specs.declared.codes.TextCode.{TextCode}
 use Rattle.lift_text.specs.declared.faults.TextFault.{TextFault}
 use Rattle.lift_text.specs.declared.faults.TextFault.TheVariants.{TooLong, Bad}
-use Rattle.table_text.specs.TableTexts.{IsTableText, IsLoneTableFault, IsReadAlone, IsRefusedAlone, IsAnsweredAlone, TakesLoneTables}
+use Rattle.case_text.specs.TableTexts.{IsTableText, IsLoneTableFault, IsReadAlone, IsRefusedAlone, IsAnsweredAlone, TakesLoneTables}
 use Rattle.command_ends.specs.declared.status.Status.{Status}
 use Rattle.command_ends.specs.declared.status.Status.TheVariants.{Done, Words, Stopped, Refused, Input, Read, Write, Memory}
 use Rattle.command_ends.specs.Ends.{Streams, Ends, Puts, IsRefusalLine}

@@ -11,9 +11,9 @@ use Rattle.case_text.specs.CaseTexts.{Tells}
 use Rattle.what_if.specs.declared.extras.Extra.{Extra}
 use Rattle.what_if.specs.declared.regrets.Regret.{Regret}
 use Rattle.what_if.specs.WhatIf.{AreEnough, AreExtras, AreSettled, IsRegret}
-use Rattle.whatif_text.specs.declared.faults.AskFault.{AskFault}
-use Rattle.whatif_text.specs.declared.faults.AskFault.TheVariants.{Text, NothingAsked}
-use Rattle.whatif_text.specs.AskedCases.{IsAnsweredAsked, IsAskedCaseText, IsAskFault, IsReadAsked, IsRefusedAsked, TakesAskedCases, AskFaultShows}
+use Rattle.case_text.specs.declared.ask_faults.AskFault.{AskFault}
+use Rattle.case_text.specs.declared.ask_faults.AskFault.TheVariants.{Text, NothingAsked}
+use Rattle.case_text.specs.AskedCases.{IsAnsweredAsked, IsAskedCaseText, IsAskFault, IsReadAsked, IsRefusedAsked, TakesAskedCases, AskFaultShows}
 use Rattle.command_ends.specs.declared.status.Status.{Status}
 use Rattle.command_ends.specs.declared.status.Status.TheVariants.{Done, Words, Stopped, Refused, Input, Read, Write, Memory}
 use Rattle.command_ends.specs.Ends.{Streams, Ends, Puts, IsNothingAskedLine}

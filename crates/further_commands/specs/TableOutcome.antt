@@ -11,7 +11,7 @@ use Rattle.lift_text.specs.Shows.{FaultShows}
 use Rattle.lift_text.specs.Text.{line}
 use Rattle.lift_text.specs.declared.codes.TextCode.TheVariants.{ShorterWay}
 use Rattle.lift_text.specs.declared.faults.TextFault.{TextFault}
-use Rattle.table_text.specs.TableTexts.{IsTableText, IsLoneTableFault}
+use Rattle.case_text.specs.TableTexts.{IsTableText, IsLoneTableFault}
 use Rattle.command_ends.specs.Codes.{number_of}
 use Rattle.command_ends.specs.Ends.{Streams, DueTexts, IsRefusalLine}
 use Rattle.command_ends.specs.declared.status.Status.{Status}

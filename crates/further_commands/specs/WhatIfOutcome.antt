@@ -10,9 +10,9 @@ use Rattle.what_if.specs.declared.extras.Extra.{Extra}
 use Rattle.what_if.specs.declared.extras.Extra.TheVariants.{None as NoExtra, Exact, Between}
 use Rattle.what_if.specs.declared.regrets.Regret.{Regret}
 use Rattle.what_if.specs.WhatIf.{AreEnough, AreExtras, AreSettled, IsRegret, extra_at}
-use Rattle.whatif_text.specs.declared.faults.AskFault.{AskFault}
-use Rattle.whatif_text.specs.declared.faults.AskFault.TheVariants.{Text, NothingAsked}
-use Rattle.whatif_text.specs.AskedCases.{HasAskedCall, IsAskedCaseText, IsAskFault, AskFaultShows}
+use Rattle.case_text.specs.declared.ask_faults.AskFault.{AskFault}
+use Rattle.case_text.specs.declared.ask_faults.AskFault.TheVariants.{Text, NothingAsked}
+use Rattle.case_text.specs.AskedCases.{HasAskedCall, IsAskedCaseText, IsAskFault, AskFaultShows}
 use Rattle.command_ends.specs.Ends.{Streams, DueTexts, IsRefusalLine, IsNothingAskedLine, PutsFault, PutsNothingAsked}
 use Rattle.command_ends.specs.declared.status.Status.{Status}
 use Rattle.command_ends.specs.declared.status.Status.TheVariants.{Done, Words, Stopped, Refused, Input, Read, Write, Memory}

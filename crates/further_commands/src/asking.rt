@@ -5,8 +5,8 @@ ghost use Rattle.byte_streams.specs.Streams.{Rose};
 ghost use Rattle.elevator_model.specs.Snapshot.{IsAccepted};
 ghost use Rattle.lift_text.specs.Reading.{whole_text};
 ghost use Rattle.what_if.specs.WhatIf.{AreEnough};
-ghost use Rattle.whatif_text.specs.AskedCases.{AskFaultShows, HasAskedCall, IsReadAsked, IsRefusedAsked};
-ghost use Rattle.whatif_text.specs.AskedCases.{TakesAskedCases};
+ghost use Rattle.case_text.specs.AskedCases.{AskFaultShows, HasAskedCall, IsReadAsked, IsRefusedAsked};
+ghost use Rattle.case_text.specs.AskedCases.{TakesAskedCases};
 ghost use Rattle.command_ends.specs.Ends.{Ends, streams};
 ghost use Rattle.further_commands.specs.WhatIfOutcome.{AnswersAsked, IsStatusOf, IsTold, PutsAskFault};
 ghost use Rattle.further_commands.specs.WhatIfOutcome.{RefusesUnasked, WhatIfDue};
@@ -14,13 +14,13 @@ ghost use Rattle.further_commands.specs.WhatIfOutcome.{RefusesUnasked, WhatIfDue
 use crate::writing::what_if_text;
 use byte_streams::{Gate, Sink, Source};
 use call_state::Snapshot;
+use case_text::{AskFault, read_asked_case};
 use command_ends::{Answer, Status, put, put_fault, put_nothing_asked};
 use lift_text::{LineReader, TextFault};
 use search_model::Limits;
 use snapshot_solver::SearchCrew;
 use std::alloc::{AllocError, Global};
 use what_if::{Extra, are_settled, what_if};
-use whatif_text::{AskFault, read_asked_case};
 use work_fan::Runtime;
 
 /// The snapshot that the whole input is the text of, whose last call is asked about.

@@ -5,15 +5,15 @@ ghost use Rattle.byte_streams.specs.Streams.{Rose};
 ghost use Rattle.command_ends.specs.Ends.{Ends, streams};
 ghost use Rattle.lift_text.specs.Reading.{whole_text};
 ghost use Rattle.lift_text.specs.Shows.{FaultShows};
-ghost use Rattle.table_text.specs.TableTexts.{IsReadAlone, IsRefusedAlone, TakesLoneTables};
+ghost use Rattle.case_text.specs.TableTexts.{IsReadAlone, IsRefusedAlone, TakesLoneTables};
 ghost use Rattle.further_commands.specs.TableOutcome.{IsToldOf, RefusesTables, TableDue, Tables};
 
 use byte_streams::{Sink, Source};
+use case_text::{Table, read_lone_table};
 use command_ends::{Answer, Status, number_of, put, put_fault};
 use lift_text::{LineReader, TextCode, TextFault, put_line};
 use motion_table::Triple;
 use std::alloc::{AllocError, Global};
-use table_text::{Table, read_lone_table};
 
 /// The table that the whole input states.
 fn read_input<S: Source>(alloc: Global, source: &mut S) -> Result<Table, TextFault>

@@ -1,2 +1,6 @@
 pub mod Kept
 pub mod Walking
+pub mod Leaves
+pub mod Visiting
+pub mod Scanning
+pub mod Counting

@@ -13,8 +13,8 @@ use Rattle.lift_text.specs.declared.codes.TextCode.TheVariants.{CutShort}
 use Rattle.lift_text.specs.declared.faults.TextFault.{TextFault}
 use Rattle.lift_text.specs.declared.faults.TextFault.TheVariants.{Bad, NoMemory, Read, TooLong}
 use Rattle.lift_text.proofs.SkipLemmas.{size_of, size_of-pieces}
-use Rattle.row_text.specs.declared.rows.GoodRow.{GoodRow}
-use Rattle.row_text.specs.Records.{row_as_said, row_of_line, row_within}
+use Rattle.day_text.specs.declared.rows.GoodRow.{GoodRow}
+use Rattle.day_text.specs.Records.{row_as_said, row_of_line, row_within}
 use Rattle.day_laws.proofs.RowFaults.{good-row}
 use Rattle.day_laws.specs.RowLines.{rows_of, rows_of_line, rows_of_short}
 use Rattle.log_rows.specs.declared.rows.Before.{Before}

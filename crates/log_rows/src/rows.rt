@@ -9,8 +9,8 @@ ghost use Rattle.log_rows.specs.Rows.{AreAdded, AreRowsGiven, Grows, IsGood, IsL
 ghost use Rattle.log_rows.specs.Rows.{TellsNoLog, after_added as after_added_lem};
 
 use call_state::Building;
+use day_text::{GoodRow, read_row};
 use lift_text::{LINE_COUNT_BOUND, LineReader, RawLine, Source, TEXT_LIMIT, TextCode, TextFault};
-use row_text::{GoodRow, read_row};
 use std::alloc::{AllocError, Global};
 
 /// The first line of a log, without its end.

@@ -21,7 +21,7 @@ use Rattle.search_tree.specs.Standing.{IsLeafIn, IsKindIn}
 use Rattle.search_tree.specs.Answers.{AreAnswersIn}
 use Rattle.search_tree.proofs.TurnLaws.{IsNotedSheet, noted-sheet}
 use Rattle.search_tree.proofs.TreeLaws.{noted-branch}
-use Rattle.price_steps.specs.declared.steps.Steps.{Steps}
+use Rattle.branching_rules.specs.declared.steps.Steps.{Steps}
 use Rattle.search_tree.specs.Payloads.{TreeNodes}
 use Rattle.node_search.specs.declared.best.Best.{Best}
 use Rattle.node_search.specs.declared.root.Root.{Root}

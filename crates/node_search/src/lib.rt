@@ -24,7 +24,7 @@
 //! which each call has one car left is priced once: where no car reached the limit its tours make a plan that
 //! costs no more than its bound (`proofs/PlanLaws.antt`). The other leaves are split after at most twenty
 //! pricings. So at the end each open leaf has a car with as many partial tours as the limit, or the rounds
-//! are used up. Prices and splits come from `price_steps`, and no contract knows them.
+//! are used up. Prices and splits come from `branching_rules`, and no contract knows them.
 #![tactic(auto)]
 
 mod best;

@@ -12,11 +12,11 @@ ghost use Rattle.node_search.specs.Found.{HasDueTurns};
 
 use crate::best::Best;
 use assign_branch::{Pricer, root as root_node};
+use branching_rules::Steps;
 use byte_streams::{Gate, Progress};
 use call_state::Snapshot;
 use elevator_model::Plan;
 use price_scale::Price;
-use price_steps::Steps;
 use pricing_rounds::{PricingCrew, Task};
 use root_turns::{greatest_of, price_turn, prices_after, step_after};
 use search_model::{Items, Turn, TurnOf};

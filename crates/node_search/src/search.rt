@@ -16,9 +16,9 @@ ghost use Rattle.node_search.specs.Searches.{HasSettled, IsPlanOf, IsPricingOf, 
 use crate::best::Best;
 use crate::steps::{split, take_in};
 use assign_branch::{Node, Pricer};
+use branching_rules::Steps;
 use elevator_model::{MOST_CALLS, Plan};
 use price_scale::{Price, SCALE};
-use price_steps::Steps;
 use search_model::TurnOf;
 use search_tree::{Branch, MOST_PRICINGS, SearchTree, SplitAt, first_choice};
 use std::alloc::{AllocError, Global};

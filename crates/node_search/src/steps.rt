@@ -9,10 +9,10 @@ ghost use Rattle.search_tree.specs.Answers.{BeginsAt};
 ghost use Rattle.node_search.specs.Searches.{IsSplit};
 
 use assign_branch::Node;
+use branching_rules::Steps;
 use elevator_model::MOST_CALLS;
 use partition_relaxation::SeenTours;
 use price_scale::Price;
-use price_steps::Steps;
 use restricted_master::Pool;
 use search_model::{Turn, TurnOf};
 use search_tree::{Branch, MOST_PRICINGS, SearchTree, SplitAt};

@@ -2,8 +2,8 @@
 
 use crate::root::Root;
 use crate::search::Search;
+use branching_rules::Steps;
 use byte_streams::SearchState;
-use price_steps::Steps;
 use search_tree::SearchTree;
 
 /// Where a search stands with this tree and this cost of its cheapest plan, after so many rounds.

@@ -8,3 +8,4 @@ pub mod CarriedLemmas
 pub mod SteadyLemmas
 pub mod NearLemmas
 mod FoundCosts
+mod CompletionLemmas

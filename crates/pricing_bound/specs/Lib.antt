@@ -8,3 +8,4 @@ pub mod Standing
 pub mod GrowthLemmas
 pub mod LowerLemmas
 pub mod Narrowing
+pub mod Undercutting

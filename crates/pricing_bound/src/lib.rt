@@ -16,6 +16,12 @@
 //!   those before it, without the move; of those the bound, of absolute value at most 10^27, and after the
 //!   end the tour's value; what is kept of a car that departs, from which come the sums at each next stop and
 //!   a value that the bound at none of them is below; and the four laws.
+//! - `TourBound`, what a search asks of any bound, for such an `Aim`, which is less: the sums of the empty
+//!   partial tour, and those after a move from those before it, without the move; a value of such sums, of
+//!   absolute value at most 10^27, that is at most the value of each tour for the aim which begins with the
+//!   partial tour (`UndercutsNone`); and after the end the tour's value. Nothing else is asked: a bound need
+//!   not grow along the moves, nor be a function of where they lead. `FromCompletion`: each completion bound,
+//!   with which a checker walks, is one.
 //! - `StraightRides`: `bound`, kept as running sums, meets all this. A move takes no memory and goes over no
 //!   list of calls, groups or floors.
 //! - `Rates::lay_out` has the rates of the calls at new prices, in the same memory.
@@ -61,14 +67,18 @@
 
 mod bounds;
 mod carried;
+mod completion;
 mod parts;
 mod rates;
 mod rides;
 mod running;
 mod straight;
+mod tour_bound;
 mod waiting;
 
 pub use bounds::bound;
+pub use completion::FromCompletion;
 pub use rates::Rates;
 pub use running::CompletionBound;
 pub use straight::{StraightRides, Sums};
+pub use tour_bound::TourBound;

@@ -17,7 +17,7 @@ use Rattle.tour_rules.proofs.Measure.{lawful_short}
 use Rattle.partial_tours.specs.PartialTour.{PartialTour, course}
 use Rattle.tour_extension.specs.declared.demands.Demand.{Demand}
 use Rattle.pricing_bound.specs.Aims.{Aim, AimsAt, IsBoundSize, IsLower, value_for}
-use Rattle.tour_bounds.specs.Undercutting.{HasNoneBelow}
+use Rattle.pricing_bound.specs.Undercutting.{HasNoneBelow}
 use Rattle.kept_tours.specs.Walking.{aim_at, IsWalking, IsOpen}
 use Rattle.kept_tours.proofs.ListLemmas.{own_one}
 use Rattle.pricing_search.specs.declared.progress.Progress.{Progress}

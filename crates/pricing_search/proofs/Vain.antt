@@ -20,7 +20,7 @@ use Rattle.partial_tours.proofs.Search.{from_next}
 use Rattle.tour_extension.specs.declared.demands.Demand.{Demand}
 use Rattle.tour_extension.proofs.Extended.{extendable_to}
 use Rattle.pricing_bound.specs.Aims.{Aim, AimsAt, value_for}
-use Rattle.tour_bounds.specs.Undercutting.{HasNoneBelow, UndercutsNone}
+use Rattle.pricing_bound.specs.Undercutting.{HasNoneBelow, UndercutsNone}
 use Rattle.kept_tours.specs.Walking.{AreFollowersLeft, IsWalking, IsOpen, IsShut, aim_at, goes_on}
 use Rattle.kept_tours.proofs.WalkingLemmas.{moved_on, walking_at}
 use Rattle.kept_tours.proofs.Followers.{GoesPast, IsAt, followers, past_to_first, past_to_next}

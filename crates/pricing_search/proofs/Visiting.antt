@@ -20,7 +20,7 @@ use Rattle.partial_tours.proofs.Lawful.{In}
 use Rattle.tour_extension.specs.declared.demands.Demand.{Demand}
 use Rattle.tour_extension.proofs.Extended.{allowed_append, allowed_stops}
 use Rattle.pricing_bound.specs.Aims.{Aim, value_for}
-use Rattle.tour_bounds.specs.Undercutting.{HasNoneBelow, UndercutsNone}
+use Rattle.pricing_bound.specs.Undercutting.{HasNoneBelow, UndercutsNone}
 use Rattle.kept_tours.specs.Walking.{aim_at, IsWalking, IsOpen}
 use Rattle.kept_tours.proofs.Followers.{followers, followers_are, IsAt, at_move, at_place_of, follower, in_followers, past_out}
 use Rattle.kept_tours.proofs.EndLemmas.{ended_within, ended_value, HasNext, has_next}

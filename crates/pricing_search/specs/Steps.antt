@@ -10,7 +10,7 @@ use Rattle.partial_tours.specs.Followers.{ArePassing}
 use Rattle.tour_extension.specs.declared.demands.Demand.{Demand}
 use Rattle.tour_extension.specs.Leaves.{is_useless}
 use Rattle.kept_tours.specs.Walking.{aim_at}
-use Rattle.tour_bounds.specs.Undercutting.{HasNoneBelow}
+use Rattle.pricing_bound.specs.Undercutting.{HasNoneBelow}
 
 -- The move is not lawful, or no tour of the node goes on with it that has a value below the worth.
 abbrev pub IsVain : Demand → (price : ℕ → ℤ) → (worth : ℤ) → PartialTour → Move → Type 0

@@ -10,7 +10,7 @@ use crate::progress::Progress;
 use crate::steps::step;
 use elevator_model::Move;
 use partial_tours::Prefix;
-use tour_bounds::TourBound;
+use pricing_bound::TourBound;
 use tour_extension::Demand;
 
 /// What a partial tour promises: the value of its tour where it has ended, and else that of its bound.

@@ -1,6 +1,6 @@
 //! By what a search goes.
 
-use tour_bounds::TourBound;
+use pricing_bound::TourBound;
 use tour_extension::Demand;
 
 /// The bound of what partial tours lead to, and the demand that their tours meet.

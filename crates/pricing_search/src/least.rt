@@ -4,7 +4,7 @@ ghost use Rattle.std.specs.Prelude.{◌≡◌, ◌<◌, []};
 ghost use Rattle.elevator_model.specs.Partial.{course_start};
 ghost use Rattle.elevator_model.specs.Snapshot.{IsAccepted, car_count};
 ghost use Rattle.pricing_bound.specs.Aims.{AimsAt, IsBoundSize};
-ghost use Rattle.tour_bounds.specs.Undercutting.{HasNoneBelow};
+ghost use Rattle.pricing_bound.specs.Undercutting.{HasNoneBelow};
 
 use partial_tours::Prefix;
 use pricing_bound::CompletionBound;

@@ -5,7 +5,7 @@ ghost use Rattle.call_sets.specs.Counting.{has};
 ghost use Rattle.elevator_model.specs.Snapshot.{IsAccepted, car_count};
 ghost use Rattle.search_model.specs.Extending.{IsDemand};
 ghost use Rattle.pricing_bound.specs.Aims.{IsBoundSize};
-ghost use Rattle.tour_bounds.specs.Undercutting.{HasNoneBelow};
+ghost use Rattle.pricing_bound.specs.Undercutting.{HasNoneBelow};
 ghost use Rattle.kept_tours.specs.Walking.{aim_at};
 ghost use Rattle.pricing_search.specs.Searches.{IsSearched};
 
@@ -15,7 +15,7 @@ use crate::progress::Progress;
 use crate::walk::visit;
 use assign_branch::Priced;
 use partial_tours::Prefix;
-use tour_bounds::TourBound;
+use pricing_bound::TourBound;
 use tour_extension::Demand;
 
 /// Searches for the tour of the car that has the least value, from its empty partial tour on, and visits at

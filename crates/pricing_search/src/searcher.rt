@@ -16,10 +16,9 @@ use call_state::Snapshot;
 use elevator_model::Tour;
 use partial_tours::{Prefix, tour_of};
 use price_scale::Price;
-use pricing_bound::{Rates, StraightRides};
+use pricing_bound::{FromCompletion, Rates, StraightRides};
 use route_sums::{RouteRates, RouteSums};
 use std::alloc::{AllocError, Global};
-use tour_bounds::FromCompletion;
 use tour_extension::Demand;
 
 /// Prices the cars of a snapshot exactly: finds the tour of least value by a walk over the partial tours that

@@ -5,14 +5,14 @@ ghost use Rattle.elevator_model.specs.Partial.{Course, move_on};
 ghost use Rattle.elevator_model.specs.declared.Move.{Move as MoveValue};
 ghost use Rattle.partial_tours.specs.PartialTour.{course, with_move};
 ghost use Rattle.pricing_bound.specs.Aims.{AimsAt, IsNextMove};
-ghost use Rattle.tour_bounds.specs.Undercutting.{UndercutsNone};
+ghost use Rattle.pricing_bound.specs.Undercutting.{UndercutsNone};
 ghost use Rattle.kept_tours.specs.Walking.{IsWalking, IsOpen, IsShut, MayFollow};
 ghost use Rattle.pricing_search.specs.Steps.{AreFollowersWorth, IsVain};
 
 use elevator_model::Move;
 use kept_tours::followers_left;
 use partial_tours::{Followers, Prefix};
-use tour_bounds::TourBound;
+use pricing_bound::TourBound;
 use tour_extension::{Demand, can_be_extended};
 
 /// Makes one move more, and gives the sums of the bound where it leads. None where no tour of the node begins

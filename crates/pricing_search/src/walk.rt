@@ -11,7 +11,7 @@ use crate::progress::Progress;
 use crate::steps::{followers_below, step_below};
 use elevator_model::Move;
 use partial_tours::Prefix;
-use tour_bounds::TourBound;
+use pricing_bound::TourBound;
 
 /// Visits a partial tour that some tour of the node begins with, and those that begin with it.
 ///

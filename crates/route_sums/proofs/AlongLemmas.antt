@@ -8,10 +8,10 @@ use Rattle.elevator_model.specs.Snapshot.{Snapshot, IsAccepted, call_count, call
 use Rattle.elevator_model.specs.Tours.{Progress}
 use Rattle.search_model.specs.Sums.{int_sum_where}
 use Rattle.search_model.proofs.SumLemmas.{int_sum-le}
-use Rattle.forced_route.specs.ForcedRoute.{forced_stops, halted, is_before, next_open, part_if_boarded, route_end}
+use Rattle.route_bound.specs.ForcedRoute.{forced_stops, halted, is_before, next_open, part_if_boarded, route_end}
 use Rattle.elevator_model.specs.Building.{floor_count}
-use Rattle.forced_route.specs.OnRoute.{IsBeyond, goes_in}
-use Rattle.forced_route.specs.RouteSteps.{next_stop_is, no_stop_left, part_later}
+use Rattle.route_bound.specs.OnRoute.{IsBeyond, goes_in}
+use Rattle.route_bound.specs.RouteSteps.{next_stop_is, no_stop_left, part_later}
 use Rattle.route_sums.specs.Gathering.{added_from, boards_before, gathered}
 use Rattle.route_sums.specs.Stands.{IsStand, soonest}
 use Rattle.route_sums.specs.declared.stands.Newest.{Newest}

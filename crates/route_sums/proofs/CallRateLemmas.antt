@@ -10,7 +10,7 @@ use Rattle.elevator_model.specs.Snapshot.{Snapshot, call_count, call_of}
 use Rattle.search_model.specs.Prices.{scaled}
 use Rattle.tour_rules.specs.Leaving.{call_cost}
 use Rattle.tour_rules.proofs.Settled.{cost_of_rider-call}
-use Rattle.forced_route.specs.ForcedRoute.{cost_if_boarded, least_ride}
+use Rattle.route_bound.specs.ForcedRoute.{cost_if_boarded, least_ride}
 use Rattle.route_sums.specs.CallRates.{IsCallRate}
 use Rattle.route_sums.specs.Rows.{HasRow, cost_at}
 use Rattle.route_sums.specs.declared.rates.CallRate.{CallRate}

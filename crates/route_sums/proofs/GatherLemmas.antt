@@ -16,9 +16,9 @@ use Rattle.search_model.specs.Sums.{int_sum_below, int_sum_where}
 use Rattle.search_model.proofs.SumLemmas.{int_sum-add, int_sum-same}
 use Rattle.pricing_bound.specs.Costs.{rider-later}
 use Rattle.pricing_bound.specs.GrowthLemmas.{no_boards}
-use Rattle.forced_route.specs.ForcedRoute.{cost_on_route, halted, is_before, next_open, opens_at, part_if_boarded, route_end}
-use Rattle.forced_route.specs.Moves.{next_here}
-use Rattle.forced_route.specs.OnRoute.{AreBeyond, IsBeyond}
+use Rattle.route_bound.specs.ForcedRoute.{cost_on_route, halted, is_before, next_open, opens_at, part_if_boarded, route_end}
+use Rattle.route_bound.specs.Moves.{next_here}
+use Rattle.route_bound.specs.OnRoute.{AreBeyond, IsBeyond}
 use Rattle.route_sums.specs.Gathering.{gathered}
 
 -- ---- calls

@@ -16,13 +16,13 @@ use Rattle.partial_tours.proofs.Carried.{boarded_more, boarded_on}
 use Rattle.partial_tours.proofs.Follow.{ended_board}
 use Rattle.pricing_bound.specs.Aims.{Aim}
 use Rattle.pricing_bound.specs.Standing.{IsStanding}
-use Rattle.forced_route.specs.Completions.{CanEnd}
-use Rattle.forced_route.specs.ForcedRoute.{boards_from, forced_stops, halted, is_before, may_still_board, next_open, opens_at, part_if_boarded, rides_along, route_end, route_start}
-use Rattle.forced_route.specs.GrowingRoute.{boards_grow, ends_before}
-use Rattle.forced_route.specs.Moves.{boarding, ending, leaving}
-use Rattle.forced_route.specs.OnRoute.{IsBeyond}
-use Rattle.forced_route.specs.RouteSteps.{part_later}
-use Rattle.forced_route.specs.Turns.{boards_first}
+use Rattle.route_bound.specs.Completions.{CanEnd}
+use Rattle.route_bound.specs.ForcedRoute.{boards_from, forced_stops, halted, is_before, may_still_board, next_open, opens_at, part_if_boarded, rides_along, route_end, route_start}
+use Rattle.route_bound.specs.GrowingRoute.{boards_grow, ends_before}
+use Rattle.route_bound.specs.Moves.{boarding, ending, leaving}
+use Rattle.route_bound.specs.OnRoute.{IsBeyond}
+use Rattle.route_bound.specs.RouteSteps.{part_later}
+use Rattle.route_bound.specs.Turns.{boards_first}
 use Rattle.route_sums.specs.Idle.{AreIdleAt, AreIdleBut, adds, boards_along}
 use Rattle.route_sums.specs.Stands.{IsStand, soonest}
 use Rattle.route_sums.specs.declared.stands.Newest.{Newest}

@@ -20,12 +20,12 @@ use Rattle.pricing_bound.specs.Aims.{Aim, value_for}
 use Rattle.pricing_bound.specs.Costs.{int_sum_one_off}
 use Rattle.pricing_bound.specs.GrowthLemmas.{Boards, no_boards, paid_here}
 use Rattle.pricing_bound.specs.Standing.{IsStanding}
-use Rattle.forced_route.specs.Completions.{CanEnd}
-use Rattle.forced_route.specs.ForcedRoute.{bound_from, may_still_board, route_bound_for, route_start}
-use Rattle.forced_route.specs.Moves.{boarding, ending, leaving}
-use Rattle.forced_route.specs.EndedRoute.{ended_is_value}
-use Rattle.forced_route.specs.LowerRoute.{route_is_lower, still_same, tour_can_end}
-use Rattle.tour_bounds.specs.Undercutting.{UndercutsNone}
+use Rattle.route_bound.specs.Completions.{CanEnd}
+use Rattle.route_bound.specs.ForcedRoute.{bound_from, may_still_board, route_bound_for, route_start}
+use Rattle.route_bound.specs.Moves.{boarding, ending, leaving}
+use Rattle.route_bound.specs.EndedRoute.{ended_is_value}
+use Rattle.route_bound.specs.LowerRoute.{route_is_lower, still_same, tour_can_end}
+use Rattle.pricing_bound.specs.Undercutting.{UndercutsNone}
 
 through : (u v w : ℤ) → u ≤ℤ v → v ≤ℤ w → u ≤ℤ w
 through u v w h k = omega (arith, ints, h, k)

@@ -7,7 +7,7 @@ use Rattle.call_sets.specs.Counting.{has}
 use Rattle.elevator_model.specs.Snapshot.{Snapshot, call_count, call_of}
 use Rattle.elevator_model.specs.Tours.{Progress, is_upward, same_direction}
 use Rattle.partial_tours.specs.Courses.{is_after}
-use Rattle.forced_route.specs.ForcedRoute.{rides_along}
+use Rattle.route_bound.specs.ForcedRoute.{rides_along}
 use Rattle.route_sums.specs.Origins.{AreBelowFloors, AreOrigins, begins_below}
 
 -- ---- the table

@@ -12,7 +12,7 @@ use Rattle.search_model.specs.Sums.{int_sum_where}
 use Rattle.search_model.proofs.SumLemmas.{int_sum-add, int_sum-same}
 use Rattle.partial_tours.specs.Courses.{any_goes_to}
 use Rattle.pricing_bound.specs.Costs.{sum_one_off}
-use Rattle.forced_route.specs.OnRoute.{goer}
+use Rattle.route_bound.specs.OnRoute.{goer}
 use Rattle.route_sums.specs.declared.stands.Stand.{Stand}
 
 elsewhere : (a : Bool) (f g : ℕ) → (g ≡ f → ⊥) → a ≡ (a && not (eqb g f))

@@ -10,7 +10,7 @@ use Rattle.elevator_model.specs.Travel.{time_between}
 use Rattle.search_model.specs.Prices.{scaled}
 use Rattle.search_model.specs.Sums.{int_sum_where}
 use Rattle.search_model.proofs.SumLemmas.{int_sum-le}
-use Rattle.forced_route.specs.ForcedRoute.{cost_if_boarded, part_if_boarded}
+use Rattle.route_bound.specs.ForcedRoute.{cost_if_boarded, part_if_boarded}
 use Rattle.route_sums.specs.CallRates.{IsCallRate, IsLaidOut, RouteRated}
 use Rattle.route_sums.specs.Gathering.{lowest}
 use Rattle.route_sums.specs.Rows.{IsTermOf, IsTermSize, cost_at, no_rate, no_term, row_at, row_part}

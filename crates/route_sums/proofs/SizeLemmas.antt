@@ -17,7 +17,7 @@ use mir.Val.{to_z, of_z}
 use mir.Syntax.{w128}
 use Rattle.pricing_bound.proofs.RateLemmas.{stored}
 use Rattle.pricing_bound.proofs.Sizes.{IsWithin, few_within, int_sum-size}
-use Rattle.forced_route.specs.ForcedRoute.{cost_if_boarded, least_ride, part_if_boarded}
+use Rattle.route_bound.specs.ForcedRoute.{cost_if_boarded, least_ride, part_if_boarded}
 use Rattle.route_sums.specs.declared.stands.Stand.{Stand}
 use Rattle.route_sums.specs.Gathering.{highest, lowest}
 use Rattle.route_sums.specs.Stands.{soonest}

@@ -23,8 +23,8 @@ use Rattle.partial_tours.proofs.Follow.{board_leads_to}
 use Rattle.pricing_bound.specs.Standing.{IsStanding}
 use Rattle.partial_tours.proofs.Carried.{boarded_more, boarded_on, carried_more, carried_on, goes_on_to, goes_with}
 use Rattle.pricing_bound.specs.GrowthLemmas.{Boards, board_settles, boards_now, no_boards}
-use Rattle.forced_route.specs.ForcedRoute.{halted, next_open, route_start}
-use Rattle.forced_route.specs.Moves.{board_leaves}
+use Rattle.route_bound.specs.ForcedRoute.{halted, next_open, route_start}
+use Rattle.route_bound.specs.Moves.{board_leaves}
 use Rattle.route_sums.specs.declared.stands.Newest.{Newest}
 use Rattle.route_sums.specs.declared.stands.Stand.{Stand}
 use Rattle.route_sums.specs.Stands.{IsStand, soonest}

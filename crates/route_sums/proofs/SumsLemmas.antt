@@ -23,10 +23,10 @@ use Rattle.pricing_bound.specs.Aims.{Aim, AimsAt, IsBoundSize, IsNextMove}
 use Rattle.pricing_bound.specs.Standing.{IsStanding, course_standing}
 use Rattle.pricing_bound.proofs.RunningLemmas.{aimed_at, aimed_course, aimed_from, aims_on, last_of, step_of}
 use Rattle.pricing_bound.proofs.Sizes.{prices_size}
-use Rattle.forced_route.specs.Completions.{CanEnd}
-use Rattle.forced_route.specs.ForcedRoute.{bound_from, halted, may_still_board, route_bound_for, route_start}
-use Rattle.forced_route.specs.Moves.{boarding, leaving}
-use Rattle.tour_bounds.specs.Undercutting.{UndercutsNone}
+use Rattle.route_bound.specs.Completions.{CanEnd}
+use Rattle.route_bound.specs.ForcedRoute.{bound_from, halted, may_still_board, route_bound_for, route_start}
+use Rattle.route_bound.specs.Moves.{boarding, leaving}
+use Rattle.pricing_bound.specs.Undercutting.{UndercutsNone}
 use Rattle.route_sums.specs.declared.sums.Sums.{Sums}
 use Rattle.route_sums.specs.Idle.{AreIdleAt, AreIdleBut}
 use Rattle.route_sums.specs.Keeping.{AreRouteSums}

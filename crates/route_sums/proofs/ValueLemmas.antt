@@ -12,8 +12,8 @@ use Rattle.search_model.specs.Extending.{any_above}
 use Rattle.search_model.specs.Prices.{scaled}
 use Rattle.search_model.specs.Sums.{int_sum_where}
 use Rattle.search_model.proofs.SumLemmas.{int_sum-le}
-use Rattle.forced_route.specs.ForcedRoute.{bound_from, boards_from, cost_on_route, forced_stops, next_open, opens_at, part_if_boarded, rides_along, route_end}
-use Rattle.forced_route.specs.OnRoute.{stops_order}
+use Rattle.route_bound.specs.ForcedRoute.{bound_from, boards_from, cost_on_route, forced_stops, next_open, opens_at, part_if_boarded, rides_along, route_end}
+use Rattle.route_bound.specs.OnRoute.{stops_order}
 use Rattle.route_sums.specs.Gathering.{gathered}
 use Rattle.route_sums.proofs.GatherLemmas.{gathered-is, settled_on_route}
 

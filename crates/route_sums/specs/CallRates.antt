@@ -3,7 +3,7 @@ use Rattle.std.specs.Prelude.{◌≡◌, ◌≤◌, ◌<◌, ℕ, ◌*◌, ℤ, 
 use Rattle.call_sets.specs.Counting.{has}
 use Rattle.elevator_model.specs.Building.{floor_count}
 use Rattle.elevator_model.specs.Snapshot.{Snapshot, call_count, call_of}
-use Rattle.forced_route.specs.ForcedRoute.{cost_if_boarded, part_if_boarded}
+use Rattle.route_bound.specs.ForcedRoute.{cost_if_boarded, part_if_boarded}
 use Rattle.route_sums.specs.Origins.{AreOrigins}
 use Rattle.route_sums.specs.Rows.{AreTerms, BeginsApart, HasRow, cost_at}
 use Rattle.route_sums.specs.declared.rates.CallRate.{CallRate}

@@ -3,7 +3,7 @@
 use Rattle.std.specs.Prelude.{ℕ, ℤ, neg_ℤ, pos, ◌+ℤ◌, ◌*◌, ◌^◌, ◌&&◌, not, Bool, List, [], ◌∷◌}
 use Rattle.elevator_model.specs.Snapshot.{Snapshot, call_count, call_of}
 use Rattle.elevator_model.specs.Tours.{Progress}
-use Rattle.forced_route.specs.ForcedRoute.{halted, is_before, next_open, part_if_boarded}
+use Rattle.route_bound.specs.ForcedRoute.{halted, is_before, next_open, part_if_boarded}
 use Rattle.search_model.specs.Sums.{int_sum_where}
 
 -- the call boards on the leg to floor f

@@ -6,8 +6,8 @@ use Rattle.elevator_model.specs.Snapshot.{Snapshot, call_count, call_of}
 use Rattle.elevator_model.specs.Tours.{Progress}
 use Rattle.partial_tours.specs.Courses.{reached}
 use Rattle.pricing_bound.specs.Aims.{Aim}
-use Rattle.forced_route.specs.ForcedRoute.{may_still_board, next_open, opens_at, part_if_boarded, route_end, route_start}
-use Rattle.forced_route.specs.Turns.{boards_first}
+use Rattle.route_bound.specs.ForcedRoute.{may_still_board, next_open, opens_at, part_if_boarded, route_end, route_start}
+use Rattle.route_bound.specs.Turns.{boards_first}
 
 -- what a call adds is not nothing
 abbrev pub adds : ℤ → Bool

@@ -8,8 +8,8 @@ use Rattle.price_scale.specs.Scale.{IsPriceSum}
 use Rattle.pricing_bound.specs.Aims.{Aim, IsBoundSize}
 use Rattle.search_model.specs.Prices.{price_at}
 use Rattle.search_model.specs.Sums.{int_sum_where}
-use Rattle.forced_route.specs.Completions.{CanEnd}
-use Rattle.forced_route.specs.ForcedRoute.{route_bound_for}
+use Rattle.route_bound.specs.Completions.{CanEnd}
+use Rattle.route_bound.specs.ForcedRoute.{route_bound_for}
 use Rattle.route_sums.specs.Idle.{AreIdleAt}
 use Rattle.route_sums.specs.declared.parts.RouteSums.{RouteSums}
 use Rattle.route_sums.specs.declared.sums.Sums.{Sums}

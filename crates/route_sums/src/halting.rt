@@ -9,7 +9,7 @@ ghost use Rattle.elevator_model.specs.Snapshot.{car_count, spec_of};
 ghost use Rattle.elevator_model.specs.Tours.{Progress, make_stop};
 ghost use Rattle.elevator_model.specs.declared.Move.{Move};
 ghost use Rattle.car_layout.specs.Layouts.{ends_at};
-ghost use Rattle.forced_route.specs.ForcedRoute.{halted as halted_lem, next_open as next_open_lem};
+ghost use Rattle.route_bound.specs.ForcedRoute.{halted as halted_lem, next_open as next_open_lem};
 ghost use Rattle.partial_tours.specs.Courses.{empty_stop, reached};
 ghost use Rattle.partial_tours.specs.PartialTour.{course};
 ghost use Rattle.tour_rules.specs.Places.{Tracks};

@@ -4,7 +4,7 @@
 //!
 //! - `RouteSums` is a `TourBound`: for a car of an accepted snapshot, one price per call, allowed and
 //!   required calls, a value for each partial tour that is at most its bound along the forced route
-//!   (`forced_route::route_law`), so that no tour which begins with it has a smaller value. Memory is
+//!   (`route_bound::route_law`), so that no tour which begins with it has a smaller value. Memory is
 //!   taken for its `RouteRates` alone, when they are made.
 //!
 //! # How it is found
@@ -26,7 +26,7 @@
 //! Where a call would board before its release, its row tells less than it adds.
 //!
 //! A call that adds nothing is not looked at again after later moves (`specs/Idle.antt`): where some tour goes
-//! on, no move makes it board sooner (`forced_route::growing_law`), and only then its value has to be a bound.
+//! on, no move makes it board sooner (`route_bound::growing_law`), and only then its value has to be a bound.
 //!
 //! Moments and costs are cut at limits that no tour reaches: a value that is too low is still a bound.
 #![tactic(auto)]

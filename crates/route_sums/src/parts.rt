@@ -6,7 +6,7 @@ ghost use Rattle.call_sets.specs.Counting.{has};
 ghost use Rattle.elevator_model.specs.Building.{floor_count};
 ghost use Rattle.elevator_model.specs.Snapshot.{call_count, call_of, car_count};
 ghost use Rattle.elevator_model.specs.Tours.{Progress};
-ghost use Rattle.forced_route.specs.ForcedRoute.{part_if_boarded};
+ghost use Rattle.route_bound.specs.ForcedRoute.{part_if_boarded};
 ghost use Rattle.price_scale.specs.Scale.{IsPrice};
 ghost use Rattle.search_model.specs.Prices.{price_at};
 ghost use Rattle.search_model.specs.Sums.{int_sum_where};

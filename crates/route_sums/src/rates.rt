@@ -4,7 +4,7 @@ ghost use Rattle.std.specs.Prelude.{◌≡◌, ℕ, ℤ, pos, neg_ℤ, ◌+◌, 
 ghost use Rattle.std.specs.Prelude.{false, true, IfOk, length, slice_index, slice_index_or};
 ghost use Rattle.call_sets.specs.Counting.{has};
 ghost use Rattle.elevator_model.specs.Snapshot.{call_count, car_count};
-ghost use Rattle.forced_route.specs.ForcedRoute.{least_ride as least_ride_lem};
+ghost use Rattle.route_bound.specs.ForcedRoute.{least_ride as least_ride_lem};
 ghost use Rattle.price_scale.specs.Scale.{IsPrice};
 ghost use Rattle.search_model.specs.Prices.{price_at, scaled as scaled_lem};
 ghost use Rattle.route_sums.specs.CallRates.{AreCallRates, HasRoomFor, IsCallRate, IsLaidOut};

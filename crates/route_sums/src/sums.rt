@@ -21,7 +21,7 @@ use call_state::Snapshot;
 use elevator_model::Move;
 use partial_tours::Prefix;
 use price_scale::{Price, scaled};
-use tour_bounds::TourBound;
+use pricing_bound::TourBound;
 
 /// No value of a partial tour is below its negative, in thousandths of a cost unit.
 const MOST_VALUE: i128 = 1_000_000_000_000_000_000_000_000_000;

@@ -14,7 +14,7 @@ use byte_streams::OpenGate;
 use cert_checker::{Judging, JudgingCrew, Reason};
 use cert_claims::{Claims, Counting, CountingCrew};
 use group_commands::{GroupCrew, Searches};
-use kept_count::Desk as LeafDesk;
+use kept_tours::Desk as LeafDesk;
 use pricing_rounds::Round;
 use pricing_search::{Desk, Searcher};
 use search_model::TurnOf;

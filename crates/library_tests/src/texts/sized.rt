@@ -2,7 +2,7 @@
 
 ghost use Rattle.std.specs.Prelude.{◌≡◌, true, All};
 ghost use Rattle.assign_branch.specs.Pricings.{IsWorthSize};
-ghost use Rattle.kept_count.specs.Leaves.{HasWorthSize};
+ghost use Rattle.kept_tours.specs.Leaves.{HasWorthSize};
 ghost use Rattle.cert_checker.specs.Judging.{HasWorthSizes};
 
 use price_scale::MOST_WORTH;

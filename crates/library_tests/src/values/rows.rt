@@ -3,7 +3,7 @@
 
 use call_state::Snapshot;
 use case_kit::{WORKED_CASE, is_so_of, snapshot_in};
-use row_text::{Header, is_header, read_row};
+use day_text::{Header, is_header, read_row};
 use std::alloc::Global;
 
 /// Whether the line is neither header.

@@ -1,4 +1,4 @@
-use Rattle.row_text.specs.Records.{row_of_line}
+use Rattle.day_text.specs.Records.{row_of_line}
 use Rattle.bank_days.proofs.RowLemmas.{done-wider, still-right}
 use Rattle.bank_days.proofs.running.run_line.Goals as goal
 

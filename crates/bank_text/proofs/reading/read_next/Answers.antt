@@ -3,7 +3,7 @@ use Rattle.std.specs.Prelude.{nat_eq, not}
 use Rattle.lift_text.specs.LineReader.{text}
 use Rattle.lift_text.specs.Reading.{TextState}
 use Rattle.lift_text.proofs.ShowLemmas.{fault_behind, went_further}
-use Rattle.opening_text.proofs.HeaderLemmas.{number_of}
+use Rattle.day_text.proofs.HeaderReadLemmas.{number_of}
 use Rattle.bank_text.specs.Banks.{ids_of}
 use Rattle.bank_text.specs.BankTexts.{IsRefusal}
 use Rattle.bank_text.specs.declared.banks.Bank.{Bank}

@@ -4,7 +4,7 @@ use Rattle.std.specs.Int.{w128}
 use Rattle.search_model.specs.declared.Leaf.{Leaf}
 use Rattle.search_model.specs.declared.Reason.{Reason}
 use Rattle.search_model.specs.Verdicts.{reason_of_car}
-use Rattle.kept_count.specs.Counting.{Holds, IsCounted, found_tour}
+use Rattle.kept_tours.specs.Counting.{Holds, IsCounted, found_tour}
 use Rattle.cert_checker.specs.Judging.{reason_of_count}
 use Rattle.cert_checker.proofs.LeafLemmas.{car_reason}
 use Rattle.cert_checker.proofs.leaves.judge_car.Goals as goal

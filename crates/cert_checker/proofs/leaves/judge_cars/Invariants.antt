@@ -1,7 +1,7 @@
 -- No car so far gives a reason, and the desk still holds the leaf.
 use Rattle.std.proofs.Common.{◌≡◌, None}
 use Rattle.search_model.specs.Verdicts.{reason_of_cars}
-use Rattle.kept_count.specs.Counting.{Holds}
+use Rattle.kept_tours.specs.Counting.{Holds}
 use Rattle.cert_checker.proofs.leaves.judge_cars.Given as goal
 
 abbrev pub invariant-loop-car : goal.invariant-loop-car

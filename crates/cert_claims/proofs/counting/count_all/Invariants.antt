@@ -1,6 +1,6 @@
 use Rattle.std.proofs.Common.{◌≡◌, ◌≤◌, ◌-◌, length, map, take}
 use Rattle.std.specs.List.{All}
-use Rattle.kept_count.specs.declared.desks.Desk.{Desk}
+use Rattle.kept_tours.specs.declared.desks.Desk.{Desk}
 use Rattle.cert_claims.specs.Leaves.{HasTakenAll, leaf_at}
 use Rattle.cert_claims.proofs.counting.count_all.Given as goal
 

@@ -1,7 +1,7 @@
 use Rattle.std.proofs.Common.{◌≡◌, ◌+◌, inl, inr, of_z, rules, subst, to_z}
 use Rattle.std.specs.Prelude.{ℤ}
 use Rattle.std.specs.Int.{w128}
-use Rattle.kept_count.specs.Counting.{IsCounted, found_tour}
+use Rattle.kept_tours.specs.Counting.{IsCounted, found_tour}
 use Rattle.cert_claims.proofs.WorthLemmas.{longer_claim, under_claim}
 use Rattle.cert_claims.proofs.leaves.claim_within.Goals as goal
 

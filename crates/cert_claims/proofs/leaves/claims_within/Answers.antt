@@ -1,7 +1,7 @@
 use Rattle.std.proofs.Common.{◌≡◌, ◌<◌, ◌∙◌, ap, arith, length, refl, rules, subst, sym}
 use Rattle.std.proofs.lemmas.List.{length-set}
 use Rattle.elevator_model.specs.Snapshot.{car_count}
-use Rattle.kept_count.proofs.LeafLemmas.{cars_few}
+use Rattle.kept_tours.proofs.LeafLemmas.{cars_few}
 use Rattle.cert_claims.specs.Leaves.{AreClaimsWithin, IsClaimWithin, extra_of_cars, leaf_of}
 use Rattle.cert_claims.proofs.CarLemmas.{claim_here, more_due, more_left, past}
 use Rattle.cert_claims.proofs.leaves.claims_within.Goals as goal

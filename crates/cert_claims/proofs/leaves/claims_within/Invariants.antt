@@ -1,6 +1,6 @@
 use Rattle.std.proofs.Common.{◌≡◌, ◌<◌, ◌+◌, ℕ, length}
 use Rattle.std.specs.Prelude.{slice_index_or}
-use Rattle.kept_count.specs.Counting.{Holds}
+use Rattle.kept_tours.specs.Counting.{Holds}
 use Rattle.cert_claims.specs.Due.{claim_due}
 use Rattle.cert_claims.specs.Leaves.{extra_of_cars, leaf_of}
 use Rattle.cert_claims.proofs.leaves.claims_within.Given as goal

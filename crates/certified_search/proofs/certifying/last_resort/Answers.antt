@@ -1,4 +1,4 @@
-use Rattle.kept_count.proofs.LeafLemmas.{whole_few}
+use Rattle.kept_tours.proofs.LeafLemmas.{whole_few}
 use Rattle.certified_search.proofs.certifying.last_resort.Goals as goal
 
 pub sum_of_leaf-requires-clause-prices : goal.sum_of_leaf-requires-clause-prices

@@ -2,7 +2,7 @@ use Rattle.std.proofs.Common.{All, Err, List, Option, ap, arith, length, map, su
 use Rattle.elevator_model.specs.Building.{Building}
 use Rattle.search_model.specs.Days.{opening_day}
 use Rattle.lift_text.specs.LineReader.{text}
-use Rattle.row_text.specs.declared.rows.GoodRow.{GoodRow}
+use Rattle.day_text.specs.declared.rows.GoodRow.{GoodRow}
 use Rattle.log_rows.specs.Rows.{AreRowsGiven, IsGood, said_of}
 use Rattle.day_audit.specs.Progress.{IsLogAudited}
 use Rattle.day_audit.proofs.InputLemmas.{log_audited, rows_refused}

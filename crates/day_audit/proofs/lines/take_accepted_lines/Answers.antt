@@ -1,6 +1,6 @@
 use Rattle.std.proofs.Common.{ℕ, [], ◌∷◌, Err, Ok, subst}
 use Rattle.lift_text.specs.LineReader.{text}
-use Rattle.log_text.specs.Texts.{accepted_words}
+use Rattle.day_text.specs.LogTexts.{accepted_words}
 use Rattle.day_audit.specs.Audits.{event_lines}
 use Rattle.day_audit.specs.Taking.{TakesLines}
 use Rattle.day_audit.proofs.TakingLemmas.{takes_further, takes_short}

@@ -1,7 +1,7 @@
 use Rattle.std.proofs.Common.{[], ◌∷◌}
 use Rattle.lift_text.specs.LineReader.{text}
 use Rattle.std.specs.Prelude.{codes}
-use Rattle.log_text.specs.Texts.{total_words}
+use Rattle.day_text.specs.LogTexts.{total_words}
 use Rattle.day_audit.proofs.TakingLemmas.{takes_further, takes_short}
 use Rattle.day_audit.proofs.lines.take_last_lines.Goals as goal
 

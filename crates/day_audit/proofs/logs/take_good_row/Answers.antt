@@ -5,7 +5,7 @@ use Rattle.search_model.specs.Advancing.{World, advanced}
 use Rattle.search_model.specs.Days.{call_of_row, is_row}
 use Rattle.day_state.specs.Openings.{IsNewCall}
 use Rattle.lift_text.specs.LineReader.{text}
-use Rattle.row_text.specs.Records.{row_as_said}
+use Rattle.day_text.specs.Records.{row_as_said}
 use Rattle.day_laws.proofs.RowFaults.{new-call}
 use Rattle.day_audit.proofs.ProgressLemmas.{good_accepted, good_refused, number_is}
 use Rattle.day_audit.proofs.logs.take_good_row.Goals as goal

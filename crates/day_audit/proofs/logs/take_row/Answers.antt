@@ -1,5 +1,5 @@
 use Rattle.std.proofs.Common.{None, Option, refl, subst, sym}
-use Rattle.row_text.specs.declared.rows.GoodRow.{GoodRow}
+use Rattle.day_text.specs.declared.rows.GoodRow.{GoodRow}
 use Rattle.log_rows.specs.Rows.{said_of}
 use Rattle.day_audit.specs.Progress.{IsRowTaken}
 use Rattle.search_model.specs.declared.RowFault.TheVariants.{NoRow}

@@ -1,6 +1,6 @@
 use Rattle.std.proofs.Common.{rules}
 use Rattle.lift_text.specs.LineReader.{text}
-use Rattle.day_runner.proofs.RightLemmas.{answered-wider}
+use Rattle.day_simulator.proofs.RightLemmas.{answered-wider}
 use Rattle.lift_words.specs.Taken.{most_claims}
 use Rattle.day_commands.specs.DayOutcome.{SolvedBy}
 use Rattle.day_planner.proofs.RowLemmas.{still-solved}

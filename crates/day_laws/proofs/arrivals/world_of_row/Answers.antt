@@ -2,7 +2,7 @@ use Rattle.std.proofs.Common.{◌≤◌, ℕ, sym, ap, ◌∙◌, subst, arith}
 use Rattle.elevator_model.specs.Snapshot.{Snapshot}
 use Rattle.search_model.specs.Advancing.{World, advanced}
 use Rattle.day_state.specs.Openings.{IsNewCall}
-use Rattle.row_text.specs.Records.{row_as_said}
+use Rattle.day_text.specs.Records.{row_as_said}
 use Rattle.day_laws.proofs.RowFaults.{brought-fault, brought-unless, brought-world}
 use Rattle.day_laws.proofs.arrivals.world_of_row.Goals as goal
 

@@ -8,7 +8,7 @@ use Rattle.day_simulator.specs.Logged.{day_call, day_calls, day_of}
 use Rattle.day_laws.specs.Standing.{IsEarly}
 use Rattle.day_simulator.proofs.LoggedLemmas.{served-mapped}
 use Rattle.day_laws.proofs.EarlyLemmas.{early-served}
-use Rattle.log_text.proofs.LineLemmas.{wrote_log}
+use Rattle.day_text.proofs.LogLineLemmas.{wrote_log}
 use Rattle.day_laws.proofs.NoneLost.{end-length}
 use Rattle.day_simulator.proofs.days.finish_in.Goals as goal
 

@@ -1,5 +1,5 @@
 use Rattle.std.proofs.Common.{rules}
-use Rattle.row_text.specs.Records.{row_of_line}
+use Rattle.day_text.specs.Records.{row_of_line}
 use Rattle.log_rows.proofs.RowLemmas.{row_grows}
 use Rattle.log_rows.proofs.rows.add_row.Goals as goal
 

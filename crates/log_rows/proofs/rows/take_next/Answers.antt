@@ -1,6 +1,6 @@
 use Rattle.std.proofs.Common.{ℕ, List, arith, subst}
 use Rattle.lift_text.specs.LineReader.{line, raw, text}
-use Rattle.opening_text.proofs.HeaderLemmas.{number_of}
+use Rattle.day_text.proofs.HeaderReadLemmas.{number_of}
 use Rattle.log_rows.specs.Rows.{IsLineJudged}
 use Rattle.log_rows.proofs.RowLemmas.{end_taken, fault_taken, line_taken, long_grows_after, long_taken}
 use Rattle.log_rows.proofs.rows.take_next.Goals as goal

@@ -4,7 +4,7 @@ use Rattle.std.specs.Prelude.{ℤ}
 use mir.Syntax.{w128}
 use Rattle.elevator_model.specs.declared.Move.{Move}
 use Rattle.elevator_model.specs.Partial.{move_on}
-use Rattle.tour_bounds.specs.Undercutting.{UndercutsNone}
+use Rattle.pricing_bound.specs.Undercutting.{UndercutsNone}
 use Rattle.pricing_search.proofs.steps.departs_in_vain.Goals as goal
 
 pub returns-in-Leave : goal.returns-in-Leave

@@ -7,7 +7,7 @@ use Rattle.std.specs.Int.Signed.{le_z_yes}
 use Rattle.std.proofs.lemmas.Float.{T_from_true}
 use Rattle.partial_tours.specs.PartialTour.{PartialTour, course, with_move}
 use Rattle.partial_tours.proofs.Follow.{is_some_has}
-use Rattle.tour_bounds.specs.Undercutting.{UndercutsNone}
+use Rattle.pricing_bound.specs.Undercutting.{UndercutsNone}
 use Rattle.kept_tours.specs.Walking.{IsShut, IsWalking}
 use Rattle.kept_tours.proofs.WalkingLemmas.{back_again, next_move, walking_at, walking_on}
 use Rattle.pricing_search.proofs.Vain.{aimed_move, lesser_undercuts, shut_vain, vain_after}

@@ -8,7 +8,7 @@ use Rattle.elevator_model.specs.declared.Move.TheVariants.{Leave}
 use Rattle.partial_tours.specs.PartialTour.{PartialTour, course, with_move}
 use Rattle.partial_tours.proofs.Follow.{is_some_has}
 use Rattle.partial_tours.proofs.Search.{left_in, left_falls, from_next}
-use Rattle.tour_bounds.specs.Undercutting.{UndercutsNone}
+use Rattle.pricing_bound.specs.Undercutting.{UndercutsNone}
 use Rattle.kept_tours.specs.Walking.{IsWalking, IsOpen, MayFollow, aim_at}
 use Rattle.kept_tours.proofs.Followers.{IsAt, followers, follower}
 use Rattle.kept_tours.proofs.WalkingLemmas.{back_again, departs_there, reached_there}

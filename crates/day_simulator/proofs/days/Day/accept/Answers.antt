@@ -3,9 +3,9 @@ use Rattle.std.proofs.Common.{refl, sym, subst, ap, ◌∙◌}
 use Rattle.elevator_model.specs.Snapshot.{Snapshot}
 use Rattle.elevator_model.specs.Plans.{IsFeasiblePlan}
 use Rattle.search_model.specs.Advancing.{World}
-use Rattle.row_text.specs.Records.{row_as_said}
+use Rattle.day_text.specs.Records.{row_as_said}
 use Rattle.day_simulator.specs.Rows.{right_by}
-use Rattle.log_text.specs.Texts.{accepted_text}
+use Rattle.day_text.specs.LogTexts.{accepted_text}
 use Rattle.day_simulator.proofs.RowLemmas.{answered, taken-row}
 use Rattle.day_simulator.proofs.days.Day.accept.Goals as goal
 

@@ -5,7 +5,7 @@ use Rattle.elevator_model.specs.Building.{Building}
 use Rattle.elevator_model.specs.Snapshot.{Snapshot}
 use Rattle.search_model.specs.declared.RowFault.TheVariants.{NoRow}
 use Rattle.search_model.specs.Days.{Day}
-use Rattle.row_text.specs.Records.{row_as_said, row_of_line, row_within}
+use Rattle.day_text.specs.Records.{row_as_said, row_of_line, row_within}
 use Rattle.std.specs.Option.{option_map}
 use Rattle.day_laws.specs.Standing.{row_number}
 use Rattle.day_laws.proofs.RowFaults.{good-row, no-row}

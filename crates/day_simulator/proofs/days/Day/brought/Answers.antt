@@ -3,7 +3,7 @@ use Rattle.std.specs.Prelude.{IfOk, IsTrue}
 use Rattle.search_model.specs.Advancing.{World, advanced}
 use Rattle.search_model.specs.Days.{Day, call_of_row, is_row}
 use Rattle.day_state.specs.Openings.{IsNewCall}
-use Rattle.row_text.specs.Records.{row_as_said}
+use Rattle.day_text.specs.Records.{row_as_said}
 use Rattle.day_laws.specs.Arrivals.{IsBrought}
 use Rattle.day_laws.specs.Standing.{IsStanding, row_number}
 use Rattle.day_laws.proofs.RowFaults.{new-call}

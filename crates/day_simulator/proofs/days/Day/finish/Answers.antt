@@ -2,7 +2,7 @@ use Rattle.std.proofs.Common.{◌++◌, ◌≡◌, IfOk, OnOk, subst}
 use Rattle.std.proofs.lemmas.Result.{on_ok_weaker}
 use Rattle.search_model.specs.Days.{Day, served_of}
 use Rattle.day_laws.specs.Standing.{IsStanding}
-use Rattle.log_text.specs.Texts.{end_text}
+use Rattle.day_text.specs.LogTexts.{end_text}
 use Rattle.day_laws.proofs.NoneLost.{end-delivered}
 use Rattle.day_simulator.proofs.days.Day.finish.Goals as goal
 

@@ -1,7 +1,7 @@
 use Rattle.std.specs.Fn.{FnReturnsAt}
 use Rattle.day_simulator.specs.Rows.{right_by}
 use Rattle.std.proofs.Common.{Some}
-use Rattle.row_text.specs.Records.{row_as_said}
+use Rattle.day_text.specs.Records.{row_as_said}
 use Rattle.day_simulator.proofs.RowLemmas.{refused-answer}
 use Rattle.day_simulator.proofs.days.Day.good_row.Goals as goal
 

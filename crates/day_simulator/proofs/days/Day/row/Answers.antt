@@ -1,6 +1,6 @@
 use Rattle.std.specs.Fn.{FnReturnsAt}
 use Rattle.day_simulator.specs.Rows.{right_by}
-use Rattle.row_text.specs.Records.{row_of_line}
+use Rattle.day_text.specs.Records.{row_of_line}
 use Rattle.day_simulator.proofs.RowLemmas.{done-numbered}
 use Rattle.day_simulator.proofs.days.Day.row.Goals as goal
 

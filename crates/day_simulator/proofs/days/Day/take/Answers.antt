@@ -4,7 +4,7 @@ use Rattle.elevator_model.specs.Snapshot.{IsAccepted}
 use Rattle.elevator_model.specs.Plans.{IsFeasiblePlan}
 use Rattle.search_model.specs.Advancing.{World, advanced, events_by}
 use Rattle.search_model.specs.Days.{DayCall, calls_after, with_call, call_of_row}
-use Rattle.row_text.specs.Records.{row_as_said}
+use Rattle.day_text.specs.Records.{row_as_said}
 use Rattle.day_laws.specs.Standing.{row_number}
 use Rattle.day_simulator.specs.Logged.{day_call, day_calls}
 use Rattle.day_simulator.proofs.RowLemmas.{taken-stands}

@@ -4,7 +4,7 @@ use Rattle.std.specs.List.{All}
 use Rattle.std.proofs.lemmas.List.{take_all}
 use Rattle.std.proofs.lemmas.List.Elements.{All-more}
 use Rattle.assign_branch.specs.Pricings.{IsWorthSize}
-use Rattle.kept_count.specs.Leaves.{HasWorthSize}
+use Rattle.kept_tours.specs.Leaves.{HasWorthSize}
 use Rattle.library_tests.proofs.texts.sized.are_sized.Goals as goal
 
 pub loop-entry-preserved : goal.loop-entry-preserved

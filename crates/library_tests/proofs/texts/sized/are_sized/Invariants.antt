@@ -1,6 +1,6 @@
 use Rattle.std.proofs.Common.{take}
 use Rattle.std.specs.List.{All}
-use Rattle.kept_count.specs.Leaves.{HasWorthSize}
+use Rattle.kept_tours.specs.Leaves.{HasWorthSize}
 use Rattle.library_tests.proofs.texts.sized.are_sized.Given as goal
 
 abbrev pub invariant-loop-entry : goal.invariant-loop-entry

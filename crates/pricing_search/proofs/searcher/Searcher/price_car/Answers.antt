@@ -14,7 +14,7 @@ use Rattle.tour_extension.specs.declared.demands.Demand.{Demand}
 use Rattle.tour_extension.proofs.NodeDemands.{node_holds}
 use Rattle.pricing_bound.specs.Aims.{Aim, IsBoundSize}
 use Rattle.pricing_bound.specs.Rates.{ArePrices, Rated, aim_at as aim_of_rates}
-use Rattle.tour_bounds.specs.Undercutting.{HasNoneBelow}
+use Rattle.pricing_bound.specs.Undercutting.{HasNoneBelow}
 use Rattle.route_sums.specs.CallRates.{IsLaidOut}
 use Rattle.route_sums.specs.Keeping.{aim_of}
 use Rattle.pricing_search.proofs.PricedLemmas.{aim_here, aims_same, same_tests, node_aim, told_of_node, bound_of_node, demands_too, priced}

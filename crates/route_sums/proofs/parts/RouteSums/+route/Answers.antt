@@ -1,14 +1,14 @@
 use Rattle.std.proofs.Common.{rules, ◌≡◌, ◌&&◌, ◌+ℤ◌, to_z, of_z}
 use Rattle.call_sets.specs.Counting.{has}
 use Rattle.elevator_model.specs.Snapshot.{call_count, call_of}
-use Rattle.forced_route.specs.ForcedRoute.{is_before as is_before_lem}
+use Rattle.route_bound.specs.ForcedRoute.{is_before as is_before_lem}
 use Rattle.partial_tours.specs.Courses.{reached}
 use Rattle.search_model.specs.Prices.{price_at}
 use Rattle.route_sums.specs.Gathering.{highest, lowest}
 use Rattle.std.proofs.Common.{inl, inr, sym, ◌∙◌, subst, arith}
 use Rattle.std.proofs.lemmas.Bool.{and_parts, or_cases}
 use Rattle.elevator_model.specs.Snapshot.{IsAccepted}
-use Rattle.forced_route.specs.ForcedRoute.{halted}
+use Rattle.route_bound.specs.ForcedRoute.{halted}
 use Rattle.std.proofs.lemmas.Int.{ints}
 use Rattle.tour_rules.proofs.Stops.{most_calls_few}
 use Rattle.route_sums.proofs.IdleLemmas.{idle_next, idle_none}

@@ -3,8 +3,8 @@ use Rattle.std.specs.Prelude.{ℕ, ℤ, ◌+ℤ◌, ◌≤ℤ◌}
 use Rattle.elevator_model.specs.declared.Move.TheVariants.{Board}
 use Rattle.elevator_model.specs.Snapshot.{Snapshot, call_count}
 use Rattle.elevator_model.specs.Tours.{Progress}
-use Rattle.forced_route.specs.Completions.{CanEnd}
-use Rattle.forced_route.specs.ForcedRoute.{bound_from}
+use Rattle.route_bound.specs.Completions.{CanEnd}
+use Rattle.route_bound.specs.ForcedRoute.{bound_from}
 use Rattle.route_sums.specs.Idle.{AreIdleBut}
 use Rattle.partial_tours.specs.Courses.{is_after, reached}
 use Rattle.partial_tours.specs.PartialTour.{course, with_move}

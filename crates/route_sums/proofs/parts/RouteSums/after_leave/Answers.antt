@@ -1,6 +1,6 @@
 use Rattle.std.proofs.Common.{◌∙◌, sym, subst}
 use Rattle.elevator_model.specs.declared.Move.TheVariants.{Leave}
-use Rattle.forced_route.specs.ForcedRoute.{halted}
+use Rattle.route_bound.specs.ForcedRoute.{halted}
 use Rattle.partial_tours.specs.Courses.{reached}
 use Rattle.partial_tours.specs.PartialTour.{course, with_move}
 use Rattle.partial_tours.proofs.Follow.{is_some_has, leave_leads_to, stands_in}

@@ -2,7 +2,7 @@ use Rattle.std.proofs.Common.{◌≡◌, ◌∙◌, ◌&&◌, ℕ, Bool, true, f
 use Rattle.std.proofs.lemmas.Bool.{and_parts}
 use Rattle.call_sets.specs.Counting.{has}
 use Rattle.elevator_model.specs.Snapshot.{call_of}
-use Rattle.forced_route.specs.ForcedRoute.{is_before}
+use Rattle.route_bound.specs.ForcedRoute.{is_before}
 use Rattle.route_sums.proofs.parts.RouteSums.boards_before.Goals as goal
 
 pub calls_before-requires-clause-within : goal.calls_before-requires-clause-within

@@ -1,7 +1,7 @@
 use Rattle.std.proofs.Common.{◌∙◌, ◌&&◌, Bool, ap, sym}
 use Rattle.call_sets.specs.Counting.{has}
 use Rattle.elevator_model.specs.Snapshot.{call_of}
-use Rattle.forced_route.specs.ForcedRoute.{is_before}
+use Rattle.route_bound.specs.ForcedRoute.{is_before}
 use Rattle.route_sums.proofs.OriginLemmas.{before_down}
 use Rattle.route_sums.proofs.parts.RouteSums.calls_before.Goals as goal
 

@@ -10,7 +10,7 @@ use Rattle.tour_rules.proofs.Stops.{most_calls_few}
 use Rattle.partial_tours.proofs.Departing.{below_first}
 use Rattle.pricing_bound.proofs.RateLemmas.{stored}
 use Rattle.pricing_bound.proofs.WaitingLemmas.{none_so_far, one_added, all_added}
-use Rattle.forced_route.specs.ForcedRoute.{part_if_boarded}
+use Rattle.route_bound.specs.ForcedRoute.{part_if_boarded}
 use Rattle.route_sums.specs.Idle.{adds}
 use Rattle.route_sums.specs.Stands.{soonest}
 use Rattle.route_sums.proofs.FilterLemmas.{all_filtered, none_filtered, one_filtered}

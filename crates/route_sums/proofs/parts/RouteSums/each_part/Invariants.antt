@@ -3,7 +3,7 @@ use Rattle.call_sets.specs.Counting.{has, members}
 use Rattle.elevator_model.specs.Snapshot.{call_count, call_of}
 use Rattle.search_model.specs.Prices.{price_at}
 use Rattle.pricing_bound.proofs.WaitingLemmas.{AreSoFar}
-use Rattle.forced_route.specs.ForcedRoute.{part_if_boarded}
+use Rattle.route_bound.specs.ForcedRoute.{part_if_boarded}
 use Rattle.route_sums.specs.Idle.{adds}
 use Rattle.route_sums.specs.Stands.{soonest}
 use Rattle.route_sums.proofs.FilterLemmas.{IsFiltered}

@@ -3,7 +3,7 @@ use Rattle.std.proofs.lemmas.Int.{ints}
 use Rattle.std.proofs.lemmas.Bool.{and_parts}
 use Rattle.call_sets.specs.Counting.{has}
 use Rattle.elevator_model.specs.Snapshot.{Snapshot, call_count}
-use Rattle.forced_route.specs.ForcedRoute.{rides_along}
+use Rattle.route_bound.specs.ForcedRoute.{rides_along}
 use Rattle.partial_tours.specs.Courses.{is_after}
 use Rattle.search_model.specs.Extending.{any_above}
 use Rattle.search_model.specs.Prices.{price_at}

@@ -2,7 +2,7 @@ use Rattle.std.proofs.Common.{◌∙◌, ℕ, Bool, cond, ap, sym, subst}
 use Rattle.std.specs.Prelude.{ℤ, pos, int_lt, ◌-ℤ◌}
 use Rattle.price_scale.specs.Scale.{IsPrice}
 use Rattle.search_model.specs.Prices.{price_at, scaled}
-use Rattle.forced_route.specs.ForcedRoute.{cost_if_boarded}
+use Rattle.route_bound.specs.ForcedRoute.{cost_if_boarded}
 use Rattle.pricing_bound.proofs.RateLemmas.{stored_term}
 use Rattle.route_sums.proofs.parts.RouteSums.part.Goals as goal
 

@@ -8,7 +8,7 @@ use Rattle.elevator_model.specs.Snapshot.{call_count, call_of}
 use Rattle.search_model.specs.Prices.{price_at}
 use Rattle.search_model.specs.Sums.{int_sum_where}
 use Rattle.tour_rules.proofs.Stops.{most_calls_few}
-use Rattle.forced_route.specs.ForcedRoute.{part_if_boarded}
+use Rattle.route_bound.specs.ForcedRoute.{part_if_boarded}
 use Rattle.route_sums.specs.Gathering.{highest, lowest}
 use Rattle.route_sums.specs.Idle.{adds}
 use Rattle.route_sums.specs.Rows.{no_term, row_at, row_part}

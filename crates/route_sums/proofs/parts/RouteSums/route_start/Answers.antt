@@ -1,6 +1,6 @@
 use Rattle.std.proofs.Common.{◌∙◌, ℕ, sym, subst}
 use Rattle.elevator_model.specs.Tours.{Progress}
-use Rattle.forced_route.specs.ForcedRoute.{halted}
+use Rattle.route_bound.specs.ForcedRoute.{halted}
 use Rattle.partial_tours.specs.Courses.{reached}
 use Rattle.route_sums.specs.Stands.{IsStand}
 use Rattle.route_sums.proofs.StandLemmas.{starts_at}

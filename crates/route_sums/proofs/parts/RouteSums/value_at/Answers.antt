@@ -1,7 +1,7 @@
 use Rattle.std.proofs.Common.{◌∙◌, ap, sym, subst, arith}
 use Rattle.std.specs.Prelude.{ℤ, ◌≤ℤ◌, ◌+ℤ◌, ◌-ℤ◌}
 use Rattle.call_sets.specs.Counting.{has}
-use Rattle.forced_route.specs.ForcedRoute.{bound_from}
+use Rattle.route_bound.specs.ForcedRoute.{bound_from}
 use Rattle.partial_tours.specs.Courses.{is_after}
 use Rattle.search_model.specs.Prices.{price_at, scaled}
 use Rattle.pricing_bound.specs.Aims.{IsBoundSize}

@@ -3,7 +3,7 @@ use Rattle.call_sets.specs.Counting.{has}
 use Rattle.elevator_model.specs.Snapshot.{Snapshot, spec_of}
 use Rattle.elevator_model.specs.Tours.{arrival}
 use Rattle.car_layout.specs.Layouts.{LaidOut, ends_at}
-use Rattle.forced_route.specs.ForcedRoute.{halted}
+use Rattle.route_bound.specs.ForcedRoute.{halted}
 use Rattle.partial_tours.specs.Courses.{reached}
 use Rattle.partial_tours.proofs.Follow.{no_boards_at}
 use Rattle.route_sums.proofs.StandLemmas.{halts, leaves_low, leaving_from, opened_low}

@@ -1,7 +1,7 @@
 use Rattle.std.proofs.Common.{None, ◌∙◌, refl, sym}
 use Rattle.elevator_model.specs.Partial.{course_start}
 use Rattle.partial_tours.specs.Courses.{is_after, reached}
-use Rattle.forced_route.specs.ForcedRoute.{route_start}
+use Rattle.route_bound.specs.ForcedRoute.{route_start}
 use Rattle.route_sums.specs.Keeping.{aim_of}
 use Rattle.route_sums.proofs.StandLemmas.{route_boarded}
 use Rattle.route_sums.proofs.SumsLemmas.{all_idle, start_keeps, start_leads, start_paid, stored_low, stored_size}

@@ -1,6 +1,6 @@
 use Rattle.std.proofs.Common.{sym, subst}
 use Rattle.std.specs.Prelude.{ℤ}
-use Rattle.tour_bounds.specs.Undercutting.{UndercutsNone}
+use Rattle.pricing_bound.specs.Undercutting.{UndercutsNone}
 use Rattle.route_sums.specs.Keeping.{aim_of}
 use Rattle.route_sums.proofs.KeepingLemmas.{undercuts}
 use Rattle.route_sums.proofs.SizeLemmas.{stored_bound}

@@ -1,4 +1,0 @@
-pub mod Runs
-pub mod Served
-pub mod Days
-pub mod Inputs

@@ -1,0 +1,66 @@
+//! Days from their text.
+
+ghost use Rattle.std.specs.Prelude.{◌≡◌, ◌<◌, ◌≤◌, ◌^◌, None, IfOk, IsSomeAnd};
+ghost use Rattle.std.specs.Fn.{FnReturnsAt};
+ghost use Rattle.byte_streams.specs.Streams.{Rose};
+ghost use Rattle.day_simulator.specs.Planning.{PlannerLaw};
+ghost use Rattle.day_simulator.specs.Rows.{right_by};
+ghost use Rattle.lift_text.specs.LineReader.{text, failure};
+ghost use Rattle.search_model.specs.Reports.{report_of};
+ghost use Rattle.day_simulator.specs.TextRuns.{DayAnswered, EndsUnlessFailed, IsDayText, IsUnread};
+ghost use Rattle.day_simulator.specs.TextRuns.{IsUnwritten};
+
+use crate::day_runs::{Ended, run_day};
+use crate::row_runs::RunFault;
+use byte_streams::{Gate, Sink, Source};
+use call_state::Snapshot;
+use day_text::{Planned, read_day_opening};
+use lift_text::{LineReader, TextFault};
+use std::alloc::{AllocError, Global};
+
+/// Why a day did not come to its end.
+#[derive(Clone, Copy)]
+pub enum DayFault {
+    /// What comes before the rows is rejected, or could not be read whole; nothing was written.
+    Opening(TextFault),
+    /// The rows were not run to their end.
+    Rows(RunFault),
+}
+
+/// Reads what comes before the rows of a day, and runs the day over them, with its log. Where a read fails,
+/// nothing is written only if what comes before the rows is not whole, up to the LF of the header's line, among
+/// the bytes that were taken. The gate is told after each line how many rows were done.
+///
+/// The sums of the served calls' times have at most 64 bits.
+pub fn run_day_text<F, S: Source, K: Sink, G: Gate>(
+    alloc: Global,
+    plan: &F,
+    lines: &mut LineReader<S>,
+    sink: &mut K,
+    gate: &G,
+) -> Result<Ended, DayFault>
+where
+    F: Fn(&Snapshot) -> Result<Planned, AllocError>,
+    requires callable { F.IsAlwaysCallable plan.now }
+    requires sound { PlannerLaw (right_by (FnReturnsAt F.Fn plan.now)) }
+    requires unfailed { failure lines.old ≡ None }
+    ensures same_source { lines.new.source.ghost_name ≡ lines.old.source.ghost_name }
+    ensures answered { DayAnswered (right_by (FnReturnsAt F.Fn plan.now)) (text S.left lines.old)
+        (S.left lines.new.source.now)
+        (K.taken sink.old) (K.taken sink.new) result }
+    ensures ends { IsSomeAnd (text S.left lines.old) IsDayText → EndsUnlessFailed result }
+    ensures small { IfOk result (λ ended. (report_of ended.served.items).total.sum < 2 ^ 64) }
+    ensures read { IsUnread result
+        → Rose (S.faults lines.old.source.now) (S.faults lines.new.source.now) }
+    ensures write { IsUnwritten result → Rose (K.faults sink.old) (K.faults sink.new) }
+    ensures counted { S.faults lines.old.source.now ≤ S.faults lines.new.source.now }
+    ensures sink_counted { K.faults sink.old ≤ K.faults sink.new }
+{
+    match read_day_opening(alloc, lines) {
+        Ok(opening) => match run_day(alloc, plan, opening, lines, sink, gate) {
+            Ok(ended) => Ok(ended),
+            Err(fault) => Err(DayFault::Rows(fault)),
+        },
+        Err(fault) => Err(DayFault::Opening(fault)),
+    }
+}

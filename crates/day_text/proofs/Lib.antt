@@ -1,0 +1,11 @@
+pub mod RecordLemmas
+pub mod HeaderLemmas
+pub mod NumberLemmas
+pub mod PieceLemmas
+pub mod HeaderReadLemmas
+pub mod PlaceLemmas
+pub mod OpeningLemmas
+pub mod WholeLemmas
+pub mod UnreadLemmas
+pub mod WorkedEnds
+pub mod LogLineLemmas

@@ -1,0 +1,4 @@
+pub mod Records
+pub mod Headers
+pub mod DayOpenings
+pub mod LogTexts

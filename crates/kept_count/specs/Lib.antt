@@ -1,4 +1,0 @@
-pub mod Leaves
-pub mod Visiting
-pub mod Scanning
-pub mod Counting

@@ -1,3 +1,0 @@
-pub mod Legs
-pub mod Drafts
-pub mod Scenes

@@ -1,8 +1,0 @@
-use Rattle.std.proofs.Common.{◌≡◌, ◌++◌, take}
-use Rattle.std.specs.List.{flat_map}
-use Rattle.text_sections.specs.Canonical.{line_text}
-use Rattle.log_text.specs.Texts.{event_words}
-use Rattle.log_text.proofs.lines.put_events.Given as goal
-
-abbrev pub invariant-loop-event : goal.invariant-loop-event
-invariant-loop-event l = l.out.items ≡ l.fn.out.items ++ flat_map (λ x. line_text (event_words x)) (take l.event-index l.events)

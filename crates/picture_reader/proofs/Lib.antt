@@ -1,0 +1,5 @@
+pub mod DayReadLemmas
+pub mod WorkedLogs
+pub mod PlanReadLemmas
+pub mod PlanTourLemmas
+pub mod WorkedPlans

@@ -1,0 +1,5 @@
+pub mod LogLegs
+pub mod LogDrafts
+pub mod DayScenes
+pub mod PlanLegs
+pub mod PlanScenes

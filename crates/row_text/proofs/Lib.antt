@@ -1,3 +1,0 @@
-pub mod RecordLemmas
-pub mod HeaderLemmas
-pub mod NumberLemmas

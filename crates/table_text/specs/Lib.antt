@@ -1,4 +1,0 @@
-pub mod Order
-pub mod Drafts
-pub mod TableTexts
-pub mod Worked

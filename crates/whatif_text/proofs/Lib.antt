@@ -1,4 +1,0 @@
-pub mod CallLemmas
-pub mod EndLemmas
-pub mod AskedLemmas
-pub mod Worked
