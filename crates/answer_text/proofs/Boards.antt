@@ -1,5 +1,6 @@
 -- The boards of a stop by rising index.
-use Rattle.std.proofs.Common.{◌≡◌, ℕ, zero, suc, ◌+◌, ◌<◌, ◌≤◌, ◌==◌, ◌&&◌, Bool, true, false, cond, List, [], ◌∷◌, ◌++◌, filter, refl, sym, ap, ◌∙◌, subst, arith, append_assoc, ◌⊎◌, inl, inr}
+use Rattle.std.proofs.Common.{◌≡◌, ℕ, zero, suc, ◌+◌, ◌<◌, ◌≤◌, ◌==◌, ◌&&◌, Bool, true, false, cond, List, [], ◌∷◌, ◌++◌, filter, refl, sym, ap, ◌∙◌, subst}
+use Rattle.std.proofs.Common.{arith, append_assoc, ◌⊎◌, inl, inr}
 use Rattle.std.specs.Prelude.{◌||◌, nat_lt, All}
 use Rattle.std.specs.List.{flat_map, range_with_len, AllByRecursion}
 use Rattle.std.proofs.lemmas.Bool.{cases_Bool, eqb-true, false≢true, lt-ltb}
@@ -13,7 +14,8 @@ use Rattle.answer_text.specs.Plans.{AreCalls, by_index}
 
 pub flat_map-flat_map : {X Y Z : Type 0} (f : Y → List Z) (g : X → List Y) (xs : List X) → flat_map f (flat_map g xs) ≡ flat_map (λ x. flat_map f (g x)) xs
 flat_map-flat_map f g [] = refl
-flat_map-flat_map {X} {Y} {Z} f g (x ∷ xs) = flat_map-append f (g x) (flat_map g xs) ∙ ap (λ (rest : List Z). flat_map f (g x) ++ rest) (flat_map-flat_map f g xs)
+flat_map-flat_map {X} {Y} {Z} f g (x ∷ xs) = flat_map-append f (g x) (flat_map g xs)
+    ∙ ap (λ (rest : List Z). flat_map f (g x) ++ rest) (flat_map-flat_map f g xs)
 
 -- what passes a test only at the first numbers of a range
 module _ {Y : Type 0} (p : ℕ → Bool) (f : ℕ → List Y) (nothing : (j : ℕ) → p j ≡ false → f j ≡ []) where
@@ -24,14 +26,16 @@ module _ {Y : Type 0} (p : ℕ → Bool) (f : ℕ → List Y) (nothing : (j : �
       let later = filter p (range_with_len (a + 1) m) in
       elim (cases_Bool (p a)) [
         | inl is ↦ let low = below a is in absurd (omega (arith, low))
-        | inr not ↦ ap (λ (e : Bool). flat_map f (cond e (a ∷ later) later)) not ∙ passing_first m zero (a + 1) (omega arith) (λ j is. (let low = below j is in omega (arith, low)))
+        | inr not ↦ ap (λ (e : Bool). flat_map f (cond e (a ∷ later) later)) not
+            ∙ passing_first m zero (a + 1) (omega arith) (λ j is. (let low = below j is in omega (arith, low)))
       ]
   passing_first (suc m) (suc k) a few below =
       let later = filter p (range_with_len (a + 1) m) in
       let rest = passing_first m k (a + 1) (omega (arith, few)) (λ j is. (let low = below j is in omega (arith, low))) in
       elim (cases_Bool (p a)) [
         | inl is ↦ ap (λ (e : Bool). flat_map f (cond e (a ∷ later) later)) is ∙ ap (λ (ys : List Y). f a ++ ys) rest
-        | inr not ↦ ap (λ (e : Bool). flat_map f (cond e (a ∷ later) later)) not ∙ rest ∙ ap (λ (ys : List Y). ys ++ flat_map f (range_with_len (a + 1) k)) (sym (nothing a not))
+        | inr not ↦ ap (λ (e : Bool). flat_map f (cond e (a ∷ later) later)) not ∙ rest
+            ∙ ap (λ (ys : List Y). ys ++ flat_map f (range_with_len (a + 1) k)) (sym (nothing a not))
       ]
 
 pub each_kept : (p : ℕ → Bool) (P : ℕ → Type 0) (xs : List ℕ) → ((j : ℕ) → p j ≡ true → P j) → AllByRecursion P (filter p xs)
@@ -68,7 +72,8 @@ among_below n (x ∷ boards) j calls among =
       | inr later ↦ among_below n boards j (λ k d below. calls (suc k) d (omega arith)) later
     ]
 
-same_words : (s : Snapshot) (j : ℕ) (boards : List ℕ) → flat_map (λ x. word (call_of s j).id) (filter (λ x. x == j) boards) ≡ flat_map (λ i. word (call_of s i).id) (filter (λ x. x == j) boards)
+same_words : (s : Snapshot) (j : ℕ) (boards : List ℕ)
+    → flat_map (λ x. word (call_of s j).id) (filter (λ x. x == j) boards) ≡ flat_map (λ i. word (call_of s i).id) (filter (λ x. x == j) boards)
 same_words s j [] = refl
 same_words s j (x ∷ boards) =
     let later = filter (λ y. y == j) boards in
@@ -120,7 +125,8 @@ module _ (s : Snapshot) (boards : List ℕ) (set : ℕ) (is_set : (k : ℕ) → 
 
 -- ---- one call more
 
-pub next_written : (s : Snapshot) (boards out new whole later left : List ℕ) (j : ℕ) → out ++ flat_map (λ k. flat_map (λ i. word (call_of s i).id) (filter (λ x. x == k) boards)) left ≡ whole → left ≡ j ∷ later
+pub next_written : (s : Snapshot) (boards out new whole later left : List ℕ) (j : ℕ)
+    → out ++ flat_map (λ k. flat_map (λ i. word (call_of s i).id) (filter (λ x. x == k) boards)) left ≡ whole → left ≡ j ∷ later
     → new ≡ out ++ flat_map (λ x. word (call_of s j).id) (filter (λ x. x == j) boards)
     → new ++ flat_map (λ k. flat_map (λ i. word (call_of s i).id) (filter (λ x. x == k) boards)) later ≡ whole
 next_written s boards out new whole later left j so_far first put =

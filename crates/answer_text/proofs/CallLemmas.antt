@@ -1,5 +1,6 @@
 -- The call with an id, and the calls with several ids.
-use Rattle.std.proofs.Common.{◌≡◌, ℕ, ◌+◌, ◌<◌, ◌≤◌, ◌==◌, List, [], ◌∷◌, ◌++◌, length, drop, get_or, Ok, Err, refl, sym, ap, ◌∙◌, add-one, append_assoc, append-nil, drop-cons}
+use Rattle.std.proofs.Common.{◌≡◌, ℕ, ◌+◌, ◌<◌, ◌≤◌, ◌==◌, List, [], ◌∷◌, ◌++◌, length, drop, get_or, Ok, Err, refl, sym, ap, ◌∙◌, add-one, append_assoc}
+use Rattle.std.proofs.Common.{append-nil, drop-cons}
 use Rattle.std.proofs.lemmas.Bool.{ne_eqb, eq-eqb}
 use Rattle.std.proofs.lemmas.List.{drop_all}
 use Rattle.elevator_model.specs.declared.Call.{Call}
@@ -26,7 +27,8 @@ named_none s id none =
 -- ---- several calls
 
 module _ (s : Snapshot) where
-  next_call : (ids : List ℕ) (k : ℕ) → k < length ids → calls_named s (drop k ids) ≡ (call_named s (get_or ids k 0) >>= λ j. (calls_named s (drop (k + 1) ids) >>= λ js. Ok (j ∷ js)))
+  next_call : (ids : List ℕ) (k : ℕ) → k < length ids
+      → calls_named s (drop k ids) ≡ (call_named s (get_or ids k 0) >>= λ j. (calls_named s (drop (k + 1) ids) >>= λ js. Ok (j ∷ js)))
   next_call ids k inside =
       ap (calls_named s) (drop-cons ids k 0 inside)
       ∙ ap (λ i. call_named s (get_or ids k 0) >>= λ j. (calls_named s (drop i ids) >>= λ js. Ok (j ∷ js))) (sym (add-one k))
@@ -42,7 +44,8 @@ module _ (s : Snapshot) where
   pub named_no_more : (ids : List ℕ) → calls_named s ids ≡ with_front [] (calls_named s ids)
   named_no_more ids = front_none (calls_named s ids)
 
-  pub named_more : (ids now new : List ℕ) (k j : ℕ) → k < length ids → calls_named s ids ≡ with_front now (calls_named s (drop k ids)) → Ok j ≡ call_named s (get_or ids k 0) → new ≡ now ++ j ∷ []
+  pub named_more : (ids now new : List ℕ) (k j : ℕ) → k < length ids → calls_named s ids ≡ with_front now (calls_named s (drop k ids))
+      → Ok j ≡ call_named s (get_or ids k 0) → new ≡ now ++ j ∷ []
       → calls_named s ids ≡ with_front new (calls_named s (drop (k + 1) ids))
   named_more ids now new k j inside so_far is pushed =
       so_far ∙ ap (with_front now) (next_call ids k inside)
@@ -50,7 +53,8 @@ module _ (s : Snapshot) where
       ∙ front_more now j (calls_named s (drop (k + 1) ids))
       ∙ ap (λ front. with_front front (calls_named s (drop (k + 1) ids))) (sym pushed)
 
-  pub named_bad : (ids now : List ℕ) (k : ℕ) (code : TextCode) → k < length ids → calls_named s ids ≡ with_front now (calls_named s (drop k ids)) → Err code ≡ call_named s (get_or ids k 0) → calls_named s ids ≡ Err code
+  pub named_bad : (ids now : List ℕ) (k : ℕ) (code : TextCode) → k < length ids → calls_named s ids ≡ with_front now (calls_named s (drop k ids))
+      → Err code ≡ call_named s (get_or ids k 0) → calls_named s ids ≡ Err code
   named_bad ids now k code inside so_far is =
       so_far ∙ ap (with_front now) (next_call ids k inside)
       ∙ ap (λ judged. with_front now (judged >>= λ i. (calls_named s (drop (k + 1) ids) >>= λ js. Ok (i ∷ js)))) (sym is)

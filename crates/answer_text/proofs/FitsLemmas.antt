@@ -5,7 +5,8 @@ use Rattle.std.proofs.lemmas.Bool.{ltb-true, and_parts, false≢true}
 use Rattle.std.proofs.lemmas.List.{get_or_default}
 use Rattle.elevator_model.specs.declared.Broken.{Broken}
 use Rattle.elevator_model.specs.declared.Rule.{Rule}
-use Rattle.elevator_model.specs.declared.Rule.TheVariants.{FirstStop, SameFloorTwice, UselessStop, TurnWithPassengers, Capacity, QueueOrder, Car, Floor, CallTwice, Origin}
+use Rattle.elevator_model.specs.declared.Rule.TheVariants.{FirstStop, SameFloorTwice, UselessStop, TurnWithPassengers, Capacity, QueueOrder, Car, Floor}
+use Rattle.elevator_model.specs.declared.Rule.TheVariants.{CallTwice, Origin}
 use Rattle.elevator_model.specs.declared.Stop.{Stop}
 use Rattle.elevator_model.specs.Snapshot.{Snapshot, call_count, is_possible, call_of}
 use Rattle.elevator_model.specs.Tours.{Progress, start_of, make_stop, is_call_for, breaks, first_rule, broken_at, broken_or, first_broken_from, none_taken}
@@ -14,7 +15,8 @@ use Rattle.call_state.proofs.ListTests.{list_any_at_false}
 use Rattle.answer_text.specs.Plans.{AreCalls, BoardsCalls, FitsSnapshot}
 use Rattle.text_sections.proofs.EachLemmas.{all_more}
 
-no_rule : (broken : Rule → Bool) (rule : Rule) (rules : List Rule) → first_rule broken (rule ∷ rules) ≡ None → (broken rule ≡ false) × (first_rule broken rules ≡ None)
+no_rule : (broken : Rule → Bool) (rule : Rule) (rules : List Rule) → first_rule broken (rule ∷ rules) ≡ None → (broken rule ≡ false)
+    × (first_rule broken rules ≡ None)
 no_rule broken rule rules e = by_case (broken rule) (first_rule broken rules) e
   where
     by_case : (is : Bool) (later : Option Rule) → (if is then Some rule else later) ≡ None → (is ≡ false) × (later ≡ None)
@@ -33,7 +35,8 @@ module _ (s : Snapshot) (c : ℕ) where
   boards_fit : (p : Progress) (stop : Stop) → broken_at s c none_taken p stop ≡ None → AreCalls s stop.boards
   boards_fit p stop e k d below =
       let broken : Rule → Bool = breaks s c none_taken p stop in
-      let first = no_rule broken FirstStop (SameFloorTwice ∷ UselessStop ∷ TurnWithPassengers ∷ Capacity ∷ QueueOrder ∷ Car ∷ Floor ∷ CallTwice ∷ Origin ∷ []) e in
+      let first = no_rule broken FirstStop
+      (SameFloorTwice ∷ UselessStop ∷ TurnWithPassengers ∷ Capacity ∷ QueueOrder ∷ Car ∷ Floor ∷ CallTwice ∷ Origin ∷ []) e in
       let second = no_rule broken SameFloorTwice (UselessStop ∷ TurnWithPassengers ∷ Capacity ∷ QueueOrder ∷ Car ∷ Floor ∷ CallTwice ∷ Origin ∷ []) first.1 in
       let third = no_rule broken UselessStop (TurnWithPassengers ∷ Capacity ∷ QueueOrder ∷ Car ∷ Floor ∷ CallTwice ∷ Origin ∷ []) second.1 in
       let fourth = no_rule broken TurnWithPassengers (Capacity ∷ QueueOrder ∷ Car ∷ Floor ∷ CallTwice ∷ Origin ∷ []) third.1 in
@@ -53,5 +56,7 @@ module _ (s : Snapshot) (c : ℕ) where
 pub feasible_fits : (s : Snapshot) (plan : List (List Stop)) → IsFeasiblePlan s plan → FitsSnapshot s plan
 feasible_fits s plan feasible = record {
   tours = feasible.cars;
-  boards = λ c d below. subst (BoardsCalls s) (get_or_default plan c [] d below) (stops_fit s c (start_of s c) 1 (tour_of plan c) (feasible.tours c (omega (arith, below, feasible.cars))));
+  boards = λ c d below.
+      subst (BoardsCalls s) (get_or_default plan c [] d below)
+      (stops_fit s c (start_of s c) 1 (tour_of plan c) (feasible.tours c (omega (arith, below, feasible.cars))));
 }

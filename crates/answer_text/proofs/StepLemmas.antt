@@ -16,12 +16,14 @@ use Rattle.answer_text.specs.Drafts.{Draft, any_word, line_word, judged_word, af
 
 -- ---- a stop in the last tour
 
-pub set_last : (tours : List (List Stop)) (stop : Stop) (k : ℕ) (old new : List Stop) → k + 1 ≡ length tours → old ≡ get_or tours k old → new ≡ old ++ stop ∷ [] → set tours k new ≡ add_stop tours stop
+pub set_last : (tours : List (List Stop)) (stop : Stop) (k : ℕ) (old new : List Stop) → k + 1 ≡ length tours → old ≡ get_or tours k old
+    → new ≡ old ++ stop ∷ [] → set tours k new ≡ add_stop tours stop
 set_last [] stop k old new last is pushed = absurd (omega (arith, last))
 set_last (tour ∷ []) stop zero old new last is pushed = ap (λ (t : List Stop). t ∷ []) (pushed ∙ ap (λ (t : List Stop). t ++ stop ∷ []) is)
 set_last (tour ∷ []) stop (suc k) old new last is pushed = absurd (omega (arith, last))
 set_last (tour ∷ next ∷ tours) stop zero old new last is pushed = absurd (omega (arith, last))
-set_last (tour ∷ next ∷ tours) stop (suc k) old new last is pushed = ap (λ (ts : List (List Stop)). tour ∷ ts) (set_last (next ∷ tours) stop k old new (omega (arith, last)) is pushed)
+set_last (tour ∷ next ∷ tours) stop (suc k) old new last is pushed =
+    ap (λ (ts : List (List Stop)). tour ∷ ts) (set_last (next ∷ tours) stop k old new (omega (arith, last)) is pushed)
 
 -- ---- steps of a section
 
@@ -33,18 +35,24 @@ step_whole : {A : Type 0} (judged : Judged (Step A)) (end : A) → step_of judge
 step_whole {A} (Ok step) end e = ap (λ (x : Step A). Ok x) e
 step_whole (Err code) end e = absurd cc
 
-word_goes : (judged : Judged LineWord) (d : Draft) (words : Line) (step : Step Draft) → (judged >>= λ word. judged_word word d words) ≡ Ok step → (word : LineWord) × (judged ≡ Ok word) × (judged_word word d words ≡ Ok step)
+word_goes : (judged : Judged LineWord) (d : Draft) (words : Line) (step : Step Draft) → (judged >>= λ word. judged_word word d words) ≡ Ok step
+    → (word : LineWord) × (judged ≡ Ok word) × (judged_word word d words ≡ Ok step)
 word_goes (Ok word) d words step e = (word, refl, e)
 word_goes (Err code) d words step e = absurd cc
 
 -- the word of a line after which the section goes on, or is whole
-pub after_goes : (d next : Draft) (words : Line) → after d words ≡ goes_on next → (word : LineWord) × (line_word d.due words ≡ Ok word) × (judged_word word d words ≡ Ok (goes_on next))
-after_goes d next words e = word_goes (line_word d.due words) d words (goes_on next) (step_goes (line_word d.due words >>= λ word. judged_word word d words) next e)
+pub after_goes : (d next : Draft) (words : Line) → after d words ≡ goes_on next → (word : LineWord) × (line_word d.due words ≡ Ok word)
+    × (judged_word word d words ≡ Ok (goes_on next))
+after_goes d next words e =
+    word_goes (line_word d.due words) d words (goes_on next) (step_goes (line_word d.due words >>= λ word. judged_word word d words) next e)
 
-pub after_whole : (d end : Draft) (words : Line) → after d words ≡ is_whole end → (word : LineWord) × (line_word d.due words ≡ Ok word) × (judged_word word d words ≡ Ok (is_whole end))
-after_whole d end words e = word_goes (line_word d.due words) d words (is_whole end) (step_whole (line_word d.due words >>= λ word. judged_word word d words) end e)
+pub after_whole : (d end : Draft) (words : Line) → after d words ≡ is_whole end → (word : LineWord) × (line_word d.due words ≡ Ok word)
+    × (judged_word word d words ≡ Ok (is_whole end))
+after_whole d end words e =
+    word_goes (line_word d.due words) d words (is_whole end) (step_whole (line_word d.due words >>= λ word. judged_word word d words) end e)
 
-pub item_goes : {X : Type 0} (judged : Judged X) (with_one : X → Draft) (next : Draft) → (judged >>= λ x. Ok (goes_on (with_one x))) ≡ Ok (goes_on next) → (x : X) × (judged ≡ Ok x) × (with_one x ≡ next)
+pub item_goes : {X : Type 0} (judged : Judged X) (with_one : X → Draft) (next : Draft) → (judged >>= λ x. Ok (goes_on (with_one x))) ≡ Ok (goes_on next)
+    → (x : X) × (judged ≡ Ok x) × (with_one x ≡ next)
 item_goes (Ok x) with_one next e = (x, refl, cc)
 item_goes (Err code) with_one next e = absurd cc
 
@@ -52,7 +60,8 @@ pub item_not_whole : {X : Type 0} (judged : Judged X) (with_one : X → Draft) (
 item_not_whole (Ok x) with_one end e = cc
 item_not_whole (Err code) with_one end e = cc
 
-pub end_whole : (judged : Judged AfterLine) (d end : Draft) → (judged >>= λ _. Ok (is_whole d)) ≡ Ok (is_whole end) → (turn : AfterLine) × (judged ≡ Ok turn) × (d ≡ end)
+pub end_whole : (judged : Judged AfterLine) (d end : Draft) → (judged >>= λ _. Ok (is_whole d)) ≡ Ok (is_whole end) → (turn : AfterLine) × (judged ≡ Ok turn)
+    × (d ≡ end)
 end_whole (Ok turn) d end e = (turn, refl, cc)
 end_whole (Err code) d end e = absurd cc
 

@@ -44,8 +44,11 @@ Fits s stop = AreCalls s stop.boards × (stop.floor < 2 ^ 32)
 stop_fits : (s : Snapshot) (words : Line) (stop : Stop) → says_stop s words ≡ Ok stop → Fits s stop
 stop_fits s words stop e =
     let named_so = then-inv (named (codes "stop") words) (λ _. stop_said s words) stop e in
-    let two = then-inv (at_least words 2) (λ _. short words 1 >>= λ floor. (numbers words 2 0 4294967295 >>= λ ids. (calls_named s ids >>= λ boards. Ok (record { floor = floor; boards = boards })))) stop named_so.2 in
-    let floor = then-inv (short words 1) (λ floor. numbers words 2 0 4294967295 >>= λ ids. (calls_named s ids >>= λ boards. Ok (record { floor = floor; boards = boards }))) stop two.2 in
+    let two = then-inv (at_least words 2)
+    (λ _. short words 1 >>= λ floor.
+    (numbers words 2 0 4294967295 >>= λ ids. (calls_named s ids >>= λ boards. Ok (record { floor = floor; boards = boards })))) stop named_so.2 in
+    let floor = then-inv (short words 1)
+    (λ floor. numbers words 2 0 4294967295 >>= λ ids. (calls_named s ids >>= λ boards. Ok (record { floor = floor; boards = boards }))) stop two.2 in
     let ids = then-inv (numbers words 2 0 4294967295) (λ ids. calls_named s ids >>= λ boards. Ok (record { floor = floor.0; boards = boards })) stop floor.2 in
     let boards = then-inv (calls_named s ids.0) (λ boards. Ok (record { floor = floor.0; boards = boards })) stop ids.2 in
     let found : Stop = record { floor = floor.0; boards = boards.0 } in
@@ -67,7 +70,8 @@ stops_fit s (words ∷ lines) (stop ∷ tour) e =
 
 tours_fit : (s : Snapshot) (c : ℕ) (lines : List Line) (plan : List (List Stop)) → SayTours s c lines plan → All (All (Fits s)) plan
 tours_fit s c lines [] said = all_none (All (Fits s))
-tours_fit s c lines (tour ∷ plan) said = all_more (All (Fits s)) tour plan (stops_fit s said.3.stops tour said.3.stops_are_said) (tours_fit s (suc c) said.1 plan said.4)
+tours_fit s c lines (tour ∷ plan) said =
+    all_more (All (Fits s)) tour plan (stops_fit s said.3.stops tour said.3.stops_are_said) (tours_fit s (suc c) said.1 plan said.4)
 
 -- ---- the whole
 

@@ -97,4 +97,5 @@ IsAnswered stated rest (Err NoMemory) now = Unit {0}
 
 -- where the text begins with lines that stand for an answer, that one is read, whatever follows
 abbrev pub ReadsLines : Option TextState → Snapshot → Result Stated TextFault → Option TextState → Type 0
-ReadsLines before s answer now = (lines : List Line) (stated : Stated) (rest : Reading) → StandsFor s lines stated → IfSome before (λ text. BeginsWith lines (reading text) rest → IsAnswered stated rest answer now)
+ReadsLines before s answer now = (lines : List Line) (stated : Stated) (rest : Reading) → StandsFor s lines stated
+    → IfSome before (λ text. BeginsWith lines (reading text) rest → IsAnswered stated rest answer now)

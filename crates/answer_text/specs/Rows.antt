@@ -68,7 +68,9 @@ abbrev read_behind : List Line → Outcome Draft
 read_behind lines = read_of (head ∷ cost ∷ bound ∷ lines)
 
 -- the boards stand as the line has them, a call that it names twice too
-whole_row : read_behind (tour (codes "7") ∷ (codes "stop" ∷ codes "2" ∷ codes "4" ∷ codes "022" ∷ codes "4" ∷ []) ∷ (codes "stop" ∷ codes "3" ∷ []) ∷ tour (codes "3") ∷ (codes "stop" ∷ codes "90" ∷ codes "7" ∷ []) ∷ end ∷ []) ≡ accepted
+whole_row : read_behind
+    (tour (codes "7") ∷ (codes "stop" ∷ codes "2" ∷ codes "4" ∷ codes "022" ∷ codes "4" ∷ []) ∷ (codes "stop" ∷ codes "3" ∷ []) ∷ tour (codes "3")
+    ∷ (codes "stop" ∷ codes "90" ∷ codes "7" ∷ []) ∷ end ∷ []) ≡ accepted
     (record {
       snapshot = noon;
       due = Tours;

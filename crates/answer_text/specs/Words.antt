@@ -34,4 +34,5 @@ calls_named s (id ∷ ids) = call_named s id >>= λ j. (calls_named s ids >>= λ
 -- `stop FLOOR CALL ..`: all words are numbers before any id is looked up
 abbrev pub stop_said : Snapshot → Line → Judged Stop
 stop_said s words =
-    at_least words 2 >>= λ _. (short words 1 >>= λ floor. (numbers words 2 0 4294967295 >>= λ ids. (calls_named s ids >>= λ boards. Ok (record { floor = floor; boards = boards }))))
+    at_least words 2 >>= λ _.
+    (short words 1 >>= λ floor. (numbers words 2 0 4294967295 >>= λ ids. (calls_named s ids >>= λ boards. Ok (record { floor = floor; boards = boards }))))

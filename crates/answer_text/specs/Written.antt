@@ -26,4 +26,5 @@ behind text s stated tail = record { line = text.line + length (answer_lines s s
 -- by rising index, since their order has no meaning
 abbrev pub ReadsText : Option TextState → Snapshot → Result Stated TextFault → Option TextState → Type 0
 ReadsText before s answer now = (stated : Stated) (tail : List ℕ) → HasText s stated
-    → IfSome before (λ text. text.bytes ≡ answer_text s stated ++ tail → length (answer_text s stated) ≤ text.limit → IsAnswered (stated_by_index s stated) (reading (behind text s stated tail)) answer now)
+    → IfSome before (λ text. text.bytes ≡ answer_text s stated ++ tail → length (answer_text s stated) ≤ text.limit
+    → IsAnswered (stated_by_index s stated) (reading (behind text s stated tail)) answer now)

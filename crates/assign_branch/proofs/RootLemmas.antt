@@ -28,7 +28,10 @@ possible-is s j set lt has_them =
 
 pub root_small : (s : Snapshot) (j : ℕ) → IsAccepted s → set_of (root_of s) j < 2 ^ 16
 root_small s j accepted =
-    elim (cases_lt j (call_count s)) [ inl lt ↦ subst (λ (x : ℕ). x < 2 ^ 16) (sym (set_of-root s j lt)) (below (set_where-below (car_count s) (λ c. is_possible s c (call_of s j)))) | inr past ↦ subst (λ (x : ℕ). x < 2 ^ 16) (sym (get_or_past (root_of s) j 0 (subst (λ (n : ℕ). n ≤ j) (sym (length-root_of s)) past))) (omega arith) ]
+    elim (cases_lt j (call_count s)) [
+      | inl lt ↦ subst (λ (x : ℕ). x < 2 ^ 16) (sym (set_of-root s j lt)) (below (set_where-below (car_count s) (λ c. is_possible s c (call_of s j))))
+      | inr past ↦ subst (λ (x : ℕ). x < 2 ^ 16) (sym (get_or_past (root_of s) j 0 (subst (λ (n : ℕ). n ≤ j) (sym (length-root_of s)) past))) (omega arith)
+    ]
   where
     below : {x : ℕ} → x < 2 ^ car_count s → x < 2 ^ 16
     below h = let le : 2 ^ car_count s ≤ 2 ^ 16 = pow-le-pow_right {n = 2} (omega arith) (few_cars s accepted) in omega arith
@@ -41,7 +44,8 @@ pub record AreRootBelow (s : Snapshot) (sets : List ℕ) (n : ℕ) : Type 0 wher
 pub root-none : (s : Snapshot) (sets : List ℕ) → sets ≡ [] → AreRootBelow s sets 0
 root-none s sets none = record { size = ap length none; each = λ j lt. absurd (omega arith) }
 
-pub root-next : (s : Snapshot) (sets : List ℕ) (n set : ℕ) → n < call_count s → HasPossible s n (car_count s) set → AreRootBelow s sets n → AreRootBelow s (sets ++ set ∷ []) (n + 1)
+pub root-next : (s : Snapshot) (sets : List ℕ) (n set : ℕ) → n < call_count s → HasPossible s n (car_count s) set → AreRootBelow s sets n
+    → AreRootBelow s (sets ++ set ∷ []) (n + 1)
 root-next s sets n set lt has_them before = record {
   size = let both = length-append sets (set ∷ []) in let size = before.size in omega (arith, both, size);
   each = below_more (λ j. set_of (sets ++ set ∷ []) j ≡ set_of (root_of s) j) n

@@ -17,7 +17,11 @@ same_bit x y p q e = grind (arith, nat_tests, e)
 -- a set that has the numbers below n that pass the test, and no others
 pub set_where-is : (n set : ℕ) (t : ℕ → Bool) → ((k : ℕ) → k < n → has set k ≡ t k) → ((k : ℕ) → n ≤ k → has set k ≡ false) → set ≡ set_where n t
 set_where-is n set t members none =
-    same_from_bits set (set_where n t) (λ k. same_bit (bit_at set k) (bit_at (set_where n t) k) (bit_at-lt set k) (bit_at-lt (set_where n t) k) (elim (cases_lt k n) [ inl lt ↦ members k lt ∙ sym (has-set_where n t k lt) | inr past ↦ none k past ∙ sym (has_none_above n (set_where n t) k (set_where-below n t) past) ]))
+    same_from_bits set (set_where n t)
+    (λ k. same_bit (bit_at set k) (bit_at (set_where n t) k) (bit_at-lt set k) (bit_at-lt (set_where n t) k) (elim (cases_lt k n) [
+      | inl lt ↦ members k lt ∙ sym (has-set_where n t k lt)
+      | inr past ↦ none k past ∙ sym (has_none_above n (set_where n t) k (set_where-below n t) past)
+    ]))
 
 pub rest_of-is : (set part rest : ℕ) → rest < 2 ^ 16 → ((k : ℕ) → has rest k ≡ (has set k && not (has part k))) → rest ≡ rest_of set part
 rest_of-is set part rest small is =

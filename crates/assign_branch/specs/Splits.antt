@@ -9,7 +9,8 @@ use Rattle.search_model.specs.Nodes.{Node, IsNodeOf, IsInOneOf, is_plan_in}
 -- both.
 abbrev pub KeepsPlans : (from first second : Node) → Type 0
 KeepsPlans from first second =
-    (s : Snapshot) (plan : List (List Stop)) → IsAccepted s → length from ≡ call_count s → IsFeasiblePlan s plan → IsInOneOf (is_plan_in from plan) (is_plan_in first plan) (is_plan_in second plan)
+    (s : Snapshot) (plan : List (List Stop)) → IsAccepted s → length from ≡ call_count s → IsFeasiblePlan s plan
+    → IsInOneOf (is_plan_in from plan) (is_plan_in first plan) (is_plan_in second plan)
 
 -- where the old node is one of a snapshot's search, the two are
 abbrev pub AreNodes : (from first second : Node) → Type 0

@@ -16,7 +16,8 @@ use Rattle.command_ends.proofs.EndLemmas.{ends_either}
 use Rattle.audit_command.specs.AuditOutcome.{AuditDue, AuditRefusalIsDue, AuditsLeft, FindingIsDue, IsFindingTold}
 
 -- what was told of the input, if it is known
-pub audits_left : (left : Option (List ℕ)) (answer : Result Audited Finding) → IfSome left (λ input. IsAudit (take 67108865 input) answer) → AuditsLeft left answer
+pub audits_left : (left : Option (List ℕ)) (answer : Result Audited Finding) → IfSome left (λ input. IsAudit (take 67108865 input) answer)
+    → AuditsLeft left answer
 audits_left left answer told input given = subst (λ (x : Option (List ℕ)). IfSome x (λ bytes. IsAudit (take 67108865 bytes) answer)) given told
 
 -- a log is judged with one of two statuses
@@ -26,19 +27,23 @@ either_of (Err (Differs line)) status text told = inr told.0
 either_of (Err (Row row reason)) status text told = inr told.0
 either_of (Err (Text fault)) status text told = absurd told
 
-pub ends_found : (left left' : Option (List ℕ)) (old new : Streams) (text : List ℕ) (status result : Status) → FindingIsDue left left' status text → Puts text status result old.taken new.taken old.write_faults new.write_faults → Ends (AuditDue left left') old new result
+pub ends_found : (left left' : Option (List ℕ)) (old new : Streams) (text : List ℕ) (status result : Status) → FindingIsDue left left' status text
+    → Puts text status result old.taken new.taken old.write_faults new.write_faults → Ends (AuditDue left left') old new result
 ends_found left left' old new text status result due put =
-    ends_either (AuditDue left left') old new text Done Refused status result (λ (x : Status). FindingIsDue left left' x text) (λ h. h) (λ wrote. wrote) (λ h. h) (λ wrote. wrote) (either_of due.answer status text due.told) due put
+    ends_either (AuditDue left left') old new text Done Refused status result (λ (x : Status). FindingIsDue left left' x text) (λ h. h) (λ wrote. wrote)
+    (λ h. h) (λ wrote. wrote) (either_of due.answer status text due.told) due put
 
 -- why nothing is told of the log: it was answered, or memory ran out
 abbrev pub IsWhy : Result Audited Finding → TextFault → Type 0
 IsWhy answer fault = (answer ≡ Err (Text fault)) ⊎ (fault ≡ NoMemory)
 
-pub refusal_due : (left left' : Option (List ℕ)) (answer : Result Audited Finding) (fault : TextFault) (text : List ℕ) → AuditsLeft left answer → IsWhy answer fault → IsRefusalLine fault text → AuditRefusalIsDue left text
+pub refusal_due : (left left' : Option (List ℕ)) (answer : Result Audited Finding) (fault : TextFault) (text : List ℕ) → AuditsLeft left answer
+    → IsWhy answer fault → IsRefusalLine fault text → AuditRefusalIsDue left text
 refusal_due left left' answer fault text audits (inl is) is_line = record { fault = fault; is_line = is_line; audit = subst (AuditsLeft left) is audits }
 refusal_due left left' answer fault text audits (inr none) is_line = absurd (subst (λ (f : TextFault). IsRefusalLine f text) none is_line)
 
 -- a failed read shows at the source
-pub rose_where_read : (answer : Result Audited Finding) (fault : TextFault) (before after : ℕ) → IsWhy answer fault → fault ≡ FailedRead → (IsUnread answer → Rose before after) → Rose before after
+pub rose_where_read : (answer : Result Audited Finding) (fault : TextFault) (before after : ℕ) → IsWhy answer fault → fault ≡ FailedRead
+    → (IsUnread answer → Rose before after) → Rose before after
 rose_where_read answer fault before after (inl is) read rose = rose (subst IsUnread (sym (subst (λ (f : TextFault). answer ≡ Err (Text f)) read is)) refl)
 rose_where_read answer fault before after (inr none) read rose = absurd (cc (sym read ∙ none))

@@ -23,13 +23,17 @@ record IsDueFor (input : List ℕ) (status : Status) (text : List ℕ) : Type 0 
   status_is : status ≡ status_of (told_by answer)
   text_is : text ≡ text_of (told_by answer)
 
-finding_due : (input : List ℕ) (status : Status) (text : List ℕ) (answer : Result Audited Finding) → IsFindingTold answer status text → IsAudit (take 67108865 input) answer → IsDueFor input status text
+finding_due : (input : List ℕ) (status : Status) (text : List ℕ) (answer : Result Audited Finding) → IsFindingTold answer status text
+    → IsAudit (take 67108865 input) answer → IsDueFor input status text
 finding_due input status text (Ok audited) told audit = record { answer = Ok audited; told = tt; audit = audit; status_is = told.0; text_is = told.1 }
-finding_due input status text (Err (Differs line)) told audit = record { answer = Err (Differs line); told = tt; audit = audit; status_is = told.0; text_is = told.1 }
-finding_due input status text (Err (Row row reason)) told audit = record { answer = Err (Row row reason); told = tt; audit = audit; status_is = told.0; text_is = told.1 }
+finding_due input status text (Err (Differs line)) told audit =
+    record { answer = Err (Differs line); told = tt; audit = audit; status_is = told.0; text_is = told.1 }
+finding_due input status text (Err (Row row reason)) told audit =
+    record { answer = Err (Row row reason); told = tt; audit = audit; status_is = told.0; text_is = told.1 }
 finding_due input status text (Err (Text fault)) told audit = absurd told
 
-refusal_due : (input text : List ℕ) (fault : TextFault) → IsRefusalLine fault text → IsAudit (take 67108865 input) (Err (Text fault)) → IsDueFor input Input text
+refusal_due : (input text : List ℕ) (fault : TextFault) → IsRefusalLine fault text → IsAudit (take 67108865 input) (Err (Text fault))
+    → IsDueFor input Input text
 refusal_due input text (Bad line code) told audit = record { answer = Err (Text (Bad line code)); told = tt; audit = audit; status_is = refl; text_is = told }
 refusal_due input text TooLong told audit = record { answer = Err (Text TooLong); told = tt; audit = audit; status_is = refl; text_is = told }
 refusal_due input text FailedRead told audit = absurd told
@@ -54,7 +58,8 @@ one_text input left left' status status' text text' due due' =
 
 -- ---- two calls
 
-wrote : (input : List ℕ) (old new : Streams) (status : Status) → Ends (AuditDue (Some input) new.left) old new status → IsToldBy status → Wrote (AuditDue (Some input) new.left) old new status
+wrote : (input : List ℕ) (old new : Streams) (status : Status) → Ends (AuditDue (Some input) new.left) old new status → IsToldBy status
+    → Wrote (AuditDue (Some input) new.left) old new status
 wrote input old new Done ends told = ends
 wrote input old new Words ends told = ends
 wrote input old new Stopped ends told = ends

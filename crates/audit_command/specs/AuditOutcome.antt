@@ -49,4 +49,5 @@ AuditDue left left' Memory text = ⊥
 -- the log is judged or the input refused, unless the source or the sink fails or memory is wanting
 abbrev pub EndsAudits : (old new : Streams) → Status → Type 0
 EndsAudits old new status =
-    (Rose old.read_faults new.read_faults → ⊥) → (Rose old.write_faults new.write_faults → ⊥) → (status ≡ Done) ⊎ (status ≡ Refused) ⊎ (status ≡ Input) ⊎ (status ≡ Memory)
+    (Rose old.read_faults new.read_faults → ⊥) → (Rose old.write_faults new.write_faults → ⊥) → (status ≡ Done) ⊎ (status ≡ Refused) ⊎ (status ≡ Input)
+    ⊎ (status ≡ Memory)

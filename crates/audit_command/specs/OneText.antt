@@ -33,7 +33,8 @@ text_of (first_found (bad_text NoMemory)) = []
 
 -- One status and one text are due for an input.
 abbrev pub OneTextLaw : Type 0
-OneTextLaw = (input : List ℕ) (left left' : Option (List ℕ)) (status status' : Status) (text text' : List ℕ) → AuditDue (Some input) left status text → AuditDue (Some input) left' status' text' → (status ≡ status') × (text ≡ text')
+OneTextLaw = (input : List ℕ) (left left' : Option (List ℕ)) (status status' : Status) (text text' : List ℕ) → AuditDue (Some input) left status text
+    → AuditDue (Some input) left' status' text' → (status ≡ status') × (text ≡ text')
 
 -- a text was written whole
 abbrev pub IsToldBy : Status → Type 0
@@ -55,5 +56,6 @@ pub record EndSo (old new old' new' : Streams) (status status' : Status) : Type 
 
 -- Two audits of an input that come to write a whole text end in the same way.
 abbrev pub OneEndLaw : Type 0
-OneEndLaw = (input : List ℕ) (old new old' new' : Streams) (status status' : Status) → Ends (AuditDue (Some input) new.left) old new status → Ends (AuditDue (Some input) new'.left) old' new' status'
+OneEndLaw = (input : List ℕ) (old new old' new' : Streams) (status status' : Status) → Ends (AuditDue (Some input) new.left) old new status
+    → Ends (AuditDue (Some input) new'.left) old' new' status'
     → IsToldBy status → IsToldBy status' → EndSo old new old' new' status status'

@@ -17,8 +17,10 @@ use Rattle.bank_text.specs.declared.banks.BankRow.{BankRow}
 use Rattle.bank_text.specs.BankRows.{rows_said}
 use Rattle.bank_days.specs.Banks.{AreBankLogs, AreRowsAppended, IsBankLog, IsDayLog}
 
-pub day-logged : (right : Right) (law : PlannerLaw right) (opening : Snapshot) (rows : List BankRow) (log : BankLog) (opened day : Day) (first at : List ℕ) → IsAccepted opening → IsOpeningSnapshot opening → opened ≡ opening_day opening → first ≡ first_line
-    → AreRowsAppended right opened rows day first at → IsTrue (loses_none day) → delivered_count day ≡ length day.calls → log.text.items ≡ at ++ end_text day → log.is_stopped ≡ ltb 0 day.unsolved → IsDayLog right opening rows log
+pub day-logged : (right : Right) (law : PlannerLaw right) (opening : Snapshot) (rows : List BankRow) (log : BankLog) (opened day : Day) (first at : List ℕ)
+    → IsAccepted opening → IsOpeningSnapshot opening → opened ≡ opening_day opening → first ≡ first_line
+    → AreRowsAppended right opened rows day first at → IsTrue (loses_none day) → delivered_count day ≡ length day.calls → log.text.items ≡ at ++ end_text day
+    → log.is_stopped ≡ ltb 0 day.unsolved → IsDayLog right opening rows log
 day-logged right law opening rows log opened day first at accepted may_open opened_is first_is were none_lost delivered written stopped =
     let done = subst (λ (d : Day). AreRowsDone right d (rows_said rows) day were.text) opened_is were.done in
     record {
@@ -35,13 +37,18 @@ day-logged right law opening rows log opened day first at accepted may_open open
 -- ---- logs in the places of their banks
 
 -- what stands in a list is the bank there
-pub log-in-place : (right : Right) (banks : List Bank) (k : ℕ) (d : Bank) (rows : List BankRow) (result : Result BankLog AllocError) → rows ≡ (get_or banks k d).rows.items
-    → IfOk result (IsDayLog right (get_or banks k d).opening rows) → IfOk result (λ log. (bank : Bank) → slice_get banks k ≡ Some bank → IsBankLog right bank log)
+pub log-in-place : (right : Right) (banks : List Bank) (k : ℕ) (d : Bank) (rows : List BankRow) (result : Result BankLog AllocError)
+    → rows ≡ (get_or banks k d).rows.items
+    → IfOk result (IsDayLog right (get_or banks k d).opening rows)
+    → IfOk result (λ log. (bank : Bank) → slice_get banks k ≡ Some bank → IsBankLog right bank log)
 log-in-place right banks k d rows (Ok log) same is = λ bank at.
-    subst (λ (b : Bank). IsBankLog right b log) (get_or_from_slice_get banks k bank d at) (subst (λ (r : List BankRow). IsDayLog right (get_or banks k d).opening r log) same is)
+    subst (λ (b : Bank). IsBankLog right b log) (get_or_from_slice_get banks k bank d at)
+    (subst (λ (r : List BankRow). IsDayLog right (get_or banks k d).opening r log) same is)
 log-in-place right banks k d rows (Err error) same is = is
 
-pub logs-in-places : (right : Right) (banks : List Bank) (result : Result (Vec BankLog Global) AllocError) → IfOk result (λ logs. length logs.items ≡ length banks)
-    → IfOk result (λ logs. (k : ℕ) (log : BankLog) → slice_get logs.items k ≡ Some log → (bank : Bank) → slice_get banks k ≡ Some bank → IsBankLog right bank log) → IfOk result (λ logs. AreBankLogs right banks logs.items)
+pub logs-in-places : (right : Right) (banks : List Bank) (result : Result (Vec BankLog Global) AllocError)
+    → IfOk result (λ logs. length logs.items ≡ length banks)
+    → IfOk result (λ logs. (k : ℕ) (log : BankLog) → slice_get logs.items k ≡ Some log → (bank : Bank) → slice_get banks k ≡ Some bank
+    → IsBankLog right bank log) → IfOk result (λ logs. AreBankLogs right banks logs.items)
 logs-in-places right banks (Ok logs) count each = record { count = count; each = λ k bank log there at. each k log at bank there }
 logs-in-places right banks (Err error) count each = count

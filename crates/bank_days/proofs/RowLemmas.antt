@@ -22,33 +22,42 @@ use Rattle.bank_days.specs.Banks.{AreRowsAppended}
 -- ---- one row
 
 -- what is right for a snapshot is right for the same one
-pub still-right : (right : Right) (s t : Snapshot) (one other : Stated) (said written : List ℕ) → right s one said → s ≡ t → one ≡ other → said ≡ written → right t other written
+pub still-right : (right : Right) (s t : Snapshot) (one other : Stated) (said written : List ℕ) → right s one said → s ≡ t → one ≡ other → said ≡ written
+    → right t other written
 still-right right s t one other said written is here same as_written =
     subst (λ (p : List ℕ). right t other p) as_written (subst (λ (x : Stated). right t x said) same (subst (λ (x : Snapshot). right x one said) here is))
 
 -- whoever calls right whatever another does says the same of a row
-pub done-wider : (narrow wide : Right) (old : Day) (said : Option Row) (new : Day) (before after : List ℕ) (result : Result RowAnswer AllocError) → IsWider narrow wide
+pub done-wider : (narrow wide : Right) (old : Day) (said : Option Row) (new : Day) (before after : List ℕ) (result : Result RowAnswer AllocError)
+    → IsWider narrow wide
     → IfOk result (IsRowDone narrow old said new before after) → IfOk result (IsRowDone wide old said new before after)
 done-wider narrow wide old said new before after (Ok answer) wider done = row-wider narrow wide old said new before after answer wider done
 done-wider narrow wide old said new before after (Err error) wider done = done
 
 -- a row that is a line says what the line does
-pub fields-done : (right : Right) (old new : Day) (row : BankRow) (line : Vec ℕ Global) (bytes before after : List ℕ) (result : Result RowAnswer AllocError) → row ≡ Fields line → bytes ≡ line.items
+pub fields-done : (right : Right) (old new : Day) (row : BankRow) (line : Vec ℕ Global) (bytes before after : List ℕ) (result : Result RowAnswer AllocError)
+    → row ≡ Fields line → bytes ≡ line.items
     → IfOk result (IsRowDone right old (row_of_line bytes) new before after) → IfOk result (IsRowDone right old (row_said row) new before after)
 fields-done right old new row line bytes before after result is same done =
-    subst (λ (r : BankRow). IfOk result (IsRowDone right old (row_said r) new before after)) (sym is) (subst (λ (b : List ℕ). IfOk result (IsRowDone right old (row_of_line b) new before after)) same done)
+    subst (λ (r : BankRow). IfOk result (IsRowDone right old (row_said r) new before after)) (sym is)
+    (subst (λ (b : List ℕ). IfOk result (IsRowDone right old (row_of_line b) new before after)) same done)
 
 -- any other row is refused
 pub other-done : (right : Right) (old new : Day) (row : BankRow) (before after : List ℕ) (result : Result RowAnswer AllocError) → row ≡ Other
     → IfOk result (IsRefused old NoRow new before after) → IfOk result (IsRowDone right old (row_said row) new before after)
 other-done right old new row before after (Ok answer) is refused =
-    subst (λ (r : BankRow). IsRowDone right old (row_said r) new before after answer) (sym is) (no_plan, [], record { day = refused.day; text = refused.text; right_plan = tt; answer_is = refused.answer_is })
+    subst (λ (r : BankRow). IsRowDone right old (row_said r) new before after answer) (sym is)
+    (no_plan, [], record { day = refused.day; text = refused.text; right_plan = tt; answer_is = refused.answer_is })
 other-done right old new row before after (Err error) is refused = refused
 
 -- the lines of a row, apart from what stands before them
-row-apart : (right : Right) (old : Day) (said : Option Row) (new : Day) (before after : List ℕ) (answer : RowAnswer) → IsRowDone right old said new before after answer → (text : List ℕ) × IsRowDone right old said new [] text answer × (after ≡ before ++ text)
-row-apart right old said new before after answer done =
-    (row_text new.world.snapshot (next_step old said done.0).log done.1, (done.0, done.1, record { day = done.2.day; text = refl; right_plan = done.2.right_plan; answer_is = done.2.answer_is }), done.2.text)
+row-apart : (right : Right) (old : Day) (said : Option Row) (new : Day) (before after : List ℕ) (answer : RowAnswer)
+    → IsRowDone right old said new before after answer → (text : List ℕ) × IsRowDone right old said new [] text answer × (after ≡ before ++ text)
+row-apart right old said new before after answer done = (
+  row_text new.world.snapshot (next_step old said done.0).log done.1,
+  (done.0, done.1, record { day = done.2.day; text = refl; right_plan = done.2.right_plan; answer_is = done.2.answer_is }),
+  done.2.text,
+)
 
 -- ---- rows
 
@@ -56,15 +65,18 @@ pub none-appended : (right : Right) (day : Day) (log : List ℕ) → AreRowsAppe
 none-appended right day log = record { text = []; done = (refl, refl); appended = sym (append-nil log) }
 
 -- one more row
-pub row-appended : (right : Right) (a b c : Day) (rows : List BankRow) (k : ℕ) (row : BankRow) (before at after : List ℕ) (answer : RowAnswer) → k < length rows → row ≡ get_or rows k row → AreRowsAppended right a (take k rows) b before at
+pub row-appended : (right : Right) (a b c : Day) (rows : List BankRow) (k : ℕ) (row : BankRow) (before at after : List ℕ) (answer : RowAnswer)
+    → k < length rows → row ≡ get_or rows k row → AreRowsAppended right a (take k rows) b before at
     → IsRowDone right b (row_said row) c at after answer → AreRowsAppended right a (take (k + 1) rows) c before after
 row-appended right a b c rows k row before at after answer within is so done =
     let apart = row-apart right b (row_said row) c at after answer done in
     let one = one-row right b (row_said row) c apart.0 answer apart.1 in
     let joined : rows_said (take k rows) ++ row_said row ∷ [] ≡ rows_said (take (k + 1) rows) =
-    ap (λ (r : BankRow). rows_said (take k rows) ++ row_said r ∷ []) is ∙ sym (map-append row_said (take k rows) (get_or rows k row ∷ [])) ∙ ap (map row_said) (sym (take_more rows k row within)) in
+    ap (λ (r : BankRow). rows_said (take k rows) ++ row_said r ∷ []) is ∙ sym (map-append row_said (take k rows) (get_or rows k row ∷ []))
+    ∙ ap (map row_said) (sym (take_more rows k row within)) in
     record {
       text = so.text ++ apart.0;
-      done = subst (λ (r : List (Option Row)). AreRowsDone right a r c (so.text ++ apart.0)) joined (rows-more right a b c (rows_said (take k rows)) (row_said row ∷ []) so.text apart.0 so.done one);
+      done = subst (λ (r : List (Option Row)). AreRowsDone right a r c (so.text ++ apart.0)) joined
+          (rows-more right a b c (rows_said (take k rows)) (row_said row ∷ []) so.text apart.0 so.done one);
       appended = apart.2 ∙ ap (λ (t : List ℕ). t ++ apart.0) so.appended ∙ append-assoc before so.text apart.0;
     }

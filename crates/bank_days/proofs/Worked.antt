@@ -30,9 +30,11 @@ three_numbers : row_of_line (codes "7,0,2") ≡ None
 unfolding next_record strip_bom without_spaces_before end_of_field
 three_numbers = refl
 
-said : (first last : Vec ℕ Global) → first.items ≡ codes "7, 0,2 ,1" → last.items ≡ codes "7,0,2" → rows_said (Fields first ∷ Other ∷ Fields last ∷ []) ≡ row 7 0 2 1 ∷ None ∷ None ∷ []
+said : (first last : Vec ℕ Global) → first.items ≡ codes "7, 0,2 ,1" → last.items ≡ codes "7,0,2"
+    → rows_said (Fields first ∷ Other ∷ Fields last ∷ []) ≡ row 7 0 2 1 ∷ None ∷ None ∷ []
 said first last first_is last_is =
-    ap (λ (r : Option Row). r ∷ None ∷ row_of_line last.items ∷ []) (ap row_of_line first_is ∙ four_numbers) ∙ ap (λ (r : Option Row). row 7 0 2 1 ∷ None ∷ r ∷ []) (ap row_of_line last_is ∙ three_numbers)
+    ap (λ (r : Option Row). r ∷ None ∷ row_of_line last.items ∷ []) (ap row_of_line first_is ∙ four_numbers)
+    ∙ ap (λ (r : Option Row). row 7 0 2 1 ∷ None ∷ r ∷ []) (ap row_of_line last_is ∙ three_numbers)
 
 -- ---- logs
 
@@ -45,17 +47,22 @@ unfolding events_text refused_text total_text digits
 one_refused_log = refl
 
 -- a bank without rows, whatever its planner calls right
-without_rows : (right : Right) (bank : Bank) (log : BankLog) → bank.opening ≡ opening → bank.rows.items ≡ [] → IsBankLog right bank log → (log.text.items ≡ codes "day 1\ntotal 0 0 0\nend\n# solved\n") × (log.is_stopped ≡ false)
+without_rows : (right : Right) (bank : Bank) (log : BankLog) → bank.opening ≡ opening → bank.rows.items ≡ [] → IsBankLog right bank log
+    → (log.text.items ≡ codes "day 1\ntotal 0 0 0\nend\n# solved\n") × (log.is_stopped ≡ false)
 without_rows right bank log opens none is =
     let done = subst (λ (rows : List BankRow). AreRowsDone right (opening_day bank.opening) (rows_said rows) is.day is.text) none is.done in
     let day : is.day ≡ opening_day opening = done.0 ∙ ap opening_day opens in
     (is.log_is ∙ ap (λ (t : List ℕ). day_log t is.day) done.1 ∙ ap (day_log []) day ∙ no_rows_log, is.stopped_is ∙ ap (λ (d : Day). ltb 0 d.unsolved) day)
 
 -- a bank with one row that says nothing
-with_one_refused : (right : Right) (bank : Bank) (log : BankLog) → bank.opening ≡ opening → bank.rows.items ≡ Other ∷ [] → IsBankLog right bank log → (log.text.items ≡ codes "day 1\nrow 1 refused 41\ntotal 0 1 0\nend\n# solved\n") × (log.is_stopped ≡ false)
+with_one_refused : (right : Right) (bank : Bank) (log : BankLog) → bank.opening ≡ opening → bank.rows.items ≡ Other ∷ [] → IsBankLog right bank log
+    → (log.text.items ≡ codes "day 1\nrow 1 refused 41\ntotal 0 1 0\nend\n# solved\n") × (log.is_stopped ≡ false)
 with_one_refused right bank log opens one is =
     let done = subst (λ (rows : List BankRow). AreRowsDone right (opening_day bank.opening) (rows_said rows) is.day is.text) one is.done in
     let refused = done.4.2 in
     let day : is.day ≡ day_after_refused (opening_day opening) = done.5.0 ∙ refused.day ∙ ap (λ (s : Snapshot). day_after_refused (opening_day s)) opens in
-    let text : is.text ≡ refused_text 1 NoRow = done.6 ∙ ap (λ (t : List ℕ). done.1 ++ t) done.5.1 ∙ append-nil done.1 ∙ refused.text in
-    (is.log_is ∙ ap (λ (t : List ℕ). day_log t is.day) text ∙ ap (day_log (refused_text 1 NoRow)) day ∙ one_refused_log, is.stopped_is ∙ ap (λ (d : Day). ltb 0 d.unsolved) day)
+    let text : is.text ≡ refused_text 1 NoRow = done.6 ∙ ap (λ (t : List ℕ). done.1 ++ t) done.5.1 ∙ append-nil done.1 ∙ refused.text in (
+      is.log_is ∙ ap (λ (t : List ℕ). day_log t is.day) text ∙ ap (day_log (refused_text 1 NoRow)) day ∙ one_refused_log,
+      is.stopped_is
+          ∙ ap (λ (d : Day). ltb 0 d.unsolved) day,
+    )

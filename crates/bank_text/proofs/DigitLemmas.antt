@@ -1,5 +1,6 @@
 -- Decimal digits between commas are the fields of one record.
-use Rattle.std.proofs.Common.{◌≡◌, ℕ, ◌+◌, Bool, true, false, cond, ◌&&◌, eqb, List, [], ◌∷◌, ◌++◌, length, take, Option, None, Some, refl, sym, ap, subst, ◌∙◌, arith, append-nil, append_assoc}
+use Rattle.std.proofs.Common.{◌≡◌, ℕ, ◌+◌, Bool, true, false, cond, ◌&&◌, eqb, List, [], ◌∷◌, ◌++◌, length, take, Option, None, Some, refl, sym, ap, subst, ◌∙◌}
+use Rattle.std.proofs.Common.{arith, append-nil, append_assoc}
 use Rattle.std.specs.Prelude.{option_map, nat_lt, nat_le}
 use Rattle.std.specs.List.{list_all, list_any}
 use Rattle.std.specs.Char.{is_ascii_digit}
@@ -9,7 +10,8 @@ use Rattle.csv.specs.Machine.{Read, next_record}
 use Rattle.csv.specs.Reading.{default_config, strip_bom}
 use Rattle.csv.specs.declared.parser.State.TheVariants as st
 use Rattle.csv.proofs.RoundTrip.{record-same, start-same}
-use Rattle.day_text.specs.Records.{begins_with_mark, end_of_field, ends_line, fields_of_line, fields_read, is_set_apart, row_of_fields, row_of_line, row_of_record, without_spaces, without_spaces_before}
+use Rattle.day_text.specs.Records.{begins_with_mark, end_of_field, ends_line, fields_of_line, fields_read, is_set_apart, row_of_fields, row_of_line}
+use Rattle.day_text.specs.Records.{row_of_record, without_spaces, without_spaces_before}
 use Rattle.bank_text.specs.BankRows.{is_number}
 
 -- ---- digits
@@ -79,7 +81,8 @@ whole_text text are =
 -- ---- the record
 
 -- the digits of a field
-run : (fields : List (List ℕ)) (field x tail : List ℕ) → AreDigits x → next_record default_config st.InField fields field (x ++ tail) ≡ next_record default_config st.InField fields (field ++ x) tail
+run : (fields : List (List ℕ)) (field x tail : List ℕ) → AreDigits x
+    → next_record default_config st.InField fields field (x ++ tail) ≡ next_record default_config st.InField fields (field ++ x) tail
 unfolding next_record
 run fields field [] tail are = rw (append-nil field) refl
 run fields field (b ∷ rest) tail are =
@@ -90,20 +93,23 @@ run fields field (b ∷ rest) tail are =
     rw (comma, cr, feed) (run fields (field ++ (b ∷ [])) rest tail is.later
     ∙ ap (λ (f : List ℕ). next_record default_config st.InField fields f tail) (append_assoc field (b ∷ []) rest))
 
-field_start : (fields : List (List ℕ)) (x tail : List ℕ) → is_number x ≡ true → next_record default_config st.StartField fields [] (x ++ tail) ≡ next_record default_config st.InField fields x tail
+field_start : (fields : List (List ℕ)) (x tail : List ℕ) → is_number x ≡ true
+    → next_record default_config st.StartField fields [] (x ++ tail) ≡ next_record default_config st.InField fields x tail
 field_start fields [] tail is = absurd cc
 field_start fields (b ∷ rest) tail is =
     let are = digits_of (b ∷ rest) is in
     start-same fields [] b (rest ++ tail) (starts_plain b rest are).first.quote ∙ run fields [] (b ∷ rest) tail are
 
-record_start : (x tail : List ℕ) → is_number x ≡ true → next_record default_config st.StartRecord [] [] (x ++ tail) ≡ next_record default_config st.InField [] x tail
+record_start : (x tail : List ℕ) → is_number x ≡ true
+    → next_record default_config st.StartRecord [] [] (x ++ tail) ≡ next_record default_config st.InField [] x tail
 record_start [] tail is = absurd cc
 record_start (b ∷ rest) tail is =
     let first = (starts_plain b rest (digits_of (b ∷ rest) is)).first in
     record-same [] [] b (rest ++ tail) first.cr first.feed ∙ field_start [] (b ∷ rest) tail is
 
 -- a comma ends a field, and the end of the line the record
-field_end : (fields : List (List ℕ)) (x tail : List ℕ) → next_record default_config st.InField fields x (44 ∷ tail) ≡ next_record default_config st.StartField (fields ++ (x ∷ [])) [] tail
+field_end : (fields : List (List ℕ)) (x tail : List ℕ)
+    → next_record default_config st.InField fields x (44 ∷ tail) ≡ next_record default_config st.StartField (fields ++ (x ∷ [])) [] tail
 unfolding next_record
 field_end fields x tail = refl
 
@@ -111,7 +117,8 @@ record_end : (fields : List (List ℕ)) (x : List ℕ) → next_record default_c
 unfolding next_record
 record_end fields x = refl
 
-last_field : (fields : List (List ℕ)) (x : List ℕ) → is_number x ≡ true → next_record default_config st.StartField fields [] x ≡ Some (fields ++ (x ∷ []), st.StartRecord, [])
+last_field : (fields : List (List ℕ)) (x : List ℕ) → is_number x ≡ true
+    → next_record default_config st.StartField fields [] x ≡ Some (fields ++ (x ∷ []), st.StartRecord, [])
 last_field fields x is =
     ap (λ (t : List ℕ). next_record default_config st.StartField fields [] t) (sym (append-nil x)) ∙ field_start fields x [] is ∙ record_end fields x
 
@@ -143,10 +150,12 @@ no_mark b [] other = refl
 no_mark b (c ∷ []) other = refl
 no_mark b (c ∷ d ∷ rest) other = rw other refl
 
-fields_from : (b : ℕ) (rest : List ℕ) (fields : List (List ℕ)) → IsPlain b → list_any ends_line (b ∷ rest) ≡ false → next_record default_config st.StartRecord [] [] (b ∷ rest) ≡ Some (fields, st.StartRecord, [])
+fields_from : (b : ℕ) (rest : List ℕ) (fields : List (List ℕ)) → IsPlain b → list_any ends_line (b ∷ rest) ≡ false
+    → next_record default_config st.StartRecord [] [] (b ∷ rest) ≡ Some (fields, st.StartRecord, [])
     → fields_of_line (b ∷ rest) ≡ Some fields
 fields_from b rest fields is none read =
-    let apart : is_set_apart (b ∷ rest) ≡ false = or_from (begins_with_mark (b ∷ rest)) (list_any ends_line (b ∷ rest)) (not_marked b rest is.begins_mark) none in
+    let apart : is_set_apart (b ∷ rest) ≡ false =
+    or_from (begins_with_mark (b ∷ rest)) (list_any ends_line (b ∷ rest)) (not_marked b rest is.begins_mark) none in
     ap (λ (x : Bool). cond {A = Option (List (List ℕ))} x None (fields_read (b ∷ rest))) apart
     ∙ ap (λ (line : List ℕ). option_map (λ (p : Read). p.0) (next_record default_config st.StartRecord [] [] line)) (no_mark b rest is.mark)
     ∙ ap (option_map (λ (p : Read). p.0)) read
@@ -157,5 +166,7 @@ pub row_again : (a b c d : List ℕ) → is_number a ≡ true → is_number b �
 row_again [] b c d first second third fourth = absurd cc
 row_again (x ∷ a) b c d first second third fourth =
     let last : list_any ends_line d ≡ false = subst (λ (t : List ℕ). list_any ends_line t ≡ false) (append-nil d) (no_end d [] (digits_of d fourth) refl) in
-    let none = no_end (x ∷ a) (44 ∷ (b ++ (44 ∷ (c ++ (44 ∷ d))))) (digits_of (x ∷ a) first) (no_end b (44 ∷ (c ++ (44 ∷ d))) (digits_of b second) (no_end c (44 ∷ d) (digits_of c third) last)) in
-    ap row_of_record (fields_from x (a ++ (44 ∷ (b ++ (44 ∷ (c ++ (44 ∷ d)))))) ((x ∷ a) ∷ b ∷ c ∷ d ∷ []) (starts_plain x a (digits_of (x ∷ a) first)).first none (four_fields (x ∷ a) b c d first second third fourth))
+    let none = no_end (x ∷ a) (44 ∷ (b ++ (44 ∷ (c ++ (44 ∷ d))))) (digits_of (x ∷ a) first)
+    (no_end b (44 ∷ (c ++ (44 ∷ d))) (digits_of b second) (no_end c (44 ∷ d) (digits_of c third) last)) in
+    ap row_of_record (fields_from x (a ++ (44 ∷ (b ++ (44 ∷ (c ++ (44 ∷ d)))))) ((x ∷ a) ∷ b ∷ c ∷ d ∷ [])
+    (starts_plain x a (digits_of (x ∷ a) first)).first none (four_fields (x ∷ a) b c d first second third fourth))

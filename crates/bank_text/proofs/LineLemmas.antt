@@ -1,5 +1,6 @@
 -- What lines say, and what is read of them one after another.
-use Rattle.std.proofs.Common.{◌≡◌, ℕ, ◌+◌, ◌<◌, ◌≤◌, Bool, true, false, cond, ◌&&◌, ◌==◌, eqb, List, [], ◌∷◌, ◌++◌, map, length, Option, None, Some, Result, Ok, Err, IfSome, refl, sym, ap, subst, ◌∙◌, arith, append-nil, append_assoc, length-append}
+use Rattle.std.proofs.Common.{◌≡◌, ℕ, ◌+◌, ◌<◌, ◌≤◌, Bool, true, false, cond, ◌&&◌, ◌==◌, eqb, List, [], ◌∷◌, ◌++◌, map, length, Option, None, Some, Result, Ok}
+use Rattle.std.proofs.Common.{Err, IfSome, refl, sym, ap, subst, ◌∙◌, arith, append-nil, append_assoc, length-append}
 use Rattle.std.specs.Prelude.{IfOk, IsSomeAnd, OnOk, nat_lt, not}
 use Rattle.std.specs.List.{concat, list_any}
 use Rattle.std.proofs.lemmas.Bool.{le-ltb, lt-ltb, ne_eqb}
@@ -53,7 +54,8 @@ stray_unsaid : (ids : List ℕ) (some : Bool) (said : Option Said) → said ≡ 
 stray_unsaid ids some said none =
     and_true some ∙ sym (ap (λ (s : Option Said). some && not (list_any (is_said_in s) ids)) none ∙ ap (λ (x : Bool). some && not x) (none_in ids))
 
-pub stray_unnamed : (line : List ℕ) (ids : List ℕ) (empty : Bool) → empty ≡ (length line == 0) → None ≡ said_of_short line → not empty ≡ (nat_lt 0 (length line) && not (list_any (is_said_in (said_of_short line)) ids))
+pub stray_unnamed : (line : List ℕ) (ids : List ℕ) (empty : Bool) → empty ≡ (length line == 0) → None ≡ said_of_short line
+    → not empty ≡ (nat_lt 0 (length line) && not (list_any (is_said_in (said_of_short line)) ids))
 stray_unnamed [] ids empty is none = ap not is
 stray_unnamed (b ∷ line) ids empty is none =
     let some : nat_lt 0 (length (b ∷ line)) ≡ true = lt-ltb 0 (length (b ∷ line)) (omega arith) in
@@ -71,10 +73,12 @@ short_line line short = ap (λ (x : Bool). cond {A = Option Said} x None (said_o
 long_line : (line : List ℕ) → line_limit < length line → said_of_line line ≡ None
 long_line line long = ap (λ (x : Bool). cond {A = Option Said} x None (said_of_short line)) (lt-ltb line_limit (length line) long)
 
-lines_after : (from to : TextState) (piece line : List ℕ) → pieces_of from.bytes ≡ piece ∷ pieces_of to.bytes → line_of piece ≡ line → lines_of from ≡ line ∷ lines_of to
+lines_after : (from to : TextState) (piece line : List ℕ) → pieces_of from.bytes ≡ piece ∷ pieces_of to.bytes → line_of piece ≡ line
+    → lines_of from ≡ line ∷ lines_of to
 lines_after from to piece line pieces is = ap (map line_of) pieces ∙ ap (λ (l : List ℕ). l ∷ lines_of to) is
 
-line_said : (before after : Option TextState) (raw : List ℕ) (ids : List ℕ) (stray : Bool) → NextRaw before (Ok Line) raw after → stray ≡ (nat_lt 0 (length raw) && not (list_any (is_said_in (said_of_short raw)) ids))
+line_said : (before after : Option TextState) (raw : List ℕ) (ids : List ℕ) (stray : Bool) → NextRaw before (Ok Line) raw after
+    → stray ≡ (nat_lt 0 (length raw) && not (list_any (is_said_in (said_of_short raw)) ids))
     → IfSome before (λ from. IsSomeAnd after (λ to. IsLineSaid from to ids (said_of_short raw) stray))
 line_said None after raw ids stray next is = tt
 line_said (Some from) None raw ids stray next is = absurd next
@@ -87,19 +91,23 @@ line_said (Some from) (Some to) raw ids stray next is =
       stray_is = is ∙ ap (λ (s : Option Said). nat_lt 0 (length raw) && not (list_any (is_said_in s) ids)) (sym said);
     }
 
-pub line_taken : {E : Type 0} (before after : Option TextState) (raw : List ℕ) (old new : List Bank) (taken : Result Bool E) (answer : Result NextRow TextFault) → answer ≡ next_of taken → NextRaw before (Ok Line) raw after
-    → OnOk taken (views_of new ≡ all_with (said_of_short raw ∷ []) (views_of old)) → IfOk taken (λ stray. stray ≡ (nat_lt 0 (length raw) && not (list_any (is_said_in (said_of_short raw)) (ids_of old))))
+pub line_taken : {E : Type 0} (before after : Option TextState) (raw : List ℕ) (old new : List Bank) (taken : Result Bool E)
+    (answer : Result NextRow TextFault) → answer ≡ next_of taken → NextRaw before (Ok Line) raw after
+    → OnOk taken (views_of new ≡ all_with (said_of_short raw ∷ []) (views_of old))
+    → IfOk taken (λ stray. stray ≡ (nat_lt 0 (length raw) && not (list_any (is_said_in (said_of_short raw)) (ids_of old))))
     → NextTaken before old answer new after
 line_taken before after raw old new (Ok stray) answer is next rows stray_is =
     subst (λ (a : Result NextRow TextFault). NextTaken before old a new after) (sym is)
     (record { said = said_of_short raw; rows = rows; next = line_said before after raw (ids_of old) stray next stray_is })
-line_taken before after raw old new (Err error) answer is next rows stray_is = subst (λ (a : Result NextRow TextFault). NextTaken before old a new after) (sym is) (untold before)
+line_taken before after raw old new (Err error) answer is next rows stray_is =
+    subst (λ (a : Result NextRow TextFault). NextTaken before old a new after) (sym is) (untold before)
   where
     untold : (text : Option TextState) → IfSome text (λ from. Tells NoMemory (IsRowsFault from NoMemory))
     untold None = tt
     untold (Some from) = tt
 
-long_said : (before after : Option TextState) (raw : List ℕ) (ids : List ℕ) → NextRaw before (Ok Long) raw after → IfSome before (λ from. IsSomeAnd after (λ to. IsLineSaid from to ids None true))
+long_said : (before after : Option TextState) (raw : List ℕ) (ids : List ℕ) → NextRaw before (Ok Long) raw after
+    → IfSome before (λ from. IsSomeAnd after (λ to. IsLineSaid from to ids None true))
 long_said None after raw ids next = tt
 long_said (Some from) None raw ids next = absurd next
 long_said (Some from) (Some to) raw ids next =
@@ -114,10 +122,12 @@ long_said (Some from) (Some to) raw ids next =
       stray_is = sym some ∙ stray_unsaid ids (nat_lt 0 (length line)) (said_of_line line) said;
     }
 
-pub long_taken : (before after : Option TextState) (raw : List ℕ) (banks : List Bank) → NextRaw before (Ok Long) raw after → IsLineTaken before after banks banks true
+pub long_taken : (before after : Option TextState) (raw : List ℕ) (banks : List Bank) → NextRaw before (Ok Long) raw after
+    → IsLineTaken before after banks banks true
 long_taken before after raw banks next = record { said = None; rows = nothing_more (views_of banks); next = long_said before after raw (ids_of banks) next }
 
-pub end_taken : (before after : Option TextState) (raw : List ℕ) (banks : List Bank) → NextRaw before (Ok End) raw after → (banks ≡ banks) × IfSome before (λ from. from.bytes ≡ [])
+pub end_taken : (before after : Option TextState) (raw : List ℕ) (banks : List Bank) → NextRaw before (Ok End) raw after → (banks ≡ banks)
+    × IfSome before (λ from. from.bytes ≡ [])
 end_taken None after raw banks next = (refl, tt)
 end_taken (Some from) after raw banks next = (refl, next.0)
 
@@ -128,7 +138,8 @@ piece_within bytes piece pieces is =
     let size = length-append piece (concat pieces) in
     omega (arith, joined, size)
 
-pub fault_taken : (before after : Option TextState) (raw : List ℕ) (fault : TextFault) → NextRaw before (Err fault) raw after → IfSome before (λ from. Tells fault (IsRowsFault from fault))
+pub fault_taken : (before after : Option TextState) (raw : List ℕ) (fault : TextFault) → NextRaw before (Err fault) raw after
+    → IfSome before (λ from. Tells fault (IsRowsFault from fault))
 fault_taken None after raw fault next = tt
 fault_taken (Some from) after raw Read next = tt
 fault_taken (Some from) after raw NoMemory next = absurd next
@@ -169,27 +180,33 @@ pub at_most_one : (stray : Bool) → one_if stray ≤ 1
 at_most_one true = omega arith
 at_most_one false = omega arith
 
-lines_said : (from at to : TextState) (ids : List ℕ) (saids : List (Option Said)) (said : Option Said) (strays : ℕ) (stray : Bool) → AreLinesSaid from at ids saids strays → IsLineSaid at to ids said stray
+lines_said : (from at to : TextState) (ids : List ℕ) (saids : List (Option Said)) (said : Option Said) (strays : ℕ) (stray : Bool)
+    → AreLinesSaid from at ids saids strays → IsLineSaid at to ids said stray
     → AreLinesSaid from to ids (saids ++ said ∷ []) (strays + one_if stray)
 lines_said from at to ids saids said strays stray so next =
-    let counted : strays_of ids (so.lines ++ next.line ∷ []) ≡ strays_of ids so.lines + strays_of ids (next.line ∷ []) = sum_by-append (λ (line : List ℕ). cond {A = ℕ} (is_stray ids line) 1 0) so.lines (next.line ∷ []) in
+    let counted : strays_of ids (so.lines ++ next.line ∷ []) ≡ strays_of ids so.lines + strays_of ids (next.line ∷ []) =
+    sum_by-append (λ (line : List ℕ). cond {A = ℕ} (is_stray ids line) 1 0) so.lines (next.line ∷ []) in
     let one : one_if stray ≡ one_if (is_stray ids next.line) = ap one_if next.stray_is in
     let last : strays_of ids (next.line ∷ []) ≡ one_if (is_stray ids next.line) = omega arith in
     record {
       lines = so.lines ++ next.line ∷ [];
       lines_are = so.lines_are ∙ ap (λ (lines : List (List ℕ)). so.lines ++ lines) next.lines_are ∙ sym (append_assoc so.lines (next.line ∷ []) (lines_of to));
-      saids_are = ap (λ (s : List (Option Said)). s ++ said ∷ []) so.saids_are ∙ ap (λ (s : Option Said). map said_of_line so.lines ++ s ∷ []) next.said_is ∙ sym (map_push said_of_line so.lines next.line);
+      saids_are = ap (λ (s : List (Option Said)). s ++ said ∷ []) so.saids_are ∙ ap (λ (s : Option Said). map said_of_line so.lines ++ s ∷ []) next.said_is
+          ∙ sym (map_push said_of_line so.lines next.line);
       strays_are = omega (arith, so.strays_are, counted, one, last);
     }
 
-read_more : (before at now : Option TextState) (ids : List ℕ) (saids : List (Option Said)) (said : Option Said) (strays : ℕ) (stray : Bool) → IfSome before (λ from. IsSomeAnd at (λ to. AreLinesSaid from to ids saids strays))
-    → IfSome at (λ from. IsSomeAnd now (λ to. IsLineSaid from to ids said stray)) → IfSome before (λ from. IsSomeAnd now (λ to. AreLinesSaid from to ids (saids ++ said ∷ []) (strays + one_if stray)))
+read_more : (before at now : Option TextState) (ids : List ℕ) (saids : List (Option Said)) (said : Option Said) (strays : ℕ) (stray : Bool)
+    → IfSome before (λ from. IsSomeAnd at (λ to. AreLinesSaid from to ids saids strays))
+    → IfSome at (λ from. IsSomeAnd now (λ to. IsLineSaid from to ids said stray))
+    → IfSome before (λ from. IsSomeAnd now (λ to. AreLinesSaid from to ids (saids ++ said ∷ []) (strays + one_if stray)))
 read_more None at now ids saids said strays stray so next = tt
 read_more (Some from) None now ids saids said strays stray so next = absurd so
 read_more (Some from) (Some at) None ids saids said strays stray so next = absurd next
 read_more (Some from) (Some at) (Some to) ids saids said strays stray so next = lines_said from at to ids saids said strays stray so next
 
-pub line_so_far : (before at now : Option TextState) (old mid new : List Bank) (strays strays' count : ℕ) (stray : Bool) → RowsSoFar before at old mid strays count → IsLineTaken at now mid new stray → strays' ≡ strays + one_if stray
+pub line_so_far : (before at now : Option TextState) (old mid new : List Bank) (strays strays' count : ℕ) (stray : Bool)
+    → RowsSoFar before at old mid strays count → IsLineTaken at now mid new stray → strays' ≡ strays + one_if stray
     → RowsSoFar before now old new strays' (count + 1)
 line_so_far before at now old mid new strays strays' count stray so next counted =
     let saids = so.saids ++ next.said ∷ [] in
@@ -201,12 +218,14 @@ line_so_far before at now old mid new strays strays' count stray so next counted
       saids = saids;
       count_is = omega (arith, size, length_is);
       rows = next.rows ∙ ap (all_with (next.said ∷ [])) so.rows ∙ line_more (views_of old) so.saids next.said;
-      read = subst (λ (n : ℕ). IfSome before (λ from. IsSomeAnd now (λ to. AreLinesSaid from to (ids_of old) saids n))) (sym counted) (read_more before at now (ids_of old) so.saids next.said strays stray so.read step);
+      read = subst (λ (n : ℕ). IfSome before (λ from. IsSomeAnd now (λ to. AreLinesSaid from to (ids_of old) saids n))) (sym counted)
+          (read_more before at now (ids_of old) so.saids next.said strays stray so.read step);
     }
 
 -- ---- the end
 
-all_read : (from to : TextState) (old new : List Bank) (saids : List (Option Said)) (strays : ℕ) → AreLinesSaid from to (ids_of old) saids strays → views_of new ≡ all_with saids (views_of old) → to.bytes ≡ [] → Passed from to → AreRowsRead from old new strays
+all_read : (from to : TextState) (old new : List Bank) (saids : List (Option Said)) (strays : ℕ) → AreLinesSaid from to (ids_of old) saids strays
+    → views_of new ≡ all_with saids (views_of old) → to.bytes ≡ [] → Passed from to → AreRowsRead from old new strays
 all_read from to old new saids strays so rows none passed =
     let size = ap length none in
     let limit = passed.limit in
@@ -217,17 +236,20 @@ all_read from to old new saids strays so rows none passed =
       strays_are = so.strays_are ∙ ap (strays_of (ids_of old)) (sym lines);
     }
 
-rows_read : (before now : Option TextState) (old new : List Bank) (strays count : ℕ) → RowsSoFar before now old new strays count → IfSome now (λ to. to.bytes ≡ []) → WentOn before now → IfSome before (λ from. AreRowsRead from old new strays)
+rows_read : (before now : Option TextState) (old new : List Bank) (strays count : ℕ) → RowsSoFar before now old new strays count
+    → IfSome now (λ to. to.bytes ≡ []) → WentOn before now → IfSome before (λ from. AreRowsRead from old new strays)
 rows_read None now old new strays count so ended went = tt
 rows_read (Some from) None old new strays count so ended went = absurd went
 rows_read (Some from) (Some to) old new strays count so ended went = all_read from to old new so.saids strays so.read so.rows ended went
 
 -- the end leaves the banks as they were
-pub rows_end : (before at : Option TextState) (old mid new : List Bank) (strays count : ℕ) → RowsSoFar before at old mid strays count → (new ≡ mid) × IfSome at (λ to. to.bytes ≡ []) → WentOn before at → IfSome before (λ from. AreRowsRead from old new strays)
+pub rows_end : (before at : Option TextState) (old mid new : List Bank) (strays count : ℕ) → RowsSoFar before at old mid strays count → (new ≡ mid)
+    × IfSome at (λ to. to.bytes ≡ []) → WentOn before at → IfSome before (λ from. AreRowsRead from old new strays)
 rows_end before at old mid new strays count so end went =
     rows_read before at old new strays count (subst (λ (banks : List Bank). RowsSoFar before at old banks strays count) (sym end.0) so) end.1 went
 
-pub rows_added : (before now : Option TextState) (old mid new : List Bank) (strays count most : ℕ) → RowsSoFar before now old mid strays count → new ≡ mid → count ≤ most → AreRowsAdded old new most
+pub rows_added : (before now : Option TextState) (old mid new : List Bank) (strays count most : ℕ) → RowsSoFar before now old mid strays count → new ≡ mid
+    → count ≤ most → AreRowsAdded old new most
 rows_added before now old mid new strays count most so same few =
     let size = so.count_is in
     record { saids = so.saids; few = omega (arith, size, few); rows = ap views_of same ∙ so.rows }
@@ -245,7 +267,8 @@ told Read P Q more is = tt
 told NoMemory P Q more is = tt
 
 -- what is wrong with the rows that are left is wrong with all
-pub rows_refused : (before now : Option TextState) (fault : TextFault) → WentOn before now → IfSome now (λ at. Tells fault (IsRowsFault at fault)) → IfSome before (λ from. Tells fault (IsRowsFault from fault))
+pub rows_refused : (before now : Option TextState) (fault : TextFault) → WentOn before now → IfSome now (λ at. Tells fault (IsRowsFault at fault))
+    → IfSome before (λ from. Tells fault (IsRowsFault from fault))
 rows_refused None now fault went is = tt
 rows_refused (Some from) None fault went is = absurd went
 rows_refused (Some from) (Some at) fault went is = told fault (IsRowsFault at fault) (IsRowsFault from fault) (past_limit from at fault went) is

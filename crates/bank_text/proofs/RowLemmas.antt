@@ -1,5 +1,6 @@
 -- The row that is kept of the fields behind an id says what they say.
-use Rattle.std.proofs.Common.{◌≡◌, ℕ, Bool, true, false, cond, List, [], ◌∷◌, length, Option, None, Some, Result, Ok, Err, IfOk, refl, sym, ap, subst, ◌∙◌, arith}
+use Rattle.std.proofs.Common.{◌≡◌, ℕ, Bool, true, false, cond, List, [], ◌∷◌, length, Option, None, Some, Result, Ok, Err, IfOk, refl, sym, ap, subst, ◌∙◌}
+use Rattle.std.proofs.Common.{arith}
 use Rattle.std.specs.Prelude.{option_map}
 use Rattle.std.specs.Str.Parse.{digits_value}
 use Rattle.std.proofs.lemmas.Option.{cond_some, same_Some}
@@ -55,7 +56,8 @@ all_four (Some a) (Some b) (Some c) (Some d) texts is =
 
 same_numbers : (a b c d a' b' c' d' : Option ℕ) → a ≡ a' → b ≡ b' → c ≡ c' → d ≡ d' → row_of_numbers a b c d ≡ row_of_numbers a' b' c' d'
 same_numbers a b c d a' b' c' d' first second third fourth =
-    ap (λ (n : Option ℕ). row_of_numbers n b c d) first ∙ ap (λ (n : Option ℕ). row_of_numbers a' n c d) second ∙ ap (λ (n : Option ℕ). row_of_numbers a' b' n d) third
+    ap (λ (n : Option ℕ). row_of_numbers n b c d) first ∙ ap (λ (n : Option ℕ). row_of_numbers a' n c d) second
+    ∙ ap (λ (n : Option ℕ). row_of_numbers a' b' n d) third
     ∙ ap (λ (n : Option ℕ). row_of_numbers a' b' c' n) fourth
 
 no_second : (a c d : Option ℕ) → row_of_numbers a None c d ≡ None
@@ -79,12 +81,14 @@ some_missing : (p q r s : Option (List ℕ)) (a b c d : Option ℕ) → (p ≡ N
 some_missing None q r s a b c d first second third fourth none = ap (λ (n : Option ℕ). row_of_numbers n b c d) (first refl)
 some_missing (Some p) None r s a b c d first second third fourth none = ap (λ (n : Option ℕ). row_of_numbers a n c d) (second refl) ∙ no_second a c d
 some_missing (Some p) (Some q) None s a b c d first second third fourth none = ap (λ (n : Option ℕ). row_of_numbers a b n d) (third refl) ∙ no_third a b d
-some_missing (Some p) (Some q) (Some r) None a b c d first second third fourth none = ap (λ (n : Option ℕ). row_of_numbers a b c n) (fourth refl) ∙ no_fourth a b c
+some_missing (Some p) (Some q) (Some r) None a b c d first second third fourth none = ap (λ (n : Option ℕ). row_of_numbers a b c n) (fourth refl)
+    ∙ no_fourth a b c
 some_missing (Some p) (Some q) (Some r) (Some s) a b c d first second third fourth none = absurd cc
 
 -- ---- the row
 
-four_behind : (f g h k l : List ℕ) (texts : RowTexts) → four_texts (digits_said (Some g)) (digits_said (Some h)) (digits_said (Some k)) (digits_said (Some l)) ≡ Some texts
+four_behind : (f g h k l : List ℕ) (texts : RowTexts)
+    → four_texts (digits_said (Some g)) (digits_said (Some h)) (digits_said (Some k)) (digits_said (Some l)) ≡ Some texts
     → row_of_line (texts_line texts) ≡ row_behind (f ∷ g ∷ h ∷ k ∷ l ∷ [])
 four_behind f g h k l texts is =
     let four = all_four (digits_said (Some g)) (digits_said (Some h)) (digits_said (Some k)) (digits_said (Some l)) texts is in
@@ -97,7 +101,8 @@ four_behind f g h k l texts is =
     (number_of_field g) (number_of_field h) (number_of_field k) (number_of_field l) time.same origin.same destination.same persons.same
 
 digits_row : (fields : List (List ℕ)) (texts : RowTexts) → length fields ≡ 5
-    → Some texts ≡ four_texts (digits_said (field_at fields 1)) (digits_said (field_at fields 2)) (digits_said (field_at fields 3)) (digits_said (field_at fields 4))
+    → Some texts ≡ four_texts (digits_said (field_at fields 1)) (digits_said (field_at fields 2)) (digits_said (field_at fields 3))
+    (digits_said (field_at fields 4))
     → row_of_line (texts_line texts) ≡ row_behind fields
 unfolding field_at
 digits_row [] texts five is = absurd (omega (arith, five))
@@ -132,7 +137,8 @@ other_count (f ∷ g ∷ h ∷ k ∷ l ∷ []) other = absurd (other refl)
 other_count (f ∷ g ∷ h ∷ k ∷ l ∷ m ∷ rest) other = refl
 
 pub row_made : {E : Type 0} (fields : List (List ℕ)) (texts : RowTexts) (made : Result BankRow E) → length fields ≡ 5
-    → Some texts ≡ four_texts (digits_said (field_at fields 1)) (digits_said (field_at fields 2)) (digits_said (field_at fields 3)) (digits_said (field_at fields 4))
+    → Some texts ≡ four_texts (digits_said (field_at fields 1)) (digits_said (field_at fields 2)) (digits_said (field_at fields 3))
+    (digits_said (field_at fields 4))
     → IfOk made (λ row. row_said row ≡ row_of_line (texts_line texts)) → IfOk made (λ row. row_said row ≡ row_behind fields)
 row_made fields texts (Ok row) five is made = made ∙ digits_row fields texts five is
 row_made fields texts (Err error) five is made = tt
@@ -144,7 +150,8 @@ unfolding field_at
 nothing_said [] none = refl
 nothing_said (f ∷ rest) none = ap (option_map (said_with (row_of_fields rest))) none
 
-pub both_said : (fields : List (List ℕ)) (id : ℕ) (row : Option Row) → Some id ≡ id_said (field_at fields 0) → row ≡ row_behind fields → Some (said_with row id) ≡ said_of_fields fields
+pub both_said : (fields : List (List ℕ)) (id : ℕ) (row : Option Row) → Some id ≡ id_said (field_at fields 0) → row ≡ row_behind fields
+    → Some (said_with row id) ≡ said_of_fields fields
 unfolding field_at
 both_said [] id row is same = absurd cc
 both_said (f ∷ rest) id row is same = ap (λ (r : Option Row). Some (said_with r id)) same ∙ ap (option_map (said_with (row_of_fields rest))) is

@@ -1,5 +1,6 @@
 -- What a line of rows says: the id of a bank, and a row of it.
-use Rattle.std.specs.Prelude.{ℕ, ◌==◌, ◌&&◌, nat_lt, not, List, [], ◌∷◌, ◌++◌, map, length, count_by, Bool, false, Option, None, Some, option_map, if◌then◌else◌}
+use Rattle.std.specs.Prelude.{ℕ, ◌==◌, ◌&&◌, nat_lt, not, List, [], ◌∷◌, ◌++◌, map, length, count_by, Bool, false, Option, None, Some, option_map}
+use Rattle.std.specs.Prelude.{if◌then◌else◌}
 use Rattle.std.specs.List.{filter_map, list_all, list_any}
 use Rattle.std.specs.Char.{is_ascii_digit}
 use Rattle.search_model.specs.Days.{Row}
@@ -112,7 +113,8 @@ four_texts None origin destination persons = None
 four_texts (Some time) None destination persons = None
 four_texts (Some time) (Some origin) None persons = None
 four_texts (Some time) (Some origin) (Some destination) None = None
-four_texts (Some time) (Some origin) (Some destination) (Some persons) = Some (record { time = time; origin = origin; destination = destination; persons = persons })
+four_texts (Some time) (Some origin) (Some destination) (Some persons) =
+    Some (record { time = time; origin = origin; destination = destination; persons = persons })
 
 -- the line of four numbers
 abbrev pub texts_line : RowTexts → List ℕ

@@ -1,5 +1,6 @@
 -- Which texts are banks and their rows, and what is wrong with any other.
-use Rattle.std.specs.Prelude.{◌≡◌, ℕ, ◌≤◌, ◌<◌, ◌⊎◌, Bool, true, false, List, [], ◌∷◌, ◌++◌, map, length, All, Contains, Option, None, Some, IfSome, IsSomeAnd, Result, Ok, Err}
+use Rattle.std.specs.Prelude.{◌≡◌, ℕ, ◌≤◌, ◌<◌, ◌⊎◌, Bool, true, false, List, [], ◌∷◌, ◌++◌, map, length, All, Contains, Option, None, Some, IfSome, IsSomeAnd}
+use Rattle.std.specs.Prelude.{Result, Ok, Err}
 use Rattle.elevator_model.specs.Snapshot.{Snapshot, IsAccepted}
 use Rattle.lift_text.specs.Reading.{TextState, reading, whole_text}
 use Rattle.lift_text.specs.Shows.{ShowsEnd, FaultShows}
@@ -157,7 +158,8 @@ pub record IsFaultInRows (text : TextState) (fault : TextFault) : Type 0 where
 
 -- The first fault of a text: of its first line; where a bank or the line `rows` is due; of the header; of the rows.
 abbrev pub IsBanksFault : TextState → BankFault → Type 0
-IsBanksFault text (Text fault) = IsUnsaid first_said (reading text) fault ⊎ (IsFaultBehindBanks text (Text fault) ⊎ (IsFaultOfBankHeader text fault ⊎ IsFaultInRows text fault))
+IsBanksFault text (Text fault) = IsUnsaid first_said (reading text) fault
+    ⊎ (IsFaultBehindBanks text (Text fault) ⊎ (IsFaultOfBankHeader text fault ⊎ IsFaultInRows text fault))
 IsBanksFault text (UsedId line) = IsFaultBehindBanks text (UsedId line)
 IsBanksFault text (TooMany line) = IsFaultBehindBanks text (TooMany line)
 
@@ -238,10 +240,14 @@ pub record AreHeadsRead (begun : Option TextState) (banks : List Bank) (after : 
   pub heads : List BankHead
   pub views_are : views_of banks ≡ map opened heads
   pub ready : All (λ head. IsReadyOpening head.opening) heads
-  pub read : IfSome begun (λ text. IsSomeAnd after (λ behind. (last : TextState) × BanksBetween [] text heads last × SaysNext (head_said (has_some (head_ids heads))) last RowsLine behind))
+  pub read : IfSome begun
+      (λ text. IsSomeAnd after
+      (λ behind. (last : TextState) × BanksBetween [] text heads last × SaysNext (head_said (has_some (head_ids heads))) last RowsLine behind))
 
 abbrev pub AreHeadsRefused : Option TextState → BankFault → Type 0
-AreHeadsRefused begun fault = IfSome begun (λ text. TellsBanks fault ((heads : List BankHead) × (last : TextState) × BanksBetween [] text heads last × IsFaultDue (head_ids heads) last fault))
+AreHeadsRefused begun fault =
+    IfSome begun (λ text. TellsBanks fault
+    ((heads : List BankHead) × (last : TextState) × BanksBetween [] text heads last × IsFaultDue (head_ids heads) last fault))
 
 -- ---- all rows
 

@@ -9,7 +9,8 @@ use Rattle.day_text.specs.Headers.{HeaderInFront}
 use Rattle.day_text.specs.DayOpenings.{IsAnswered}
 use Rattle.bank_text.specs.Heads.{head_said}
 use Rattle.bank_text.specs.Banks.{BankView, AreRowsRead, ids_of, views_of}
-use Rattle.bank_text.specs.BankTexts.{AreBanksIn, BankHead, BankInFront, BanksBetween, IsNewBank, OpeningInFront, SaysNext, TellsBanks, has_some, head_ids, opened}
+use Rattle.bank_text.specs.BankTexts.{AreBanksIn, BankHead, BankInFront, BanksBetween, IsNewBank, OpeningInFront, SaysNext, TellsBanks, has_some, head_ids}
+use Rattle.bank_text.specs.BankTexts.{opened}
 use Rattle.bank_text.specs.declared.banks.Bank.{Bank}
 use Rattle.bank_text.specs.declared.reading.BankInput.{BankInput}
 use Rattle.bank_text.specs.declared.heads.Head.TheVariants.{Rows as RowsLine}
@@ -26,7 +27,8 @@ IsPutAnswered view behind old (Err fault) new now = Tells fault ⊥
 
 -- the same behind the line of a bank
 abbrev pub TakesBank : Option TextState → ℕ → List Bank → Result Unit TextFault → List Bank → Option TextState → Type 0
-TakesBank named id old answer new now = (s : Snapshot) (behind : TextState) → IfSome named (λ text. OpeningInFront text s behind → IsPutAnswered (opened (record { id = id; opening = s })) behind old answer new now)
+TakesBank named id old answer new now = (s : Snapshot) (behind : TextState)
+    → IfSome named (λ text. OpeningInFront text s behind → IsPutAnswered (opened (record { id = id; opening = s })) behind old answer new now)
 
 abbrev pub IsNextAnswered : BankView → TextState → List Bank → Result Bool BankFault → List Bank → Option TextState → Type 0
 IsNextAnswered view behind old (Ok true) new now = (views_of new ≡ views_of old ++ view ∷ []) × (now ≡ Some behind)
@@ -40,7 +42,8 @@ AreRowsAnswered behind (Err fault) now = TellsBanks fault ⊥
 
 -- where a bank that may come is next it is read, and so is the line `rows`
 pub record TakesNextOf (text : TextState) (old : List Bank) (answer : Result Bool BankFault) (new : List Bank) (now : Option TextState) : Type 0 where
-  pub bank : (head : BankHead) (behind : TextState) → BankInFront (has_some (ids_of old)) text head behind → IsNewBank (ids_of old) head.id → IsNextAnswered (opened head) behind old answer new now
+  pub bank : (head : BankHead) (behind : TextState) → BankInFront (has_some (ids_of old)) text head behind → IsNewBank (ids_of old) head.id
+      → IsNextAnswered (opened head) behind old answer new now
   pub rows : (behind : TextState) → SaysNext (head_said (has_some (ids_of old))) text RowsLine behind → AreRowsAnswered behind answer now
 
 abbrev pub TakesNext : Option TextState → List Bank → Result Bool BankFault → List Bank → Option TextState → Type 0
@@ -53,7 +56,8 @@ AreHeadsAnswered heads behind (Err fault) new now = TellsBanks fault ⊥
 -- where banks and the line `rows` are in front, they are read
 abbrev pub TakesHeads : Option TextState → Result Unit BankFault → List Bank → Option TextState → Type 0
 TakesHeads begun answer new now = (heads : List BankHead) (last behind : TextState)
-    → IfSome begun (λ text. BanksBetween [] text heads last → SaysNext (head_said (has_some (head_ids heads))) last RowsLine behind → AreHeadsAnswered heads behind answer new now)
+    → IfSome begun (λ text. BanksBetween [] text heads last → SaysNext (head_said (has_some (head_ids heads))) last RowsLine behind
+    → AreHeadsAnswered heads behind answer new now)
 
 abbrev pub AreAllRowsAnswered : TextState → List Bank → Result ℕ TextFault → List Bank → Type 0
 AreAllRowsAnswered rows old (Ok strays) new = AreRowsRead rows old new strays
@@ -61,7 +65,8 @@ AreAllRowsAnswered rows old (Err fault) new = Tells fault ⊥
 
 -- where the header is in front of rows that are not too long, they are read
 abbrev pub TakesRows : Option TextState → List Bank → Result ℕ TextFault → List Bank → Type 0
-TakesRows before old answer new = (rows : TextState) → IfSome before (λ text. HeaderInFront BankRows text rows → length rows.bytes ≤ rows.limit → AreAllRowsAnswered rows old answer new)
+TakesRows before old answer new = (rows : TextState)
+    → IfSome before (λ text. HeaderInFront BankRows text rows → length rows.bytes ≤ rows.limit → AreAllRowsAnswered rows old answer new)
 
 -- these banks and strays are answered: only a failed read and want of memory come in their place
 abbrev pub AreBanksAnswered : List BankView → ℕ → Result ℕ BankFault → List Bank → Type 0
@@ -70,7 +75,8 @@ AreBanksAnswered views strays (Err fault) banks = TellsBanks fault ⊥
 
 -- where a text is banks with their rows, these are read
 abbrev pub TakesBanks : Option TextState → Result ℕ BankFault → List Bank → Type 0
-TakesBanks before answer banks = (views : List BankView) (strays : ℕ) → IfSome before (λ text. AreBanksIn text views strays → AreBanksAnswered views strays answer banks)
+TakesBanks before answer banks = (views : List BankView) (strays : ℕ)
+    → IfSome before (λ text. AreBanksIn text views strays → AreBanksAnswered views strays answer banks)
 
 abbrev pub IsInputAnswered : List BankView → ℕ → Result BankInput BankFault → Type 0
 IsInputAnswered views strays (Ok input) = (views_of input.banks.items ≡ views) × (input.strays ≡ strays)

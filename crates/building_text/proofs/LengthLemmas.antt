@@ -1,5 +1,6 @@
 -- The lines that are written of a building are lines of words, none over long.
-use Rattle.std.proofs.Common.{◌≡◌, ℕ, zero, suc, ◌+◌, ◌-◌, ◌*◌, ◌^◌, ◌<◌, ◌≤◌, Bool, true, false, cond, List, [], ◌∷◌, ◌++◌, length, map, get_or, ap, arith, ◌∙◌, sym, subst, length-append}
+use Rattle.std.proofs.Common.{◌≡◌, ℕ, zero, suc, ◌+◌, ◌-◌, ◌*◌, ◌^◌, ◌<◌, ◌≤◌, Bool, true, false, cond, List, [], ◌∷◌, ◌++◌, length, map, get_or, ap, arith}
+use Rattle.std.proofs.Common.{◌∙◌, sym, subst, length-append}
 use Rattle.std.specs.Prelude.{codes, decimal, ◌==◌, Option, None, Some, Result}
 use Rattle.std.specs.List.{AllByRecursion, range_with_len}
 use Rattle.std.proofs.lemmas.Fmt.{length-decimal-le}
@@ -62,34 +63,136 @@ byte : (b : ℕ) → 97 ≤ b → b ≤ 122 → IsWordByte b
 byte b low high = (omega arith, omega arith, λ e. omega arith)
 
 building_word : IsWord (codes "building")
-building_word = record { some = omega arith; bytes = (byte 98 (omega arith) (omega arith), (byte 117 (omega arith) (omega arith), (byte 105 (omega arith) (omega arith), (byte 108 (omega arith) (omega arith), (byte 100 (omega arith) (omega arith), (byte 105 (omega arith) (omega arith), (byte 110 (omega arith) (omega arith), (byte 103 (omega arith) (omega arith), tt)))))))) }
+building_word = record {
+  some = omega arith;
+  bytes = (
+    byte 98 (omega arith) (omega arith),
+    (
+      byte 117 (omega arith) (omega arith),
+      (
+        byte 105 (omega arith) (omega arith),
+        (
+          byte 108 (omega arith) (omega arith),
+          (
+            byte 100 (omega arith) (omega arith),
+            (byte 105 (omega arith) (omega arith), (byte 110 (omega arith) (omega arith), (byte 103 (omega arith) (omega arith), tt))),
+          ),
+        ),
+      ),
+    ),
+  );
+}
 
 speed_word : IsWord (codes "speed")
-speed_word = record { some = omega arith; bytes = (byte 115 (omega arith) (omega arith), (byte 112 (omega arith) (omega arith), (byte 101 (omega arith) (omega arith), (byte 101 (omega arith) (omega arith), (byte 100 (omega arith) (omega arith), tt))))) }
+speed_word = record {
+  some = omega arith;
+  bytes = (
+    byte 115 (omega arith) (omega arith),
+    (
+      byte 112 (omega arith) (omega arith),
+      (byte 101 (omega arith) (omega arith), (byte 101 (omega arith) (omega arith), (byte 100 (omega arith) (omega arith), tt))),
+    ),
+  );
+}
 
 accel_word : IsWord (codes "accel")
-accel_word = record { some = omega arith; bytes = (byte 97 (omega arith) (omega arith), (byte 99 (omega arith) (omega arith), (byte 99 (omega arith) (omega arith), (byte 101 (omega arith) (omega arith), (byte 108 (omega arith) (omega arith), tt))))) }
+accel_word = record {
+  some = omega arith;
+  bytes = (
+    byte 97 (omega arith) (omega arith),
+    (
+      byte 99 (omega arith) (omega arith),
+      (byte 99 (omega arith) (omega arith), (byte 101 (omega arith) (omega arith), (byte 108 (omega arith) (omega arith), tt))),
+    ),
+  );
+}
 
 weights_word : IsWord (codes "weights")
-weights_word = record { some = omega arith; bytes = (byte 119 (omega arith) (omega arith), (byte 101 (omega arith) (omega arith), (byte 105 (omega arith) (omega arith), (byte 103 (omega arith) (omega arith), (byte 104 (omega arith) (omega arith), (byte 116 (omega arith) (omega arith), (byte 115 (omega arith) (omega arith), tt))))))) }
+weights_word = record {
+  some = omega arith;
+  bytes = (
+    byte 119 (omega arith) (omega arith),
+    (
+      byte 101 (omega arith) (omega arith),
+      (
+        byte 105 (omega arith) (omega arith),
+        (
+          byte 103 (omega arith) (omega arith),
+          (byte 104 (omega arith) (omega arith), (byte 116 (omega arith) (omega arith), (byte 115 (omega arith) (omega arith), tt))),
+        ),
+      ),
+    ),
+  );
+}
 
 patience_word : IsWord (codes "patience")
-patience_word = record { some = omega arith; bytes = (byte 112 (omega arith) (omega arith), (byte 97 (omega arith) (omega arith), (byte 116 (omega arith) (omega arith), (byte 105 (omega arith) (omega arith), (byte 101 (omega arith) (omega arith), (byte 110 (omega arith) (omega arith), (byte 99 (omega arith) (omega arith), (byte 101 (omega arith) (omega arith), tt)))))))) }
+patience_word = record {
+  some = omega arith;
+  bytes = (
+    byte 112 (omega arith) (omega arith),
+    (
+      byte 97 (omega arith) (omega arith),
+      (
+        byte 116 (omega arith) (omega arith),
+        (
+          byte 105 (omega arith) (omega arith),
+          (
+            byte 101 (omega arith) (omega arith),
+            (byte 110 (omega arith) (omega arith), (byte 99 (omega arith) (omega arith), (byte 101 (omega arith) (omega arith), tt))),
+          ),
+        ),
+      ),
+    ),
+  );
+}
 
 floors_word : IsWord (codes "floors")
-floors_word = record { some = omega arith; bytes = (byte 102 (omega arith) (omega arith), (byte 108 (omega arith) (omega arith), (byte 111 (omega arith) (omega arith), (byte 111 (omega arith) (omega arith), (byte 114 (omega arith) (omega arith), (byte 115 (omega arith) (omega arith), tt)))))) }
+floors_word = record {
+  some = omega arith;
+  bytes = (
+    byte 102 (omega arith) (omega arith),
+    (
+      byte 108 (omega arith) (omega arith),
+      (
+        byte 111 (omega arith) (omega arith),
+        (byte 111 (omega arith) (omega arith), (byte 114 (omega arith) (omega arith), (byte 115 (omega arith) (omega arith), tt))),
+      ),
+    ),
+  );
+}
 
 times_word : IsWord (codes "times")
-times_word = record { some = omega arith; bytes = (byte 116 (omega arith) (omega arith), (byte 105 (omega arith) (omega arith), (byte 109 (omega arith) (omega arith), (byte 101 (omega arith) (omega arith), (byte 115 (omega arith) (omega arith), tt))))) }
+times_word = record {
+  some = omega arith;
+  bytes = (
+    byte 116 (omega arith) (omega arith),
+    (
+      byte 105 (omega arith) (omega arith),
+      (byte 109 (omega arith) (omega arith), (byte 101 (omega arith) (omega arith), (byte 115 (omega arith) (omega arith), tt))),
+    ),
+  );
+}
 
 car_word : IsWord (codes "car")
-car_word = record { some = omega arith; bytes = (byte 99 (omega arith) (omega arith), (byte 97 (omega arith) (omega arith), (byte 114 (omega arith) (omega arith), tt))) }
+car_word = record {
+  some = omega arith;
+  bytes =
+      (byte 99 (omega arith) (omega arith), (byte 97 (omega arith) (omega arith), (byte 114 (omega arith) (omega arith), tt)));
+}
 
 all_word : IsWord (codes "all")
-all_word = record { some = omega arith; bytes = (byte 97 (omega arith) (omega arith), (byte 108 (omega arith) (omega arith), (byte 108 (omega arith) (omega arith), tt))) }
+all_word = record {
+  some = omega arith;
+  bytes =
+      (byte 97 (omega arith) (omega arith), (byte 108 (omega arith) (omega arith), (byte 108 (omega arith) (omega arith), tt)));
+}
 
 end_word : IsWord (codes "end")
-end_word = record { some = omega arith; bytes = (byte 101 (omega arith) (omega arith), (byte 110 (omega arith) (omega arith), (byte 100 (omega arith) (omega arith), tt))) }
+end_word = record {
+  some = omega arith;
+  bytes =
+      (byte 101 (omega arith) (omega arith), (byte 110 (omega arith) (omega arith), (byte 100 (omega arith) (omega arith), tt)));
+}
 
 -- ---- the lines of a building
 
@@ -99,7 +202,8 @@ tens_of (n ∷ ns) high le all = let here = all.0.1 in ((omega arith, omega arit
 
 patience_short : (one : Bool) (p w : ℕ) → p ≤ 1000000000 → w ≤ 1000 → AllByRecursion IsLineOfWords (cond one [] (named (codes "patience") (p ∷ w ∷ []) ∷ []))
 patience_short true p w first second = tt
-patience_short false p w first second = (named_short (codes "patience") (p ∷ w ∷ []) patience_word (omega arith) ((omega arith, omega arith), ((omega arith, omega arith), tt)), tt)
+patience_short false p w first second =
+    (named_short (codes "patience") (p ∷ w ∷ []) patience_word (omega arith) ((omega arith, omega arith), ((omega arith, omega arith), tt)), tt)
 
 row_short : (t : Square) (k : ℕ) → IsTravelSquare t → k < t.floors → IsLineOfWords (row_line t.floors t k)
 row_short t k is below =
@@ -107,13 +211,15 @@ row_short t k is below =
     let wide = length-map (range_with_len 0 t.floors) (time_between t k) in
     let size = range_length 0 t.floors in
     let few = is.floors_high in
-    named_short (codes "times") row times_word (omega arith) (tens_of row 20000000 (omega arith) (range_within 0 t.floors (time_between t k) 20000000 (λ g within. is.bounded k g below (omega arith))))
+    named_short (codes "times") row times_word (omega arith)
+    (tens_of row 20000000 (omega arith) (range_within 0 t.floors (time_between t k) 20000000 (λ g within. is.bounded k g below (omega arith))))
 
 rows_short : (t : Square) (m k : ℕ) → IsTravelSquare t → k + m ≡ t.floors → AllByRecursion IsLineOfWords (map (row_line t.floors t) (range_with_len k m))
 rows_short t zero k is at = tt
 rows_short t (suc m) k is at = (row_short t k is (omega arith), rows_short t m (k + 1) is (omega arith))
 
-times_short : (stated : Bool) (t : Square) → IsTravelSquare t → AllByRecursion IsLineOfWords (cond stated (map (row_line t.floors t) (range_with_len 0 t.floors)) [])
+times_short : (stated : Bool) (t : Square) → IsTravelSquare t
+    → AllByRecursion IsLineOfWords (cond stated (map (row_line t.floors t) (range_with_len 0 t.floors)) [])
 times_short true t is = rows_short t t.floors 0 is (omega arith)
 times_short false t is = tt
 
@@ -134,12 +240,24 @@ car_short floors car le id is =
     let e4 = is.closing in
     let e5 = is.boarding in
     let e6 = is.alighting in
-    let tens : AllByRecursion IsTen ns = ((omega arith, omega arith), ((omega arith, omega arith), ((omega arith, omega arith), ((omega arith, omega arith), ((omega arith, omega arith), ((omega arith, omega arith), tt)))))) in
-    line_short (codes "car") (map decimal ns ++ served_words floors car.serves) 770 car_word (omega arith) (short_append (map decimal ns) (served_words floors car.serves) 66 704 (numbers_short ns tens) (served_short (car.serves == 2 ^ floors - 1) floors car.serves le))
+    let tens : AllByRecursion IsTen ns = (
+      (omega arith, omega arith),
+      (
+        (omega arith, omega arith),
+        ((omega arith, omega arith), ((omega arith, omega arith), ((omega arith, omega arith), ((omega arith, omega arith), tt)))),
+      ),
+    ) in
+    line_short (codes "car") (map decimal ns ++ served_words floors car.serves) 770 car_word (omega arith)
+    (short_append (map decimal ns) (served_words floors car.serves) 66 704 (numbers_short ns tens)
+    (served_short (car.serves == 2 ^ floors - 1) floors car.serves le))
 
-cars_short : (floors : ℕ) (cars : List CarSpec) → floors ≤ 64 → ((c : ℕ) → c < length cars → (get_or cars c no_car).id < 2 ^ 32) → ((c : ℕ) → c < length cars → IsCarSpec floors (get_or cars c no_car)) → AllByRecursion IsLineOfWords (map (car_line floors) cars)
+cars_short : (floors : ℕ) (cars : List CarSpec) → floors ≤ 64 → ((c : ℕ) → c < length cars → (get_or cars c no_car).id < 2 ^ 32)
+    → ((c : ℕ) → c < length cars → IsCarSpec floors (get_or cars c no_car)) → AllByRecursion IsLineOfWords (map (car_line floors) cars)
 cars_short floors [] le ids each = tt
-cars_short floors (car ∷ cars) le ids each = (car_short floors car le (ids 0 (omega arith)) (each 0 (omega arith)), cars_short floors cars le (λ c within. ids (suc c) (omega arith)) (λ c within. each (suc c) (omega arith)))
+cars_short floors (car ∷ cars) le ids each = (
+  car_short floors car le (ids 0 (omega arith)) (each 0 (omega arith)),
+  cars_short floors cars le (λ c within. ids (suc c) (omega arith)) (λ c within. each (suc c) (omega arith)),
+)
 
 lines_all : (xs ys : List Line) → AllByRecursion IsLineOfWords xs → AllByRecursion IsLineOfWords ys → AllByRecursion IsLineOfWords (xs ++ ys)
 lines_all [] ys all more = more
@@ -157,16 +275,20 @@ building_short b has_text =
     let end : IsLineOfWords end_line = named_short (codes "end") [] end_word (omega arith) tt in
     let cars = cars_short (floor_count b) b.cars is.floors_high has_text.ids is.cars in
     let times : AllByRecursion IsLineOfWords (cond (b.version == 3) (map (row_line (floor_count b) b.travel) (range_with_len 0 (floor_count b))) []) =
-    subst (λ n. AllByRecursion IsLineOfWords (cond (b.version == 3) (map (row_line n b.travel) (range_with_len 0 n)) [])) is.travel_floors (times_short (b.version == 3) b.travel is.travel) in
-    let heights = named_short (codes "floors") b.heights floors_word (omega arith) (tens_of b.heights 1000000 (omega arith) (all_low b.heights 1000000 is.heights)) in (
+    subst (λ n. AllByRecursion IsLineOfWords (cond (b.version == 3) (map (row_line n b.travel) (range_with_len 0 n)) [])) is.travel_floors
+    (times_short (b.version == 3) b.travel is.travel) in
+    let heights = named_short (codes "floors") b.heights floors_word (omega arith)
+    (tens_of b.heights 1000000 (omega arith) (all_low b.heights 1000000 is.heights)) in (
       one_short (codes "building") b.version 3 building_word (omega arith) (omega arith) is.version_high,
       (
         one_short (codes "speed") b.speed 20000 speed_word (omega arith) (omega arith) is.speed_high,
         (
           one_short (codes "accel") b.accel 5000 accel_word (omega arith) (omega arith) is.accel_high,
           (
-            named_short (codes "weights") (b.wait_weight ∷ b.travel_weight ∷ []) weights_word (omega arith) ((omega arith, omega arith), ((omega arith, omega arith), tt)),
-            lines_all (cond (b.version == 1) [] (named (codes "patience") (b.patience ∷ b.patience_weight ∷ []) ∷ [])) _ (patience_short (b.version == 1) b.patience b.patience_weight is.patience is.patience_weight)
+            named_short (codes "weights") (b.wait_weight ∷ b.travel_weight ∷ []) weights_word (omega arith)
+                ((omega arith, omega arith), ((omega arith, omega arith), tt)),
+            lines_all (cond (b.version == 1) [] (named (codes "patience") (b.patience ∷ b.patience_weight ∷ []) ∷ [])) _
+                (patience_short (b.version == 1) b.patience b.patience_weight is.patience is.patience_weight)
                 (heights, lines_all _ _ times (lines_all (map (car_line (floor_count b)) b.cars) (end_line ∷ []) cars (end, tt))),
           ),
         ),
@@ -181,5 +303,6 @@ written_answer None now answer takes b tail has_text = tt
 written_answer (Some text) now answer takes b tail has_text = λ begins room.
     (let lines = building_lines b in
     let rest = reading (record { line = text.line + length lines; limit = text.limit - length (lines_text lines); bytes = tail }) in
-    let front = subst (λ bytes. BeginsWith lines (reading (record { line = text.line; limit = text.limit; bytes = bytes })) rest) (sym begins) (lines_again lines text.line text.limit tail (building_short b has_text) room) in
+    let front = subst (λ bytes. BeginsWith lines (reading (record { line = text.line; limit = text.limit; bytes = bytes })) rest) (sym begins)
+    (lines_again lines text.line text.limit tail (building_short b has_text) room) in
     takes lines b rest front (stands_again b has_text))

@@ -1,5 +1,6 @@
 -- From what was read of the lines of a building to the lines themselves.
-use Rattle.std.proofs.Common.{◌≡◌, ℕ, zero, suc, ◌+◌, ◌-◌, ◌*◌, ◌/◌, ◌<◌, ◌≤◌, Bool, true, false, cond, List, [], ◌∷◌, ◌++◌, length, Some, Ok, Err, ap, refl, arith, ◌∙◌, sym, subst, append_assoc, append-nil, length-append}
+use Rattle.std.proofs.Common.{◌≡◌, ℕ, zero, suc, ◌+◌, ◌-◌, ◌*◌, ◌/◌, ◌<◌, ◌≤◌, Bool, true, false, cond, List, [], ◌∷◌, ◌++◌, length, Some, Ok, Err, ap, refl}
+use Rattle.std.proofs.Common.{arith, ◌∙◌, sym, subst, append_assoc, append-nil, length-append}
 use Rattle.std.specs.Prelude.{codes, nat_lt, ◌==◌}
 use Rattle.std.proofs.lemmas.Bool.Decides.{nat_tests}
 use Rattle.std.proofs.Math.Nat.{mul-div_cancel}
@@ -37,14 +38,24 @@ pub record Saying {X : Type 0} (said : Line → Judged X) (next : X → Draft) (
   pub was : said line ≡ Ok value
   pub reads : Reads (next value) rest end
 
-took_saying : {X : Type 0} (d : Draft) (lines : List Line) (end : Draft) (said : Line → Judged X) (next : X → Draft) → ((words : Line) → taken d.due d words ≡ (said words >>= λ x. Ok (next x))) → may_end d.due ≡ false → Reads d lines end
+took_saying : {X : Type 0} (d : Draft) (lines : List Line) (end : Draft) (said : Line → Judged X) (next : X → Draft)
+    → ((words : Line) → taken d.due d words ≡ (said words >>= λ x. Ok (next x))) → may_end d.due ≡ false → Reads d lines end
     → Saying said next (name_of d.due) lines end
 took_saying d lines end said next same early reads =
     let t = due_first d lines end early reads in
     let v = then-inv (said t.line) (λ x. Ok (next x)) t.new (sym (same t.line) ∙ t.was) in
     let is : Ok (next v.0) ≡ Ok t.new = v.2 in
     let new : t.new ≡ next v.0 = cc in
-    record { line = t.line; rest = t.rest; value = v.0; lines_are = t.lines_are; name_is = t.name_is; was = v.1; reads = subst (λ e. Reads e t.rest end) new t.reads }
+    record {
+      line = t.line;
+      rest = t.rest;
+      value = v.0;
+      lines_are = t.lines_are;
+      name_is = t.name_is;
+      was = v.1;
+      reads =
+          subst (λ e. Reads e t.rest end) new t.reads;
+    }
 
 -- ---- patience
 
@@ -57,12 +68,34 @@ pub record PatienceRead (version_one : Bool) (d : Draft) (lines : List Line) (en
   pub are : ArePatienceLines version_one front patience weight
   pub reads : Reads (record d { patience = patience; patience_weight = weight; due = Floors }) rest end
 
-patience_read : (version_one : Bool) (d : Draft) (lines : List Line) (end : Draft) → record d { patience = 0; patience_weight = 0; due = Floors } ≡ record d { due = Floors } → Reads (record d { due = cond version_one Floors Patience }) lines end
+patience_read : (version_one : Bool) (d : Draft) (lines : List Line) (end : Draft)
+    → record d { patience = 0; patience_weight = 0; due = Floors } ≡ record d { due = Floors }
+    → Reads (record d { due = cond version_one Floors Patience }) lines end
     → PatienceRead version_one d lines end
-patience_read true d lines end blank reads = record { front = []; rest = lines; patience = 0; weight = 0; lines_are = refl; are = (refl, refl, refl); reads = subst (λ e. Reads e lines end) (sym blank) reads }
+patience_read true d lines end blank reads =
+    record {
+      front = [];
+      rest = lines;
+      patience = 0;
+      weight = 0;
+      lines_are = refl;
+      are = (refl, refl, refl);
+      reads =
+          subst (λ e. Reads e lines end) (sym blank) reads;
+    }
 patience_read false d lines end blank reads =
-    let t = took_saying (record d { due = Patience }) lines end (λ words. two_numbers words 1000000000 1000) (λ p. record d { patience = p.0; patience_weight = p.1; due = Floors }) (λ words. refl) refl reads in
-    record { front = t.line ∷ []; rest = t.rest; patience = t.value.0; weight = t.value.1; lines_are = t.lines_are; are = (t.line, refl, record { name_is = t.name_is; numbers = t.was }); reads = t.reads }
+    let t = took_saying (record d { due = Patience }) lines end (λ words. two_numbers words 1000000000 1000)
+    (λ p. record d { patience = p.0; patience_weight = p.1; due = Floors }) (λ words. refl) refl reads in
+    record {
+      front = t.line ∷ [];
+      rest = t.rest;
+      patience = t.value.0;
+      weight = t.value.1;
+      lines_are = t.lines_are;
+      are =
+          (t.line, refl, record { name_is = t.name_is; numbers = t.was });
+      reads = t.reads;
+    }
 
 -- ---- stated times
 
@@ -72,7 +105,8 @@ nothing = tt
 pub exactly_ok : (words : Line) (count : ℕ) (done : Unit {0}) → exactly words count ≡ Ok done → length words ≡ count
 exactly_ok words count done is = by_test (nat_lt (length words) count) (nat_lt count (length words)) refl refl is
   where
-    by_test : (few many : Bool) → nat_lt (length words) count ≡ few → nat_lt count (length words) ≡ many → ((cond few (Err Missing) (Ok nothing) >>= λ (_ : Unit {0}). cond many (Err TooMany) (Ok nothing))) ≡ Ok done → length words ≡ count
+    by_test : (few many : Bool) → nat_lt (length words) count ≡ few → nat_lt count (length words) ≡ many
+        → ((cond few (Err Missing) (Ok nothing) >>= λ (_ : Unit {0}). cond many (Err TooMany) (Ok nothing))) ≡ Ok done → length words ≡ count
     by_test true many f m same = absurd cc
     by_test false true f m same = absurd cc
     by_test false false f m same = grind (arith, nat_tests)
@@ -95,7 +129,8 @@ pub record RowJudged (floors floor : ℕ) (words : Line) (read : ℕ × List ℕ
   pub row : row_of floor words ≡ Ok read.1
   pub size : length read.1 ≡ floors
 
-row_judged_ok : (floors floor : ℕ) (before : List ℕ) (words : Line) (read : ℕ × List ℕ) → length before / floors ≡ floor → row_judged (Some floors) before words ≡ Ok read → RowJudged floors floor words read
+row_judged_ok : (floors floor : ℕ) (before : List ℕ) (words : Line) (read : ℕ × List ℕ) → length before / floors ≡ floor
+    → row_judged (Some floors) before words ≡ Ok read → RowJudged floors floor words read
 row_judged_ok floors floor before words read at is =
     let c = then-inv (columns (Some floors) words) (λ n. row_of (length before / n) words >>= λ row. Ok (n, row)) read is in
     let e = then-inv (exactly words (floors + 1)) (λ _. Ok floors) c.0 c.1 in
@@ -126,17 +161,21 @@ last_row : (d new : Draft) (times : List ℕ) → length times ≡ length d.heig
 last_row d new times full is = by_test (length times == length d.heights * length d.heights) (has_triple (square_of (length d.heights) times)) refl refl is
   where
     by_test : (whole triple : Bool) → (length times == length d.heights * length d.heights) ≡ whole → has_triple (square_of (length d.heights) times) ≡ triple
-        → cond {A = Judged Draft} whole (cond {A = Judged Draft} triple (Err ShorterWay) (Ok (record d { times = times; due = FirstCar }))) (Ok (record d { times = times; due = Times })) ≡ Ok new
+        → cond {A = Judged Draft} whole (cond {A = Judged Draft} triple (Err ShorterWay) (Ok (record d { times = times; due = FirstCar })))
+        (Ok (record d { times = times; due = Times })) ≡ Ok new
         → (has_triple (square_of (length d.heights) times) ≡ false) × (new ≡ record d { times = times; due = FirstCar })
     by_test true true w t same = absurd cc
     by_test true false w t same = (t, cc)
     by_test false triple w t same = absurd (eqb-false _ _ w full)
 
-more_rows : (d new : Draft) (times : List ℕ) → length times < length d.heights * length d.heights → with_times d times ≡ Ok new → new ≡ record d { times = times; due = Times }
+more_rows : (d new : Draft) (times : List ℕ) → length times < length d.heights * length d.heights → with_times d times ≡ Ok new
+    → new ≡ record d { times = times; due = Times }
 more_rows d new times few is = by_test (length times == length d.heights * length d.heights) refl is
   where
     by_test : (whole : Bool) → (length times == length d.heights * length d.heights) ≡ whole
-        → cond {A = Judged Draft} whole (cond {A = Judged Draft} (has_triple (square_of (length d.heights) times)) (Err ShorterWay) (Ok (record d { times = times; due = FirstCar }))) (Ok (record d { times = times; due = Times })) ≡ Ok new
+        → cond {A = Judged Draft} whole
+        (cond {A = Judged Draft} (has_triple (square_of (length d.heights) times)) (Err ShorterWay) (Ok (record d { times = times; due = FirstCar })))
+        (Ok (record d { times = times; due = Times })) ≡ Ok new
         → new ≡ record d { times = times; due = Times }
     by_test true w same = let all = eqb-true _ _ w in absurd (omega arith)
     by_test false w same = cc
@@ -145,7 +184,8 @@ pub at_floor : (floor floors : ℕ) (times : List ℕ) → length times ≡ floo
 at_floor floor floors times size some = ap (λ k. k / floors) size ∙ mul-div_cancel floor some
 
 -- what is read where this many floors are left behind this one
-rows_read : (left floor : ℕ) (d : Draft) (lines : List Line) (end : Draft) → 0 < length d.heights → floor + suc left ≡ length d.heights → length d.times ≡ floor * length d.heights → Reads (record d { due = Times }) lines end
+rows_read : (left floor : ℕ) (d : Draft) (lines : List Line) (end : Draft) → 0 < length d.heights → floor + suc left ≡ length d.heights
+    → length d.times ≡ floor * length d.heights → Reads (record d { due = Times }) lines end
     → RowsRead floor d lines end
 rows_read zero floor d lines end some floors size reads =
     let n = length d.heights in
@@ -178,7 +218,8 @@ rows_read (suc left) floor d lines end some floors size reads =
     let grown : length (d.times ++ r.0.1) ≡ (floor + 1) * n = grow floor n (length d.times) (length r.0.1) (length (d.times ++ r.0.1)) size row_size long in
     let few : length (d.times ++ r.0.1) < n * n = fewer left floor n (length (d.times ++ r.0.1)) floors grown in
     let new_is = more_rows (record d { due = Times }) t.new (d.times ++ r.0.1) few r.2 in
-    let further = rows_read left (floor + 1) (record d { times = d.times ++ r.0.1 }) t.rest end some (omega arith) grown (subst (λ e. Reads e t.rest end) new_is t.reads) in
+    let further = rows_read left (floor + 1) (record d { times = d.times ++ r.0.1 }) t.rest end some (omega arith) grown
+    (subst (λ e. Reads e t.rest end) new_is t.reads) in
     let joined = append_assoc d.times r.0.1 further.later in
     record {
       front = t.line ∷ further.front;
@@ -209,10 +250,12 @@ pub record CarsRead (d : Draft) (lines : List Line) (end : Draft) : Type 0 where
   pub end_is : end ≡ record d { cars = d.cars ++ later; due = NextCar }
 
 abbrev CarsFurther : Draft → List Line → Draft → Type 0
-CarsFurther d lines end = (car : CarSpec) → Reads (record d { cars = d.cars ++ car ∷ []; due = NextCar }) lines end → CarsRead (record d { cars = d.cars ++ car ∷ [] }) lines end
+CarsFurther d lines end = (car : CarSpec) → Reads (record d { cars = d.cars ++ car ∷ []; due = NextCar }) lines end
+    → CarsRead (record d { cars = d.cars ++ car ∷ [] }) lines end
 
 -- one more car before those that were read
-car_before : (d : Draft) (words : Line) (lines : List Line) (end : Draft) (car : CarSpec) → Begins words (codes "car") → car_of_line (length d.heights) (most_cars d.version) d.cars words ≡ Ok car → CarsRead (record d { cars = d.cars ++ car ∷ [] }) lines end
+car_before : (d : Draft) (words : Line) (lines : List Line) (end : Draft) (car : CarSpec) → Begins words (codes "car")
+    → car_of_line (length d.heights) (most_cars d.version) d.cars words ≡ Ok car → CarsRead (record d { cars = d.cars ++ car ∷ [] }) lines end
     → CarsRead d (words ∷ lines) end
 car_before d words lines end car named was further = record {
   front = words ∷ further.front;
@@ -226,9 +269,11 @@ car_before d words lines end car named was further = record {
 }
 
 cars_step : (d : Draft) (words : Line) (lines : List Line) (end : Draft) (ends due : Bool) (alone : Judged Unit) (said : Judged CarSpec) (bad : TextCode)
-    → is_word words 0 (codes "end") ≡ ends → is_word words 0 (codes "car") ≡ due → exactly words 1 ≡ alone → car_of_line (length d.heights) (most_cars d.version) d.cars words ≡ said
+    → is_word words 0 (codes "end") ≡ ends → is_word words 0 (codes "car") ≡ due → exactly words 1 ≡ alone
+    → car_of_line (length d.heights) (most_cars d.version) d.cars words ≡ said
     → CarsFurther d lines end
-    → Then (step_of (cond ends (alone >>= λ _. Ok (is_whole (record d { due = NextCar }))) (cond due ((said >>= λ car. Ok (with_car d car)) >>= λ new. Ok (goes_on new)) (Err bad)))) lines end (λ new. Reads new lines end)
+    → Then (step_of (cond ends (alone >>= λ _. Ok (is_whole (record d { due = NextCar })))
+    (cond due ((said >>= λ car. Ok (with_car d car)) >>= λ new. Ok (goes_on new)) (Err bad)))) lines end (λ new. Reads new lines end)
     → CarsRead d (words ∷ lines) end
 cars_step d words lines end true due (Ok done) said bad e f a s further whole = record {
   front = [];
@@ -248,7 +293,8 @@ cars_step d words lines end false false alone said bad e f a s further reads = a
 cars_read : (d : Draft) (lines : List Line) (end : Draft) → Reads (record d { due = NextCar }) lines end → CarsRead d lines end
 cars_read d [] end reads = absurd reads
 cars_read d (words ∷ lines) end reads =
-    cars_step d words lines end (is_word words 0 (codes "end")) (is_word words 0 (codes "car")) (exactly words 1) (car_of_line (length d.heights) (most_cars d.version) d.cars words) (misplaced NextCar d.version words) refl refl refl refl
+    cars_step d words lines end (is_word words 0 (codes "end")) (is_word words 0 (codes "car")) (exactly words 1)
+    (car_of_line (length d.heights) (most_cars d.version) d.cars words) (misplaced NextCar d.version words) refl refl refl refl
     (λ car more. cars_read (record d { cars = d.cars ++ car ∷ [] }) lines end more)
     reads
 
@@ -256,10 +302,12 @@ longer : (n : ℕ) → 0 < suc n
 longer n = omega arith
 
 -- the first car has to come
-first_car : (d : Draft) (lines : List Line) (end : Draft) → Reads (record d { due = FirstCar }) lines end → (read : CarsRead d lines end) × (0 < length read.later)
+first_car : (d : Draft) (lines : List Line) (end : Draft) → Reads (record d { due = FirstCar }) lines end → (read : CarsRead d lines end)
+    × (0 < length read.later)
 unfolding car_before
 first_car d lines end reads =
-    let t = took_saying (record d { due = FirstCar }) lines end (λ words. car_of_line (length d.heights) (most_cars d.version) d.cars words) (λ car. with_car d car) (λ words. refl) refl reads in
+    let t = took_saying (record d { due = FirstCar }) lines end (λ words. car_of_line (length d.heights) (most_cars d.version) d.cars words)
+    (λ car. with_car d car) (λ words. refl) refl reads in
     let further = cars_read (record d { cars = d.cars ++ t.value ∷ [] }) t.rest end t.reads in
     let whole = car_before d t.line t.rest end t.value t.name_is t.was further in
     subst (λ ls. (read : CarsRead d ls end) × (0 < length read.later)) (sym t.lines_are) (whole, longer (length further.later))
@@ -274,9 +322,11 @@ pub record TimesRead (stated : Bool) (d : Draft) (lines : List Line) (end : Draf
   pub are : AreTimesLines stated (length d.heights) front times
   pub reads : Reads (record d { times = times; due = FirstCar }) rest end
 
-times_read : (stated : Bool) (d : Draft) (lines : List Line) (end : Draft) → 0 < length d.heights → d.times ≡ [] → record d { times = []; due = FirstCar } ≡ record d { due = FirstCar } → Reads (record d { due = cond stated Times FirstCar }) lines end
+times_read : (stated : Bool) (d : Draft) (lines : List Line) (end : Draft) → 0 < length d.heights → d.times ≡ []
+    → record d { times = []; due = FirstCar } ≡ record d { due = FirstCar } → Reads (record d { due = cond stated Times FirstCar }) lines end
     → TimesRead stated d lines end
-times_read false d lines end some none blank reads = record { front = []; rest = lines; times = []; lines_are = refl; are = (refl, refl); reads = subst (λ e. Reads e lines end) (sym blank) reads }
+times_read false d lines end some none blank reads =
+    record { front = []; rest = lines; times = []; lines_are = refl; are = (refl, refl); reads = subst (λ e. Reads e lines end) (sym blank) reads }
 times_read true d lines end some none blank reads =
     let count : 0 + suc (length d.heights - 1) ≡ length d.heights = omega arith in
     let size : length d.times ≡ 0 * length d.heights = omega (arith, ap length none) in
@@ -327,11 +377,20 @@ pub record Line_then {X : Type 0} (said : Line → Judged X) (name : List ℕ) (
   pub was : said line ≡ Ok value
   pub further : Rest value rest
 
-line_then : {X : Type 0} (d : Draft) (lines : List Line) (end : Draft) (said : Line → Judged X) (next : X → Draft) (Rest : X → List Line → Type 0) → ((words : Line) → taken d.due d words ≡ (said words >>= λ x. Ok (next x))) → may_end d.due ≡ false
+line_then : {X : Type 0} (d : Draft) (lines : List Line) (end : Draft) (said : Line → Judged X) (next : X → Draft) (Rest : X → List Line → Type 0)
+    → ((words : Line) → taken d.due d words ≡ (said words >>= λ x. Ok (next x))) → may_end d.due ≡ false
     → ((x : X) (rest : List Line) → Reads (next x) rest end → Rest x rest) → Reads d lines end → Line_then said (name_of d.due) lines Rest
 line_then d lines end said next Rest same early further reads =
     let t = took_saying d lines end said next same early reads in
-    record { line = t.line; rest = t.rest; value = t.value; lines_are = t.lines_are; name_is = t.name_is; was = t.was; further = further t.value t.rest t.reads }
+    record {
+      line = t.line;
+      rest = t.rest;
+      value = t.value;
+      lines_are = t.lines_are;
+      name_is = t.name_is;
+      was = t.was;
+      further = further t.value t.rest t.reads;
+    }
 
 pub record FromTimes (d : Draft) (lines : List Line) (end : Draft) : Type 0 where
   pub front : List Line
@@ -342,7 +401,8 @@ pub record FromTimes (d : Draft) (lines : List Line) (end : Draft) : Type 0 wher
   pub cars : CarsRead (record d { times = times }) rest end
   pub some : 0 < length cars.later
 
-from_times : (d : Draft) (lines : List Line) (end : Draft) → 0 < length d.heights → d.times ≡ [] → Reads (record d { due = after_floors d.version }) lines end → FromTimes d lines end
+from_times : (d : Draft) (lines : List Line) (end : Draft) → 0 < length d.heights → d.times ≡ [] → Reads (record d { due = after_floors d.version }) lines end
+    → FromTimes d lines end
 from_times d lines end some none reads =
     let t = times_read (d.version == 3) d lines end some none (ap (λ ts. record d { times = ts; due = FirstCar }) (sym none)) reads in
     let c = first_car (record d { times = t.times }) t.rest end t.reads in
@@ -359,8 +419,18 @@ pub record FromHeights (d : Draft) (lines : List Line) (end : Draft) : Type 0 wh
 
 from_heights : (d : Draft) (lines : List Line) (end : Draft) → d.times ≡ [] → Reads (record d { due = Floors }) lines end → FromHeights d lines end
 from_heights d lines end none reads =
-    let t = took_saying (record d { due = Floors }) lines end heights_of (λ hs. record d { heights = hs; due = after_floors d.version }) (λ words. refl) refl reads in
-    record { line = t.line; rest = t.rest; heights = t.value; lines_are = t.lines_are; name_is = t.name_is; was = t.was; further = from_times (record d { heights = t.value }) t.rest end (heights_size t.line t.value t.was) none t.reads }
+    let t = took_saying (record d { due = Floors }) lines end heights_of (λ hs. record d { heights = hs; due = after_floors d.version })
+    (λ words. refl) refl reads in
+    record {
+      line = t.line;
+      rest = t.rest;
+      heights = t.value;
+      lines_are = t.lines_are;
+      name_is = t.name_is;
+      was = t.was;
+      further =
+          from_times (record d { heights = t.value }) t.rest end (heights_size t.line t.value t.was) none t.reads;
+    }
 
 pub record FromPatience (d : Draft) (lines : List Line) (end : Draft) : Type 0 where
   pub front : List Line
@@ -371,21 +441,34 @@ pub record FromPatience (d : Draft) (lines : List Line) (end : Draft) : Type 0 w
   pub are : ArePatienceLines (d.version == 1) front patience weight
   pub further : FromHeights (record d { patience = patience; patience_weight = weight }) rest end
 
-from_patience : (d : Draft) (lines : List Line) (end : Draft) → record d { patience = 0; patience_weight = 0; due = Floors } ≡ record d { due = Floors } → d.times ≡ [] → Reads (record d { due = after_weights d.version }) lines end → FromPatience d lines end
+from_patience : (d : Draft) (lines : List Line) (end : Draft) → record d { patience = 0; patience_weight = 0; due = Floors } ≡ record d { due = Floors }
+    → d.times ≡ [] → Reads (record d { due = after_weights d.version }) lines end → FromPatience d lines end
 from_patience d lines end blank none reads =
     let p = patience_read (d.version == 1) d lines end blank reads in
-    record { front = p.front; rest = p.rest; patience = p.patience; weight = p.weight; lines_are = p.lines_are; are = p.are; further = from_heights (record d { patience = p.patience; patience_weight = p.weight }) p.rest end none p.reads }
+    record {
+      front = p.front;
+      rest = p.rest;
+      patience = p.patience;
+      weight = p.weight;
+      lines_are = p.lines_are;
+      are = p.are;
+      further =
+          from_heights (record d { patience = p.patience; patience_weight = p.weight }) p.rest end none p.reads;
+    }
 
 -- the numbers of the first lines
 abbrev pub numbered : (version speed accel wait travel : ℕ) → Due → Draft
-numbered version speed accel wait travel due = record no_draft { due = due; version = version; speed = speed; accel = accel; wait_weight = wait; travel_weight = travel }
+numbered version speed accel wait travel due =
+    record no_draft { due = due; version = version; speed = speed; accel = accel; wait_weight = wait; travel_weight = travel }
 
 abbrev pub FromWeights : (version speed accel : ℕ) → List Line → Draft → Type 0
-FromWeights v s a lines end = Line_then (λ words. two_numbers words 1000 1000) (codes "weights") lines (λ p rest. FromPatience (numbered v s a p.0 p.1 Version) rest end)
+FromWeights v s a lines end =
+    Line_then (λ words. two_numbers words 1000 1000) (codes "weights") lines (λ p rest. FromPatience (numbered v s a p.0 p.1 Version) rest end)
 
 from_weights : (v s a : ℕ) (lines : List Line) (end : Draft) → Reads (numbered v s a 0 0 Weights) lines end → FromWeights v s a lines end
 from_weights v s a lines end reads =
-    line_then (numbered v s a 0 0 Weights) lines end (λ words. two_numbers words 1000 1000) (λ p. numbered v s a p.0 p.1 (after_weights v)) (λ p rest. FromPatience (numbered v s a p.0 p.1 Version) rest end) (λ words. refl) refl
+    line_then (numbered v s a 0 0 Weights) lines end (λ words. two_numbers words 1000 1000) (λ p. numbered v s a p.0 p.1 (after_weights v))
+    (λ p rest. FromPatience (numbered v s a p.0 p.1 Version) rest end) (λ words. refl) refl
     (λ p rest further. from_patience (numbered v s a p.0 p.1 Version) rest end refl refl further) reads
 
 abbrev pub FromAccel : (version speed : ℕ) → List Line → Draft → Type 0
@@ -393,35 +476,42 @@ FromAccel v s lines end = Line_then (λ words. one_number words 100 5000) (codes
 
 from_accel : (v s : ℕ) (lines : List Line) (end : Draft) → Reads (numbered v s 0 0 0 Accel) lines end → FromAccel v s lines end
 from_accel v s lines end reads =
-    line_then (numbered v s 0 0 0 Accel) lines end (λ words. one_number words 100 5000) (λ a. numbered v s a 0 0 Weights) (λ a rest. FromWeights v s a rest end) (λ words. refl) refl (λ a rest further. from_weights v s a rest end further) reads
+    line_then (numbered v s 0 0 0 Accel) lines end (λ words. one_number words 100 5000) (λ a. numbered v s a 0 0 Weights)
+    (λ a rest. FromWeights v s a rest end) (λ words. refl) refl (λ a rest further. from_weights v s a rest end further) reads
 
 abbrev pub FromSpeed : ℕ → List Line → Draft → Type 0
 FromSpeed v lines end = Line_then (λ words. one_number words 100 20000) (codes "speed") lines (λ s rest. FromAccel v s rest end)
 
 from_speed : (v : ℕ) (lines : List Line) (end : Draft) → Reads (numbered v 0 0 0 0 Speed) lines end → FromSpeed v lines end
 from_speed v lines end reads =
-    line_then (numbered v 0 0 0 0 Speed) lines end (λ words. one_number words 100 20000) (λ s. numbered v s 0 0 0 Accel) (λ s rest. FromAccel v s rest end) (λ words. refl) refl (λ s rest further. from_accel v s rest end further) reads
+    line_then (numbered v 0 0 0 0 Speed) lines end (λ words. one_number words 100 20000) (λ s. numbered v s 0 0 0 Accel) (λ s rest. FromAccel v s rest end)
+    (λ words. refl) refl (λ s rest further. from_accel v s rest end further) reads
 
 abbrev pub FromVersion : List Line → Draft → Type 0
 FromVersion lines end = Line_then (λ words. one_number words 1 3) (codes "building") lines (λ v rest. FromSpeed v rest end)
 
 from_version : (lines : List Line) (end : Draft) → Reads no_draft lines end → FromVersion lines end
 from_version lines end reads =
-    line_then no_draft lines end (λ words. one_number words 1 3) (λ v. numbered v 0 0 0 0 Speed) (λ v rest. FromSpeed v rest end) (λ words. refl) refl (λ v rest further. from_speed v rest end further) reads
+    line_then no_draft lines end (λ words. one_number words 1 3) (λ v. numbered v 0 0 0 0 Speed) (λ v rest. FromSpeed v rest end) (λ words. refl) refl
+    (λ v rest further. from_speed v rest end further) reads
 
 -- what was read in the end
 abbrev drafted : (lines : List Line) (end : Draft) → FromVersion lines end → Draft
 drafted lines end v =
     let p = v.further.further.further.further in
-    record (numbered v.value v.further.value v.further.further.value v.further.further.further.value.0 v.further.further.further.value.1 NextCar) { patience = p.patience; patience_weight = p.weight; heights = p.further.heights; times = p.further.further.times; cars = p.further.further.cars.later }
+    record (numbered v.value v.further.value v.further.further.value v.further.further.further.value.0 v.further.further.further.value.1 NextCar)
+    { patience = p.patience; patience_weight = p.weight; heights = p.further.heights; times = p.further.further.times; cars = p.further.further.cars.later }
 
-in_order : (a b c d : Line) (patience times cars all from_speed from_accel from_weights from_patience from_heights from_times from_cars : List Line) (heights last : Line)
-    → all ≡ a ∷ from_speed → from_speed ≡ b ∷ from_accel → from_accel ≡ c ∷ from_weights → from_weights ≡ d ∷ from_patience → from_patience ≡ patience ++ from_heights → from_heights ≡ heights ∷ from_times → from_times ≡ times ++ from_cars → from_cars ≡ cars ++ last ∷ []
+in_order : (a b c d : Line) (patience times cars all from_speed from_accel from_weights from_patience from_heights from_times from_cars : List Line)
+    (heights last : Line)
+    → all ≡ a ∷ from_speed → from_speed ≡ b ∷ from_accel → from_accel ≡ c ∷ from_weights → from_weights ≡ d ∷ from_patience
+    → from_patience ≡ patience ++ from_heights → from_heights ≡ heights ∷ from_times → from_times ≡ times ++ from_cars → from_cars ≡ cars ++ last ∷ []
     → all ≡ a ∷ b ∷ c ∷ d ∷ (patience ++ heights ∷ (times ++ (cars ++ last ∷ [])))
 in_order a b c d patience times cars all s1 s2 s3 s4 s5 s6 s7 heights last e1 e2 e3 e4 e5 e6 e7 e8 = cc
 
 -- the lines say all but the travel times
-shown : (lines : List Line) (end : Draft) (travel : Square) (v : FromVersion lines end) → AreBuildingLines lines (building_from (drafted lines end v) travel) (drafted lines end v).times
+shown : (lines : List Line) (end : Draft) (travel : Square) (v : FromVersion lines end)
+    → AreBuildingLines lines (building_from (drafted lines end v) travel) (drafted lines end v).times
 shown lines end travel v =
     let s = v.further in
     let a = s.further in
@@ -440,7 +530,8 @@ shown lines end travel v =
       times_lines = t.front;
       car_lines = cars.front;
       end_line = cars.last;
-      lines_are = in_order v.line s.line a.line w.line p.front t.front cars.front lines v.rest s.rest a.rest w.rest p.rest h.rest t.rest h.line cars.last v.lines_are s.lines_are a.lines_are w.lines_are p.lines_are h.lines_are t.lines_are cars.lines_are;
+      lines_are = in_order v.line s.line a.line w.line p.front t.front cars.front lines v.rest s.rest a.rest w.rest p.rest h.rest t.rest h.line cars.last
+          v.lines_are s.lines_are a.lines_are w.lines_are p.lines_are h.lines_are t.lines_are cars.lines_are;
       version = record { name_is = v.name_is; number = v.was };
       speed = record { name_is = s.name_is; number = s.was };
       accel = record { name_is = a.name_is; number = a.was };
@@ -455,7 +546,8 @@ shown lines end travel v =
       end_alone = cars.alone;
     }
 
-pub lines_of_reads : (lines : List Line) (end : Draft) (travel : Square) → Reads no_draft lines end → AreBuildingLines lines (building_from end travel) end.times × (end.due ≡ NextCar)
+pub lines_of_reads : (lines : List Line) (end : Draft) (travel : Square) → Reads no_draft lines end
+    → AreBuildingLines lines (building_from end travel) end.times × (end.due ≡ NextCar)
 lines_of_reads lines end travel reads =
     let v = from_version lines end reads in
     let is : end ≡ drafted lines end v = v.further.further.further.further.further.further.cars.end_is in

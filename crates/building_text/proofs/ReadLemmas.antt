@@ -22,9 +22,11 @@ Reads d (words ∷ lines) end = Then (after d words) lines end (λ new. Reads ne
 
 -- what is read of the lines behind a first one
 abbrev pub FoundFrom : Reading → Draft → Reading → Type 0
-FoundFrom behind end rest = (new : Draft) → outcome after behind new ≡ accepted end rest → (lines : List Line) × BeginsWith lines behind rest × Reads new lines end
+FoundFrom behind end rest = (new : Draft) → outcome after behind new ≡ accepted end rest → (lines : List Line) × BeginsWith lines behind rest
+    × Reads new lines end
 
-found_step : (number : ℕ) (words : Line) (behind : Reading) (d end : Draft) (rest : Reading) (step : Step Draft) → FoundFrom behind end rest → after d words ≡ step → continued step number behind (outcome after behind) ≡ accepted end rest
+found_step : (number : ℕ) (words : Line) (behind : Reading) (d end : Draft) (rest : Reading) (step : Step Draft) → FoundFrom behind end rest
+    → after d words ≡ step → continued step number behind (outcome after behind) ≡ accepted end rest
     → (lines : List Line) × BeginsWith lines (line_with number words behind) rest × Reads d lines end
 found_step number words behind d end rest (goes_on new) further e same =
     let later = further new same in
@@ -35,13 +37,16 @@ found_step number words behind d end rest (is_whole new) further e same =
     (words ∷ [], (number, behind, refl, left), subst (λ (step : Step Draft). Then step [] end (λ next. Reads next [] end)) (sym e) (refl, whole))
 found_step number words behind d end rest (is_bad code) further e same = absurd cc
 
-pub found : (read : Reading) (d end : Draft) (rest : Reading) → outcome after read d ≡ accepted end rest → (lines : List Line) × BeginsWith lines read rest × Reads d lines end
-found (line_with number words behind) d end rest is = found_step number words behind d end rest (after d words) (λ new same. found behind new end rest same) refl is
+pub found : (read : Reading) (d end : Draft) (rest : Reading) → outcome after read d ≡ accepted end rest → (lines : List Line) × BeginsWith lines read rest
+    × Reads d lines end
+found (line_with number words behind) d end rest is =
+    found_step number words behind d end rest (after d words) (λ new same. found behind new end rest same) refl is
 found (finished lines) d end rest is = absurd cc
 found (bad_line line code) d end rest is = absurd cc
 found past_limit d end rest is = absurd cc
 
-given_step : (lines : List Line) (number : ℕ) (behind : Reading) (end : Draft) (rest : Reading) (step : Step Draft) → ((new : Draft) → Reads new lines end → outcome after behind new ≡ accepted end rest) → BeginsWith lines behind rest
+given_step : (lines : List Line) (number : ℕ) (behind : Reading) (end : Draft) (rest : Reading) (step : Step Draft)
+    → ((new : Draft) → Reads new lines end → outcome after behind new ≡ accepted end rest) → BeginsWith lines behind rest
     → Then step lines end (λ new. Reads new lines end) → continued step number behind (outcome after behind) ≡ accepted end rest
 given_step lines number behind end rest (goes_on new) further begins later = further new later
 given_step lines number behind end rest (is_whole new) further begins whole =
@@ -49,18 +54,37 @@ given_step lines number behind end rest (is_whole new) further begins whole =
     ap (λ e. accepted e behind) whole.1 ∙ ap (accepted end) left
 given_step lines number behind end rest (is_bad code) further begins none = absurd none
 
-pub given : (lines : List Line) (read : Reading) (d end : Draft) (rest : Reading) → BeginsWith lines read rest → Reads d lines end → outcome after read d ≡ accepted end rest
+pub given : (lines : List Line) (read : Reading) (d end : Draft) (rest : Reading) → BeginsWith lines read rest → Reads d lines end
+    → outcome after read d ≡ accepted end rest
 given [] read d end rest begins reads = absurd reads
 given (words ∷ lines) read d end rest begins reads =
-    ap (λ r. outcome after r d) begins.2 ∙ given_step lines begins.0 begins.1 end rest (after d words) (λ new later. given lines begins.1 new end rest begins.3 later) begins.3 reads
+    ap (λ r. outcome after r d) begins.2
+    ∙ given_step lines begins.0 begins.1 end rest (after d words) (λ new later. given lines begins.1 new end rest begins.3 later) begins.3 reads
 
-makes_step : (words : Line) (lines : List Line) (d end : Draft) (step : Step Draft) → ((new : Draft) → Reads new lines end → Makes after lines new end) → after d words ≡ step
+makes_step : (words : Line) (lines : List Line) (d end : Draft) (step : Step Draft) → ((new : Draft) → Reads new lines end → Makes after lines new end)
+    → after d words ≡ step
     → Then step lines end (λ new. Reads new lines end) → Makes after (words ∷ lines) d end
 makes_step words lines d end (goes_on new) further is later =
     let rest = further new later in
-    record { front = words ∷ rest.front; last = rest.last; before = rest.before; lines_are = ap (λ (ls : List Line). words ∷ ls) rest.lines_are; goes = (new, is, rest.goes); whole = rest.whole }
+    record {
+      front = words ∷ rest.front;
+      last = rest.last;
+      before = rest.before;
+      lines_are = ap (λ (ls : List Line). words ∷ ls) rest.lines_are;
+      goes =
+          (new, is, rest.goes);
+      whole = rest.whole;
+    }
 makes_step words lines d end (is_whole new) further is whole =
-    record { front = []; last = words; before = d; lines_are = ap (λ (ls : List Line). words ∷ ls) whole.0; goes = refl; whole = is ∙ ap (λ (e : Draft). is_whole e) whole.1 }
+    record {
+      front = [];
+      last = words;
+      before = d;
+      lines_are = ap (λ (ls : List Line). words ∷ ls) whole.0;
+      goes = refl;
+      whole = is
+          ∙ ap (λ (e : Draft). is_whole e) whole.1;
+    }
 makes_step words lines d end (is_bad code) further is none = absurd none
 
 -- lines that are read one after another make the section
@@ -80,9 +104,11 @@ pub record Took (d : Draft) (lines : List Line) (end : Draft) : Type 0 where
   pub was : taken d.due d line ≡ Ok new
   pub reads : Reads new rest end
 
-took : (d : Draft) (words : Line) (lines : List Line) (end : Draft) (due : Bool) (said : Judged Draft) (bad : TextCode) → is_word words 0 (name_of d.due) ≡ due → taken d.due d words ≡ said
+took : (d : Draft) (words : Line) (lines : List Line) (end : Draft) (due : Bool) (said : Judged Draft) (bad : TextCode) → is_word words 0 (name_of d.due) ≡ due
+    → taken d.due d words ≡ said
     → Then (step_of (cond due (said >>= λ new. Ok (goes_on new)) (Err bad))) lines end (λ new. Reads new lines end) → Took d (words ∷ lines) end
-took d words lines end true (Ok new) bad named was reads = record { line = words; rest = lines; new = new; lines_are = refl; name_is = named; was = was; reads = reads }
+took d words lines end true (Ok new) bad named was reads =
+    record { line = words; rest = lines; new = new; lines_are = refl; name_is = named; was = was; reads = reads }
 took d words lines end true (Err code) bad named was reads = absurd reads
 took d words lines end false said bad named was reads = absurd reads
 
@@ -93,5 +119,6 @@ due_first d (words ∷ lines) end early reads =
     took d words lines end (is_word words 0 (name_of d.due)) (taken d.due d words) (misplaced d.due d.version words) refl refl (rw early at reads)
 
 -- and where it comes, it is taken
-pub due_taken : (d : Draft) (words : Line) (lines : List Line) (end new : Draft) → may_end d.due ≡ false → is_word words 0 (name_of d.due) ≡ true → taken d.due d words ≡ Ok new → Reads new lines end → Reads d (words ∷ lines) end
+pub due_taken : (d : Draft) (words : Line) (lines : List Line) (end new : Draft) → may_end d.due ≡ false → is_word words 0 (name_of d.due) ≡ true
+    → taken d.due d words ≡ Ok new → Reads new lines end → Reads d (words ∷ lines) end
 due_taken d words lines end new early named was reads = rw (early, named, was) reads

@@ -36,4 +36,7 @@ numbers_of-within low high (word ∷ words) ns is =
     let later = then-inv (numbers_of low high words) (λ ms. Ok (first.0 ∷ ms)) ns first.2 in
     let same : Ok (first.0 ∷ later.0) ≡ Ok ns = later.2 in
     let e : first.0 ∷ later.0 ≡ ns = cc in
-    subst (AllByRecursion (IsFrom low high)) e (in_range low high first.0 (within low high (digits_number word)) (is_within low high (digits_number word)) first.1, numbers_of-within low high words later.0 later.1)
+    subst (AllByRecursion (IsFrom low high)) e (
+      in_range low high first.0 (within low high (digits_number word)) (is_within low high (digits_number word)) first.1,
+      numbers_of-within low high words later.0 later.1,
+    )

@@ -24,10 +24,14 @@ same_times heights speed accel t u p q =
     let low : k % n < n = mod-lt k some in
     let high : k / n < n = (div-lt_iff_lt-mul some).1 (omega (arith, p.size)) in
     let place : k / n * n + k % n ≡ k = omega (arith, mod-add-div' k n) in
-    let same : time_between t (k / n) (k % n) ≡ time_between u (k / n) (k % n) = same_least speed accel _ _ _ (p.least (k / n) (k % n) high low) (q.least (k / n) (k % n) high low) in
-    let at_t : time_between t (k / n) (k % n) ≡ get_or t.times k 0 = ap (λ (m : ℕ). slice_index t.times (k / n * m + k % n)) p.floors ∙ ap (slice_index t.times) place in
-    let at_u : time_between u (k / n) (k % n) ≡ get_or u.times k 0 = ap (λ (m : ℕ). slice_index u.times (k / n * m + k % n)) q.floors ∙ ap (slice_index u.times) place in
+    let same : time_between t (k / n) (k % n) ≡ time_between u (k / n) (k % n) =
+    same_least speed accel _ _ _ (p.least (k / n) (k % n) high low) (q.least (k / n) (k % n) high low) in
+    let at_t : time_between t (k / n) (k % n) ≡ get_or t.times k 0 = ap (λ (m : ℕ). slice_index t.times (k / n * m + k % n)) p.floors
+    ∙ ap (slice_index t.times) place in
+    let at_u : time_between u (k / n) (k % n) ≡ get_or u.times k 0 = ap (λ (m : ℕ). slice_index u.times (k / n * m + k % n)) q.floors
+    ∙ ap (slice_index u.times) place in
     sym at_t ∙ same ∙ at_u)
 
 pub same_travel : (heights : List ℕ) (speed accel : ℕ) (t u : Square) → IsTravelOf heights speed accel t → IsTravelOf heights speed accel u → t ≡ u
-same_travel heights speed accel t u p q = ap (λ (n : ℕ). square n t.times) (p.floors ∙ sym q.floors) ∙ ap (square u.floors) (same_times heights speed accel t u p q)
+same_travel heights speed accel t u p q = ap (λ (n : ℕ). square n t.times) (p.floors ∙ sym q.floors)
+    ∙ ap (square u.floors) (same_times heights speed accel t u p q)

@@ -16,4 +16,5 @@ pub first_is_found : (t : Square) (triple : Triple) â†’ IsFirstTriple t triple â
 first_is_found t triple is =
     let from = is.first in
     let third = from.third in
-    any_below-at t.floors _ triple.f is.floor (any_below-at t.floors _ triple.g from.floor (any_below-at t.floors _ triple.h third.floor (lt-ltb _ _ third.shorter)))
+    any_below-at t.floors _ triple.f is.floor
+    (any_below-at t.floors _ triple.g from.floor (any_below-at t.floors _ triple.h third.floor (lt-ltb _ _ third.shorter)))

@@ -1,5 +1,6 @@
 -- A building whose lines were read keeps the rules.
-use Rattle.std.proofs.Common.{◌≡◌, ℕ, ◌+◌, ◌<◌, ◌≤◌, Bool, true, false, cond, List, [], ◌∷◌, ◌++◌, length, drop, zero, suc, Option, None, Some, Ok, Err, ap, refl, arith, ◌∙◌, subst, eq-eqb, slice_index}
+use Rattle.std.proofs.Common.{◌≡◌, ℕ, ◌+◌, ◌<◌, ◌≤◌, Bool, true, false, cond, List, [], ◌∷◌, ◌++◌, length, drop, zero, suc, Option, None, Some, Ok, Err, ap}
+use Rattle.std.proofs.Common.{refl, arith, ◌∙◌, subst, eq-eqb, slice_index}
 use Rattle.std.specs.Prelude.{nat_lt, ◌==◌}
 use Rattle.std.specs.List.{AllByRecursion, list_any}
 use Rattle.std.proofs.lemmas.Bool.{le-ltb}
@@ -18,7 +19,8 @@ use Rattle.text_sections.specs.NumberLists.{numbers}
 use Rattle.text_sections.specs.Sections.{Line}
 use Rattle.text_sections.proofs.NumberLemmas.{is_within}
 use Rattle.text_sections.proofs.StepLemmas.{then-inv}
-use Rattle.building_text.specs.Words.{one_number, two_numbers, rising, heights_of, has_car_words, car_numbers, served_of, faultless, with_floors, judged_car, car_of_line}
+use Rattle.building_text.specs.Words.{one_number, two_numbers, rising, heights_of, has_car_words, car_numbers, served_of, faultless, with_floors, judged_car}
+use Rattle.building_text.specs.Words.{car_of_line}
 use Rattle.building_text.specs.BuildingText.{ArePatienceLines, AreCarLines, AreBuildingLines}
 use Rattle.building_text.proofs.SaidLemmas.{numbers-length, numbers_of-within, IsFrom, in_range}
 use Rattle.building_text.proofs.LineLemmas.{at_least_ok, rising_ok, nothing}
@@ -96,23 +98,27 @@ faultless_ok : (car new : CarSpec) (fault : Option Fault) → faultless car faul
 faultless_ok car new None is = (refl, cc)
 faultless_ok car new (Some fault) is = absurd cc
 
-judged_ok : (floors most : ℕ) (before : List CarSpec) (car new : CarSpec) (set : Option ℕ) → judged_car floors most before car set ≡ Ok new → fault_of_spec floors most before new ≡ None
+judged_ok : (floors most : ℕ) (before : List CarSpec) (car new : CarSpec) (set : Option ℕ) → judged_car floors most before car set ≡ Ok new
+    → fault_of_spec floors most before new ≡ None
 judged_ok floors most before car new (Some set) is =
     let r = faultless_ok (with_floors car set) new (fault_of_spec floors most before (with_floors car set)) is in
     subst (λ c. fault_of_spec floors most before c ≡ None) r.1 r.0
 judged_ok floors most before car new None is = by_test (list_any (λ (x : CarSpec). x.id == car.id) before) is
   where
-    by_test : (used : Bool) → cond {A = Judged CarSpec} used (Err (Item IdUsedBefore)) (Err (Item NoSuchFloor)) ≡ Ok new → fault_of_spec floors most before new ≡ None
+    by_test : (used : Bool) → cond {A = Judged CarSpec} used (Err (Item IdUsedBefore)) (Err (Item NoSuchFloor)) ≡ Ok new
+        → fault_of_spec floors most before new ≡ None
     by_test true same = absurd cc
     by_test false same = absurd cc
 
-pub car_faultless : (floors most : ℕ) (before : List CarSpec) (words : Line) (car : CarSpec) → car_of_line floors most before words ≡ Ok car → fault_of_spec floors most before car ≡ None
+pub car_faultless : (floors most : ℕ) (before : List CarSpec) (words : Line) (car : CarSpec) → car_of_line floors most before words ≡ Ok car
+    → fault_of_spec floors most before car ≡ None
 car_faultless floors most before words car is =
     let read = then-inv (has_car_words words >>= λ _. car_numbers words) (λ c. served_of floors words >>= λ set. judged_car floors most before c set) car is in
     let set = then-inv (served_of floors words) (λ set. judged_car floors most before read.0 set) car read.2 in
     judged_ok floors most before read.0 car set.0 set.2
 
-cars_faultless : (floors most : ℕ) (before : List CarSpec) (lines : List Line) (cars : List CarSpec) (k : ℕ) → AreCarLines floors most before lines cars → first_in (fault_of_spec floors most) before cars k ≡ None
+cars_faultless : (floors most : ℕ) (before : List CarSpec) (lines : List Line) (cars : List CarSpec) (k : ℕ) → AreCarLines floors most before lines cars
+    → first_in (fault_of_spec floors most) before cars k ≡ None
 cars_faultless floors most before [] cars k are = ap (λ cs. first_in (fault_of_spec floors most) before cs k) are
 cars_faultless floors most before (words ∷ lines) cars k are =
     let clear = car_faultless floors most before words are.0 are.4 in
@@ -125,7 +131,8 @@ pub record IsPatience (version_one : Bool) (patience weight : ℕ) : Type 0 wher
   pub second : weight ≤ 1000
   pub none : version_one ≡ true → patience + weight ≡ 0
 
-patience_is : (version_one : Bool) (lines : List Line) (patience weight : ℕ) → ArePatienceLines version_one lines patience weight → IsPatience version_one patience weight
+patience_is : (version_one : Bool) (lines : List Line) (patience weight : ℕ) → ArePatienceLines version_one lines patience weight
+    → IsPatience version_one patience weight
 patience_is true lines patience weight are =
     let first = are.1 in
     let second = are.2 in
@@ -163,7 +170,8 @@ in_ranges_of lines b times is floors =
       cars_low = is.some_car;
     }
 
-pub no_fault : (lines : List Line) (b : Building) (times : List ℕ) → AreBuildingLines lines b times → b.travel.floors ≡ floor_count b → first_fault_of_building b ≡ None
+pub no_fault : (lines : List Line) (b : Building) (times : List ℕ) → AreBuildingLines lines b times → b.travel.floors ≡ floor_count b
+    → first_fault_of_building b ≡ None
 no_fault lines b times is floors =
     let heights = heights_are is.heights_line b.heights is.heights in
     let cars_clear = cars_faultless (floor_count b) (most_cars b.version) [] is.car_lines b.cars 1 is.cars in

@@ -1,5 +1,6 @@
 -- Which lines stand for which building.
-use Rattle.std.specs.Prelude.{◌≡◌, ℕ, ◌+◌, ◌<◌, ◌≤◌, ◌==◌, Bool, true, false, List, [], ◌∷◌, ◌++◌, length, slice_index, Option, None, Some, IfSome, IsSomeAnd, Result, Ok, Err, codes}
+use Rattle.std.specs.Prelude.{◌≡◌, ℕ, ◌+◌, ◌<◌, ◌≤◌, ◌==◌, Bool, true, false, List, [], ◌∷◌, ◌++◌, length, slice_index, Option, None, Some, IfSome, IsSomeAnd}
+use Rattle.std.specs.Prelude.{Result, Ok, Err, codes}
 use Rattle.elevator_model.specs.declared.CarSpec.{CarSpec}
 use Rattle.elevator_model.specs.Building.{Building, floor_count, most_cars}
 use Rattle.elevator_model.specs.Travel.{Square, IsTravelOf, IsTravelSquare}
@@ -56,7 +57,8 @@ AreTimesLines false floors lines times = (lines ≡ []) × (times ≡ [])
 abbrev pub AreCarLines : (floors most : ℕ) → (before : List CarSpec) → List Line → List CarSpec → Type 0
 AreCarLines floors most before [] cars = cars ≡ []
 AreCarLines floors most before (words ∷ lines) cars =
-    (car : CarSpec) × (later : List CarSpec) × (cars ≡ car ∷ later) × Begins words (codes "car") × (car_of_line floors most before words ≡ Ok car) × AreCarLines floors most (before ++ car ∷ []) lines later
+    (car : CarSpec) × (later : List CarSpec) × (cars ≡ car ∷ later) × Begins words (codes "car") × (car_of_line floors most before words ≡ Ok car)
+    × AreCarLines floors most (before ++ car ∷ []) lines later
 
 -- The lines of a building with these stated times, which say all but its travel times.
 pub record AreBuildingLines (lines : List Line) (b : Building) (times : List ℕ) : Type 0 where
@@ -69,7 +71,8 @@ pub record AreBuildingLines (lines : List Line) (b : Building) (times : List ℕ
   pub times_lines : List Line
   pub car_lines : List Line
   pub end_line : Line
-  pub lines_are : lines ≡ version_line ∷ speed_line ∷ accel_line ∷ weights_line ∷ (patience_lines ++ heights_line ∷ (times_lines ++ (car_lines ++ end_line ∷ [])))
+  pub lines_are : lines ≡ version_line ∷ speed_line ∷ accel_line ∷ weights_line
+      ∷ (patience_lines ++ heights_line ∷ (times_lines ++ (car_lines ++ end_line ∷ [])))
   pub version : IsNumberLine version_line (codes "building") 1 3 b.version
   pub speed : IsNumberLine speed_line (codes "speed") 100 20000 b.speed
   pub accel : IsNumberLine accel_line (codes "accel") 100 5000 b.accel
@@ -162,4 +165,5 @@ TakesBuildings before answer now = (lines : List Line) (b : Building) (rest : Re
 -- wherever a building in front ends, its last line is not whole among the bytes that were taken
 abbrev pub BuildingEndsBehind : Option TextState → Option (List ℕ) → Type 0
 BuildingEndsBehind None left = Unit {0}
-BuildingEndsBehind (Some text) left = (lines : List Line) (b : Building) (behind : TextState) → AreBetween text lines behind → IsBuildingText lines b → LacksEnd (Some text) behind.line left
+BuildingEndsBehind (Some text) left = (lines : List Line) (b : Building) (behind : TextState) → AreBetween text lines behind → IsBuildingText lines b
+    → LacksEnd (Some text) behind.line left

@@ -31,7 +31,20 @@ pub record Draft : Type 0 where
   pub cars : List CarSpec
 
 abbrev pub no_draft : Draft
-no_draft = record { due = Version; version = 0; speed = 0; accel = 0; wait_weight = 0; travel_weight = 0; patience = 0; patience_weight = 0; heights = []; times = []; cars = [] }
+no_draft = record {
+  due = Version;
+  version = 0;
+  speed = 0;
+  accel = 0;
+  wait_weight = 0;
+  travel_weight = 0;
+  patience = 0;
+  patience_weight = 0;
+  heights =
+      [];
+  times = [];
+  cars = [];
+}
 
 -- once the heights were read, there are 2 to 64
 abbrev pub HasFloors : Due → List ℕ → Type 0

@@ -54,7 +54,8 @@ after_floors version = if version == 3 then Times else FirstCar
 -- a line word of every version
 abbrev pub is_plain_word : Line → Bool
 is_plain_word words =
-    is_word words 0 (codes "building") || is_word words 0 (codes "speed") || is_word words 0 (codes "accel") || is_word words 0 (codes "weights") || is_word words 0 (codes "floors") || is_word words 0 (codes "car") || is_word words 0 (codes "end")
+    is_word words 0 (codes "building") || is_word words 0 (codes "speed") || is_word words 0 (codes "accel") || is_word words 0 (codes "weights")
+    || is_word words 0 (codes "floors") || is_word words 0 (codes "car") || is_word words 0 (codes "end")
 
 -- a line word of the section in this version
 abbrev pub is_line_word : ℕ → Line → Bool

@@ -36,7 +36,10 @@ has_car_words words = at_least words 8 >>= λ _. if is_word words 7 (codes "all"
 -- a car's numbers, with no floor served
 abbrev pub car_numbers : Line → Judged CarSpec
 car_numbers words =
-    number words 1 0 4294967295 >>= λ id. (number words 2 1 64 >>= λ capacity. (number words 3 0 60000 >>= λ opening. (number words 4 0 60000 >>= λ closing. (number words 5 0 60000 >>= λ boarding. (number words 6 0 60000 >>= λ alighting.
+    number words 1 0 4294967295
+    >>= λ id. (number words 2 1 64
+    >>= λ capacity. (number words 3 0 60000
+    >>= λ opening. (number words 4 0 60000 >>= λ closing. (number words 5 0 60000 >>= λ boarding. (number words 6 0 60000 >>= λ alighting.
     Ok (record { id = id; capacity = capacity; opening = opening; closing = closing; boarding = boarding; alighting = alighting; serves = 0 }))))))
 
 -- the set of these floors, with what is in it so far; no building has a floor from 64 on

@@ -12,7 +12,9 @@ use Rattle.building_text.specs.Written.{building_lines}
 
 abbrev first_lines : List ℕ → Reading → Reading
 first_lines version rest =
-    line_with 1 (codes "building" ∷ version ∷ []) (line_with 2 (codes "speed" ∷ codes "2000" ∷ []) (line_with 3 (codes "accel" ∷ codes "1000" ∷ []) (line_with 4 (codes "weights" ∷ codes "3" ∷ codes "07" ∷ []) rest)))
+    line_with 1 (codes "building" ∷ version ∷ [])
+    (line_with 2 (codes "speed" ∷ codes "2000" ∷ [])
+    (line_with 3 (codes "accel" ∷ codes "1000" ∷ []) (line_with 4 (codes "weights" ∷ codes "3" ∷ codes "07" ∷ []) rest)))
 
 abbrev with_floors : Reading → Reading
 with_floors rest = first_lines (codes "1") (line_with 5 (codes "floors" ∷ codes "0" ∷ codes "4000" ∷ []) rest)
@@ -39,19 +41,23 @@ whole_row = refl
 unknown_first_row : outcome after (line_with 1 (codes "speed" ∷ codes "2000" ∷ []) (finished 9)) no_draft ≡ refused 1 NoLineWord
 unknown_first_row = refl
 
-patience_row : outcome after (first_lines (codes "1") (line_with 5 (codes "patience" ∷ codes "5" ∷ codes "3" ∷ []) (finished 9))) no_draft ≡ refused 5 NoLineWord
+patience_row : outcome after (first_lines (codes "1") (line_with 5 (codes "patience" ∷ codes "5" ∷ codes "3" ∷ []) (finished 9))) no_draft
+    ≡ refused 5 NoLineWord
 patience_row = refl
 
-no_patience_row : outcome after (first_lines (codes "2") (line_with 5 (codes "floors" ∷ codes "0" ∷ codes "1" ∷ []) (finished 9))) no_draft ≡ refused 5 OutOfOrder
+no_patience_row : outcome after (first_lines (codes "2") (line_with 5 (codes "floors" ∷ codes "0" ∷ codes "1" ∷ []) (finished 9))) no_draft
+    ≡ refused 5 OutOfOrder
 no_patience_row = refl
 
-flat_row : outcome after (first_lines (codes "1") (line_with 5 (codes "floors" ∷ codes "9" ∷ codes "9" ∷ []) (finished 9))) no_draft ≡ refused 5 (Item NotRising)
+flat_row : outcome after (first_lines (codes "1") (line_with 5 (codes "floors" ∷ codes "9" ∷ codes "9" ∷ []) (finished 9))) no_draft
+    ≡ refused 5 (Item NotRising)
 flat_row = refl
 
 no_car_row : outcome after (with_floors (line_with 6 (codes "end" ∷ []) (finished 9))) no_draft ≡ refused 6 OutOfOrder
 no_car_row = refl
 
-id_row : outcome after (with_floors (line_with 6 (car_words (codes "all" ∷ [])) (line_with 7 (car_words (codes "0" ∷ codes "64" ∷ [])) (finished 9)))) no_draft ≡ refused 7 (Item IdUsedBefore)
+id_row : outcome after (with_floors (line_with 6 (car_words (codes "all" ∷ [])) (line_with 7 (car_words (codes "0" ∷ codes "64" ∷ [])) (finished 9)))) no_draft
+    ≡ refused 7 (Item IdUsedBefore)
 unfolding set_of
 id_row = refl
 
@@ -73,7 +79,8 @@ shaft = record {
 }
 
 written_row : building_lines shaft
-    ≡ (codes "building" ∷ decimal 3 ∷ []) ∷ (codes "speed" ∷ decimal 2000 ∷ []) ∷ (codes "accel" ∷ decimal 1000 ∷ []) ∷ (codes "weights" ∷ decimal 3 ∷ decimal 7 ∷ []) ∷ (codes "patience" ∷ decimal 500 ∷ decimal 9 ∷ [])
+    ≡ (codes "building" ∷ decimal 3 ∷ []) ∷ (codes "speed" ∷ decimal 2000 ∷ []) ∷ (codes "accel" ∷ decimal 1000 ∷ [])
+    ∷ (codes "weights" ∷ decimal 3 ∷ decimal 7 ∷ []) ∷ (codes "patience" ∷ decimal 500 ∷ decimal 9 ∷ [])
     ∷ (codes "floors" ∷ decimal 0 ∷ decimal 4000 ∷ []) ∷ (codes "times" ∷ decimal 0 ∷ decimal 5000 ∷ []) ∷ (codes "times" ∷ decimal 4999 ∷ decimal 0 ∷ [])
     ∷ (codes "car" ∷ decimal 7 ∷ decimal 8 ∷ decimal 1 ∷ decimal 2 ∷ decimal 3 ∷ decimal 4 ∷ codes "all" ∷ []) ∷ (codes "end" ∷ []) ∷ []
 written_row = refl

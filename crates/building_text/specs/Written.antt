@@ -1,5 +1,6 @@
 -- The canonical text of a building.
-use Rattle.std.specs.Prelude.{◌≡◌, ℕ, ◌+◌, ◌-◌, ◌^◌, ◌<◌, ◌≤◌, ◌==◌, false, List, [], ◌∷◌, ◌++◌, length, map, filter, decimal, codes, if◌then◌else◌, Option, IfSome, Result}
+use Rattle.std.specs.Prelude.{◌≡◌, ℕ, ◌+◌, ◌-◌, ◌^◌, ◌<◌, ◌≤◌, ◌==◌, false, List, [], ◌∷◌, ◌++◌, length, map, filter, decimal, codes, if◌then◌else◌, Option}
+use Rattle.std.specs.Prelude.{IfSome, Result}
 use Rattle.std.specs.List.{range_with_len}
 use Rattle.call_sets.specs.Counting.{has}
 use Rattle.elevator_model.specs.declared.CarSpec.{CarSpec}
@@ -44,7 +45,8 @@ end_line = codes "end" ∷ []
 
 abbrev pub building_lines : Building → List Line
 building_lines b =
-    named (codes "building") (b.version ∷ []) ∷ named (codes "speed") (b.speed ∷ []) ∷ named (codes "accel") (b.accel ∷ []) ∷ named (codes "weights") (b.wait_weight ∷ b.travel_weight ∷ [])
+    named (codes "building") (b.version ∷ []) ∷ named (codes "speed") (b.speed ∷ []) ∷ named (codes "accel") (b.accel ∷ [])
+    ∷ named (codes "weights") (b.wait_weight ∷ b.travel_weight ∷ [])
     ∷ (patience_lines b ++ named (codes "floors") b.heights ∷ (times_lines b ++ (map (car_line (floor_count b)) b.cars ++ end_line ∷ [])))
 
 unfoldable pub building_text : Building → List ℕ

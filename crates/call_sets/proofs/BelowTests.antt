@@ -8,7 +8,10 @@ pub any_below-at : (n : ℕ) (t : ℕ → Bool) (k : ℕ) → k < n → t k ≡ 
 any_below-at zero t k below h = absurd (omega arith)
 any_below-at (suc n) t k below h =
     let le : k ≤ n = omega arith in
-    elim (eq-or-lt_of_le le) [ inl e ↦ or_right (any_below n t) (t n) (subst (λ (x : ℕ). t x ≡ true) e h) | inr lt ↦ or_left (any_below n t) (t n) (any_below-at n t k lt h) ]
+    elim (eq-or-lt_of_le le) [
+      | inl e ↦ or_right (any_below n t) (t n) (subst (λ (x : ℕ). t x ≡ true) e h)
+      | inr lt ↦ or_left (any_below n t) (t n) (any_below-at n t k lt h)
+    ]
 
 pub any_below-false : (n : ℕ) (t : ℕ → Bool) (k : ℕ) → any_below n t ≡ false → k < n → t k ≡ false
 any_below-false n t k none below = false_from_ne_true (t k) (λ h. both_ways _ none (any_below-at n t k below h))
@@ -39,7 +42,8 @@ any_below-split n zero t = let e : n + 0 ≡ n = omega arith in ap (λ (x : ℕ)
     or_false false = refl
 any_below-split n (suc m) t =
     let e : n + suc m ≡ suc (n + m) = omega arith in
-    ap (λ (x : ℕ). any_below x t) e ∙ ap (λ (b : Bool). b || t (n + m)) (any_below-split n m t) ∙ or_again (any_below n t) (any_below m (λ k. t (n + k))) (t (n + m))
+    ap (λ (x : ℕ). any_below x t) e ∙ ap (λ (b : Bool). b || t (n + m)) (any_below-split n m t)
+    ∙ or_again (any_below n t) (any_below m (λ k. t (n + k))) (t (n + m))
   where
     or_again : (a b d : Bool) → ((a || b) || d) ≡ (a || (b || d))
     or_again true b d = refl

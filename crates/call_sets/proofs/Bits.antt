@@ -1,8 +1,10 @@
 -- What the operations on bits do to a set.
-use Rattle.std.proofs.Common.{◌≡◌, ℕ, Decides, ◌+◌, ◌-◌, ◌*◌, ◌/◌, ◌%◌, ◌^◌, ◌<◌, ◌≤◌, suc, Bool, true, false, not, ◌&&◌, ◌||◌, ◌⊎◌, eqb, leb, ltb, le-leb, min, max, refl, sym, ap, ◌∙◌, subst, inl, inr, arith}
+use Rattle.std.proofs.Common.{◌≡◌, ℕ, Decides, ◌+◌, ◌-◌, ◌*◌, ◌/◌, ◌%◌, ◌^◌, ◌<◌, ◌≤◌, suc, Bool, true, false, not, ◌&&◌, ◌||◌, ◌⊎◌, eqb, leb, ltb, le-leb, min}
+use Rattle.std.proofs.Common.{max, refl, sym, ap, ◌∙◌, subst, inl, inr, arith}
 use Rattle.std.specs.Int.{bit_at, bit_not, Width}
 use Rattle.std.specs.Int.RustNames.{bit_or, bit_and}
-use Rattle.std.proofs.lemmas.Nat.Bits.{bit_at_and, bit_at_or, bit_at_not, bit_at-lt, bit_at_above, bit_at_set_same, bit_at_set_other, bit_at_clear_same, bit_at_clear_other, bit_at_mask_below, bit_at_mask_inside, bit_at-zero, bit_at_ones, bit_at_ones_above, ones_shl}
+use Rattle.std.proofs.lemmas.Nat.Bits.{bit_at_and, bit_at_or, bit_at_not, bit_at-lt, bit_at_above, bit_at_set_same, bit_at_set_other, bit_at_clear_same}
+use Rattle.std.proofs.lemmas.Nat.Bits.{bit_at_clear_other, bit_at_mask_below, bit_at_mask_inside, bit_at-zero, bit_at_ones, bit_at_ones_above, ones_shl}
 use Rattle.std.proofs.lemmas.Bool.{cases_eq, cases_lt, eq-eqb, ne_eqb}
 use Rattle.std.proofs.Math.Nat.{div-eq_of_lt, lt-div-mul-add, pow-suc}
 use Rattle.std.proofs.lemmas.Nat.{pow_pos, leading_top, div-mul-add}
@@ -41,7 +43,10 @@ and_same a k x y e = ap (λ (z : Bool). z && x) e ∙ sym (ap (λ (z : Bool). z 
 
 pub has_minus : (w : Width) (a b k : ℕ) → a < 2 ^ bits w → b < 2 ^ bits w → has (bit_and a (bit_not w b)) k ≡ (has a k && not (has b k))
 has_minus w a b k ha hb =
-    has_and a (bit_not w b) k ∙ elim (cases_lt k (bits w)) [ inl lt ↦ ap (λ (x : Bool). has a k && x) (ap (λ (x : ℕ). eqb x 1) (bit_at_not w b k hb lt) ∙ opposite (bit_at b k) (bit_at-lt b k)) | inr le ↦ and_same a k (has (bit_not w b) k) (not (has b k)) (has_none_above (bits w) a k ha le) ]
+    has_and a (bit_not w b) k ∙ elim (cases_lt k (bits w)) [
+      | inl lt ↦ ap (λ (x : Bool). has a k && x) (ap (λ (x : ℕ). eqb x 1) (bit_at_not w b k hb lt) ∙ opposite (bit_at b k) (bit_at-lt b k))
+      | inr le ↦ and_same a k (has (bit_not w b) k) (not (has b k)) (has_none_above (bits w) a k ha le)
+    ]
 
 or_false : (b : Bool) → b ≡ (b || false)
 or_false true = refl
@@ -53,7 +58,12 @@ or_true false = refl
 
 pub has_with : (w : Width) (set one k : ℕ) → one < bits w → has (bit_or set (1 * 2 ^ one % 2 ^ bits w)) k ≡ (has set k || eqb k one)
 has_with w set one k within =
-    elim (cases_eq k one) [ inl e ↦ subst (λ (x : ℕ). has (bit_or set (1 * 2 ^ one % 2 ^ bits w)) x ≡ (has set x || eqb x one)) (sym e) (ap (λ (x : ℕ). eqb x 1) (bit_at_set_same w set one within) ∙ or_true (has set one) ∙ ap (λ (x : Bool). has set one || x) (sym (eq-eqb one one refl))) | inr ne ↦ ap (λ (x : ℕ). eqb x 1) (bit_at_set_other w set one within k ne) ∙ or_false (has set k) ∙ ap (λ (x : Bool). has set k || x) (sym (ne_eqb k one ne)) ]
+    elim (cases_eq k one) [
+      | inl e ↦ subst (λ (x : ℕ). has (bit_or set (1 * 2 ^ one % 2 ^ bits w)) x ≡ (has set x || eqb x one)) (sym e)
+          (ap (λ (x : ℕ). eqb x 1) (bit_at_set_same w set one within) ∙ or_true (has set one) ∙ ap (λ (x : Bool). has set one || x) (sym (eq-eqb one one refl)))
+      | inr ne ↦ ap (λ (x : ℕ). eqb x 1) (bit_at_set_other w set one within k ne) ∙ or_false (has set k)
+          ∙ ap (λ (x : Bool). has set k || x) (sym (ne_eqb k one ne))
+    ]
 
 and_true : (b : Bool) → b ≡ (b && true)
 and_true true = refl
@@ -63,19 +73,39 @@ and_false : (b : Bool) → false ≡ (b && false)
 and_false true = refl
 and_false false = refl
 
-pub has_without : (w : Width) (set one k : ℕ) → one < bits w → set < 2 ^ bits w → has (bit_and set (bit_not w (1 * 2 ^ one % 2 ^ bits w))) k ≡ (has set k && not (eqb k one))
+pub has_without : (w : Width) (set one k : ℕ) → one < bits w → set < 2 ^ bits w
+    → has (bit_and set (bit_not w (1 * 2 ^ one % 2 ^ bits w))) k ≡ (has set k && not (eqb k one))
 has_without w set one k within small =
-    elim (cases_eq k one) [ inl e ↦ subst (λ (x : ℕ). has (bit_and set (bit_not w (1 * 2 ^ one % 2 ^ bits w))) x ≡ (has set x && not (eqb x one))) (sym e) (ap (λ (x : ℕ). eqb x 1) (bit_at_clear_same w set one within) ∙ and_false (has set one) ∙ ap (λ (x : Bool). has set one && not x) (sym (eq-eqb one one refl))) | inr ne ↦ elim (cases_lt k (bits w)) [ inl lt ↦ ap (λ (x : ℕ). eqb x 1) (bit_at_clear_other w set one within k lt ne) ∙ and_true (has set k) ∙ ap (λ (x : Bool). has set k && not x) (sym (ne_eqb k one ne)) | inr le ↦ has_and set (bit_not w (1 * 2 ^ one % 2 ^ bits w)) k ∙ and_same set k (has (bit_not w (1 * 2 ^ one % 2 ^ bits w)) k) (not (eqb k one)) (has_none_above (bits w) set k small le) ] ]
+    elim (cases_eq k one) [
+      | inl e ↦ subst (λ (x : ℕ). has (bit_and set (bit_not w (1 * 2 ^ one % 2 ^ bits w))) x ≡ (has set x && not (eqb x one))) (sym e)
+          (ap (λ (x : ℕ). eqb x 1) (bit_at_clear_same w set one within) ∙ and_false (has set one)
+          ∙ ap (λ (x : Bool). has set one && not x) (sym (eq-eqb one one refl)))
+      | inr ne ↦ elim (cases_lt k (bits w)) [
+        | inl lt ↦ ap (λ (x : ℕ). eqb x 1) (bit_at_clear_other w set one within k lt ne) ∙ and_true (has set k)
+            ∙ ap (λ (x : Bool). has set k && not x) (sym (ne_eqb k one ne))
+        | inr le ↦ has_and set (bit_not w (1 * 2 ^ one % 2 ^ bits w)) k
+            ∙ and_same set k (has (bit_not w (1 * 2 ^ one % 2 ^ bits w)) k) (not (eqb k one)) (has_none_above (bits w) set k small le)
+      ]
+    ]
 
 -- what is not a member stays none without another number
 pub has_without_none : (width set one k : ℕ) → set < 2 ^ width → width ≤ one → has set k ≡ (has set k && not (eqb k one))
 has_without_none width set one k small beyond =
-    elim (cases_eq k one) [ inl e ↦ (let none : has set k ≡ false = has_none_above width set k small (omega arith) in none ∙ ap (λ (x : Bool). x && not (eqb k one)) (sym none)) | inr ne ↦ and_true (has set k) ∙ ap (λ (x : Bool). has set k && not x) (sym (ne_eqb k one ne)) ]
+    elim (cases_eq k one) [
+      | inl e ↦ (let none : has set k ≡ false = has_none_above width set k small (omega arith) in none ∙ ap (λ (x : Bool). x && not (eqb k one)) (sym none))
+      | inr ne ↦ and_true (has set k) ∙ ap (λ (x : Bool). has set k && not x) (sym (ne_eqb k one ne))
+    ]
 
 -- the members from an index on
 pub has_from : (width set low k : ℕ) → set < 2 ^ width → low ≤ width → has (bit_and set ((2 ^ width - 1) * 2 ^ low % 2 ^ width)) k ≡ (has set k && leb low k)
 has_from width set low k small within =
-    ap (λ (m : ℕ). has (bit_and set m) k) (ones_shl width low within) ∙ has_and set (2 ^ width - 2 ^ low) k ∙ elim (cases_lt k width) [ inl lt ↦ elim (cases_lt k low) [ inl below ↦ ap (λ (x : Bool). has set k && x) (ap (λ (x : ℕ). eqb x 1) (bit_at_mask_below low width k below) ∙ sym (lt-leb_false below)) | inr from ↦ ap (λ (x : Bool). has set k && x) (ap (λ (x : ℕ). eqb x 1) (bit_at_mask_inside low width k from lt) ∙ sym (le-leb low k from)) ] | inr le ↦ and_same set k (has (2 ^ width - 2 ^ low) k) (leb low k) (has_none_above width set k small le) ]
+    ap (λ (m : ℕ). has (bit_and set m) k) (ones_shl width low within) ∙ has_and set (2 ^ width - 2 ^ low) k ∙ elim (cases_lt k width) [
+      | inl lt ↦ elim (cases_lt k low) [
+        | inl below ↦ ap (λ (x : Bool). has set k && x) (ap (λ (x : ℕ). eqb x 1) (bit_at_mask_below low width k below) ∙ sym (lt-leb_false below))
+        | inr from ↦ ap (λ (x : Bool). has set k && x) (ap (λ (x : ℕ). eqb x 1) (bit_at_mask_inside low width k from lt) ∙ sym (le-leb low k from))
+      ]
+      | inr le ↦ and_same set k (has (2 ^ width - 2 ^ low) k) (leb low k) (has_none_above width set k small le)
+    ]
   where
     lt-leb_false : k < low → leb low k ≡ false
     lt-leb_false below = grind (arith, nat_tests)
@@ -83,7 +113,10 @@ has_from width set low k small within =
 -- none is above the last number
 pub has_past : (width set index k : ℕ) → set < 2 ^ width → width ≤ index + 1 → false ≡ (has set k && ltb index k)
 has_past width set index k small beyond =
-    elim (cases_lt index k) [ inl lt ↦ ap (λ (x : Bool). x && ltb index k) (sym (has_none_above width set k small (omega arith))) | inr le ↦ and_false (has set k) ∙ ap (λ (x : Bool). has set k && x) (sym (le-ltb_false index k le)) ]
+    elim (cases_lt index k) [
+      | inl lt ↦ ap (λ (x : Bool). x && ltb index k) (sym (has_none_above width set k small (omega arith)))
+      | inr le ↦ and_false (has set k) ∙ ap (λ (x : Bool). has set k && x) (sym (le-ltb_false index k le))
+    ]
   where
     le-ltb_false : (index k : ℕ) → k ≤ index → ltb index k ≡ false
     le-ltb_false index k le = grind (arith, nat_tests)
@@ -92,14 +125,18 @@ has_past width set index k small beyond =
 pub Decides-below : (set bound : ℕ) → Decides (eqb (set / 2 ^ bound) 0) (set < 2 ^ bound)
 Decides-below set bound =
     Decides-like (eqb (set / 2 ^ bound) 0)
-    (λ (e : set / 2 ^ bound ≡ 0). let upper : set < set / 2 ^ bound * 2 ^ bound + 2 ^ bound = lt-div-mul-add (pow_pos bound) in let scaled : set / 2 ^ bound * 2 ^ bound ≡ 0 = rw e (omega arith) in omega arith)
+    (λ (e : set / 2 ^ bound ≡ 0). let upper : set < set / 2 ^ bound * 2 ^ bound + 2 ^ bound = lt-div-mul-add (pow_pos bound) in
+    let scaled : set / 2 ^ bound * 2 ^ bound ≡ 0 = rw e (omega arith) in omega arith)
     (λ (below : set < 2 ^ bound). div-eq_of_lt below)
     (Decides-eqb (set / 2 ^ bound) 0)
 
 -- the set of the lowest numbers
 pub has_lowest : (bound k : ℕ) → has (2 ^ bound - 1) k ≡ ltb k bound
 has_lowest bound k =
-    elim (cases_lt k bound) [ inl lt ↦ (let e = ap (λ (x : ℕ). eqb x 1) (bit_at_ones bound k lt) in grind (arith, nat_tests, e)) | inr le ↦ (let e = ap (λ (x : ℕ). eqb x 1) (bit_at_ones_above bound k le) in grind (arith, nat_tests, e)) ]
+    elim (cases_lt k bound) [
+      | inl lt ↦ (let e = ap (λ (x : ℕ). eqb x 1) (bit_at_ones bound k lt) in grind (arith, nat_tests, e))
+      | inr le ↦ (let e = ap (λ (x : ℕ). eqb x 1) (bit_at_ones_above bound k le) in grind (arith, nat_tests, e))
+    ]
 
 -- a set with one member more: that one, and the others
 pub with-here : (set more one : ℕ) → ((k : ℕ) → has more k ≡ (has set k || eqb k one)) → has more one ≡ true
@@ -109,7 +146,8 @@ pub with-others : (set more one : ℕ) → ((k : ℕ) → has more k ≡ (has se
 with-others set more one added other ne = added other ∙ ap (λ (b : Bool). has set other || b) (ne_eqb other one ne) ∙ sym (or_false (has set other))
 
 -- the greatest bit of a number that is not 0
-pub greatest_bit : (width n : ℕ) → 0 < n → n < 2 ^ width → (j : ℕ) × (count_leading_zeros width n + (j + 1) ≡ width) × (bit_at n j ≡ 1) × ((i : ℕ) → j < i → bit_at n i ≡ 0)
+pub greatest_bit : (width n : ℕ) → 0 < n → n < 2 ^ width → (j : ℕ) × (count_leading_zeros width n + (j + 1) ≡ width) × (bit_at n j ≡ 1)
+    × ((i : ℕ) → j < i → bit_at n i ≡ 0)
 greatest_bit width n pos low =
     let top = leading_top width n pos low in
     let j = top.0 in

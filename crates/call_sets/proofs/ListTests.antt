@@ -17,9 +17,13 @@ pub list_any-false : (p : ℕ → Bool) (xs : List ℕ) (j : ℕ) → list_any p
 list_any-false p [] j none among = absurd (false≢true among)
 list_any-false p (x ∷ xs) j none among =
     let parts = or_parts (p x) (list_any p xs) none in
-    elim (or_cases (eqb x j) (is_among j xs) among) [ inl e ↦ subst (λ (y : ℕ). p y ≡ false) (eqb-true x j e) parts.0 | inr e ↦ list_any-false p xs j parts.1 e ]
+    elim (or_cases (eqb x j) (is_among j xs) among) [
+      | inl e ↦ subst (λ (y : ℕ). p y ≡ false) (eqb-true x j e) parts.0
+      | inr e ↦ list_any-false p xs j parts.1 e
+    ]
 
 pub list_any-none : (p : ℕ → Bool) (xs : List ℕ) → ((j : ℕ) → is_among j xs ≡ true → p j ≡ false) → list_any p xs ≡ false
 list_any-none p [] h = refl
 list_any-none p (x ∷ xs) h =
-    or_from (p x) (list_any p xs) (h x (or_left (eqb x x) (is_among x xs) (eq-eqb x x refl))) (list_any-none p xs (λ j e. h j (or_right (eqb x j) (is_among j xs) e)))
+    or_from (p x) (list_any p xs) (h x (or_left (eqb x x) (is_among x xs) (eq-eqb x x refl)))
+    (list_any-none p xs (λ j e. h j (or_right (eqb x j) (is_among j xs) e)))

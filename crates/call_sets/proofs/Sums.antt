@@ -1,5 +1,6 @@
 -- Sums over the numbers below a bound.
-use Rattle.std.proofs.Common.{◌≡◌, add-one, ℕ, zero, suc, ◌+◌, ◌*◌, ◌<◌, ◌≤◌, ◌==◌, Bool, true, false, cond, eqb, List, length, get_or, take, refl, sym, ap, ◌∙◌, subst, inl, inr, arith}
+use Rattle.std.proofs.Common.{◌≡◌, add-one, ℕ, zero, suc, ◌+◌, ◌*◌, ◌<◌, ◌≤◌, ◌==◌, Bool, true, false, cond, eqb, List, length, get_or, take, refl, sym, ap}
+use Rattle.std.proofs.Common.{◌∙◌, subst, inl, inr, arith}
 use Rattle.std.specs.List.{sum_by}
 use Rattle.std.proofs.lemmas.Bool.{false≢true, eq-eqb, ne_eqb}
 use Rattle.std.proofs.lemmas.List.Sums.{sum_by_more}
@@ -26,7 +27,10 @@ sum_where-less n t u f less = sum_below-le n _ _ (λ k _. cond-mono (t k) (u k) 
 pub sum_below-up : (n k : ℕ) (f : ℕ → ℕ) → k ≤ n → sum_below k f ≤ sum_below n f
 sum_below-up zero k f le = let e : k ≡ 0 = omega arith in subst (λ (x : ℕ). sum_below x f ≤ 0) (sym e) (omega arith)
 sum_below-up (suc n) k f le =
-    elim (eq-or-lt_of_le le) [ inl e ↦ subst (λ (x : ℕ). sum_below x f ≤ sum_below (suc n) f) (sym e) (omega arith) | inr lt ↦ (let r = sum_below-up n k f (omega arith) in omega (arith, r)) ]
+    elim (eq-or-lt_of_le le) [
+      | inl e ↦ subst (λ (x : ℕ). sum_below x f ≤ sum_below (suc n) f) (sym e) (omega arith)
+      | inr lt ↦ (let r = sum_below-up n k f (omega arith) in omega (arith, r))
+    ]
 
 -- the sum over the first numbers that pass is part of the sum over all numbers that pass more
 pub sum_where-up : (n k : ℕ) (t u : ℕ → Bool) (f : ℕ → ℕ) → k ≤ n → ((i : ℕ) → t i ≡ true → u i ≡ true) → sum_where k t f ≤ sum_where n u f
@@ -63,7 +67,8 @@ cond_same false false x y e h = refl
 cond_same true false x y e h = absurd (false≢true (sym e))
 cond_same false true x y e h = absurd (false≢true e)
 
-pub sum_where-same : (n : ℕ) (t u : ℕ → Bool) (f g : ℕ → ℕ) → ((k : ℕ) → k < n → t k ≡ u k) → ((k : ℕ) → k < n → t k ≡ true → f k ≡ g k) → sum_where n t f ≡ sum_where n u g
+pub sum_where-same : (n : ℕ) (t u : ℕ → Bool) (f g : ℕ → ℕ) → ((k : ℕ) → k < n → t k ≡ u k) → ((k : ℕ) → k < n → t k ≡ true → f k ≡ g k)
+    → sum_where n t f ≡ sum_where n u g
 sum_where-same n t u f g same values =
     sum_below-same n (λ k. cond (t k) (f k) 0) (λ k. cond (u k) (g k) 0) (λ k b. cond_same (t k) (u k) (f k) (g k) (same k b) (values k b))
 
@@ -81,7 +86,8 @@ sum_below-times (suc n) f g times h =
     omega (arith, r, here, e)
 
 -- a sum of values, each at most this many times another, over fewer numbers
-pub sum_where-times : (n : ℕ) (t u : ℕ → Bool) (f g : ℕ → ℕ) (times : ℕ) → ((k : ℕ) → k < n → t k ≡ true → u k ≡ true) → ((k : ℕ) → k < n → t k ≡ true → f k ≤ times * g k) → sum_where n t f ≤ times * sum_where n u g
+pub sum_where-times : (n : ℕ) (t u : ℕ → Bool) (f g : ℕ → ℕ) (times : ℕ) → ((k : ℕ) → k < n → t k ≡ true → u k ≡ true)
+    → ((k : ℕ) → k < n → t k ≡ true → f k ≤ times * g k) → sum_where n t f ≤ times * sum_where n u g
 sum_where-times n t u f g times less h =
     sum_below-times n (λ k. cond (t k) (f k) 0) (λ k. cond (u k) (g k) 0) times (λ k b. cond_times (t k) (u k) (f k) (g k) times (less k b) (h k b))
 
@@ -115,7 +121,10 @@ pub sum_below-one : (n j p : ℕ) → j < n → p ≤ sum_below n (λ k. cond (j
 sum_below-one zero j p below = absurd (omega arith)
 sum_below-one (suc n) j p below =
     let le : j ≤ n = omega arith in
-    elim (eq-or-lt_of_le le) [ inl e ↦ (let here = ap (λ (b : Bool). cond b p 0) (eq-eqb j n e) in omega (arith, here)) | inr lt ↦ (let r = sum_below-one n j p lt in omega (arith, r)) ]
+    elim (eq-or-lt_of_le le) [
+      | inl e ↦ (let here = ap (λ (b : Bool). cond b p 0) (eq-eqb j n e) in omega (arith, here))
+      | inr lt ↦ (let r = sum_below-one n j p lt in omega (arith, r))
+    ]
 
 -- a sum over the places of a list is one over its elements
 sum_below-take : {X : Type 0} (f : X → ℕ) (xs : List X) (d : X) (n : ℕ) → n ≤ length xs → sum_below n (λ k. f (get_or xs k d)) ≡ sum_by f (take n xs)
@@ -137,4 +146,9 @@ pub sum_where-one : (n : ℕ) (f : ℕ → ℕ) (i : ℕ) → i < n → sum_wher
 sum_where-one zero f i below = absurd (omega arith)
 sum_where-one (suc n) f i below =
     let le : i ≤ n = omega arith in
-    elim (eq-or-lt_of_le le) [ inl e ↦ (let none = sum_where-none n (eqb i) f (λ k b. ne_eqb i k (λ same. omega arith)) in let one = ap {B = ℕ} (λ (x : Bool). cond x (f n) 0) (eq-eqb i n e) in let same = ap f e in omega (arith, none, one, same)) | inr lt ↦ (let one = sum_where-one n f i lt in let none = ap {B = ℕ} (λ (x : Bool). cond x (f n) 0) (ne_eqb i n (λ same. omega arith)) in omega (arith, none, one)) ]
+    elim (eq-or-lt_of_le le) [
+      | inl e ↦ (let none = sum_where-none n (eqb i) f (λ k b. ne_eqb i k (λ same. omega arith)) in
+          let one = ap {B = ℕ} (λ (x : Bool). cond x (f n) 0) (eq-eqb i n e) in let same = ap f e in omega (arith, none, one, same))
+      | inr lt ↦ (let one = sum_where-one n f i lt in let none = ap {B = ℕ} (λ (x : Bool). cond x (f n) 0) (ne_eqb i n (λ same. omega arith)) in
+          omega (arith, none, one))
+    ]

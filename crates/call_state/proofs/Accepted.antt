@@ -1,5 +1,6 @@
 -- A snapshot has no fault exactly where it is accepted.
-use Rattle.std.proofs.Common.{◌≡◌, ℕ, zero, suc, if◌then◌else◌, ◌+◌, ◌<◌, ◌≤◌, ◌==◌, Bool, false, nat_lt, [], length, map, take, None, refl, sym, ap, ◌∙◌, subst, arith}
+use Rattle.std.proofs.Common.{◌≡◌, ℕ, zero, suc, if◌then◌else◌, ◌+◌, ◌<◌, ◌≤◌, ◌==◌, Bool, false, nat_lt, [], length, map, take, None, refl, sym, ap, ◌∙◌}
+use Rattle.std.proofs.Common.{subst, arith}
 use Rattle.std.proofs.lemmas.Bool.{eqb-false, ne_eqb, eq-eqb, ltb-true, and_parts}
 use Rattle.std.proofs.lemmas.List.{length-take-le, length-map, get_or-map}
 use Rattle.std.proofs.lemmas.List.Sums.{sum_by_more, sum_by-take-le}
@@ -8,7 +9,8 @@ use Rattle.elevator_model.specs.declared.Aboard.{Aboard}
 use Rattle.elevator_model.specs.declared.Call.{Call}
 use Rattle.call_sets.specs.Counting.{has}
 use Rattle.elevator_model.specs.Building.{IsBuilding, car_of, floor_count, most_calls}
-use Rattle.elevator_model.specs.Snapshot.{Snapshot, IsAccepted, car_count, call_count, state_of, group_of, call_of, floor_of, no_state, no_group, no_call, persons_aboard}
+use Rattle.elevator_model.specs.Snapshot.{Snapshot, IsAccepted, car_count, call_count, state_of, group_of, call_of, floor_of, no_state, no_group, no_call}
+use Rattle.elevator_model.specs.Snapshot.{persons_aboard}
 use Rattle.elevator_model.specs.Faults.{fault_of_state, fault_of_group, fault_of_call, first_fault_of_snapshot, persons_in, is_on_wrong_side}
 use Rattle.call_state.specs.Ids.{AreDifferent}
 use Rattle.call_state.specs.SnapshotParts.{AreSnapshotParts}
@@ -16,7 +18,8 @@ use Rattle.call_state.proofs.ListTests.{list_any_false, list_any_at_false, fails
 use Rattle.call_sets.proofs.Sums.{sum_below-list}
 use Rattle.call_state.proofs.FirstFaults.{first_found-none, first_in-none, first_in-clear}
 use Rattle.call_state.proofs.ClearGroups.{IsGroupClear, IsGroupClear-from, fault_of_group-clear, capacity-kept}
-use Rattle.call_state.proofs.ClearStates.{IsStateClear, IsStateClear-from, fault_of_state-clear, IsTimely-from, IsTimely-tests, IsCallClear, IsCallClear-from, fault_of_call-clear, possible-from, possible-to}
+use Rattle.call_state.proofs.ClearStates.{IsStateClear, IsStateClear-from, fault_of_state-clear, IsTimely-from, IsTimely-tests, IsCallClear, IsCallClear-from}
+use Rattle.call_state.proofs.ClearStates.{fault_of_call-clear, possible-from, possible-to}
 use Rattle.call_state.proofs.Sides.{AreOnOneSide-from, NoneWrong-from}
 
 few-all : (n most : ℕ) → ((j : ℕ) → j < n → j < most) → n ≤ most
@@ -37,14 +40,17 @@ IsClear-from s none =
     let states = first_found-none _ _ none in
     let others = first_found-none _ _ states.1 in
     record {
-      states = λ c within. ap (λ n. fault_of_state s.building s.moment n (state_of s c)) (sym (length-take-le c s.states (omega arith))) ∙ first_in-none (λ before state. fault_of_state s.building s.moment (length before) state) [] s.states 1 c no_state states.0 within;
+      states = λ c within. ap (λ n. fault_of_state s.building s.moment n (state_of s c)) (sym (length-take-le c s.states (omega arith)))
+          ∙ first_in-none (λ before state. fault_of_state s.building s.moment (length before) state) [] s.states 1 c no_state states.0 within;
       groups = λ k within. first_in-none (fault_of_group s.building s.moment s.states) [] s.aboard (1 + length s.states) k no_group others.0 within;
-      calls = λ j within. first_in-none (fault_of_call s.building s.moment s.aboard) [] s.calls (1 + length s.states + length s.aboard) j no_call others.1 within;
+      calls = λ j within.
+          first_in-none (fault_of_call s.building s.moment s.aboard) [] s.calls (1 + length s.states + length s.aboard) j no_call others.1 within;
     }
 
 pub first_fault-clear : (s : Snapshot) → IsClear s → first_fault_of_snapshot s ≡ None
 first_fault-clear s clear =
-    let states = first_in-clear (λ before state. fault_of_state s.building s.moment (length before) state) [] s.states 1 no_state (λ c within. ap (λ n. fault_of_state s.building s.moment n (state_of s c)) (length-take-le c s.states (omega arith)) ∙ clear.states c within) in
+    let states = first_in-clear (λ before state. fault_of_state s.building s.moment (length before) state) [] s.states 1 no_state
+    (λ c within. ap (λ n. fault_of_state s.building s.moment n (state_of s c)) (length-take-le c s.states (omega arith)) ∙ clear.states c within) in
     let groups = first_in-clear (fault_of_group s.building s.moment s.states) [] s.aboard (1 + length s.states) no_group clear.groups in
     let calls = first_in-clear (fault_of_call s.building s.moment s.aboard) [] s.calls (1 + length s.states + length s.aboard) no_call clear.calls in
     rw (states, groups, calls)
@@ -53,9 +59,14 @@ pub IsAccepted-from : (s : Snapshot) → IsBuilding s.building → AreSnapshotPa
 IsAccepted-from s good parts clear =
     let b = s.building in
     let t = s.moment in
-    let state : (c : ℕ) → c < car_count s → IsStateClear b t c (state_of s c) = λ c within. IsStateClear-from b t c (state_of s c) (clear.states c (let same = parts.states in omega arith)) in
-    let group : (k : ℕ) → k < length s.aboard → IsGroupClear b t s.states (take k s.aboard) (group_of s k) = λ k within. IsGroupClear-from b t s.states (take k s.aboard) (group_of s k) (clear.groups k within) in
-    let call : (j : ℕ) → j < call_count s → IsCallClear b t s.aboard (take j s.calls) (call_of s j) = λ j within. IsCallClear-from b t s.aboard (take j s.calls) (call_of s j) (clear.calls j within) in
+    let state : (c : ℕ) → c < car_count s
+    → IsStateClear b t c (state_of s c) = λ c within. IsStateClear-from b t c (state_of s c) (clear.states c (let same = parts.states in omega arith)) in
+    let group : (k : ℕ) → k < length s.aboard
+    → IsGroupClear b t s.states (take k s.aboard) (group_of s k) =
+    λ k within. IsGroupClear-from b t s.states (take k s.aboard) (group_of s k) (clear.groups k within) in
+    let call : (j : ℕ) → j < call_count s
+    → IsCallClear b t s.aboard (take j s.calls) (call_of s j) =
+    λ j within. IsCallClear-from b t s.aboard (take j s.calls) (call_of s j) (clear.calls j within) in
     record {
       building = good;
       version_low = parts.version_low;
@@ -70,7 +81,9 @@ IsAccepted-from s good parts clear =
             let whole = ap (persons_in c) (take-length s.aboard) in
             let same = persons_aboard-is s c in
             omega (arith, kept, whole, same);
-        one_side = AreOnOneSide-from s c (state_of s c) (λ k inside own. let R : ℕ → Type 0 = λ d. is_on_wrong_side b t d (state_of s d) (take k s.aboard) (group_of s k).destination ≡ false in subst R own (group k inside).side);
+        one_side = AreOnOneSide-from s c (state_of s c)
+            (λ k inside own. let R : ℕ → Type 0 = λ d. is_on_wrong_side b t d (state_of s d) (take k s.aboard) (group_of s k).destination ≡ false in
+            subst R own (group k inside).side);
       };
       unmoving = parts.unmoving;
       groups = λ k within. record {
@@ -80,7 +93,8 @@ IsAccepted-from s good parts clear =
         served = (group k within).served;
         boarded = (group k within).moment;
       };
-      calls_high = few-all (call_count s) (most_calls b.version) (λ j within. let few = (call j within).few in let long = length-take-le j s.calls (omega arith) in omega arith);
+      calls_high = few-all (call_count s) (most_calls b.version)
+          (λ j within. let few = (call j within).few in let long = length-take-le j s.calls (omega arith) in omega arith);
       calls = λ j within. record {
         persons_low = (call j within).persons_low;
         persons_high = (call j within).persons_high;
@@ -90,12 +104,19 @@ IsAccepted-from s good parts clear =
         released = (call j within).released;
         possible = possible-from b (car_count s) (call_of s j) (call_of s j).pin (parts.pins j within) (call j within).possible (call j within).pin;
       };
-      ids = λ j k before within. eqb-false (call_of s j).id (call_of s k).id (fails_before (λ (x : Call). x.id == (call_of s k).id) s.calls no_call k j (call k within).id before within);
-      group_ids = λ j k before within. eqb-false (group_of s j).id (group_of s k).id (fails_before (λ (x : Aboard). x.id == (group_of s k).id) s.aboard no_group k j (group k within).id before within);
-      ids_apart = λ j k first second same. eqb-false (group_of s k).id (call_of s j).id (list_any_at_false (λ (x : Aboard). x.id == (call_of s j).id) s.aboard no_group k (call j first).group_id second) (sym same);
+      ids = λ j k before within.
+          eqb-false (call_of s j).id (call_of s k).id
+          (fails_before (λ (x : Call). x.id == (call_of s k).id) s.calls no_call k j (call k within).id before within);
+      group_ids = λ j k before within.
+          eqb-false (group_of s j).id (group_of s k).id
+          (fails_before (λ (x : Aboard). x.id == (group_of s k).id) s.aboard no_group k j (group k within).id before within);
+      ids_apart = λ j k first second same.
+          eqb-false (group_of s k).id (call_of s j).id
+          (list_any_at_false (λ (x : Aboard). x.id == (call_of s j).id) s.aboard no_group k (call j first).group_id second) (sym same);
     }
 
-persons-before : (s : Snapshot) (k : ℕ) → k < length s.aboard → persons_in (group_of s k).car (take k s.aboard) + (group_of s k).persons ≤ persons_aboard s (group_of s k).car
+persons-before : (s : Snapshot) (k : ℕ) → k < length s.aboard
+    → persons_in (group_of s k).car (take k s.aboard) + (group_of s k).persons ≤ persons_aboard s (group_of s k).car
 persons-before s k within =
     let c = (group_of s k).car in
     let f : Aboard → ℕ = λ x. if x.car == c then x.persons else 0 in
@@ -114,7 +135,8 @@ IsAccepted-to s good =
     let placed = good.placed c (omega arith) in
     let tests = IsTimely-tests s c (state_of s c) placed.timely in
     record {
-      floor = ltb-true (floor_of (state_of s c)) (floor_count b) (and_parts (nat_lt (floor_of (state_of s c)) (floor_count b)) (has (car_of b c).serves (floor_of (state_of s c))) placed.served).0;
+      floor = ltb-true (floor_of (state_of s c)) (floor_count b)
+          (and_parts (nat_lt (floor_of (state_of s c)) (floor_count b)) (has (car_of b c).serves (floor_of (state_of s c))) placed.served).0;
       timely = tests.0;
       served = placed.served;
       opens = tests.1;
@@ -125,8 +147,10 @@ IsAccepted-to s good =
     let persons = persons-before s k within in
     let capacity = placed.capacity in
     record {
-      id = none_before (λ (x : Aboard). x.id == (group_of s k).id) s.aboard no_group k within (λ j before. ne_eqb (group_of s j).id (group_of s k).id (good.group_ids j k before within));
-      floor = ltb-true (group_of s k).destination (floor_count b) (and_parts (nat_lt (group_of s k).destination (floor_count b)) (has (car_of b (group_of s k).car).serves (group_of s k).destination) own.served).0;
+      id = none_before (λ (x : Aboard). x.id == (group_of s k).id) s.aboard no_group k within
+          (λ j before. ne_eqb (group_of s j).id (group_of s k).id (good.group_ids j k before within));
+      floor = ltb-true (group_of s k).destination (floor_count b)
+          (and_parts (nat_lt (group_of s k).destination (floor_count b)) (has (car_of b (group_of s k).car).serves (group_of s k).destination) own.served).0;
       side = NoneWrong-from s (group_of s k).car (state_of s (group_of s k).car) placed.one_side k within refl;
       room = omega (arith, persons, capacity);
       moment = own.boarded;
@@ -140,8 +164,10 @@ IsAccepted-to s good =
     let long = length-take-le j s.calls (omega arith) in
     let high = good.calls_high in
     record {
-      group_id = list_any_false (λ (x : Aboard). x.id == (call_of s j).id) s.aboard no_group (λ k inside. ne_eqb (group_of s k).id (call_of s j).id (λ same. good.ids_apart j k within inside (sym same)));
-      id = none_before (λ (x : Call). x.id == (call_of s j).id) s.calls no_call j within (λ k before. ne_eqb (call_of s k).id (call_of s j).id (good.ids k j before within));
+      group_id = list_any_false (λ (x : Aboard). x.id == (call_of s j).id) s.aboard no_group
+          (λ k inside. ne_eqb (group_of s k).id (call_of s j).id (λ same. good.ids_apart j k within inside (sym same)));
+      id = none_before (λ (x : Call). x.id == (call_of s j).id) s.calls no_call j within
+          (λ k before. ne_eqb (call_of s k).id (call_of s j).id (good.ids k j before within));
       origin = own.origin;
       destination = own.destination;
       travels = own.travels;
@@ -169,4 +195,5 @@ IsAccepted-faultless s good = first_fault-clear s (IsAccepted-to s good)
 pub ids-IsAccepted : (s : Snapshot) → IsAccepted s → AreDifferent (map (λ (x : Call). x.id) s.calls)
 ids-IsAccepted s good j k before within same =
     let long = length-map s.calls (λ (x : Call). x.id) in
-    good.ids j k before (omega arith) (sym (get_or-map (λ (x : Call). x.id) s.calls j no_call 0 (omega arith)) ∙ same ∙ get_or-map (λ (x : Call). x.id) s.calls k no_call 0 (omega arith))
+    good.ids j k before (omega arith)
+    (sym (get_or-map (λ (x : Call). x.id) s.calls j no_call 0 (omega arith)) ∙ same ∙ get_or-map (λ (x : Call). x.id) s.calls k no_call 0 (omega arith))

@@ -1,7 +1,9 @@
 -- A building has no fault exactly where it keeps the rules.
-use Rattle.std.proofs.Common.{◌≡◌, ℕ, zero, suc, ◌+◌, ◌-◌, ◌^◌, ◌<◌, ◌≤◌, ◌==◌, Bool, true, false, not, ◌||◌, nat_lt, cond, List, [], ◌∷◌, ◌++◌, length, map, get_or, slice_index, take, Option, Some, None, sym, ◌∙◌, refl, arith}
+use Rattle.std.proofs.Common.{◌≡◌, ℕ, zero, suc, ◌+◌, ◌-◌, ◌^◌, ◌<◌, ◌≤◌, ◌==◌, Bool, true, false, not, ◌||◌, nat_lt, cond, List, [], ◌∷◌, ◌++◌, length, map}
+use Rattle.std.proofs.Common.{get_or, slice_index, take, Option, Some, None, sym, ◌∙◌, refl, arith}
 use Rattle.std.specs.List.{list_any}
-use Rattle.std.proofs.lemmas.Bool.{and_parts, and_from, ltb-true, ltb-false, lt-ltb, le-ltb, leb-true, leb-false, lt-leb, eqb-true, eqb-false, ne_eqb, not-true, not-false}
+use Rattle.std.proofs.lemmas.Bool.{and_parts, and_from, ltb-true, ltb-false, lt-ltb, le-ltb, leb-true, leb-false, lt-leb, eqb-true, eqb-false, ne_eqb, not-true}
+use Rattle.std.proofs.lemmas.Bool.{not-false}
 use Rattle.std.proofs.lemmas.Bool.Decides.{nat_tests}
 use Rattle.std.proofs.lemmas.List.{get_or-map, length-map, length-take-le}
 use Rattle.elevator_model.specs.declared.CarSpec.{CarSpec}
@@ -36,14 +38,16 @@ rising-from (x ∷ y ∷ ys) rises zero (suc (suc g)) before within =
     let first = ltb-true x y parts.0 in
     let later : y < slice_index (y ∷ ys) (suc g) = rising-from (y ∷ ys) parts.1 0 (suc g) (omega arith) (omega arith) in
     omega arith
-rising-from (x ∷ y ∷ ys) rises (suc f) (suc (suc g)) before within = rising-from (y ∷ ys) (and_parts (nat_lt x y) (is_rising (y ∷ ys)) rises).1 f (suc g) (omega arith) (omega arith)
+rising-from (x ∷ y ∷ ys) rises (suc f) (suc (suc g)) before within =
+    rising-from (y ∷ ys) (and_parts (nat_lt x y) (is_rising (y ∷ ys)) rises).1 f (suc g) (omega arith) (omega arith)
 rising-from (x ∷ y ∷ ys) rises (suc f) (suc zero) before within = absurd (omega arith)
 
 pub is_rising-to : (xs : List ℕ) → ((f g : ℕ) → f < g → g < length xs → slice_index xs f < slice_index xs g) → is_rising xs ≡ true
 is_rising-to [] rises = refl
 is_rising-to (x ∷ []) rises = refl
 is_rising-to (x ∷ y ∷ ys) rises =
-    and_from (nat_lt x y) (is_rising (y ∷ ys)) (lt-ltb x y (rises 0 1 (omega arith) (omega arith))) (is_rising-to (y ∷ ys) (λ f g before within. rises (suc f) (suc g) (omega arith) (omega arith)))
+    and_from (nat_lt x y) (is_rising (y ∷ ys)) (lt-ltb x y (rises 0 1 (omega arith) (omega arith)))
+    (is_rising-to (y ∷ ys) (λ f g before within. rises (suc f) (suc g) (omega arith) (omega arith)))
 
 pub record IsInRanges (b : Building) : Type 0 where
   pub version_low : 1 ≤ b.version
@@ -113,7 +117,8 @@ pub record IsSpecClear (floors greatest : ℕ) (before : List CarSpec) (car : Ca
   pub few : length before < greatest
   pub two : 2 ≤ sum_where floors (has car.serves) (λ _. 1)
 
-pub IsSpecClear-from : (floors greatest : ℕ) (before : List CarSpec) (car : CarSpec) → fault_of_spec floors greatest before car ≡ None → IsSpecClear floors greatest before car
+pub IsSpecClear-from : (floors greatest : ℕ) (before : List CarSpec) (car : CarSpec) → fault_of_spec floors greatest before car ≡ None
+    → IsSpecClear floors greatest before car
 IsSpecClear-from floors greatest before car none =
     let a = cond-none _ _ _ none in
     let b = cond-none _ _ _ a.1 in
@@ -145,9 +150,16 @@ IsCarSpec-from floors greatest before car clear =
 pub is_in_range-from : (floors : ℕ) (car : CarSpec) → IsCarSpec floors car → is_in_range car ≡ true
 is_in_range-from floors car good = grind (arith, nat_tests)
 
-pub fault_of_spec-clear : (floors greatest : ℕ) (before : List CarSpec) (car : CarSpec) → IsSpecClear floors greatest before car → fault_of_spec floors greatest before car ≡ None
+pub fault_of_spec-clear : (floors greatest : ℕ) (before : List CarSpec) (car : CarSpec) → IsSpecClear floors greatest before car
+    → fault_of_spec floors greatest before car ≡ None
 fault_of_spec-clear floors greatest before car clear =
-    rw (clear.in_range, clear.id, lt-leb (2 ^ floors) car.serves clear.below, lt-leb greatest (length before) clear.few, le-ltb (sum_where floors (has car.serves) (λ _. 1)) 2 clear.two)
+    rw (
+      clear.in_range,
+      clear.id,
+      lt-leb (2 ^ floors) car.serves clear.below,
+      lt-leb greatest (length before) clear.few,
+      le-ltb (sum_where floors (has car.serves) (λ _. 1)) 2 clear.two,
+    )
 
 -- where there is no fault, the rules are kept
 pub faultless-IsBuilding : (b : Building) → IsTravelSquare b.travel → first_fault_of_building b ≡ None → IsBuilding b
@@ -158,7 +170,10 @@ faultless-IsBuilding b square none =
     let frame = cond-none _ _ _ parts.0 in
     let rising = cond-none _ _ _ frame.1 in
     let r = IsInRanges-from b (not-false (in_ranges b) frame.0) in
-    let each : (c : ℕ) → c < length b.cars → IsSpecClear floors greatest (take c b.cars) (car_of b c) = λ c within. IsSpecClear-from floors greatest (take c b.cars) (car_of b c) (first_in-none (fault_of_spec floors greatest) [] b.cars 1 c no_car parts.1 within) in
+    let each : (c : ℕ) → c < length b.cars
+    → IsSpecClear floors greatest (take c b.cars) (car_of b c) =
+    λ c within. IsSpecClear-from floors greatest (take c b.cars) (car_of b c)
+    (first_in-none (fault_of_spec floors greatest) [] b.cars 1 c no_car parts.1 within) in
     record {
       version_low = r.version_low;
       version_high = r.version_high;
@@ -182,7 +197,9 @@ faultless-IsBuilding b square none =
           let long = length-take-le (length b.cars - 1) b.cars (omega arith) in
           omega arith;
       cars = λ c within. IsCarSpec-from floors greatest (take c b.cars) (car_of b c) (each c within);
-      ids = λ c d before within. eqb-false (car_of b c).id (car_of b d).id (fails_before (λ (x : CarSpec). x.id == (car_of b d).id) b.cars no_car d c (each d within).id before within);
+      ids = λ c d before within.
+          eqb-false (car_of b c).id (car_of b d).id
+          (fails_before (λ (x : CarSpec). x.id == (car_of b d).id) b.cars no_car d c (each d within).id before within);
       travel_floors = r.travel_floors;
       travel = square;
     }
@@ -215,7 +232,8 @@ IsBuilding-faultless b good =
     let high : length b.cars ≤ greatest = good.cars_high in
     fault_of_spec-clear floors greatest (take c b.cars) (car_of b c) (record {
       in_range = is_in_range-from floors (car_of b c) (good.cars c within);
-      id = none_before (λ (x : CarSpec). x.id == (car_of b c).id) b.cars no_car c within (λ k before. ne_eqb (car_of b k).id (car_of b c).id (good.ids k c before within));
+      id = none_before (λ (x : CarSpec). x.id == (car_of b c).id) b.cars no_car c within
+          (λ k before. ne_eqb (car_of b k).id (car_of b c).id (good.ids k c before within));
       below = (good.cars c within).serves_floors;
       few = omega arith;
       two = (good.cars c within).serves_two;
@@ -227,4 +245,5 @@ IsBuilding-faultless b good =
 pub ids-IsBuilding : (b : Building) → IsBuilding b → AreDifferent (map (λ (x : CarSpec). x.id) b.cars)
 ids-IsBuilding b good j k before within same =
     let long = length-map b.cars (λ (x : CarSpec). x.id) in
-    good.ids j k before (omega arith) (sym (get_or-map (λ (x : CarSpec). x.id) b.cars j no_car 0 (omega arith)) ∙ same ∙ get_or-map (λ (x : CarSpec). x.id) b.cars k no_car 0 (omega arith))
+    good.ids j k before (omega arith)
+    (sym (get_or-map (λ (x : CarSpec). x.id) b.cars j no_car 0 (omega arith)) ∙ same ∙ get_or-map (λ (x : CarSpec). x.id) b.cars k no_car 0 (omega arith))

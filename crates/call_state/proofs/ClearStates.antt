@@ -1,7 +1,8 @@
 -- States and calls without a fault: what each is.
 use Rattle.std.proofs.Common.{◌≡◌, ℕ, ◌+◌, ◌<◌, ◌≤◌, ◌==◌, true, false, not, ◌&&◌, nat_le, nat_lt, List, length, Option, Some, None, IfSome, refl, sym, subst}
 use Rattle.std.specs.List.{list_any}
-use Rattle.std.proofs.lemmas.Bool.{and_parts, or_parts, or_from, ltb-false, le-ltb, leb-true, leb-false, le-leb, lt-leb, eqb-true, eqb-false, eq-eqb, ne_eqb, not-true, not-false, not_from_true}
+use Rattle.std.proofs.lemmas.Bool.{and_parts, or_parts, or_from, ltb-false, le-ltb, leb-true, leb-false, le-leb, lt-leb, eqb-true, eqb-false, eq-eqb, ne_eqb}
+use Rattle.std.proofs.lemmas.Bool.{not-true, not-false, not_from_true}
 use Rattle.elevator_model.specs.declared.CarState.{CarState}
 use Rattle.elevator_model.specs.declared.CarState.TheVariants.{Idle, Coming, Moving}
 use Rattle.elevator_model.specs.declared.Aboard.{Aboard}
@@ -47,11 +48,15 @@ IsTimely-from s c (Coming floor arrives) clear =
 IsTimely-from s c (Moving from up left) clear =
     (ltb-false s.moment left clear.timely, not-false (any_below (floor_count s.building) (is_open s.building c s.moment (Moving from up left))) clear.opens)
 
-pub IsTimely-tests : (s : Snapshot) (c : ℕ) (state : CarState) → IsTimely s c state → (is_untimely s.moment state ≡ false) × (has_no_open_floor s.building s.moment c state ≡ false)
+pub IsTimely-tests : (s : Snapshot) (c : ℕ) (state : CarState) → IsTimely s c state → (is_untimely s.moment state ≡ false)
+    × (has_no_open_floor s.building s.moment c state ≡ false)
 IsTimely-tests s c (Idle floor free) timely =
     (or_from (nat_lt free s.moment) (nat_lt (s.moment + 100000000) free) (le-ltb free s.moment timely.0) (le-ltb (s.moment + 100000000) free timely.1), refl)
-IsTimely-tests s c (Coming floor arrives) timely =
-    (or_from (nat_lt arrives s.moment) (nat_lt (s.moment + 100000000) arrives) (le-ltb arrives s.moment timely.0) (le-ltb (s.moment + 100000000) arrives timely.1), refl)
+IsTimely-tests s c (Coming floor arrives) timely = (
+  or_from (nat_lt arrives s.moment) (nat_lt (s.moment + 100000000) arrives) (le-ltb arrives s.moment timely.0)
+      (le-ltb (s.moment + 100000000) arrives timely.1),
+  refl,
+)
 IsTimely-tests s c (Moving from up left) timely =
     (le-ltb s.moment left timely.0, not_from_true (any_below (floor_count s.building) (is_open s.building c s.moment (Moving from up left))) timely.1)
 
@@ -69,7 +74,8 @@ pub record IsCallClear (b : Building) (t : ℕ) (aboard : List Aboard) (before :
   pub persons_low : 1 ≤ call.persons
   pub persons_high : call.persons ≤ 8
 
-pub IsCallClear-from : (b : Building) (t : ℕ) (aboard : List Aboard) (before : List Call) (call : Call) → fault_of_call b t aboard before call ≡ None → IsCallClear b t aboard before call
+pub IsCallClear-from : (b : Building) (t : ℕ) (aboard : List Aboard) (before : List Call) (call : Call) → fault_of_call b t aboard before call ≡ None
+    → IsCallClear b t aboard before call
 IsCallClear-from b t aboard before call none =
     let ids = cond-none _ _ _ none in
     let floors = cond-none _ _ _ ids.1 in
@@ -96,17 +102,33 @@ IsCallClear-from b t aboard before call none =
       persons_high = leb-true call.persons 8 persons_parts.1;
     }
 
-pub fault_of_call-clear : (b : Building) (t : ℕ) (aboard : List Aboard) (before : List Call) (call : Call) → IsCallClear b t aboard before call → fault_of_call b t aboard before call ≡ None
+pub fault_of_call-clear : (b : Building) (t : ℕ) (aboard : List Aboard) (before : List Call) (call : Call) → IsCallClear b t aboard before call
+    → fault_of_call b t aboard before call ≡ None
 fault_of_call-clear b t aboard before call clear =
-    rw (clear.group_id, clear.id, lt-leb (floor_count b) call.origin clear.origin, lt-leb (floor_count b) call.destination clear.destination, ne_eqb call.origin call.destination clear.travels, clear.possible, clear.pin, le-ltb t call.released clear.released, lt-leb (most_calls b.version) (length before) clear.few, le-leb 1 call.persons clear.persons_low, le-leb call.persons 8 clear.persons_high)
+    rw (
+      clear.group_id,
+      clear.id,
+      lt-leb (floor_count b) call.origin clear.origin,
+      lt-leb (floor_count b) call.destination clear.destination,
+      ne_eqb call.origin call.destination clear.travels,
+      clear.possible,
+      clear.pin,
+      le-ltb t call.released clear.released,
+      lt-leb (most_calls b.version) (length before) clear.few,
+      le-leb 1 call.persons clear.persons_low,
+      le-leb call.persons 8 clear.persons_high,
+    )
 
 -- a call that has no fault has a possible car
-pub possible-from : (b : Building) (n : ℕ) (call : Call) (pin : Option ℕ) → IfSome pin (λ c. c < n) → (not (is_pinned pin) && not (any_below n (λ c. can_take b c call))) ≡ false → can_take_pinned b pin call ≡ true → any_below n (λ c. not (is_pinned_elsewhere pin c) && can_take b c call) ≡ true
+pub possible-from : (b : Building) (n : ℕ) (call : Call) (pin : Option ℕ) → IfSome pin (λ c. c < n)
+    → (not (is_pinned pin) && not (any_below n (λ c. can_take b c call))) ≡ false → can_take_pinned b pin call ≡ true
+    → any_below n (λ c. not (is_pinned_elsewhere pin c) && can_take b c call) ≡ true
 possible-from b n call None within some pinned = not-false (any_below n (λ c. can_take b c call)) some
 possible-from b n call (Some p) within some pinned =
     any_below-at n (λ c. not (is_pinned_elsewhere (Some p) c) && can_take b c call) p within (rw (eq-eqb p p refl, pinned))
 
-pub possible-to : (b : Building) (n : ℕ) (call : Call) (pin : Option ℕ) → any_below n (λ c. not (is_pinned_elsewhere pin c) && can_take b c call) ≡ true → ((not (is_pinned pin) && not (any_below n (λ c. can_take b c call))) ≡ false) × (can_take_pinned b pin call ≡ true)
+pub possible-to : (b : Building) (n : ℕ) (call : Call) (pin : Option ℕ) → any_below n (λ c. not (is_pinned_elsewhere pin c) && can_take b c call) ≡ true
+    → ((not (is_pinned pin) && not (any_below n (λ c. can_take b c call))) ≡ false) × (can_take_pinned b pin call ≡ true)
 possible-to b n call None possible = (not_from_true (any_below n (λ c. can_take b c call)) possible, refl)
 possible-to b n call (Some p) possible =
     let found = any_below-true n (λ c. not (is_pinned_elsewhere (Some p) c) && can_take b c call) possible in

@@ -18,10 +18,13 @@ list_any_at_false p xs d k none within = by (p (get_or xs k d)) refl
     by true is = absurd (false≢true (sym none ∙ list_any_at p xs k d within is))
 
 -- the same of the elements before a place
-pub fails_before : {X : Type 0} (p : X → Bool) (xs : List X) (d : X) (i k : ℕ) → list_any p (take i xs) ≡ false → k < i → i < length xs → p (get_or xs k d) ≡ false
+pub fails_before : {X : Type 0} (p : X → Bool) (xs : List X) (d : X) (i k : ℕ) → list_any p (take i xs) ≡ false → k < i → i < length xs
+    → p (get_or xs k d) ≡ false
 fails_before p xs d i k none before within =
     ap p (sym (get_or-take i xs k d before)) ∙ list_any_at_false p (take i xs) d k none (let long = length-take-le i xs (omega arith) in omega arith)
 
-pub none_before : {X : Type 0} (p : X → Bool) (xs : List X) (d : X) (i : ℕ) → i < length xs → ((k : ℕ) → k < i → p (get_or xs k d) ≡ false) → list_any p (take i xs) ≡ false
+pub none_before : {X : Type 0} (p : X → Bool) (xs : List X) (d : X) (i : ℕ) → i < length xs → ((k : ℕ) → k < i → p (get_or xs k d) ≡ false)
+    → list_any p (take i xs) ≡ false
 none_before p xs d i within fails =
-    list_any_false p (take i xs) d (λ k inside. let long = length-take-le i xs (omega arith) in let before : k < i = omega arith in ap p (get_or-take i xs k d before) ∙ fails k before)
+    list_any_false p (take i xs) d
+    (λ k inside. let long = length-take-le i xs (omega arith) in let before : k < i = omega arith in ap p (get_or-take i xs k d before) ∙ fails k before)

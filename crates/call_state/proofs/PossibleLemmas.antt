@@ -1,5 +1,6 @@
 -- The sets of the possible cars of calls.
-use Rattle.std.proofs.Common.{◌≡◌, ℕ, ◌+◌, ◌∷◌, ◌++◌, [], ◌<◌, ◌≤◌, Bool, true, false, cond, ◌&&◌, ◌||◌, not, eqb, leb, ltb, List, length, get_or, lit≤, sym, ap, subst, ◌∙◌, inl, inr, arith, length-append}
+use Rattle.std.proofs.Common.{◌≡◌, ℕ, ◌+◌, ◌∷◌, ◌++◌, [], ◌<◌, ◌≤◌, Bool, true, false, cond, ◌&&◌, ◌||◌, not, eqb, leb, ltb, List, length, get_or, lit≤, sym}
+use Rattle.std.proofs.Common.{ap, subst, ◌∙◌, inl, inr, arith, length-append}
 use Rattle.std.proofs.lemmas.Bool.{cases_lt, cases_eq, false≢true}
 use Rattle.std.proofs.lemmas.Bool.Decides.{nat_tests}
 use Rattle.std.proofs.lemmas.List.{get_or_append_left, get_or_push, get_or_past}
@@ -36,16 +37,19 @@ one_taken h more true k car added below here = grind (arith, nat_tests, added, b
 one_taken h more false k car added below here =
     elim (cases_eq k car) [ inl e ↦ absurd (false≢true (here e)) | inr ne ↦ grind (arith, nat_tests, added, below, ne) ]
 
-pub possible-taken : (b : Building) (call : Call) (car set more : ℕ) → may_take b car call ≡ true → ((k : ℕ) → has more k ≡ (has set k || eqb k car)) → ArePossibleBelow b call car set → ArePossibleBelow b call (car + 1) more
+pub possible-taken : (b : Building) (call : Call) (car set more : ℕ) → may_take b car call ≡ true → ((k : ℕ) → has more k ≡ (has set k || eqb k car))
+    → ArePossibleBelow b call car set → ArePossibleBelow b call (car + 1) more
 possible-taken b call car set more taken added below k =
-    one_taken (has set k) (has more k) (may_take b k call) k car (added k) (below k) (λ (e : k ≡ car). subst (λ (c : ℕ). may_take b c call ≡ true) (sym e) taken)
+    one_taken (has set k) (has more k) (may_take b k call) k car (added k) (below k)
+    (λ (e : k ≡ car). subst (λ (c : ℕ). may_take b c call ≡ true) (sym e) taken)
 
 one_left : (h t : Bool) (k car : ℕ) → h ≡ (ltb k car && t) → (k ≡ car → t ≡ false) → h ≡ (ltb k (car + 1) && t)
 one_left h false k car below here = grind (arith, nat_tests, below)
 one_left h true k car below here =
     elim (cases_eq k car) [ inl e ↦ absurd (false≢true (sym (here e))) | inr ne ↦ grind (arith, nat_tests, below, ne) ]
 
-pub possible-left : (b : Building) (call : Call) (car set : ℕ) → may_take b car call ≡ false → ArePossibleBelow b call car set → ArePossibleBelow b call (car + 1) set
+pub possible-left : (b : Building) (call : Call) (car set : ℕ) → may_take b car call ≡ false → ArePossibleBelow b call car set
+    → ArePossibleBelow b call (car + 1) set
 possible-left b call car set left below k =
     one_left (has set k) (may_take b k call) k car (below k) (λ (e : k ≡ car). subst (λ (c : ℕ). may_take b c call ≡ false) (sym e) left)
 
@@ -57,7 +61,8 @@ no_car_takes : (b : Building) (call : Call) (k : ℕ) → length b.cars ≤ k �
 no_car_takes b call k past =
     let none : car_of b k ≡ no_car = get_or_past b.cars k no_car past in
     let unserved : has (car_of b k).serves call.origin ≡ false = ap (λ (c : CarSpec). has c.serves call.origin) none ∙ has_zero call.origin in
-    serves_none (not (is_pinned_elsewhere call.pin k)) (leb call.persons (car_of b k).capacity) (ltb call.origin (floor_count b)) (has (car_of b k).serves call.origin) (ltb call.destination (floor_count b) && has (car_of b k).serves call.destination) unserved
+    serves_none (not (is_pinned_elsewhere call.pin k)) (leb call.persons (car_of b k).capacity) (ltb call.origin (floor_count b))
+    (has (car_of b k).serves call.origin) (ltb call.destination (floor_count b) && has (car_of b k).serves call.destination) unserved
 
 at_end : (h t : Bool) (k n : ℕ) → h ≡ (ltb k n && t) → (n ≤ k → t ≡ false) → h ≡ t
 at_end h t k n below past =
@@ -72,11 +77,13 @@ pub record ArePossibleBefore (b : Building) (calls : List Call) (i : ℕ) (sets 
   pub count : length sets ≡ i
   pub each : (j : ℕ) → j < i → IsPossibleSet b (get_or calls j no_call) (get_or sets j 0)
 
-pub possible-next : (b : Building) (calls : List Call) (i set : ℕ) (sets : List ℕ) → IsPossibleSet b (get_or calls i no_call) set → ArePossibleBefore b calls i sets → ArePossibleBefore b calls (i + 1) (sets ++ set ∷ [])
+pub possible-next : (b : Building) (calls : List Call) (i set : ℕ) (sets : List ℕ) → IsPossibleSet b (get_or calls i no_call) set
+    → ArePossibleBefore b calls i sets → ArePossibleBefore b calls (i + 1) (sets ++ set ∷ [])
 possible-next b calls i set sets here before = record {
   count = omega (arith, length-append sets (set ∷ []), before.count);
   each = below_more (λ j. IsPossibleSet b (get_or calls j no_call) (get_or (sets ++ set ∷ []) j 0)) i
-      (λ j within. subst (IsPossibleSet b (get_or calls j no_call)) (sym (get_or_append_left sets (set ∷ []) 0 j (omega (arith, before.count)))) (before.each j within))
+      (λ j within. subst (IsPossibleSet b (get_or calls j no_call)) (sym (get_or_append_left sets (set ∷ []) 0 j (omega (arith, before.count))))
+      (before.each j within))
       (subst (IsPossibleSet b (get_or calls i no_call)) (sym (get_or_push sets set 0 i before.count)) here);
 }
 
@@ -91,10 +98,14 @@ has_possible s call set exactly = record {
 }
 
 -- the set that stands at a call's place
-pub possible_at : (b : Building) (calls : List Call) (sets : List ℕ) (s : Snapshot) (call set : ℕ) → ArePossible b calls sets → b ≡ s.building → calls ≡ s.calls → call < call_count s → set ≡ get_or sets call set → HasPossible s call (car_count s) set
+pub possible_at : (b : Building) (calls : List Call) (sets : List ℕ) (s : Snapshot) (call set : ℕ) → ArePossible b calls sets → b ≡ s.building
+    → calls ≡ s.calls → call < call_count s → set ≡ get_or sets call set → HasPossible s call (car_count s) set
 possible_at b calls sets s call set sound same_building same_calls within is =
     let long : length calls ≡ length s.calls = ap length same_calls in
     let inside : call < length sets = omega (arith, long, sound.count) in
     let here : get_or sets call 0 ≡ set = sym (is ∙ get_or_default_zero sets call set inside) in
-    let exactly : IsPossibleSet b (get_or calls call no_call) set = subst (IsPossibleSet b (get_or calls call no_call)) here (sound.each call (omega (arith, long))) in
-    has_possible s call set (subst (λ (x : Building). IsPossibleSet x (call_of s call) set) same_building (subst (λ (xs : List Call). IsPossibleSet b (get_or xs call no_call) set) same_calls exactly))
+    let exactly : IsPossibleSet b (get_or calls call no_call) set =
+    subst (IsPossibleSet b (get_or calls call no_call)) here (sound.each call (omega (arith, long))) in
+    has_possible s call set
+    (subst (λ (x : Building). IsPossibleSet x (call_of s call) set) same_building
+    (subst (λ (xs : List Call). IsPossibleSet b (get_or xs call no_call) set) same_calls exactly))

@@ -20,7 +20,8 @@ are_apart-same : (floor f : ℕ) → are_apart floor f f ≡ false
 are_apart-same floor f = grind (arith, nat_tests)
 
 -- two destinations, neither of which is the floor
-idle-side : (floor f g : ℕ) → (f ≡ floor → ⊥) → (g ≡ floor → ⊥) → are_apart floor f g ≡ false → ((nat_lt f floor && nat_lt g floor) || (nat_lt floor f && nat_lt floor g)) ≡ true
+idle-side : (floor f g : ℕ) → (f ≡ floor → ⊥) → (g ≡ floor → ⊥) → are_apart floor f g ≡ false
+    → ((nat_lt f floor && nat_lt g floor) || (nat_lt floor f && nat_lt floor g)) ≡ true
 idle-side floor f g other_f other_g apart = grind (arith, nat_tests)
 
 coming-side : (floor f g : ℕ) → are_apart floor f g ≡ false → ((nat_le f floor && nat_le g floor) || (nat_le floor f && nat_le floor g)) ≡ true
@@ -40,23 +41,33 @@ abbrev NoneApart : Snapshot → ℕ → ℕ → Type 0
 NoneApart s c floor =
     (k : ℕ) → k < length s.aboard → (group_of s k).car ≡ c → list_any (apart_test c floor (group_of s k).destination) (take k s.aboard) ≡ false
 
-pair-before : (s : Snapshot) (c floor k m : ℕ) → NoneApart s c floor → k < m → m < length s.aboard → (group_of s k).car ≡ c → (group_of s m).car ≡ c → are_apart floor (group_of s k).destination (group_of s m).destination ≡ false
+pair-before : (s : Snapshot) (c floor k m : ℕ) → NoneApart s c floor → k < m → m < length s.aboard → (group_of s k).car ≡ c → (group_of s m).car ≡ c
+    → are_apart floor (group_of s k).destination (group_of s m).destination ≡ false
 pair-before s c floor k m none before within here there =
-    let fails : ((((group_of s k).car == c)) && are_apart floor (group_of s k).destination (group_of s m).destination) ≡ false = fails_before (apart_test c floor (group_of s m).destination) s.aboard no_group m k (none m within there) before within in
+    let fails : ((((group_of s k).car == c)) && are_apart floor (group_of s k).destination (group_of s m).destination) ≡ false =
+    fails_before (apart_test c floor (group_of s m).destination) s.aboard no_group m k (none m within there) before within in
     let own = eq-eqb (group_of s k).car c here in
     grind arith
 
-pair : (s : Snapshot) (c floor k m : ℕ) → NoneApart s c floor → k < length s.aboard → m < length s.aboard → (group_of s k).car ≡ c → (group_of s m).car ≡ c → are_apart floor (group_of s k).destination (group_of s m).destination ≡ false
+pair : (s : Snapshot) (c floor k m : ℕ) → NoneApart s c floor → k < length s.aboard → m < length s.aboard → (group_of s k).car ≡ c → (group_of s m).car ≡ c
+    → are_apart floor (group_of s k).destination (group_of s m).destination ≡ false
 pair s c floor k m none first second here there =
     elim (cases_order k m) [
-      | inl same ↦ subst (λ (j : ℕ). are_apart floor (group_of s k).destination (group_of s j).destination ≡ false) same (are_apart-same floor (group_of s k).destination)
+      | inl same ↦ subst (λ (j : ℕ). are_apart floor (group_of s k).destination (group_of s j).destination ≡ false) same
+          (are_apart-same floor (group_of s k).destination)
       | inr (inl before) ↦ pair-before s c floor k m none before second here there
       | inr (inr after) ↦ are_apart-turned floor (group_of s m).destination (group_of s k).destination (pair-before s c floor m k none after first there here)
     ]
 
-none_apart : (s : Snapshot) (c floor m : ℕ) → m < length s.aboard → ((k : ℕ) → k < m → (group_of s k).car ≡ c → are_apart floor (group_of s k).destination (group_of s m).destination ≡ false) → list_any (apart_test c floor (group_of s m).destination) (take m s.aboard) ≡ false
+none_apart : (s : Snapshot) (c floor m : ℕ) → m < length s.aboard
+    → ((k : ℕ) → k < m → (group_of s k).car ≡ c → are_apart floor (group_of s k).destination (group_of s m).destination ≡ false)
+    → list_any (apart_test c floor (group_of s m).destination) (take m s.aboard) ≡ false
 none_apart s c floor m within together =
-    none_before (apart_test c floor (group_of s m).destination) s.aboard no_group m within (λ k before. elim (cases_Bool ((group_of s k).car == c)) [ inl own ↦ and_right ((group_of s k).car == c) (are_apart floor (group_of s k).destination (group_of s m).destination) (together k before (eqb-true (group_of s k).car c own)) | inr other ↦ and_left ((group_of s k).car == c) (are_apart floor (group_of s k).destination (group_of s m).destination) other ])
+    none_before (apart_test c floor (group_of s m).destination) s.aboard no_group m within (λ k before. elim (cases_Bool ((group_of s k).car == c)) [
+      | inl own ↦ and_right ((group_of s k).car == c) (are_apart floor (group_of s k).destination (group_of s m).destination)
+          (together k before (eqb-true (group_of s k).car c own))
+      | inr other ↦ and_left ((group_of s k).car == c) (are_apart floor (group_of s k).destination (group_of s m).destination) other
+    ])
 
 -- each group of the car is on no wrong side after those before it
 abbrev pub NoneWrong : Snapshot → ℕ → CarState → Type 0
@@ -65,12 +76,27 @@ NoneWrong s c state =
 
 pub AreOnOneSide-from : (s : Snapshot) (c : ℕ) (state : CarState) → NoneWrong s c state → AreOnOneSide s c state
 AreOnOneSide-from s c (Idle floor free) none =
-    let parts : (k : ℕ) → k < length s.aboard → (group_of s k).car ≡ c → (((group_of s k).destination == floor) ≡ false) × (list_any (apart_test c floor (group_of s k).destination) (take k s.aboard) ≡ false) = λ k within own. or_parts ((group_of s k).destination == floor) (list_any (apart_test c floor (group_of s k).destination) (take k s.aboard)) (none k within own) in
-    λ k m first second here there. idle-side floor (group_of s k).destination (group_of s m).destination (eqb-false (group_of s k).destination floor (parts k first here).0) (eqb-false (group_of s m).destination floor (parts m second there).0) (pair s c floor k m (λ j within own. (parts j within own).1) first second here there)
-AreOnOneSide-from s c (Coming floor arrives) none = λ k m first second here there. coming-side floor (group_of s k).destination (group_of s m).destination (pair s c floor k m none first second here there)
-AreOnOneSide-from s c (Moving from up left) none = λ k within own. not-false (is_open s.building c s.moment (Moving from up left) (group_of s k).destination) (none k within own)
+    let parts : (k : ℕ) → k < length s.aboard → (group_of s k).car ≡ c → (((group_of s k).destination == floor) ≡ false)
+    × (list_any (apart_test c floor (group_of s k).destination) (take k s.aboard) ≡ false) =
+    λ k within own. or_parts ((group_of s k).destination == floor) (list_any (apart_test c floor (group_of s k).destination) (take k s.aboard))
+    (none k within own) in
+    λ k m first second here there.
+    idle-side floor (group_of s k).destination (group_of s m).destination (eqb-false (group_of s k).destination floor (parts k first here).0)
+    (eqb-false (group_of s m).destination floor (parts m second there).0)
+    (pair s c floor k m (λ j within own. (parts j within own).1) first second here there)
+AreOnOneSide-from s c (Coming floor arrives) none =
+    λ k m first second here there. coming-side floor (group_of s k).destination (group_of s m).destination (pair s c floor k m none first second here there)
+AreOnOneSide-from s c (Moving from up left) none =
+    λ k within own. not-false (is_open s.building c s.moment (Moving from up left) (group_of s k).destination) (none k within own)
 
 pub NoneWrong-from : (s : Snapshot) (c : ℕ) (state : CarState) → AreOnOneSide s c state → NoneWrong s c state
-NoneWrong-from s c (Idle floor free) sides = λ m within own. or_from ((group_of s m).destination == floor) (list_any (apart_test c floor (group_of s m).destination) (take m s.aboard)) (idle-other floor (group_of s m).destination (sides m m within within own own)) (none_apart s c floor m within (λ k before here. idle-apart floor (group_of s k).destination (group_of s m).destination (sides k m (omega arith) within here own)))
-NoneWrong-from s c (Coming floor arrives) sides = λ m within own. none_apart s c floor m within (λ k before here. coming-apart floor (group_of s k).destination (group_of s m).destination (sides k m (omega arith) within here own))
-NoneWrong-from s c (Moving from up left) sides = λ k within own. not_from_true (is_open s.building c s.moment (Moving from up left) (group_of s k).destination) (sides k within own)
+NoneWrong-from s c (Idle floor free) sides =
+    λ m within own. or_from ((group_of s m).destination == floor) (list_any (apart_test c floor (group_of s m).destination) (take m s.aboard))
+    (idle-other floor (group_of s m).destination (sides m m within within own own))
+    (none_apart s c floor m within
+    (λ k before here. idle-apart floor (group_of s k).destination (group_of s m).destination (sides k m (omega arith) within here own)))
+NoneWrong-from s c (Coming floor arrives) sides =
+    λ m within own. none_apart s c floor m within
+    (λ k before here. coming-apart floor (group_of s k).destination (group_of s m).destination (sides k m (omega arith) within here own))
+NoneWrong-from s c (Moving from up left) sides =
+    λ k within own. not_from_true (is_open s.building c s.moment (Moving from up left) (group_of s k).destination) (sides k within own)

@@ -9,16 +9,21 @@ or_nothing true p = refl
 or_nothing false p = refl
 
 -- the members so far, and one number more is tested
-pub scan_more : (set new j : ℕ) (passes : Bool) (test : ℕ → Bool) → ((k : ℕ) → has set k ≡ (ltb k j && test k)) → ((k : ℕ) → has new k ≡ (has set k || (eqb k j && passes))) → passes ≡ test j → (k : ℕ) → has new k ≡ (ltb k (j + 1) && test k)
+pub scan_more : (set new j : ℕ) (passes : Bool) (test : ℕ → Bool) → ((k : ℕ) → has set k ≡ (ltb k j && test k))
+    → ((k : ℕ) → has new k ≡ (has set k || (eqb k j && passes))) → passes ≡ test j → (k : ℕ) → has new k ≡ (ltb k (j + 1) && test k)
 scan_more set new j passes test old more same k =
     elim (cases_Bool (eqb k j)) [ inl e ↦ here (eqb-true k j e) e | inr e ↦ other (eqb-false k j e) e ]
   where
     here : k ≡ j → eqb k j ≡ true → has new k ≡ (ltb k (j + 1) && test k)
     here is e =
-        more k ∙ ap (λ (b : Bool). b || (eqb k j && passes)) (old k ∙ ap (λ (b : Bool). b && test k) (le-ltb k j (omega (arith, is)))) ∙ ap (λ (b : Bool). b && passes) e ∙ same ∙ sym (ap test is) ∙ sym (ap (λ (b : Bool). b && test k) (lt-ltb k (j + 1) (omega (arith, is))))
+        more k ∙ ap (λ (b : Bool). b || (eqb k j && passes)) (old k ∙ ap (λ (b : Bool). b && test k) (le-ltb k j (omega (arith, is))))
+        ∙ ap (λ (b : Bool). b && passes) e ∙ same ∙ sym (ap test is) ∙ sym (ap (λ (b : Bool). b && test k) (lt-ltb k (j + 1) (omega (arith, is))))
 
     bound : (k ≡ j → ⊥) → ltb k j ≡ ltb k (j + 1)
-    bound ne = elim (cases_Bool (ltb k j)) [ inl e ↦ (let lt = ltb-true k j e in e ∙ sym (lt-ltb k (j + 1) (omega (arith, lt)))) | inr e ↦ (let le = ltb-false k j e in e ∙ sym (le-ltb k (j + 1) (omega (arith, le, ne)))) ]
+    bound ne = elim (cases_Bool (ltb k j)) [
+      | inl e ↦ (let lt = ltb-true k j e in e ∙ sym (lt-ltb k (j + 1) (omega (arith, lt))))
+      | inr e ↦ (let le = ltb-false k j e in e ∙ sym (le-ltb k (j + 1) (omega (arith, le, ne))))
+    ]
 
     other : (k ≡ j → ⊥) → eqb k j ≡ false → has new k ≡ (ltb k (j + 1) && test k)
     other ne e =
@@ -37,7 +42,8 @@ below_twice j n k p e = ap (λ (x : ℕ). ltb j x && (ltb j n && p)) e ∙ twice
     twice false p = refl
 
 -- some number below the bound passes, and one more is tested
-pub any_more : (set new g d j : ℕ) (passes : Bool) (test : ℕ → ℕ → Bool) → ((f : ℕ) → has set f ≡ any_below j (test f)) → ((f : ℕ) → has new f ≡ (has set f || (eqb f d && passes))) → ((f : ℕ) → (eqb f d && passes) ≡ test f j) → has new g ≡ any_below (j + 1) (test g)
+pub any_more : (set new g d j : ℕ) (passes : Bool) (test : ℕ → ℕ → Bool) → ((f : ℕ) → has set f ≡ any_below j (test f))
+    → ((f : ℕ) → has new f ≡ (has set f || (eqb f d && passes))) → ((f : ℕ) → (eqb f d && passes) ≡ test f j) → has new g ≡ any_below (j + 1) (test g)
 any_more set new g d j passes test old more same =
     more g ∙ ap (λ (b : Bool). b || (eqb g d && passes)) (old g) ∙ ap (λ (b : Bool). any_below j (test g) || b) (same g) ∙ next j
   where
@@ -57,4 +63,7 @@ either_way p a b = ap (λ (x : Bool). x && p) (same_turned a b) ∙ turn (eqb b 
     turn false false = refl
 
     same_turned : (a b : ℕ) → eqb a b ≡ eqb b a
-    same_turned a b = elim (cases_Bool (eqb a b)) [ inl e ↦ e ∙ sym (eq-eqb b a (sym (eqb-true a b e))) | inr e ↦ e ∙ sym (ne_eqb b a (λ same. eqb-false a b e (sym same))) ]
+    same_turned a b = elim (cases_Bool (eqb a b)) [
+      | inl e ↦ e ∙ sym (eq-eqb b a (sym (eqb-true a b e)))
+      | inr e ↦ e ∙ sym (ne_eqb b a (λ same. eqb-false a b e (sym same)))
+    ]

@@ -38,4 +38,5 @@ abbrev pub persons_to : List Aboard → (c g : ℕ) → ℕ
 persons_to groups c g = sum_where (length groups) (is_group_to groups c g) (λ k. (slice_index_or groups k no_group).persons)
 
 abbrev pub moments_to : List Aboard → (c g : ℕ) → ℕ
-moments_to groups c g = sum_where (length groups) (is_group_to groups c g) (λ k. (slice_index_or groups k no_group).persons * (slice_index_or groups k no_group).boarded)
+moments_to groups c g =
+    sum_where (length groups) (is_group_to groups c g) (λ k. (slice_index_or groups k no_group).persons * (slice_index_or groups k no_group).boarded)

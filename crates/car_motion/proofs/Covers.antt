@@ -80,7 +80,9 @@ covers-sum v a t u x y positive first second =
     let near = Reaches-from v a t x (CanCover-from v a t x first) in
     let far = Reaches-from v a u y (CanCover-from v a u y second) in
     let both = Reaches-sum (2000 * v) (a * t) (a * u) (4000000 * a * x) (4000000 * a * y) near far in
-    covers-from v a (t + u) (x + y) (CanCover-reached v a (t + u) (x + y) positive (Reaches-like (2000 * v) (a * t + a * u) (a * (t + u)) (4000000 * a * x + 4000000 * a * y) (4000000 * a * (x + y)) (omega arith) (omega arith) both))
+    covers-from v a (t + u) (x + y)
+    (CanCover-reached v a (t + u) (x + y) positive
+    (Reaches-like (2000 * v) (a * t + a * u) (a * (t + u)) (4000000 * a * x + 4000000 * a * y) (4000000 * a * (x + y)) (omega arith) (omega arith) both))
 
 less-covered : (v a t d e : ℕ) → d ≤ e → CanCover v a t e → CanCover v a t d
 less-covered v a t d e less (inl w) = inl (w.0, omega (arith, w.1))

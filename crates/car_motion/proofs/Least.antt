@@ -41,13 +41,16 @@ short-square : (v a d u : ℕ) → 0 < a → a * d ≤ v * v → CanCover v a u 
 short-square v a d u positive short (inl w) = w.1
 short-square v a d u positive short (inr w) = square_of_top v a d positive short u w.0
 
-pub least-short : (v a d n : ℕ) → 0 < a → a * d ≤ v * v → div_ceil (4000000 * d) a ≤ n * n → ((r : ℕ) → div_ceil (4000000 * d) a ≤ r * r → n ≤ r) → IsLeastTime v a d n
+pub least-short : (v a d n : ℕ) → 0 < a → a * d ≤ v * v → div_ceil (4000000 * d) a ≤ n * n → ((r : ℕ) → div_ceil (4000000 * d) a ≤ r * r → n ≤ r)
+    → IsLeastTime v a d n
 least-short v a d n positive short root least =
     let quotient = quotient_up (4000000 * d) a positive in
     let scaled : a * div_ceil (4000000 * d) a ≤ a * (n * n) = mul-le-mul_left a root in
     record {
       enough = covers-from v a n d (short-enough v a d n short (omega (arith, quotient.enough, scaled)));
-      least = λ u h. least u (quotient_up-least (4000000 * d) a (div_ceil (4000000 * d) a) (u * u) quotient (let square : 4000000 * d ≤ a * u * u = short-square v a d u positive short (CanCover-from v a u d h) in omega arith));
+      least = λ u h. least u
+          (quotient_up-least (4000000 * d) a (div_ceil (4000000 * d) a) (u * u) quotient
+          (let square : 4000000 * d ≤ a * u * u = short-square v a d u positive short (CanCover-from v a u d h) in omega arith));
     }
 
 -- where the greatest speed is kept

@@ -13,7 +13,8 @@ use Rattle.car_motion.proofs.Least.{IsLeastTime-le, IsLeastTime-triangle}
 place_of : (f g n : ℕ) → g < n → ((f * n + g) / n ≡ f) × ((f * n + g) % n ≡ g)
 place_of f g n within = same_from_place ((f * n + g) / n) ((f * n + g) % n) f g n (omega arith) within (omega arith)
 
-pub IsTravelOf-from : (heights : List ℕ) (v a : ℕ) (times : List ℕ) → AreTimes heights v a (length heights * length heights) times → IsTravelOf heights v a (record { floors = length heights; times = times })
+pub IsTravelOf-from : (heights : List ℕ) (v a : ℕ) (times : List ℕ) → AreTimes heights v a (length heights * length heights) times
+    → IsTravelOf heights v a (record { floors = length heights; times = times })
 IsTravelOf-from heights v a times all = record {
   floors = refl;
   size = all.size;
@@ -44,7 +45,8 @@ pub record AreRising (heights : List ℕ) : Type 0 where
   pub low : (f : ℕ) → f < length heights → slice_index heights f ≤ 1000000
   pub rising : (f g : ℕ) → f < g → g < length heights → slice_index heights f < slice_index heights g
 
-apart : (heights : List ℕ) (f g : ℕ) → AreRising heights → f < length heights → g < length heights → f ≢ g → 1 ≤ difference (slice_index heights f) (slice_index heights g)
+apart : (heights : List ℕ) (f g : ℕ) → AreRising heights → f < length heights → g < length heights → f ≢ g
+    → 1 ≤ difference (slice_index heights f) (slice_index heights g)
 apart heights f g rising f_floor g_floor other =
     elim (cases_lt f g) [
       | inl up ↦ omega (arith, rising.rising f g up g_floor)
@@ -60,7 +62,8 @@ no_shorter x y z = omega arith
 none_apart : (x : ℕ) → difference x x ≡ 0
 none_apart x = omega arith
 
-pub IsTravelSquare-from : (heights : List ℕ) (v a : ℕ) (t : Square) → 2 ≤ length heights → length heights ≤ 64 → AreRising heights → 100 ≤ v → v ≤ 20000 → 100 ≤ a → IsTravelOf heights v a t → IsTravelSquare t
+pub IsTravelSquare-from : (heights : List ℕ) (v a : ℕ) (t : Square) → 2 ≤ length heights → length heights ≤ 64 → AreRising heights → 100 ≤ v → v ≤ 20000
+    → 100 ≤ a → IsTravelOf heights v a t → IsTravelSquare t
 IsTravelSquare-from heights v a t two many rising slow fast gentle of = record {
   floors_low = rw of.floors two;
   floors_high = rw of.floors many;
@@ -83,13 +86,19 @@ IsTravelSquare-from heights v a t two many rising slow fast gentle of = record {
       let f_within = rw of.floors at f_floor in
       let g_within = rw of.floors at g_floor in
       let h_within = rw of.floors at h_floor in
-      IsLeastTime-triangle v a _ _ _ _ _ _ (omega arith) (no_shorter (slice_index heights f) (slice_index heights g) (slice_index heights h)) (of.least f g f_within g_within) (of.least g h g_within h_within) (of.least f h f_within h_within);
+      IsLeastTime-triangle v a _ _ _ _ _ _ (omega arith) (no_shorter (slice_index heights f) (slice_index heights g) (slice_index heights h))
+      (of.least f g f_within g_within) (of.least g h g_within h_within) (of.least f h f_within h_within);
 }
 
-pub AreTimes-push : (heights : List ℕ) (v a count : ℕ) (times : List ℕ) (time : ℕ) → AreTimes heights v a count times → IsLeastTime v a (difference (slice_index heights (count / length heights)) (slice_index heights (count % length heights))) time → AreTimes heights v a (count + 1) (times ++ time ∷ [])
+pub AreTimes-push : (heights : List ℕ) (v a count : ℕ) (times : List ℕ) (time : ℕ) → AreTimes heights v a count times
+    → IsLeastTime v a (difference (slice_index heights (count / length heights)) (slice_index heights (count % length heights))) time
+    → AreTimes heights v a (count + 1) (times ++ time ∷ [])
 AreTimes-push heights v a count times time before next = record {
   size = omega (arith, length_push times time, before.size);
-  least = below_more (λ place. IsLeastTime v a (difference (slice_index heights (place / length heights)) (slice_index heights (place % length heights))) (slice_index (times ++ time ∷ []) place)) count
-      (λ place within. let there : place < length times = omega (arith, before.size) in rw (get_or_append_left times (time ∷ []) 0 place there) (before.least place within))
+  least = below_more (λ place.
+      IsLeastTime v a (difference (slice_index heights (place / length heights)) (slice_index heights (place % length heights)))
+      (slice_index (times ++ time ∷ []) place)) count
+      (λ place within. let there : place < length times = omega (arith, before.size) in
+      rw (get_or_append_left times (time ∷ []) 0 place there) (before.least place within))
       (rw (get_or_push times time 0 count before.size) next);
 }

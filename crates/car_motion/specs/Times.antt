@@ -5,4 +5,6 @@ use Rattle.elevator_model.specs.Travel.{IsLeastTime, difference}
 -- the times of the first places of the square, row after row
 pub record AreTimes (heights : List ℕ) (speed accel count : ℕ) (times : List ℕ) : Type 0 where
   pub size : length times ≡ count
-  pub least : (place : ℕ) → place < count → IsLeastTime speed accel (difference (slice_index heights (place / length heights)) (slice_index heights (place % length heights))) (slice_index times place)
+  pub least : (place : ℕ) → place < count
+      → IsLeastTime speed accel (difference (slice_index heights (place / length heights)) (slice_index heights (place % length heights)))
+      (slice_index times place)

@@ -20,7 +20,8 @@ apart-room a b room k h = none (a k) (b k) h (room k)
     none false true e few = cc
 
 -- one set more
-pub one-more : (a b both : ℕ → Bool) → HasRoom 1 (λ j. one_if (a j)) (λ j. one_if (b j)) → ((k : ℕ) → both k ≡ (a k || b k)) → (j : ℕ) → one_if (both j) ≡ one_if (a j) + one_if (b j)
+pub one-more : (a b both : ℕ → Bool) → HasRoom 1 (λ j. one_if (a j)) (λ j. one_if (b j)) → ((k : ℕ) → both k ≡ (a k || b k)) → (j : ℕ)
+    → one_if (both j) ≡ one_if (a j) + one_if (b j)
 one-more a b both room union j = ap one_if (union j) ∙ sum (a j) (b j) (room j)
   where
     sum : (x y : Bool) → one_if x + one_if y ≤ 1 → one_if (x || y) ≡ one_if x + one_if y

@@ -28,7 +28,11 @@ module _ {T C : Type 0} (times : C → ℕ → ℕ) where
       (i : ℕ) (d : Candidate T C) → i < n → (j : ℕ) → has calls j ≡ false → times (get_or items i d).calls j ≡ 0
 
   -- the calls of one candidate more
-  pub takes_more : (items : List (Candidate T C)) (calls own more n : ℕ) (y : Candidate T C) → n < length items → y ≡ get_or items n y → ((j : ℕ) → has own j ≡ false → times y.calls j ≡ 0) → ((k : ℕ) → has more k ≡ (has calls k || has own k)) → TakesFirst items n calls → TakesFirst items (n + 1) more
+  pub takes_more : (items : List (Candidate T C)) (calls own more n : ℕ) (y : Candidate T C) → n < length items → y ≡ get_or items n y
+      → ((j : ℕ) → has own j ≡ false → times y.calls j ≡ 0) → ((k : ℕ) → has more k ≡ (has calls k || has own k)) → TakesFirst items n calls
+      → TakesFirst items (n + 1) more
   takes_more items calls own more n y within at takes union before i d lt j h =
       let parts = neither (has calls j) (has own j) (sym (union j) ∙ h) in
-      last_or_before i n lt (λ e. subst (λ (x : Candidate T C). times x.calls j ≡ 0) (get_or_read items n y within at d ∙ sym (ap (λ (k : ℕ). get_or items k d) e)) (takes j parts.1)) (λ less. before i d less j parts.0)
+      last_or_before i n lt
+      (λ e. subst (λ (x : Candidate T C). times x.calls j ≡ 0) (get_or_read items n y within at d ∙ sym (ap (λ (k : ℕ). get_or items k d) e))
+      (takes j parts.1)) (λ less. before i d less j parts.0)

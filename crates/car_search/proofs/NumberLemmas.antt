@@ -1,5 +1,6 @@
 -- Numbers that fit, and the first numbers one by one.
-use Rattle.std.proofs.Common.{◌≡◌, ℕ, zero, suc, ◌+◌, ◌*◌, ◌^◌, ◌<◌, ◌≤◌, ◌==◌, false, true≢false, ℤ, pos, negsuc, neg_ℤ, ◌+ℤ◌, ◌-ℤ◌, ◌≤ℤ◌, ap, ◌∙◌, inl, inr, arith}
+use Rattle.std.proofs.Common.{◌≡◌, ℕ, zero, suc, ◌+◌, ◌*◌, ◌^◌, ◌<◌, ◌≤◌, ◌==◌, false, true≢false, ℤ, pos, negsuc, neg_ℤ, ◌+ℤ◌, ◌-ℤ◌, ◌≤ℤ◌, ap, ◌∙◌, inl, inr}
+use Rattle.std.proofs.Common.{arith}
 use mir.Syntax.{w128}
 use mir.Val.{to_z, of_z, SFits}
 use Rattle.std.proofs.Math.Nat.{eq-or-lt_of_le}
@@ -44,7 +45,9 @@ sum_is a b first second =
     let high = first.high in
     let least = second.low in
     let most = second.high in
-    wrapped (to_z w128 (of_z w128 a) +ℤ to_z w128 (of_z w128 b)) (a +ℤ b) (ap (λ (z : ℤ). z +ℤ to_z w128 (of_z w128 b)) (near_is a first) ∙ ap (λ (z : ℤ). a +ℤ z) (near_is b second)) (small_fits (a +ℤ b) (omega (arith, ints, low, least)) (omega (arith, ints, high, most)))
+    wrapped (to_z w128 (of_z w128 a) +ℤ to_z w128 (of_z w128 b)) (a +ℤ b)
+    (ap (λ (z : ℤ). z +ℤ to_z w128 (of_z w128 b)) (near_is a first) ∙ ap (λ (z : ℤ). a +ℤ z) (near_is b second))
+    (small_fits (a +ℤ b) (omega (arith, ints, low, least)) (omega (arith, ints, high, most)))
 
 pub difference_is : (a b : ℤ) → IsModest a → IsModest b → to_z w128 (of_z w128 (to_z w128 (of_z w128 a) -ℤ to_z w128 (of_z w128 b))) ≡ a -ℤ b
 difference_is a b first second =
@@ -52,4 +55,6 @@ difference_is a b first second =
     let high = first.high in
     let least = second.low in
     let most = second.high in
-    wrapped (to_z w128 (of_z w128 a) -ℤ to_z w128 (of_z w128 b)) (a -ℤ b) (ap (λ (z : ℤ). z -ℤ to_z w128 (of_z w128 b)) (near_is a first) ∙ ap (λ (z : ℤ). a -ℤ z) (near_is b second)) (small_fits (a -ℤ b) (omega (arith, ints, low, most)) (omega (arith, ints, high, least)))
+    wrapped (to_z w128 (of_z w128 a) -ℤ to_z w128 (of_z w128 b)) (a -ℤ b)
+    (ap (λ (z : ℤ). z -ℤ to_z w128 (of_z w128 b)) (near_is a first) ∙ ap (λ (z : ℤ). a -ℤ z) (near_is b second))
+    (small_fits (a -ℤ b) (omega (arith, ints, low, most)) (omega (arith, ints, high, least)))

@@ -1,6 +1,7 @@
 -- One candidate of each car, such that each call is taken as often as it has to be. How often the calls of a
 -- candidate are taken is told by a function, times, and how often each has to be by a number, whole.
-use Rattle.std.specs.Prelude.{◌≡◌, ℕ, ◌+◌, ◌*◌, ◌^◌, ◌<◌, ◌≤◌, List, [], ◌∷◌, length, All, Bool, true, false, slice_index, slice_index_or, Option, Some, None, ℤ, pos, neg_ℤ, ◌+ℤ◌, ◌-ℤ◌, ◌≤ℤ◌, ◌<ℤ◌}
+use Rattle.std.specs.Prelude.{◌≡◌, ℕ, ◌+◌, ◌*◌, ◌^◌, ◌<◌, ◌≤◌, List, [], ◌∷◌, length, All, Bool, true, false, slice_index, slice_index_or, Option, Some, None}
+use Rattle.std.specs.Prelude.{ℤ, pos, neg_ℤ, ◌+ℤ◌, ◌-ℤ◌, ◌≤ℤ◌, ◌<ℤ◌}
 use Rattle.std.specs.List.{Contains}
 use Rattle.call_sets.specs.Counting.{has}
 use Rattle.search_model.specs.Prices.{scaled}
@@ -67,7 +68,8 @@ module _ {T C : Type 0} where
   -- the same of those that begin with one of the first n candidates of a car
   abbrev pub NoneOfFirstBeats : (times : C → ℕ → ℕ) (whole : ℕ) (all : ℕ → Bool) (taken : ℕ → ℕ) → CarChoice T C → List (CarChoice T C) → (n : ℕ) → ℕ → Type 0
   NoneOfFirstBeats times whole all taken car cars n beat =
-      (i : ℕ) (x : Candidate T C) (xs : List (Candidate T C)) → i < n → IsAt car.candidates.items i x → AreOf cars xs → Completes times whole all taken (x ∷ xs) → beat ≤ cost_of (x ∷ xs)
+      (i : ℕ) (x : Candidate T C) (xs : List (Candidate T C)) → i < n → IsAt car.candidates.items i x → AreOf cars xs
+      → Completes times whole all taken (x ∷ xs) → beat ≤ cost_of (x ∷ xs)
 
   -- Whatever completes what is taken costs at least this many thousandths, and its excess more.
   abbrev pub IsBound : (times : C → ℕ → ℕ) (whole : ℕ) (all : ℕ → Bool) (taken : ℕ → ℕ) → List (CarChoice T C) → ℤ → Type 0
@@ -133,7 +135,8 @@ abbrev pub picks : Selection → ℕ → ℕ
 picks x c = slice_index x.places c
 
 -- picks that complete what is taken and cost less than the cost to beat
-pub record IsSelection {T C : Type 0} (times : C → ℕ → ℕ) (whole : ℕ) (all : ℕ → Bool) (taken : ℕ → ℕ) (c : ℕ) (cars : List (CarChoice T C)) (beat : ℕ) (x : Selection) : Type 0 where
+pub record IsSelection {T C : Type 0} (times : C → ℕ → ℕ) (whole : ℕ) (all : ℕ → Bool) (taken : ℕ → ℕ) (c : ℕ) (cars : List (CarChoice T C)) (beat : ℕ)
+    (x : Selection) : Type 0 where
   pub picked : List (Candidate T C)
   pub places : ArePicked (picks x) c cars picked
   pub completes : Completes times whole all taken picked

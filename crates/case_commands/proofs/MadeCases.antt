@@ -22,7 +22,9 @@ length-map : {X Y : Type 0} (f : X → Y) (xs : List X) → length (map f xs) �
 length-map f [] = refl
 length-map f (x ∷ xs) = ap suc (length-map f xs)
 
-module _ (travel : Square) (number floors cars calls : ℕ) (few_cars : cars ≤ 8) (few_calls : calls ≤ 64) (accepted : IsAccepted (case_snapshot travel number floors cars calls)) (is_travel : IsTravelOf (case_building travel floors cars).heights 2000 1000 travel) where
+module _ (travel : Square) (number floors cars calls : ℕ) (few_cars : cars ≤ 8) (few_calls : calls ≤ 64)
+    (accepted : IsAccepted (case_snapshot travel number floors cars calls))
+    (is_travel : IsTravelOf (case_building travel floors cars).heights 2000 1000 travel) where
   abbrev s : Snapshot
   s = case_snapshot travel number floors cars calls
 
@@ -32,7 +34,8 @@ module _ (travel : Square) (number floors cars calls : ℕ) (few_cars : cars ≤
   building_has : BuildingHasText b
   building_has = record {
     building = accepted.building;
-    ids = λ c within. (let size = cars-length floors cars in subst (λ (car : CarSpec). car.id < 2 ^ 32) (sym (car-at floors cars c within)) (omega (arith, size, within)));
+    ids = λ c within. (let size = cars-length floors cars in
+        subst (λ (car : CarSpec). car.id < 2 ^ 32) (sym (car-at floors cars c within)) (omega (arith, size, within)));
     travel = λ _. is_travel;
   }
 
@@ -41,7 +44,9 @@ module _ (travel : Square) (number floors cars calls : ℕ) (few_cars : cars ≤
     accepted = accepted;
     car_ids = building_has.ids;
     group_ids = λ k within. absurd (omega (arith, within));
-    call_ids = λ j within. (let low : j < calls = rw (calls-length number floors cars calls) at within in subst (λ (call : Call). call.id < 2 ^ 32) (sym (call-at travel number floors cars calls j low)) (omega (arith, low)));
+    call_ids = λ j within.
+        (let low : j < calls = rw (calls-length number floors cars calls) at within in
+        subst (λ (call : Call). call.id < 2 ^ 32) (sym (call-at travel number floors cars calls j low)) (omega (arith, low)));
   }
 
   building_few : length (building_lines b) ≤ 20
@@ -86,7 +91,8 @@ made_has_text number floors cars calls s few_cars few_calls case accepted =
     subst HasText (sym same) (case_has travel number floors cars calls few_cars few_calls fine is_travel)
 
 -- what was written of a generated case
-pub made_case_text : (sizes : CaseSizes) (s : Snapshot) (out text : List ℕ) → sizes.cars ≤ 8 → sizes.calls ≤ 64 → IsCase sizes.number sizes.floors sizes.cars sizes.calls s → IsAccepted s → out ≡ [] → text ≡ out ++ case_text s
+pub made_case_text : (sizes : CaseSizes) (s : Snapshot) (out text : List ℕ) → sizes.cars ≤ 8 → sizes.calls ≤ 64
+    → IsCase sizes.number sizes.floors sizes.cars sizes.calls s → IsAccepted s → out ≡ [] → text ≡ out ++ case_text s
     → (HasText s → IsCaseText (case_text s) s) → IsMadeCase sizes text
 made_case_text sizes s out text few_cars few_calls case accepted empty written again =
     let is_text : text ≡ case_text s = written ∙ ap (λ (front : List ℕ). front ++ case_text s) empty in
@@ -95,5 +101,6 @@ made_case_text sizes s out text few_cars few_calls case accepted empty written a
       case = case;
       accepted = accepted;
       is_text = is_text;
-      again = subst (λ (bytes : List ℕ). IsCaseText bytes s) (sym is_text) (again (made_has_text sizes.number sizes.floors sizes.cars sizes.calls s few_cars few_calls case accepted));
+      again = subst (λ (bytes : List ℕ). IsCaseText bytes s) (sym is_text)
+          (again (made_has_text sizes.number sizes.floors sizes.cars sizes.calls s few_cars few_calls case accepted));
     }

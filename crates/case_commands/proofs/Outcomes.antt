@@ -15,7 +15,8 @@ use Rattle.case_commands.specs.SolveOutcome.{AnswersCases, RefusalIsDue}
 use Rattle.case_commands.specs.CheckOutcome.{CheckRefusalIsDue}
 
 -- what a reader of the whole text says of the input
-pub answers_cases : (left : Option (List ℕ)) (before : Option TextState) (answer : Result Snapshot TextFault) → before ≡ option_map whole_text left → TakesLoneCases before answer → AnswersCases left answer
+pub answers_cases : (left : Option (List ℕ)) (before : Option TextState) (answer : Result Snapshot TextFault) → before ≡ option_map whole_text left
+    → TakesLoneCases before answer → AnswersCases left answer
 answers_cases left before answer is takes input s given case =
     let whole : before ≡ Some (whole_text input) = cc in
     (subst (λ (text : Option TextState). TakesLoneCases text answer) whole takes) s case
@@ -23,7 +24,8 @@ answers_cases left before answer is takes input s given case =
 -- ---- by what a reader tells of its fault
 
 -- where no text can be at fault, memory ran out
-pub ran_out_of_memory : (fault : TextFault) (result : Status) (old new : Option (List ℕ)) (before after : ℕ) → PutsFault fault result old new before after → Tells fault ⊥ → (fault ≡ FailedRead → ⊥) → result ≡ Memory
+pub ran_out_of_memory : (fault : TextFault) (result : Status) (old new : Option (List ℕ)) (before after : ℕ) → PutsFault fault result old new before after
+    → Tells fault ⊥ → (fault ≡ FailedRead → ⊥) → result ≡ Memory
 ran_out_of_memory = fault_memory (λ (fault : TextFault). Tells fault ⊥) (λ number code never. never) (λ never. never)
 
 line_tells : (IsFault : TextFault → Type 0) (fault : TextFault) (text : List ℕ) → IsRefusalLine fault text → Tells fault (IsFault fault) → IsFault fault
@@ -31,7 +33,8 @@ line_tells IsFault = told_by_line (λ (fault : TextFault). Tells fault (IsFault 
 
 -- a refusal line tells what was said of the input
 pub refusal_due : (left left' : Option (List ℕ)) (fault : TextFault) (text : List ℕ) → IsRefusalLine fault text
-    → ((input : List ℕ) → left ≡ Some input → Tells fault (IsLoneCaseFault (reading (whole_text input)) fault)) → FaultShows (option_map whole_text left) fault left' → RefusalIsDue left left' text
+    → ((input : List ℕ) → left ≡ Some input → Tells fault (IsLoneCaseFault (reading (whole_text input)) fault))
+    → FaultShows (option_map whole_text left) fault left' → RefusalIsDue left left' text
 refusal_due left left' fault text is_line refused shows = record {
   fault = fault;
   is_line = is_line;
@@ -40,10 +43,13 @@ refusal_due left left' fault text is_line refused shows = record {
 }
 
 -- and so of `check`
-pub check_refusal_due : (left left' : Option (List ℕ)) (fault : TextFault) (text : List ℕ) → IsRefusalLine fault text → IsRefusedCheck (option_map whole_text left) fault → FaultShows (option_map whole_text left) fault left' → CheckRefusalIsDue left left' text
+pub check_refusal_due : (left left' : Option (List ℕ)) (fault : TextFault) (text : List ℕ) → IsRefusalLine fault text
+    → IsRefusedCheck (option_map whole_text left) fault → FaultShows (option_map whole_text left) fault left' → CheckRefusalIsDue left left' text
 check_refusal_due left left' fault text is_line refused shows = record {
   fault = fault;
   is_line = is_line;
-  read = λ input given. line_tells (IsCheckFault (reading (whole_text input))) fault text is_line (subst (λ (x : Option (List ℕ)). IsRefusedCheck (option_map whole_text x) fault) given refused);
+  read = λ input given.
+      line_tells (IsCheckFault (reading (whole_text input))) fault text is_line
+      (subst (λ (x : Option (List ℕ)). IsRefusedCheck (option_map whole_text x) fault) given refused);
   shows = shows;
 }

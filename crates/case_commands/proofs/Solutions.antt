@@ -22,7 +22,8 @@ use Rattle.case_commands.specs.declared.endings.Ending.{Ending}
 use Rattle.case_commands.specs.declared.endings.Ending.TheVariants.{IsSolved, OfRounds, OfMoves, OfClaims}
 use Rattle.command_ends.specs.Ends.{Streams, Ends, Puts}
 use Rattle.command_ends.proofs.EndLemmas.{ends_either}
-use Rattle.case_commands.specs.SolveOutcome.{SolveDue, AnswerIsDue, AreEnough, IsAnswered, IsPrinted, IsSolution, certificate_part, closing_line, ending_of, status_of_ending}
+use Rattle.case_commands.specs.SolveOutcome.{SolveDue, AnswerIsDue, AreEnough, IsAnswered, IsPrinted, IsSolution, certificate_part, closing_line, ending_of}
+use Rattle.case_commands.specs.SolveOutcome.{status_of_ending}
 use Rattle.case_commands.specs.MakeOutcome.{status_of}
 use Rattle.case_commands.proofs.SearchBounds.{bound_low}
 
@@ -30,19 +31,27 @@ pub cars-le : (s : Snapshot) → IsAccepted s → car_count s ≤ 16
 cars-le s accepted = let high = accepted.building.cars_high in omega (arith, high, most_cars-le s.building.version)
 
 -- where the status of a search is done, its cost is its bound
-cost_is_bound : (s : Snapshot) (rounds moves cost bound : ℕ) (tree : List Twig) (why : StopReason) → status_of why ≡ Done → IsReason s rounds moves cost bound tree why → cost ≡ bound
+cost_is_bound : (s : Snapshot) (rounds moves cost bound : ℕ) (tree : List Twig) (why : StopReason) → status_of why ≡ Done
+    → IsReason s rounds moves cost bound tree why → cost ≡ bound
 cost_is_bound s rounds moves cost bound tree Solved e reason = reason
 cost_is_bound s rounds moves cost bound tree (Rounds done) e reason = absurd (cc e)
 cost_is_bound s rounds moves cost bound tree (Moves car count) e reason = absurd (cc e)
 
 -- a plan whose cost is a bound that a tree proves is optimal
-best_plan : (s : Snapshot) (plan : List (List Stop)) (cost bound : ℕ) (tree : List Twig) → IsAccepted s → Proves s plan cost bound tree → cost ≡ bound → IsOptimal s plan
+best_plan : (s : Snapshot) (plan : List (List Stop)) (cost bound : ℕ) (tree : List Twig) → IsAccepted s → Proves s plan cost bound tree → cost ≡ bound
+    → IsOptimal s plan
 best_plan s plan cost bound tree accepted proves same =
     let reaches : plan_cost_of s plan ≡ bound = proves.costs ∙ same in
-    record { feasible = proves.feasible; least = λ other feasible. subst (λ (n : ℕ). n ≤ plan_cost_of s other) (sym reaches) (proves-bound s plan cost bound tree (cars-le s accepted) proves other feasible) }
+    record {
+      feasible = proves.feasible;
+      least =
+          λ other feasible. subst (λ (n : ℕ). n ≤ plan_cost_of s other) (sym reaches)
+          (proves-bound s plan cost bound tree (cars-le s accepted) proves other feasible);
+    }
 
 -- so is that of a search that is done
-pub optimal : (s : Snapshot) (rounds moves : ℕ) (plan : List (List Stop)) (cost bound : ℕ) (tree : List Twig) (turns : List Turn) (why : StopReason) → IsAccepted s → IsSolveAnswer s rounds moves plan cost bound tree turns why → (status : Status) → status ≡ status_of why → status ≡ Done → IsOptimal s plan
+pub optimal : (s : Snapshot) (rounds moves : ℕ) (plan : List (List Stop)) (cost bound : ℕ) (tree : List Twig) (turns : List Turn) (why : StopReason)
+    → IsAccepted s → IsSolveAnswer s rounds moves plan cost bound tree turns why → (status : Status) → status ≡ status_of why → status ≡ Done → IsOptimal s plan
 optimal s rounds moves plan cost bound tree turns why accepted answer status is done =
     best_plan s plan cost bound tree accepted answer.proves (cost_is_bound s rounds moves cost bound tree why (sym is ∙ done) answer.reason)
 
@@ -54,11 +63,13 @@ solved_where_done (Rounds done) limit false e = absurd (cc e)
 solved_where_done (Moves car count) limit false e = absurd (cc e)
 
 -- the bound that is printed is at most that of the search, also without a certificate
-printed_low : (options : SolveOptions) (s : Snapshot) (stated : Stated) (tree : List Twig) (bound : ℕ) (certificate : List Twig) → IsPrinted options s stated tree bound certificate → (brief : Bool) → options.brief ≡ brief → bound ≤ stated.bound
+printed_low : (options : SolveOptions) (s : Snapshot) (stated : Stated) (tree : List Twig) (bound : ℕ) (certificate : List Twig)
+    → IsPrinted options s stated tree bound certificate → (brief : Bool) → options.brief ≡ brief → bound ≤ stated.bound
 printed_low options s stated tree bound certificate printed true e = (let same = printed.brief e in omega (arith, same))
 printed_low options s stated tree bound certificate printed false e = (printed.certified e).low
 
-module _ (options : SolveOptions) (s : Snapshot) (stated : Stated) (tree : List Twig) (turns : List Turn) (why : StopReason) (accepted : IsAccepted s) (answer : IsSolveAnswer s options.limits.rounds options.limits.most_tours stated.plan stated.cost stated.bound tree turns why)
+module _ (options : SolveOptions) (s : Snapshot) (stated : Stated) (tree : List Twig) (turns : List Turn) (why : StopReason) (accepted : IsAccepted s)
+    (answer : IsSolveAnswer s options.limits.rounds options.limits.most_tours stated.plan stated.cost stated.bound tree turns why)
     (bound : ℕ) (certificate : List Twig) (printed : IsPrinted options s stated tree bound certificate) where
   abbrev shown : Stated
   shown = record { plan = stated.plan; cost = stated.cost; bound = bound }
@@ -73,7 +84,8 @@ module _ (options : SolveOptions) (s : Snapshot) (stated : Stated) (tree : List 
       let lower = printed_low options s stated tree bound certificate printed options.brief refl in
       best_plan s stated.plan stated.cost stated.bound tree accepted answer.proves (omega (arith, low, lower, same))
 
-  pub is_solution : (end : Ending) (status : Status) (text : List ℕ) → end ≡ ending → status ≡ status_of_ending end → text ≡ answer_text s shown ++ certificate_part options s certificate ++ closing_line s end → IsSolution options s status text
+  pub is_solution : (end : Ending) (status : Status) (text : List ℕ) → end ≡ ending → status ≡ status_of_ending end
+      → text ≡ answer_text s shown ++ certificate_part options s certificate ++ closing_line s end → IsSolution options s status text
   is_solution end status text end_is is written =
       record {
         stated = stated;
@@ -87,7 +99,8 @@ module _ (options : SolveOptions) (s : Snapshot) (stated : Stated) (tree : List 
         ending = end;
         ending_is = end_is;
         status_is = is;
-        optimal = λ done. best (eqb-true stated.cost bound (solved_where_done why options.claims (stated.cost == bound) (ap status_of_ending (sym end_is) ∙ sym is ∙ done)));
+        optimal = λ done.
+            best (eqb-true stated.cost bound (solved_where_done why options.claims (stated.cost == bound) (ap status_of_ending (sym end_is) ∙ sym is ∙ done)));
         is_text = written;
       }
 
@@ -99,7 +112,8 @@ ended_by (OfMoves car count) status is = inr is
 ended_by (OfClaims limit) status is = inr is
 
 -- the answer that was put, unless the sink failed
-pub is_answered : (options : SolveOptions) (s t : Snapshot) (status result : Status) (text : List ℕ) → s ≡ t → result ≡ status → IsSolution options s status text → (AreEnough options s → status ≡ Done) → IsAnswered options t result
+pub is_answered : (options : SolveOptions) (s t : Snapshot) (status result : Status) (text : List ℕ) → s ≡ t → result ≡ status
+    → IsSolution options s status text → (AreEnough options s → status ≡ Done) → IsAnswered options t result
 is_answered options s t status result text same put solution enough =
     record {
       ended = elim (ended_by solution.ending status solution.status_is) [ inl done ↦ first (put ∙ done) | inr stopped ↦ second (put ∙ stopped) ];
@@ -112,6 +126,9 @@ is_answered options s t status result text same put solution enough =
     second : result ≡ Stopped → (result ≡ Done) ⊎ (result ≡ Stopped) ⊎ (result ≡ Memory)
     second e = inr (inl e)
 
-pub ends_answered : (options : SolveOptions) (left left' : Option (List ℕ)) (old new : Streams) (text : List ℕ) (status result : Status) → AnswerIsDue options left left' status text → Puts text status result old.taken new.taken old.write_faults new.write_faults → Ends (SolveDue options left left') old new result
+pub ends_answered : (options : SolveOptions) (left left' : Option (List ℕ)) (old new : Streams) (text : List ℕ) (status result : Status)
+    → AnswerIsDue options left left' status text → Puts text status result old.taken new.taken old.write_faults new.write_faults
+    → Ends (SolveDue options left left') old new result
 ends_answered options left left' old new text status result due put =
-    ends_either (SolveDue options left left') old new text Done Stopped status result (λ (x : Status). AnswerIsDue options left left' x text) (λ due. due) (λ wrote. wrote) (λ due. due) (λ wrote. wrote) (ended_by due.solution.ending status due.solution.status_is) due put
+    ends_either (SolveDue options left left') old new text Done Stopped status result (λ (x : Status). AnswerIsDue options left left' x text) (λ due. due)
+    (λ wrote. wrote) (λ due. due) (λ wrote. wrote) (ended_by due.solution.ending status due.solution.status_is) due put

@@ -42,8 +42,10 @@ module _ (sizes : CaseSizes) where
 module _ (s : Snapshot) (rounds moves cost bound : ℕ) (tree : List Twig) (status : Status) where
   done_at : (why : StopReason) → status ≡ status_of why → IsReason s rounds moves cost bound tree why → (status ≡ Done) ↔ (cost ≡ bound)
   done_at Solved is reason = (λ _. reason, λ _. is)
-  done_at (Rounds done) is reason = (λ e. (let never : Stopped ≡ Done = sym is ∙ e in absurd cc), λ e. (let below = reason.below in absurd (omega (arith, e, below))))
-  done_at (Moves car count) is reason = (λ e. (let never : Stopped ≡ Done = sym is ∙ e in absurd cc), λ e. (let below = reason.below in absurd (omega (arith, e, below))))
+  done_at (Rounds done) is reason =
+      (λ e. (let never : Stopped ≡ Done = sym is ∙ e in absurd cc), λ e. (let below = reason.below in absurd (omega (arith, e, below))))
+  done_at (Moves car count) is reason =
+      (λ e. (let never : Stopped ≡ Done = sym is ∙ e in absurd cc), λ e. (let below = reason.below in absurd (omega (arith, e, below))))
 
   stopped_at : (why : StopReason) → status ≡ status_of why → IsReason s rounds moves cost bound tree why → (status ≡ Stopped) ↔ (bound < cost)
   stopped_at Solved is reason = (λ e. (let never : Done ≡ Stopped = sym is ∙ e in absurd cc), λ below. absurd (omega (arith, reason, below)))
@@ -73,7 +75,8 @@ module _ (options : RunOptions) (s : Snapshot) (plan : List (List Stop)) (cost b
   }
 
 module _ (options : RunOptions) (status : Status) (text : List ℕ) (solved : IsSolvedCase options status text) where
-  by_reason : (why : StopReason) → IsReason solved.snapshot options.limits.rounds options.limits.most_tours solved.cost solved.bound solved.tree why → (status ≡ Done) ⊎ (status ≡ Stopped)
+  by_reason : (why : StopReason) → IsReason solved.snapshot options.limits.rounds options.limits.most_tours solved.cost solved.bound solved.tree why
+      → (status ≡ Done) ⊎ (status ≡ Stopped)
   by_reason Solved reason = inl (solved.done.1 reason)
   by_reason (Rounds done) reason = inr (solved.stopped.1 reason.below)
   by_reason (Moves car count) reason = inr (solved.stopped.1 reason.below)
@@ -83,7 +86,8 @@ module _ (options : RunOptions) (status : Status) (text : List ℕ) (solved : Is
 
   -- the lines that were put, unless the sink failed
   pub is_case_solved : (result : Status) → result ≡ status
-      → ((s : Snapshot) → IsCaseOf options.sizes s → rounds_enough s ≤ options.limits.rounds → moves_enough s ≤ options.limits.most_tours → status ≡ Done) → IsCaseSolved options result
+      → ((s : Snapshot) → IsCaseOf options.sizes s → rounds_enough s ≤ options.limits.rounds → moves_enough s ≤ options.limits.most_tours → status ≡ Done)
+      → IsCaseSolved options result
   is_case_solved result put enough = record {
     ended = elim is_ended [ inl done ↦ first (put ∙ done) | inr stopped ↦ second (put ∙ stopped) ];
     enough = λ s case rounds moves. inl (put ∙ enough s case rounds moves);
@@ -95,6 +99,8 @@ module _ (options : RunOptions) (status : Status) (text : List ℕ) (solved : Is
       second : result ≡ Stopped → (result ≡ Done) ⊎ (result ≡ Stopped) ⊎ (result ≡ Memory)
       second e = inr (inl e)
 
-  pub ends_solved : (old new : Streams) (result : Status) → Puts text status result old.taken new.taken old.write_faults new.write_faults → Ends (SolvedCaseDue options) old new result
+  pub ends_solved : (old new : Streams) (result : Status) → Puts text status result old.taken new.taken old.write_faults new.write_faults
+      → Ends (SolvedCaseDue options) old new result
   ends_solved old new result put =
-      ends_either (SolvedCaseDue options) old new text Done Stopped status result (λ (x : Status). IsSolvedCase options x text) (λ due. due) (λ wrote. wrote) (λ due. due) (λ wrote. wrote) is_ended solved put
+      ends_either (SolvedCaseDue options) old new text Done Stopped status result (λ (x : Status). IsSolvedCase options x text) (λ due. due) (λ wrote. wrote)
+      (λ due. due) (λ wrote. wrote) is_ended solved put

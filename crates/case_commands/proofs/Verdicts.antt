@@ -24,7 +24,8 @@ use Rattle.case_commands.specs.CheckOutcome.{CheckDue, VerdictIsDue, IsJudged, s
 
 -- ---- of what was read
 
-pub takes_input : (left : Option (List ℕ)) (input : List ℕ) (s : Snapshot) (stated : Stated) (tree : List Twig) (answer : Result Checked TextFault) → left ≡ Some input → IsCheckText input s stated tree
+pub takes_input : (left : Option (List ℕ)) (input : List ℕ) (s : Snapshot) (stated : Stated) (tree : List Twig) (answer : Result Checked TextFault)
+    → left ≡ Some input → IsCheckText input s stated tree
     → TakesChecks (option_map whole_text left) answer → IsAnsweredCheck s stated tree answer
 takes_input left input s stated tree answer given case takes =
     (subst (λ (x : Option (List ℕ)). TakesChecks (option_map whole_text x) answer) given takes) s stated tree case
@@ -41,8 +42,10 @@ yes_by : (verdict : Verdict) → status_of_verdict verdict ≡ Done → verdict 
 yes_by Yes e = refl
 yes_by (No reason) e = absurd cc
 
-pub verdict_due : (left left' : Option (List ℕ)) (checked : Checked) → IsChecked (option_map whole_text left) checked → IsAtEnd left' → (status : Status) (text : List ℕ)
-    → status ≡ status_of_verdict checked.verdict → text ≡ verdict_text checked.snapshot checked.cost checked.bound checked.verdict → VerdictIsDue left left' status text
+pub verdict_due : (left left' : Option (List ℕ)) (checked : Checked) → IsChecked (option_map whole_text left) checked → IsAtEnd left'
+    → (status : Status) (text : List ℕ)
+    → status ≡ status_of_verdict checked.verdict → text ≡ verdict_text checked.snapshot checked.cost checked.bound checked.verdict
+    → VerdictIsDue left left' status text
 verdict_due left left' checked is ended status text of_verdict written =
     let s = checked.snapshot in
     let stated = is.stated in
@@ -53,10 +56,12 @@ verdict_due left left' checked is ended status text of_verdict written =
       stated = stated;
       tree = is.tree;
       accepted = is.accepted;
-      read = λ input given. subst (λ (x : Option (List ℕ)). IfSome (option_map whole_text x) (λ before. IsCheckAlone (reading before) s stated is.tree)) given is.read;
+      read = λ input given.
+          subst (λ (x : Option (List ℕ)). IfSome (option_map whole_text x) (λ before. IsCheckAlone (reading before) s stated is.tree)) given is.read;
       ended = ended;
       status_is = says;
-      is_text = written ∙ ap (λ (n : ℕ). verdict_text s n checked.bound checked.verdict) is.cost ∙ ap (λ (n : ℕ). verdict_text s stated.cost n checked.verdict) is.bound ∙ ap (verdict_text s stated.cost stated.bound) is.verdict;
+      is_text = written ∙ ap (λ (n : ℕ). verdict_text s n checked.bound checked.verdict) is.cost
+          ∙ ap (λ (n : ℕ). verdict_text s stated.cost n checked.verdict) is.bound ∙ ap (verdict_text s stated.cost stated.bound) is.verdict;
       proves = λ done. (verdict_holds s stated.plan stated.cost stated.bound is.tree is.accepted is.cars is.whole).proof (yes_by verdict (sym says ∙ done));
       bound = λ done. (yes_holds s stated.plan stated.cost stated.bound is.tree is.accepted is.cars is.whole (yes_by verdict (sym says ∙ done))).least;
     }
@@ -65,16 +70,25 @@ either_status : (verdict : Verdict) (status : Status) → status ≡ status_of_v
 either_status Yes status is = inl is
 either_status (No reason) status is = inr is
 
-pub ends_judged : (left left' : Option (List ℕ)) (old new : Streams) (text : List ℕ) (status result : Status) → VerdictIsDue left left' status text → Puts text status result old.taken new.taken old.write_faults new.write_faults → Ends (CheckDue left left') old new result
+pub ends_judged : (left left' : Option (List ℕ)) (old new : Streams) (text : List ℕ) (status result : Status) → VerdictIsDue left left' status text
+    → Puts text status result old.taken new.taken old.write_faults new.write_faults → Ends (CheckDue left left') old new result
 ends_judged left left' old new text status result due put =
     let either = either_status (verdict_of due.snapshot due.stated.plan due.stated.cost due.stated.bound due.tree) status due.status_is in
-    ends_either (CheckDue left left') old new text Done Refused status result (λ (x : Status). VerdictIsDue left left' x text) (λ due. due) (λ wrote. wrote) (λ due. due) (λ wrote. wrote) either due put
+    ends_either (CheckDue left left') old new text Done Refused status result (λ (x : Status). VerdictIsDue left left' x text) (λ due. due) (λ wrote. wrote)
+    (λ due. due) (λ wrote. wrote) either due put
 
-pub is_judged : (left : Option (List ℕ)) (input : List ℕ) (s : Snapshot) (stated : Stated) (tree : List Twig) (checked : Checked) (status result : Status) → IsCheckText input s stated tree
-    → IsChecked (option_map whole_text left) checked → IsCheckOf s stated tree checked → status ≡ status_of_verdict checked.verdict → result ≡ status → IsJudged s stated tree result
+pub is_judged : (left : Option (List ℕ)) (input : List ℕ) (s : Snapshot) (stated : Stated) (tree : List Twig) (checked : Checked) (status result : Status)
+    → IsCheckText input s stated tree
+    → IsChecked (option_map whole_text left) checked → IsCheckOf s stated tree checked → status ≡ status_of_verdict checked.verdict → result ≡ status
+    → IsJudged s stated tree result
 is_judged left input s stated tree checked status result case is of_input of_verdict put =
     let says : result ≡ status_of_verdict (verdict_of s stated.plan stated.cost stated.bound tree) = put ∙ of_verdict ∙ ap status_of_verdict of_input.verdict in
     let accepted = subst IsAccepted of_input.snapshot is.accepted in
     let cars = case.1.answer.2.each_car in
     let whole = filled (root_place s ∷ []) tree case.1.certificate.2.whole in
-    record { ended = inl says; enough = λ proves claims. inl (says ∙ ap status_of_verdict ((sufficient_holds s stated.plan stated.cost stated.bound tree accepted cars whole claims).1 proves)) }
+    record {
+      ended = inl says;
+      enough =
+          λ proves claims.
+          inl (says ∙ ap status_of_verdict ((sufficient_holds s stated.plan stated.cost stated.bound tree accepted cars whole claims).1 proves));
+    }

@@ -71,5 +71,6 @@ Checks old new status = (input : List ℕ) (s : Snapshot) (stated : Stated) (tre
 
 -- the input is nothing of the kind, so it is refused, unless the source or the sink fails or memory is wanting
 abbrev pub RefusesChecks : (old new : Streams) → Status → Type 0
-RefusesChecks old new status = (input : List ℕ) → old.left ≡ Some input → ((s : Snapshot) (stated : Stated) (tree : List Twig) → IsCheckText input s stated tree → ⊥)
+RefusesChecks old new status = (input : List ℕ) → old.left ≡ Some input
+    → ((s : Snapshot) (stated : Stated) (tree : List Twig) → IsCheckText input s stated tree → ⊥)
     → (Rose old.read_faults new.read_faults → ⊥) → (Rose old.write_faults new.write_faults → ⊥) → (status ≡ Input) ⊎ (status ≡ Memory)

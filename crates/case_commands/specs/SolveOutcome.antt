@@ -1,5 +1,6 @@
 -- What the command `solve` leaves: what was read and written, and why it ended.
-use Rattle.std.specs.Prelude.{◌≡◌, ℕ, ◌<◌, ◌≤◌, ◌==◌, ◌⊎◌, IsTrue, Bool, true, false, List, [], ◌∷◌, ◌++◌, length, codes, Option, Some, option_map, Result, if◌then◌else◌}
+use Rattle.std.specs.Prelude.{◌≡◌, ℕ, ◌<◌, ◌≤◌, ◌==◌, ◌⊎◌, IsTrue, Bool, true, false, List, [], ◌∷◌, ◌++◌, length, codes, Option, Some, option_map, Result}
+use Rattle.std.specs.Prelude.{if◌then◌else◌}
 use Rattle.std.specs.Io.BufRead.{ends_with_byte}
 use Rattle.std.specs.Io.KnownBytes.{IsAtEnd}
 use Rattle.elevator_model.specs.Snapshot.{Snapshot, IsAccepted, car_count, spec_of}
@@ -81,7 +82,8 @@ pub record IsSolution (options : SolveOptions) (s : Snapshot) (status : Status) 
   pub ending_is : ending ≡ ending_of why options.claims (stated.cost == bound)
   pub status_is : status ≡ status_of_ending ending
   pub optimal : status ≡ Done → IsOptimal s stated.plan
-  pub is_text : text ≡ answer_text s (record { plan = stated.plan; cost = stated.cost; bound = bound }) ++ certificate_part options s certificate ++ closing_line s ending
+  pub is_text : text ≡ answer_text s (record { plan = stated.plan; cost = stated.cost; bound = bound }) ++ certificate_part options s certificate
+      ++ closing_line s ending
 
 -- where the input is the text of a snapshot, that one is read, unless a read fails or memory is wanting
 abbrev pub AnswersCases : Option (List ℕ) → Result Snapshot TextFault → Type 0

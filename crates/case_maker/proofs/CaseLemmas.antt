@@ -56,7 +56,8 @@ cars-length floors cars = length-map-range_with_len (case_car floors) 0 cars
 pub car-at : (floors cars c : ℕ) → c < length (case_cars floors cars) → get_or (case_cars floors cars) c no_car ≡ case_car floors c
 car-at floors cars c h = get_or-map-range_with_len (case_car floors) 0 cars c c no_car (rw cars-length at h) (zero-add c)
 
-pub IsBuilding-case : (travel : Square) (floors cars : ℕ) → 2 ≤ floors → floors ≤ 64 → 1 ≤ cars → cars ≤ 8 → travel.floors ≡ length (heights floors) → IsTravelSquare travel → IsBuilding (case_building travel floors cars)
+pub IsBuilding-case : (travel : Square) (floors cars : ℕ) → 2 ≤ floors → floors ≤ 64 → 1 ≤ cars → cars ≤ 8 → travel.floors ≡ length (heights floors)
+    → IsTravelSquare travel → IsBuilding (case_building travel floors cars)
 IsBuilding-case travel floors cars two few one most same square = record {
   version_low = omega arith;
   version_high = omega arith;
@@ -99,5 +100,6 @@ building_with floors cars travel = record {
   travel = travel;
 }
 
-pub building_with-case : (made : List ℕ) (specs : List CarSpec) (travel : Square) (floors cars : ℕ) → made ≡ heights floors → specs ≡ case_cars floors cars → building_with made specs travel ≡ case_building travel floors cars
+pub building_with-case : (made : List ℕ) (specs : List CarSpec) (travel : Square) (floors cars : ℕ) → made ≡ heights floors → specs ≡ case_cars floors cars
+    → building_with made specs travel ≡ case_building travel floors cars
 building_with-case made specs travel floors cars first second = rw (first, second) refl

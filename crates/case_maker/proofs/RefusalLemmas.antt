@@ -13,6 +13,7 @@ refused-memory claim (Ok value) holds against = tt
 refused-memory claim (Err e) holds against = no_fault claim e holds against
 
 -- what is known of the value that was built is known of the value that is handed on
-pub handed-on : {X E F : Type 0} (built : Result X E) (result : Result X F) (P Q : X → Type 0) → ((x : X) → P x → Q x) → IfOk result (λ x. built ≡ Ok x) → IfOk built P → IfOk result Q
+pub handed-on : {X E F : Type 0} (built : Result X E) (result : Result X F) (P Q : X → Type 0) → ((x : X) → P x → Q x) → IfOk result (λ x. built ≡ Ok x)
+    → IfOk built P → IfOk result Q
 handed-on built (Ok x) P Q more same holds = more x (subst (λ r. IfOk r P) same holds)
 handed-on built (Err e) P Q more same holds = tt

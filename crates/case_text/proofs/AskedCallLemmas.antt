@@ -19,7 +19,8 @@ is_free None false is none = absurd cc
 is_free (Some c) free is none = absurd cc
 
 -- where there is a last call, it alone decides
-pub asked_last : (s : Snapshot) (call : Call) (free : Bool) → slice_get s.calls (call_count s - 1) ≡ Some call → is_some call.pin ≡ not free → IsTrue free ↔ HasAskedCall s
+pub asked_last : (s : Snapshot) (call : Call) (free : Bool) → slice_get s.calls (call_count s - 1) ≡ Some call → is_some call.pin ≡ not free → IsTrue free
+    ↔ HasAskedCall s
 asked_last s call free last is =
     let within = slice_get_within s.calls (call_count s - 1) call last in
     let same : call_of s (call_count s - 1) ≡ call = get_or_from_slice_get s.calls (call_count s - 1) call no_call last in

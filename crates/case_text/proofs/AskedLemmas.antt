@@ -33,12 +33,14 @@ pub refused_within : (before : Option TextState) (fault : TextFault) → IsRefus
 refused_within None fault is = tt
 refused_within (Some text) fault is = told fault (IsCaseFault (reading text) fault) (IsAskFault (reading text) (Text fault)) (λ here. inl here) is
 
-pub nothing_asked : (before now : Option TextState) (s : Snapshot) (line : ℕ) → IsReadUpToEnd before s line now → (HasAskedCall s → ⊥) → IsRefusedAsked before (NothingAsked line)
+pub nothing_asked : (before now : Option TextState) (s : Snapshot) (line : ℕ) → IsReadUpToEnd before s line now → (HasAskedCall s → ⊥)
+    → IsRefusedAsked before (NothingAsked line)
 nothing_asked None now s line read none = tt
 nothing_asked (Some text) None s line read none = absurd read
 nothing_asked (Some text) (Some behind) s line read none = record { snapshot = s; behind = reading behind; case = read; none = none }
 
-pub refused_behind : (before now : Option TextState) (s : Snapshot) (line : ℕ) (fault : TextFault) → IsReadUpToEnd before s line now → HasAskedCall s → IsNoEnd now fault → IsRefusedAsked before (Text fault)
+pub refused_behind : (before now : Option TextState) (s : Snapshot) (line : ℕ) (fault : TextFault) → IsReadUpToEnd before s line now → HasAskedCall s
+    → IsNoEnd now fault → IsRefusedAsked before (Text fault)
 refused_behind None now s line fault read asked late = tt
 refused_behind (Some text) None s line fault read asked late = absurd read
 refused_behind (Some text) (Some behind) s line fault read asked late =
@@ -67,7 +69,8 @@ takes_refused None fault takes s = tt
 takes_refused (Some text) fault takes s = λ alone. takes s alone.case
 
 -- the case that was read is the one that stands there, and so it has no call that is asked about
-pub takes_none : (before now : Option TextState) (snapshot : Snapshot) (line : ℕ) → TakesCases before (Ok snapshot) now → (HasAskedCall snapshot → ⊥) → TakesAskedCases before (Err (NothingAsked line))
+pub takes_none : (before now : Option TextState) (snapshot : Snapshot) (line : ℕ) → TakesCases before (Ok snapshot) now → (HasAskedCall snapshot → ⊥)
+    → TakesAskedCases before (Err (NothingAsked line))
 takes_none None now snapshot line takes none s = tt
 takes_none (Some text) now snapshot line takes none s = λ alone.
     (let read = takes s (finished alone.case.0) alone.case.1 in

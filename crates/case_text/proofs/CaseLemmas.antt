@@ -11,7 +11,8 @@ use Rattle.snapshot_text.specs.Snapshots.{StandsFor, IsSaid, ReadsLines, IsAnswe
 use Rattle.case_text.specs.CaseTexts.{CaseInFront, IsReadCase, TakesCases, Tells, IsAnswered, TakesLoneCases, IsNoEnd, IsFaultBehind}
 
 -- a building and a snapshot of it, one behind the other
-in_front : (before between now : TextState) (b : Building) (s : Snapshot) → StandsInFront (Some before) b (Some between) → IsSaid (Some between) b false s (Some now) → CaseInFront (reading before) s (reading now)
+in_front : (before between now : TextState) (b : Building) (s : Snapshot) → StandsInFront (Some before) b (Some between)
+    → IsSaid (Some between) b false s (Some now) → CaseInFront (reading before) s (reading now)
 in_front before between now b s first said =
     let lines = said.0 in
     let same : s.building ≡ b = said.2.building in
@@ -21,7 +22,8 @@ in_front before between now b s first said =
       snapshot = (lines, said.1, subst (λ (c : Building). StandsFor c false lines s) (sym same) said.2);
     }
 
-pub case_read : (before between now : Option TextState) (b : Building) (answer : Result Snapshot TextFault) → StandsInFront before b between → IfOk answer (λ s. IsSaid between b false s now) → IfOk answer (λ s. IsReadCase before s now)
+pub case_read : (before between now : Option TextState) (b : Building) (answer : Result Snapshot TextFault) → StandsInFront before b between
+    → IfOk answer (λ s. IsSaid between b false s now) → IfOk answer (λ s. IsReadCase before s now)
 case_read None between now b (Ok s) first said = tt
 case_read (Some before) (Some between) (Some now) b (Ok s) first said = in_front before between now b s first said
 case_read (Some before) (Some between) None b (Ok s) first said = said
@@ -29,7 +31,8 @@ case_read (Some before) None now b (Ok s) first said = absurd first
 case_read before between now b (Err fault) first said = tt
 
 -- a failed read and want of memory alone come in place of a snapshot
-answered : (s : Snapshot) (rest : Reading) (answer : Result Snapshot TextFault) (now : Option TextState) → IsSnapshotAnswered s rest answer now → IsAnswered s rest answer now
+answered : (s : Snapshot) (rest : Reading) (answer : Result Snapshot TextFault) (now : Option TextState) → IsSnapshotAnswered s rest answer now
+    → IsAnswered s rest answer now
 answered s rest (Ok snapshot) now is = is
 answered s rest (Err Read) now is = tt
 answered s rest (Err TooLong) now is = is
@@ -43,9 +46,11 @@ told b rest (Bad line code) now is = is
 told b rest NoMemory now is = tt
 
 -- a building that was read is that of the case in front, and so is the snapshot
-pub takes_both : (before between now : Option TextState) (b : Building) (answer : Result Snapshot TextFault) → TakesBuildings before (Ok b) between → ReadsLines between b false answer now → TakesCases before answer now
+pub takes_both : (before between now : Option TextState) (b : Building) (answer : Result Snapshot TextFault) → TakesBuildings before (Ok b) between
+    → ReadsLines between b false answer now → TakesCases before answer now
 takes_both None between now b answer first second s rest = tt
-takes_both (Some before) None now b answer first second s rest = λ case. absurd ((first case.building.0 s.building case.between case.building.1 case.building.2).1)
+takes_both (Some before) None now b answer first second s rest =
+    λ case. absurd ((first case.building.0 s.building case.between case.building.1 case.building.2).1)
 takes_both (Some before) (Some between) now b answer first second s rest = λ case.
     (let read = first case.building.0 s.building case.between case.building.1 case.building.2 in
     let lines = case.snapshot.0 in
@@ -77,7 +82,8 @@ nothing_behind lines read TooLong end is = subst (λ r. IsFaultBehind r TooLong)
 nothing_behind lines read (Bad line code) end is = subst (λ r. IsFaultBehind r (Bad line code)) end is
 
 -- no fault comes behind a case that stands there alone
-pub takes_late : (before between : Option TextState) (snapshot : Snapshot) (fault : TextFault) → TakesCases before (Ok snapshot) between → IsNoEnd between fault → TakesLoneCases before (Err fault)
+pub takes_late : (before between : Option TextState) (snapshot : Snapshot) (fault : TextFault) → TakesCases before (Ok snapshot) between
+    → IsNoEnd between fault → TakesLoneCases before (Err fault)
 takes_late None between snapshot fault takes late s = tt
 takes_late (Some before) None snapshot fault takes late s = λ case. absurd ((takes s (finished case.0) case.1).1)
 takes_late (Some before) (Some between) snapshot fault takes late s = λ case.

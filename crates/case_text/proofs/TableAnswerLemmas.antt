@@ -9,7 +9,8 @@ use Rattle.text_sections.specs.Canonical.{IsMade}
 use Rattle.text_sections.proofs.CanonicalLemmas.{made, accepted_made}
 use Rattle.case_text.specs.CaseTexts.{Tells, IsFaultBehind, IsNoEnd, IsEnd}
 use Rattle.case_text.specs.TableDrafts.{Draft, no_draft, draft_of, square_read, IsWhole, after}
-use Rattle.case_text.specs.TableTexts.{AreTableLines, TableInFront, IsTableFault, IsLoneTableFault, IsReadTable, IsRefusedTable, TakesTables, IsReadAlone, IsRefusedAlone, TakesLoneTables}
+use Rattle.case_text.specs.TableTexts.{AreTableLines, TableInFront, IsTableFault, IsLoneTableFault, IsReadTable, IsRefusedTable, TakesTables, IsReadAlone}
+use Rattle.case_text.specs.TableTexts.{IsRefusedAlone, TakesLoneTables}
 use Rattle.case_text.proofs.TableLinesRead.{said_of}
 use Rattle.case_text.proofs.TableLinesMade.{made_of}
 use Rattle.case_text.proofs.TableSquareLemmas.{table_of}
@@ -29,7 +30,8 @@ read_table (Some text) (Some behind) end read =
     let said = said_of lines.0 end lines.2 in
     (lines.0, lines.1, subst (λ (d : Draft). AreTableLines lines.0 (square_read d)) said.1 said.2)
 
-pub refused_table : (before now : Option TextState) (fault : TextFault) (end : Draft) → ReadAs after before no_draft (Err fault) end now → IsRefusedTable before fault
+pub refused_table : (before now : Option TextState) (fault : TextFault) (end : Draft) → ReadAs after before no_draft (Err fault) end now
+    → IsRefusedTable before fault
 refused_table None now fault end read = tt
 refused_table (Some text) now (Bad line code) end read = read
 refused_table (Some text) now TooLong end read = read
@@ -51,7 +53,8 @@ takes_read (Some text) (Some behind) end read t rest = λ front.
     let left : reading behind ≡ rest = cc in
     (ap square_read ends, left))
 
-pub takes_refused : (before now : Option TextState) (fault : TextFault) (end : Draft) → ReadAs after before no_draft (Err fault) end now → TakesTables before (Err fault) now
+pub takes_refused : (before now : Option TextState) (fault : TextFault) (end : Draft) → ReadAs after before no_draft (Err fault) end now
+    → TakesTables before (Err fault) now
 takes_refused None now fault end read t rest = tt
 takes_refused (Some text) now (Bad line code) end read t rest = λ front.
     (let clash : refused line code ≡ accepted (draft_of t) rest = sym read ∙ outcome_is (reading text) t rest front in absurd cc)
@@ -78,11 +81,13 @@ pub refused_within : (before : Option TextState) (fault : TextFault) → IsRefus
 refused_within None fault is = tt
 refused_within (Some text) fault is = told fault (IsTableFault (reading text) fault) (IsLoneTableFault (reading text) fault) (λ here. inl here) is
 
-pub refused_behind : (before now : Option TextState) (t : Square) (fault : TextFault) → IsReadTable before t now → IsNoEnd now fault → IsRefusedAlone before fault
+pub refused_behind : (before now : Option TextState) (t : Square) (fault : TextFault) → IsReadTable before t now → IsNoEnd now fault
+    → IsRefusedAlone before fault
 refused_behind None now t fault read late = tt
 refused_behind (Some text) None t fault read late = absurd read
 refused_behind (Some text) (Some behind) t fault read late =
-    told fault (IsFaultBehind (reading behind) fault) (IsLoneTableFault (reading text) fault) (λ here. inr (record { table = t; behind = reading behind; right = read; fault_is = here })) late
+    told fault (IsFaultBehind (reading behind) fault) (IsLoneTableFault (reading text) fault)
+    (λ here. inr (record { table = t; behind = reading behind; right = read; fault_is = here })) late
 
 -- a table that was read is the one that stands there alone
 pub takes_alone : (before now : Option TextState) (table : Square) → TakesTables before (Ok table) now → TakesLoneTables before (Ok table)
@@ -97,7 +102,8 @@ nothing_behind : (lines : ℕ) (read : Reading) (fault : TextFault) → read ≡
 nothing_behind lines read fault end is = told fault (IsFaultBehind read fault) ⊥ (λ here. subst (λ (r : Reading). IsFaultBehind r fault) end here) is
 
 -- no fault comes behind a table that stands there alone
-pub takes_late : (before between : Option TextState) (table : Square) (fault : TextFault) → TakesTables before (Ok table) between → IsNoEnd between fault → TakesLoneTables before (Err fault)
+pub takes_late : (before between : Option TextState) (table : Square) (fault : TextFault) → TakesTables before (Ok table) between → IsNoEnd between fault
+    → TakesLoneTables before (Err fault)
 takes_late None between table fault takes late t = tt
 takes_late (Some text) None table fault takes late t = λ alone. absurd ((takes t (finished alone.0) alone.1).1)
 takes_late (Some text) (Some between) table fault takes late t = λ alone.

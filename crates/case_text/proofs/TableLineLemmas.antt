@@ -1,5 +1,6 @@
 -- What one line of a table says where it is taken.
-use Rattle.std.proofs.Common.{◌≡◌, ℕ, ◌+◌, ◌-◌, ◌*◌, ◌/◌, ◌<◌, ◌≤◌, Bool, true, false, cond, List, [], ◌++◌, length, Option, None, Some, Ok, Err, ap, refl, arith, ◌∙◌, sym, subst, eq-eqb}
+use Rattle.std.proofs.Common.{◌≡◌, ℕ, ◌+◌, ◌-◌, ◌*◌, ◌/◌, ◌<◌, ◌≤◌, Bool, true, false, cond, List, [], ◌++◌, length, Option, None, Some, Ok, Err, ap, refl}
+use Rattle.std.proofs.Common.{arith, ◌∙◌, sym, subst, eq-eqb}
 use Rattle.std.specs.Prelude.{codes, nat_lt, ◌==◌}
 use Rattle.std.proofs.lemmas.Bool.{ne_eqb}
 use Rattle.std.proofs.lemmas.Bool.Decides.{nat_tests}
@@ -26,16 +27,19 @@ IsTaken (goes_on d) = Unit {0}
 IsTaken (is_whole d) = Unit {0}
 IsTaken (is_bad code) = ⊥
 
-due_by_test : (due : Bool) (said : Judged (Step Draft)) (code : TextCode) (step : Step Draft) → IsTaken step → step_of (cond due said (Err code)) ≡ step → (due ≡ true) × (said ≡ Ok step)
+due_by_test : (due : Bool) (said : Judged (Step Draft)) (code : TextCode) (step : Step Draft) → IsTaken step → step_of (cond due said (Err code)) ≡ step
+    → (due ≡ true) × (said ≡ Ok step)
 due_by_test true (Ok made) code step good e = let same : made ≡ step = e in (refl, ap (λ (s : Step Draft). Ok s) same)
 due_by_test true (Err other) code step good e = absurd (subst IsTaken (sym e) good)
 due_by_test false said code step good e = absurd (subst IsTaken (sym e) good)
 
 -- only the line that is due is taken
-pub due_line : (d : Draft) (words : Line) (step : Step Draft) → IsTaken step → after d words ≡ step → (is_word words 0 (name_of d.due) ≡ true) × (taken d.due d words ≡ Ok step)
+pub due_line : (d : Draft) (words : Line) (step : Step Draft) → IsTaken step → after d words ≡ step → (is_word words 0 (name_of d.due) ≡ true)
+    × (taken d.due d words ≡ Ok step)
 due_line d words step good e = due_by_test (is_word words 0 (name_of d.due)) (taken d.due d words) (misplaced words) step good e
 
-taken_by_test : (due : Bool) (said : Judged (Step Draft)) (code : TextCode) (step : Step Draft) → due ≡ true → said ≡ Ok step → step_of (cond due said (Err code)) ≡ step
+taken_by_test : (due : Bool) (said : Judged (Step Draft)) (code : TextCode) (step : Step Draft) → due ≡ true → said ≡ Ok step
+    → step_of (cond due said (Err code)) ≡ step
 taken_by_test true said code step named is = ap (λ (s : Judged (Step Draft)). step_of s) is
 taken_by_test false said code step named is = absurd cc
 
@@ -65,11 +69,13 @@ head_taken words says =
     let name = then-inv (named (codes "table") words) (λ _. exactly words 2 >>= λ _. number words 1 1 1) 1 says in
     let count = then-inv (exactly words 2) (λ _. number words 1 1 1) 1 name.2 in
     let version = then-ok (number words 1 1 1) (λ _. Ok (goes_on begun)) 1 (goes_on begun) count.2 refl in
-    line_taken no_draft words (goes_on begun) (named-inv (is_word words 0 (codes "table")) name.0 name.1) (then-ok (exactly words 2) (λ _. number words 1 1 1 >>= λ _. Ok (goes_on begun)) count.0 (goes_on begun) count.1 version)
+    line_taken no_draft words (goes_on begun) (named-inv (is_word words 0 (codes "table")) name.0 name.1)
+    (then-ok (exactly words 2) (λ _. number words 1 1 1 >>= λ _. Ok (goes_on begun)) count.0 (goes_on begun) count.1 version)
 
 -- ---- the last line
 
-pub end_said : (n : ℕ) (times : List ℕ) (words : Line) (step : Step Draft) → IsTaken step → after (record { due = End n; times = times }) words ≡ step → (is_whole (record { due = End n; times = times }) ≡ step) × (says_end words ≡ Ok tt)
+pub end_said : (n : ℕ) (times : List ℕ) (words : Line) (step : Step Draft) → IsTaken step → after (record { due = End n; times = times }) words ≡ step
+    → (is_whole (record { due = End n; times = times }) ≡ step) × (says_end words ≡ Ok tt)
 end_said n times words step good e =
     let line = due_line (record { due = End n; times = times }) words step good e in
     let count = then-inv (exactly words 1) (λ _. Ok (is_whole (record { due = End n; times = times }))) step line.1 in
@@ -77,10 +83,12 @@ end_said n times words step good e =
     let same : is_whole (record { due = End n; times = times }) ≡ step = cc in
     (same, then-ok (named (codes "end") words) (λ _. exactly words 1) tt tt (named-ok words (codes "end") line.0) count.1)
 
-pub end_taken : (n : ℕ) (times : List ℕ) (words : Line) → says_end words ≡ Ok tt → after (record { due = End n; times = times }) words ≡ is_whole (record { due = End n; times = times })
+pub end_taken : (n : ℕ) (times : List ℕ) (words : Line) → says_end words ≡ Ok tt
+    → after (record { due = End n; times = times }) words ≡ is_whole (record { due = End n; times = times })
 end_taken n times words says =
     let name = then-inv (named (codes "end") words) (λ _. exactly words 1) tt says in
-    line_taken (record { due = End n; times = times }) words (is_whole (record { due = End n; times = times })) (named-inv (is_word words 0 (codes "end")) name.0 name.1)
+    line_taken (record { due = End n; times = times }) words (is_whole (record { due = End n; times = times }))
+    (named-inv (is_word words 0 (codes "end")) name.0 name.1)
     (then-ok (exactly words 1) (λ _. Ok (is_whole (record { due = End n; times = times }))) tt (is_whole (record { due = End n; times = times })) name.2 refl)
 
 -- ---- how many floors a line of times decides
@@ -104,7 +112,8 @@ pub floors_decided : (n : ℕ) (words : Line) → columns None words ≡ Ok n �
 floors_decided n words e = by_test (nat_lt (length words) 3) (nat_lt 65 (length words)) refl refl e
   where
     by_test : (few many : Bool) → nat_lt (length words) 3 ≡ few → nat_lt 65 (length words) ≡ many
-        → (cond few (Err Missing) (Ok nothing) >>= λ (_ : Unit {0}). (cond many (Err TooMany) (Ok nothing) >>= λ (_ : Unit {0}). Ok (length words - 1))) ≡ Ok n → (exactly words (n + 1) ≡ Ok tt) × (2 ≤ n) × (n ≤ 64)
+        → (cond few (Err Missing) (Ok nothing) >>= λ (_ : Unit {0}). (cond many (Err TooMany) (Ok nothing) >>= λ (_ : Unit {0}). Ok (length words - 1))) ≡ Ok n
+        → (exactly words (n + 1) ≡ Ok tt) × (2 ≤ n) × (n ≤ 64)
     by_test true many f m same = absurd cc
     by_test false true f m same = absurd cc
     by_test false false f m same =
@@ -135,7 +144,8 @@ pub record RowTaken (floors : Option ℕ) (times : List ℕ) (words : Line) (nex
   pub read : row_of (length times / count) words ≡ Ok row
   pub is : with_rows count (times ++ row) ≡ next
 
-pub row_taken : (floors : Option ℕ) (times : List ℕ) (words : Line) (next : Draft) → after (record { due = Times floors; times = times }) words ≡ goes_on next → RowTaken floors times words next
+pub row_taken : (floors : Option ℕ) (times : List ℕ) (words : Line) (next : Draft) → after (record { due = Times floors; times = times }) words ≡ goes_on next
+    → RowTaken floors times words next
 row_taken floors times words next e =
     let line = due_line (record { due = Times floors; times = times }) words (goes_on next) tt e in
     let whole = then-inv (row_judged floors times words) (λ read. Ok (goes_on (with_rows read.0 (times ++ read.1)))) (goes_on next) line.1 in
@@ -145,17 +155,28 @@ row_taken floors times words next e =
     let pair : (count.0, row.0) ≡ whole.0 = cc in
     let step : Ok (goes_on (with_rows whole.0.0 (times ++ whole.0.1))) ≡ Ok (goes_on next) = whole.2 in
     let made : with_rows whole.0.0 (times ++ whole.0.1) ≡ next = cc in
-    record { name_is = line.0; count = count.0; decided = count.1; row = row.0; read = row.1; is = ap (λ (p : ℕ × List ℕ). with_rows p.0 (times ++ p.1)) pair ∙ made }
+    record {
+      name_is = line.0;
+      count = count.0;
+      decided = count.1;
+      row = row.0;
+      read = row.1;
+      is = ap (λ (p : ℕ × List ℕ). with_rows p.0 (times ++ p.1)) pair
+          ∙ made;
+    }
 
 -- a line of this many times is taken as they are
-pub row_given : (floors : Option ℕ) (n floor : ℕ) (times : List ℕ) (words : Line) (row : List ℕ) → columns floors words ≡ Ok n → length times / n ≡ floor → IsRowLine n floor words row
+pub row_given : (floors : Option ℕ) (n floor : ℕ) (times : List ℕ) (words : Line) (row : List ℕ) → columns floors words ≡ Ok n → length times / n ≡ floor
+    → IsRowLine n floor words row
     → after (record { due = Times floors; times = times }) words ≡ goes_on (with_rows n (times ++ row))
 row_given floors n floor times words row decided at is =
     let read : row_of (length times / n) words ≡ Ok row = ap (λ (f : ℕ). row_of f words) at ∙ is.times in
     let judged : row_judged floors times words ≡ Ok (n, row) =
-    then-ok (columns floors words) (λ m. row_of (length times / m) words >>= λ r. Ok (m, r)) n (n, row) decided (then-ok (row_of (length times / n) words) (λ r. Ok (n, r)) row (n, row) read refl) in
+    then-ok (columns floors words) (λ m. row_of (length times / m) words >>= λ r. Ok (m, r)) n (n, row) decided
+    (then-ok (row_of (length times / n) words) (λ r. Ok (n, r)) row (n, row) read refl) in
     line_taken (record { due = Times floors; times = times }) words (goes_on (with_rows n (times ++ row))) is.name_is
-    (then-ok (row_judged floors times words) (λ read. Ok (goes_on (with_rows read.0 (times ++ read.1)))) (n, row) (goes_on (with_rows n (times ++ row))) judged refl)
+    (then-ok (row_judged floors times words) (λ read. Ok (goes_on (with_rows read.0 (times ++ read.1)))) (n, row)
+    (goes_on (with_rows n (times ++ row))) judged refl)
 
 -- ---- what is due after it
 

@@ -1,5 +1,6 @@
 -- From what was read of the lines of a table to the lines themselves.
-use Rattle.std.proofs.Common.{◌≡◌, ℕ, zero, suc, ◌+◌, ◌-◌, ◌*◌, ◌/◌, ◌<◌, ◌≤◌, List, [], ◌∷◌, ◌++◌, length, Option, None, Some, Ok, ap, refl, arith, ◌∙◌, sym, subst, append_assoc, append-nil, length-append}
+use Rattle.std.proofs.Common.{◌≡◌, ℕ, zero, suc, ◌+◌, ◌-◌, ◌*◌, ◌/◌, ◌<◌, ◌≤◌, List, [], ◌∷◌, ◌++◌, length, Option, None, Some, Ok, ap, refl, arith, ◌∙◌, sym}
+use Rattle.std.proofs.Common.{subst, append_assoc, append-nil, length-append}
 use Rattle.elevator_model.specs.Travel.{Square}
 use Rattle.call_state.specs.Squares.{square_of}
 use Rattle.motion_table.specs.Tables.{row_of, row_judged}
@@ -14,7 +15,8 @@ use Rattle.case_text.specs.declared.table_order.Due.{Due}
 use Rattle.case_text.specs.declared.table_order.Due.TheVariants.{Head, Times, End}
 use Rattle.case_text.specs.TableDrafts.{Draft, no_draft, draft_of, with_rows, after}
 use Rattle.case_text.specs.TableTexts.{says_head, AreTableLines}
-use Rattle.case_text.proofs.TableLineLemmas.{due_line, begun, head_said, end_said, floors_known, floors_decided, RowTaken, row_taken, end_due, row_due, no_times, grown, all_grown, some_left}
+use Rattle.case_text.proofs.TableLineLemmas.{due_line, begun, head_said, end_said, floors_known, floors_decided, RowTaken, row_taken, end_due, row_due}
+use Rattle.case_text.proofs.TableLineLemmas.{no_times, grown, all_grown, some_left}
 
 -- ---- the last line
 
@@ -25,7 +27,8 @@ pub record IsEnded (due : Due) (d end : Draft) (words : Line) : Type 0 where
   pub said : says_end words ≡ Ok tt
   pub same : d ≡ end
 
-ended_by : (due : Due) (times : List ℕ) (words : Line) (end : Draft) → after (record { due = due; times = times }) words ≡ is_whole end → IsEnded due (record { due = due; times = times }) end words
+ended_by : (due : Due) (times : List ℕ) (words : Line) (end : Draft) → after (record { due = due; times = times }) words ≡ is_whole end
+    → IsEnded due (record { due = due; times = times }) end words
 ended_by Head times words end e =
     let line = due_line (record { due = Head; times = times }) words (is_whole end) tt e in
     let next : Draft = record { due = Times None; times = times } in
@@ -48,7 +51,8 @@ pub ended : (d : Draft) (words : Line) (end : Draft) → after d words ≡ is_wh
 ended d words end e = ended_by d.due d.times words end e
 
 -- where the end is due, no line goes on
-end_stops : (n : ℕ) (times : List ℕ) (lines : List Line) (end : Draft) → Goes after lines (record { due = End n; times = times }) end → (lines ≡ []) × (record { due = End n; times = times } ≡ end)
+end_stops : (n : ℕ) (times : List ℕ) (lines : List Line) (end : Draft) → Goes after lines (record { due = End n; times = times }) end → (lines ≡ [])
+    × (record { due = End n; times = times } ≡ end)
 end_stops n times [] end goes = (refl, goes)
 end_stops n times (words ∷ lines) end goes =
     let said = end_said n times words (goes_on goes.0) tt goes.1 in
@@ -64,7 +68,8 @@ pub record RowSaid (n floor : ℕ) (times : List ℕ) (words : Line) (next : Dra
   pub size : length row ≡ n
   pub is : with_rows n (times ++ row) ≡ next
 
-row_said : (floors : Option ℕ) (n floor : ℕ) (times : List ℕ) (words : Line) (next : Draft) → length times ≡ floor * n → 0 < n → exactly words (n + 1) ≡ Ok tt → (taken_row : RowTaken floors times words next) → n ≡ taken_row.count → RowSaid n floor times words next
+row_said : (floors : Option ℕ) (n floor : ℕ) (times : List ℕ) (words : Line) (next : Draft) → length times ≡ floor * n → 0 < n → exactly words (n + 1) ≡ Ok tt
+    → (taken_row : RowTaken floors times words next) → n ≡ taken_row.count → RowSaid n floor times words next
 row_said floors n floor times words next size some count t same =
     let at : length times / t.count ≡ floor = ap (λ (k : ℕ). length times / k) (sym same) ∙ at_floor floor n times size some in
     let read : row_of floor words ≡ Ok t.row = ap (λ (f : ℕ). row_of f words) (sym at) ∙ t.read in
@@ -75,37 +80,46 @@ row_said floors n floor times words next size some count t same =
       is = ap (λ (k : ℕ). with_rows k (times ++ t.row)) same ∙ t.is;
     }
 
-next_row : (n floor : ℕ) (times : List ℕ) (words : Line) (next : Draft) → length times ≡ floor * n → 0 < n → after (record { due = Times (Some n); times = times }) words ≡ goes_on next → RowSaid n floor times words next
+next_row : (n floor : ℕ) (times : List ℕ) (words : Line) (next : Draft) → length times ≡ floor * n → 0 < n
+    → after (record { due = Times (Some n); times = times }) words ≡ goes_on next → RowSaid n floor times words next
 next_row n floor times words next size some e =
     let t = row_taken (Some n) times words next e in
     let known = floors_known n t.count words t.decided in
     row_said (Some n) n floor times words next size some known.0 t known.1
 
 -- the lines of times that go on up to the end, of which the first was read and this many more are due
-rows_from : (left floor n : ℕ) (times : List ℕ) (words : Line) (lines : List Line) (next end : Draft) (m : ℕ) → 0 < n → floor + suc left ≡ n → length times ≡ floor * n → RowSaid n floor times words next → Goes after lines next end → end.due ≡ End m
+rows_from : (left floor n : ℕ) (times : List ℕ) (words : Line) (lines : List Line) (next end : Draft) (m : ℕ) → 0 < n → floor + suc left ≡ n
+    → length times ≡ floor * n → RowSaid n floor times words next → Goes after lines next end → end.due ≡ End m
     → (later : List ℕ) × AreRowLines n floor (words ∷ lines) later × (record { due = End n; times = times ++ later } ≡ end)
 rows_from zero floor n times words lines next end m some floors size said goes ends =
     let row = said.row in
     let last : floor + 1 ≡ n = omega arith in
     let long = grown floor n (length times) (length row) (length (times ++ row)) size said.size (length-append times row) in
-    let whole : record { due = End n; times = times ++ row } ≡ next = sym (end_due n (times ++ row) (all_grown floor n (length (times ++ row)) last long)) ∙ said.is in
+    let whole : record { due = End n; times = times ++ row } ≡ next = sym (end_due n (times ++ row) (all_grown floor n (length (times ++ row)) last long))
+    ∙ said.is in
     let rest = end_stops n (times ++ row) lines end (subst (λ (d : Draft). Goes after lines d end) (sym whole) goes) in
     let none : AreRowLines n (floor + 1) lines [] = subst (λ (ls : List Line). AreRowLines n (floor + 1) ls []) (sym rest.0) (last, refl) in
     (row, (row, [], sym (append-nil row), said.line, none), rest.1)
 rows_from (suc left) floor n times words [] next end m some floors size said goes ends =
     let row = said.row in
     let long = grown floor n (length times) (length row) (length (times ++ row)) size said.size (length-append times row) in
-    let more : record { due = Times (Some n); times = times ++ row } ≡ next = sym (row_due n (times ++ row) (some_left floor n (length (times ++ row)) (omega arith) long)) ∙ said.is in
+    let more : record { due = Times (Some n); times = times ++ row } ≡ next =
+    sym (row_due n (times ++ row) (some_left floor n (length (times ++ row)) (omega arith) long)) ∙ said.is in
     let clash : Times (Some n) ≡ End m = ap (λ (d : Draft). d.due) (more ∙ goes) ∙ ends in
     absurd cc
 rows_from (suc left) floor n times words (line ∷ lines) next end m some floors size said goes ends =
     let row = said.row in
     let long = grown floor n (length times) (length row) (length (times ++ row)) size said.size (length-append times row) in
-    let more : record { due = Times (Some n); times = times ++ row } ≡ next = sym (row_due n (times ++ row) (some_left floor n (length (times ++ row)) (omega arith) long)) ∙ said.is in
+    let more : record { due = Times (Some n); times = times ++ row } ≡ next =
+    sym (row_due n (times ++ row) (some_left floor n (length (times ++ row)) (omega arith) long)) ∙ said.is in
     let first : after (record { due = Times (Some n); times = times ++ row }) line ≡ goes_on goes.0 = ap (λ (d : Draft). after d line) more ∙ goes.1 in
     let second = next_row n (floor + 1) (times ++ row) line goes.0 long some first in
-    let rest = rows_from left (floor + 1) n (times ++ row) line lines goes.0 end m some (omega arith) long second goes.2 ends in
-    (row ++ rest.0, (row, rest.0, refl, said.line, rest.1), ap (λ (ts : List ℕ). record { due = End n; times = ts }) (sym (append_assoc times row rest.0)) ∙ rest.2)
+    let rest = rows_from left (floor + 1) n (times ++ row) line lines goes.0 end m some (omega arith) long second goes.2 ends in (
+      row ++ rest.0,
+      (row, rest.0, refl, said.line, rest.1),
+      ap (λ (ts : List ℕ). record { due = End n; times = ts }) (sym (append_assoc times row rest.0))
+          ∙ rest.2,
+    )
 
 -- ---- the whole
 

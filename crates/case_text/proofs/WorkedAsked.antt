@@ -66,7 +66,8 @@ shaft = record {
 
 abbrev building_lines : List Line
 building_lines =
-    (codes "building" ∷ codes "3" ∷ []) ∷ (codes "speed" ∷ codes "2100" ∷ []) ∷ (codes "accel" ∷ codes "900" ∷ []) ∷ (codes "weights" ∷ codes "3" ∷ codes "7" ∷ []) ∷ (codes "patience" ∷ codes "500" ∷ codes "9" ∷ [])
+    (codes "building" ∷ codes "3" ∷ []) ∷ (codes "speed" ∷ codes "2100" ∷ []) ∷ (codes "accel" ∷ codes "900" ∷ [])
+    ∷ (codes "weights" ∷ codes "3" ∷ codes "7" ∷ []) ∷ (codes "patience" ∷ codes "500" ∷ codes "9" ∷ [])
     ∷ (codes "floors" ∷ codes "0" ∷ codes "3500" ∷ []) ∷ (time_lines ++ large_words ∷ small_words ∷ end_line ∷ [])
 
 times_stand : AreTimesLines true 2 time_lines times
@@ -118,7 +119,8 @@ good = faultless-IsBuilding shaft (stated_travel 2 time_lines times (omega arith
 
 abbrev first_lines : List Line
 first_lines =
-    (codes "snapshot" ∷ codes "1" ∷ []) ∷ (codes "now" ∷ codes "5000" ∷ []) ∷ (codes "car" ∷ codes "3" ∷ codes "coming" ∷ codes "0" ∷ codes "7000" ∷ []) ∷ (codes "car" ∷ codes "7" ∷ codes "idle" ∷ codes "1" ∷ codes "5000" ∷ [])
+    (codes "snapshot" ∷ codes "1" ∷ []) ∷ (codes "now" ∷ codes "5000" ∷ []) ∷ (codes "car" ∷ codes "3" ∷ codes "coming" ∷ codes "0" ∷ codes "7000" ∷ [])
+    ∷ (codes "car" ∷ codes "7" ∷ codes "idle" ∷ codes "1" ∷ codes "5000" ∷ [])
     ∷ []
 
 -- a call that the large car alone may serve, and one that any car may
@@ -144,10 +146,13 @@ filled calls = record (with_car (with_car timed (1, Coming 0 7000)) (0, Idle 1 5
 abbrev held : List Call → Snapshot
 held calls = record { version = 1; building = shaft; moment = 5000; states = Idle 1 5000 ∷ Coming 0 7000 ∷ []; aboard = []; calls = calls }
 
-stands : (lines : List Line) (calls : List Call) → Goes after lines (filled []) (filled calls) → StandsFor shaft false ((first_lines ++ lines) ++ end_line ∷ []) (held calls)
+stands : (lines : List Line) (calls : List Call) → Goes after lines (filled []) (filled calls)
+    → StandsFor shaft false ((first_lines ++ lines) ++ end_line ∷ []) (held calls)
 stands lines calls later =
-    let goes : Goes after (first_lines ++ lines) (blank shaft false) (filled calls) = (with_version (blank shaft false) 1, refl, (timed, refl, (with_car timed (1, Coming 0 7000), refl, (filled [], refl, later)))) in
-    let made : Makes after ((first_lines ++ lines) ++ end_line ∷ []) (blank shaft false) (filled calls) = record { front = first_lines ++ lines; last = end_line; before = filled calls; lines_are = refl; goes = goes; whole = refl } in
+    let goes : Goes after (first_lines ++ lines) (blank shaft false) (filled calls) =
+    (with_version (blank shaft false) 1, refl, (timed, refl, (with_car timed (1, Coming 0 7000), refl, (filled [], refl, later)))) in
+    let made : Makes after ((first_lines ++ lines) ++ end_line ∷ []) (blank shaft false) (filled calls) =
+    record { front = first_lines ++ lines; last = end_line; before = filled calls; lines_are = refl; goes = goes; whole = refl } in
     (sound shaft false good ((first_lines ++ lines) ++ end_line ∷ []) (filled calls) made).said
 
 -- the building from line 3 on, the snapshot from line 26 on, and its end at line 43
@@ -190,7 +195,8 @@ last_free_row : IsAskedCaseAlone (case_of (stated_words ∷ free_words ∷ [])) 
 last_free_row = record {
   case = (
     47,
-    case_in_front (case_of (stated_words ∷ free_words ∷ [])) (held (stated ∷ free ∷ [])) 43 (finished 47) (ends (stated_words ∷ free_words ∷ []) (stated ∷ free ∷ []) (filled (stated ∷ []), refl, (filled (stated ∷ free ∷ []), refl, refl))),
+    case_in_front (case_of (stated_words ∷ free_words ∷ [])) (held (stated ∷ free ∷ [])) 43 (finished 47)
+        (ends (stated_words ∷ free_words ∷ []) (stated ∷ free ∷ []) (filled (stated ∷ []), refl, (filled (stated ∷ free ∷ []), refl, refl))),
   );
   asked = record { some = omega arith; free = refl };
 }

@@ -28,7 +28,8 @@ first_none (Some x) = refl
 abbrev pub nodes_of : List TreePlace → List Node
 nodes_of places = map (λ (p : TreePlace). p.node) places
 
-pub tree_is : (s : Snapshot) (bound k : ℕ) (places : List TreePlace) (twigs : List Twig) → reason_of_tree s bound k (placed_from places twigs) ≡ reason_from s bound k (nodes_of places) twigs
+pub tree_is : (s : Snapshot) (bound k : ℕ) (places : List TreePlace) (twigs : List Twig)
+    → reason_of_tree s bound k (placed_from places twigs) ≡ reason_from s bound k (nodes_of places) twigs
 tree_is s bound k [] [] = refl
 tree_is s bound k (place ∷ places) [] = refl
 tree_is s bound k [] (twig ∷ twigs) = refl
@@ -52,7 +53,8 @@ left-append nodes [] ys = refl
 left-append [] (x ∷ xs) ys = sym (none_left ys)
 left-append (node ∷ nodes) (x ∷ xs) ys = left-append (nodes_after node x nodes) xs ys
 
-pub from-append : (s : Snapshot) (bound k : ℕ) (nodes : List Node) (xs ys : List Twig) → reason_from s bound k nodes (xs ++ ys) ≡ first_of (reason_from s bound k nodes xs) (reason_from s bound (k + length xs) (nodes_left nodes xs) ys)
+pub from-append : (s : Snapshot) (bound k : ℕ) (nodes : List Node) (xs ys : List Twig)
+    → reason_from s bound k nodes (xs ++ ys) ≡ first_of (reason_from s bound k nodes xs) (reason_from s bound (k + length xs) (nodes_left nodes xs) ys)
 from-append s bound k nodes [] ys = ap (λ (n : ℕ). reason_from s bound n nodes ys) (no_more k)
   where
     no_more : (k : ℕ) → k ≡ k + 0
@@ -61,7 +63,9 @@ from-append s bound k [] (x ∷ xs) ys = sym (none_from s bound (k + length (x �
 from-append s bound k (node ∷ nodes) (x ∷ xs) ys =
     let here = reason_of_node s bound k node x in
     let on = nodes_after node x nodes in
-    ap (first_of here) (from-append s bound (k + 1) on xs ys) ∙ sym (first_assoc here (reason_from s bound (k + 1) on xs) (reason_from s bound ((k + 1) + length xs) (nodes_left on xs) ys)) ∙ ap (λ (n : ℕ). first_of (first_of here (reason_from s bound (k + 1) on xs)) (reason_from s bound n (nodes_left on xs) ys)) (one_more k (length xs))
+    ap (first_of here) (from-append s bound (k + 1) on xs ys)
+    ∙ sym (first_assoc here (reason_from s bound (k + 1) on xs) (reason_from s bound ((k + 1) + length xs) (nodes_left on xs) ys))
+    ∙ ap (λ (n : ℕ). first_of (first_of here (reason_from s bound (k + 1) on xs)) (reason_from s bound n (nodes_left on xs) ys)) (one_more k (length xs))
   where
     one_more : (k n : ℕ) → (k + 1) + n ≡ k + suc n
     one_more k n = omega arith
@@ -72,18 +76,23 @@ from-append s bound k (node ∷ nodes) (x ∷ xs) ys =
 abbrev pub stated_reason : Snapshot → Stated → Option Reason
 stated_reason s stated = first_of (reason_of_plan (first_bad s stated.plan)) (reason_of_cost s stated.plan stated.cost)
 
-pub first_is : (s : Snapshot) (stated : Stated) (fed : List Twig) → first_reason s stated fed ≡ first_of (stated_reason s stated) (reason_from s stated.bound 1 (root_of s ∷ []) fed)
+pub first_is : (s : Snapshot) (stated : Stated) (fed : List Twig)
+    → first_reason s stated fed ≡ first_of (stated_reason s stated) (reason_from s stated.bound 1 (root_of s ∷ []) fed)
 first_is s stated fed =
     let plan = reason_of_plan (first_bad s stated.plan) in
     let cost = reason_of_cost s stated.plan stated.cost in
-    ap (λ (o : Option Reason). first_of plan (first_of cost o)) (tree_is s stated.bound 1 (root_place s ∷ []) fed) ∙ sym (first_assoc plan cost (reason_from s stated.bound 1 (root_of s ∷ []) fed))
+    ap (λ (o : Option Reason). first_of plan (first_of cost o)) (tree_is s stated.bound 1 (root_place s ∷ []) fed)
+    ∙ sym (first_assoc plan cost (reason_from s stated.bound 1 (root_of s ∷ []) fed))
 
-pub first-append : (s : Snapshot) (stated : Stated) (fed twigs : List Twig) → first_reason s stated (fed ++ twigs) ≡ first_of (first_reason s stated fed) (reason_from s stated.bound (1 + length fed) (nodes_left (root_of s ∷ []) fed) twigs)
+pub first-append : (s : Snapshot) (stated : Stated) (fed twigs : List Twig)
+    → first_reason s stated (fed ++ twigs)
+    ≡ first_of (first_reason s stated fed) (reason_from s stated.bound (1 + length fed) (nodes_left (root_of s ∷ []) fed) twigs)
 first-append s stated fed twigs =
     let own = stated_reason s stated in
     let before = reason_from s stated.bound 1 (root_of s ∷ []) fed in
     let later = reason_from s stated.bound (1 + length fed) (nodes_left (root_of s ∷ []) fed) twigs in
-    first_is s stated (fed ++ twigs) ∙ ap (first_of own) (from-append s stated.bound 1 (root_of s ∷ []) fed twigs) ∙ sym (first_assoc own before later) ∙ ap (λ (o : Option Reason). first_of o later) (sym (first_is s stated fed))
+    first_is s stated (fed ++ twigs) ∙ ap (first_of own) (from-append s stated.bound 1 (root_of s ∷ []) fed twigs) ∙ sym (first_assoc own before later)
+    ∙ ap (λ (o : Option Reason). first_of o later) (sym (first_is s stated fed))
 
 pub starts_found : (s : Snapshot) (stated : Stated) (reason : Reason) → stated_reason s stated ≡ Some reason → first_reason s stated [] ≡ Some reason
 starts_found s stated reason e = first_is s stated [] ∙ first_none (stated_reason s stated) ∙ e
@@ -96,19 +105,24 @@ starts_open s stated e = record {
 }
 
 -- a reason that was found stays the first one
-pub found_stays : (s : Snapshot) (stated : Stated) (fed twigs : List Twig) (reason : Reason) → first_reason s stated fed ≡ Some reason → first_reason s stated (fed ++ twigs) ≡ Some reason
+pub found_stays : (s : Snapshot) (stated : Stated) (fed twigs : List Twig) (reason : Reason) → first_reason s stated fed ≡ Some reason
+    → first_reason s stated (fed ++ twigs) ≡ Some reason
 found_stays s stated fed twigs reason e =
     let later = reason_from s stated.bound (1 + length fed) (nodes_left (root_of s ∷ []) fed) twigs in
     first-append s stated fed twigs ∙ ap (λ (o : Option Reason). first_of o later) e
 
 -- where no reason was found, the first one of the next twigs is the first one of all
-open_on : (s : Snapshot) (stated : Stated) (fed twigs : List Twig) (nodes : List Node) (seen : ℕ) → IsOpen s stated fed nodes seen → first_reason s stated (fed ++ twigs) ≡ reason_from s stated.bound (seen + 1) nodes twigs
+open_on : (s : Snapshot) (stated : Stated) (fed twigs : List Twig) (nodes : List Node) (seen : ℕ) → IsOpen s stated fed nodes seen
+    → first_reason s stated (fed ++ twigs) ≡ reason_from s stated.bound (seen + 1) nodes twigs
 open_on s stated fed twigs nodes seen o =
     let later = reason_from s stated.bound (1 + length fed) (nodes_left (root_of s ∷ []) fed) twigs in
     let number : 1 + length fed ≡ seen + 1 = (let e = o.seen_are in omega (arith, e)) in
-    first-append s stated fed twigs ∙ ap (λ (r : Option Reason). first_of r later) o.no_reason ∙ ap (λ (n : ℕ). reason_from s stated.bound n (nodes_left (root_of s ∷ []) fed) twigs) number ∙ ap (λ (ns : List Node). reason_from s stated.bound (seen + 1) ns twigs) (sym o.places_are)
+    first-append s stated fed twigs ∙ ap (λ (r : Option Reason). first_of r later) o.no_reason
+    ∙ ap (λ (n : ℕ). reason_from s stated.bound n (nodes_left (root_of s ∷ []) fed) twigs) number
+    ∙ ap (λ (ns : List Node). reason_from s stated.bound (seen + 1) ns twigs) (sym o.places_are)
 
-pub stands_on : (s : Snapshot) (stated : Stated) (fed twigs : List Twig) (nodes : List Node) (seen : ℕ) (new : State) → length fed + length twigs < 2 ^ 32 → IsOpen s stated fed nodes seen → GoesOnTo s stated.bound nodes seen twigs new → StandsAfter s stated (fed ++ twigs) new
+pub stands_on : (s : Snapshot) (stated : Stated) (fed twigs : List Twig) (nodes : List Node) (seen : ℕ) (new : State) → length fed + length twigs < 2 ^ 32
+    → IsOpen s stated fed nodes seen → GoesOnTo s stated.bound nodes seen twigs new → StandsAfter s stated (fed ++ twigs) new
 stands_on s stated fed twigs nodes seen (Found reason) lt o on =
     let e = o.seen_are in
     open_on s stated fed twigs nodes seen o ∙ on (omega (arith, lt, e))

@@ -1,6 +1,7 @@
 -- The verdict is yes exactly where the tree proves the plan, its cost and the bound, and no kept list is longer than
 -- its claim.
-use Rattle.std.proofs.Common.{◌≡◌, ℕ, zero, suc, ◌+◌, ◌^◌, ◌<◌, ◌≤◌, ◌==◌, Bool, true, false, not, ◌&&◌, cond, eqb, List, [], ◌∷◌, length, take, set, refl, sym, ap, ◌∙◌, subst, inl, inr, arith, append-nil, Option, Some, None}
+use Rattle.std.proofs.Common.{◌≡◌, ℕ, zero, suc, ◌+◌, ◌^◌, ◌<◌, ◌≤◌, ◌==◌, Bool, true, false, not, ◌&&◌, cond, eqb, List, [], ◌∷◌, length, take, set, refl, sym}
+use Rattle.std.proofs.Common.{ap, ◌∙◌, subst, inl, inr, arith, append-nil, Option, Some, None}
 use Rattle.std.specs.Prelude.{ℤ, ◌≤ℤ◌, ◌<ℤ◌, int_lt, nat_lt, All}
 use Rattle.std.proofs.Math.Nat.{eq-or-lt_of_le}
 use Rattle.std.proofs.lemmas.Int.{ints}
@@ -27,8 +28,10 @@ use Rattle.search_model.specs.Kept.{is_kept, kept_list}
 use Rattle.search_model.specs.Nodes.{Node, set_of, is_part, rest_of, allows, requires_of, root_of, first_of_split, second_of_split}
 use Rattle.search_model.specs.Orders.{BeginsWith, Each, IsAmongLists}
 use Rattle.search_model.specs.Prices.{IsWorth, value_of}
-use Rattle.search_model.specs.Certificates.{TreePlace, Placed, has_whole_lists, sum_of_leaf, sum_needed, price_in, worth_in, claim_in, places_after, placed_from, placed_twigs, root_place, IsSoundLeaf, IsSound}
-use Rattle.search_model.specs.Verdicts.{tour_under_at, first_under, kept_at, reason_of_visit, reason_of_car, reason_of_cars, reason_of_leaf, reason_of_twig, reason_of_tree, reason_of_plan, reason_of_cost, verdict_for, verdict_of, FitsClaims, VerdictLaw, moves_enough}
+use Rattle.search_model.specs.Certificates.{TreePlace, Placed, has_whole_lists, sum_of_leaf, sum_needed, price_in, worth_in, claim_in, places_after}
+use Rattle.search_model.specs.Certificates.{placed_from, placed_twigs, root_place, IsSoundLeaf, IsSound}
+use Rattle.search_model.specs.Verdicts.{tour_under_at, first_under, kept_at, reason_of_visit, reason_of_car, reason_of_cars, reason_of_leaf, reason_of_twig}
+use Rattle.search_model.specs.Verdicts.{reason_of_tree, reason_of_plan, reason_of_cost, verdict_for, verdict_of, FitsClaims, VerdictLaw, moves_enough}
 use Rattle.search_model.proofs.SetLemmas.{has-rest_of}
 use Rattle.search_model.proofs.NodeLemmas.{part-from, set_of-set, set_of-other}
 use Rattle.search_model.proofs.SnapshotNodes.{root_is_node}
@@ -47,34 +50,43 @@ use Rattle.cert_checker.specs.Laws.{HasEnough, SufficientLaw, YesLaw}
 
 -- ---- parts of a reason
 
-leaf_parts : {X : Type 0} (whole low : Bool) (lists sum : X) (cars : Option X) → cond (not whole) (Some lists) (cond low (Some sum) cars) ≡ None → (whole ≡ true) × (low ≡ false) × (cars ≡ None)
+leaf_parts : {X : Type 0} (whole low : Bool) (lists sum : X) (cars : Option X) → cond (not whole) (Some lists) (cond low (Some sum) cars) ≡ None
+    → (whole ≡ true) × (low ≡ false) × (cars ≡ None)
 leaf_parts true true lists sum cars e = absurd cc
 leaf_parts true false lists sum cars e = (refl, refl, e)
 leaf_parts false low lists sum cars e = absurd cc
 
-leaf_none : {X : Type 0} (whole low : Bool) (lists sum : X) (cars : Option X) → whole ≡ true → low ≡ false → cars ≡ None → cond (not whole) (Some lists) (cond low (Some sum) cars) ≡ None
+leaf_none : {X : Type 0} (whole low : Bool) (lists sum : X) (cars : Option X) → whole ≡ true → low ≡ false → cars ≡ None
+    → cond (not whole) (Some lists) (cond low (Some sum) cars) ≡ None
 leaf_none true true lists sum cars w l e = absurd cc
 leaf_none true false lists sum cars w l e = e
 leaf_none false low lists sum cars w l e = absurd cc
 
-visit_parts : (s : Snapshot) (k : ℕ) (leaf : Leaf) (c : ℕ) (longer : Bool) (o : Option (List Stop)) → reason_of_visit s k leaf c longer o ≡ None → (longer ≡ false) × (o ≡ None)
+visit_parts : (s : Snapshot) (k : ℕ) (leaf : Leaf) (c : ℕ) (longer : Bool) (o : Option (List Stop)) → reason_of_visit s k leaf c longer o ≡ None
+    → (longer ≡ false) × (o ≡ None)
 visit_parts s k leaf c true None e = absurd cc
 visit_parts s k leaf c false None e = (refl, refl)
 visit_parts s k leaf c longer (Some tour) e = absurd cc
 
-visit_none : (s : Snapshot) (k : ℕ) (leaf : Leaf) (c : ℕ) (longer : Bool) (o : Option (List Stop)) → longer ≡ false → o ≡ None → reason_of_visit s k leaf c longer o ≡ None
+visit_none : (s : Snapshot) (k : ℕ) (leaf : Leaf) (c : ℕ) (longer : Bool) (o : Option (List Stop)) → longer ≡ false → o ≡ None
+    → reason_of_visit s k leaf c longer o ≡ None
 visit_none s k leaf c true None l e = absurd cc
 visit_none s k leaf c false None l e = refl
 visit_none s k leaf c longer (Some tour) l e = absurd cc
 
-cars_parts : (s : Snapshot) (k : ℕ) (node : Node) (leaf : Leaf) (n : ℕ) → reason_of_cars s k node leaf n ≡ None → (c : ℕ) → c < n → reason_of_car s k node leaf c ≡ None
+cars_parts : (s : Snapshot) (k : ℕ) (node : Node) (leaf : Leaf) (n : ℕ) → reason_of_cars s k node leaf n ≡ None → (c : ℕ) → c < n
+    → reason_of_car s k node leaf c ≡ None
 cars_parts s k node leaf zero e c lt = absurd (omega (arith, lt))
 cars_parts s k node leaf (suc n) e c lt =
     let both = first_parts (reason_of_cars s k node leaf n) (reason_of_car s k node leaf n) e in
     let le : c ≤ n = omega (arith, lt) in
-    elim (eq-or-lt_of_le le) [ inl same ↦ subst (λ (d : ℕ). reason_of_car s k node leaf d ≡ None) (sym same) both.1 | inr below ↦ cars_parts s k node leaf n both.0 c below ]
+    elim (eq-or-lt_of_le le) [
+      | inl same ↦ subst (λ (d : ℕ). reason_of_car s k node leaf d ≡ None) (sym same) both.1
+      | inr below ↦ cars_parts s k node leaf n both.0 c below
+    ]
 
-cars_none : (s : Snapshot) (k : ℕ) (node : Node) (leaf : Leaf) (n : ℕ) → ((c : ℕ) → c < n → reason_of_car s k node leaf c ≡ None) → reason_of_cars s k node leaf n ≡ None
+cars_none : (s : Snapshot) (k : ℕ) (node : Node) (leaf : Leaf) (n : ℕ) → ((c : ℕ) → c < n → reason_of_car s k node leaf c ≡ None)
+    → reason_of_cars s k node leaf n ≡ None
 cars_none s k node leaf zero h = refl
 cars_none s k node leaf (suc n) h =
     both_none (reason_of_cars s k node leaf n) (reason_of_car s k node leaf n) (cars_none s k node leaf n (λ c lt. h c (omega (arith, lt)))) (h n (omega arith))
@@ -95,9 +107,11 @@ record Stands (s : Snapshot) (bound : ℕ) (node : Node) (leaf : Leaf) : Type 0 
   pub sound : IsSoundLeaf s bound node leaf
   pub fits : (c : ℕ) → c < car_count s → length (kept_at s node leaf c) ≤ claim_in leaf c
 
-leaf_stands : (s : Snapshot) (bound k : ℕ) (node : Node) (leaf : Leaf) → IsAccepted s → IsWithinRoot s node → reason_of_leaf s bound k node leaf ≡ None → Stands s bound node leaf
+leaf_stands : (s : Snapshot) (bound k : ℕ) (node : Node) (leaf : Leaf) → IsAccepted s → IsWithinRoot s node → reason_of_leaf s bound k node leaf ≡ None
+    → Stands s bound node leaf
 leaf_stands s bound k node leaf ok within e =
-    let parts = leaf_parts (has_whole_lists s leaf) (int_lt (sum_of_leaf leaf) (sum_needed bound)) (Lists k) (Sum k (sum_needed bound) (sum_of_leaf leaf)) (reason_of_cars s k node leaf (car_count s)) e in
+    let parts = leaf_parts (has_whole_lists s leaf) (int_lt (sum_of_leaf leaf) (sum_needed bound)) (Lists k) (Sum k (sum_needed bound) (sum_of_leaf leaf))
+    (reason_of_cars s k node leaf (car_count s)) e in
     record {
       sound = record {
         whole = parts.0;
@@ -110,18 +124,25 @@ leaf_stands s bound k node leaf ok within e =
     enough_of : (sum need : ℤ) → int_lt sum need ≡ false → need ≤ℤ sum
     enough_of sum need h = grind (arith, ints)
 
-    car_parts : (c : ℕ) → c < car_count s → reason_of_cars s k node leaf (car_count s) ≡ None → (nat_lt (claim_in leaf c) (length (kept_at s node leaf c)) ≡ false) × (first_under s c (price_in leaf) (worth_in leaf c) (take (claim_in leaf c) (kept_at s node leaf c)) ≡ None)
+    car_parts : (c : ℕ) → c < car_count s → reason_of_cars s k node leaf (car_count s) ≡ None
+        → (nat_lt (claim_in leaf c) (length (kept_at s node leaf c)) ≡ false)
+        × (first_under s c (price_in leaf) (worth_in leaf c) (take (claim_in leaf c) (kept_at s node leaf c)) ≡ None)
     car_parts c lt h = visit_parts s k leaf c _ _ (cars_parts s k node leaf (car_count s) h c lt)
 
     fits_of : (c : ℕ) → c < car_count s → reason_of_cars s k node leaf (car_count s) ≡ None → length (kept_at s node leaf c) ≤ claim_in leaf c
     fits_of c lt h = not_longer (claim_in leaf c) (length (kept_at s node leaf c)) (car_parts c lt h).0
 
-    all_none : (c : ℕ) → c < car_count s → reason_of_cars s k node leaf (car_count s) ≡ None → first_under s c (price_in leaf) (worth_in leaf c) (kept_at s node leaf c) ≡ None
-    all_none c lt h = ap (first_under s c (price_in leaf) (worth_in leaf c)) (sym (take_all (claim_in leaf c) (kept_at s node leaf c) (fits_of c lt h))) ∙ (car_parts c lt h).1
+    all_none : (c : ℕ) → c < car_count s → reason_of_cars s k node leaf (car_count s) ≡ None
+        → first_under s c (price_in leaf) (worth_in leaf c) (kept_at s node leaf c) ≡ None
+    all_none c lt h = ap (first_under s c (price_in leaf) (worth_in leaf c)) (sym (take_all (claim_in leaf c) (kept_at s node leaf c) (fits_of c lt h)))
+        ∙ (car_parts c lt h).1
 
-leaf_clear : (s : Snapshot) (bound k : ℕ) (node : Node) (leaf : Leaf) → IsAccepted s → IsWithinRoot s node → Stands s bound node leaf → reason_of_leaf s bound k node leaf ≡ None
+leaf_clear : (s : Snapshot) (bound k : ℕ) (node : Node) (leaf : Leaf) → IsAccepted s → IsWithinRoot s node → Stands s bound node leaf
+    → reason_of_leaf s bound k node leaf ≡ None
 leaf_clear s bound k node leaf ok within stands =
-    leaf_none (has_whole_lists s leaf) (int_lt (sum_of_leaf leaf) (sum_needed bound)) (Lists k) (Sum k (sum_needed bound) (sum_of_leaf leaf)) (reason_of_cars s k node leaf (car_count s)) stands.sound.whole (enough_of (sum_of_leaf leaf) (sum_needed bound) stands.sound.enough) (cars_none s k node leaf (car_count s) car_none)
+    leaf_none (has_whole_lists s leaf) (int_lt (sum_of_leaf leaf) (sum_needed bound)) (Lists k) (Sum k (sum_needed bound) (sum_of_leaf leaf))
+    (reason_of_cars s k node leaf (car_count s)) stands.sound.whole (enough_of (sum_of_leaf leaf) (sum_needed bound) stands.sound.enough)
+    (cars_none s k node leaf (car_count s) car_none)
   where
     enough_of : (sum need : ℤ) → need ≤ℤ sum → int_lt sum need ≡ false
     enough_of sum need h = grind (arith, ints)
@@ -130,23 +151,34 @@ leaf_clear s bound k node leaf ok within stands =
     car_none c lt =
         let kept = kept_at s node leaf c in
         let none = none_of_worth s node c (price_in leaf) (worth_in leaf c) ok lt within (stands.sound.worths c lt) in
-        visit_none s k leaf c (nat_lt (claim_in leaf c) (length kept)) (first_under s c (price_in leaf) (worth_in leaf c) (take (claim_in leaf c) kept)) (is_no_longer (claim_in leaf c) (length kept) (stands.fits c lt)) (ap (first_under s c (price_in leaf) (worth_in leaf c)) (take_all (claim_in leaf c) kept (stands.fits c lt)) ∙ none)
+        visit_none s k leaf c (nat_lt (claim_in leaf c) (length kept)) (first_under s c (price_in leaf) (worth_in leaf c) (take (claim_in leaf c) kept))
+        (is_no_longer (claim_in leaf c) (length kept) (stands.fits c lt))
+        (ap (first_under s c (price_in leaf) (worth_in leaf c)) (take_all (claim_in leaf c) kept (stands.fits c lt)) ∙ none)
 
 -- ---- trees
 
 root_within : (s : Snapshot) → IsWithinRoot s (root_of s)
 root_within s j c lt h = h
 
-one_call : (s : Snapshot) (node : Node) (j x : ℕ) → j < length node → IsWithinRoot s node → ((c : ℕ) → c < 16 → has x c ≡ true → has (set_of node j) c ≡ true) → IsWithinRoot s (set node j x)
+one_call : (s : Snapshot) (node : Node) (j x : ℕ) → j < length node → IsWithinRoot s node → ((c : ℕ) → c < 16 → has x c ≡ true → has (set_of node j) c ≡ true)
+    → IsWithinRoot s (set node j x)
 one_call s node j x lt within falls i c few h =
-    elim (cases_eq i j) [ inl e ↦ subst (λ (k : ℕ). has (set_of (root_of s) k) c ≡ true) (sym e) (within j c few (falls c few (ap (λ (y : ℕ). has y c) (sym (set_of-set node j x lt)) ∙ subst (λ (k : ℕ). has (set_of (set node j x) k) c ≡ true) e h))) | inr ne ↦ within i c few (ap (λ (y : ℕ). has y c) (sym (set_of-other node j x i ne)) ∙ h) ]
+    elim (cases_eq i j) [
+      | inl e ↦ subst (λ (k : ℕ). has (set_of (root_of s) k) c ≡ true) (sym e)
+          (within j c few (falls c few
+          (ap (λ (y : ℕ). has y c) (sym (set_of-set node j x lt)) ∙ subst (λ (k : ℕ). has (set_of (set node j x) k) c ≡ true) e h)))
+      | inr ne ↦ within i c few (ap (λ (y : ℕ). has y c) (sym (set_of-other node j x i ne)) ∙ h)
+    ]
 
-first_within : (s : Snapshot) (node : Node) (j part : ℕ) → is_part (set_of node j) part ≡ true → IsWithinRoot s node → IsWithinRoot s (first_of_split node j part)
+first_within : (s : Snapshot) (node : Node) (j part : ℕ) → is_part (set_of node j) part ≡ true → IsWithinRoot s node
+    → IsWithinRoot s (first_of_split node j part)
 first_within s node j part is within = one_call s node j part (part-index node j part is) within (part-from (set_of node j) part is).within
 
-second_within : (s : Snapshot) (node : Node) (j part : ℕ) → is_part (set_of node j) part ≡ true → IsWithinRoot s node → IsWithinRoot s (second_of_split node j part)
+second_within : (s : Snapshot) (node : Node) (j part : ℕ) → is_part (set_of node j) part ≡ true → IsWithinRoot s node
+    → IsWithinRoot s (second_of_split node j part)
 second_within s node j part is within =
-    one_call s node j (rest_of (set_of node j) part) (part-index node j part is) within (λ c few e. (and_parts (has (set_of node j) c) (not (has part c)) (sym (has-rest_of (set_of node j) part c few) ∙ e)).0)
+    one_call s node j (rest_of (set_of node j) part) (part-index node j part is) within
+    (λ c few e. (and_parts (has (set_of node j) c) (not (has part c)) (sym (has-rest_of (set_of node j) part c few) ∙ e)).0)
 
 abbrev AreWithinRoot : Snapshot → List TreePlace → Type 0
 AreWithinRoot s [] = Unit {0}
@@ -166,7 +198,8 @@ split_none : (k : ℕ) (b : Bool) → b ≡ true → cond b None (Some (BadSplit
 split_none k true e = refl
 split_none k false e = absurd cc
 
-tree_stands : (s : Snapshot) (bound k : ℕ) (places : List TreePlace) (twigs : List Twig) → IsAccepted s → AreWithinRoot s places → reason_of_tree s bound k (placed_from places twigs) ≡ None → All (Sound s bound) (placed_from places twigs) × All (Fits s) (placed_from places twigs)
+tree_stands : (s : Snapshot) (bound k : ℕ) (places : List TreePlace) (twigs : List Twig) → IsAccepted s → AreWithinRoot s places
+    → reason_of_tree s bound k (placed_from places twigs) ≡ None → All (Sound s bound) (placed_from places twigs) × All (Fits s) (placed_from places twigs)
 tree_stands s bound k [] [] ok within e = (All-nil (Sound s bound), All-nil (Fits s))
 tree_stands s bound k (place ∷ places) [] ok within e = (All-nil (Sound s bound), All-nil (Fits s))
 tree_stands s bound k [] (twig ∷ twigs) ok within e = (All-nil (Sound s bound), All-nil (Fits s))
@@ -176,7 +209,8 @@ tree_stands s bound k (place ∷ places) (Split j part ∷ twigs) ok within e =
     let later = placed_from (places_after place twig places) twigs in
     let parts = first_parts (reason_of_twig s bound k place twig) (reason_of_tree s bound (k + 1) later) e in
     let is = split_is k (is_part (set_of place.node j) part) parts.0 in
-    let rest = tree_stands s bound (k + 1) (places_after place twig places) twigs ok (first_within s place.node j part is within.0, (second_within s place.node j part is within.0, within.1)) parts.1 in
+    let rest = tree_stands s bound (k + 1) (places_after place twig places) twigs ok
+    (first_within s place.node j part is within.0, (second_within s place.node j part is within.0, within.1)) parts.1 in
     (All-cons (Sound s bound) here later is rest.0, All-cons (Fits s) here later tt rest.1)
 tree_stands s bound k (place ∷ places) (Tip leaf ∷ twigs) ok within e =
     let twig = Tip leaf in
@@ -187,7 +221,8 @@ tree_stands s bound k (place ∷ places) (Tip leaf ∷ twigs) ok within e =
     let rest = tree_stands s bound (k + 1) places twigs ok within.1 parts.1 in
     (All-cons (Sound s bound) here later is.sound rest.0, All-cons (Fits s) here later is.fits rest.1)
 
-tree_clear : (s : Snapshot) (bound k : ℕ) (places : List TreePlace) (twigs : List Twig) → IsAccepted s → AreWithinRoot s places → All (Sound s bound) (placed_from places twigs) → All (Fits s) (placed_from places twigs) → reason_of_tree s bound k (placed_from places twigs) ≡ None
+tree_clear : (s : Snapshot) (bound k : ℕ) (places : List TreePlace) (twigs : List Twig) → IsAccepted s → AreWithinRoot s places
+    → All (Sound s bound) (placed_from places twigs) → All (Fits s) (placed_from places twigs) → reason_of_tree s bound k (placed_from places twigs) ≡ None
 tree_clear s bound k [] [] ok within sound fits = refl
 tree_clear s bound k (place ∷ places) [] ok within sound fits = refl
 tree_clear s bound k [] (twig ∷ twigs) ok within sound fits = refl
@@ -196,12 +231,18 @@ tree_clear s bound k (place ∷ places) (Split j part ∷ twigs) ok within sound
     let here : Placed = record { place = place; twig = twig } in
     let later = placed_from (places_after place twig places) twigs in
     let is = All-head (Sound s bound) here later sound in
-    both_none (reason_of_twig s bound k place twig) (reason_of_tree s bound (k + 1) later) (split_none k (is_part (set_of place.node j) part) is) (tree_clear s bound (k + 1) (places_after place twig places) twigs ok (first_within s place.node j part is within.0, (second_within s place.node j part is within.0, within.1)) (All-tail (Sound s bound) here later sound) (All-tail (Fits s) here later fits))
+    both_none (reason_of_twig s bound k place twig) (reason_of_tree s bound (k + 1) later) (split_none k (is_part (set_of place.node j) part) is)
+    (tree_clear s bound (k + 1) (places_after place twig places) twigs ok
+    (first_within s place.node j part is within.0, (second_within s place.node j part is within.0, within.1)) (All-tail (Sound s bound) here later sound)
+    (All-tail (Fits s) here later fits))
 tree_clear s bound k (place ∷ places) (Tip leaf ∷ twigs) ok within sound fits =
     let twig = Tip leaf in
     let here : Placed = record { place = place; twig = twig } in
     let later = placed_from places twigs in
-    both_none (reason_of_twig s bound k place twig) (reason_of_tree s bound (k + 1) later) (leaf_clear s bound k place.node leaf ok within.0 (record { sound = All-head (Sound s bound) here later sound; fits = All-head (Fits s) here later fits })) (tree_clear s bound (k + 1) places twigs ok within.1 (All-tail (Sound s bound) here later sound) (All-tail (Fits s) here later fits))
+    both_none (reason_of_twig s bound k place twig) (reason_of_tree s bound (k + 1) later)
+    (leaf_clear s bound k place.node leaf ok within.0
+    (record { sound = All-head (Sound s bound) here later sound; fits = All-head (Fits s) here later fits }))
+    (tree_clear s bound (k + 1) places twigs ok within.1 (All-tail (Sound s bound) here later sound) (All-tail (Fits s) here later fits))
 
 -- ---- verdicts
 
@@ -235,12 +276,17 @@ verdict_holds s plan cost bound tree ok cars whole = record {
       }
       );
   claims = λ e. (tree_stands s bound 1 (root_place s ∷ []) tree ok (root_within s, tt) (parts e).2).1;
-  yes = λ proves fits. ap verdict_for (both_none (reason_of_plan (first_bad s plan)) _ (ap reason_of_plan (clear_where_feasible s plan proves.feasible)) (both_none (reason_of_cost s plan cost) _ (cond-true (plan_cost_of s plan == cost) None (Some _) (eq-eqb (plan_cost_of s plan) cost proves.costs)) (tree_clear s bound 1 (root_place s ∷ []) tree ok (root_within s, tt) proves.sound fits)));
+  yes = λ proves fits. ap verdict_for
+      (both_none (reason_of_plan (first_bad s plan)) _ (ap reason_of_plan (clear_where_feasible s plan proves.feasible))
+      (both_none (reason_of_cost s plan cost) _ (cond-true (plan_cost_of s plan == cost) None (Some _) (eq-eqb (plan_cost_of s plan) cost proves.costs))
+      (tree_clear s bound 1 (root_place s ∷ []) tree ok (root_within s, tt) proves.sound fits)));
 }
   where
-    parts : verdict_of s plan cost bound tree ≡ Yes → (reason_of_plan (first_bad s plan) ≡ None) × (reason_of_cost s plan cost ≡ None) × (reason_of_tree s bound 1 (placed_twigs s tree) ≡ None)
+    parts : verdict_of s plan cost bound tree ≡ Yes → (reason_of_plan (first_bad s plan) ≡ None) × (reason_of_cost s plan cost ≡ None)
+        × (reason_of_tree s bound 1 (placed_twigs s tree) ≡ None)
     parts e =
-        let all = first_parts (reason_of_plan (first_bad s plan)) (first_of (reason_of_cost s plan cost) (reason_of_tree s bound 1 (placed_twigs s tree))) (is_yes _ e) in
+        let all = first_parts (reason_of_plan (first_bad s plan)) (first_of (reason_of_cost s plan cost) (reason_of_tree s bound 1 (placed_twigs s tree)))
+        (is_yes _ e) in
         let rest = first_parts (reason_of_cost s plan cost) (reason_of_tree s bound 1 (placed_twigs s tree)) all.1 in
         (all.0, rest.0, rest.1)
 
@@ -252,15 +298,18 @@ enough_fits s (place ∷ places) [] enough = All-nil (Fits s)
 enough_fits s [] (twig ∷ twigs) enough = All-nil (Fits s)
 enough_fits s (place ∷ places) (Split j part ∷ twigs) enough =
     let twig = Split j part in
-    All-cons (Fits s) (record { place = place; twig = twig }) (placed_from (places_after place twig places) twigs) tt (enough_fits s (places_after place twig places) twigs (All-tail (HasEnough s) twig twigs enough))
+    All-cons (Fits s) (record { place = place; twig = twig }) (placed_from (places_after place twig places) twigs) tt
+    (enough_fits s (places_after place twig places) twigs (All-tail (HasEnough s) twig twigs enough))
 enough_fits s (place ∷ places) (Tip leaf ∷ twigs) enough =
     let twig = Tip leaf in
     let here = All-head (HasEnough s) twig twigs enough in
-    All-cons (Fits s) (record { place = place; twig = twig }) (placed_from places twigs) (λ c lt. few c lt (here c lt)) (enough_fits s places twigs (All-tail (HasEnough s) twig twigs enough))
+    All-cons (Fits s) (record { place = place; twig = twig }) (placed_from places twigs) (λ c lt. few c lt (here c lt))
+    (enough_fits s places twigs (All-tail (HasEnough s) twig twigs enough))
   where
     few : (c : ℕ) → c < car_count s → moves_enough s ≤ claim_in leaf c → length (kept_at s place.node leaf c) ≤ claim_in leaf c
     few c lt claim =
-        let short = tested_lists-few s c (allows place.node c) (is_kept s c (price_in leaf) (allows place.node c) (requires_of place.node c) (worth_in leaf c)) lt in
+        let short = tested_lists-few s c (allows place.node c)
+        (is_kept s c (price_in leaf) (allows place.node c) (requires_of place.node c) (worth_in leaf c)) lt in
         omega (arith, short, claim)
 
 pub sufficient_holds : SufficientLaw

@@ -109,7 +109,8 @@ pub record IsPiece (nodes : List Node) (seen : ℕ) (twigs : List Twig) (piece :
 -- the first reason to say no to a plan, its cost and a bound with these twigs
 abbrev pub first_reason : Snapshot → Stated → List Twig → Option Reason
 first_reason s stated tree =
-    first_of (reason_of_plan (first_bad s stated.plan)) (first_of (reason_of_cost s stated.plan stated.cost) (reason_of_tree s stated.bound 1 (placed_twigs s tree)))
+    first_of (reason_of_plan (first_bad s stated.plan))
+    (first_of (reason_of_cost s stated.plan stated.cost) (reason_of_tree s stated.bound 1 (placed_twigs s tree)))
 
 -- no reason was found yet
 pub record IsOpen (s : Snapshot) (stated : Stated) (fed : List Twig) (places : List Node) (seen : ℕ) : Type 0 where

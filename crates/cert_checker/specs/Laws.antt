@@ -16,7 +16,8 @@ HasEnough s (Tip leaf) = (c : ℕ) → c < car_count s → moves_enough s ≤ cl
 
 -- With sufficient claims the verdict is yes exactly where the tree proves the plan, its cost and the bound.
 abbrev pub SufficientLaw : Type 0
-SufficientLaw = (s : Snapshot) (plan : List (List Stop)) (cost bound : ℕ) (tree : List Twig) → IsAccepted s → length plan ≡ car_count s → IsTrue (is_whole s tree) → All (HasEnough s) tree → (verdict_of s plan cost bound tree ≡ Yes) ↔ Proves s plan cost bound tree
+SufficientLaw = (s : Snapshot) (plan : List (List Stop)) (cost bound : ℕ) (tree : List Twig) → IsAccepted s → length plan ≡ car_count s
+    → IsTrue (is_whole s tree) → All (HasEnough s) tree → (verdict_of s plan cost bound tree ≡ Yes) ↔ Proves s plan cost bound tree
 
 -- What a yes says without any tree: the plan is feasible and has the cost, and no feasible plan costs less than the
 -- bound.
@@ -26,4 +27,5 @@ pub record IsProved (s : Snapshot) (plan : List (List Stop)) (cost bound : ℕ) 
   pub least : IsBound s bound
 
 abbrev pub YesLaw : Type 0
-YesLaw = (s : Snapshot) (plan : List (List Stop)) (cost bound : ℕ) (tree : List Twig) → IsAccepted s → length plan ≡ car_count s → IsTrue (is_whole s tree) → verdict_of s plan cost bound tree ≡ Yes → IsProved s plan cost bound
+YesLaw = (s : Snapshot) (plan : List (List Stop)) (cost bound : ℕ) (tree : List Twig) → IsAccepted s → length plan ≡ car_count s → IsTrue (is_whole s tree)
+    → verdict_of s plan cost bound tree ≡ Yes → IsProved s plan cost bound

@@ -1,5 +1,6 @@
 -- A leaf with the claims that are due.
-use Rattle.std.proofs.Common.{◌≡◌, ℕ, zero, suc, ◌+◌, ◌-◌, ◌<◌, ◌≤◌, ◌==◌, Bool, true, false, cond, ◌&&◌, List, [], ◌∷◌, ◌++◌, length, map, get_or, set, take, drop, refl, sym, ap, ◌∙◌, subst, inl, inr, arith}
+use Rattle.std.proofs.Common.{◌≡◌, ℕ, zero, suc, ◌+◌, ◌-◌, ◌<◌, ◌≤◌, ◌==◌, Bool, true, false, cond, ◌&&◌, List, [], ◌∷◌, ◌++◌, length, map, get_or, set, take}
+use Rattle.std.proofs.Common.{drop, refl, sym, ap, ◌∙◌, subst, inl, inr, arith}
 use Rattle.std.specs.Prelude.{ℤ, pos, ◌+ℤ◌, ◌≤ℤ◌, max, nat_lt, sum_by, slice_index_or}
 use Rattle.std.specs.List.{list_all}
 use Rattle.std.proofs.lemmas.Bool.{and_parts, cases_Bool, eqb-true}
@@ -43,12 +44,14 @@ module _ {X : Type 0} where
   keys-map g key (x ∷ xs) same = ap (λ (k : ℕ). k ∷ map key (map g xs)) (same x) ∙ ap (λ (l : List ℕ). key x ∷ l) (keys-map g key xs same)
 
   -- values that stand under keys below n, added up by key
-  sum_by-keys : (n : ℕ) (key v : X → ℕ) (xs : List X) → list_all (λ k. nat_lt k n) (map key xs) ≡ true → sum_below n (λ k. sum_by (λ x. cond (key x == k) (v x) 0) xs) ≡ sum_by v xs
+  sum_by-keys : (n : ℕ) (key v : X → ℕ) (xs : List X) → list_all (λ k. nat_lt k n) (map key xs) ≡ true
+      → sum_below n (λ k. sum_by (λ x. cond (key x == k) (v x) 0) xs) ≡ sum_by v xs
   sum_by-keys n key v [] h = sum_below-zero n
   sum_by-keys n key v (x ∷ xs) h = (
       let both = and_parts (nat_lt (key x) n) (list_all (λ k. nat_lt k n) (map key xs)) h in
       let rest = sum_by-keys n key v xs both.1 in
-      let all = sum_below-same n (λ k. sum_by (λ y. cond (key y == k) (v y) 0) (x ∷ xs)) (λ k. cond (key x == k) (v x) 0 + sum_by (λ y. cond (key y == k) (v y) 0) xs) (λ k lt. sum_by-cons (λ y. cond (key y == k) (v y) 0) x xs) in
+      let all = sum_below-same n (λ k. sum_by (λ y. cond (key y == k) (v y) 0) (x ∷ xs))
+      (λ k. cond (key x == k) (v x) 0 + sum_by (λ y. cond (key y == k) (v y) 0) xs) (λ k lt. sum_by-cons (λ y. cond (key y == k) (v y) 0) x xs) in
       let added = sum_below-add n (λ k. cond (key x == k) (v x) 0) (λ k. sum_by (λ y. cond (key y == k) (v y) 0) xs) in
       let here = sum-at n (key x) (v x) both.0 in
       let more = sum_by-cons v x xs in
@@ -57,12 +60,20 @@ module _ {X : Type 0} where
       beyond : (m j p : ℕ) → m ≤ j → sum_below m (λ k. cond (j == k) p 0) ≡ 0
       beyond zero j p le = refl
       beyond (suc m) j p le =
-          elim (cases_Bool (j == m)) [ inl same ↦ absurd (let e = eqb-true j m same in omega (arith, le, e)) | inr other ↦ (let rest = beyond m j p (omega (arith, le)) in let none = ap {B = ℕ} (λ (b : Bool). cond b p 0) other in omega (arith, rest, none)) ]
+          elim (cases_Bool (j == m)) [
+            | inl same ↦ absurd (let e = eqb-true j m same in omega (arith, le, e))
+            | inr other ↦ (let rest = beyond m j p (omega (arith, le)) in let none = ap {B = ℕ} (λ (b : Bool). cond b p 0) other in omega (arith, rest, none))
+          ]
 
       sum-below-at : (m j p : ℕ) → j < m → sum_below m (λ k. cond (j == k) p 0) ≡ p
       sum-below-at zero j p lt = absurd (omega (arith, lt))
       sum-below-at (suc m) j p lt =
-          elim (cases_Bool (j == m)) [ inl same ↦ (let e = eqb-true j m same in let rest = beyond m j p (omega (arith, e)) in let here = ap {B = ℕ} (λ (b : Bool). cond b p 0) same in omega (arith, rest, here)) | inr other ↦ (let rest = sum-below-at m j p (below other) in let none = ap {B = ℕ} (λ (b : Bool). cond b p 0) other in omega (arith, rest, none)) ]
+          elim (cases_Bool (j == m)) [
+            | inl same ↦
+                (let e = eqb-true j m same in let rest = beyond m j p (omega (arith, e)) in let here = ap {B = ℕ} (λ (b : Bool). cond b p 0) same in
+                omega (arith, rest, here))
+            | inr other ↦ (let rest = sum-below-at m j p (below other) in let none = ap {B = ℕ} (λ (b : Bool). cond b p 0) other in omega (arith, rest, none))
+          ]
         where
           below : (j == m) ≡ false → j < m
           below other = grind (arith, lt, other)
@@ -85,7 +96,8 @@ module _ (by : List ℕ) (leaf : Leaf) where
   worth_with c = int_sum_by-map (with_claim by) (λ (w : WorthOf). cond (w.car == c) w.worth (pos 0)) leaf.worths (λ w. refl)
 
   pub sum_with : sum_of_leaf (with_claims by leaf) ≡ sum_of_leaf leaf
-  sum_with = ap (λ (z : ℤ). int_sum_by (λ (p : PriceOf). p.price) leaf.prices +ℤ z) (int_sum_by-map (with_claim by) (λ (w : WorthOf). w.worth) leaf.worths (λ w. refl))
+  sum_with = ap (λ (z : ℤ). int_sum_by (λ (p : PriceOf). p.price) leaf.prices +ℤ z)
+      (int_sum_by-map (with_claim by) (λ (w : WorthOf). w.worth) leaf.worths (λ w. refl))
 
   pub due_with : (s : Snapshot) (node : Node) (c : ℕ) → claim_due s node (with_claims by leaf) c ≡ claim_due s node leaf c
   due_with s node c = ap (λ (z : ℤ). max 1 (length (kept_list s c (price_in leaf) (allows node c) (requires_of node c) z))) (worth_with c)
@@ -94,11 +106,14 @@ module _ (s : Snapshot) (at : LeafAt) (by : List ℕ) (whole : has_whole_lists s
   abbrev car_of : WorthOf → ℕ
   car_of w = w.car
 
-  lists : (are_each_once (call_count s) (map (λ (p : PriceOf). p.call) at.leaf.prices) ≡ true) × (are_each_once (car_count s) (map car_of at.leaf.worths) ≡ true)
-  lists = and_parts (are_each_once (call_count s) (map (λ (p : PriceOf). p.call) at.leaf.prices)) (are_each_once (car_count s) (map car_of at.leaf.worths)) whole
+  lists : (are_each_once (call_count s) (map (λ (p : PriceOf). p.call) at.leaf.prices) ≡ true)
+      × (are_each_once (car_count s) (map car_of at.leaf.worths) ≡ true)
+  lists = and_parts (are_each_once (call_count s) (map (λ (p : PriceOf). p.call) at.leaf.prices))
+      (are_each_once (car_count s) (map car_of at.leaf.worths)) whole
 
   pub whole_with : has_whole_lists s (with_claims by at.leaf) ≡ true
-  whole_with = ap (λ (keys : List ℕ). are_each_once (call_count s) (map (λ (p : PriceOf). p.call) at.leaf.prices) && are_each_once (car_count s) keys) (keys-map (with_claim by) car_of at.leaf.worths (λ w. refl)) ∙ whole
+  whole_with = ap (λ (keys : List ℕ). are_each_once (call_count s) (map (λ (p : PriceOf). p.call) at.leaf.prices) && are_each_once (car_count s) keys)
+      (keys-map (with_claim by) car_of at.leaf.worths (λ w. refl)) ∙ whole
 
   pub claim_with : (c : ℕ) → c < car_count s → claim_in (with_claims by at.leaf) c ≡ slice_index_or by c 0
   claim_with c lt =
@@ -106,7 +121,10 @@ module _ (s : Snapshot) (at : LeafAt) (by : List ℕ) (whole : has_whole_lists s
       let once = lists.1 in
       let place = place_of car_of c at.leaf.worths d (among-once (car_count s) (map car_of at.leaf.worths) once c lt) in
       let each = (once-from (car_count s) (map car_of at.leaf.worths) once).once c lt in
-      sum_by-map (with_claim by) (λ (w : WorthOf). cond (w.car == c) w.claim 0) (λ (w : WorthOf). cond (w.car == c) (slice_index_or by w.car 0) 0) at.leaf.worths (λ w. refl) ∙ claims_once car_of (λ (w : WorthOf). slice_index_or by w.car 0) c at.leaf.worths place.0 d place.1 place.2 each ∙ ap (λ (k : ℕ). slice_index_or by k 0) place.2
+      sum_by-map (with_claim by) (λ (w : WorthOf). cond (w.car == c) w.claim 0)
+      (λ (w : WorthOf). cond (w.car == c) (slice_index_or by w.car 0) 0) at.leaf.worths (λ w. refl)
+      ∙ claims_once car_of (λ (w : WorthOf). slice_index_or by w.car 0) c at.leaf.worths place.0 d place.1 place.2 each
+      ∙ ap (λ (k : ℕ). slice_index_or by k 0) place.2
 
   pub sound_with : (bound : ℕ) → IsSoundLeaf s bound at.node at.leaf → IsSoundLeaf s bound at.node (with_claims by at.leaf)
   sound_with bound sound = record {
@@ -120,7 +138,8 @@ module _ (s : Snapshot) (at : LeafAt) (by : List ℕ) (whole : has_whole_lists s
 
   -- the claims of a leaf, by entry and by car
   pub claims_by_car : claims_of (Tip at.leaf) ≡ sum_below (car_count s) (claim_in at.leaf)
-  claims_by_car = sym (sum_by-keys (car_count s) car_of (λ (w : WorthOf). w.claim) at.leaf.worths (once-from (car_count s) (map car_of at.leaf.worths) lists.1).below)
+  claims_by_car = sym (sum_by-keys (car_count s) car_of (λ (w : WorthOf). w.claim) at.leaf.worths
+      (once-from (car_count s) (map car_of at.leaf.worths) lists.1).below)
 
   -- what is due at a leaf
   pub due_is : sum_below (car_count s) (claim_due s at.node at.leaf) ≡ extra_of s at + length at.leaf.worths
@@ -130,10 +149,13 @@ module _ (s : Snapshot) (at : LeafAt) (by : List ℕ) (whole : has_whole_lists s
       omega (arith, all, worths)
 
 -- the claims that are stated of a leaf
-pub stated_is : (s : Snapshot) (at : LeafAt) (by : List ℕ) → has_whole_lists s at.leaf ≡ true → AreDue s at by → claims_of (Tip (with_claims by at.leaf)) ≡ extra_of s at + length at.leaf.worths
+pub stated_is : (s : Snapshot) (at : LeafAt) (by : List ℕ) → has_whole_lists s at.leaf ≡ true → AreDue s at by
+    → claims_of (Tip (with_claims by at.leaf)) ≡ extra_of s at + length at.leaf.worths
 stated_is s at by whole due =
     let new = leaf_of at.node (with_claims by at.leaf) in
-    claims_by_car s new by (whole_with s at by whole) ∙ sum_below-same (car_count s) (claim_in new.leaf) (claim_due s at.node at.leaf) (λ c lt. claim_with s at by whole c lt ∙ due c lt) ∙ due_is s at by whole
+    claims_by_car s new by (whole_with s at by whole)
+    ∙ sum_below-same (car_count s) (claim_in new.leaf) (claim_due s at.node at.leaf) (λ c lt. claim_with s at by whole c lt ∙ due c lt)
+    ∙ due_is s at by whole
 
 -- ---- one worth after another
 
@@ -144,13 +166,16 @@ module _ {X : Type 0} where
   get-changed g (x ∷ xs) zero d lt = refl
   get-changed g (x ∷ xs) (suc n) d lt = get-changed g xs n d (omega (arith, lt))
 
-  change-more : (g : X → X) (xs : List X) (n : ℕ) (d : X) → n < length xs → set (map g (take n xs) ++ drop n xs) n (g (get_or xs n d)) ≡ map g (take (suc n) xs) ++ drop (suc n) xs
+  change-more : (g : X → X) (xs : List X) (n : ℕ) (d : X) → n < length xs
+      → set (map g (take n xs) ++ drop n xs) n (g (get_or xs n d)) ≡ map g (take (suc n) xs) ++ drop (suc n) xs
   change-more g [] n d lt = absurd (omega (arith, lt))
   change-more g (x ∷ xs) zero d lt = refl
   change-more g (x ∷ xs) (suc n) d lt = ap (λ (l : List X). g x ∷ l) (change-more g xs n d (omega (arith, lt)))
 
-  pub changed_one : (g : X → X) (xs now : List X) (n : ℕ) (v d : X) → n < length xs → now ≡ map g (take n xs) ++ drop n xs → v ≡ g (get_or now n d) → set now n v ≡ map g (take (n + 1) xs) ++ drop (n + 1) xs
+  pub changed_one : (g : X → X) (xs now : List X) (n : ℕ) (v d : X) → n < length xs → now ≡ map g (take n xs) ++ drop n xs → v ≡ g (get_or now n d)
+      → set now n v ≡ map g (take (n + 1) xs) ++ drop (n + 1) xs
   changed_one g xs now n v d lt is e =
       let on : n + 1 ≡ suc n = omega arith in
       let value : v ≡ g (get_or xs n d) = e ∙ ap (λ (l : List X). g (get_or l n d)) is ∙ ap g (get-changed g xs n d lt) in
-      ap (λ (l : List X). set l n v) is ∙ ap (λ (y : X). set (map g (take n xs) ++ drop n xs) n y) value ∙ change-more g xs n d lt ∙ ap (λ (m : ℕ). map g (take m xs) ++ drop m xs) (sym on)
+      ap (λ (l : List X). set l n v) is ∙ ap (λ (y : X). set (map g (take n xs) ++ drop n xs) n y) value ∙ change-more g xs n d lt
+      ∙ ap (λ (m : ℕ). map g (take m xs) ++ drop m xs) (sym on)

@@ -1,5 +1,6 @@
 -- Leaves and trees with lesser worths.
-use Rattle.std.proofs.Common.{◌≡◌, ℕ, ◌+◌, ◌*◌, ◌/◌, ◌^◌, ◌<◌, ◌≤◌, ◌==◌, Bool, true, false, cond, ◌&&◌, List, [], ◌∷◌, length, map, refl, sym, ap, ◌∙◌, subst, inl, inr, arith, ◌⊎◌, to_z, of_z, FitsSigned}
+use Rattle.std.proofs.Common.{◌≡◌, ℕ, ◌+◌, ◌*◌, ◌/◌, ◌^◌, ◌<◌, ◌≤◌, ◌==◌, Bool, true, false, cond, ◌&&◌, List, [], ◌∷◌, length, map, refl, sym, ap, ◌∙◌, subst}
+use Rattle.std.proofs.Common.{inl, inr, arith, ◌⊎◌, to_z, of_z, FitsSigned}
 use Rattle.std.specs.Prelude.{ℤ, pos, negsuc, neg_ℤ, ◌+ℤ◌, ◌-ℤ◌, ◌*ℤ◌, ◌≤ℤ◌, int_lt, unsigned_abs, max, All}
 use Rattle.std.proofs.Math.Nat.{div-le_self, mul-div-le}
 use Rattle.std.proofs.lemmas.Bool.{cases_lt}
@@ -16,7 +17,8 @@ use Rattle.search_model.specs.declared.Twig.{Twig}
 use Rattle.search_model.specs.declared.Twig.TheVariants.{Split, Leaf as Tip}
 use Rattle.search_model.specs.Sums.{int_sum_by}
 use Rattle.search_model.specs.Nodes.{Node}
-use Rattle.search_model.specs.Certificates.{IsSound, IsSoundLeaf, TreePlace, Placed, are_each_once, has_whole_lists, is_filled, placed_from, places_after, sum_needed, sum_of_leaf}
+use Rattle.search_model.specs.Certificates.{IsSound, IsSoundLeaf, TreePlace, Placed, are_each_once, has_whole_lists, is_filled, placed_from, places_after}
+use Rattle.search_model.specs.Certificates.{sum_needed, sum_of_leaf}
 use Rattle.kept_tours.specs.Leaves.{HasWorthSize}
 use Rattle.kept_tours.proofs.EntryLemmas.{stored}
 use Rattle.kept_tours.proofs.LeafLemmas.{whole_few}
@@ -62,7 +64,8 @@ abs_small : (z : ℤ) → pos 0 ≤ℤ z → z ≤ℤ pos (10 ^ 30) → unsigned
 abs_small (pos n) low high = omega (arith, ints, high)
 abs_small (negsuc n) low high = absurd (omega (arith, ints, low))
 
-module _ (bound : ℕ) (leaf : Leaf) (sum needed : ℤ) (wide : IsWideLeaf bound leaf) (small : bound < 2 ^ 64) (sum_is : sum ≡ sum_of_leaf leaf) (needed_is : needed ≡ sum_needed bound) where
+module _ (bound : ℕ) (leaf : Leaf) (sum needed : ℤ) (wide : IsWideLeaf bound leaf) (small : bound < 2 ^ 64) (sum_is : sum ≡ sum_of_leaf leaf)
+    (needed_is : needed ≡ sum_needed bound) where
   abbrev kept : ℤ
   kept = to_z w128 (of_z w128 sum) -ℤ to_z w128 (of_z w128 needed)
 
@@ -82,7 +85,8 @@ module _ (bound : ℕ) (leaf : Leaf) (sum needed : ℤ) (wide : IsWideLeaf bound
   slack_small = (let enough = wide.enough in let high = (sum_small bound leaf wide).1 in (omega (arith, ints, enough), omega (arith, ints, high, small)))
 
   kept_stored : to_z w128 (of_z w128 kept) ≡ slack
-  kept_stored = (let both = slack_small in let low = both.0 in let high = both.1 in ap (λ (z : ℤ). to_z w128 (of_z w128 z)) kept_is ∙ stored slack (omega (arith, ints, low)) (omega (arith, ints, high)))
+  kept_stored = (let both = slack_small in let low = both.0 in let high = both.1 in
+      ap (λ (z : ℤ). to_z w128 (of_z w128 z)) kept_is ∙ stored slack (omega (arith, ints, low)) (omega (arith, ints, high)))
 
   pub slack_fits : FitsSigned w128 kept
   slack_fits = subst (FitsSigned w128) (sym kept_is) (fits slack slack_small.0 slack_small.1)
@@ -103,10 +107,12 @@ module _ (bound : ℕ) (leaf : Leaf) (sum needed : ℤ) (wide : IsWideLeaf bound
     share_fits = record { sfits = part_small }
 
     pub share_is : parts ≡ max 1 (length leaf.worths) → to_z w128 (number / parts) ≡ share_of bound leaf
-    share_is e = to_z_pos w128 (number / parts) part_small ∙ ap pos (ap (λ (m : ℕ). number / m) e ∙ ap (λ (n : ℕ). n / max 1 (length leaf.worths)) (number_is ∙ ap unsigned_abs kept_stored))
+    share_is e = to_z_pos w128 (number / parts) part_small
+        ∙ ap pos (ap (λ (m : ℕ). number / m) e ∙ ap (λ (n : ℕ). n / max 1 (length leaf.worths)) (number_is ∙ ap unsigned_abs kept_stored))
 
 -- it is of a size that can be taken off
-pub share_by : (bound : ℕ) (leaf : Leaf) (by : ℤ) → IsWideLeaf bound leaf → bound < 2 ^ 64 → by ≡ share_of bound leaf → (pos 0 ≤ℤ to_z w128 (of_z w128 by)) × (to_z w128 (of_z w128 by) ≤ℤ pos (10 ^ 31))
+pub share_by : (bound : ℕ) (leaf : Leaf) (by : ℤ) → IsWideLeaf bound leaf → bound < 2 ^ 64 → by ≡ share_of bound leaf → (pos 0 ≤ℤ to_z w128 (of_z w128 by))
+    × (to_z w128 (of_z w128 by) ≤ℤ pos (10 ^ 31))
 share_by bound leaf by wide small is =
     let slack = slack_small bound leaf (sum_of_leaf leaf) (sum_needed bound) wide small refl refl in
     let number = unsigned_abs (sum_of_leaf leaf -ℤ sum_needed bound) in
@@ -148,7 +154,8 @@ share_low : (bound : ℕ) (leaf : Leaf) → pos 0 ≤ℤ share_of bound leaf
 share_low bound leaf = omega (arith, ints)
 
 module _ (by : ℤ) (low : pos 0 ≤ℤ by) where
-  sum_near : (worths : List WorthOf) → int_sum_by (λ (w : WorthOf). w.worth) worths ≤ℤ (int_sum_by (λ (w : WorthOf). w.worth) (map (lowered_worth by) worths) +ℤ (pos (length worths) *ℤ by))
+  sum_near : (worths : List WorthOf)
+      → int_sum_by (λ (w : WorthOf). w.worth) worths ≤ℤ (int_sum_by (λ (w : WorthOf). w.worth) (map (lowered_worth by) worths) +ℤ (pos (length worths) *ℤ by))
   sum_near [] = omega (arith, ints)
   sum_near (w ∷ worths) =
       let here = lowered_near by w low in
@@ -156,7 +163,9 @@ module _ (by : ℤ) (low : pos 0 ≤ℤ by) where
       let step : pos (length (w ∷ worths)) *ℤ by ≡ (pos (length worths) *ℤ by) +ℤ by = omega (arith, ints) in
       omega (arith, ints, here, rest, step)
 
-  worth_less : (c : ℕ) (worths : List WorthOf) → int_sum_by (λ (w : WorthOf). cond (w.car == c) w.worth (pos 0)) (map (lowered_worth by) worths) ≤ℤ int_sum_by (λ (w : WorthOf). cond (w.car == c) w.worth (pos 0)) worths
+  worth_less : (c : ℕ) (worths : List WorthOf)
+      → int_sum_by (λ (w : WorthOf). cond (w.car == c) w.worth (pos 0)) (map (lowered_worth by) worths) ≤ℤ int_sum_by
+      (λ (w : WorthOf). cond (w.car == c) w.worth (pos 0)) worths
   worth_less c [] = omega (arith, ints)
   worth_less c (w ∷ worths) =
       let rest = worth_less c worths in
@@ -170,7 +179,8 @@ module _ (by : ℤ) (low : pos 0 ≤ℤ by) where
   sizes_lowered : (worths : List WorthOf) → All HasWorthSize worths → All HasWorthSize (map (lowered_worth by) worths)
   sizes_lowered [] all = All-nil HasWorthSize
   sizes_lowered (w ∷ worths) all =
-      All-cons HasWorthSize (lowered_worth by w) (map (lowered_worth by) worths) (lowered_size by w low (All-head HasWorthSize w worths all)) (sizes_lowered worths (All-tail HasWorthSize w worths all))
+      All-cons HasWorthSize (lowered_worth by w) (map (lowered_worth by) worths) (lowered_size by w low (All-head HasWorthSize w worths all))
+      (sizes_lowered worths (All-tail HasWorthSize w worths all))
 
 -- a part of a number, as often as there are parts
 times_share : (k n : ℕ) → n * (k / max 1 n) ≤ k
@@ -199,7 +209,9 @@ module _ (s : Snapshot) (node : Node) (bound : ℕ) (leaf : Leaf) where
   lowered = lowered_leaf bound leaf
 
   whole_lowered : has_whole_lists s leaf ≡ true → has_whole_lists s lowered ≡ true
-  whole_lowered whole = ap (λ (keys : List ℕ). are_each_once (call_count s) (map (λ (p : PriceOf). p.call) leaf.prices) && are_each_once (car_count s) keys) (keys-map (lowered_worth (share_of bound leaf)) (λ (w : WorthOf). w.car) leaf.worths (λ w. refl)) ∙ whole
+  whole_lowered whole =
+      ap (λ (keys : List ℕ). are_each_once (call_count s) (map (λ (p : PriceOf). p.call) leaf.prices) && are_each_once (car_count s) keys)
+      (keys-map (lowered_worth (share_of bound leaf)) (λ (w : WorthOf). w.car) leaf.worths (λ w. refl)) ∙ whole
 
   pub sound_lowered : IsSoundLeaf s bound node leaf → IsSoundLeaf s bound node lowered
   sound_lowered sound = record {
@@ -237,8 +249,11 @@ module _ (bound : ℕ) where
 
   pub cars_lowered : (twigs : List Twig) → All HasCars twigs → All HasCars (lowered_tree bound twigs)
   cars_lowered [] all = All-nil HasCars
-  cars_lowered (Split j part ∷ twigs) all = All-cons HasCars (Split j part) (lowered_tree bound twigs) (All-head HasCars (Split j part) twigs all) (cars_lowered twigs (All-tail HasCars (Split j part) twigs all))
-  cars_lowered (Tip leaf ∷ twigs) all = All-cons HasCars (Tip (lowered_leaf bound leaf)) (lowered_tree bound twigs) tt (cars_lowered twigs (All-tail HasCars (Tip leaf) twigs all))
+  cars_lowered (Split j part ∷ twigs) all =
+      All-cons HasCars (Split j part) (lowered_tree bound twigs) (All-head HasCars (Split j part) twigs all)
+      (cars_lowered twigs (All-tail HasCars (Split j part) twigs all))
+  cars_lowered (Tip leaf ∷ twigs) all =
+      All-cons HasCars (Tip (lowered_leaf bound leaf)) (lowered_tree bound twigs) tt (cars_lowered twigs (All-tail HasCars (Tip leaf) twigs all))
 
   pub worths_below : (leaf : Leaf) → All HasWorthSize leaf.worths → All HasWorthSize (lowered_leaf bound leaf).worths
   worths_below leaf all = sizes_lowered (share_of bound leaf) (share_low bound leaf) leaf.worths all
@@ -247,34 +262,42 @@ module _ (bound : ℕ) where
     abbrev Sound : Placed → Type 0
     Sound p = IsSound s bound p.place p.twig
 
-    pub tree_lowered : (places : List TreePlace) (twigs : List Twig) → All Sound (placed_from places twigs) → All Sound (placed_from places (lowered_tree bound twigs))
+    pub tree_lowered : (places : List TreePlace) (twigs : List Twig) → All Sound (placed_from places twigs)
+        → All Sound (placed_from places (lowered_tree bound twigs))
     tree_lowered places [] sound = sound
     tree_lowered [] (twig ∷ twigs) sound = All-nil Sound
     tree_lowered (place ∷ places) (Split j part ∷ twigs) sound =
         let here : Placed = record { place = place; twig = Split j part } in
         let later = placed_from (places_after place (Split j part) places) twigs in
-        All-cons Sound here (placed_from (places_after place (Split j part) places) (lowered_tree bound twigs)) (All-head Sound here later sound) (tree_lowered (places_after place (Split j part) places) twigs (All-tail Sound here later sound))
+        All-cons Sound here (placed_from (places_after place (Split j part) places) (lowered_tree bound twigs)) (All-head Sound here later sound)
+        (tree_lowered (places_after place (Split j part) places) twigs (All-tail Sound here later sound))
     tree_lowered (place ∷ places) (Tip leaf ∷ twigs) sound =
         let here : Placed = record { place = place; twig = Tip leaf } in
         let new : Placed = record { place = place; twig = Tip (lowered_leaf bound leaf) } in
         let later = placed_from places twigs in
-        All-cons Sound new (placed_from places (lowered_tree bound twigs)) (sound_lowered s place.node bound leaf (All-head Sound here later sound)) (tree_lowered places twigs (All-tail Sound here later sound))
+        All-cons Sound new (placed_from places (lowered_tree bound twigs)) (sound_lowered s place.node bound leaf (All-head Sound here later sound))
+        (tree_lowered places twigs (All-tail Sound here later sound))
 
     -- each leaf of a proved tree can be lowered
-    pub all_can : IsAccepted s → (places : List TreePlace) (twigs : List Twig) → is_filled places twigs ≡ true → All Sound (placed_from places twigs) → All IsSizedTwig twigs → All (CanBeLowered bound) twigs
+    pub all_can : IsAccepted s → (places : List TreePlace) (twigs : List Twig) → is_filled places twigs ≡ true → All Sound (placed_from places twigs)
+        → All IsSizedTwig twigs → All (CanBeLowered bound) twigs
     all_can ok places [] filled sound sized = All-nil (CanBeLowered bound)
     all_can ok [] (twig ∷ twigs) filled sound sized = absurd cc
     all_can ok (place ∷ places) (Split j part ∷ twigs) filled sound sized =
         let here : Placed = record { place = place; twig = Split j part } in
         let later = placed_from (places_after place (Split j part) places) twigs in
-        All-cons (CanBeLowered bound) (Split j part) twigs tt (all_can ok (places_after place (Split j part) places) twigs filled (All-tail Sound here later sound) (All-tail IsSizedTwig (Split j part) twigs sized))
+        All-cons (CanBeLowered bound) (Split j part) twigs tt
+        (all_can ok (places_after place (Split j part) places) twigs filled (All-tail Sound here later sound)
+        (All-tail IsSizedTwig (Split j part) twigs sized))
     all_can ok (place ∷ places) (Tip leaf ∷ twigs) filled sound sized =
         let here : Placed = record { place = place; twig = Tip leaf } in
         let later = placed_from places twigs in
         let own = All-head Sound here later sound in
         let few = whole_few s leaf ok own.whole in
-        let wide : IsWideLeaf bound leaf = record { prices = few.0; worths = few.1; sizes = All-head IsSizedTwig (Tip leaf) twigs sized; enough = own.enough } in
-        All-cons (CanBeLowered bound) (Tip leaf) twigs wide (all_can ok places twigs filled (All-tail Sound here later sound) (All-tail IsSizedTwig (Tip leaf) twigs sized))
+        let wide : IsWideLeaf bound leaf =
+        record { prices = few.0; worths = few.1; sizes = All-head IsSizedTwig (Tip leaf) twigs sized; enough = own.enough } in
+        All-cons (CanBeLowered bound) (Tip leaf) twigs wide
+        (all_can ok places twigs filled (All-tail Sound here later sound) (All-tail IsSizedTwig (Tip leaf) twigs sized))
 
 -- a tree that proves a bound proves each lesser one
 module _ (s : Snapshot) (from bound : ℕ) (le : bound ≤ from) where
@@ -285,7 +308,9 @@ module _ (s : Snapshot) (from bound : ℕ) (le : bound ≤ from) where
       of place (Split j part) is = is
       of place (Tip leaf) is = record { whole = is.whole; enough = (let enough = is.enough in omega (arith, ints, enough, le)); worths = is.worths }
 
-  pub all_less : (placed : List Placed) → All (λ (p : Placed). IsSound s from p.place p.twig) placed → All (λ (p : Placed). IsSound s bound p.place p.twig) placed
+  pub all_less : (placed : List Placed) → All (λ (p : Placed). IsSound s from p.place p.twig) placed
+      → All (λ (p : Placed). IsSound s bound p.place p.twig) placed
   all_less [] all = All-nil (λ (p : Placed). IsSound s bound p.place p.twig)
   all_less (p ∷ placed) all =
-      All-cons (λ (q : Placed). IsSound s bound q.place q.twig) p placed (sound_less p (All-head (λ (q : Placed). IsSound s from q.place q.twig) p placed all)) (all_less placed (All-tail (λ (q : Placed). IsSound s from q.place q.twig) p placed all))
+      All-cons (λ (q : Placed). IsSound s bound q.place q.twig) p placed (sound_less p (All-head (λ (q : Placed). IsSound s from q.place q.twig) p placed all))
+      (all_less placed (All-tail (λ (q : Placed). IsSound s from q.place q.twig) p placed all))

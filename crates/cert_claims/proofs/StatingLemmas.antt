@@ -1,5 +1,6 @@
 -- The claims of a tree, stated.
-use Rattle.std.proofs.Common.{◌≡◌, ℕ, zero, suc, ◌+◌, ◌-◌, ◌*◌, ◌^◌, ◌<◌, ◌≤◌, true, false, List, [], ◌∷◌, length, map, take, get_or, refl, sym, ap, ◌∙◌, subst, inl, inr, arith}
+use Rattle.std.proofs.Common.{◌≡◌, ℕ, zero, suc, ◌+◌, ◌-◌, ◌*◌, ◌^◌, ◌<◌, ◌≤◌, true, false, List, [], ◌∷◌, length, map, take, get_or, refl, sym, ap, ◌∙◌, subst}
+use Rattle.std.proofs.Common.{inl, inr, arith}
 use Rattle.std.specs.Prelude.{All, min, None, Some, slice_get}
 use Rattle.std.proofs.lemmas.List.{length-map, take_all, take_more}
 use Rattle.std.proofs.lemmas.Option.{slice_get-get_or}
@@ -27,7 +28,8 @@ use Rattle.cert_claims.specs.Lowering.{GoesBeyond, lesser_bounds, lowered_tree}
 use Rattle.cert_claims.specs.declared.stating.LastResort.{LastResort}
 use Rattle.cert_claims.proofs.LeafLemmas.{claims_by_car, length_worths}
 use Rattle.cert_claims.proofs.LoweringLemmas.{all_can, all_less, cars_lowered, filled_lowered, tree_lowered, worths_lowered}
-use Rattle.cert_claims.proofs.TreeLemmas.{Sound, IsDue, due-claimed, due-placed, filled-claimed, nodes_of, sound-claimed, split_leaves, stated-claimed, without-claimed, worths-claimed}
+use Rattle.cert_claims.proofs.TreeLemmas.{Sound, IsDue, due-claimed, due-placed, filled-claimed, nodes_of, sound-claimed, split_leaves, stated-claimed}
+use Rattle.cert_claims.proofs.TreeLemmas.{without-claimed, worths-claimed}
 
 -- each place has a node
 abbrev HaveNodes : Snapshot → List TreePlace → Type 0
@@ -35,7 +37,8 @@ HaveNodes s [] = Unit {0}
 HaveNodes s (place ∷ places) = IsNodeOf s place.node × HaveNodes s places
 
 module _ (s : Snapshot) (accepted : IsAccepted s) (bound : ℕ) where
-  leaves_proved : (places : List TreePlace) (twigs : List Twig) → HaveNodes s places → All (Sound s bound) (placed_from places twigs) → All HasCars twigs → All (IsProvedLeaf s) (leaves_from (nodes_of places) twigs)
+  leaves_proved : (places : List TreePlace) (twigs : List Twig) → HaveNodes s places → All (Sound s bound) (placed_from places twigs) → All HasCars twigs
+      → All (IsProvedLeaf s) (leaves_from (nodes_of places) twigs)
   leaves_proved places [] nodes sound cars = All-nil (IsProvedLeaf s)
   leaves_proved [] (twig ∷ twigs) nodes sound cars = All-nil (IsProvedLeaf s)
   leaves_proved (place ∷ places) (Split j part ∷ twigs) nodes sound cars =
@@ -45,22 +48,28 @@ module _ (s : Snapshot) (accepted : IsAccepted s) (bound : ℕ) where
       let small = All-head HasCars (Split j part) twigs cars in
       let node = nodes.0 in
       let call : j < call_count s = subst (λ (n : ℕ). j < n) node.calls (part-index place.node j part is) in
-      let rest = leaves_proved (places_after place (Split j part) places) twigs (first_is_node s place.node j part small node call is, (second_is_node s place.node j part node call is, nodes.1)) (All-tail (Sound s bound) here later sound) (All-tail HasCars (Split j part) twigs cars) in
+      let rest = leaves_proved (places_after place (Split j part) places) twigs
+      (first_is_node s place.node j part small node call is, (second_is_node s place.node j part node call is, nodes.1))
+      (All-tail (Sound s bound) here later sound) (All-tail HasCars (Split j part) twigs cars) in
       subst (All (IsProvedLeaf s)) (sym (split_leaves s bound place j part places twigs is)) rest
   leaves_proved (place ∷ places) (Tip leaf ∷ twigs) nodes sound cars =
       let here : Placed = record { place = place; twig = Tip leaf } in
       let later = placed_from places twigs in
       let own = All-head (Sound s bound) here later sound in
-      All-cons (IsProvedLeaf s) (leaf_of place.node leaf) (leaves_from (nodes_of places) twigs) (record { node = nodes.0; whole = own.whole; worths = own.worths }) (leaves_proved places twigs nodes.1 (All-tail (Sound s bound) here later sound) (All-tail HasCars (Tip leaf) twigs cars))
+      All-cons (IsProvedLeaf s) (leaf_of place.node leaf) (leaves_from (nodes_of places) twigs)
+      (record { node = nodes.0; whole = own.whole; worths = own.worths })
+      (leaves_proved places twigs nodes.1 (All-tail (Sound s bound) here later sound) (All-tail HasCars (Tip leaf) twigs cars))
 
   -- as many worths as leaves and cars
-  worths_count : (places : List TreePlace) (twigs : List Twig) → is_filled places twigs ≡ true → All (Sound s bound) (placed_from places twigs) → length (leaves_from (nodes_of places) twigs) * car_count s ≡ worths_of_tree twigs
+  worths_count : (places : List TreePlace) (twigs : List Twig) → is_filled places twigs ≡ true → All (Sound s bound) (placed_from places twigs)
+      → length (leaves_from (nodes_of places) twigs) * car_count s ≡ worths_of_tree twigs
   worths_count places [] filled sound = omega arith
   worths_count [] (twig ∷ twigs) filled sound = absurd cc
   worths_count (place ∷ places) (Split j part ∷ twigs) filled sound =
       let here : Placed = record { place = place; twig = Split j part } in
       let later = placed_from (places_after place (Split j part) places) twigs in
-      let same = ap (λ (l : List LeafAt). length l * car_count s) (split_leaves s bound place j part places twigs (All-head (Sound s bound) here later sound)) in
+      let same = ap (λ (l : List LeafAt). length l * car_count s)
+      (split_leaves s bound place j part places twigs (All-head (Sound s bound) here later sound)) in
       let rest = worths_count (places_after place (Split j part) places) twigs filled (All-tail (Sound s bound) here later sound) in
       let more = sum_by-cons worths_of (Split j part) twigs in
       omega (arith, same, rest, more)
@@ -76,14 +85,18 @@ module _ (s : Snapshot) (accepted : IsAccepted s) (bound : ℕ) where
 all_tasks : (s : Snapshot) (tasks : List Task) → All (IsProvedLeaf s) (map leaf_at tasks) → All (IsProvedTask s) tasks
 all_tasks s [] all = All-nil (IsProvedTask s)
 all_tasks s (task ∷ tasks) all =
-    All-cons (IsProvedTask s) task tasks (All-head (IsProvedLeaf s) (leaf_at task) (map leaf_at tasks) all) (all_tasks s tasks (All-tail (IsProvedLeaf s) (leaf_at task) (map leaf_at tasks) all))
+    All-cons (IsProvedTask s) task tasks (All-head (IsProvedLeaf s) (leaf_at task) (map leaf_at tasks) all)
+    (all_tasks s tasks (All-tail (IsProvedLeaf s) (leaf_at task) (map leaf_at tasks) all))
 
 module _ (s : Snapshot) (accepted : IsAccepted s) (tree : List Twig) (proved : IsProvedTree s tree) where
   pub tasks_proved : (tasks : List Task) → map leaf_at tasks ≡ leaves_from (root_of s ∷ []) tree → All (IsProvedTask s) tasks
-  tasks_proved tasks is = all_tasks s tasks (subst (All (IsProvedLeaf s)) (sym is) (leaves_proved s accepted proved.bound (root_place s ∷ []) tree (root_is_node s accepted, tt) proved.sound proved.cars))
+  tasks_proved tasks is =
+      all_tasks s tasks (subst (All (IsProvedLeaf s)) (sym is)
+      (leaves_proved s accepted proved.bound (root_place s ∷ []) tree (root_is_node s accepted, tt) proved.sound proved.cars))
 
   -- what is spare beyond 1 for each worth
-  pub spare_is : (tasks : List Task) (limit worths spare : ℕ) → map leaf_at tasks ≡ leaves_from (root_of s ∷ []) tree → worths ≡ min (length tasks * car_count s) (2 ^ 64 - 1) → limit < 2 ^ 63 → spare ≡ limit - worths → spare ≡ limit - worths_of_tree tree
+  pub spare_is : (tasks : List Task) (limit worths spare : ℕ) → map leaf_at tasks ≡ leaves_from (root_of s ∷ []) tree
+      → worths ≡ min (length tasks * car_count s) (2 ^ 64 - 1) → limit < 2 ^ 63 → spare ≡ limit - worths → spare ≡ limit - worths_of_tree tree
   spare_is tasks limit worths spare is count small e =
       let all = worths_count s accepted proved.bound (root_place s ∷ []) tree proved.whole proved.sound in
       let same = ap (λ (l : List LeafAt). length l) is in
@@ -174,7 +187,9 @@ module _ (s : Snapshot) (accepted : IsAccepted s) (bound : ℕ) (tree : List Twi
   pub lowered_proved : IsProvedTree s lowered
   lowered_proved = record { bound = bound; whole = lowered_whole; sound = lowered_sound; cars = cars_lowered bound tree is.cars }
 
-  pub tried_within : (limit : ℕ) (all : List Claims) (new : Claimed) → AreAllDue s (leaves_from (root_of s ∷ []) lowered) all → extra_of_all s (leaves_from (root_of s ∷ []) lowered) ≤ limit - worths_of_tree lowered → new.tree.twigs ≡ claimed lowered all → new.bound ≡ bound → new.cut ≡ true → IsTried s bound limit tree (Some new)
+  pub tried_within : (limit : ℕ) (all : List Claims) (new : Claimed) → AreAllDue s (leaves_from (root_of s ∷ []) lowered) all
+      → extra_of_all s (leaves_from (root_of s ∷ []) lowered) ≤ limit - worths_of_tree lowered → new.tree.twigs ≡ claimed lowered all → new.bound ≡ bound
+      → new.cut ≡ true → IsTried s bound limit tree (Some new)
   tried_within limit all new due few e bound_is cut = record {
     certificate = certificate_of s bound lowered limit lowered_whole lowered_sound all due few new.tree.twigs e;
     tree_is = differs_in_claims s bound lowered limit lowered_whole lowered_sound all due few new.tree.twigs e;
@@ -197,10 +212,12 @@ lesser_low bound least (suc (suc (suc k))) d lt = absurd (omega (arith, lt))
 
 -- a lesser bound
 pub sized_less : (s : Snapshot) (from bound : ℕ) (tree : List Twig) → bound ≤ from → IsSizedTree s from tree → IsSizedTree s bound tree
-sized_less s from bound tree le is = record { whole = is.whole; sound = all_less s from bound le (placed_twigs s tree) is.sound; cars = is.cars; sizes = is.sizes }
+sized_less s from bound tree le is =
+    record { whole = is.whole; sound = all_less s from bound le (placed_twigs s tree) is.sound; cars = is.cars; sizes = is.sizes }
 
 -- one bound after another
-module _ (s : Snapshot) (bound : ℕ) (tree : List Twig) (resort : LastResort) (limit : ℕ) (bounds : List ℕ) (are : bounds ≡ lesser_bounds bound resort.bound) where
+module _ (s : Snapshot) (bound : ℕ) (tree : List Twig) (resort : LastResort) (limit : ℕ) (bounds : List ℕ)
+    (are : bounds ≡ lesser_bounds bound resort.bound) where
   abbrev Beyond : ℕ → Type 0
   Beyond b = GoesBeyond s limit tree b
 
@@ -208,9 +225,12 @@ module _ (s : Snapshot) (bound : ℕ) (tree : List Twig) (resort : LastResort) (
   bound_low k d lt = subst (λ (l : List ℕ). get_or l k d ≤ bound) (sym are) (lesser_low bound resort.bound k d (subst (λ (l : List ℕ). k < length l) are lt))
 
   pub beyond_more : (k d : ℕ) → k < length bounds → All Beyond (take k bounds) → Beyond (get_or bounds k d) → All Beyond (take (k + 1) bounds)
-  beyond_more k d lt before here = subst (All Beyond) (sym (take_more bounds k d lt)) (All-append Beyond (take k bounds) (get_or bounds k d ∷ []) before (All-cons Beyond (get_or bounds k d) [] here (All-nil Beyond)))
+  beyond_more k d lt before here =
+      subst (All Beyond) (sym (take_more bounds k d lt))
+      (All-append Beyond (take k bounds) (get_or bounds k d ∷ []) before (All-cons Beyond (get_or bounds k d) [] here (All-nil Beyond)))
 
-  pub cut_lowered : (k d : ℕ) (new : Claimed) → k < length bounds → All Beyond (take k bounds) → IsLoweredTo s (get_or bounds k d) limit tree new → IsCut s bound tree resort limit new
+  pub cut_lowered : (k d : ℕ) (new : Claimed) → k < length bounds → All Beyond (take k bounds) → IsLoweredTo s (get_or bounds k d) limit tree new
+      → IsCut s bound tree resort limit new
   cut_lowered k d new lt before is = record {
     certificate = subst (λ (b : ℕ). IsCertificate s b limit new.tree.twigs) (sym is.bound_is) is.certificate;
     low = (let low = bound_low k d lt in let e = is.bound_is in omega (arith, low, e));
@@ -223,9 +243,11 @@ module _ (s : Snapshot) (bound : ℕ) (tree : List Twig) (resort : LastResort) (
     });
   }
 
-  pub cut_resort : (k : ℕ) (new : Claimed) → length bounds ≤ k → All Beyond (take k bounds) → IsLastResort s resort.bound resort.leaf → resort.bound ≤ bound → new.tree.twigs ≡ Tip resort.leaf ∷ [] → new.bound ≡ resort.bound → new.cut ≡ true → IsCut s bound tree resort limit new
+  pub cut_resort : (k : ℕ) (new : Claimed) → length bounds ≤ k → All Beyond (take k bounds) → IsLastResort s resort.bound resort.leaf → resort.bound ≤ bound
+      → new.tree.twigs ≡ Tip resort.leaf ∷ [] → new.bound ≡ resort.bound → new.cut ≡ true → IsCut s bound tree resort limit new
   cut_resort k new past before last low tree_is bound_is cut = record {
-    certificate = subst (λ (t : List Twig). IsCertificate s new.bound limit t) (sym tree_is) (subst (λ (b : ℕ). IsCertificate s b limit (Tip resort.leaf ∷ [])) (sym bound_is) (resort_certificate s resort.bound resort.leaf limit last));
+    certificate = subst (λ (t : List Twig). IsCertificate s new.bound limit t) (sym tree_is)
+        (subst (λ (b : ℕ). IsCertificate s b limit (Tip resort.leaf ∷ [])) (sym bound_is) (resort_certificate s resort.bound resort.leaf limit last));
     low = omega (arith, low, bound_is);
     cut = cut;
     lesser = inr (record {
@@ -235,13 +257,17 @@ module _ (s : Snapshot) (bound : ℕ) (tree : List Twig) (resort : LastResort) (
     });
   }
 
-module _ (s : Snapshot) (stated : Stated) (tree : List Twig) (resort : LastResort) (limit : ℕ) (proves : Proves s stated.plan stated.cost stated.bound tree) where
-  pub whole_claimed : (all : List Claims) (new : Claimed) → AreAllDue s (leaves_from (root_of s ∷ []) tree) all → extra_of_all s (leaves_from (root_of s ∷ []) tree) ≤ limit - worths_of_tree tree → new.tree.twigs ≡ claimed tree all → new.bound ≡ stated.bound → new.cut ≡ false → IsClaimed s stated tree resort limit new
+module _ (s : Snapshot) (stated : Stated) (tree : List Twig) (resort : LastResort) (limit : ℕ)
+    (proves : Proves s stated.plan stated.cost stated.bound tree) where
+  pub whole_claimed : (all : List Claims) (new : Claimed) → AreAllDue s (leaves_from (root_of s ∷ []) tree) all
+      → extra_of_all s (leaves_from (root_of s ∷ []) tree) ≤ limit - worths_of_tree tree → new.tree.twigs ≡ claimed tree all → new.bound ≡ stated.bound
+      → new.cut ≡ false → IsClaimed s stated tree resort limit new
   whole_claimed all new due few e bound cut =
       let certificate = certificate_of s stated.bound tree limit proves.whole proves.sound all due few new.tree.twigs e in
       let within = goes_within s stated.bound tree limit proves.whole proves.sound few in
       record {
-        proves = subst (λ (b : ℕ). Proves s stated.plan stated.cost b new.tree.twigs) (sym bound) (record { feasible = proves.feasible; costs = proves.costs; whole = certificate.whole; sound = certificate.sound });
+        proves = subst (λ (b : ℕ). Proves s stated.plan stated.cost b new.tree.twigs) (sym bound)
+            (record { feasible = proves.feasible; costs = proves.costs; whole = certificate.whole; sound = certificate.sound });
         low = omega (arith, bound);
         due = certificate.due;
         few = certificate.few;
@@ -253,7 +279,8 @@ module _ (s : Snapshot) (stated : Stated) (tree : List Twig) (resort : LastResor
       differ : false ≡ true → ⊥
       differ e = cc
 
-  pub cut_claimed : (new : Claimed) → limit - worths_of_tree tree < extra_of_all s (leaves_from (root_of s ∷ []) tree) → IsCut s stated.bound tree resort limit new → IsClaimed s stated tree resort limit new
+  pub cut_claimed : (new : Claimed) → limit - worths_of_tree tree < extra_of_all s (leaves_from (root_of s ∷ []) tree)
+      → IsCut s stated.bound tree resort limit new → IsClaimed s stated tree resort limit new
   cut_claimed new over is =
       let certificate = is.certificate in
       record {

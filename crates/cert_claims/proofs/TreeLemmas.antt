@@ -36,7 +36,8 @@ least-claimed cost [] all = refl
 least-claimed cost (Split j part ∷ twigs) all = least-claimed cost twigs all
 least-claimed cost (Tip leaf ∷ twigs) [] = ap (λ (z : ℤ). int_min (bound_of_leaf leaf) z) (least-claimed cost twigs [])
 least-claimed cost (Tip leaf ∷ twigs) (claims ∷ all) =
-    ap (λ (z : ℤ). int_min (bound_of_leaf (with_claims claims.by_car leaf)) z) (least-claimed cost twigs all) ∙ ap (λ (z : ℤ). int_min (rounded_up z) (least_bound cost twigs)) (sum_with claims.by_car leaf)
+    ap (λ (z : ℤ). int_min (bound_of_leaf (with_claims claims.by_car leaf)) z) (least-claimed cost twigs all)
+    ∙ ap (λ (z : ℤ). int_min (rounded_up z) (least_bound cost twigs)) (sum_with claims.by_car leaf)
 
 without-with : (by : List ℕ) (worths : List WorthOf) → map without_claim (map (with_claim by) worths) ≡ map without_claim worths
 without-with by [] = refl
@@ -47,7 +48,8 @@ without-claimed [] all = refl
 without-claimed (Split j part ∷ twigs) all = ap (λ (l : List Twig). Split j part ∷ l) (without-claimed twigs all)
 without-claimed (Tip leaf ∷ twigs) [] = ap (λ (l : List Twig). without_claims (Tip leaf) ∷ l) (without-claimed twigs [])
 without-claimed (Tip leaf ∷ twigs) (claims ∷ all) =
-    ap (λ (l : List Twig). without_claims (Tip (with_claims claims.by_car leaf)) ∷ l) (without-claimed twigs all) ∙ ap (λ (l : List WorthOf). Tip (record { prices = leaf.prices; worths = l }) ∷ map without_claims twigs) (without-with claims.by_car leaf.worths)
+    ap (λ (l : List Twig). without_claims (Tip (with_claims claims.by_car leaf)) ∷ l) (without-claimed twigs all)
+    ∙ ap (λ (l : List WorthOf). Tip (record { prices = leaf.prices; worths = l }) ∷ map without_claims twigs) (without-with claims.by_car leaf.worths)
 
 pub worths-claimed : (twigs : List Twig) (all : List Claims) → worths_of_tree (claimed twigs all) ≡ worths_of_tree twigs
 worths-claimed [] all = refl
@@ -75,55 +77,70 @@ module _ (s : Snapshot) (bound : ℕ) where
   Sound p = IsSound s bound p.place p.twig
 
   -- the leaves after a split that divides
-  pub split_leaves : (place : TreePlace) (j part : ℕ) (places : List TreePlace) (twigs : List Twig) → is_part (set_of place.node j) part ≡ true → leaves_from (nodes_of (place ∷ places)) (Split j part ∷ twigs) ≡ leaves_from (nodes_of (places_after place (Split j part) places)) twigs
-  split_leaves place j part places twigs is = ap (λ (b : Bool). leaves_from (cond b (first_of_split place.node j part ∷ second_of_split place.node j part ∷ nodes_of places) (nodes_of places)) twigs) is
+  pub split_leaves : (place : TreePlace) (j part : ℕ) (places : List TreePlace) (twigs : List Twig) → is_part (set_of place.node j) part ≡ true
+      → leaves_from (nodes_of (place ∷ places)) (Split j part ∷ twigs) ≡ leaves_from (nodes_of (places_after place (Split j part) places)) twigs
+  split_leaves place j part places twigs is =
+      ap (λ (b : Bool). leaves_from (cond b (first_of_split place.node j part ∷ second_of_split place.node j part ∷ nodes_of places) (nodes_of places)) twigs)
+      is
 
-  pub sound-claimed : (places : List TreePlace) (twigs : List Twig) (all : List Claims) → All Sound (placed_from places twigs) → All Sound (placed_from places (claimed twigs all))
+  pub sound-claimed : (places : List TreePlace) (twigs : List Twig) (all : List Claims) → All Sound (placed_from places twigs)
+      → All Sound (placed_from places (claimed twigs all))
   sound-claimed places [] all sound = sound
   sound-claimed [] (twig ∷ twigs) all sound = All-nil Sound
   sound-claimed (place ∷ places) (Split j part ∷ twigs) all sound =
       let here : Placed = record { place = place; twig = Split j part } in
       let later = placed_from (places_after place (Split j part) places) twigs in
-      All-cons Sound here (placed_from (places_after place (Split j part) places) (claimed twigs all)) (All-head Sound here later sound) (sound-claimed (places_after place (Split j part) places) twigs all (All-tail Sound here later sound))
+      All-cons Sound here (placed_from (places_after place (Split j part) places) (claimed twigs all)) (All-head Sound here later sound)
+      (sound-claimed (places_after place (Split j part) places) twigs all (All-tail Sound here later sound))
   sound-claimed (place ∷ places) (Tip leaf ∷ twigs) [] sound =
       let here : Placed = record { place = place; twig = Tip leaf } in
       let later = placed_from places twigs in
-      All-cons Sound here (placed_from places (claimed twigs [])) (All-head Sound here later sound) (sound-claimed places twigs [] (All-tail Sound here later sound))
+      All-cons Sound here (placed_from places (claimed twigs [])) (All-head Sound here later sound)
+      (sound-claimed places twigs [] (All-tail Sound here later sound))
   sound-claimed (place ∷ places) (Tip leaf ∷ twigs) (claims ∷ all) sound =
       let here : Placed = record { place = place; twig = Tip leaf } in
       let new : Placed = record { place = place; twig = Tip (with_claims claims.by_car leaf) } in
       let later = placed_from places twigs in
       let own = All-head Sound here later sound in
-      All-cons Sound new (placed_from places (claimed twigs all)) (sound_with s (leaf_of place.node leaf) claims.by_car own.whole bound own) (sound-claimed places twigs all (All-tail Sound here later sound))
+      All-cons Sound new (placed_from places (claimed twigs all)) (sound_with s (leaf_of place.node leaf) claims.by_car own.whole bound own)
+      (sound-claimed places twigs all (All-tail Sound here later sound))
 
   abbrev pub IsDue : Placed → Type 0
   IsDue p = StatesDue s p.place p.twig
 
-  pub due-claimed : (places : List TreePlace) (twigs : List Twig) (all : List Claims) → All Sound (placed_from places twigs) → AreAllDue s (leaves_from (nodes_of places) twigs) all → All IsDue (placed_from places (claimed twigs all))
+  pub due-claimed : (places : List TreePlace) (twigs : List Twig) (all : List Claims) → All Sound (placed_from places twigs)
+      → AreAllDue s (leaves_from (nodes_of places) twigs) all → All IsDue (placed_from places (claimed twigs all))
   due-claimed places [] all sound due = All-nil IsDue
   due-claimed [] (twig ∷ twigs) all sound due = All-nil IsDue
   due-claimed (place ∷ places) (Split j part ∷ twigs) all sound due =
       let here : Placed = record { place = place; twig = Split j part } in
       let later = placed_from (places_after place (Split j part) places) twigs in
       let is = All-head Sound here later sound in
-      All-cons IsDue here (placed_from (places_after place (Split j part) places) (claimed twigs all)) tt (due-claimed (places_after place (Split j part) places) twigs all (All-tail Sound here later sound) (subst (λ (l : List LeafAt). AreAllDue s l all) (split_leaves place j part places twigs is) due))
+      All-cons IsDue here (placed_from (places_after place (Split j part) places) (claimed twigs all)) tt
+      (due-claimed (places_after place (Split j part) places) twigs all (All-tail Sound here later sound)
+      (subst (λ (l : List LeafAt). AreAllDue s l all) (split_leaves place j part places twigs is) due))
   due-claimed (place ∷ places) (Tip leaf ∷ twigs) [] sound due = absurd due
   due-claimed (place ∷ places) (Tip leaf ∷ twigs) (claims ∷ all) sound due =
       let here : Placed = record { place = place; twig = Tip leaf } in
       let new : Placed = record { place = place; twig = Tip (with_claims claims.by_car leaf) } in
       let later = placed_from places twigs in
       let own = All-head Sound here later sound in
-      All-cons IsDue new (placed_from places (claimed twigs all)) (λ c lt. claim_with s (leaf_of place.node leaf) claims.by_car own.whole c lt ∙ due.0 c lt ∙ sym (due_with claims.by_car leaf s place.node c)) (due-claimed places twigs all (All-tail Sound here later sound) due.1)
+      All-cons IsDue new (placed_from places (claimed twigs all))
+      (λ c lt. claim_with s (leaf_of place.node leaf) claims.by_car own.whole c lt ∙ due.0 c lt ∙ sym (due_with claims.by_car leaf s place.node c))
+      (due-claimed places twigs all (All-tail Sound here later sound) due.1)
 
   -- what is stated, added up
-  pub stated-claimed : (places : List TreePlace) (twigs : List Twig) (all : List Claims) → is_filled places twigs ≡ true → All Sound (placed_from places twigs) → AreAllDue s (leaves_from (nodes_of places) twigs) all → claims_of_tree (claimed twigs all) ≡ extra_of_all s (leaves_from (nodes_of places) twigs) + worths_of_tree twigs
+  pub stated-claimed : (places : List TreePlace) (twigs : List Twig) (all : List Claims) → is_filled places twigs ≡ true → All Sound (placed_from places twigs)
+      → AreAllDue s (leaves_from (nodes_of places) twigs) all
+      → claims_of_tree (claimed twigs all) ≡ extra_of_all s (leaves_from (nodes_of places) twigs) + worths_of_tree twigs
   stated-claimed places [] all filled sound due = refl
   stated-claimed [] (twig ∷ twigs) all filled sound due = absurd cc
   stated-claimed (place ∷ places) (Split j part ∷ twigs) all filled sound due =
       let here : Placed = record { place = place; twig = Split j part } in
       let later = placed_from (places_after place (Split j part) places) twigs in
       let same = split_leaves place j part places twigs (All-head Sound here later sound) in
-      let rest = stated-claimed (places_after place (Split j part) places) twigs all filled (All-tail Sound here later sound) (subst (λ (l : List LeafAt). AreAllDue s l all) same due) in
+      let rest = stated-claimed (places_after place (Split j part) places) twigs all filled (All-tail Sound here later sound)
+      (subst (λ (l : List LeafAt). AreAllDue s l all) same due) in
       let extra = ap (extra_of_all s) same in
       let one = sum_by-cons claims_of (Split j part) (claimed twigs all) in
       let other = sum_by-cons worths_of (Split j part) twigs in
@@ -142,7 +159,9 @@ module _ (s : Snapshot) (bound : ℕ) where
       omega (arith, rest, mine, one, other, extra)
 
   -- what is due, added up
-  pub due-placed : (places : List TreePlace) (twigs : List Twig) → is_filled places twigs ≡ true → All Sound (placed_from places twigs) → sum_by (λ (p : Placed). due_at s p.place p.twig) (placed_from places twigs) ≡ extra_of_all s (leaves_from (nodes_of places) twigs) + worths_of_tree twigs
+  pub due-placed : (places : List TreePlace) (twigs : List Twig) → is_filled places twigs ≡ true → All Sound (placed_from places twigs)
+      → sum_by (λ (p : Placed). due_at s p.place p.twig) (placed_from places twigs)
+      ≡ extra_of_all s (leaves_from (nodes_of places) twigs) + worths_of_tree twigs
   due-placed places [] filled sound = refl
   due-placed [] (twig ∷ twigs) filled sound = absurd cc
   due-placed (place ∷ places) (Split j part ∷ twigs) filled sound =

@@ -1,5 +1,6 @@
 -- The leaves of a tree at their nodes, and the claims that are found for them. No public clause cites this module.
-use Rattle.std.specs.Prelude.{◌≡◌, ℕ, ◌+◌, ◌-◌, ◌<◌, ◌≤◌, List, [], ◌∷◌, ◌++◌, length, map, sum_by, slice_get, slice_index_or, Bool, true, false, IsTrue, All, Option, Some, None, if◌then◌else◌}
+use Rattle.std.specs.Prelude.{◌≡◌, ℕ, ◌+◌, ◌-◌, ◌<◌, ◌≤◌, List, [], ◌∷◌, ◌++◌, length, map, sum_by, slice_get, slice_index_or, Bool, true, false, IsTrue, All}
+use Rattle.std.specs.Prelude.{Option, Some, None, if◌then◌else◌}
 use Rattle.call_sets.specs.Counting.{sum_below}
 use Rattle.elevator_model.specs.Snapshot.{Snapshot, car_count}
 use Rattle.search_model.specs.declared.WorthOf.{WorthOf}
@@ -103,7 +104,8 @@ AreAllWithin s spare leaves (Some all) = AreAllDue s leaves all × (extra_of_all
 
 -- the answers of the jobs of these leaves
 abbrev pub AreAnswers : Snapshot → (spare : ℕ) → List LeafAt → List (Option Claims) → Type 0
-AreAnswers s spare leaves answers = (length answers ≡ length leaves) × ((k : ℕ) (at : LeafAt) (answer : Option Claims) → slice_get leaves k ≡ Some at → slice_get answers k ≡ Some answer → AreClaimsWithin s spare at answer)
+AreAnswers s spare leaves answers = (length answers ≡ length leaves)
+    × ((k : ℕ) (at : LeafAt) (answer : Option Claims) → slice_get leaves k ≡ Some at → slice_get answers k ≡ Some answer → AreClaimsWithin s spare at answer)
 
 -- the claims of these leaves were taken into a tally
 pub record HasTakenAll (s : Snapshot) (leaves : List LeafAt) (old new : ClaimsSoFar) : Type 0 where

@@ -38,7 +38,8 @@ due_of_none = refl
 
 -- the first leaf has 277200000 in all, 37700999 more than 239500 needs, and the second one 100999 more
 lowered_evenly : lowered_tree 239500 uneven
-    ≡ (Split 2 2 ∷ uneven_leaf (worth_of 0 (pos 62599501) 1) (worth_of 1 (pos 46899501) 4) ∷ uneven_leaf (worth_of 0 (pos 109549501) 3) (worth_of 1 (negsuc 50498) 9) ∷ [])
+    ≡ (Split 2 2 ∷ uneven_leaf (worth_of 0 (pos 62599501) 1) (worth_of 1 (pos 46899501) 4)
+    ∷ uneven_leaf (worth_of 0 (pos 109549501) 3) (worth_of 1 (negsuc 50498) 9) ∷ [])
 lowered_evenly = refl
 
 bounds_below : lesser_bounds 239600 100000 ≡ (237418 ∷ 230875 ∷ 204700 ∷ [])

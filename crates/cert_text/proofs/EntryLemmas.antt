@@ -15,7 +15,8 @@ use Rattle.text_sections.specs.Sections.{Line, Step, goes_on, is_whole, is_bad, 
 use Rattle.text_sections.proofs.StepLemmas.{then-inv, then-ok, in_order-inv, in_order-ok, named-inv, named-ok, picked}
 use Rattle.answer_text.specs.Words.{call_named}
 use Rattle.cert_text.specs.declared.kinds.LineWord.{LineWord}
-use Rattle.cert_text.specs.declared.kinds.LineWord.TheVariants.{Certificate, Split as SplitWord, Leaf as LeafWord, Price as PriceWord, Worth as WorthWord, End as EndWord}
+use Rattle.cert_text.specs.declared.kinds.LineWord.TheVariants.{Certificate, Split as SplitWord, Leaf as LeafWord, Price as PriceWord, Worth as WorthWord}
+use Rattle.cert_text.specs.declared.kinds.LineWord.TheVariants.{End as EndWord}
 use Rattle.cert_text.specs.declared.kinds.Entry.{Entry}
 use Rattle.cert_text.specs.declared.kinds.Entry.TheVariants.{Split as SplitEntry, Leaf as LeafEntry, Price as PriceEntry, Worth as WorthEntry, End as EndEntry}
 use Rattle.cert_text.specs.Words.{part_named, split_said, price_said, worth_said}
@@ -24,15 +25,18 @@ use Rattle.cert_text.specs.Certs.{says_split, says_leaf, says_price, says_worth}
 
 -- ---- steps
 
-pub step_goes : {A : Type 0} (judged : Judged Entry) (f : Entry → Step A) (next : A) → step_of (judged >>= λ e. Ok (f e)) ≡ goes_on next → (e : Entry) × (judged ≡ Ok e) × (f e ≡ goes_on next)
+pub step_goes : {A : Type 0} (judged : Judged Entry) (f : Entry → Step A) (next : A) → step_of (judged >>= λ e. Ok (f e)) ≡ goes_on next → (e : Entry)
+    × (judged ≡ Ok e) × (f e ≡ goes_on next)
 step_goes (Ok e) f next h = (e, refl, h)
 step_goes (Err code) f next h = absurd cc
 
-pub step_whole : {A : Type 0} (judged : Judged Entry) (f : Entry → Step A) (end : A) → step_of (judged >>= λ e. Ok (f e)) ≡ is_whole end → (e : Entry) × (judged ≡ Ok e) × (f e ≡ is_whole end)
+pub step_whole : {A : Type 0} (judged : Judged Entry) (f : Entry → Step A) (end : A) → step_of (judged >>= λ e. Ok (f e)) ≡ is_whole end → (e : Entry)
+    × (judged ≡ Ok e) × (f e ≡ is_whole end)
 step_whole (Ok e) f end h = (e, refl, h)
 step_whole (Err code) f end h = absurd cc
 
-pub step_bad : {A B : Type 0} (judged : Judged Entry) (f : Entry → Step A) (g : Entry → Step B) (code : TextCode) → ((e : Entry) → f e ≡ is_bad code → ⊥) → step_of (judged >>= λ e. Ok (f e)) ≡ is_bad code → step_of (judged >>= λ e. Ok (g e)) ≡ is_bad code
+pub step_bad : {A B : Type 0} (judged : Judged Entry) (f : Entry → Step A) (g : Entry → Step B) (code : TextCode) → ((e : Entry) → f e ≡ is_bad code → ⊥)
+    → step_of (judged >>= λ e. Ok (f e)) ≡ is_bad code → step_of (judged >>= λ e. Ok (g e)) ≡ is_bad code
 step_bad (Ok e) f g code never h = absurd (never e h)
 step_bad {A} {B} (Err found) f g code never h = let same : found ≡ code = cc in ap is_bad same
 
@@ -111,47 +115,62 @@ ok_is x y same = cc
 
 split_form : (s : Snapshot) (words : Line) (e : Entry) → split_said s words ≡ Ok e → (j part : ℕ) × (SplitEntry j part ≡ e)
 split_form s words e is =
-    let one = then-inv (at_least words 2) (λ _. short words 1 >>= λ id. (numbers words 2 0 4294967295 >>= λ ids. (call_named s id >>= λ j. (part_named s.building ids >>= λ part. Ok (SplitEntry j part))))) e is in
-    let two = then-inv (short words 1) (λ id. numbers words 2 0 4294967295 >>= λ ids. (call_named s id >>= λ j. (part_named s.building ids >>= λ part. Ok (SplitEntry j part)))) e one.2 in
-    let three = then-inv (numbers words 2 0 4294967295) (λ ids. call_named s two.0 >>= λ j. (part_named s.building ids >>= λ part. Ok (SplitEntry j part))) e two.2 in
+    let one = then-inv (at_least words 2)
+    (λ _. short words 1 >>= λ id.
+    (numbers words 2 0 4294967295 >>= λ ids. (call_named s id >>= λ j. (part_named s.building ids >>= λ part. Ok (SplitEntry j part))))) e is in
+    let two = then-inv (short words 1)
+    (λ id. numbers words 2 0 4294967295 >>= λ ids. (call_named s id >>= λ j. (part_named s.building ids >>= λ part. Ok (SplitEntry j part)))) e one.2 in
+    let three = then-inv (numbers words 2 0 4294967295)
+    (λ ids. call_named s two.0 >>= λ j. (part_named s.building ids >>= λ part. Ok (SplitEntry j part))) e two.2 in
     let four = then-inv (call_named s two.0) (λ j. part_named s.building three.0 >>= λ part. Ok (SplitEntry j part)) e three.2 in
     let five = then-inv (part_named s.building three.0) (λ part. Ok (SplitEntry four.0 part)) e four.2 in
     (four.0, five.0, ok_is (SplitEntry four.0 five.0) e five.2)
 
-entry_by_word : (at : Standing) (words : Line) (word : LineWord) (e : Entry) → is_word words 0 (text_of word) ≡ true → judged_word word at words ≡ Ok e → Says at words e
+entry_by_word : (at : Standing) (words : Line) (word : LineWord) (e : Entry) → is_word words 0 (text_of word) ≡ true → judged_word word at words ≡ Ok e
+    → Says at words e
 entry_by_word at words Certificate e is h = absurd cc
 entry_by_word at words SplitWord e is h =
     let place = then-inv (in_place at) (λ _. split_said at.snapshot words) e h in
     let form = split_form at.snapshot words e place.2 in
-    let said : says_split at.snapshot words ≡ Ok e = then-ok (named (codes "split") words) (λ _. split_said at.snapshot words) tt e (named-ok words (text_of SplitWord) is) place.2 in
+    let said : says_split at.snapshot words ≡ Ok e =
+    then-ok (named (codes "split") words) (λ _. split_said at.snapshot words) tt e (named-ok words (text_of SplitWord) is) place.2 in
     let this = subst (λ (x : Entry). says_split at.snapshot words ≡ Ok x) (sym form.2) said in
     subst (λ (x : Entry). Says at words x) form.2 (this, some_of at.places (in_order-inv (not (at.places == 0)) place.0 place.1))
 entry_by_word at words LeafWord e is h =
     let place = then-inv (in_place at) (λ _. exactly words 1 >>= λ _. Ok LeafEntry) e h in
     let one = then-inv (exactly words 1) (λ _. Ok LeafEntry) e place.2 in
     let same : LeafEntry ≡ e = ok_is LeafEntry e one.2 in
-    subst (λ (x : Entry). Says at words x) same
-    (then-ok (named (codes "leaf") words) (λ _. exactly words 1) tt tt (named-ok words (text_of LeafWord) is) one.1, some_of at.places (in_order-inv (not (at.places == 0)) place.0 place.1))
+    subst (λ (x : Entry). Says at words x) same (
+      then-ok (named (codes "leaf") words) (λ _. exactly words 1) tt tt (named-ok words (text_of LeafWord) is) one.1,
+      some_of at.places (in_order-inv (not (at.places == 0)) place.0 place.1),
+    )
 entry_by_word at words PriceWord e is h =
     let place = then-inv (in_order at.in_leaf) (λ _. price_said at.snapshot words >>= λ price. Ok (PriceEntry price)) e h in
     let one = then-inv (price_said at.snapshot words) (λ price. Ok (PriceEntry price)) e place.2 in
     let same : PriceEntry one.0 ≡ e = ok_is (PriceEntry one.0) e one.2 in
-    subst (λ (x : Entry). Says at words x) same
-    (then-ok (named (codes "price") words) (λ _. price_said at.snapshot words) tt one.0 (named-ok words (text_of PriceWord) is) one.1, in_order-inv at.in_leaf place.0 place.1)
+    subst (λ (x : Entry). Says at words x) same (
+      then-ok (named (codes "price") words) (λ _. price_said at.snapshot words) tt one.0 (named-ok words (text_of PriceWord) is) one.1,
+      in_order-inv at.in_leaf place.0 place.1,
+    )
 entry_by_word at words WorthWord e is h =
     let place = then-inv (in_order at.in_leaf) (λ _. worth_said at.snapshot words >>= λ worth. (claimed at worth >>= λ taken. Ok (WorthEntry taken))) e h in
     let one = then-inv (worth_said at.snapshot words) (λ worth. claimed at worth >>= λ taken. Ok (WorthEntry taken)) e place.2 in
     let two = then-inv (claimed at one.0) (λ taken. Ok (WorthEntry taken)) e one.2 in
     let room = claimed_by (nat_lt 10000000000 (at.claims + one.0.claim)) one.0 two.0 two.1 in
     let same : WorthEntry one.0 ≡ e = ap (λ (w : WorthOf). WorthEntry w) room.1 ∙ ok_is (WorthEntry two.0) e two.2 in
-    subst (λ (x : Entry). Says at words x) same
-    (then-ok (named (codes "worth") words) (λ _. worth_said at.snapshot words) tt one.0 (named-ok words (text_of WorthWord) is) one.1, in_order-inv at.in_leaf place.0 place.1, not_past 10000000000 (at.claims + one.0.claim) room.0)
+    subst (λ (x : Entry). Says at words x) same (
+      then-ok (named (codes "worth") words) (λ _. worth_said at.snapshot words) tt one.0 (named-ok words (text_of WorthWord) is) one.1,
+      in_order-inv at.in_leaf place.0 place.1,
+      not_past 10000000000 (at.claims + one.0.claim) room.0,
+    )
 entry_by_word at words EndWord e is h =
     let place = then-inv (in_order (at.places == 0)) (λ _. exactly words 1 >>= λ _. Ok EndEntry) e h in
     let one = then-inv (exactly words 1) (λ _. Ok EndEntry) e place.2 in
     let same : EndEntry ≡ e = ok_is EndEntry e one.2 in
-    subst (λ (x : Entry). Says at words x) same
-    (then-ok (named (codes "end") words) (λ _. exactly words 1) tt tt (named-ok words (text_of EndWord) is) one.1, eqb-true at.places 0 (in_order-inv (at.places == 0) place.0 place.1))
+    subst (λ (x : Entry). Says at words x) same (
+      then-ok (named (codes "end") words) (λ _. exactly words 1) tt tt (named-ok words (text_of EndWord) is) one.1,
+      eqb-true at.places 0 (in_order-inv (at.places == 0) place.0 place.1),
+    )
 
 -- what a line says that is taken
 pub entry_says : (at : Standing) (words : Line) (e : Entry) → entry_in at words ≡ Ok e → Says at words e
@@ -180,9 +199,11 @@ says_entry at words (PriceEntry price) says =
     (then-ok (price_said at.snapshot words) (λ p. Ok (PriceEntry p)) price (PriceEntry price) name.2 refl))
 says_entry at words (WorthEntry worth) says =
     let name = then-inv (named (codes "worth") words) (λ _. worth_said at.snapshot words) worth says.0 in
-    let room : claimed at worth ≡ Ok worth = ap (λ (past : Bool). if past then Err ClaimsPast else Ok worth) (le-ltb 10000000000 (at.claims + worth.claim) says.2) in
+    let room : claimed at worth ≡ Ok worth =
+    ap (λ (past : Bool). if past then Err ClaimsPast else Ok worth) (le-ltb 10000000000 (at.claims + worth.claim) says.2) in
     by_word at words WorthWord (WorthEntry worth) (word_named words WorthWord name.0 name.1)
-    (then-ok (in_order at.in_leaf) (λ _. worth_said at.snapshot words >>= λ w. (claimed at w >>= λ taken. Ok (WorthEntry taken))) tt (WorthEntry worth) (in_order-ok at.in_leaf says.1)
+    (then-ok (in_order at.in_leaf) (λ _. worth_said at.snapshot words >>= λ w. (claimed at w >>= λ taken. Ok (WorthEntry taken))) tt (WorthEntry worth)
+    (in_order-ok at.in_leaf says.1)
     (then-ok (worth_said at.snapshot words) (λ w. claimed at w >>= λ taken. Ok (WorthEntry taken)) worth (WorthEntry worth) name.2
     (then-ok (claimed at worth) (λ taken. Ok (WorthEntry taken)) worth (WorthEntry worth) room refl)))
 says_entry at words EndEntry says =

@@ -37,7 +37,8 @@ first_size words lines =
     let one = line_size words in
     omega (arith, all, one)
 
-module _ (s : Snapshot) (accepted : IsAccepted s) (car_ids : (c : ℕ) → c < car_count s → (spec_of s c).id < 2 ^ 32) (call_ids : (j : ℕ) → j < call_count s → (call_of s j).id < 2 ^ 32) where
+module _ (s : Snapshot) (accepted : IsAccepted s) (car_ids : (c : ℕ) → c < car_count s → (spec_of s c).id < 2 ^ 32)
+    (call_ids : (j : ℕ) → j < call_count s → (call_of s j).id < 2 ^ 32) where
   prices_size : (prices : List PriceOf) → AllByRecursion (IsPriceWithin s) prices → length (lines_text (map (price_words s) prices)) ≤ 47 * length prices
   prices_size [] all = omega arith
   prices_size (p ∷ prices) all =
@@ -128,7 +129,8 @@ module _ (prices worths size : ℕ) (enough : 5 + (47 * prices + 59 * worths) �
   twig_most (Split j part) few = omega arith
   twig_most (Tip leaf) few = omega (arith, few.0, few.1, enough)
 
-  sum_most : (tree : List Twig) → AllByRecursion (HasAtMost prices worths) tree → sum_by most_of tree ≤ 193 * sum_by splits_of tree + size * sum_by leaves_of tree
+  sum_most : (tree : List Twig) → AllByRecursion (HasAtMost prices worths) tree
+      → sum_by most_of tree ≤ 193 * sum_by splits_of tree + size * sum_by leaves_of tree
   sum_most [] all = omega arith
   sum_most (twig ∷ tree) all =
       let rest = sum_most tree all.1 in
@@ -141,7 +143,8 @@ module _ (prices worths size : ℕ) (enough : 5 + (47 * prices + 59 * worths) �
 
 -- By the number of leaves, and the prices and worths that each has at most: 8,001 leaves with 128 prices and 16
 -- worths each, of 6,965 bytes at most, make fewer than 60,000,000 bytes.
-pub cert_length_by_leaves : (s : Snapshot) (tree : List Twig) (leaves prices worths size : ℕ) → IsAccepted s → HasText s tree → All (HasAtMost prices worths) tree → sum_by leaves_of tree ≤ leaves
+pub cert_length_by_leaves : (s : Snapshot) (tree : List Twig) (leaves prices worths size : ℕ) → IsAccepted s → HasText s tree
+    → All (HasAtMost prices worths) tree → sum_by leaves_of tree ≤ leaves
     → 5 + (47 * prices + 59 * worths) ≤ size → length (cert_text s tree) ≤ 18 + (193 + size) * leaves
 cert_length_by_leaves s tree leaves prices worths size accepted text all few enough =
     let by_twigs = cert_length s tree accepted text in
@@ -151,7 +154,8 @@ cert_length_by_leaves s tree leaves prices worths size accepted text all few eno
     omega (arith, by_twigs, most, whole, scaled)
 
 -- the most that an answer has
-pub cert_length_of_answer : (s : Snapshot) (tree : List Twig) → IsAccepted s → HasText s tree → All (HasAtMost 128 16) tree → sum_by leaves_of tree ≤ 8001 → length (cert_text s tree) < 60000000
+pub cert_length_of_answer : (s : Snapshot) (tree : List Twig) → IsAccepted s → HasText s tree → All (HasAtMost 128 16) tree → sum_by leaves_of tree ≤ 8001
+    → length (cert_text s tree) < 60000000
 cert_length_of_answer s tree accepted text all few =
     let most = cert_length_by_leaves s tree 8001 128 16 6965 accepted text all few (omega arith) in
     omega (arith, most)

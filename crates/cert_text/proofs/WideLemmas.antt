@@ -1,5 +1,6 @@
 -- Numbers of more than 64 bits in decimal digits.
-use Rattle.std.proofs.Common.{◌≡◌, ℕ, suc, ◌+◌, ◌/◌, ◌%◌, ◌^◌, ◌<◌, ◌≤◌, ◌&&◌, ◌==◌, drop, Bool, true, false, cond, List, [], ◌∷◌, ◌++◌, length, Some, None, refl, sym, ap, ◌∙◌, subst, arith, length-append}
+use Rattle.std.proofs.Common.{◌≡◌, ℕ, suc, ◌+◌, ◌/◌, ◌%◌, ◌^◌, ◌<◌, ◌≤◌, ◌&&◌, ◌==◌, drop, Bool, true, false, cond, List, [], ◌∷◌, ◌++◌, length, Some, None}
+use Rattle.std.proofs.Common.{refl, sym, ap, ◌∙◌, subst, arith, length-append}
 use Rattle.std.specs.Prelude.{ℤ, pos, negsuc, neg_ℤ, nat_lt, decimal, option_map, if◌then◌else◌}
 use Rattle.std.specs.List.{list_all, AllByRecursion}
 use Rattle.std.specs.Char.{is_ascii_digit, digit_value}
@@ -37,7 +38,14 @@ bytes-append [] ys all more = more
 bytes-append (x ∷ xs) ys all more = (all.0, bytes-append xs ys all.1 more)
 
 writes_one : (n : ℕ) → n < 10 → Writes n ((48 + n) ∷ [])
-writes_one n low = record { digits = ap (λ (b : Bool). b && true) (is_digit n low); some = omega arith; value = (let push = digits_value_push 10 [] (48 + n) in let digit = value_of_digit n low in let none : digits_value 10 [] ≡ 0 = refl in omega (arith, push, digit, none)); bytes = (digit_byte n low, tt) }
+writes_one n low = record {
+  digits = ap (λ (b : Bool). b && true) (is_digit n low);
+  some = omega arith;
+  value =
+      (let push = digits_value_push 10 [] (48 + n) in let digit = value_of_digit n low in let none : digits_value 10 [] ≡ 0 = refl in
+      omega (arith, push, digit, none));
+  bytes = (digit_byte n low, tt);
+}
 
 writes_more : (n : ℕ) (ds : List ℕ) → 10 ≤ n → Writes (n / 10) ds → Writes n (ds ++ ((48 + n % 10) ∷ []))
 writes_more n ds high before =
@@ -45,7 +53,8 @@ writes_more n ds high before =
     let size = length-append ds ((48 + n % 10) ∷ []) in
     let value = digits_value_push 10 ds (48 + n % 10) in
     record {
-      digits = list_all-append is_ascii_digit ds ((48 + n % 10) ∷ []) ∙ ap (λ (b : Bool). b && (is_ascii_digit (48 + n % 10) && true)) before.digits ∙ ap (λ (b : Bool). b && true) (is_digit (n % 10) low);
+      digits = list_all-append is_ascii_digit ds ((48 + n % 10) ∷ []) ∙ ap (λ (b : Bool). b && (is_ascii_digit (48 + n % 10) && true)) before.digits
+          ∙ ap (λ (b : Bool). b && true) (is_digit (n % 10) low);
       some = omega (arith, size);
       value = (let digit = value_of_digit (n % 10) low in omega (arith, value, digit, before.value));
       bytes = bytes-append ds ((48 + n % 10) ∷ []) before.bytes (digit_byte (n % 10) low, tt);
@@ -83,7 +92,8 @@ no_sign n small = by_bytes (decimal n) (writes n small).digits
 pub signed_again : (z : ℤ) (n : ℕ) → n < 10 ^ 64 → IsSize z n → number_of true (signed_decimal z) ≡ Some z
 signed_again (pos m) n small size =
     let same : m < 10 ^ 64 = subst (λ (k : ℕ). k < 10 ^ 64) (sym size) small in
-    ap (λ (b : Bool). if true && b then option_map (λ k. neg_ℤ (pos k)) (digits_number (drop 1 (decimal m))) else option_map pos (digits_number (decimal m))) (no_sign m same)
+    ap (λ (b : Bool). if true && b then option_map (λ k. neg_ℤ (pos k)) (digits_number (drop 1 (decimal m))) else option_map pos (digits_number (decimal m)))
+    (no_sign m same)
     ∙ ap (option_map pos) (digits_again m same)
 signed_again (negsuc m) n small size =
     let same : suc m < 10 ^ 64 = subst (λ (k : ℕ). k < 10 ^ 64) (sym size) small in

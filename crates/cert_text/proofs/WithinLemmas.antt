@@ -1,5 +1,6 @@
 -- Twigs that lines say lie in their ranges.
-use Rattle.std.proofs.Common.{◌≡◌, ℕ, suc, ◌^◌, ◌<◌, ◌≤◌, ◌==◌, Bool, true, false, List, [], ◌∷◌, ◌++◌, length, Option, None, Some, Ok, Err, refl, sym, ap, ◌∙◌, subst, arith, inl, inr}
+use Rattle.std.proofs.Common.{◌≡◌, ℕ, suc, ◌^◌, ◌<◌, ◌≤◌, ◌==◌, Bool, true, false, List, [], ◌∷◌, ◌++◌, length, Option, None, Some, Ok, Err, refl, sym, ap, ◌∙◌}
+use Rattle.std.proofs.Common.{subst, arith, inl, inr}
 use Rattle.std.specs.Prelude.{ℤ, pos, neg_ℤ, ◌≤ℤ◌, int_lt, ◌||◌, codes, All, IsTrue, if◌then◌else◌}
 use Rattle.std.proofs.lemmas.Bool.{eqb-true, both_ways, cases_lt}
 use Rattle.std.proofs.lemmas.Int.{ints}
@@ -30,7 +31,8 @@ use Rattle.answer_text.specs.Words.{call_named}
 use Rattle.cert_text.specs.declared.kinds.Entry.{Entry}
 use Rattle.cert_text.specs.declared.kinds.Entry.TheVariants.{Split as SplitEntry}
 use Rattle.cert_text.specs.Words.{cars_named, part_of, part_named, split_said, price_of_word, price_said, worth_of_word, worth_said}
-use Rattle.cert_text.specs.Trees.{sum_of_claims, IsPriceWithin, IsWorthWithin, IsSplitWithin, IsTwigWithin, IsWithin, IsKnownPrice, IsKnownWorth, IsKnownTwig, AreTwigsKnown}
+use Rattle.cert_text.specs.Trees.{sum_of_claims, IsPriceWithin, IsWorthWithin, IsSplitWithin, IsTwigWithin, IsWithin, IsKnownPrice, IsKnownWorth, IsKnownTwig}
+use Rattle.cert_text.specs.Trees.{AreTwigsKnown}
 use Rattle.cert_text.specs.Certs.{says_split, says_price, says_worth, SayItems, SaysTwig, SayTwigs, StandsFor}
 use Rattle.cert_text.proofs.TreeLemmas.{filled, filled_back}
 
@@ -79,9 +81,11 @@ cars_below b (id ∷ ids) cars e c among =
     let first = then-inv (car_named b id) (λ x. cars_named b ids >>= λ xs. Ok (x ∷ xs)) cars e in
     let later = then-inv (cars_named b ids) (λ xs. Ok (first.0 ∷ xs)) cars first.2 in
     let same : first.0 ∷ later.0 ≡ cars = cc in
-    either first.0 later.0 (first.0 == c) refl (subst (λ (xs : List ℕ). is_among c xs ≡ true) (sym same) among) (car_named-below b id first.0 first.1) (cars_below b ids later.0 later.1 c)
+    either first.0 later.0 (first.0 == c) refl (subst (λ (xs : List ℕ). is_among c xs ≡ true) (sym same) among) (car_named-below b id first.0 first.1)
+    (cars_below b ids later.0 later.1 c)
   where
-    either : (x : ℕ) (xs : List ℕ) (is : Bool) → (x == c) ≡ is → is_among c (x ∷ xs) ≡ true → x < length b.cars → (is_among c xs ≡ true → c < length b.cars) → c < length b.cars
+    either : (x : ℕ) (xs : List ℕ) (is : Bool) → (x == c) ≡ is → is_among c (x ∷ xs) ≡ true → x < length b.cars → (is_among c xs ≡ true → c < length b.cars)
+        → c < length b.cars
     either x xs true is found small rest = let same = eqb-true x c is in omega (arith, same, small)
     either x xs false is found small rest = rest (sym (ap (λ (h : Bool). h || is_among c xs) is) ∙ found)
 
@@ -91,8 +95,13 @@ part_below s ids part e =
     let cars = then-inv (cars_named s.building ids) (λ xs. Ok (part_of xs)) part e in
     let same : part_of cars.0 ≡ part = cc in
     let small = set_where-below 16 (λ c. is_among c cars.0) in
-    subst (λ (p : ℕ). (p < 2 ^ 16) × ((c : ℕ) → has p c ≡ true → c < car_count s)) same
-    (small, λ c h. elim (cases_lt c 16) [ inl lt ↦ cars_below s.building ids cars.0 cars.1 c (sym (has-set_where 16 (λ k. is_among k cars.0) c lt) ∙ h) | inr past ↦ absurd (both_ways (has (part_of cars.0) c) (has_none_above 16 (part_of cars.0) c small past) h) ])
+    subst (λ (p : ℕ). (p < 2 ^ 16) × ((c : ℕ) → has p c ≡ true → c < car_count s)) same (
+      small,
+      λ c h. elim (cases_lt c 16) [
+        | inl lt ↦ cars_below s.building ids cars.0 cars.1 c (sym (has-set_where 16 (λ k. is_among k cars.0) c lt) ∙ h)
+        | inr past ↦ absurd (both_ways (has (part_of cars.0) c) (has_none_above 16 (part_of cars.0) c small past) h)
+      ],
+    )
 
 -- ---- lines
 
@@ -100,8 +109,11 @@ split_within : (s : Snapshot) (words : Line) (j part : ℕ) → says_split s wor
 split_within s words j part e =
     let y : Entry = SplitEntry j part in
     let name = then-inv (named (codes "split") words) (λ _. split_said s words) y e in
-    let one = then-inv (at_least words 2) (λ _. short words 1 >>= λ id. (numbers words 2 0 4294967295 >>= λ ids. (call_named s id >>= λ i. (part_named s.building ids >>= λ p. Ok (SplitEntry i p))))) y name.2 in
-    let two = then-inv (short words 1) (λ id. numbers words 2 0 4294967295 >>= λ ids. (call_named s id >>= λ i. (part_named s.building ids >>= λ p. Ok (SplitEntry i p)))) y one.2 in
+    let one = then-inv (at_least words 2)
+    (λ _. short words 1 >>= λ id.
+    (numbers words 2 0 4294967295 >>= λ ids. (call_named s id >>= λ i. (part_named s.building ids >>= λ p. Ok (SplitEntry i p))))) y name.2 in
+    let two = then-inv (short words 1)
+    (λ id. numbers words 2 0 4294967295 >>= λ ids. (call_named s id >>= λ i. (part_named s.building ids >>= λ p. Ok (SplitEntry i p)))) y one.2 in
     let three = then-inv (numbers words 2 0 4294967295) (λ ids. call_named s two.0 >>= λ i. (part_named s.building ids >>= λ p. Ok (SplitEntry i p))) y two.2 in
     let four = then-inv (call_named s two.0) (λ i. part_named s.building three.0 >>= λ p. Ok (SplitEntry i p)) y three.2 in
     let five = then-inv (part_named s.building three.0) (λ p. Ok (SplitEntry four.0 p)) y four.2 in
@@ -114,45 +126,70 @@ split_within s words j part e =
 price_within : (s : Snapshot) (words : Line) (price : PriceOf) → says_price s words ≡ Ok price → IsPriceWithin s price
 price_within s words price e =
     let name = then-inv (named (codes "price") words) (λ _. price_said s words) price e in
-    let one = then-inv (exactly words 3) (λ _. short words 1 >>= λ id. (price_of_word words 2 >>= λ p. (call_named s id >>= λ j. Ok (record { call = j; price = p })))) price name.2 in
+    let one = then-inv (exactly words 3)
+    (λ _. short words 1 >>= λ id. (price_of_word words 2 >>= λ p. (call_named s id >>= λ j. Ok (record { call = j; price = p })))) price name.2 in
     let two = then-inv (short words 1) (λ id. price_of_word words 2 >>= λ p. (call_named s id >>= λ j. Ok (record { call = j; price = p }))) price one.2 in
     let three = then-inv (price_of_word words 2) (λ p. call_named s two.0 >>= λ j. Ok (record { call = j; price = p })) price two.2 in
     let four = then-inv (call_named s two.0) (λ j. Ok (record { call = j; price = three.0 })) price three.2 in
     let found : PriceOf = record { call = four.0; price = three.0 } in
     let same : found ≡ price = cc in
-    subst (λ (p : PriceOf). IsPriceWithin s p) {x = found} same (record { call = call_below s two.0 four.0 four.1; price = signed_in (neg_ℤ (pos 1000000000000000000000000)) (pos 1000000000000000000000000) (number_of true (word_at words 2)) three.0 three.1 })
+    subst (λ (p : PriceOf). IsPriceWithin s p) {x = found} same
+    (record {
+      call = call_below s two.0 four.0 four.1;
+      price =
+          signed_in (neg_ℤ (pos 1000000000000000000000000)) (pos 1000000000000000000000000) (number_of true (word_at words 2)) three.0 three.1;
+    })
 
 worth_within : (s : Snapshot) (words : Line) (worth : WorthOf) → says_worth s words ≡ Ok worth → IsWorthWithin s worth
 worth_within s words worth e =
     let name = then-inv (named (codes "worth") words) (λ _. worth_said s words) worth e in
-    let one = then-inv (exactly words 4) (λ _. short words 1 >>= λ id. (worth_of_word words 2 >>= λ r. (number words 3 1 10000000000 >>= λ claim. (car_named s.building id >>= λ c. Ok (record { car = c; worth = r; claim = claim }))))) worth name.2 in
-    let two = then-inv (short words 1) (λ id. worth_of_word words 2 >>= λ r. (number words 3 1 10000000000 >>= λ claim. (car_named s.building id >>= λ c. Ok (record { car = c; worth = r; claim = claim })))) worth one.2 in
-    let three = then-inv (worth_of_word words 2) (λ r. number words 3 1 10000000000 >>= λ claim. (car_named s.building two.0 >>= λ c. Ok (record { car = c; worth = r; claim = claim }))) worth two.2 in
-    let four = then-inv (number words 3 1 10000000000) (λ claim. car_named s.building two.0 >>= λ c. Ok (record { car = c; worth = three.0; claim = claim })) worth three.2 in
+    let one = then-inv (exactly words 4)
+    (λ _. short words 1 >>= λ id.
+    (worth_of_word words 2 >>= λ r.
+    (number words 3 1 10000000000 >>= λ claim. (car_named s.building id >>= λ c. Ok (record { car = c; worth = r; claim = claim }))))) worth name.2 in
+    let two = then-inv (short words 1)
+    (λ id. worth_of_word words 2
+    >>= λ r. (number words 3 1 10000000000 >>= λ claim. (car_named s.building id >>= λ c. Ok (record { car = c; worth = r; claim = claim })))) worth
+    one.2 in
+    let three = then-inv (worth_of_word words 2)
+    (λ r. number words 3 1 10000000000 >>= λ claim. (car_named s.building two.0 >>= λ c. Ok (record { car = c; worth = r; claim = claim }))) worth two.2 in
+    let four = then-inv (number words 3 1 10000000000)
+    (λ claim. car_named s.building two.0 >>= λ c. Ok (record { car = c; worth = three.0; claim = claim })) worth three.2 in
     let five = then-inv (car_named s.building two.0) (λ c. Ok (record { car = c; worth = three.0; claim = four.0 })) worth four.2 in
     let found : WorthOf = record { car = five.0; worth = three.0; claim = four.0 } in
     let same : found ≡ worth = cc in
     let range = signed_in (neg_ℤ (pos 1000000000000000000000000000)) (pos 1000000000000000000000000000) (number_of true (word_at words 2)) three.0 three.1 in
     let claim = number_in words 3 1 10000000000 four.0 four.1 in
-    subst (λ (w : WorthOf). IsWorthWithin s w) {x = found} same (record { car = car_named-below s.building two.0 five.0 five.1; worth_low = range.0; worth_high = range.1; claim_low = claim.0; claim_high = claim.1 })
+    subst (λ (w : WorthOf). IsWorthWithin s w) {x = found} same
+    (record { car = car_named-below s.building two.0 five.0 five.1; worth_low = range.0; worth_high = range.1; claim_low = claim.0; claim_high = claim.1 })
 
 -- ---- twigs
 
 module _ (s : Snapshot) where
-  items_within : (lines : List Line) (prices : List PriceOf) (worths : List WorthOf) → SayItems s lines prices worths → All (IsPriceWithin s) prices × All (IsWorthWithin s) worths
-  items_within [] prices worths said =
-      (subst (λ (ps : List PriceOf). All (IsPriceWithin s) ps) (sym said.0) (All-nil (IsPriceWithin s)), subst (λ (ws : List WorthOf). All (IsWorthWithin s) ws) (sym said.1) (All-nil (IsWorthWithin s)))
+  items_within : (lines : List Line) (prices : List PriceOf) (worths : List WorthOf) → SayItems s lines prices worths → All (IsPriceWithin s) prices
+      × All (IsWorthWithin s) worths
+  items_within [] prices worths said = (
+    subst (λ (ps : List PriceOf). All (IsPriceWithin s) ps) (sym said.0) (All-nil (IsPriceWithin s)),
+    subst (λ (ws : List WorthOf). All (IsWorthWithin s) ws) (sym said.1) (All-nil (IsWorthWithin s)),
+  )
   items_within (line ∷ lines) prices worths said =
       elim said [
-        | inl h ↦ (let rest = items_within lines h.0 worths h.2 in
-            (subst (λ (ps : List PriceOf). All (IsPriceWithin s) ps) (sym h.1.2) (all_more (IsPriceWithin s) h.1.0 h.0 (price_within s line h.1.0 h.1.1) rest.0), rest.1))
-        | inr h ↦ (let rest = items_within lines prices h.0 h.2 in
-            (rest.0, subst (λ (ws : List WorthOf). All (IsWorthWithin s) ws) (sym h.1.2) (all_more (IsWorthWithin s) h.1.0 h.0 (worth_within s line h.1.0 h.1.1) rest.1)))
+        | inl h ↦ (let rest = items_within lines h.0 worths h.2 in (
+          subst (λ (ps : List PriceOf). All (IsPriceWithin s) ps) (sym h.1.2)
+              (all_more (IsPriceWithin s) h.1.0 h.0 (price_within s line h.1.0 h.1.1) rest.0),
+          rest.1,
+        ))
+        | inr h ↦ (let rest = items_within lines prices h.0 h.2 in (
+          rest.0,
+          subst (λ (ws : List WorthOf). All (IsWorthWithin s) ws) (sym h.1.2)
+              (all_more (IsWorthWithin s) h.1.0 h.0 (worth_within s line h.1.0 h.1.1) rest.1),
+        ))
       ]
 
   twig_within : (lines : List Line) (twig : Twig) → SaysTwig s lines twig → IsTwigWithin s twig
   twig_within lines (Split j part) said = split_within s said.line j part said.split_is_said
-  twig_within lines (Tip leaf) said = let items = items_within said.items leaf.prices leaf.worths said.items_are_said in record { prices = items.0; worths = items.1 }
+  twig_within lines (Tip leaf) said = let items = items_within said.items leaf.prices leaf.worths said.items_are_said in
+      record { prices = items.0; worths = items.1 }
 
   pub twigs_within : (lines : List Line) (twigs : List Twig) → SayTwigs s lines twigs → All (IsTwigWithin s) twigs
   twigs_within lines [] said = All-nil (IsTwigWithin s)

@@ -1,5 +1,6 @@
 -- The lines of a certificate's text stand for its tree.
-use Rattle.std.proofs.Common.{◌≡◌, ℕ, zero, suc, ◌+◌, ◌*◌, ◌^◌, ◌<◌, ◌≤◌, ◌==◌, ◌&&◌, ◌||◌, eqb, Bool, true, false, List, [], ◌∷◌, ◌++◌, length, map, filter, refl, sym, ap, ◌∙◌, subst, arith, Option, None, Some, Result, Ok, Err, length-append, lit<, inl, inr}
+use Rattle.std.proofs.Common.{◌≡◌, ℕ, zero, suc, ◌+◌, ◌*◌, ◌^◌, ◌<◌, ◌≤◌, ◌==◌, ◌&&◌, ◌||◌, eqb, Bool, true, false, List, [], ◌∷◌, ◌++◌, length, map, filter}
+use Rattle.std.proofs.Common.{refl, sym, ap, ◌∙◌, subst, arith, Option, None, Some, Result, Ok, Err, length-append, lit<, inl, inr}
 use Rattle.std.specs.Prelude.{ℤ, pos, negsuc, neg_ℤ, ◌≤ℤ◌, int_lt, codes, decimal, if◌then◌else◌}
 use Rattle.std.specs.Int.{bit_at}
 use Rattle.std.specs.Fmt.{signed_decimal}
@@ -70,11 +71,19 @@ same_bit x y p q e = grind (arith, nat_tests, e)
 
 pub set_is : (n set : ℕ) (t : ℕ → Bool) → ((k : ℕ) → k < n → has set k ≡ t k) → set < 2 ^ n → set ≡ set_where n t
 set_is n set t members_are small =
-    same_from_bits set (set_where n t) (λ k. same_bit (bit_at set k) (bit_at (set_where n t) k) (bit_at-lt set k) (bit_at-lt (set_where n t) k) (elim (cases_lt k n) [ inl lt ↦ members_are k lt ∙ sym (has-set_where n t k lt) | inr past ↦ has_none_above n set k small past ∙ sym (has_none_above n (set_where n t) k (set_where-below n t) past) ]))
+    same_from_bits set (set_where n t)
+    (λ k. same_bit (bit_at set k) (bit_at (set_where n t) k) (bit_at-lt set k) (bit_at-lt (set_where n t) k) (elim (cases_lt k n) [
+      | inl lt ↦ members_are k lt ∙ sym (has-set_where n t k lt)
+      | inr past ↦ has_none_above n set k small past ∙ sym (has_none_above n (set_where n t) k (set_where-below n t) past)
+    ]))
 
 pub set_by : (n set : ℕ) (t : ℕ → Bool) → ((k : ℕ) → k < n → has set k ≡ t k) → ((k : ℕ) → n ≤ k → has set k ≡ false) → set ≡ set_where n t
 set_by n set t members_are none =
-    same_from_bits set (set_where n t) (λ k. same_bit (bit_at set k) (bit_at (set_where n t) k) (bit_at-lt set k) (bit_at-lt (set_where n t) k) (elim (cases_lt k n) [ inl lt ↦ members_are k lt ∙ sym (has-set_where n t k lt) | inr past ↦ none k past ∙ sym (has_none_above n (set_where n t) k (set_where-below n t) past) ]))
+    same_from_bits set (set_where n t)
+    (λ k. same_bit (bit_at set k) (bit_at (set_where n t) k) (bit_at-lt set k) (bit_at-lt (set_where n t) k) (elim (cases_lt k n) [
+      | inl lt ↦ members_are k lt ∙ sym (has-set_where n t k lt)
+      | inr past ↦ none k past ∙ sym (has_none_above n (set_where n t) k (set_where-below n t) past)
+    ]))
 
 pub part_by : (cars : List ℕ) (set : ℕ) → ((k : ℕ) → has set k ≡ is_among k cars) → ((k : ℕ) → is_among k cars ≡ true → k < 16) → set ≡ part_of cars
 unfolding part_of
@@ -153,13 +162,19 @@ bounded (negsuc m) low high = record { size = suc m; is = refl; few = omega (ari
 
 signed_word : (z : ℤ) → IsBounded z → IsWord (signed_decimal z)
 signed_word (pos m) b = let w = writes m (let same = b.is in omega (arith, b.few, same)) in record { some = w.some; bytes = w.bytes }
-signed_word (negsuc m) b = let w = writes (suc m) (let same = b.is in omega (arith, b.few, same)) in record { some = omega arith; bytes = ((omega arith, omega arith, λ is. omega (arith, is)), w.bytes) }
+signed_word (negsuc m) b = let w = writes (suc m) (let same = b.is in omega (arith, b.few, same)) in
+    record { some = omega arith; bytes = ((omega arith, omega arith, λ is. omega (arith, is)), w.bytes) }
 
 pub signed_length : (z : ℤ) → IsBounded z → length (signed_decimal z) ≤ 29
-signed_length (pos m) b = let size = length-decimal-le_wide 28 m (omega arith) (let same = b.is in omega (arith, b.few, same)) (let same = b.is in omega (arith, b.few, same)) in omega (arith, size)
-signed_length (negsuc m) b = let size = length-decimal-le_wide 28 (suc m) (omega arith) (let same = b.is in omega (arith, b.few, same)) (let same = b.is in omega (arith, b.few, same)) in omega (arith, size)
+signed_length (pos m) b = let size =
+    length-decimal-le_wide 28 m (omega arith) (let same = b.is in omega (arith, b.few, same)) (let same = b.is in omega (arith, b.few, same)) in
+    omega (arith, size)
+signed_length (negsuc m) b = let size =
+    length-decimal-le_wide 28 (suc m) (omega arith) (let same = b.is in omega (arith, b.few, same)) (let same = b.is in omega (arith, b.few, same)) in
+    omega (arith, size)
 
-signed_said : (words : Line) (k : ℕ) (low high z : ℤ) → int_lt low (pos 0) ≡ true → word_at words k ≡ signed_decimal z → IsBounded z → low ≤ℤ z → z ≤ℤ high → signed words k low high ≡ Ok z
+signed_said : (words : Line) (k : ℕ) (low high z : ℤ) → int_lt low (pos 0) ≡ true → word_at words k ≡ signed_decimal z → IsBounded z → low ≤ℤ z → z ≤ℤ high
+    → signed words k low high ≡ Ok z
 signed_said words k low high z negative is b above below =
     let not_below : int_lt z low ≡ false = grind (arith, ints) in
     let not_above : int_lt high z ≡ false = grind (arith, ints) in
@@ -171,20 +186,24 @@ signed_said words k low high z negative is b above below =
 
 -- ---- the lines of the twigs
 
-module _ (s : Snapshot) (accepted : IsAccepted s) (car_ids : (c : ℕ) → c < car_count s → (spec_of s c).id < 2 ^ 32) (call_ids : (j : ℕ) → j < call_count s → (call_of s j).id < 2 ^ 32) where
+module _ (s : Snapshot) (accepted : IsAccepted s) (car_ids : (c : ℕ) → c < car_count s → (spec_of s c).id < 2 ^ 32)
+    (call_ids : (j : ℕ) → j < call_count s → (call_of s j).id < 2 ^ 32) where
   abbrev id_of : ℕ → ℕ
   id_of c = (spec_of s c).id
 
   id_short : (words : Line) (id : ℕ) → id < 2 ^ 32 → word_at words 1 ≡ decimal id → short words 1 ≡ Ok id
   id_short words id low is = written_number words 1 id 0 4294967295 (omega (arith, low)) is (omega arith) (omega (arith, low))
 
-  ids_read : (cars : List ℕ) → AllByRecursion (λ c. c < car_count s) cars → numbers_of 0 4294967295 (map (λ c. decimal (spec_of s c).id) cars) ≡ Ok (map id_of cars)
+  ids_read : (cars : List ℕ) → AllByRecursion (λ c. c < car_count s) cars
+      → numbers_of 0 4294967295 (map (λ c. decimal (spec_of s c).id) cars) ≡ Ok (map id_of cars)
   ids_read [] all = refl
   ids_read (c ∷ cars) all =
       let low = car_ids c all.0 in
       let later = map (λ i. decimal (spec_of s i).id) cars in
-      let one : within 0 4294967295 (digits_number (decimal (id_of c))) ≡ Ok (id_of c) = number_again (id_of c) 0 4294967295 (omega (arith, low)) (omega arith) (omega (arith, low)) in
-      then-ok (within 0 4294967295 (digits_number (decimal (id_of c)))) (λ n. numbers_of 0 4294967295 later >>= λ ns. Ok (n ∷ ns)) (id_of c) (id_of c ∷ map id_of cars) one
+      let one : within 0 4294967295 (digits_number (decimal (id_of c))) ≡ Ok (id_of c) =
+      number_again (id_of c) 0 4294967295 (omega (arith, low)) (omega arith) (omega (arith, low)) in
+      then-ok (within 0 4294967295 (digits_number (decimal (id_of c)))) (λ n. numbers_of 0 4294967295 later >>= λ ns. Ok (n ∷ ns)) (id_of c)
+      (id_of c ∷ map id_of cars) one
       (then-ok (numbers_of 0 4294967295 later) (λ ns. Ok (id_of c ∷ ns)) (map id_of cars) (id_of c ∷ map id_of cars) (ids_read cars all.1) refl)
 
   ids_words : (cars : List ℕ) → AllByRecursion (λ c. c < car_count s) cars → AllByRecursion IsWord (map (λ c. decimal (spec_of s c).id) cars)
@@ -204,7 +223,8 @@ module _ (s : Snapshot) (accepted : IsAccepted s) (car_ids : (c : ℕ) → c < c
   ids_known : (cars : List ℕ) → AllByRecursion (λ c. c < car_count s) cars → cars_named s.building (map id_of cars) ≡ Ok cars
   ids_known [] all = refl
   ids_known (c ∷ cars) all =
-      then-ok (car_named s.building (id_of c)) (λ i. cars_named s.building (map id_of cars) >>= λ is. Ok (i ∷ is)) c (c ∷ cars) (sym (named_car s.building (id_of c) c accepted.building all.0 refl))
+      then-ok (car_named s.building (id_of c)) (λ i. cars_named s.building (map id_of cars) >>= λ is. Ok (i ∷ is)) c (c ∷ cars)
+      (sym (named_car s.building (id_of c) c accepted.building all.0 refl))
       (then-ok (cars_named s.building (map id_of cars)) (λ is. Ok (c ∷ is)) cars (c ∷ cars) (ids_known cars all.1) refl)
 
   split_says : (j part : ℕ) → IsSplitWithin s j part → says_split s (split_words s j part) ≡ Ok (SplitEntry j part)
@@ -216,10 +236,17 @@ module _ (s : Snapshot) (accepted : IsAccepted s) (car_ids : (c : ℕ) → c < c
       let id = (call_of s j).id in
       let low = call_ids j is.call in
       let many : at_least words 2 ≡ Ok tt = ap (λ (few : Bool). if few then Err Missing else Ok tt) (le-ltb (length words) 2 (omega arith)) in
-      let named_so : part_named s.building (map id_of cars) ≡ Ok part = then-ok (cars_named s.building (map id_of cars)) (λ xs. Ok (part_of xs)) cars part (ids_known cars all) (ap (λ (p : ℕ). Ok p) (part_again part is.set)) in
-      then-ok (at_least words 2) (λ _. short words 1 >>= λ i. (numbers words 2 0 4294967295 >>= λ ids. (call_named s i >>= λ k. (part_named s.building ids >>= λ p. Ok (SplitEntry k p))))) tt y many
-      (then-ok (short words 1) (λ i. numbers words 2 0 4294967295 >>= λ ids. (call_named s i >>= λ k. (part_named s.building ids >>= λ p. Ok (SplitEntry k p)))) id y (id_short words id low refl)
-      (then-ok (numbers words 2 0 4294967295) (λ ids. call_named s id >>= λ k. (part_named s.building ids >>= λ p. Ok (SplitEntry k p))) (map id_of cars) y (ids_read cars all)
+      let named_so : part_named s.building (map id_of cars) ≡ Ok part =
+      then-ok (cars_named s.building (map id_of cars)) (λ xs. Ok (part_of xs)) cars part (ids_known cars all)
+      (ap (λ (p : ℕ). Ok p) (part_again part is.set)) in
+      then-ok (at_least words 2)
+      (λ _. short words 1 >>= λ i.
+      (numbers words 2 0 4294967295 >>= λ ids. (call_named s i >>= λ k. (part_named s.building ids >>= λ p. Ok (SplitEntry k p))))) tt y many
+      (then-ok (short words 1)
+      (λ i. numbers words 2 0 4294967295 >>= λ ids. (call_named s i >>= λ k. (part_named s.building ids >>= λ p. Ok (SplitEntry k p)))) id y
+      (id_short words id low refl)
+      (then-ok (numbers words 2 0 4294967295) (λ ids. call_named s id >>= λ k. (part_named s.building ids >>= λ p. Ok (SplitEntry k p))) (map id_of cars) y
+      (ids_read cars all)
       (then-ok (call_named s id) (λ k. part_named s.building (map id_of cars) >>= λ p. Ok (SplitEntry k p)) j y (sym (named_call s id j accepted is.call refl))
       (then-ok (part_named s.building (map id_of cars)) (λ p. Ok (SplitEntry j p)) part y named_so refl))))
 
@@ -232,8 +259,11 @@ module _ (s : Snapshot) (accepted : IsAccepted s) (car_ids : (c : ℕ) → c < c
       let low = call_ids j is.call in
       let one = id_length id low in
       let rest = ids_spread cars all in
-      let size = joined_is (codes "split") (decimal id ∷ map (λ c. decimal (spec_of s c).id) cars) in
-      (line_of_words (codes "split") (decimal id ∷ map (λ c. decimal (spec_of s c).id) cars) (name_word (codes "split") refl refl) (decimal_word id (omega (arith, low)), ids_words cars all) (omega (arith, few, one, rest)), omega (arith, few, one, rest, size))
+      let size = joined_is (codes "split") (decimal id ∷ map (λ c. decimal (spec_of s c).id) cars) in (
+        line_of_words (codes "split") (decimal id ∷ map (λ c. decimal (spec_of s c).id) cars) (name_word (codes "split") refl refl)
+            (decimal_word id (omega (arith, low)), ids_words cars all) (omega (arith, few, one, rest)),
+        omega (arith, few, one, rest, size),
+      )
 
   price_says : (p : PriceOf) → IsPriceWithin s p → says_price s (price_words s p) ≡ Ok p
   price_says p is =
@@ -241,8 +271,10 @@ module _ (s : Snapshot) (accepted : IsAccepted s) (car_ids : (c : ℕ) → c < c
       let id = (call_of s p.call).id in
       let low = call_ids p.call is.call in
       let b = bounded p.price (grind (arith, ints, is.price.0)) (grind (arith, ints, is.price.1)) in
-      then-ok (short words 1) (λ i. price_of_word words 2 >>= λ price. (call_named s i >>= λ j. Ok (record { call = j; price = price }))) id p (id_short words id low refl)
-      (then-ok (price_of_word words 2) (λ price. call_named s id >>= λ j. Ok (record { call = j; price = price })) p.price p (signed_said words 2 (neg_ℤ (pos 1000000000000000000000000)) (pos 1000000000000000000000000) p.price refl refl b is.price.0 is.price.1)
+      then-ok (short words 1) (λ i. price_of_word words 2 >>= λ price. (call_named s i >>= λ j. Ok (record { call = j; price = price }))) id p
+      (id_short words id low refl)
+      (then-ok (price_of_word words 2) (λ price. call_named s id >>= λ j. Ok (record { call = j; price = price })) p.price p
+      (signed_said words 2 (neg_ℤ (pos 1000000000000000000000000)) (pos 1000000000000000000000000) p.price refl refl b is.price.0 is.price.1)
       (then-ok (call_named s id) (λ j. Ok (record { call = j; price = p.price })) p.call p (sym (named_call s id p.call accepted is.call refl)) refl))
 
   pub price_line : (p : PriceOf) → IsPriceWithin s p → IsLineOfWords (price_words s p) × (length (joined (price_words s p)) ≤ 46)
@@ -252,8 +284,11 @@ module _ (s : Snapshot) (accepted : IsAccepted s) (car_ids : (c : ℕ) → c < c
       let one = id_length id low in
       let b = bounded p.price (grind (arith, ints, is.price.0)) (grind (arith, ints, is.price.1)) in
       let two = signed_length p.price b in
-      let size = joined_is (codes "price") (decimal id ∷ signed_decimal p.price ∷ []) in
-      (line_of_words (codes "price") (decimal id ∷ signed_decimal p.price ∷ []) (name_word (codes "price") refl refl) (decimal_word id (omega (arith, low)), (signed_word p.price b, tt)) (omega (arith, one, two)), omega (arith, one, two, size))
+      let size = joined_is (codes "price") (decimal id ∷ signed_decimal p.price ∷ []) in (
+        line_of_words (codes "price") (decimal id ∷ signed_decimal p.price ∷ []) (name_word (codes "price") refl refl)
+            (decimal_word id (omega (arith, low)), (signed_word p.price b, tt)) (omega (arith, one, two)),
+        omega (arith, one, two, size),
+      )
 
   worth_says : (w : WorthOf) → IsWorthWithin s w → says_worth s (worth_words s w) ≡ Ok w
   worth_says w is =
@@ -261,10 +296,17 @@ module _ (s : Snapshot) (accepted : IsAccepted s) (car_ids : (c : ℕ) → c < c
       let id = (spec_of s w.car).id in
       let low = car_ids w.car is.car in
       let b = bounded w.worth is.worth_low is.worth_high in
-      then-ok (short words 1) (λ i. worth_of_word words 2 >>= λ r. (number words 3 1 10000000000 >>= λ claim. (car_named s.building i >>= λ c. Ok (record { car = c; worth = r; claim = claim })))) id w (id_short words id low refl)
-      (then-ok (worth_of_word words 2) (λ r. number words 3 1 10000000000 >>= λ claim. (car_named s.building id >>= λ c. Ok (record { car = c; worth = r; claim = claim }))) w.worth w (signed_said words 2 (neg_ℤ (pos 1000000000000000000000000000)) (pos 1000000000000000000000000000) w.worth refl refl b is.worth_low is.worth_high)
-      (then-ok (number words 3 1 10000000000) (λ claim. car_named s.building id >>= λ c. Ok (record { car = c; worth = w.worth; claim = claim })) w.claim w (written_number words 3 w.claim 1 10000000000 (let high = is.claim_high in omega (arith, high)) refl is.claim_low is.claim_high)
-      (then-ok (car_named s.building id) (λ c. Ok (record { car = c; worth = w.worth; claim = w.claim })) w.car w (sym (named_car s.building id w.car accepted.building is.car refl)) refl)))
+      then-ok (short words 1)
+      (λ i. worth_of_word words 2
+      >>= λ r. (number words 3 1 10000000000 >>= λ claim. (car_named s.building i >>= λ c. Ok (record { car = c; worth = r; claim = claim })))) id w
+      (id_short words id low refl)
+      (then-ok (worth_of_word words 2)
+      (λ r. number words 3 1 10000000000 >>= λ claim. (car_named s.building id >>= λ c. Ok (record { car = c; worth = r; claim = claim }))) w.worth w
+      (signed_said words 2 (neg_ℤ (pos 1000000000000000000000000000)) (pos 1000000000000000000000000000) w.worth refl refl b is.worth_low is.worth_high)
+      (then-ok (number words 3 1 10000000000) (λ claim. car_named s.building id >>= λ c. Ok (record { car = c; worth = w.worth; claim = claim })) w.claim w
+      (written_number words 3 w.claim 1 10000000000 (let high = is.claim_high in omega (arith, high)) refl is.claim_low is.claim_high)
+      (then-ok (car_named s.building id) (λ c. Ok (record { car = c; worth = w.worth; claim = w.claim })) w.car w
+      (sym (named_car s.building id w.car accepted.building is.car refl)) refl)))
 
   pub worth_line : (w : WorthOf) → IsWorthWithin s w → IsLineOfWords (worth_words s w) × (length (joined (worth_words s w)) ≤ 58)
   worth_line w is =
@@ -275,14 +317,18 @@ module _ (s : Snapshot) (accepted : IsAccepted s) (car_ids : (c : ℕ) → c < c
       let two = signed_length w.worth b in
       let high = is.claim_high in
       let three = length-decimal-le 11 w.claim (lit< tt) (omega (arith, high)) (omega (arith, high)) in
-      let size = joined_is (codes "worth") (decimal id ∷ signed_decimal w.worth ∷ decimal w.claim ∷ []) in
-      (line_of_words (codes "worth") (decimal id ∷ signed_decimal w.worth ∷ decimal w.claim ∷ []) (name_word (codes "worth") refl refl) (decimal_word id (omega (arith, low)), (signed_word w.worth b, (decimal_word w.claim (omega (arith, high)), tt))) (omega (arith, one, two, three)), omega (arith, one, two, three, size))
+      let size = joined_is (codes "worth") (decimal id ∷ signed_decimal w.worth ∷ decimal w.claim ∷ []) in (
+        line_of_words (codes "worth") (decimal id ∷ signed_decimal w.worth ∷ decimal w.claim ∷ []) (name_word (codes "worth") refl refl)
+            (decimal_word id (omega (arith, low)), (signed_word w.worth b, (decimal_word w.claim (omega (arith, high)), tt))) (omega (arith, one, two, three)),
+        omega (arith, one, two, three, size),
+      )
 
   worths_say : (worths : List WorthOf) → AllByRecursion (IsWorthWithin s) worths → SayItems s (map (worth_words s) worths) [] worths
   worths_say [] all = (refl, refl)
   worths_say (w ∷ worths) all = inr (worths, (w, worth_says w all.0, refl), worths_say worths all.1)
 
-  items_say : (prices : List PriceOf) (worths : List WorthOf) → AllByRecursion (IsPriceWithin s) prices → AllByRecursion (IsWorthWithin s) worths → SayItems s (map (price_words s) prices ++ map (worth_words s) worths) prices worths
+  items_say : (prices : List PriceOf) (worths : List WorthOf) → AllByRecursion (IsPriceWithin s) prices → AllByRecursion (IsWorthWithin s) worths
+      → SayItems s (map (price_words s) prices ++ map (worth_words s) worths) prices worths
   items_say [] worths all more = worths_say worths more
   items_say (p ∷ prices) worths all more = inl (prices, (p, price_says p all.0, refl), items_say prices worths all.1 more)
 
@@ -309,8 +355,12 @@ module _ (s : Snapshot) (accepted : IsAccepted s) (car_ids : (c : ℕ) → c < c
 
   twig_is_lines : (twig : Twig) → IsTwigWithin s twig → AllByRecursion IsLineOfWords (twig_lines s twig)
   twig_is_lines (Split j part) is = ((split_line j part is).0, tt)
-  twig_is_lines (Tip leaf) is =
-      (leaf_line, each-append IsLineOfWords (map (price_words s) leaf.prices) (map (worth_words s) leaf.worths) (prices_lines leaf.prices (each_of (IsPriceWithin s) leaf.prices is.prices)) (worths_lines leaf.worths (each_of (IsWorthWithin s) leaf.worths is.worths)))
+  twig_is_lines (Tip leaf) is = (
+    leaf_line,
+    each-append IsLineOfWords (map (price_words s) leaf.prices) (map (worth_words s) leaf.worths)
+        (prices_lines leaf.prices (each_of (IsPriceWithin s) leaf.prices is.prices))
+        (worths_lines leaf.worths (each_of (IsWorthWithin s) leaf.worths is.worths)),
+  )
 
   twigs_say : (tree : List Twig) → AllByRecursion (IsTwigWithin s) tree → SayTwigs s (flat_map (twig_lines s) tree) tree
   twigs_say [] all = refl
@@ -318,7 +368,8 @@ module _ (s : Snapshot) (accepted : IsAccepted s) (car_ids : (c : ℕ) → c < c
 
   twigs_lines : (tree : List Twig) → AllByRecursion (IsTwigWithin s) tree → AllByRecursion IsLineOfWords (flat_map (twig_lines s) tree)
   twigs_lines [] all = tt
-  twigs_lines (twig ∷ tree) all = each-append IsLineOfWords (twig_lines s twig) (flat_map (twig_lines s) tree) (twig_is_lines twig all.0) (twigs_lines tree all.1)
+  twigs_lines (twig ∷ tree) all =
+      each-append IsLineOfWords (twig_lines s twig) (flat_map (twig_lines s) tree) (twig_is_lines twig all.0) (twigs_lines tree all.1)
 
 -- ---- the whole
 
@@ -345,18 +396,26 @@ module _ (s : Snapshot) (accepted : IsAccepted s) (tree : List Twig) (text : Has
   unfolding cert_lines
   text_lines =
       let twigs = twigs_lines s accepted text.car_ids text.call_ids tree each in
-      let head : IsLineOfWords head_words = (let size = length-decimal-le 1 1 (lit< tt) (omega arith) (omega arith) in line_of_words (codes "certificate") (decimal 1 ∷ []) (name_word (codes "certificate") refl refl) (decimal_word 1 (omega arith), tt) (omega (arith, size))) in
+      let head : IsLineOfWords head_words =
+      (let size = length-decimal-le 1 1 (lit< tt) (omega arith) (omega arith) in
+      line_of_words (codes "certificate") (decimal 1 ∷ []) (name_word (codes "certificate") refl refl) (decimal_word 1 (omega arith), tt)
+      (omega (arith, size))) in
       let end : IsLineOfWords end_words = record { some = omega arith; each = (name_word (codes "end") refl refl, tt); short = omega arith } in
       (head, each-append IsLineOfWords (flat_map (twig_lines s) tree) (end_words ∷ []) twigs (end, tt))
 
-  text_begins : (before : TextState) (tail : List ℕ) → before.bytes ≡ cert_text s tree ++ tail → length (cert_text s tree) ≤ before.limit → BeginsWith (cert_lines s tree) (reading before) (reading (behind before s tree tail))
+  text_begins : (before : TextState) (tail : List ℕ) → before.bytes ≡ cert_text s tree ++ tail → length (cert_text s tree) ≤ before.limit
+      → BeginsWith (cert_lines s tree) (reading before) (reading (behind before s tree tail))
   unfolding cert_text
   text_begins before tail same room =
-      subst (λ (bytes : List ℕ). BeginsWith (cert_lines s tree) (reading (record { line = before.line; limit = before.limit; bytes = bytes })) (reading (behind before s tree tail))) (sym same)
+      subst (λ (bytes : List ℕ).
+      BeginsWith (cert_lines s tree) (reading (record { line = before.line; limit = before.limit; bytes = bytes })) (reading (behind before s tree tail)))
+      (sym same)
       (lines_again (cert_lines s tree) before.line before.limit tail text_lines room)
 
 -- the text of a tree is read as that tree, where the lines that stand for one are
-pub reads_text : (before now : Option TextState) (s : Snapshot) (answer : Result (List Twig) TextFault) → IsAccepted s → ReadsLines before s answer now → ReadsText before s answer now
+pub reads_text : (before now : Option TextState) (s : Snapshot) (answer : Result (List Twig) TextFault) → IsAccepted s → ReadsLines before s answer now
+    → ReadsText before s answer now
 reads_text None now s answer accepted reads tree tail text = tt
 reads_text (Some before) now s answer accepted reads tree tail text = λ begins room.
-    reads (cert_lines s tree) tree (reading (behind before s tree tail)) (text_stands s accepted tree text) (text_begins s accepted tree text before tail begins room)
+    reads (cert_lines s tree) tree (reading (behind before s tree tail)) (text_stands s accepted tree text)
+    (text_begins s accepted tree text before tail begins room)

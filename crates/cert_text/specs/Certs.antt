@@ -50,7 +50,8 @@ SaysWorth s line worths later = (worth : WorthOf) × (says_worth s line ≡ Ok w
 abbrev pub SayItems : Snapshot → List Line → List PriceOf → List WorthOf → Type 0
 SayItems s [] prices worths = (prices ≡ []) × (worths ≡ [])
 SayItems s (line ∷ lines) prices worths =
-    ((later : List PriceOf) × SaysPrice s line prices later × SayItems s lines later worths) ⊎ ((later : List WorthOf) × SaysWorth s line worths later × SayItems s lines prices later)
+    ((later : List PriceOf) × SaysPrice s line prices later × SayItems s lines later worths)
+    ⊎ ((later : List WorthOf) × SaysWorth s line worths later × SayItems s lines prices later)
 
 -- these lines say a leaf: one that begins it, and one for each price and worth
 pub record SaysLeaf (s : Snapshot) (lines : List Line) (leaf : Leaf) : Type 0 where
@@ -115,4 +116,5 @@ IsAnswered tree rest (Err NoMemory) now = Unit {0}
 
 -- where the text begins with lines that stand for a tree, that one is read, whatever follows
 abbrev pub ReadsLines : Option TextState → Snapshot → Result (List Twig) TextFault → Option TextState → Type 0
-ReadsLines before s answer now = (lines : List Line) (tree : List Twig) (rest : Reading) → StandsFor s lines tree → IfSome before (λ text. BeginsWith lines (reading text) rest → IsAnswered tree rest answer now)
+ReadsLines before s answer now = (lines : List Line) (tree : List Twig) (rest : Reading) → StandsFor s lines tree
+    → IfSome before (λ text. BeginsWith lines (reading text) rest → IsAnswered tree rest answer now)

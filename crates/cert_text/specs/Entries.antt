@@ -7,7 +7,8 @@ use Rattle.text_sections.specs.Judging.{Judged, ◌>>=◌, in_order}
 use Rattle.text_sections.specs.Words.{is_word, exactly}
 use Rattle.text_sections.specs.Sections.{Line}
 use Rattle.cert_text.specs.declared.kinds.LineWord.{LineWord}
-use Rattle.cert_text.specs.declared.kinds.LineWord.TheVariants.{Certificate, Split as SplitWord, Leaf as LeafWord, Price as PriceWord, Worth as WorthWord, End as EndWord}
+use Rattle.cert_text.specs.declared.kinds.LineWord.TheVariants.{Certificate, Split as SplitWord, Leaf as LeafWord, Price as PriceWord, Worth as WorthWord}
+use Rattle.cert_text.specs.declared.kinds.LineWord.TheVariants.{End as EndWord}
 use Rattle.cert_text.specs.declared.kinds.Entry.{Entry}
 use Rattle.cert_text.specs.declared.kinds.Entry.TheVariants.{Leaf as LeafEntry, Price as PriceEntry, Worth as WorthEntry, End as EndEntry}
 use Rattle.cert_text.specs.Words.{split_said, price_said, worth_said}

@@ -98,7 +98,8 @@ IsRefusedFor first fault = (s : Snapshot) → IsRefused s first fault
 
 -- what a call of `next` answers
 abbrev pub HandsOutFor : Snapshot → Reader → Option TextState → Result (Option Twig) TextFault → Reader → Option TextState → Type 0
-HandsOutFor s reader before answer reader' now = (first : Option TextState) (handed : List Twig) → HasRead s first reader handed before → HandsOut s first handed answer reader' now
+HandsOutFor s reader before answer reader' now = (first : Option TextState) (handed : List Twig) → HasRead s first reader handed before
+    → HandsOut s first handed answer reader' now
 
 -- ---- a loop over the calls of `next`, which adds each twig to a list
 

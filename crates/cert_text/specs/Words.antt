@@ -35,7 +35,8 @@ part_named b ids = cars_named b ids >>= λ cars. Ok (part_of cars)
 -- `split CALL CAR ..`: all words are numbers before any id is looked up
 abbrev pub split_said : Snapshot → Line → Judged Entry
 split_said s words =
-    at_least words 2 >>= λ _. (short words 1 >>= λ id. (numbers words 2 0 4294967295 >>= λ ids. (call_named s id >>= λ j. (part_named s.building ids >>= λ part. Ok (Split j part)))))
+    at_least words 2 >>= λ _.
+    (short words 1 >>= λ id. (numbers words 2 0 4294967295 >>= λ ids. (call_named s id >>= λ j. (part_named s.building ids >>= λ part. Ok (Split j part)))))
 
 -- word k as a price
 abbrev pub price_of_word : Line → ℕ → Judged ℤ
@@ -53,4 +54,7 @@ worth_of_word words k = signed words k (neg_ℤ (pos 100000000000000000000000000
 -- `worth CAR R CLAIM`
 abbrev pub worth_said : Snapshot → Line → Judged WorthOf
 worth_said s words =
-    exactly words 4 >>= λ _. (short words 1 >>= λ id. (worth_of_word words 2 >>= λ worth. (number words 3 1 10000000000 >>= λ claim. (car_named s.building id >>= λ c. Ok (record { car = c; worth = worth; claim = claim })))))
+    exactly words 4 >>= λ _.
+    (short words 1 >>= λ id.
+    (worth_of_word words 2 >>= λ worth.
+    (number words 3 1 10000000000 >>= λ claim. (car_named s.building id >>= λ c. Ok (record { car = c; worth = worth; claim = claim })))))

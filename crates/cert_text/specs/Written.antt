@@ -21,4 +21,5 @@ behind text s tree tail = record { line = text.line + length (cert_lines s tree)
 -- where a text begins with that of a tree, that one is read, whatever follows
 abbrev pub ReadsText : Option TextState → Snapshot → Result (List Twig) TextFault → Option TextState → Type 0
 ReadsText before s answer now = (tree : List Twig) (tail : List ℕ) → HasText s tree
-    → IfSome before (λ text. text.bytes ≡ cert_text s tree ++ tail → length (cert_text s tree) ≤ text.limit → IsAnswered tree (reading (behind text s tree tail)) answer now)
+    → IfSome before (λ text. text.bytes ≡ cert_text s tree ++ tail → length (cert_text s tree) ≤ text.limit
+    → IsAnswered tree (reading (behind text s tree tail)) answer now)

@@ -27,17 +27,20 @@ use Rattle.certified_search.proofs.KnownTrees.{tree_known}
 
 -- ---- sizes do not look at claims
 
-worths_there : (worths : List WorthOf) → All (λ (w : WorthOf). IsWorthSize w.worth) worths → All (λ (w : WorthOf). IsWorthSize w.worth) (map without_claim worths)
+worths_there : (worths : List WorthOf) → All (λ (w : WorthOf). IsWorthSize w.worth) worths
+    → All (λ (w : WorthOf). IsWorthSize w.worth) (map without_claim worths)
 worths_there [] all = all
 worths_there (w ∷ worths) all =
     let P : WorthOf → Type 0 = λ w. IsWorthSize w.worth in
     All-cons P (without_claim w) (map without_claim worths) (All-head P w worths all) (worths_there worths (All-tail P w worths all))
 
-worths_back : (worths : List WorthOf) → All (λ (w : WorthOf). IsWorthSize w.worth) (map without_claim worths) → All (λ (w : WorthOf). IsWorthSize w.worth) worths
+worths_back : (worths : List WorthOf) → All (λ (w : WorthOf). IsWorthSize w.worth) (map without_claim worths)
+    → All (λ (w : WorthOf). IsWorthSize w.worth) worths
 worths_back [] all = all
 worths_back (w ∷ worths) all =
     let P : WorthOf → Type 0 = λ w. IsWorthSize w.worth in
-    All-cons P w worths (All-head P (without_claim w) (map without_claim worths) all) (worths_back worths (All-tail P (without_claim w) (map without_claim worths) all))
+    All-cons P w worths (All-head P (without_claim w) (map without_claim worths) all)
+    (worths_back worths (All-tail P (without_claim w) (map without_claim worths) all))
 
 twig_there : (twig : Twig) → IsSizedTwig twig → IsSizedTwig (without_claims twig)
 twig_there (Split j part) small = small
@@ -50,12 +53,14 @@ twig_back (Tip leaf) sized = record { prices = sized.prices; worths = worths_bac
 tree_there : (tree : List Twig) → All IsSizedTwig tree → All IsSizedTwig (map without_claims tree)
 tree_there [] all = all
 tree_there (twig ∷ tree) all =
-    All-cons IsSizedTwig (without_claims twig) (map without_claims tree) (twig_there twig (All-head IsSizedTwig twig tree all)) (tree_there tree (All-tail IsSizedTwig twig tree all))
+    All-cons IsSizedTwig (without_claims twig) (map without_claims tree) (twig_there twig (All-head IsSizedTwig twig tree all))
+    (tree_there tree (All-tail IsSizedTwig twig tree all))
 
 tree_back : (tree : List Twig) → All IsSizedTwig (map without_claims tree) → All IsSizedTwig tree
 tree_back [] all = all
 tree_back (twig ∷ tree) all =
-    All-cons IsSizedTwig twig tree (twig_back twig (All-head IsSizedTwig (without_claims twig) (map without_claims tree) all)) (tree_back tree (All-tail IsSizedTwig (without_claims twig) (map without_claims tree) all))
+    All-cons IsSizedTwig twig tree (twig_back twig (All-head IsSizedTwig (without_claims twig) (map without_claims tree) all))
+    (tree_back tree (All-tail IsSizedTwig (without_claims twig) (map without_claims tree) all))
 
 cars_of : (twig : Twig) → IsSizedTwig twig → HasCars twig
 cars_of (Split j part) small = small
@@ -63,7 +68,8 @@ cars_of (Tip leaf) sized = tt
 
 pub tree_cars : (tree : List Twig) → All IsSizedTwig tree → All HasCars tree
 tree_cars [] all = All-nil HasCars
-tree_cars (twig ∷ tree) all = All-cons HasCars twig tree (cars_of twig (All-head IsSizedTwig twig tree all)) (tree_cars tree (All-tail IsSizedTwig twig tree all))
+tree_cars (twig ∷ tree) all =
+    All-cons HasCars twig tree (cars_of twig (All-head IsSizedTwig twig tree all)) (tree_cars tree (All-tail IsSizedTwig twig tree all))
 
 -- ---- sizes of lesser worths
 
@@ -73,7 +79,8 @@ sizes_of_twig (Tip leaf) sized = record { prices = sized.prices; worths = sized.
 
 pub tree_sizes : (tree : List Twig) → All IsSizedTwig tree → All HasSizes tree
 tree_sizes [] all = All-nil HasSizes
-tree_sizes (twig ∷ tree) all = All-cons HasSizes twig tree (sizes_of_twig twig (All-head IsSizedTwig twig tree all)) (tree_sizes tree (All-tail IsSizedTwig twig tree all))
+tree_sizes (twig ∷ tree) all =
+    All-cons HasSizes twig tree (sizes_of_twig twig (All-head IsSizedTwig twig tree all)) (tree_sizes tree (All-tail IsSizedTwig twig tree all))
 
 twig_below : (bound : ℕ) (twig : Twig) → IsSizedTwig twig → IsSizedTwig (lowered_twig bound twig)
 twig_below bound (Split j part) small = small
@@ -82,7 +89,8 @@ twig_below bound (Tip leaf) sized = record { prices = sized.prices; worths = wor
 sized_below : (bound : ℕ) (tree : List Twig) → All IsSizedTwig tree → All IsSizedTwig (lowered_tree bound tree)
 sized_below bound [] all = All-nil IsSizedTwig
 sized_below bound (twig ∷ tree) all =
-    All-cons IsSizedTwig (lowered_twig bound twig) (lowered_tree bound tree) (twig_below bound twig (All-head IsSizedTwig twig tree all)) (sized_below bound tree (All-tail IsSizedTwig twig tree all))
+    All-cons IsSizedTwig (lowered_twig bound twig) (lowered_tree bound tree) (twig_below bound twig (All-head IsSizedTwig twig tree all))
+    (sized_below bound tree (All-tail IsSizedTwig twig tree all))
 
 -- ---- the last resort
 
@@ -95,11 +103,13 @@ start_is_last s leaf bound is start = record {
 
 -- ---- what the pass answers
 
-module _ (s : Snapshot) (accepted : IsAccepted s) (stated : Stated) (tree : List Twig) (resort : LastResort) (limit : ℕ) (claimed : Claimed) (is : IsClaimed s stated tree resort limit claimed) where
+module _ (s : Snapshot) (accepted : IsAccepted s) (stated : Stated) (tree : List Twig) (resort : LastResort) (limit : ℕ) (claimed : Claimed)
+    (is : IsClaimed s stated tree resort limit claimed) where
   pub certified : IsCertified s limit stated tree claimed.bound claimed.tree.twigs
   certified = record { proves = is.proves; low = is.low; due = is.due; few = is.few; whole = λ few. by_cut claimed.cut refl few }
     where
-      by_cut : (b : Bool) → claimed.cut ≡ b → due_of_tree s tree ≤ most_of_tree limit tree → (claimed.bound ≡ stated.bound) × DifferInClaims claimed.tree.twigs tree
+      by_cut : (b : Bool) → claimed.cut ≡ b → due_of_tree s tree ≤ most_of_tree limit tree → (claimed.bound ≡ stated.bound)
+          × DifferInClaims claimed.tree.twigs tree
       by_cut true e few = absurd (let over = is.cut.0 e in omega (arith, over, few))
       by_cut false e few = is.whole e
 
@@ -117,7 +127,10 @@ module _ (s : Snapshot) (accepted : IsAccepted s) (stated : Stated) (tree : List
       where
         by_cut : (b : Bool) → claimed.cut ≡ b → All IsSizedTwig claimed.tree.twigs
         by_cut true e =
-            elim (is.lesser e) [ inl lowered ↦ sized_as (lowered_tree claimed.bound tree) lowered.tree_is (sized_below claimed.bound tree sized) | inr last ↦ subst (All IsSizedTwig) (sym last.tree_is) (All-cons IsSizedTwig (Tip resort.leaf) [] resort_sized (All-nil IsSizedTwig)) ]
+            elim (is.lesser e) [
+              | inl lowered ↦ sized_as (lowered_tree claimed.bound tree) lowered.tree_is (sized_below claimed.bound tree sized)
+              | inr last ↦ subst (All IsSizedTwig) (sym last.tree_is) (All-cons IsSizedTwig (Tip resort.leaf) [] resort_sized (All-nil IsSizedTwig))
+            ]
         by_cut false e = sized_as tree (is.whole e).1 sized
 
     pub claimed_short : length claimed.tree.twigs ≤ length tree
@@ -129,7 +142,12 @@ module _ (s : Snapshot) (accepted : IsAccepted s) (stated : Stated) (tree : List
 
         by_cut : (b : Bool) → claimed.cut ≡ b → length claimed.tree.twigs ≤ length tree
         by_cut true e =
-            elim (is.lesser e) [ inl lowered ↦ (let same = length_as (lowered_tree claimed.bound tree) lowered.tree_is in let there = length-map tree (lowered_twig claimed.bound) in omega (arith, same, there)) | inr last ↦ (let one = ap (λ (l : List Twig). length l) last.tree_is in let more = some tree whole in omega (arith, one, more)) ]
+            elim (is.lesser e) [
+              | inl lowered ↦
+                  (let same = length_as (lowered_tree claimed.bound tree) lowered.tree_is in let there = length-map tree (lowered_twig claimed.bound) in
+                  omega (arith, same, there))
+              | inr last ↦ (let one = ap (λ (l : List Twig). length l) last.tree_is in let more = some tree whole in omega (arith, one, more))
+            ]
         by_cut false e = (let same = length_as tree (is.whole e).1 in omega (arith, same))
 
     pub claimed_known : AreTwigsKnown s claimed.tree.twigs

@@ -20,9 +20,12 @@ module _ (s : Snapshot) where
   due_most : (place : TreePlace) (twig : Twig) → due_at s place twig ≤ car_count s * moves_enough s
   due_most place (Split j part) = omega arith
   due_most place (Tip leaf) =
-      sum_below-each (car_count s) (claim_due s place.node leaf) (moves_enough s) (λ c lt. (let short = tested_lists-few s c (allows place.node c) (is_kept s c (price_in leaf) (allows place.node c) (requires_of place.node c) (worth_in leaf c)) lt in omega (arith, short)))
+      sum_below-each (car_count s) (claim_due s place.node leaf) (moves_enough s)
+      (λ c lt. (let short = tested_lists-few s c (allows place.node c)
+      (is_kept s c (price_in leaf) (allows place.node c) (requires_of place.node c) (worth_in leaf c)) lt in omega (arith, short)))
 
-  due_placed : (places : List TreePlace) (twigs : List Twig) → sum_by (λ (p : Placed). due_at s p.place p.twig) (placed_from places twigs) ≤ length twigs * (car_count s * moves_enough s)
+  due_placed : (places : List TreePlace) (twigs : List Twig)
+      → sum_by (λ (p : Placed). due_at s p.place p.twig) (placed_from places twigs) ≤ length twigs * (car_count s * moves_enough s)
   due_placed places [] = omega arith
   due_placed [] (twig ∷ twigs) = omega arith
   due_placed (place ∷ places) (twig ∷ twigs) =
@@ -33,12 +36,14 @@ module _ (s : Snapshot) where
       omega (arith, one, rest, most)
 
 -- what a search answers needs no more claims than are enough
-due_enough : (rounds limit : ℕ) (s : Snapshot) (tree : List Twig) → length tree ≤ 8 * rounds + 1 → AreClaimsEnough rounds limit s → due_of_tree s tree ≤ most_of_tree limit tree
+due_enough : (rounds limit : ℕ) (s : Snapshot) (tree : List Twig) → length tree ≤ 8 * rounds + 1 → AreClaimsEnough rounds limit s
+    → due_of_tree s tree ≤ most_of_tree limit tree
 due_enough rounds limit s tree few enough =
     let due = due_placed s (root_place s ∷ []) tree in
     let more = mul-le-mul_left (car_count s * moves_enough s) few in
     omega (arith, due, more, enough)
 
 -- so its own bound is printed
-pub certified_same : (rounds limit : ℕ) (s : Snapshot) (stated : Stated) (tree : List Twig) (bound : ℕ) (certificate : List Twig) → IsCertified s limit stated tree bound certificate → length tree ≤ 8 * rounds + 1 → AreClaimsEnough rounds limit s → bound ≡ stated.bound
+pub certified_same : (rounds limit : ℕ) (s : Snapshot) (stated : Stated) (tree : List Twig) (bound : ℕ) (certificate : List Twig)
+    → IsCertified s limit stated tree bound certificate → length tree ≤ 8 * rounds + 1 → AreClaimsEnough rounds limit s → bound ≡ stated.bound
 certified_same rounds limit s stated tree bound certificate certified few enough = (certified.whole (due_enough rounds limit s tree few enough)).0

@@ -14,7 +14,8 @@ use Rattle.search_model.specs.declared.Leaf.{Leaf}
 use Rattle.search_model.specs.declared.Twig.{Twig}
 use Rattle.search_model.specs.declared.Twig.TheVariants.{Split, Leaf as Tip}
 use Rattle.search_model.specs.Nodes.{Node, IsNodeOf, set_of, set_where, is_part}
-use Rattle.search_model.specs.Certificates.{TreePlace, Placed, IsSound, are_each_once, claim_in, is_filled, is_whole, placed_from, placed_twigs, places_after, root_place}
+use Rattle.search_model.specs.Certificates.{TreePlace, Placed, IsSound, are_each_once, claim_in, is_filled, is_whole, placed_from, placed_twigs, places_after}
+use Rattle.search_model.specs.Certificates.{root_place}
 use Rattle.cert_claims.specs.Due.{StatesDue, claims_of as stated_claims, claims_of_tree, worths_of, worths_of_tree}
 use Rattle.search_model.proofs.NodeLemmas.{part-from}
 use Rattle.search_model.proofs.SetLemmas.{set_where-below}
@@ -23,7 +24,8 @@ use Rattle.search_model.proofs.TreeLemmas.{part-index}
 use Rattle.search_tree.specs.Sheets.{IsSizedTwig}
 use Rattle.kept_tours.proofs.EntryLemmas.{all_at, claims_once, once-from, once-length}
 use Rattle.tour_cost.proofs.Short.{calls-le}
-use Rattle.cert_text.specs.Trees.{IsWorthWithin, IsLeafWithin, IsSplitWithin, IsTwigWithin, IsWithin, IsKnownLeaf, IsKnownTwig, AreTwigsKnown, claims_of, sum_of_claims}
+use Rattle.cert_text.specs.Trees.{IsWorthWithin, IsLeafWithin, IsSplitWithin, IsTwigWithin, IsWithin, IsKnownLeaf, IsKnownTwig, AreTwigsKnown, claims_of}
+use Rattle.cert_text.specs.Trees.{sum_of_claims}
 use Rattle.cert_text.specs.Texts.{cert_text}
 use Rattle.cert_text.specs.Written.{HasText}
 use Rattle.cert_text.proofs.TreeLemmas.{filled_back}
@@ -43,7 +45,8 @@ AreKnown s bound [] (twig ∷ twigs) = ⊥
 AreKnown s bound (place ∷ places) (twig ∷ twigs) = IsKnown s bound place twig × AreKnown s bound (places_after place twig places) twigs
 
 module _ (s : Snapshot) (bound : ℕ) where
-  pub are_known : (places : List TreePlace) (twigs : List Twig) → is_filled places twigs ≡ true → All (λ (p : Placed). IsSound s bound p.place p.twig) (placed_from places twigs) → All IsSizedTwig twigs → AreKnown s bound places twigs
+  pub are_known : (places : List TreePlace) (twigs : List Twig) → is_filled places twigs ≡ true
+      → All (λ (p : Placed). IsSound s bound p.place p.twig) (placed_from places twigs) → All IsSizedTwig twigs → AreKnown s bound places twigs
   are_known places [] filled sound sized = tt
   are_known [] (twig ∷ twigs) filled sound sized = absurd cc
   are_known (place ∷ places) (twig ∷ twigs) filled sound sized =
@@ -62,7 +65,11 @@ module _ (s : Snapshot) where
   car_below node j c is lt h =
       let possible : ℕ → Bool = λ d. is_possible s d (call_of s j) in
       let in_root : has (set_where (car_count s) possible) c ≡ true = sym (ap (λ (x : ℕ). has x c) (set_of-root s j lt)) ∙ is.within j c h in
-      elim (cases_lt c (car_count s)) [ inl few ↦ few | inr past ↦ absurd (both_ways _ (has_none_above (car_count s) (set_where (car_count s) possible) c (set_where-below (car_count s) possible) past) in_root) ]
+      elim (cases_lt c (car_count s)) [
+        | inl few ↦ few
+        | inr past ↦ absurd
+            (both_ways _ (has_none_above (car_count s) (set_where (car_count s) possible) c (set_where-below (car_count s) possible) past) in_root)
+      ]
 
   call_of_split : (node : Node) (j part : ℕ) → IsNodeOf s node → is_part (set_of node j) part ≡ true → j < call_count s
   call_of_split node j part is h = subst (λ (n : ℕ). j < n) is.calls (part-index node j part h)
@@ -74,19 +81,26 @@ module _ (s : Snapshot) where
     where
       in_set : (c : ℕ) → has part c ≡ true → has (set_of node j) c ≡ true
       in_set c e =
-          elim (cases_lt c 16) [ inl few ↦ (part-from (set_of node j) part h).within c few e | inr past ↦ absurd (both_ways _ (has_none_above 16 part c small past) e) ]
+          elim (cases_lt c 16) [
+            | inl few ↦ (part-from (set_of node j) part h).within c few e
+            | inr past ↦ absurd (both_ways _ (has_none_above 16 part c small past) e)
+          ]
 
 -- ---- leaves
 
 module _ (s : Snapshot) (bound : ℕ) (place : TreePlace) (leaf : Leaf) (known : IsKnown s bound place (Tip leaf)) where
-  each_once : (are_each_once (call_count s) (map (λ (p : PriceOf). p.call) leaf.prices) ≡ true) × (are_each_once (car_count s) (map (λ (w : WorthOf). w.car) leaf.worths) ≡ true)
-  each_once = and_parts (are_each_once (call_count s) (map (λ (p : PriceOf). p.call) leaf.prices)) (are_each_once (car_count s) (map (λ (w : WorthOf). w.car) leaf.worths)) known.sound.whole
+  each_once : (are_each_once (call_count s) (map (λ (p : PriceOf). p.call) leaf.prices) ≡ true)
+      × (are_each_once (car_count s) (map (λ (w : WorthOf). w.car) leaf.worths) ≡ true)
+  each_once = and_parts (are_each_once (call_count s) (map (λ (p : PriceOf). p.call) leaf.prices))
+      (are_each_once (car_count s) (map (λ (w : WorthOf). w.car) leaf.worths)) known.sound.whole
 
   call_at : (k : ℕ) (d : PriceOf) → k < length leaf.prices → (get_or leaf.prices k d).call < call_count s
-  call_at k d lt = all_at (λ (p : PriceOf). p.call) (call_count s) leaf.prices k d (once-from (call_count s) (map (λ (p : PriceOf). p.call) leaf.prices) each_once.0).below lt
+  call_at k d lt = all_at (λ (p : PriceOf). p.call) (call_count s) leaf.prices k d
+      (once-from (call_count s) (map (λ (p : PriceOf). p.call) leaf.prices) each_once.0).below lt
 
   car_at : (k : ℕ) (d : WorthOf) → k < length leaf.worths → (get_or leaf.worths k d).car < car_count s
-  car_at k d lt = all_at (λ (w : WorthOf). w.car) (car_count s) leaf.worths k d (once-from (car_count s) (map (λ (w : WorthOf). w.car) leaf.worths) each_once.1).below lt
+  car_at k d lt = all_at (λ (w : WorthOf). w.car) (car_count s) leaf.worths k d
+      (once-from (car_count s) (map (λ (w : WorthOf). w.car) leaf.worths) each_once.1).below lt
 
   pub leaf_known : IsKnownLeaf s leaf
   leaf_known = record { prices = call_at; worths = car_at }
@@ -169,11 +183,14 @@ module _ (s : Snapshot) (accepted : IsAccepted s) (bound : ℕ) where
       let small = known.0.sized in
       let call = call_of_split s place.node j part is h in
       let own = split_fits s place.node j part is h small in
-      All-cons (IsKnownTwig s) (Split j part) twigs (record { call = call; cars = own.cars }) (twigs_known (places_after place (Split j part) places) twigs (first_is_node s place.node j part small is call h, (second_is_node s place.node j part is call h, nodes.1)) known.1)
+      All-cons (IsKnownTwig s) (Split j part) twigs (record { call = call; cars = own.cars })
+      (twigs_known (places_after place (Split j part) places) twigs
+      (first_is_node s place.node j part small is call h, (second_is_node s place.node j part is call h, nodes.1)) known.1)
   twigs_known (place ∷ places) (Tip leaf ∷ twigs) nodes known =
       All-cons (IsKnownTwig s) (Tip leaf) twigs (leaf_known s bound place leaf known.0) (twigs_known places twigs nodes.1 known.1)
 
-  pub tree_known : (tree : List Twig) → is_whole s tree ≡ true → All (λ (p : Placed). IsSound s bound p.place p.twig) (placed_twigs s tree) → All IsSizedTwig tree → AreTwigsKnown s tree
+  pub tree_known : (tree : List Twig) → is_whole s tree ≡ true → All (λ (p : Placed). IsSound s bound p.place p.twig) (placed_twigs s tree)
+      → All IsSizedTwig tree → AreTwigsKnown s tree
   tree_known tree whole sound sized =
       twigs_known (root_place s ∷ []) tree (root_is_node s accepted, tt) (are_known s bound (root_place s ∷ []) tree whole sound sized)
 
@@ -181,7 +198,8 @@ module _ (s : Snapshot) (accepted : IsAccepted s) (bound : ℕ) where
   IsDue p = StatesDue s p.place p.twig
 
   -- within what is left of the claims
-  twigs_fit : (places : List TreePlace) (twigs : List Twig) → HaveNodes s places → AreKnown s bound places twigs → All IsDue (placed_from places twigs) → claims_of_tree twigs ≤ 10000000000 → All (IsTwigWithin s) twigs
+  twigs_fit : (places : List TreePlace) (twigs : List Twig) → HaveNodes s places → AreKnown s bound places twigs → All IsDue (placed_from places twigs)
+      → claims_of_tree twigs ≤ 10000000000 → All (IsTwigWithin s) twigs
   twigs_fit places [] nodes known due few = All-nil (IsTwigWithin s)
   twigs_fit [] (twig ∷ twigs) nodes known due few = absurd known
   twigs_fit (place ∷ places) (Split j part ∷ twigs) nodes known due few =
@@ -192,17 +210,22 @@ module _ (s : Snapshot) (accepted : IsAccepted s) (bound : ℕ) where
       let here : Placed = record { place = place; twig = Split j part } in
       let later = placed_from (places_after place (Split j part) places) twigs in
       let claims = sum_by-cons stated_claims (Split j part) twigs in
-      All-cons (IsTwigWithin s) (Split j part) twigs (split_fits s place.node j part is h small) (twigs_fit (places_after place (Split j part) places) twigs (first_is_node s place.node j part small is call h, (second_is_node s place.node j part is call h, nodes.1)) known.1 (All-tail IsDue here later due) (omega (arith, few, claims)))
+      All-cons (IsTwigWithin s) (Split j part) twigs (split_fits s place.node j part is h small)
+      (twigs_fit (places_after place (Split j part) places) twigs
+      (first_is_node s place.node j part small is call h, (second_is_node s place.node j part is call h, nodes.1)) known.1 (All-tail IsDue here later due)
+      (omega (arith, few, claims)))
   twigs_fit (place ∷ places) (Tip leaf ∷ twigs) nodes known due few =
       let here : Placed = record { place = place; twig = Tip leaf } in
       let later = placed_from places twigs in
       let claims = sum_by-cons stated_claims (Tip leaf) twigs in
-      All-cons (IsTwigWithin s) (Tip leaf) twigs (leaf_fits s bound place leaf known.0 (All-head IsDue here later due) (omega (arith, few, claims))) (twigs_fit places twigs nodes.1 known.1 (All-tail IsDue here later due) (omega (arith, few, claims)))
+      All-cons (IsTwigWithin s) (Tip leaf) twigs (leaf_fits s bound place leaf known.0 (All-head IsDue here later due) (omega (arith, few, claims)))
+      (twigs_fit places twigs nodes.1 known.1 (All-tail IsDue here later due) (omega (arith, few, claims)))
 
   twigs_small : (places : List TreePlace) (twigs : List Twig) → AreKnown s bound places twigs → All (HasAtMost 128 16) twigs
   twigs_small places [] known = All-nil (HasAtMost 128 16)
   twigs_small [] (twig ∷ twigs) known = absurd known
-  twigs_small (place ∷ places) (Split j part ∷ twigs) known = All-cons (HasAtMost 128 16) (Split j part) twigs tt (twigs_small (places_after place (Split j part) places) twigs known.1)
+  twigs_small (place ∷ places) (Split j part ∷ twigs) known =
+      All-cons (HasAtMost 128 16) (Split j part) twigs tt (twigs_small (places_after place (Split j part) places) twigs known.1)
   twigs_small (place ∷ places) (Tip leaf ∷ twigs) known =
       All-cons (HasAtMost 128 16) (Tip leaf) twigs (leaf_small s bound place leaf known.0 accepted) (twigs_small places twigs known.1)
 
@@ -221,7 +244,8 @@ module _ (s : Snapshot) (accepted : IsAccepted s) (bound : ℕ) where
       let few = (leaf_small s bound place leaf known.0 accepted).1 in
       omega (arith, rest, worths, leaves, few)
 
-  module _ (tree : List Twig) (whole : is_whole s tree ≡ true) (sound : All (λ (p : Placed). IsSound s bound p.place p.twig) (placed_twigs s tree)) (sized : All IsSizedTwig tree) where
+  module _ (tree : List Twig) (whole : is_whole s tree ≡ true) (sound : All (λ (p : Placed). IsSound s bound p.place p.twig) (placed_twigs s tree))
+      (sized : All IsSizedTwig tree) where
     known : AreKnown s bound (root_place s ∷ []) tree
     known = are_known s bound (root_place s ∷ []) tree whole sound sized
 
@@ -238,7 +262,8 @@ module _ (s : Snapshot) (accepted : IsAccepted s) (bound : ℕ) where
         omega (arith, worths, leaves)
 
     pub tree_within : All IsDue (placed_twigs s tree) → claims_of_tree tree ≤ 10000000000 → IsWithin s tree
-    tree_within due few = whole_within s tree (twigs_fit (root_place s ∷ []) tree (root_is_node s accepted, tt) known due few) whole (omega (arith, few, same_claims tree))
+    tree_within due few =
+        whole_within s tree (twigs_fit (root_place s ∷ []) tree (root_is_node s accepted, tt) known due few) whole (omega (arith, few, same_claims tree))
 
     pub tree_short : length tree ≤ 16001 → HasText s tree → length (cert_text s tree) ≤ 60000000
     tree_short short text =

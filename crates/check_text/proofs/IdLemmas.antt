@@ -1,5 +1,6 @@
 -- The ids of a case that a text has lie in the range of the text.
-use Rattle.std.proofs.Common.{◌≡◌, ◌∙◌, ℕ, zero, suc, ◌^◌, ◌<◌, ◌==◌, Bool, true, false, cond, List, [], ◌∷◌, ◌++◌, map, length, get_or, refl, sym, ap, subst, arith, Option, None, Some, Ok, Err}
+use Rattle.std.proofs.Common.{◌≡◌, ◌∙◌, ℕ, zero, suc, ◌^◌, ◌<◌, ◌==◌, Bool, true, false, cond, List, [], ◌∷◌, ◌++◌, map, length, get_or, refl, sym, ap, subst}
+use Rattle.std.proofs.Common.{arith, Option, None, Some, Ok, Err}
 use Rattle.std.specs.Prelude.{codes}
 use Rattle.std.specs.List.{list_any}
 use Rattle.elevator_model.specs.declared.Call.{Call}
@@ -54,12 +55,14 @@ low_call b words call e =
     let same : made ≡ call = cc in
     subst HasLowId {x = made} same (omega (arith, low, same_id))
 
-low_calls : (b : Building) (lines : List Line) (calls : List Call) → map (says_call b) lines ≡ map Ok calls → (j : ℕ) → j < length calls → HasLowId (get_or calls j no_call)
+low_calls : (b : Building) (lines : List Line) (calls : List Call) → map (says_call b) lines ≡ map Ok calls → (j : ℕ) → j < length calls
+    → HasLowId (get_or calls j no_call)
 low_calls b [] [] e j below = absurd (omega arith)
 low_calls b [] (call ∷ calls) e j below = absurd cc
 low_calls b (words ∷ lines) [] e j below = absurd (omega arith)
 low_calls b (words ∷ lines) (call ∷ calls) e zero below = let here : says_call b words ≡ Ok call = cc in low_call b words call here
-low_calls b (words ∷ lines) (call ∷ calls) e (suc j) below = let later : map (says_call b) lines ≡ map Ok calls = cc in low_calls b lines calls later j (omega arith)
+low_calls b (words ∷ lines) (call ∷ calls) e (suc j) below = let later : map (says_call b) lines ≡ map Ok calls = cc in
+    low_calls b lines calls later j (omega arith)
 
 -- ---- cars
 
@@ -68,18 +71,49 @@ HasLowCarId car = car.id < 2 ^ 32
 
 low_numbers : (words : Line) (car : CarSpec) → car_numbers words ≡ Ok car → HasLowCarId car
 low_numbers words car e =
-    let id = then-inv (number words 1 0 4294967295) (λ id. number words 2 1 64 >>= λ capacity. (number words 3 0 60000 >>= λ opening. (number words 4 0 60000 >>= λ closing. (number words 5 0 60000 >>= λ boarding. (number words 6 0 60000 >>= λ alighting. Ok (record { id = id; capacity = capacity; opening = opening; closing = closing; boarding = boarding; alighting = alighting; serves = 0 })))))) car e in
+    let id = then-inv (number words 1 0 4294967295)
+    (λ id. number words 2 1 64
+    >>= λ capacity. (number words 3 0 60000
+    >>= λ opening. (number words 4 0 60000
+    >>= λ closing. (number words 5 0 60000
+    >>= λ boarding. (number words 6 0 60000
+    >>= λ alighting. Ok (record
+    { id = id; capacity = capacity; opening = opening; closing = closing; boarding = boarding; alighting = alighting; serves = 0 })))))) car e in
     let low = (number_in words 1 0 4294967295 id.0 id.1).1 in
-    let capacity = then-inv (number words 2 1 64) (λ capacity. number words 3 0 60000 >>= λ opening. (number words 4 0 60000 >>= λ closing. (number words 5 0 60000 >>= λ boarding. (number words 6 0 60000 >>= λ alighting. Ok (record { id = id.0; capacity = capacity; opening = opening; closing = closing; boarding = boarding; alighting = alighting; serves = 0 }))))) car id.2 in
-    let opening = then-inv (number words 3 0 60000) (λ opening. number words 4 0 60000 >>= λ closing. (number words 5 0 60000 >>= λ boarding. (number words 6 0 60000 >>= λ alighting. Ok (record { id = id.0; capacity = capacity.0; opening = opening; closing = closing; boarding = boarding; alighting = alighting; serves = 0 })))) car capacity.2 in
-    let closing = then-inv (number words 4 0 60000) (λ closing. number words 5 0 60000 >>= λ boarding. (number words 6 0 60000 >>= λ alighting. Ok (record { id = id.0; capacity = capacity.0; opening = opening.0; closing = closing; boarding = boarding; alighting = alighting; serves = 0 }))) car opening.2 in
-    let boarding = then-inv (number words 5 0 60000) (λ boarding. number words 6 0 60000 >>= λ alighting. Ok (record { id = id.0; capacity = capacity.0; opening = opening.0; closing = closing.0; boarding = boarding; alighting = alighting; serves = 0 })) car closing.2 in
-    let alighting = then-inv (number words 6 0 60000) (λ alighting. Ok (record { id = id.0; capacity = capacity.0; opening = opening.0; closing = closing.0; boarding = boarding.0; alighting = alighting; serves = 0 })) car boarding.2 in
-    let made : CarSpec = record { id = id.0; capacity = capacity.0; opening = opening.0; closing = closing.0; boarding = boarding.0; alighting = alighting.0; serves = 0 } in
+    let capacity = then-inv (number words 2 1 64)
+    (λ capacity. number words 3 0 60000
+    >>= λ opening. (number words 4 0 60000
+    >>= λ closing. (number words 5 0 60000
+    >>= λ boarding. (number words 6 0 60000
+    >>= λ alighting. Ok (record
+    { id = id.0; capacity = capacity; opening = opening; closing = closing; boarding = boarding; alighting = alighting; serves = 0 }))))) car id.2 in
+    let opening = then-inv (number words 3 0 60000)
+    (λ opening. number words 4 0 60000
+    >>= λ closing. (number words 5 0 60000
+    >>= λ boarding. (number words 6 0 60000
+    >>= λ alighting. Ok (record
+    { id = id.0; capacity = capacity.0; opening = opening; closing = closing; boarding = boarding; alighting = alighting; serves = 0 })))) car capacity.2 in
+    let closing = then-inv (number words 4 0 60000)
+    (λ closing. number words 5 0 60000
+    >>= λ boarding. (number words 6 0 60000
+    >>= λ alighting. Ok (record
+    { id = id.0; capacity = capacity.0; opening = opening.0; closing = closing; boarding = boarding; alighting = alighting; serves = 0 }))) car opening.2 in
+    let boarding = then-inv (number words 5 0 60000)
+    (λ boarding. number words 6 0 60000
+    >>= λ alighting. Ok (record
+    { id = id.0; capacity = capacity.0; opening = opening.0; closing = closing.0; boarding = boarding; alighting = alighting; serves = 0 })) car
+    closing.2 in
+    let alighting = then-inv (number words 6 0 60000)
+    (λ alighting. Ok (record
+    { id = id.0; capacity = capacity.0; opening = opening.0; closing = closing.0; boarding = boarding.0; alighting = alighting; serves = 0 })) car
+    boarding.2 in
+    let made : CarSpec =
+    record { id = id.0; capacity = capacity.0; opening = opening.0; closing = closing.0; boarding = boarding.0; alighting = alighting.0; serves = 0 } in
     let same : made ≡ car = cc in
     subst HasLowCarId {x = made} same (omega (arith, low))
 
-same_id : (floors most : ℕ) (before : List CarSpec) (car made : CarSpec) (set : Option ℕ) → judged_car floors most before car set ≡ Ok made → HasLowCarId car → HasLowCarId made
+same_id : (floors most : ℕ) (before : List CarSpec) (car made : CarSpec) (set : Option ℕ) → judged_car floors most before car set ≡ Ok made → HasLowCarId car
+    → HasLowCarId made
 same_id floors most before car made None e low = none_made (list_any (λ (x : CarSpec). x.id == car.id) before) e
   where
     none_made : (is : Bool) → cond {A = Judged CarSpec} is (Err (Item IdUsedBefore)) (Err (Item NoSuchFloor)) ≡ Ok made → HasLowCarId made
@@ -93,15 +127,18 @@ same_id floors most before car made (Some set) e low = by_fault (fault_of_spec f
 
 low_car : (floors most : ℕ) (before : List CarSpec) (words : Line) (car : CarSpec) → car_of_line floors most before words ≡ Ok car → HasLowCarId car
 low_car floors most before words car e =
-    let numbered = then-inv (has_car_words words >>= λ _. car_numbers words) (λ made. served_of floors words >>= λ set. judged_car floors most before made set) car e in
+    let numbered = then-inv (has_car_words words >>= λ _. car_numbers words)
+    (λ made. served_of floors words >>= λ set. judged_car floors most before made set) car e in
     let served = then-inv (served_of floors words) (λ set. judged_car floors most before numbered.0 set) car numbered.2 in
     let counted = then-inv (has_car_words words) (λ _. car_numbers words) numbered.0 numbered.1 in
     same_id floors most before numbered.0 car served.0 served.2 (low_numbers words numbered.0 counted.2)
 
-low_cars : (floors most : ℕ) (before : List CarSpec) (lines : List Line) (cars : List CarSpec) → AreCarLines floors most before lines cars → (c : ℕ) → c < length cars → HasLowCarId (get_or cars c no_car)
+low_cars : (floors most : ℕ) (before : List CarSpec) (lines : List Line) (cars : List CarSpec) → AreCarLines floors most before lines cars → (c : ℕ)
+    → c < length cars → HasLowCarId (get_or cars c no_car)
 low_cars floors most before [] cars is c below = absurd (omega (arith, ap length is))
 low_cars floors most before (words ∷ lines) cars is c below =
-    subst (λ (all : List CarSpec). c < length all → HasLowCarId (get_or all c no_car)) (sym is.2) (at (low_cars floors most (before ++ is.0 ∷ []) lines is.1 is.5) c) below
+    subst (λ (all : List CarSpec). c < length all → HasLowCarId (get_or all c no_car)) (sym is.2)
+    (at (low_cars floors most (before ++ is.0 ∷ []) lines is.1 is.5) c) below
   where
     at : ((k : ℕ) → k < length is.1 → HasLowCarId (get_or is.1 k no_car)) → (k : ℕ) → k < length (is.0 ∷ is.1) → HasLowCarId (get_or (is.0 ∷ is.1) k no_car)
     at later zero inside = low_car floors most before words is.0 is.4

@@ -28,7 +28,8 @@ module _ (s : Snapshot) where
   answer_in_pair (Some text) now (Bad line code) refused = inl refused.1
   answer_in_pair (Some text) now NoMemory refused = tt
 
-  pub tree_in_pair : (before mid : Option TextState) (stated : Stated) (fault : TextFault) → IsSaidAnswer before s stated mid → IsRefused s mid fault → IsRefusedPair before s fault
+  pub tree_in_pair : (before mid : Option TextState) (stated : Stated) (fault : TextFault) → IsSaidAnswer before s stated mid → IsRefused s mid fault
+      → IsRefusedPair before s fault
   tree_in_pair None mid stated fault answer refused = tt
   tree_in_pair (Some text) None stated fault answer refused = absurd answer
   tree_in_pair (Some text) (Some between) stated Read answer refused = tt

@@ -1,5 +1,6 @@
 -- Nothing depends on the order of the boards of a stop.
-use Rattle.std.proofs.Common.{◌⊎◌, ◌≡◌, ℕ, zero, suc, ◌+◌, ◌<◌, ◌≤◌, ◌==◌, ◌&&◌, ◌||◌, not, Bool, true, false, cond, eqb, ltb, leb, List, [], ◌∷◌, map, filter, length, refl, sym, ap, ◌∙◌, subst, arith, inl, inr, Option}
+use Rattle.std.proofs.Common.{◌⊎◌, ◌≡◌, ℕ, zero, suc, ◌+◌, ◌<◌, ◌≤◌, ◌==◌, ◌&&◌, ◌||◌, not, Bool, true, false, cond, eqb, ltb, leb, List, [], ◌∷◌, map, filter}
+use Rattle.std.proofs.Common.{length, refl, sym, ap, ◌∙◌, subst, arith, inl, inr, Option}
 use Rattle.std.specs.Prelude.{All, count_by}
 use Rattle.std.specs.List.{flat_map, range_with_len, list_any}
 use Rattle.std.proofs.lemmas.Bool.{cases_Bool, cases_lt, or_cases, eqb-true, eq-eqb, false≢true, both_ways, false_from_ne_true, lt-ltb}
@@ -10,10 +11,12 @@ use Rattle.call_sets.proofs.Sums.{sum_below-same}
 use Rattle.call_sets.proofs.Counts.{count-same}
 use Rattle.elevator_model.specs.declared.Broken.{Broken}
 use Rattle.elevator_model.specs.declared.Rule.{Rule}
-use Rattle.elevator_model.specs.declared.Rule.TheVariants.{FirstStop, SameFloorTwice, UselessStop, TurnWithPassengers, Capacity, QueueOrder, Car, Floor, Delivery, CallTwice, Origin, Unserved}
+use Rattle.elevator_model.specs.declared.Rule.TheVariants.{FirstStop, SameFloorTwice, UselessStop, TurnWithPassengers, Capacity, QueueOrder, Car, Floor}
+use Rattle.elevator_model.specs.declared.Rule.TheVariants.{Delivery, CallTwice, Origin, Unserved}
 use Rattle.elevator_model.specs.declared.Stop.{Stop}
 use Rattle.elevator_model.specs.Snapshot.{Snapshot, call_count, car_count, state_of, is_idle, spec_of, call_of}
-use Rattle.elevator_model.specs.Tours.{Progress, start_of, stop_at, make_stop, after_stops, boards_at, gets_off, stays_on, persons_where, overtakes, is_call_for, breaks, first_rule, rules_of_stop, broken_at, broken_or, first_broken_from, rider_count, none_taken}
+use Rattle.elevator_model.specs.Tours.{Progress, start_of, stop_at, make_stop, after_stops, boards_at, gets_off, stays_on, persons_where, overtakes}
+use Rattle.elevator_model.specs.Tours.{is_call_for, breaks, first_rule, rules_of_stop, broken_at, broken_or, first_broken_from, rider_count, none_taken}
 use Rattle.elevator_model.specs.Costs.{settled_cost, cost_of}
 use Rattle.elevator_model.specs.Plans.{tour_of, is_boarded_in, times_served, IsFeasiblePlan, plan_cost_of}
 use Rattle.tour_rules.proofs.BoundedTests.{same_function}
@@ -30,7 +33,8 @@ times_in j xs = count_by (λ x. x == j) xs
 abbrev pub only : ℕ → List ℕ → List ℕ
 only k xs = filter (λ x. x == k) xs
 
-one_kept : (at is same : Bool) (count : ℕ) → (at ≡ true → is ≡ same) → (same ≡ true → at ≡ is) → cond at (cond is 1 0 + cond same count 0) (cond same count 0) ≡ cond same (cond is 1 0 + count) 0
+one_kept : (at is same : Bool) (count : ℕ) → (at ≡ true → is ≡ same) → (same ≡ true → at ≡ is)
+    → cond at (cond is 1 0 + cond same count 0) (cond same count 0) ≡ cond same (cond is 1 0 + count) 0
 one_kept true true true count h k = omega arith
 one_kept true true false count h k = absurd (false≢true (sym (h refl)))
 one_kept true false true count h k = absurd (false≢true (h refl))
@@ -53,7 +57,8 @@ times_only j k [] = nothing_twice (eqb k j)
 times_only j k (x ∷ xs) =
     cond_times (eqb x k) j x (only k xs)
     ∙ ap (λ (n : ℕ). cond (eqb x k) (cond (eqb x j) 1 0 + n) n) (times_only j k xs)
-    ∙ one_kept (eqb x k) (eqb x j) (eqb k j) (times_in j xs) (λ at. ap (λ (i : ℕ). eqb i j) (eqb-true x k at)) (λ same. ap (λ (i : ℕ). eqb x i) (eqb-true k j same))
+    ∙ one_kept (eqb x k) (eqb x j) (eqb k j) (times_in j xs) (λ at. ap (λ (i : ℕ). eqb i j) (eqb-true x k at))
+    (λ same. ap (λ (i : ℕ). eqb x i) (eqb-true k j same))
     ∙ ap (λ (n : ℕ). cond (eqb k j) n 0) (sym (count-cons j x xs))
 
 abbrev pub sorted_from : List ℕ → (a m : ℕ) → List ℕ
@@ -108,7 +113,8 @@ times_same s boards calls j = elim (cases_lt j (call_count s)) [
   | inl below ↦ times_inside boards j 0 (call_count s) (omega arith) (omega arith)
   | inr above ↦
       let outside = times_outside boards j 0 (call_count s) (inr (omega arith)) in
-      let none = count-none j boards (false_from_ne_true (is_among j boards) (λ among. (let low = among_low (call_count s) boards j calls among in omega (arith, low)))) in
+      let none = count-none j boards
+      (false_from_ne_true (is_among j boards) (λ among. (let low = among_low (call_count s) boards j calls among in omega (arith, low)))) in
       outside ∙ sym none
 ]
 
@@ -154,7 +160,8 @@ module _ (s : Snapshot) (c : ℕ) (stop : Stop) (calls : AreCalls s stop.boards)
   breaks_same taken p FirstStop = refl
   breaks_same taken p SameFloorTwice = refl
   breaks_same taken p UselessStop =
-      ap (λ (boards : ℕ → Bool). ((p.begun || is_idle (state_of s c)) && not (any_below (rider_count s) (gets_off s p stop.floor))) && not (any_below (call_count s) boards)) boards_same
+      ap (λ (boards : ℕ → Bool). ((p.begun || is_idle (state_of s c)) && not (any_below (rider_count s) (gets_off s p stop.floor)))
+      && not (any_below (call_count s) boards)) boards_same
   breaks_same taken p TurnWithPassengers = refl
   breaks_same taken p Capacity =
       ap (λ (boards : ℕ → Bool). ltb (spec_of s c).capacity (persons_where s (stays_on s p stop.floor) + persons_where s boards)) boards_same
@@ -169,7 +176,8 @@ module _ (s : Snapshot) (c : ℕ) (stop : Stop) (calls : AreCalls s stop.boards)
   breaks_same taken p Unserved = refl
 
   broken_same : (taken : ℕ → Bool) (p : Progress) → broken_at s c taken p sorted ≡ broken_at s c taken p stop
-  broken_same taken p = ap (λ (broken : Rule → Bool). first_rule broken rules_of_stop) (same_function (breaks s c taken p sorted) (breaks s c taken p stop) (breaks_same taken p))
+  broken_same taken p =
+      ap (λ (broken : Rule → Bool). first_rule broken rules_of_stop) (same_function (breaks s c taken p sorted) (breaks s c taken p stop) (breaks_same taken p))
 
 -- ---- a tour
 
@@ -183,13 +191,16 @@ module _ (s : Snapshot) where
   first_calls : (stop : Stop) (tour : List Stop) → BoardsCalls s (stop ∷ tour) → AreCalls s stop.boards
   first_calls stop tour calls = calls 0 stop (omega arith)
 
-  first_same : (c : ℕ) (taken : ℕ → Bool) (p : Progress) (k : ℕ) (tour : List Stop) → BoardsCalls s tour → first_broken_from s c taken p k (tour_by_index tour) ≡ first_broken_from s c taken p k tour
+  first_same : (c : ℕ) (taken : ℕ → Bool) (p : Progress) (k : ℕ) (tour : List Stop) → BoardsCalls s tour
+      → first_broken_from s c taken p k (tour_by_index tour) ≡ first_broken_from s c taken p k tour
   first_same c taken p k [] calls = refl
   first_same c taken p k (stop ∷ tour) calls =
       let own = first_calls stop tour calls in
-      ap (λ (rule : Option Rule). broken_or rule k (first_broken_from s c taken (make_stop s c p (stop_by_index s stop)) (k + 1) (tour_by_index tour))) (broken_same s c stop own taken p)
+      ap (λ (rule : Option Rule). broken_or rule k (first_broken_from s c taken (make_stop s c p (stop_by_index s stop)) (k + 1) (tour_by_index tour)))
+      (broken_same s c stop own taken p)
       ∙ ap (λ (q : Progress). broken_or (broken_at s c taken p stop) k (first_broken_from s c taken q (k + 1) (tour_by_index tour))) (stop_same s c stop own p)
-      ∙ ap (λ (later : Option Broken). broken_or (broken_at s c taken p stop) k later) (first_same c taken (make_stop s c p stop) (k + 1) tour (later_calls stop tour calls))
+      ∙ ap (λ (later : Option Broken). broken_or (broken_at s c taken p stop) k later)
+      (first_same c taken (make_stop s c p stop) (k + 1) tour (later_calls stop tour calls))
 
   after_same : (c : ℕ) (p : Progress) (tour : List Stop) → BoardsCalls s tour → after_stops s c p (tour_by_index tour) ≡ after_stops s c p tour
   after_same c p [] calls = refl
@@ -235,7 +246,8 @@ module _ (s : Snapshot) where
 
     cost_same : plan_cost_of s (plan_by_index s plan) ≡ plan_cost_of s plan
     cost_same = sum_below-same (car_count s) (λ c. cost_of s c (tour_of (plan_by_index s plan) c)) (λ c. cost_of s c (tour_of plan c))
-        (λ c below. ap (cost_of s c) (tour_sorted plan c) ∙ ap (settled_cost s c) (after_same c (start_of s c) (tour_of plan c) (calls_in c (omega (arith, below, feasible.cars)))))
+        (λ c below. ap (cost_of s c) (tour_sorted plan c)
+        ∙ ap (settled_cost s c) (after_same c (start_of s c) (tour_of plan c) (calls_in c (omega (arith, below, feasible.cars)))))
 
 pub by_index_holds : ByIndexLaw
 by_index_holds s plan feasible = (sorted_feasible s plan feasible, cost_same s plan feasible)

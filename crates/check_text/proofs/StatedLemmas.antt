@@ -1,5 +1,6 @@
 -- A feasible plan of a case has a text, which is short.
-use Rattle.std.proofs.Common.{◌≡◌, inl, inr, ℕ, zero, suc, ◌+◌, ◌*◌, ◌^◌, ◌<◌, ◌≤◌, ◌&&◌, ◌||◌, Bool, true, false, cond, eqb, ltb, leb, List, [], ◌∷◌, ◌++◌, map, filter, length, get_or, refl, sym, ap, ◌∙◌, subst, arith, length-append, lit<, None}
+use Rattle.std.proofs.Common.{◌≡◌, inl, inr, ℕ, zero, suc, ◌+◌, ◌*◌, ◌^◌, ◌<◌, ◌≤◌, ◌&&◌, ◌||◌, Bool, true, false, cond, eqb, ltb, leb, List, [], ◌∷◌, ◌++◌}
+use Rattle.std.proofs.Common.{map, filter, length, get_or, refl, sym, ap, ◌∙◌, subst, arith, length-append, lit<, None}
 use Rattle.std.specs.Prelude.{All, codes, decimal}
 use Rattle.std.specs.List.{flat_map, range_with_len, AllByRecursion}
 use Rattle.std.proofs.lemmas.Bool.{cases_Bool, cases_lt, eqb-true, false≢true, and_parts, ltb-true, lt-ltb, le-leb}
@@ -107,7 +108,8 @@ module _ (s : Snapshot) (c : ℕ) where
     | inl among ↦
         let low = among_low (call_count s) stop.boards j calls among in
         let clear = AllClear-from (breaks s c none_taken p stop) rules_of_stop fine in
-        let here = any_below-false (call_count s) (λ k. boards_at s stop k && ((p.boarded k || none_taken k) || leb 2 (times_in k stop.boards))) j clear.1.1.1.1.1.1.1.1.0 low in
+        let here = any_below-false (call_count s)
+        (λ k. boards_at s stop k && ((p.boarded k || none_taken k) || leb 2 (times_in k stop.boards))) j clear.1.1.1.1.1.1.1.1.0 low in
         let boards : boards_at s stop j ≡ true = ap (λ (is : Bool). is && is_among j stop.boards) (lt-ltb j (call_count s) low) ∙ among in
         let few = not_twice (boards_at s stop j) (p.boarded j) (none_taken j) (leb 2 (times_in j stop.boards)) here boards in
         at_most_one (times_in j stop.boards) few
@@ -130,7 +132,8 @@ module _ (s : Snapshot) (c : ℕ) where
   kept_after p (stop ∷ tour) kept = kept_after (make_stop s c p stop) tour (IsKept-stop s c p stop kept)
 
   module _ (accepted : IsAccepted s) (car : c < car_count s) where
-    early_after : (p : Progress) (tour : List Stop) → p.floor < floor_count s.building → latest s p ≤ 8000000000 → AllFine s c p tour → AreEarly s p → AreEarly s (after_stops s c p tour)
+    early_after : (p : Progress) (tour : List Stop) → p.floor < floor_count s.building → latest s p ≤ 8000000000 → AllFine s c p tour → AreEarly s p
+        → AreEarly s (after_stops s c p tour)
     early_after p [] from most fine early = early
     early_after p (stop ∷ tour) from most fine early =
         let next = make_stop s c p stop in
@@ -140,7 +143,8 @@ module _ (s : Snapshot) (c : ℕ) where
         early_after next tour (fine_floor s c none_taken p stop fine.0) later fine.1 (AreEarly-stop s c p stop early opened)
 
     start_floor : floor_of (state_of s c) < floor_count s.building
-    start_floor = ltb-true (floor_of (state_of s c)) (floor_count s.building) (and_parts (ltb (floor_of (state_of s c)) (floor_count s.building)) _ (accepted.placed c car).served).0
+    start_floor = ltb-true (floor_of (state_of s c)) (floor_count s.building)
+        (and_parts (ltb (floor_of (state_of s c)) (floor_count s.building)) _ (accepted.placed c car).served).0
 
     start_moment : (state : CarState) → IsTimely s c state → moment_of state ≤ 1100000000
     start_moment (Idle floor free) timely = omega (arith, timely.1, accepted.moment)
@@ -153,7 +157,8 @@ module _ (s : Snapshot) (c : ℕ) where
         let early = early_after (start_of s c) tour start_floor most (AllFine-feasible s c (start_of s c) 1 tour feasible) (AreEarly-start s c accepted) in
         tour_cost-each s c tour (cost_of s c tour) accepted car (kept_after (start_of s c) tour (IsKept-start s c)) early refl
 
-sums-le : (n : ℕ) (f g : ℕ → ℕ) → ((c : ℕ) → c < n → f c ≤ 2400000000000000 * g c + 6400000000000000) → sum_below n f ≤ 2400000000000000 * sum_below n g + 6400000000000000 * n
+sums-le : (n : ℕ) (f g : ℕ → ℕ) → ((c : ℕ) → c < n → f c ≤ 2400000000000000 * g c + 6400000000000000)
+    → sum_below n f ≤ 2400000000000000 * sum_below n g + 6400000000000000 * n
 sums-le zero f g each = omega arith
 sums-le (suc n) f g each =
     let later = sums-le n f g (λ c below. each c (omega arith)) in
@@ -163,7 +168,8 @@ sums-le (suc n) f g each =
 cost-le : (s : Snapshot) (plan : List (List Stop)) → IsAccepted s → IsFeasiblePlan s plan → plan_cost_of s plan < 1000000000000000000
 cost-le s plan accepted feasible =
     plan-small s plan (plan_cost_of s plan) (car_count s) accepted feasible refl
-    (sums-le (car_count s) (λ c. cost_of s c (tour_of plan c)) (λ c. calls_served s (tour_of plan c)) (λ c below. tour_cost-le s c accepted below (tour_of plan c) (feasible.tours c below)))
+    (sums-le (car_count s) (λ c. cost_of s c (tour_of plan c)) (λ c. calls_served s (tour_of plan c))
+    (λ c below. tour_cost-le s c accepted below (tour_of plan c) (feasible.tours c below)))
 
 -- ---- how long the lines are
 
@@ -256,7 +262,8 @@ module _ (s : Snapshot) (plan : List (List Stop)) (accepted : IsAccepted s) (ids
   moves-le : (c : ℕ) → c < car_count s → length (flat_map (moves_of_stop s) (tour_of plan c)) ≤ 449
   moves-le c below =
       let tour = tour_of plan c in
-      let moves = lawful_short s c (moves_of s tour) (ended_at (map (risen s) tour) (after_stops s c (start_of s c) tour)) (moves_reach s c tour (feasible.tours c below)) in
+      let moves = lawful_short s c (moves_of s tour) (ended_at (map (risen s) tour) (after_stops s c (start_of s c) tour))
+      (moves_reach s c tour (feasible.tours c below)) in
       let both = length-append (flat_map (moves_of_stop s) tour) (End ∷ []) in
       let calls = calls-le s accepted in
       let groups = groups_few s c accepted below in
@@ -293,7 +300,8 @@ module _ (s : Snapshot) (plan : List (List Stop)) (accepted : IsAccepted s) (ids
       let line = length-append (joined (name ∷ decimal n ∷ [])) (10 ∷ []) in
       omega (arith, few, digits, words, number, line)
 
-  text-le : (stated : Stated) → stated.plan ≡ plan → stated.cost ≤ 1000000000000000000 → stated.bound ≤ 1000000000000000000 → length (answer_text s stated) ≤ 200000
+  text-le : (stated : Stated) → stated.plan ≡ plan → stated.cost ≤ 1000000000000000000 → stated.bound ≤ 1000000000000000000
+      → length (answer_text s stated) ≤ 200000
   unfolding answer_text answer_lines
   text-le stated same cost_low bound_low =
       let own = stated.plan in
@@ -301,12 +309,16 @@ module _ (s : Snapshot) (plan : List (List Stop)) (accepted : IsAccepted s) (ids
       let head = named-le (codes "answer") 1 (omega arith) (omega arith) in
       let cost = named-le (codes "cost") stated.cost (omega arith) cost_low in
       let bound = named-le (codes "bound") stated.bound (omega arith) bound_low in
-      let first = length-append (line_text (codes "answer" ∷ decimal 1 ∷ [])) (lines_text ((codes "cost" ∷ decimal stated.cost ∷ []) ∷ (codes "bound" ∷ decimal stated.bound ∷ []) ∷ (tours ++ (codes "end" ∷ []) ∷ []))) in
-      let second = length-append (line_text (codes "cost" ∷ decimal stated.cost ∷ [])) (lines_text ((codes "bound" ∷ decimal stated.bound ∷ []) ∷ (tours ++ (codes "end" ∷ []) ∷ []))) in
+      let first = length-append (line_text (codes "answer" ∷ decimal 1 ∷ []))
+      (lines_text ((codes "cost" ∷ decimal stated.cost ∷ []) ∷ (codes "bound" ∷ decimal stated.bound ∷ []) ∷ (tours ++ (codes "end" ∷ []) ∷ []))) in
+      let second = length-append (line_text (codes "cost" ∷ decimal stated.cost ∷ []))
+      (lines_text ((codes "bound" ∷ decimal stated.bound ∷ []) ∷ (tours ++ (codes "end" ∷ []) ∷ []))) in
       let third = length-append (line_text (codes "bound" ∷ decimal stated.bound ∷ [])) (lines_text (tours ++ (codes "end" ∷ []) ∷ [])) in
       let split = ap length (flat_map-append line_text tours ((codes "end" ∷ []) ∷ [])) in
       let both = length-append (lines_text tours) (lines_text ((codes "end" ∷ []) ∷ [])) in
-      let body : length (lines_text tours) ≤ 7210 * car_count s = subst (λ (p : List (List Stop)). length (lines_text (flat_map (tour_lines s p) (range_with_len 0 (car_count s)))) ≤ 7210 * car_count s) (sym same) (cars_text-le 0 (car_count s) (omega arith)) in
+      let body : length (lines_text tours) ≤ 7210 * car_count s =
+      subst (λ (p : List (List Stop)). length (lines_text (flat_map (tour_lines s p) (range_with_len 0 (car_count s)))) ≤ 7210 * car_count s) (sym same)
+      (cars_text-le 0 (car_count s) (omega arith)) in
       let cars = cars-le s accepted in
       omega (arith, head, cost, bound, first, second, third, split, both, body, cars)
 
@@ -329,7 +341,8 @@ stated_text input s stated text feasible cost_is below =
         };
         car_ids = ids.cars;
         call_ids = ids.calls;
-        short = every_stop s stated.plan accepted ids feasible (λ (stop : Stop). length (joined (stop_words s stop)) ≤ line_limit) (λ stop is. (fine stop is).1);
+        short = every_stop s stated.plan accepted ids feasible (λ (stop : Stop). length (joined (stop_words s stop)) ≤ line_limit)
+            (λ stop is. (fine stop is).1);
       },
       text-le s stated.plan accepted ids feasible stated refl cost_low bound_low,
     )

@@ -18,7 +18,8 @@ use Rattle.search_model.specs.declared.Twig.TheVariants.{Split, Leaf as Tip}
 use Rattle.search_model.specs.Nodes.{Node, set_of, is_part}
 use Rattle.search_model.specs.Prices.{value_of}
 use Rattle.search_model.specs.Certificates.{TreePlace, Placed, placed_twigs, has_whole_lists, sum_of_leaf, sum_needed, price_in, worth_in, claim_in}
-use Rattle.search_model.specs.Verdicts.{tour_under_at, first_under, kept_at, reason_of_visit, reason_of_car, reason_of_cars, reason_of_leaf, reason_of_twig, reason_of_tree, reason_of_plan, reason_of_cost, verdict_for, verdict_of}
+use Rattle.search_model.specs.Verdicts.{tour_under_at, first_under, kept_at, reason_of_visit, reason_of_car, reason_of_cars, reason_of_leaf, reason_of_twig}
+use Rattle.search_model.specs.Verdicts.{reason_of_tree, reason_of_plan, reason_of_cost, verdict_for, verdict_of}
 use Rattle.answer_text.specs.Plans.{BoardsCalls}
 use Rattle.answer_text.proofs.FitsLemmas.{stops_fit}
 use Rattle.check_text.specs.VerdictTexts.{TellsOwnTour, IsToldOf}
@@ -41,11 +42,14 @@ module _ (s : Snapshot) where
       where
         by_test : (test : Bool) → (x.ended && int_lt (value_of s c price x.left) worth) ≡ test → OwnTour (cond test (Some x.left) None)
         by_test false e = tt
-        by_test true e = stops_fit s c (start_of s c) 1 x.left (ended_feasible s c moves x is (and_parts x.ended (int_lt (value_of s c price x.left) worth) e).0)
+        by_test true e =
+            stops_fit s c (start_of s c) 1 x.left (ended_feasible s c moves x is (and_parts x.ended (int_lt (value_of s c price x.left) worth) e).0)
 
     under_own : (lists : List (List Move)) → OwnTour (first_under s c price worth lists)
     under_own [] = tt
-    under_own (moves ∷ lists) = one_of (tour_under_at s c price worth (course_of s c moves)) (first_under s c price worth lists) (under_at moves (course_of s c moves) refl) (under_own lists)
+    under_own (moves ∷ lists) =
+        one_of (tour_under_at s c price worth (course_of s c moves)) (first_under s c price worth lists) (under_at moves (course_of s c moves) refl)
+        (under_own lists)
 
   -- ---- reasons
 
@@ -68,7 +72,8 @@ module _ (s : Snapshot) where
   car_own : (k : ℕ) (node : Node) (leaf : Leaf) (c : ℕ) → OwnReason (reason_of_car s k node leaf c)
   car_own k node leaf c =
       let kept = kept_at s node leaf c in
-      visit_own k leaf c (nat_lt (claim_in leaf c) (length kept)) (first_under s c (price_in leaf) (worth_in leaf c) (take (claim_in leaf c) kept)) (under_own c (price_in leaf) (worth_in leaf c) (take (claim_in leaf c) kept))
+      visit_own k leaf c (nat_lt (claim_in leaf c) (length kept)) (first_under s c (price_in leaf) (worth_in leaf c) (take (claim_in leaf c) kept))
+      (under_own c (price_in leaf) (worth_in leaf c) (take (claim_in leaf c) kept))
 
   cars_own : (k : ℕ) (node : Node) (leaf : Leaf) (n : ℕ) → OwnReason (reason_of_cars s k node leaf n)
   cars_own k node leaf zero = tt
@@ -87,7 +92,8 @@ module _ (s : Snapshot) where
 
   tree_own : (bound k : ℕ) (placed : List Placed) → OwnReason (reason_of_tree s bound k placed)
   tree_own bound k [] = tt
-  tree_own bound k (p ∷ placed) = own_of (reason_of_twig s bound k p.place p.twig) (reason_of_tree s bound (k + 1) placed) (twig_own bound k p.place p.twig) (tree_own bound (k + 1) placed)
+  tree_own bound k (p ∷ placed) =
+      own_of (reason_of_twig s bound k p.place p.twig) (reason_of_tree s bound (k + 1) placed) (twig_own bound k p.place p.twig) (tree_own bound (k + 1) placed)
 
   plan_own : (bad : Option BadPlan) → OwnReason (reason_of_plan bad)
   plan_own None = tt
@@ -105,4 +111,5 @@ module _ (s : Snapshot) where
       let costs = reason_of_cost s plan cost in
       let twigs = reason_of_tree s bound 1 (placed_twigs s tree) in
       reason_told (first_of (reason_of_plan (first_bad s plan)) (first_of costs twigs))
-      (own_of (reason_of_plan (first_bad s plan)) (first_of costs twigs) (plan_own (first_bad s plan)) (own_of costs twigs (cost_own plan cost) (tree_own bound 1 (placed_twigs s tree))))
+      (own_of (reason_of_plan (first_bad s plan)) (first_of costs twigs) (plan_own (first_bad s plan))
+      (own_of costs twigs (cost_own plan cost) (tree_own bound 1 (placed_twigs s tree))))

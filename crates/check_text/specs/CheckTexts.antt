@@ -106,4 +106,5 @@ IsAnsweredCheck s stated tree (Err fault) = Tells fault ⊥
 
 -- where the text is a case, an answer and a certificate, they are checked
 abbrev pub TakesChecks : Option TextState → Result Checked TextFault → Type 0
-TakesChecks before answer = (s : Snapshot) (stated : Stated) (tree : List Twig) → IfSome before (λ text. IsCheckAlone (reading text) s stated tree → IsAnsweredCheck s stated tree answer)
+TakesChecks before answer = (s : Snapshot) (stated : Stated) (tree : List Twig)
+    → IfSome before (λ text. IsCheckAlone (reading text) s stated tree → IsAnsweredCheck s stated tree answer)

@@ -17,7 +17,8 @@ use Rattle.check_text.specs.CheckTexts.{IsCheckText}
 
 -- A feasible plan with the boards of each stop by rising index is feasible, and costs the same.
 abbrev pub ByIndexLaw : Type 0
-ByIndexLaw = (s : Snapshot) (plan : List (List Stop)) → IsFeasiblePlan s plan → IsFeasiblePlan s (plan_by_index s plan) × (plan_cost_of s (plan_by_index s plan) ≡ plan_cost_of s plan)
+ByIndexLaw = (s : Snapshot) (plan : List (List Stop)) → IsFeasiblePlan s plan → IsFeasiblePlan s (plan_by_index s plan)
+    × (plan_cost_of s (plan_by_index s plan) ≡ plan_cost_of s plan)
 
 -- the ids of cars and calls lie in the range of a text
 pub record HasLowIds (s : Snapshot) : Type 0 where
@@ -27,7 +28,8 @@ pub record HasLowIds (s : Snapshot) : Type 0 where
 -- A feasible plan of a case that has a text, with its cost and a bound that is not above it, has a text too, which is
 -- short.
 abbrev pub StatedTextLaw : Type 0
-StatedTextLaw = (input : List ℕ) (s : Snapshot) (stated : Stated) → IsCaseText input s → IsFeasiblePlan s stated.plan → stated.cost ≡ plan_cost_of s stated.plan → stated.bound ≤ stated.cost
+StatedTextLaw = (input : List ℕ) (s : Snapshot) (stated : Stated) → IsCaseText input s → IsFeasiblePlan s stated.plan
+    → stated.cost ≡ plan_cost_of s stated.plan → stated.bound ≤ stated.cost
     → HasText s stated × (length (answer_text s stated) ≤ 200000)
 
 -- The text of a case, ended by a line feed, and more behind it: the text begins with that case, and what comes after it
@@ -46,6 +48,7 @@ pub record IsClosing (closing : List ℕ) : Type 0 where
 -- The texts of a case, of an answer to it and of a certificate, one behind the other, and a comment line behind them,
 -- are the text of that case, of the answer with the boards of each stop by rising index, and of the certificate.
 abbrev pub AgainLaw : Type 0
-AgainLaw = (input : List ℕ) (s : Snapshot) (stated : Stated) (tree : List Twig) (closing : List ℕ) → IsCaseText input s → IsTrue (ends_with_byte 10 input) → length input ≤ 1000000
+AgainLaw = (input : List ℕ) (s : Snapshot) (stated : Stated) (tree : List Twig) (closing : List ℕ) → IsCaseText input s → IsTrue (ends_with_byte 10 input)
+    → length input ≤ 1000000
     → HasText s stated → HasTreeText s tree → length (answer_text s stated) ≤ 6100000 → length (cert_text s tree) ≤ 60000000 → IsClosing closing
     → IsCheckText (input ++ answer_text s stated ++ cert_text s tree ++ closing) s (stated_by_index s stated) tree

@@ -25,14 +25,16 @@ use Rattle.check_text.specs.declared.reading.Judged.{Judged}
 
 -- What reading a piece answers, true at the end of the tree: these twigs had been handed out before it. The worths of
 -- what was read can be added up.
-abbrev pub ReadsPiece : Snapshot → (first : Option TextState) → (fed : List Twig) → Result Bool TextFault → Reader → (piece : List Twig) → (now : Option TextState) → Type 0
+abbrev pub ReadsPiece : Snapshot → (first : Option TextState) → (fed : List Twig) → Result Bool TextFault → Reader → (piece : List Twig)
+    → (now : Option TextState) → Type 0
 ReadsPiece s first fed (Ok is_whole) reader piece now = Adds s first (Ok is_whole) reader (fed ++ piece) now × All HasWorthSizes piece
 ReadsPiece s first fed (Err fault) reader piece now = IsRefused s first fault
 
 -- whatever had been handed out before the twigs that the piece has already
 abbrev pub ReadsPieceFor : Snapshot → Reader → List Twig → Option TextState → Result Bool TextFault → Reader → List Twig → Option TextState → Type 0
 ReadsPieceFor s reader piece before answer reader' piece' now =
-    (first : Option TextState) (fed : List Twig) → HasRead s first reader (fed ++ piece) before → All HasWorthSizes piece → ReadsPiece s first fed answer reader' piece' now
+    (first : Option TextState) (fed : List Twig) → HasRead s first reader (fed ++ piece) before → All HasWorthSizes piece
+    → ReadsPiece s first fed answer reader' piece' now
 
 -- some twigs were handed out
 abbrev pub HasHandedOut : Snapshot → Reader → Option TextState → Type 0
@@ -45,7 +47,8 @@ abbrev pub HasSeenNone : Snapshot → Checker → Type 0
 HasSeenNone s checker = (claims : Stated) × HasSeen s claims [] checker
 
 -- where a reader and a checker stand together: these twigs were handed out, and the checker has seen them
-pub record StandsAt (s : Snapshot) (claims : Stated) (first : Option TextState) (reader : Reader) (checker : Checker) (now : Option TextState) (most : ℕ) : Type 0 where
+pub record StandsAt (s : Snapshot) (claims : Stated) (first : Option TextState) (reader : Reader) (checker : Checker) (now : Option TextState)
+    (most : ℕ) : Type 0 where
   pub fed : List Twig
   pub read : HasRead s first reader fed now
   pub seen : HasSeen s claims fed checker
@@ -59,14 +62,16 @@ pub record HasSeenTree (s : Snapshot) (claims : Stated) (first : Option TextStat
   pub seen : HasSeen s claims tree checker
 
 -- what reading a piece and feeding it answers
-abbrev pub FeedsPiece : Snapshot → Stated → (first : Option TextState) → (most : ℕ) → Result Bool TextFault → Reader → Checker → (now : Option TextState) → Type 0
+abbrev pub FeedsPiece : Snapshot → Stated → (first : Option TextState) → (most : ℕ) → Result Bool TextFault → Reader → Checker → (now : Option TextState)
+    → Type 0
 FeedsPiece s claims first most (Ok true) reader checker now = HasSeenTree s claims first checker now
 FeedsPiece s claims first most (Ok false) reader checker now = StandsAt s claims first reader checker now (most + 256)
 FeedsPiece s claims first most (Err fault) reader checker now = IsRefused s first fault
 
 abbrev pub FeedsPieceFor : Snapshot → Reader → Checker → Option TextState → Result Bool TextFault → Reader → Checker → Option TextState → Type 0
 FeedsPieceFor s reader checker before answer reader' checker' now =
-    (claims : Stated) (first : Option TextState) (most : ℕ) → most + 256 < 2 ^ 32 → StandsAt s claims first reader checker before most → FeedsPiece s claims first most answer reader' checker' now
+    (claims : Stated) (first : Option TextState) (most : ℕ) → most + 256 < 2 ^ 32 → StandsAt s claims first reader checker before most
+    → FeedsPiece s claims first most answer reader' checker' now
 
 -- what feeding a whole tree answers
 abbrev pub FeedsTree : Snapshot → Stated → (first : Option TextState) → Result Unit TextFault → Checker → (now : Option TextState) → Type 0
@@ -81,7 +86,8 @@ TreeAlone read s tree = (lines : ℕ) × TreeInFront read s tree (finished lines
 -- a fault in the certificate, or behind it
 abbrev pub IsTreeOrLateFault : Snapshot → Reading → TextFault → Type 0
 IsTreeOrLateFault s read fault =
-    IsRefusedWith (outcome after_tree_line read (no_tree s)) fault ⊎ ((tree : List Twig) × (behind : Reading) × TreeInFront read s tree behind × IsFaultBehind behind fault)
+    IsRefusedWith (outcome after_tree_line read (no_tree s)) fault
+    ⊎ ((tree : List Twig) × (behind : Reading) × TreeInFront read s tree behind × IsFaultBehind behind fault)
 
 -- a whole tree was read, and this is the verdict
 pub record IsVerdict (before : Option TextState) (s : Snapshot) (claims : Stated) (verdict : Verdict) : Type 0 where
@@ -108,7 +114,8 @@ CertifiedAlone read s stated tree = (between : Reading) × AnswerInFront read s 
 -- a fault in the answer, in the certificate, or behind them
 abbrev pub IsCertifiedFault : Snapshot → Reading → TextFault → Type 0
 IsCertifiedFault s read fault =
-    IsRefusedWith (outcome after_answer_line read (no_answer s)) fault ⊎ ((stated : Stated) × (between : Reading) × AnswerInFront read s stated between × IsTreeOrLateFault s between fault)
+    IsRefusedWith (outcome after_answer_line read (no_answer s)) fault
+    ⊎ ((stated : Stated) × (between : Reading) × AnswerInFront read s stated between × IsTreeOrLateFault s between fault)
 
 -- an answer and a whole tree were read, and this is what is found
 pub record IsJudged (before : Option TextState) (s : Snapshot) (judged : Judged) : Type 0 where
@@ -134,4 +141,5 @@ IsJudgedOn s stated tree (Ok judged) = IsJudgedAs s stated tree judged
 IsJudgedOn s stated tree (Err fault) = Tells fault ⊥
 
 abbrev pub TakesCertified : Option TextState → Snapshot → Result Judged TextFault → Type 0
-TakesCertified before s answer = (stated : Stated) (tree : List Twig) → IfSome before (λ text. CertifiedAlone (reading text) s stated tree → IsJudgedOn s stated tree answer)
+TakesCertified before s answer = (stated : Stated) (tree : List Twig)
+    → IfSome before (λ text. CertifiedAlone (reading text) s stated tree → IsJudgedOn s stated tree answer)

@@ -22,7 +22,8 @@ PairInFront read s stated tree rest = (between : Reading) × AnswerInFront read 
 -- a fault in the answer, or in the certificate behind an answer that is right
 abbrev pub IsPairFault : Snapshot → Reading → TextFault → Type 0
 IsPairFault s read fault =
-    IsRefusedWith (outcome after_answer_line read (no_answer s)) fault ⊎ ((stated : Stated) × (between : Reading) × AnswerInFront read s stated between × IsRefusedWith (outcome after_tree_line between (no_tree s)) fault)
+    IsRefusedWith (outcome after_answer_line read (no_answer s)) fault
+    ⊎ ((stated : Stated) × (between : Reading) × AnswerInFront read s stated between × IsRefusedWith (outcome after_tree_line between (no_tree s)) fault)
 
 -- ---- what the readers answer
 

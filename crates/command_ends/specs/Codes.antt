@@ -2,7 +2,8 @@
 use Rattle.std.specs.Prelude.{ℕ}
 use Rattle.elevator_model.specs.Printed.{code_of}
 use Rattle.lift_text.specs.declared.codes.TextCode.{TextCode}
-use Rattle.lift_text.specs.declared.codes.TextCode.TheVariants.{ForbiddenByte, OverLong, NoLineWord, Missing, TooMany, NoNumber, OutOfRange, OutOfOrder, CutShort, NoState, ClaimsPast, UnknownId, NotInOpening, NoHeader, ShorterWay, NoTime, Item}
+use Rattle.lift_text.specs.declared.codes.TextCode.TheVariants.{ForbiddenByte, OverLong, NoLineWord, Missing, TooMany, NoNumber, OutOfRange, OutOfOrder}
+use Rattle.lift_text.specs.declared.codes.TextCode.TheVariants.{CutShort, NoState, ClaimsPast, UnknownId, NotInOpening, NoHeader, ShorterWay, NoTime, Item}
 
 abbrev pub number_of : TextCode → ℕ
 number_of ForbiddenByte = 1

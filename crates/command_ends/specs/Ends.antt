@@ -60,7 +60,8 @@ Ends due old new Memory = new.taken ≡ old.taken
 -- The whole text was written and the status is answered; or the sink failed after a part of the text.
 abbrev pub Puts : (text : List ℕ) → (status result : Status) → (old new : Option (List ℕ)) → (before after : ℕ) → Type 0
 Puts text status result old new before after =
-    ((result ≡ status) × (new ≡ append_known old text)) ⊎ ((count : ℕ) × (result ≡ Write) × (count ≤ length text) × Rose before after × (new ≡ append_known old (take count text)))
+    ((result ≡ status) × (new ≡ append_known old text))
+    ⊎ ((count : ℕ) × (result ≡ Write) × (count ≤ length text) × Rose before after × (new ≡ append_known old (take count text)))
 
 -- ---- what is wrong with an input
 

@@ -1,5 +1,6 @@
 -- An input is its opening, the rows behind it, and the log behind these.
-use Rattle.std.proofs.Common.{◌≡◌, ℕ, ◌<◌, ◌≤◌, ◌⊎◌, inl, inr, List, [], ◌++◌, length, map, take, Option, None, Some, Result, Ok, Err, refl, sym, ap, ◌∙◌, subst, arith}
+use Rattle.std.proofs.Common.{◌≡◌, ℕ, ◌<◌, ◌≤◌, ◌⊎◌, inl, inr, List, [], ◌++◌, length, map, take, Option, None, Some, Result, Ok, Err, refl, sym, ap, ◌∙◌}
+use Rattle.std.proofs.Common.{subst, arith}
 use Rattle.std.specs.Prelude.{IfSome}
 use Rattle.std.specs.Io.KnownBytes.{IsAtEnd, prepend_known}
 use Rattle.std.proofs.lemmas.Bool.{cases_lt}
@@ -20,7 +21,8 @@ use Rattle.day_audit.specs.Audits.{Found, LogFinds, bad_row, bad_text, differs, 
 use Rattle.day_audit.specs.Taking.{IsUnread, TellsFound, TellsOf, found_by}
 use Rattle.log_rows.specs.Rows.{AreRowsGiven, TellsNoLog, TellsRows, said_of}
 use Rattle.day_audit.specs.Progress.{IsLogAudited}
-use Rattle.day_audit.specs.Inputs.{EndsIfJudged, FindsBehind, FindsIn, HasNoBadLine, IsAudit, IsDayAudited, IsShort, IsTextAudited, bad_opening, behind, if_long, in_log, no_log, rows_past}
+use Rattle.day_audit.specs.Inputs.{EndsIfJudged, FindsBehind, FindsIn, HasNoBadLine, IsAudit, IsDayAudited, IsShort, IsTextAudited, bad_opening, behind}
+use Rattle.day_audit.specs.Inputs.{if_long, in_log, no_log, rows_past}
 use Rattle.day_audit.specs.OneAnswer.{IsFoundInText}
 use Rattle.day_audit.proofs.InputOnce.{text_finds_once, text_or_finds}
 use Rattle.day_audit.proofs.TakingLemmas.{tells, tells_found}
@@ -28,21 +30,25 @@ use Rattle.day_audit.proofs.PastLemmas.{text_is_long}
 
 -- ---- behind the opening
 
-pub log_audited : (opening : Snapshot) (rows : List (Option GoodRow)) (before mid : Option TextState) (answer : Result Audited Finding) → AreRowsGiven opening.building rows before mid → IsLogAudited (opening_day opening) (map said_of rows) mid answer → IsDayAudited opening before answer
+pub log_audited : (opening : Snapshot) (rows : List (Option GoodRow)) (before mid : Option TextState) (answer : Result Audited Finding)
+    → AreRowsGiven opening.building rows before mid → IsLogAudited (opening_day opening) (map said_of rows) mid answer → IsDayAudited opening before answer
 log_audited opening rows None mid answer given audited = tt
 log_audited opening rows (Some from) None answer given audited = absurd given
 log_audited opening rows (Some from) (Some log) (Ok audited) given is =
     record { rows = map said_of rows; log = log; end = is.0; front = given; holds = is.1; accepted = is.2; unsolved = is.3 }
 log_audited opening rows (Some from) (Some log) (Err finding) given told =
-    tells_found finding (LogFinds (opening_day opening) (map said_of rows) (reading log)) (FindsBehind opening from) (λ found finds. in_log (map said_of rows) log given finds) told
+    tells_found finding (LogFinds (opening_day opening) (map said_of rows) (reading log)) (FindsBehind opening from)
+    (λ found finds. in_log (map said_of rows) log given finds) told
 
-no_rows_in : (opening : Snapshot) (from : TextState) (fault : TextFault) → TellsRows from fault → TellsOf (found_for fault) (FindsBehind opening from (found_for fault))
+no_rows_in : (opening : Snapshot) (from : TextState) (fault : TextFault) → TellsRows from fault
+    → TellsOf (found_for fault) (FindsBehind opening from (found_for fault))
 no_rows_in opening from (Bad line code) told = no_log line told.0 refl
 no_rows_in opening from TooLong told = rows_past told refl
 no_rows_in opening from Read told = tt
 no_rows_in opening from NoMemory told = tt
 
-pub rows_refused : (opening : Snapshot) (before : Option TextState) (fault : TextFault) (finding : Finding) → found_by finding ≡ found_for fault → TellsNoLog before fault → IsDayAudited opening before (Err finding)
+pub rows_refused : (opening : Snapshot) (before : Option TextState) (fault : TextFault) (finding : Finding) → found_by finding ≡ found_for fault
+    → TellsNoLog before fault → IsDayAudited opening before (Err finding)
 rows_refused opening None fault finding is told = tt
 rows_refused opening (Some from) fault finding is told =
     subst (λ (found : Found). TellsOf found (FindsBehind opening from found)) (sym is) (no_rows_in opening from fault told)
@@ -52,7 +58,8 @@ rows_refused opening (Some from) fault finding is told =
 pub opening_empty : (opening : Snapshot) → IsEmptySnapshot opening → IsOpeningSnapshot opening
 opening_empty opening empty = record { calls = ap length empty.calls; aboard = ap length empty.aboard }
 
-pub day_audited : (opening : Snapshot) (before mid : Option TextState) (answer : Result Audited Finding) → IsAccepted opening → IsEmptySnapshot opening → IsDayOpeningRead before opening mid → IsDayAudited opening mid answer → IsTextAudited before answer
+pub day_audited : (opening : Snapshot) (before mid : Option TextState) (answer : Result Audited Finding) → IsAccepted opening → IsEmptySnapshot opening
+    → IsDayOpeningRead before opening mid → IsDayAudited opening mid answer → IsTextAudited before answer
 day_audited opening None mid answer accepted empty opens audited = tt
 day_audited opening (Some text) None answer accepted empty opens audited = absurd opens
 day_audited opening (Some text) (Some from) (Ok audited) accepted empty opens holds =
@@ -60,7 +67,8 @@ day_audited opening (Some text) (Some from) (Ok audited) accepted empty opens ho
 day_audited opening (Some text) (Some from) (Err finding) accepted empty opens told =
     tells_found finding (FindsBehind opening from) (FindsIn text) (λ found finds. behind opening from opens finds) told
 
-pub opening_refused : (before : Option TextState) (fault : TextFault) (finding : Finding) → finding ≡ Text fault → IsDayOpeningRefused before fault → IsTextAudited before (Err finding)
+pub opening_refused : (before : Option TextState) (fault : TextFault) (finding : Finding) → finding ≡ Text fault → IsDayOpeningRefused before fault
+    → IsTextAudited before (Err finding)
 opening_refused None fault finding is refused = tt
 opening_refused (Some text) fault finding is refused =
     subst (λ (f : Finding). TellsFound f (FindsIn text)) (sym is) (tells fault (λ bad. bad_opening fault bad refl) refused)
@@ -77,10 +85,13 @@ short_audited input (Err (Text Read)) short told = tt
 short_audited input (Err (Text NoMemory)) short told = tt
 
 -- what is found besides is no bad line
-found_besides : (input : List ℕ) (found : Found) → IsFoundInText found → ((line : ℕ) (code : TextCode) → found ≡ bad_text (Bad line code) → ⊥) → FindsIn (whole_text input) found → HasNoBadLine input
-found_besides input found told other finds line code bad = other line code (text_finds_once (whole_text input) found (bad_text (Bad line code)) told tt finds bad)
+found_besides : (input : List ℕ) (found : Found) → IsFoundInText found → ((line : ℕ) (code : TextCode) → found ≡ bad_text (Bad line code) → ⊥)
+    → FindsIn (whole_text input) found → HasNoBadLine input
+found_besides input found told other finds line code bad =
+    other line code (text_finds_once (whole_text input) found (bad_text (Bad line code)) told tt finds bad)
 
-pub long_audited : (input : List ℕ) (answer : Result Audited Finding) → 67108864 < length input → IsTextAudited (Some (whole_text input)) answer → IsAudit input (if_long answer)
+pub long_audited : (input : List ℕ) (answer : Result Audited Finding) → 67108864 < length input → IsTextAudited (Some (whole_text input)) answer
+    → IsAudit input (if_long answer)
 long_audited input (Ok audited) long holds = (long, λ line code bad. text_or_finds (whole_text input) audited (bad_text (Bad line code)) tt holds bad)
 long_audited input (Err (Differs line)) long told = (long, found_besides input (differs line) tt (λ number code is. absurd cc) told)
 long_audited input (Err (BadRow row reason)) long told = (long, found_besides input (bad_row row reason.items) tt (λ number code is. absurd cc) told)
@@ -103,14 +114,17 @@ first_bytes input rest few whole = at (cases_lt (length input) 67108865)
     at (inl less) = ap (λ (r : List ℕ). take 67108865 (input ++ r)) (whole less) ∙ ap (take 67108865) (append-nil input) ∙ take_all 67108865 input few
     at (inr more) = take-append-le 67108865 input rest more ∙ take_all 67108865 input few
 
-pub input_audited : (input : List ℕ) (before now : Option (List ℕ)) (answer : Result Audited Finding) → before ≡ prepend_known input now → length input ≤ 67108865 → (length input < 67108865 → IsAtEnd now) → IsAudit input answer
+pub input_audited : (input : List ℕ) (before now : Option (List ℕ)) (answer : Result Audited Finding) → before ≡ prepend_known input now
+    → length input ≤ 67108865 → (length input < 67108865 → IsAtEnd now) → IsAudit input answer
     → IfSome before (λ whole. IsAudit (take 67108865 whole) answer)
-input_audited input before None answer given few ends audit = subst (λ (b : Option (List ℕ)). IfSome b (λ whole. IsAudit (take 67108865 whole) answer)) (sym given) tt
+input_audited input before None answer given few ends audit =
+    subst (λ (b : Option (List ℕ)). IfSome b (λ whole. IsAudit (take 67108865 whole) answer)) (sym given) tt
 input_audited input before (Some rest) answer given few ends audit =
     subst (λ (b : Option (List ℕ)). IfSome b (λ whole. IsAudit (take 67108865 whole) answer)) (sym given)
     (subst (λ (bytes : List ℕ). IsAudit bytes answer) (sym (first_bytes input rest few ends)) audit)
 
-pub ends_if_judged : (input : List ℕ) (left : Option (List ℕ)) (answer : Result Audited Finding) → (length input < 67108865 → IsAtEnd left) → IsAudit input answer → EndsIfJudged answer left
+pub ends_if_judged : (input : List ℕ) (left : Option (List ℕ)) (answer : Result Audited Finding) → (length input < 67108865 → IsAtEnd left)
+    → IsAudit input answer → EndsIfJudged answer left
 ends_if_judged input left (Ok audited) ends audit = ends (omega (arith, audit.0))
 ends_if_judged input left (Err (Differs line)) ends audit = ends (omega (arith, audit.0))
 ends_if_judged input left (Err (BadRow row reason)) ends audit = ends (omega (arith, audit.0))
@@ -120,7 +134,8 @@ pub not_judged : (finding : Finding) (fault : TextFault) (left : Option (List �
 not_judged finding fault left is = subst (λ (f : Finding). EndsIfJudged (Err f) left) (sym is) tt
 
 -- where nothing was read
-pub none_audited : (finding : Finding) (fault : TextFault) (before : Option (List ℕ)) → finding ≡ Text fault → (fault ≡ Read) ⊎ (fault ≡ NoMemory) → IfSome before (λ whole. IsAudit (take 67108865 whole) (Err finding))
+pub none_audited : (finding : Finding) (fault : TextFault) (before : Option (List ℕ)) → finding ≡ Text fault → (fault ≡ Read) ⊎ (fault ≡ NoMemory)
+    → IfSome before (λ whole. IsAudit (take 67108865 whole) (Err finding))
 none_audited finding fault None is kind = tt
 none_audited finding fault (Some whole) is (inl read) = subst (λ (f : Finding). IsAudit (take 67108865 whole) (Err f)) (sym (is ∙ ap Text read)) tt
 none_audited finding fault (Some whole) is (inr none) = subst (λ (f : Finding). IsAudit (take 67108865 whole) (Err f)) (sym (is ∙ ap Text none)) tt

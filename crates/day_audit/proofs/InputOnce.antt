@@ -1,5 +1,6 @@
 -- An input has one answer.
-use Rattle.std.proofs.Common.{◌≡◌, ℕ, suc, ◌+◌, ◌-◌, ◌<◌, ◌≤◌, ◌⊎◌, inl, inr, List, [], ◌∷◌, ◌++◌, length, Option, Result, Ok, Err, refl, sym, ap, ◌∙◌, subst, arith, append-nil}
+use Rattle.std.proofs.Common.{◌≡◌, ℕ, suc, ◌+◌, ◌-◌, ◌<◌, ◌≤◌, ◌⊎◌, inl, inr, List, [], ◌∷◌, ◌++◌, length, Option, Result, Ok, Err, refl, sym, ap, ◌∙◌, subst}
+use Rattle.std.proofs.Common.{arith, append-nil}
 use Rattle.std.specs.Prelude.{All}
 use Rattle.elevator_model.specs.Building.{Building}
 use Rattle.elevator_model.specs.Snapshot.{Snapshot}
@@ -32,7 +33,8 @@ none_later : (piece : List ℕ) (pieces : List (List ℕ)) → All BeginsNone (p
 none_later piece pieces none k d below = none (suc k) d (omega (arith, below))
 
 -- the first line that begins a log is one, and so are the lines before and behind it
-first_log : (front lines : List (List ℕ)) (first begun : List ℕ) (rest others : List (List ℕ)) → All BeginsNone front → All BeginsNone lines → BeginsLog first → BeginsLog begun → front ++ first ∷ rest ≡ lines ++ begun ∷ others → (front ≡ lines) × (rest ≡ others)
+first_log : (front lines : List (List ℕ)) (first begun : List ℕ) (rest others : List (List ℕ)) → All BeginsNone front → All BeginsNone lines → BeginsLog first
+    → BeginsLog begun → front ++ first ∷ rest ≡ lines ++ begun ∷ others → (front ≡ lines) × (rest ≡ others)
 first_log [] [] first begun rest others none also begins then_begins same = let later : rest ≡ others = cc in (refl, later)
 first_log [] (piece ∷ lines) first begun rest others none also begins then_begins same =
     let here : first ≡ piece = cc in absurd (also 0 piece (omega arith) (subst BeginsLog here begins))
@@ -44,7 +46,8 @@ first_log (piece ∷ front) (next ∷ lines) first begun rest others none also b
     let later = first_log front lines first begun rest others (none_later piece front none) (none_later next lines also) begins then_begins behind in
     (ap (λ (p : List ℕ). p ∷ front) here ∙ ap (λ (ps : List (List ℕ)). next ∷ ps) later.0, later.1)
 
-no_log_among : (pieces front : List (List ℕ)) (first : List ℕ) (rest : List (List ℕ)) → All BeginsNone pieces → BeginsLog first → pieces ≡ front ++ first ∷ rest → ⊥
+no_log_among : (pieces front : List (List ℕ)) (first : List ℕ) (rest : List (List ℕ)) → All BeginsNone pieces → BeginsLog first
+    → pieces ≡ front ++ first ∷ rest → ⊥
 no_log_among [] [] first rest none begins same = absurd cc
 no_log_among [] (next ∷ front) first rest none begins same = absurd cc
 no_log_among (piece ∷ pieces) [] first rest none begins same =
@@ -53,7 +56,8 @@ no_log_among (piece ∷ pieces) (next ∷ front) first rest none begins same =
     let later : pieces ≡ front ++ first ∷ rest = cc in no_log_among pieces front first rest (none_later piece pieces none) begins later
 
 -- the line past the most bytes is none of those before a log, nor its first
-past_or_log : (front lines : List (List ℕ)) (piece first : List ℕ) (more rest : List (List ℕ)) (limit : ℕ) → All BeginsNone front → BeginsLog first → limit < size_of front + length piece → size_of lines + length first ≤ limit → front ++ piece ∷ more ≡ lines ++ first ∷ rest → ⊥
+past_or_log : (front lines : List (List ℕ)) (piece first : List ℕ) (more rest : List (List ℕ)) (limit : ℕ) → All BeginsNone front → BeginsLog first
+    → limit < size_of front + length piece → size_of lines + length first ≤ limit → front ++ piece ∷ more ≡ lines ++ first ∷ rest → ⊥
 past_or_log [] [] piece first more rest limit none begins past within same =
     let here : piece ≡ first = cc in
     let size = ap length here in omega (arith, past, within, size)
@@ -66,7 +70,8 @@ past_or_log (next ∷ front) (line ∷ lines) piece first more rest limit none b
     let here : next ≡ line = cc in
     let behind : front ++ piece ∷ more ≡ lines ++ first ∷ rest = cc in
     let size = ap length here in
-    past_or_log front lines piece first more rest (limit - length line) (none_later next front none) begins (omega (arith, past, size)) (omega (arith, within)) behind
+    past_or_log front lines piece first more rest (limit - length line) (none_later next front none) begins (omega (arith, past, size))
+    (omega (arith, within)) behind
 
 same_state : (one other : TextState) → one.line ≡ other.line → one.limit ≡ other.limit → one.bytes ≡ other.bytes → one ≡ other
 same_state one other line limit bytes =
@@ -76,10 +81,12 @@ same_state one other line limit bytes =
 
 module _ (b : Building) (from : TextState) where
   -- the lines of a text whose log begins behind these rows
-  log_lines : (rows : List (Option Row)) (log : TextState) (is : RowsBeforeLog b from rows log) → pieces_of from.bytes ≡ is.front.front ++ is.first ∷ pieces_of log.bytes
+  log_lines : (rows : List (Option Row)) (log : TextState) (is : RowsBeforeLog b from rows log)
+      → pieces_of from.bytes ≡ is.front.front ++ is.first ∷ pieces_of log.bytes
   log_lines rows log is = is.front.reads.pieces ∙ ap (λ (r : List (List ℕ)). is.front.front ++ r) is.reads.pieces
 
-  log_place : (rows others : List (Option Row)) (log there : TextState) (is : RowsBeforeLog b from rows log) (also : RowsBeforeLog b from others there) → is.front.front ≡ also.front.front → pieces_of log.bytes ≡ pieces_of there.bytes → log ≡ there
+  log_place : (rows others : List (Option Row)) (log there : TextState) (is : RowsBeforeLog b from rows log) (also : RowsBeforeLog b from others there)
+      → is.front.front ≡ also.front.front → pieces_of log.bytes ≡ pieces_of there.bytes → log ≡ there
   log_place rows others log there is also fronts pieces =
       let bytes = same_bytes log.bytes there.bytes pieces in
       let size = ap length bytes in
@@ -87,11 +94,15 @@ module _ (b : Building) (from : TextState) where
       same_state log there (omega (arith, count, is.front.reads.line_is, is.reads.line_is, also.front.reads.line_is, also.reads.line_is))
       (omega (arith, size, is.front.reads.limit_is, is.reads.limit_is, also.front.reads.limit_is, also.reads.limit_is)) bytes
 
-  log_begins_once : (rows others : List (Option Row)) (log there : TextState) → RowsBeforeLog b from rows log → RowsBeforeLog b from others there → (rows ≡ others) × (log ≡ there)
+  log_begins_once : (rows others : List (Option Row)) (log there : TextState) → RowsBeforeLog b from rows log → RowsBeforeLog b from others there
+      → (rows ≡ others) × (log ≡ there)
   log_begins_once rows others log there is also =
       let lines = sym (log_lines rows log is) ∙ log_lines others there also in
-      let same = first_log is.front.front also.front.front is.first also.first (pieces_of log.bytes) (pieces_of there.bytes) is.front.none_begins also.front.none_begins is.begins also.begins lines in
-      (is.front.rows_are ∙ ap (λ (front : List (List ℕ)). rows_within b (rows_of front)) same.0 ∙ sym also.front.rows_are, log_place rows others log there is also same.0 same.1)
+      let same = first_log is.front.front also.front.front is.first also.first (pieces_of log.bytes)
+      (pieces_of there.bytes) is.front.none_begins also.front.none_begins is.begins also.begins lines in (
+        is.front.rows_are ∙ ap (λ (front : List (List ℕ)). rows_within b (rows_of front)) same.0 ∙ sym also.front.rows_are,
+        log_place rows others log there is also same.0 same.1,
+      )
 
   -- the lines of a text without a log
   all_lines : (line : ℕ) (without : IsWithoutLog from line) → pieces_of from.bytes ≡ without.front
@@ -99,7 +110,8 @@ module _ (b : Building) (from : TextState) where
 
   log_or_none : (rows : List (Option Row)) (log : TextState) (line : ℕ) → RowsBeforeLog b from rows log → IsWithoutLog from line → ⊥
   log_or_none rows log line is without =
-      no_log_among without.front is.front.front is.first (pieces_of log.bytes) without.none_begins is.begins (sym (all_lines line without) ∙ log_lines rows log is)
+      no_log_among without.front is.front.front is.first (pieces_of log.bytes) without.none_begins is.begins
+      (sym (all_lines line without) ∙ log_lines rows log is)
 
   without_once : (line other : ℕ) → IsWithoutLog from line → IsWithoutLog from other → line ≡ other
   without_once line other without also =
@@ -119,7 +131,8 @@ module _ (b : Building) (from : TextState) where
       (omega (arith, past.past.past, bytes_read past.front past.here past.reads))
       (within is.here log is.first is.front.front is.front.reads is.reads) lines
     where
-      within : (here to : TextState) (first : List ℕ) (front : List (List ℕ)) → ReadsLines from front here → ReadsLines here (first ∷ []) to → size_of front + length first ≤ from.limit
+      within : (here to : TextState) (first : List ℕ) (front : List (List ℕ)) → ReadsLines from front here → ReadsLines here (first ∷ []) to
+          → size_of front + length first ≤ from.limit
       within here to first front reads next =
           let sizes = ap size_of next.pieces in
           omega (arith, bytes_read front here reads, sizes, size_of-pieces here.bytes, size_of-pieces to.bytes, next.limit_is)
@@ -131,37 +144,49 @@ module _ (b : Building) (from : TextState) where
 
 -- ---- behind the opening
 
-behind_once : (opening : Snapshot) (from : TextState) (audited other : Audited) → HoldsBehind opening from audited → HoldsBehind opening from other → told_by (Ok audited) ≡ told_by (Ok other)
+behind_once : (opening : Snapshot) (from : TextState) (audited other : Audited) → HoldsBehind opening from audited → HoldsBehind opening from other
+    → told_by (Ok audited) ≡ told_by (Ok other)
 behind_once opening from audited other first second =
     let same = log_begins_once opening.building from second.rows first.rows second.log first.log second.front first.front in
-    let moved = subst (λ (rows : List (Option Row)). LogHolds (opening_day opening) rows (reading first.log) second.end) same.0 (subst (λ (log : TextState). LogHolds (opening_day opening) second.rows (reading log) second.end) same.1 second.holds) in
+    let moved = subst (λ (rows : List (Option Row)). LogHolds (opening_day opening) rows (reading first.log) second.end) same.0
+    (subst (λ (log : TextState). LogHolds (opening_day opening) second.rows (reading log) second.end) same.1 second.holds) in
     let ends = log_once (opening_day opening) first.rows (reading first.log) first.end second.end first.holds moved in
     let accepted = first.accepted ∙ ap (λ (day : Day). length day.calls) ends ∙ sym second.accepted in
     let unsolved = first.unsolved ∙ ap (λ (day : Day). day.unsolved) ends ∙ sym second.unsolved in
     ap (λ (n : ℕ). all_right n audited.unsolved) accepted ∙ ap (all_right other.accepted) unsolved
 
-behind_or_finds : (opening : Snapshot) (from : TextState) (audited : Audited) (found : Found) → IsFoundInText found → HoldsBehind opening from audited → FindsBehind opening from found → ⊥
+behind_or_finds : (opening : Snapshot) (from : TextState) (audited : Audited) (found : Found) → IsFoundInText found → HoldsBehind opening from audited
+    → FindsBehind opening from found → ⊥
 behind_or_finds opening from audited found told is (rows_past past found_is) = log_or_past opening.building from is.rows is.log is.front past
 behind_or_finds opening from audited found told is (no_log line without found_is) = log_or_none opening.building from is.rows is.log line is.front without
 behind_or_finds opening from audited found told is (in_log rows log front finds) =
     let same = log_begins_once opening.building from rows is.rows log is.log front is.front in
     log_or_finds (opening_day opening) is.rows (reading is.log) is.end found told is.holds
-    (subst (λ (r : List (Option Row)). LogFinds (opening_day opening) r (reading is.log) found) same.0 (subst (λ (t : TextState). LogFinds (opening_day opening) rows (reading t) found) same.1 finds))
+    (subst (λ (r : List (Option Row)). LogFinds (opening_day opening) r (reading is.log) found) same.0
+    (subst (λ (t : TextState). LogFinds (opening_day opening) rows (reading t) found) same.1 finds))
 
-behind_finds_once : (opening : Snapshot) (from : TextState) (found other : Found) → IsFoundInText found → IsFoundInText other → FindsBehind opening from found → FindsBehind opening from other → found ≡ other
+behind_finds_once : (opening : Snapshot) (from : TextState) (found other : Found) → IsFoundInText found → IsFoundInText other → FindsBehind opening from found
+    → FindsBehind opening from other → found ≡ other
 behind_finds_once opening from found other told also (rows_past past found_is) (rows_past past' other_is) = found_is ∙ sym other_is
-behind_finds_once opening from found other told also (rows_past past found_is) (no_log line without other_is) = absurd (without_or_past opening.building from line without past)
-behind_finds_once opening from found other told also (rows_past past found_is) (in_log rows log front finds) = absurd (log_or_past opening.building from rows log front past)
-behind_finds_once opening from found other told also (no_log line without found_is) (rows_past past other_is) = absurd (without_or_past opening.building from line without past)
-behind_finds_once opening from found other told also (in_log rows log front finds) (rows_past past other_is) = absurd (log_or_past opening.building from rows log front past)
+behind_finds_once opening from found other told also (rows_past past found_is) (no_log line without other_is) =
+    absurd (without_or_past opening.building from line without past)
+behind_finds_once opening from found other told also (rows_past past found_is) (in_log rows log front finds) =
+    absurd (log_or_past opening.building from rows log front past)
+behind_finds_once opening from found other told also (no_log line without found_is) (rows_past past other_is) =
+    absurd (without_or_past opening.building from line without past)
+behind_finds_once opening from found other told also (in_log rows log front finds) (rows_past past other_is) =
+    absurd (log_or_past opening.building from rows log front past)
 behind_finds_once opening from found other told also (no_log line without found_is) (no_log number without' other_is) =
     found_is ∙ ap differs (without_once opening.building from line number without without') ∙ sym other_is
-behind_finds_once opening from found other told also (no_log line without found_is) (in_log rows log front finds) = absurd (log_or_none opening.building from rows log line front without)
-behind_finds_once opening from found other told also (in_log rows log front finds) (no_log line without other_is) = absurd (log_or_none opening.building from rows log line front without)
+behind_finds_once opening from found other told also (no_log line without found_is) (in_log rows log front finds) =
+    absurd (log_or_none opening.building from rows log line front without)
+behind_finds_once opening from found other told also (in_log rows log front finds) (no_log line without other_is) =
+    absurd (log_or_none opening.building from rows log line front without)
 behind_finds_once opening from found other told also (in_log rows log front finds) (in_log others there also_front more) =
     let same = log_begins_once opening.building from others rows there log also_front front in
     log_finds_once (opening_day opening) rows (reading log) found other told also finds
-    (subst (λ (r : List (Option Row)). LogFinds (opening_day opening) r (reading log) other) same.0 (subst (λ (t : TextState). LogFinds (opening_day opening) others (reading t) other) same.1 more))
+    (subst (λ (r : List (Option Row)). LogFinds (opening_day opening) r (reading log) other) same.0
+    (subst (λ (t : TextState). LogFinds (opening_day opening) others (reading t) other) same.1 more))
 
 -- ---- a text
 
@@ -172,13 +197,15 @@ text_once text audited other first second =
     (subst (λ (s : Snapshot). HoldsBehind s first.from other) same.0 (subst (λ (t : TextState). HoldsBehind second.opening t other) same.1 second.holds))
 
 pub text_or_finds : (text : TextState) (audited : Audited) (found : Found) → IsFoundInText found → HoldsIn text audited → FindsIn text found → ⊥
-text_or_finds text audited found told is (bad_opening fault bad found_is) = opens_or_fault text is.opening is.from fault (subst IsFoundInText found_is told) is.opens bad
+text_or_finds text audited found told is (bad_opening fault bad found_is) =
+    opens_or_fault text is.opening is.from fault (subst IsFoundInText found_is told) is.opens bad
 text_or_finds text audited found told is (behind opening from opens finds) =
     let same = opens_once text opening is.opening from is.from opens is.opens in
     behind_or_finds is.opening is.from audited found told is.holds
     (subst (λ (s : Snapshot). FindsBehind s is.from found) same.0 (subst (λ (t : TextState). FindsBehind opening t found) same.1 finds))
 
-pub text_finds_once : (text : TextState) (found other : Found) → IsFoundInText found → IsFoundInText other → FindsIn text found → FindsIn text other → found ≡ other
+pub text_finds_once : (text : TextState) (found other : Found) → IsFoundInText found → IsFoundInText other → FindsIn text found → FindsIn text other
+    → found ≡ other
 text_finds_once text found other told also (bad_opening fault bad found_is) (bad_opening worse worst other_is) =
     found_is ∙ ap bad_text (one_opening_fault text fault worse (subst IsFoundInText found_is told) (subst IsFoundInText other_is also) bad worst) ∙ sym other_is
 text_finds_once text found other told also (bad_opening fault bad found_is) (behind opening from opens more) =
@@ -214,7 +241,8 @@ record IsToldOfLength (input : List ℕ) (told : Told) : Type 0 where
   long : 67108864 < length input
   none_bad : HasNoBadLine input
 
-told_of : (input : List ℕ) (answer : Result Audited Finding) → IsToldOfInput answer → IsAudit input answer → IsToldOfText input (told_by answer) ⊎ IsToldOfLength input (told_by answer)
+told_of : (input : List ℕ) (answer : Result Audited Finding) → IsToldOfInput answer → IsAudit input answer → IsToldOfText input (told_by answer)
+    ⊎ IsToldOfLength input (told_by answer)
 told_of input (Ok audited) told audit = inl (record { of_text = (audited, audit.1, refl); short_or_bad = inl audit.0 })
 told_of input (Err (Differs line)) told audit = inl (record { of_text = (tt, audit.1); short_or_bad = inl audit.0 })
 told_of input (Err (BadRow row reason)) told audit = inl (record { of_text = (tt, audit.1); short_or_bad = inl audit.0 })
@@ -234,7 +262,8 @@ text_or_length input one other text length_told = at text.short_or_bad
 pub one_answer : OneAnswerLaw
 one_answer input first second told also audit audit' = both (told_of input first told audit) (told_of input second also audit')
   where
-    both : (IsToldOfText input (told_by first) ⊎ IsToldOfLength input (told_by first)) → (IsToldOfText input (told_by second) ⊎ IsToldOfLength input (told_by second)) → told_by first ≡ told_by second
+    both : (IsToldOfText input (told_by first) ⊎ IsToldOfLength input (told_by first))
+        → (IsToldOfText input (told_by second) ⊎ IsToldOfLength input (told_by second)) → told_by first ≡ told_by second
     both (inl one) (inl other) = told_once (whole_text input) (told_by first) (told_by second) one.of_text other.of_text
     both (inl one) (inr other) = absurd (text_or_length input (told_by first) (told_by second) one other)
     both (inr one) (inl other) = absurd (text_or_length input (told_by second) (told_by first) other one)

@@ -1,5 +1,6 @@
 -- A text of no more bytes than may be read is not found to be too long.
-use Rattle.std.proofs.Common.{◌≡◌, ℕ, ◌+◌, ◌-◌, ◌<◌, inl, inr, Bool, true, false, cond, ltb, List, [], ◌∷◌, length, Option, None, Some, refl, sym, ap, ◌∙◌, subst, arith}
+use Rattle.std.proofs.Common.{◌≡◌, ℕ, ◌+◌, ◌-◌, ◌<◌, inl, inr, Bool, true, false, cond, ltb, List, [], ◌∷◌, length, Option, None, Some, refl, sym, ap, ◌∙◌}
+use Rattle.std.proofs.Common.{subst, arith}
 use Rattle.std.proofs.lemmas.Bool.{ltb-true}
 use Rattle.elevator_model.specs.Snapshot.{Snapshot}
 use Rattle.search_model.specs.declared.Event.{Event}
@@ -27,7 +28,9 @@ use Rattle.check_text.specs.Pairs.{IsPairFault}
 use Rattle.day_text.specs.LogTexts.{refused_words}
 use Rattle.day_laws.specs.Standing.{row_number}
 use Rattle.log_rows.proofs.RowLemmas.{reads_past, rows_are_past}
-use Rattle.day_audit.specs.Audits.{AcceptedFinds, AcceptedInFront, EndFinds, FindsBehind as FindsMore, Found, Lacks, LogFinds, ProofFinds, RowFinds, RowInFront, RowsFind, RowsInFront, accepted_lines, bad_section, bad_row, bad_text, day_after, differs, end_lines_of, next_fault, no_proof}
+use Rattle.day_audit.specs.Audits.{AcceptedFinds, AcceptedInFront, EndFinds, FindsBehind as FindsMore, Found, Lacks, LogFinds, ProofFinds, RowFinds, RowInFront}
+use Rattle.day_audit.specs.Audits.{RowsFind, RowsInFront, accepted_lines, bad_section, bad_row, bad_text, day_after, differs, end_lines_of, next_fault}
+use Rattle.day_audit.specs.Audits.{no_proof}
 use Rattle.day_audit.specs.Inputs.{FindsBehind, FindsIn, bad_opening, behind, in_log, no_log, rows_past}
 
 -- ---- what is read goes past the most bytes
@@ -41,7 +44,9 @@ GoesPast past_limit = Unit {0}
 judged_past : (line : ℕ) (text : List ℕ) (after : Reading) → GoesPast (judged line text after) → GoesPast after
 judged_past line text after past = at (ltb line_limit (length text)) (is_clean text) (ltb 0 (length (words_of text))) past
   where
-    at : (long clean some : Bool) → GoesPast (cond long (bad_line line OverLong) (cond clean (cond some (line_with line (words_of text) after) after) (bad_line line ForbiddenByte))) → GoesPast after
+    at : (long clean some : Bool)
+        → GoesPast (cond long (bad_line line OverLong) (cond clean (cond some (line_with line (words_of text) after) after) (bad_line line ForbiddenByte)))
+        → GoesPast after
     at true clean some past = absurd past
     at false false some past = absurd past
     at false true true past = past
@@ -51,10 +56,13 @@ lines_past : (pieces : List (List ℕ)) (line limit : ℕ) → GoesPast (reading
 lines_past [] line limit past = absurd past
 lines_past (piece ∷ pieces) line limit past = at (lines_past pieces (line + 1) (limit - length piece)) (ltb limit (length piece)) refl past
   where
-    at : (GoesPast (reading_of (line + 1) (limit - length piece) pieces) → limit - length piece < size_of pieces) → (long : Bool) → ltb limit (length piece) ≡ long
-        → GoesPast (cond long (cut_short (line + 1) limit) (judged (line + 1) (line_of piece) (reading_of (line + 1) (limit - length piece) pieces))) → limit < size_of (piece ∷ pieces)
+    at : (GoesPast (reading_of (line + 1) (limit - length piece) pieces) → limit - length piece < size_of pieces) → (long : Bool)
+        → ltb limit (length piece) ≡ long
+        → GoesPast (cond long (cut_short (line + 1) limit) (judged (line + 1) (line_of piece) (reading_of (line + 1) (limit - length piece) pieces)))
+        → limit < size_of (piece ∷ pieces)
     at later true is past = let long = ltb-true limit (length piece) is in omega (arith, long)
-    at later false is past = let more = later (judged_past (line + 1) (line_of piece) (reading_of (line + 1) (limit - length piece) pieces) past) in omega (arith, more)
+    at later false is past = let more = later (judged_past (line + 1) (line_of piece) (reading_of (line + 1) (limit - length piece) pieces) past) in
+        omega (arith, more)
 
 text_past : (text : TextState) → GoesPast (reading text) → text.limit < length text.bytes
 text_past text past = let more = lines_past (pieces_of text.bytes) text.line text.limit past in omega (arith, more, size_of-pieces text.bytes)
@@ -64,7 +72,8 @@ text_past text past = let more = lines_past (pieces_of text.bytes) text.line tex
 outcome_past : {A : Type 0} (after : A → Line → Step A) (read : Reading) (state : A) → outcome after read state ≡ too_long → GoesPast read
 outcome_past {A} after (line_with line words rest) state is = at (outcome_past after rest) (after state words) is
   where
-    at : ((state : A) → outcome after rest state ≡ too_long → GoesPast rest) → (step : Step A) → continued step line rest (outcome after rest) ≡ too_long → GoesPast rest
+    at : ((state : A) → outcome after rest state ≡ too_long → GoesPast rest) → (step : Step A) → continued step line rest (outcome after rest) ≡ too_long
+        → GoesPast rest
     at later (goes_on next) is = later next is
     at later (is_whole end) is = absurd cc
     at later (is_bad code) is = absurd cc
@@ -103,32 +112,40 @@ proof_past : (s : Snapshot) (number : ℕ) (read : Reading) (found : Found) → 
 proof_past s number read found (bad_section fault bad told) is = pair_past s read (subst (IsPairFault s read) (same_fault found fault TooLong told is) bad)
 proof_past s number read found (no_proof printed tree rest reason pair verdict told) is = absurd (no_row found number _ TooLong told is)
 
-accepted_past : (number : ℕ) (events : List Event) (s : Snapshot) (read : Reading) (found : Found) → AcceptedFinds number events s read found → found ≡ bad_text TooLong → GoesPast read
+accepted_past : (number : ℕ) (events : List Event) (s : Snapshot) (read : Reading) (found : Found) → AcceptedFinds number events s read found
+    → found ≡ bad_text TooLong → GoesPast read
 accepted_past number events s read found (inl lacks) is = lacks_past (accepted_lines number events) read found lacks is
-accepted_past number events s read found (inr proof) is = begins_past (accepted_lines number events) read proof.0 proof.1 (proof_past s number proof.0 found proof.2 is)
+accepted_past number events s read found (inr proof) is =
+    begins_past (accepted_lines number events) read proof.0 proof.1 (proof_past s number proof.0 found proof.2 is)
 
-row_past : (fault : Option RowFault) (day : Day) (said : Option Row) (read : Reading) (found : Found) → RowFinds fault day said read found → found ≡ bad_text TooLong → GoesPast read
+row_past : (fault : Option RowFault) (day : Day) (said : Option Row) (read : Reading) (found : Found) → RowFinds fault day said read found
+    → found ≡ bad_text TooLong → GoesPast read
 row_past (Some fault) day said read found finds is = lacks_past (refused_words (row_number day) fault ∷ []) read found finds is
 row_past None day None read found finds is = absurd finds
 row_past None day (Some row) read found finds is = accepted_past (row_number day) _ _ read found finds is
 
-front_past : (number : ℕ) (events : List Event) (s : Snapshot) (printed : Stated) (read rest : Reading) → AcceptedInFront read number events s printed rest → GoesPast rest → GoesPast read
+front_past : (number : ℕ) (events : List Event) (s : Snapshot) (printed : Stated) (read rest : Reading) → AcceptedInFront read number events s printed rest
+    → GoesPast rest → GoesPast read
 front_past number events s printed read rest front past =
     let proof = front.2 in
     let pair = proof.pair in
-    begins_past (accepted_lines number events) read front.0 front.1 (begins_past pair.1.0 front.0 pair.0 pair.1.1 (begins_past pair.2.0 pair.0 rest pair.2.1 past))
+    begins_past (accepted_lines number events) read front.0 front.1
+    (begins_past pair.1.0 front.0 pair.0 pair.1.1 (begins_past pair.2.0 pair.0 rest pair.2.1 past))
 
-row_front_past : (fault : Option RowFault) (day : Day) (said : Option Row) (printed : Stated) (read rest : Reading) → RowInFront fault day said printed read rest → GoesPast rest → GoesPast read
+row_front_past : (fault : Option RowFault) (day : Day) (said : Option Row) (printed : Stated) (read rest : Reading)
+    → RowInFront fault day said printed read rest → GoesPast rest → GoesPast read
 row_front_past (Some fault) day said printed read rest front past = begins_past (refused_words (row_number day) fault ∷ []) read rest front past
 row_front_past None day None printed read rest front past = absurd front
 row_front_past None day (Some row) printed read rest front past = front_past (row_number day) _ _ printed read rest front past
 
-rows_front_past : (day : Day) (rows : List (Option Row)) (read : Reading) (end : Day) (rest : Reading) → RowsInFront day rows read end rest → GoesPast rest → GoesPast read
+rows_front_past : (day : Day) (rows : List (Option Row)) (read : Reading) (end : Day) (rest : Reading) → RowsInFront day rows read end rest → GoesPast rest
+    → GoesPast read
 rows_front_past day [] read end rest front past = subst GoesPast (sym front.1) past
 rows_front_past day (said ∷ rows) read end rest front past =
     row_front_past (next_fault day said) day said front.0 read front.1 front.2 (rows_front_past (day_after day said front.0) rows front.1 end rest front.3 past)
 
-rows_find_past : (day : Day) (rows : List (Option Row)) (read : Reading) (found : Found) → RowsFind day rows read found → found ≡ bad_text TooLong → GoesPast read
+rows_find_past : (day : Day) (rows : List (Option Row)) (read : Reading) (found : Found) → RowsFind day rows read found → found ≡ bad_text TooLong
+    → GoesPast read
 rows_find_past day [] read found finds is = absurd finds
 rows_find_past day (said ∷ rows) read found (inl here) is = row_past (next_fault day said) day said read found here is
 rows_find_past day (said ∷ rows) read found (inr later) is =
@@ -150,7 +167,8 @@ log_past day rows read found (inr end) is = rows_front_past day rows read end.0 
 
 -- ---- behind the opening
 
-behind_past : (opening : Snapshot) (from : TextState) (found : Found) → FindsBehind opening from found → found ≡ bad_text TooLong → from.limit < length from.bytes
+behind_past : (opening : Snapshot) (from : TextState) (found : Found) → FindsBehind opening from found → found ≡ bad_text TooLong
+    → from.limit < length from.bytes
 behind_past opening from found (rows_past past told) is = rows_are_past from past
 behind_past opening from found (no_log line without told) is = absurd (no_line found line TooLong told is)
 behind_past opening from found (in_log rows log front finds) is =
@@ -167,7 +185,8 @@ between_limit from to (words ∷ lines) steps =
     let later = between_limit steps.0 to lines steps.2 in
     omega (arith, first, later)
 
-header_limit : (header : Header) (line limit : ℕ) (pieces : List (List ℕ)) (rows : TextState) → HeaderFirst header line limit pieces rows → rows.limit + size_of pieces ≡ limit + length rows.bytes
+header_limit : (header : Header) (line limit : ℕ) (pieces : List (List ℕ)) (rows : TextState) → HeaderFirst header line limit pieces rows
+    → rows.limit + size_of pieces ≡ limit + length rows.bytes
 header_limit header line limit [] rows first = absurd first
 header_limit header line limit (piece ∷ pieces) rows (within, inl later) =
     let rest = header_limit header (line + 1) (limit - length piece) pieces rows later.1 in
@@ -176,7 +195,8 @@ header_limit header line limit (piece ∷ pieces) rows (within, inr here) =
     let sizes = ap size_of here.1.pieces_are in
     omega (arith, within, here.1.limit_is, sizes, size_of-pieces rows.bytes)
 
-header_past : (header : Header) (line limit : ℕ) (pieces : List (List ℕ)) (fault : TextFault) → NoHeaderFirst header line limit pieces fault → fault ≡ TooLong → limit < size_of pieces
+header_past : (header : Header) (line limit : ℕ) (pieces : List (List ℕ)) (fault : TextFault) → NoHeaderFirst header line limit pieces fault → fault ≡ TooLong
+    → limit < size_of pieces
 header_past header line limit [] fault none is = absurd cc
 header_past header line limit (piece ∷ pieces) fault (inl past) is = omega (arith, past.0)
 header_past header line limit (piece ∷ pieces) fault (inr (within, inl later)) is =
@@ -193,12 +213,25 @@ opening_past text (inr (inl opening)) =
 opening_past text (inr (inr header)) =
     let between = header.between in
     let past = header_past Rows between.line between.limit (pieces_of between.bytes) TooLong header.fault_is refl in
-    omega (arith, past, size_of-pieces between.bytes, between_limit header.above between header.right.0 header.right.1, between_limit text header.above header.building.0 header.building.1)
+    omega (
+      arith,
+      past,
+      size_of-pieces between.bytes,
+      between_limit header.above between header.right.0 header.right.1,
+      between_limit text header.above header.building.0 header.building.1,
+    )
 
-opening_limit : (text : TextState) (s : Snapshot) (rows : TextState) → DayOpeningInFront text s rows → rows.limit + length text.bytes ≡ text.limit + length rows.bytes
+opening_limit : (text : TextState) (s : Snapshot) (rows : TextState) → DayOpeningInFront text s rows
+    → rows.limit + length text.bytes ≡ text.limit + length rows.bytes
 opening_limit text s rows opens =
     let between = opens.between in
-    omega (arith, header_limit Rows between.line between.limit (pieces_of between.bytes) rows opens.header, size_of-pieces between.bytes, between_limit opens.above between opens.snapshot.0 opens.snapshot.1, between_limit text opens.above opens.building.0 opens.building.1)
+    omega (
+      arith,
+      header_limit Rows between.line between.limit (pieces_of between.bytes) rows opens.header,
+      size_of-pieces between.bytes,
+      between_limit opens.above between opens.snapshot.0 opens.snapshot.1,
+      between_limit text opens.above opens.building.0 opens.building.1,
+    )
 
 -- a text that is found to be too long has more bytes than may be read
 pub text_is_long : (text : TextState) → FindsIn text (bad_text TooLong) → text.limit < length text.bytes

@@ -7,12 +7,14 @@ use Rattle.day_audit.specs.declared.words.DueWord.{DueWord}
 use Rattle.day_audit.specs.Words.{due_text, due_words}
 
 -- one word more is right
-pub right_more : (words : Line) (due : List DueWord) (k : ℕ) (d : DueWord) → k < length words → length words ≡ length due → take k words ≡ due_words (take k due) → word_at words k ≡ due_text (get_or due k d) → take (k + 1) words ≡ due_words (take (k + 1) due)
+pub right_more : (words : Line) (due : List DueWord) (k : ℕ) (d : DueWord) → k < length words → length words ≡ length due
+    → take k words ≡ due_words (take k due) → word_at words k ≡ due_text (get_or due k d) → take (k + 1) words ≡ due_words (take (k + 1) due)
 right_more words due k d below size so_far here =
     take_more words k [] below ∙ (λ i. so_far i ++ here i ∷ []) ∙ sym (map_more due_text due k d (omega (arith, below, size)))
 
 -- a word is not the one that is due
-pub other_word : (words : Line) (due : List DueWord) (k : ℕ) (d : DueWord) → k < length due → (word_at words k ≡ due_text (get_or due k d) → ⊥) → words ≡ due_words due → ⊥
+pub other_word : (words : Line) (due : List DueWord) (k : ℕ) (d : DueWord) → k < length due → (word_at words k ≡ due_text (get_or due k d) → ⊥)
+    → words ≡ due_words due → ⊥
 other_word words due k d below other same =
     other (ap (λ (xs : Line). word_at xs k) same ∙ get_or-map due_text due k d [] below)
 

@@ -42,13 +42,24 @@ cut_off = inr (refl, refl)
 -- a line behind the end
 one_more : EndFinds (last_lines 3 2 3) (line_with 31 totals (line_with 32 ended (line_with 37 ended (finished 37)))) (differs 37)
 unfolding digits
-one_more = inr (line_with 37 ended (finished 37), (31, line_with 32 ended (line_with 37 ended (finished 37)), refl, (32, line_with 37 ended (finished 37), refl, refl)), refl)
+one_more = inr (
+  line_with 37 ended (finished 37),
+  (31, line_with 32 ended (line_with 37 ended (finished 37)), refl, (32, line_with 37 ended (finished 37), refl, refl)),
+  refl,
+)
 
 -- a day with one row that says nothing
-one_refused : LogHolds (opening_day opening) (None ∷ []) (line_with 12 (codes "row" ∷ codes "1" ∷ codes "refused" ∷ codes "41" ∷ []) (line_with 13 (codes "total" ∷ codes "0" ∷ codes "1" ∷ codes "0" ∷ []) (line_with 14 ended (finished 14)))) (day_after_refused (opening_day opening))
+one_refused : LogHolds (opening_day opening) (None ∷ [])
+    (line_with 12 (codes "row" ∷ codes "1" ∷ codes "refused" ∷ codes "41" ∷ [])
+    (line_with 13 (codes "total" ∷ codes "0" ∷ codes "1" ∷ codes "0" ∷ []) (line_with 14 ended (finished 14)))) (day_after_refused (opening_day opening))
 unfolding digits
 one_refused = (
   line_with 13 (codes "total" ∷ codes "0" ∷ codes "1" ∷ codes "0" ∷ []) (line_with 14 ended (finished 14)),
-  (record { plan = []; cost = 0; bound = 0 }, line_with 13 (codes "total" ∷ codes "0" ∷ codes "1" ∷ codes "0" ∷ []) (line_with 14 ended (finished 14)), (12, line_with 13 (codes "total" ∷ codes "0" ∷ codes "1" ∷ codes "0" ∷ []) (line_with 14 ended (finished 14)), refl, refl), (refl, refl)),
+  (
+    record { plan = []; cost = 0; bound = 0 },
+    line_with 13 (codes "total" ∷ codes "0" ∷ codes "1" ∷ codes "0" ∷ []) (line_with 14 ended (finished 14)),
+    (12, line_with 13 (codes "total" ∷ codes "0" ∷ codes "1" ∷ codes "0" ∷ []) (line_with 14 ended (finished 14)), refl, refl),
+    (refl, refl),
+  ),
   (14, (13, line_with 14 ended (finished 14), refl, (14, finished 14, refl, refl))),
 )

@@ -70,7 +70,8 @@ pub record ProofInFront (read : Reading) (s : Snapshot) (printed : Stated) (rest
 -- A bad line of the answer or of the certificate; or where both are whole, that they prove nothing.
 pub data ProofFinds (s : Snapshot) (number : ℕ) (read : Reading) (found : Found) : Type 0 where
   bad_section : (fault : TextFault) → IsPairFault s read fault → found ≡ bad_text fault → ProofFinds s number read found
-  no_proof : (printed : Stated) (tree : List Twig) (rest : Reading) (reason : Reason) → PairInFront read s printed tree rest → verdict_of s printed.plan printed.cost printed.bound tree ≡ No reason → found ≡ bad_row number (reason_text s reason) → ProofFinds s number read found
+  no_proof : (printed : Stated) (tree : List Twig) (rest : Reading) (reason : Reason) → PairInFront read s printed tree rest
+      → verdict_of s printed.plan printed.cost printed.bound tree ≡ No reason → found ≡ bad_row number (reason_text s reason) → ProofFinds s number read found
 
 -- ---- rows
 
@@ -80,11 +81,13 @@ accepted_lines number events = accepted_words number ∷ event_lines events
 
 -- the lines of an accepted row are in front, with what is printed of it, and this comes after them
 abbrev pub AcceptedInFront : Reading → ℕ → List Event → Snapshot → Stated → Reading → Type 0
-AcceptedInFront read number events s printed rest = (between : Reading) × BeginsWith (accepted_lines number events) read between × ProofInFront between s printed rest
+AcceptedInFront read number events s printed rest = (between : Reading) × BeginsWith (accepted_lines number events) read between
+    × ProofInFront between s printed rest
 
 abbrev pub AcceptedFinds : ℕ → List Event → Snapshot → Reading → Found → Type 0
 AcceptedFinds number events s read found =
-    Lacks (accepted_lines number events) read found ⊎ ((between : Reading) × BeginsWith (accepted_lines number events) read between × ProofFinds s number between found)
+    Lacks (accepted_lines number events) read found
+    ⊎ ((between : Reading) × BeginsWith (accepted_lines number events) read between × ProofFinds s number between found)
 
 -- the snapshot with the call of an accepted row
 abbrev pub snapshot_of_row : Day → Row → Snapshot
@@ -134,14 +137,16 @@ EndFinds due read found = Lacks due read found ⊎ ((rest : Reading) × BeginsWi
 abbrev pub RowsInFront : Day → List (Option Row) → Reading → (end : Day) → Reading → Type 0
 RowsInFront day [] read end rest = (end ≡ day) × (read ≡ rest)
 RowsInFront day (said ∷ rows) read end rest =
-    (printed : Stated) × (between : Reading) × RowInFront (next_fault day said) day said printed read between × RowsInFront (day_after day said printed) rows between end rest
+    (printed : Stated) × (between : Reading) × RowInFront (next_fault day said) day said printed read between
+    × RowsInFront (day_after day said printed) rows between end rest
 
 -- what is found first in the lines of these rows
 abbrev pub RowsFind : Day → List (Option Row) → Reading → Found → Type 0
 RowsFind day [] read found = ⊥
 RowsFind day (said ∷ rows) read found =
     RowFinds (next_fault day said) day said read found
-    ⊎ ((printed : Stated) × (between : Reading) × RowInFront (next_fault day said) day said printed read between × RowsFind (day_after day said printed) rows between found)
+    ⊎ ((printed : Stated) × (between : Reading) × RowInFront (next_fault day said) day said printed read between
+    × RowsFind (day_after day said printed) rows between found)
 
 -- ---- a whole log, behind its first line
 

@@ -34,7 +34,8 @@ pub record HoldsBehind (opening : Snapshot) (from : TextState) (audited : Audite
 pub data FindsBehind (opening : Snapshot) (from : TextState) (found : Found) : Type 0 where
   rows_past : AreRowsPast from → found ≡ bad_text TooLong → FindsBehind opening from found
   no_log : (line : ℕ) → IsWithoutLog from line → found ≡ differs line → FindsBehind opening from found
-  in_log : (rows : List (Option Row)) → (log : TextState) → RowsBeforeLog opening.building from rows log → LogFinds (opening_day opening) rows (reading log) found → FindsBehind opening from found
+  in_log : (rows : List (Option Row)) → (log : TextState) → RowsBeforeLog opening.building from rows log
+      → LogFinds (opening_day opening) rows (reading log) found → FindsBehind opening from found
 
 abbrev pub IsDayAudited : Snapshot → Option TextState → Result Audited Finding → Type 0
 IsDayAudited opening None answer = Unit {0}

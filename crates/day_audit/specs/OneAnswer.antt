@@ -38,8 +38,10 @@ IsToldOfInput (Err finding) = IsFoundInText (found_by finding)
 
 -- Two answers to an input tell the same, however long it is.
 abbrev pub OneAnswerLaw : Type 0
-OneAnswerLaw = (input : List ℕ) (first second : Result Audited Finding) → IsToldOfInput first → IsToldOfInput second → IsAudit input first → IsAudit input second → told_by first ≡ told_by second
+OneAnswerLaw = (input : List ℕ) (first second : Result Audited Finding) → IsToldOfInput first → IsToldOfInput second → IsAudit input first
+    → IsAudit input second → told_by first ≡ told_by second
 
 -- A bad line that is found first is told, however long the input is.
 abbrev pub BadLineLaw : Type 0
-BadLineLaw = (input : List ℕ) (line : ℕ) (code : TextCode) (answer : Result Audited Finding) → FindsIn (whole_text input) (bad_text (Bad line code)) → IsToldOfInput answer → IsAudit input answer → told_by answer ≡ first_found (bad_text (Bad line code))
+BadLineLaw = (input : List ℕ) (line : ℕ) (code : TextCode) (answer : Result Audited Finding) → FindsIn (whole_text input) (bad_text (Bad line code))
+    → IsToldOfInput answer → IsAudit input answer → told_by answer ≡ first_found (bad_text (Bad line code))

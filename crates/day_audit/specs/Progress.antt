@@ -31,17 +31,25 @@ after_refused p = record { world = p.world; accepted = p.accepted; refused = p.r
 
 abbrev pub after_accepted : LogProgress → Snapshot → Stated → LogProgress
 after_accepted p s printed =
-    record { world = record { snapshot = s; plan = printed.plan }; accepted = p.accepted + 1; refused = p.refused; unsolved = p.unsolved + (if nat_lt printed.bound printed.cost then 1 else 0) }
+    record {
+      world = record { snapshot = s; plan = printed.plan };
+      accepted = p.accepted + 1;
+      refused = p.refused;
+      unsolved =
+          p.unsolved + (if nat_lt printed.bound printed.cost then 1 else 0);
+    }
 
 -- The lines of an accepted row were taken, whose call this snapshot has: the audit goes on by the printed plan.
 abbrev pub IsNextAccepted : LogProgress → Snapshot → List Event → Option TextState → Result Unit Finding → LogProgress → Option TextState → Type 0
-IsNextAccepted p s events before (Ok done) p' now = (printed : Stated) × IsProvedPlan s printed × (p' ≡ after_accepted p s printed) × TakesAccepted (next_number p) events s before (Ok printed) now
+IsNextAccepted p s events before (Ok done) p' now = (printed : Stated) × IsProvedPlan s printed × (p' ≡ after_accepted p s printed)
+    × TakesAccepted (next_number p) events s before (Ok printed) now
 IsNextAccepted p s events before (Err finding) p' now = TakesAccepted (next_number p) events s before (Err finding) now
 
 -- the lines of the next row were taken, and the day goes on by what is printed there; or this is found in them
 abbrev pub IsRowTaken : Day → Option Row → Option TextState → Result Unit Finding → LogProgress → Option TextState → Type 0
 IsRowTaken day said before (Ok done) p now =
-    (printed : Stated) × IsDayOf p (day_after day said printed) × IfSome before (λ text. IsSomeAnd now (λ behind. RowInFront (next_fault day said) day said printed (reading text) (reading behind)))
+    (printed : Stated) × IsDayOf p (day_after day said printed)
+    × IfSome before (λ text. IsSomeAnd now (λ behind. RowInFront (next_fault day said) day said printed (reading text) (reading behind)))
 IsRowTaken day said before (Err finding) p now = IfSome before (λ text. TellsFound finding (RowFinds (next_fault day said) day said (reading text)))
 
 -- those of several rows were

@@ -1,5 +1,6 @@
 -- A day that is stopped has a row for which the limits are not enough.
-use Rattle.std.proofs.Common.{◌≡◌, ℕ, zero, suc, ◌+◌, ◌<◌, Bool, true, false, cond, ltb, List, [], ◌∷◌, ◌++◌, append_assoc, refl, sym, ap, ◌∙◌, subst, inl, inr, arith, Option, Some, None, Ok}
+use Rattle.std.proofs.Common.{◌≡◌, ℕ, zero, suc, ◌+◌, ◌<◌, Bool, true, false, cond, ltb, List, [], ◌∷◌, ◌++◌, append_assoc, refl, sym, ap, ◌∙◌, subst, inl, inr}
+use Rattle.std.proofs.Common.{arith, Option, Some, None, Ok}
 use Rattle.std.proofs.lemmas.Bool.{ltb-true, cases_lt}
 use Rattle.elevator_model.specs.Snapshot.{Snapshot}
 use Rattle.search_model.specs.declared.RowFault.{RowFault}
@@ -47,12 +48,14 @@ record IsCounted (right : Right) (old : Day) (said : Option Row) (new : Day) (te
   unsolved : printed.bound < printed.cost
   is_right : right new.world.snapshot printed proof
 
-row-counted : (right : Right) (old : Day) (said : Option Row) (new : Day) (text : List ℕ) (answer : RowAnswer) → IsRowDone right old said new [] text answer → old.unsolved < new.unsolved → IsCounted right old said new text
+row-counted : (right : Right) (old : Day) (said : Option Row) (new : Day) (text : List ℕ) (answer : RowAnswer) → IsRowDone right old said new [] text answer
+    → old.unsolved < new.unsolved → IsCounted right old said new text
 row-counted right old said new text answer done more =
     let printed = done.0 in
     let proof = done.1 in
     let does = done.2 in
-    let counted = step-counted (λ s stated. right s stated proof) new.world old (row_number old) said printed (fault_of_row old.world (row_number old) said) (subst (λ (d : Day). old.unsolved < d.unsolved) does.day more) does.right_plan in
+    let counted = step-counted (λ s stated. right s stated proof) new.world old (row_number old) said printed (fault_of_row old.world (row_number old) said)
+    (subst (λ (d : Day). old.unsolved < d.unsolved) does.day more) does.right_plan in
     record {
       printed = printed;
       proof = proof;
@@ -63,10 +66,12 @@ row-counted right old said new text answer done more =
 
 -- ---- the rows
 
-module _ (right : Right) (AreEnough : Snapshot → Type 0) (law : (s : Snapshot) (stated : Stated) (proof : List ℕ) → right s stated proof → stated.bound < stated.cost → AreEnough s → ⊥) where
+module _ (right : Right) (AreEnough : Snapshot → Type 0)
+    (law : (s : Snapshot) (stated : Stated) (proof : List ℕ) → right s stated proof → stated.bound < stated.cost → AreEnough s → ⊥) where
   -- it is the first of them
   stopped-here : (old : Day) (said : Option Row) (between : Day) (first : List ℕ) (rows : List (Option Row)) (new : Day) (rest text : List ℕ)
-      → IsCounted right old said between first → AreRowsDone right between rows new rest → text ≡ first ++ rest → IsStoppedIn right AreEnough old (said ∷ rows) new text
+      → IsCounted right old said between first → AreRowsDone right between rows new rest → text ≡ first ++ rest
+      → IsStoppedIn right AreEnough old (said ∷ rows) new text
   stopped-here old said between first rows new rest text counted later is = record {
     earlier = [];
     row = said;
@@ -88,8 +93,10 @@ module _ (right : Right) (AreEnough : Snapshot → Type 0) (law : (s : Snapshot)
   }
 
   -- it is a later one
-  stopped-later : (old : Day) (said : Option Row) (between : Day) (first : List ℕ) (answer : RowAnswer) (rows : List (Option Row)) (new : Day) (rest text : List ℕ)
-      → IsRowDone right old said between [] first answer → IsStoppedIn right AreEnough between rows new rest → text ≡ first ++ rest → IsStoppedIn right AreEnough old (said ∷ rows) new text
+  stopped-later : (old : Day) (said : Option Row) (between : Day) (first : List ℕ) (answer : RowAnswer) (rows : List (Option Row)) (new : Day)
+      (rest text : List ℕ)
+      → IsRowDone right old said between [] first answer → IsStoppedIn right AreEnough between rows new rest → text ≡ first ++ rest
+      → IsStoppedIn right AreEnough old (said ∷ rows) new text
   stopped-later old said between first answer rows new rest text done found is = record {
     earlier = said ∷ found.earlier;
     row = found.row;
@@ -110,15 +117,21 @@ module _ (right : Right) (AreEnough : Snapshot → Type 0) (law : (s : Snapshot)
     not_enough = found.not_enough;
   }
 
-  stopped-in : (old : Day) (rows : List (Option Row)) (new : Day) (text : List ℕ) → AreRowsDone right old rows new text → old.unsolved < new.unsolved → IsStoppedIn right AreEnough old rows new text
+  stopped-in : (old : Day) (rows : List (Option Row)) (new : Day) (text : List ℕ) → AreRowsDone right old rows new text → old.unsolved < new.unsolved
+      → IsStoppedIn right AreEnough old rows new text
   stopped-in old [] new text done more = absurd (less-self old.unsolved (subst (λ (d : Day). old.unsolved < d.unsolved) done.0 more))
   stopped-in old (said ∷ rows) new text done more =
-      elim (cases_lt old.unsolved done.0.unsolved) [ inl here ↦ stopped-here old said done.0 done.1 rows new done.2 text (row-counted right old said done.0 done.1 done.3 done.4 here) done.5 done.6 | inr none ↦ stopped-later old said done.0 done.1 done.3 rows new done.2 text done.4 (stopped-in done.0 rows new done.2 done.5 (omega (arith, none, more))) done.6 ]
+      elim (cases_lt old.unsolved done.0.unsolved) [
+        | inl here ↦ stopped-here old said done.0 done.1 rows new done.2 text (row-counted right old said done.0 done.1 done.3 done.4 here) done.5 done.6
+        | inr none ↦ stopped-later old said done.0 done.1 done.3 rows new done.2 text done.4
+            (stopped-in done.0 rows new done.2 done.5 (omega (arith, none, more))) done.6
+      ]
 
 -- ---- the day
 
 -- what a search answers within limits that are enough has a bound that is its cost
-not-enough : (options : DayOptions) (s : Snapshot) (stated : Stated) (proof : List ℕ) → SolvedBy options s stated proof → stated.bound < stated.cost → AreEnoughBy options s → ⊥
+not-enough : (options : DayOptions) (s : Snapshot) (stated : Stated) (proof : List ℕ) → SolvedBy options s stated proof → stated.bound < stated.cost
+    → AreEnoughBy options s → ⊥
 not-enough options s stated proof row below enough =
     let equal = solved-where-enough options.search.limits.rounds options.search.limits.most_tours (most_claims options) s stated proof row enough in
     less-self stated.bound (subst (λ (n : ℕ). stated.bound < n) equal below)
@@ -127,6 +140,8 @@ some-unsolved : (n : ℕ) → status_of_unsolved n ≡ Stopped → 0 < n
 some-unsolved zero is = absurd cc
 some-unsolved (suc n) is = omega arith
 
-pub stopped-day : (options : DayOptions) (before : Option TextState) (left taken taken' : Option (List ℕ)) (ended : Ended) (ran : DayRan (SolvedBy options) before left taken taken' (Ok ended)) → status_of_unsolved ended.unsolved ≡ Stopped → IsDayStopped options ran
+pub stopped-day : (options : DayOptions) (before : Option TextState) (left taken taken' : Option (List ℕ)) (ended : Ended)
+    (ran : DayRan (SolvedBy options) before left taken taken' (Ok ended)) → status_of_unsolved ended.unsolved ≡ Stopped → IsDayStopped options ran
 stopped-day options before left taken taken' ended ran is =
-    stopped-in (SolvedBy options) (AreEnoughBy options) (not-enough options) (opening_day ran.opening) (rows_of ran.ran.passed) ran.ran.day ran.ran.text ran.ran.done (subst (λ (n : ℕ). 0 < n) ran.ran.wrote.2 (some-unsolved ended.unsolved is))
+    stopped-in (SolvedBy options) (AreEnoughBy options) (not-enough options) (opening_day ran.opening)
+    (rows_of ran.ran.passed) ran.ran.day ran.ran.text ran.ran.done (subst (λ (n : ℕ). 0 < n) ran.ran.wrote.2 (some-unsolved ended.unsolved is))

@@ -1,5 +1,6 @@
 -- After each row of a day that was done no accepted call is lost.
-use Rattle.std.proofs.Common.{◌≡◌, ℕ, ◌+◌, ◌-◌, ◌<◌, ◌≤◌, ◌^◌, Bool, true, false, cond, ltb, List, [], ◌∷◌, length, take, drop, take-append-drop, length-append, refl, sym, ap, ◌∙◌, subst, arith, Option, Some, None, Result, Ok}
+use Rattle.std.proofs.Common.{◌≡◌, ℕ, ◌+◌, ◌-◌, ◌<◌, ◌≤◌, ◌^◌, Bool, true, false, cond, ltb, List, [], ◌∷◌, length, take, drop, take-append-drop, length-append}
+use Rattle.std.proofs.Common.{refl, sym, ap, ◌∙◌, subst, arith, Option, Some, None, Result, Ok}
 use Rattle.std.specs.Prelude.{IfSome, IsSomeAnd, option_map}
 use Rattle.std.specs.List.{concat}
 use Rattle.std.proofs.lemmas.List.Folds.{concat-append}
@@ -98,14 +99,16 @@ limit-in-front text opening rows front =
 
 module _ (right : Right) (law : (s : Snapshot) (stated : Stated) (proof : List ℕ) → right s stated proof → IsAccepted s × IsFeasiblePlan s stated.plan) where
   step-stands : (old : Day) (said : Option Row) (printed : Stated) (proof : List ℕ) (fault : Option RowFault) → IsStanding old → row_number old < 2 ^ 32
-      → IsRightLog (λ s stated. right s stated proof) (step_by old (row_number old) said printed fault).day.world (step_by old (row_number old) said printed fault).log → IsStanding (step_by old (row_number old) said printed fault).day
+      → IsRightLog (λ s stated. right s stated proof) (step_by old (row_number old) said printed fault).day.world
+      (step_by old (row_number old) said printed fault).log → IsStanding (step_by old (row_number old) said printed fault).day
   step-stands old said printed proof (Some fault) is room is_right = refused-stands old is room
   step-stands old None printed proof None is room is_right = refused-stands old is room
   step-stands old (Some row) printed proof None is room is_right =
       let good = law (day_after_accepted old (row_number old) row printed).world.snapshot printed proof is_right in
       accepted-stands old row printed is room good.0 good.1
 
-  row-stands : (old : Day) (said : Option Row) (new : Day) (text : List ℕ) (answer : RowAnswer) → IsStanding old → row_number old < 2 ^ 32 → IsRowDone right old said new [] text answer → IsStanding new
+  row-stands : (old : Day) (said : Option Row) (new : Day) (text : List ℕ) (answer : RowAnswer) → IsStanding old → row_number old < 2 ^ 32
+      → IsRowDone right old said new [] text answer → IsStanding new
   row-stands old said new text answer is room done =
       let printed = done.0 in
       let proof = done.1 in
@@ -113,7 +116,8 @@ module _ (right : Right) (law : (s : Snapshot) (stated : Stated) (proof : List �
       let is_right = subst (λ (d : Day). IsRightLog (λ s stated. right s stated proof) d.world (next_step old said printed).log) does.day does.right_plan in
       subst IsStanding (sym does.day) (step-stands old said printed proof (fault_of_row old.world (row_number old) said) is room is_right)
 
-  kept-rows : (old : Day) (rows : List (Option Row)) (new : Day) (text : List ℕ) → IsStanding old → row_number old + length rows ≤ 2 ^ 32 → AreRowsDone right old rows new text → AreRowsKept right old rows new text
+  kept-rows : (old : Day) (rows : List (Option Row)) (new : Day) (text : List ℕ) → IsStanding old → row_number old + length rows ≤ 2 ^ 32
+      → AreRowsDone right old rows new text → AreRowsKept right old rows new text
   kept-rows old [] new text is room done = done
   kept-rows old (said ∷ rows) new text is room done =
       let here = row-stands old said done.0 done.1 done.3 is (omega (arith, room)) done.4 in
@@ -129,21 +133,27 @@ opening-kept text opening rows front =
     let is_opening : IsOpeningSnapshot opening = record { calls = ap length none.1; aboard = ap length none.0 } in
     opening-stands opening stands.accepted is_opening (opening-feasible opening stands.accepted is_opening)
 
-kept-from : (options : DayOptions) (input : List ℕ) (opening : Snapshot) (rows : Option TextState) (passed behind : List (List ℕ)) (Reads : TextState → Type 0) (day : Day) (text : List ℕ)
-    → IsSomeAnd rows (DayOpeningInFront (whole_text input) opening) → IfSome rows (λ from. ReadLines from passed behind × Reads from) → AreRowsDone (SolvedBy options) (opening_day opening) (rows_of passed) day text
+kept-from : (options : DayOptions) (input : List ℕ) (opening : Snapshot) (rows : Option TextState) (passed behind : List (List ℕ)) (Reads : TextState → Type 0)
+    (day : Day) (text : List ℕ)
+    → IsSomeAnd rows (DayOpeningInFront (whole_text input) opening) → IfSome rows (λ from. ReadLines from passed behind × Reads from)
+    → AreRowsDone (SolvedBy options) (opening_day opening) (rows_of passed) day text
     → AreRowsKept (SolvedBy options) (opening_day opening) (rows_of passed) day text
 kept-from options input opening None passed behind Reads day text begins read done = absurd begins
 kept-from options input opening (Some from) passed behind Reads day text begins read done =
     let limit = limit-in-front (whole_text input) opening from begins in
     let short = read.0.short in
     let count = rows-of-bytes passed in
-    kept-rows (SolvedBy options) (λ s stated proof row. (row.accepted, row.right_plan.feasible)) (opening_day opening) (rows_of passed) day text (opening-kept (whole_text input) opening from begins) (omega (arith, limit, short, count)) done
+    kept-rows (SolvedBy options) (λ s stated proof row. (row.accepted, row.right_plan.feasible)) (opening_day opening) (rows_of passed) day text
+    (opening-kept (whole_text input) opening from begins) (omega (arith, limit, short, count)) done
 
-pub kept-day : (options : DayOptions) (left left' taken taken' : Option (List ℕ)) (result : Result Ended RunFault) (ran : DayRan (SolvedBy options) (option_map whole_text left) left' taken taken' result)
+pub kept-day : (options : DayOptions) (left left' taken taken' : Option (List ℕ)) (result : Result Ended RunFault)
+    (ran : DayRan (SolvedBy options) (option_map whole_text left) left' taken taken' result)
     → IfSome left (λ input. AreRowsKept (SolvedBy options) (opening_day ran.opening) (rows_of ran.ran.passed) ran.ran.day ran.ran.text)
 kept-day options None left' taken taken' result ran = tt
 kept-day options (Some input) left' taken taken' result ran =
-    kept-from options input ran.opening ran.rows ran.ran.passed ran.ran.behind (λ from. ReadsDay result from ran.ran.passed ran.ran.behind left') ran.ran.day ran.ran.text ran.read ran.ran.read ran.ran.done
+    kept-from options input ran.opening ran.rows ran.ran.passed ran.ran.behind
+    (λ from. ReadsDay result from ran.ran.passed ran.ran.behind left') ran.ran.day ran.ran.text ran.read ran.ran.read ran.ran.done
 
-abbrev pub ran-within : (options : DayOptions) (left left' taken taken' : Option (List ℕ)) (result : Result Ended RunFault) → DayRan (SolvedBy options) (option_map whole_text left) left' taken taken' result → RanWithin options left left' taken taken' result
+abbrev pub ran-within : (options : DayOptions) (left left' taken taken' : Option (List ℕ)) (result : Result Ended RunFault)
+    → DayRan (SolvedBy options) (option_map whole_text left) left' taken taken' result → RanWithin options left left' taken taken' result
 ran-within options left left' taken taken' result ran = record { ran = ran; kept = kept-day options left left' taken taken' result ran }

@@ -40,7 +40,8 @@ abbrev pub AreEnoughBy : DayOptions → Snapshot → Type 0
 AreEnoughBy options s = AreEnoughFor options.search.limits.rounds options.search.limits.most_tours (most_claims options) s
 
 -- Of the rows that were done one was accepted where the limits are not enough, and its bound is below its cost.
-abbrev pub IsDayStopped : (options : DayOptions) {before : Option TextState} {left taken taken' : Option (List ℕ)} {result : Result Ended RunFault} → DayRan (SolvedBy options) before left taken taken' result → Type 0
+abbrev pub IsDayStopped : (options : DayOptions) {before : Option TextState} {left taken taken' : Option (List ℕ)} {result : Result Ended RunFault}
+    → DayRan (SolvedBy options) before left taken taken' result → Type 0
 IsDayStopped options ran = IsStoppedIn (SolvedBy options) (AreEnoughBy options) (opening_day ran.opening) (rows_of ran.ran.passed) ran.ran.day ran.ran.text
 
 -- ---- how they end
@@ -108,7 +109,8 @@ DayEnds options old new Input = WroteText (IsNoDayLine old.left new.left) old.ta
 DayEnds options old new Read = Rose old.read_faults new.read_faults × (IsNotBegun old new ⊎ RanBy options old new new.taken (Err RowsUnread))
 DayEnds options old new Write =
     Rose old.write_faults new.write_faults
-    × (WrotePart (IsNoDayLine old.left new.left) old.taken new.taken ⊎ (RanBy options old new new.taken (Err RowsUnwritten) ⊎ DayCut options old new (WrotePart (IsRefusalLine LongText))))
+    × (WrotePart (IsNoDayLine old.left new.left) old.taken new.taken
+    ⊎ (RanBy options old new new.taken (Err RowsUnwritten) ⊎ DayCut options old new (WrotePart (IsRefusalLine LongText))))
 DayEnds options old new Memory = (new.taken ≡ old.taken) ⊎ RanBy options old new new.taken (Err NoMemory)
 
 -- the text of the report of a day that came to its end

@@ -37,7 +37,8 @@ taken_on s (stop ∷ stops) = boards_by_id s stop ++ taken_on s stops
 
 -- ---- events
 
-delivered-at : (s : Snapshot) (c moment : ℕ) (riders : List ℕ) (stop : Stop) (x : ℕ) → count_by (delivers x) (events_at s c moment riders stop) ≡ count_by (has_id s x) (filter (λ r. destination_of s r == stop.floor) riders)
+delivered-at : (s : Snapshot) (c moment : ℕ) (riders : List ℕ) (stop : Stop) (x : ℕ)
+    → count_by (delivers x) (events_at s c moment riders stop) ≡ count_by (has_id s x) (filter (λ r. destination_of s r == stop.floor) riders)
 delivered-at s c moment riders stop x =
     let off = filter (λ r. destination_of s r == stop.floor) riders in
     let both = count_of-append (delivers x) (map (delivery s c moment) off) (map (boarding s c moment) (boards_by_id s stop)) in
@@ -46,7 +47,8 @@ delivered-at s c moment riders stop x =
     let none = count_of-none (λ r. delivers x (boarding s c moment r)) (boards_by_id s stop) (λ r. refl) in
     omega (arith, both, gone, came, none)
 
-pub delivered-along : (s : Snapshot) (c : ℕ) (riders : List ℕ) (p : Progress) (stops : List Stop) (x : ℕ) → count_by (delivers x) (events_from s c riders p stops) ≡ count_by (has_id s x) (let_off s riders stops)
+pub delivered-along : (s : Snapshot) (c : ℕ) (riders : List ℕ) (p : Progress) (stops : List Stop) (x : ℕ)
+    → count_by (delivers x) (events_from s c riders p stops) ≡ count_by (has_id s x) (let_off s riders stops)
 delivered-along s c riders p [] x = refl
 delivered-along s c riders p (stop ∷ stops) x =
     let next = make_stop s c p stop in
@@ -60,7 +62,9 @@ delivered-along s c riders p (stop ∷ stops) x =
 -- ---- riders
 
 -- Who was aboard or boards rides on at the end or was let off.
-pub riders-kept : (s : Snapshot) (riders : List ℕ) (stops : List Stop) (r : ℕ) → count_by (λ y. y == r) (riders_after_all s riders stops) + count_by (λ y. y == r) (let_off s riders stops) ≡ count_by (λ y. y == r) riders + count_by (λ y. y == r) (taken_on s stops)
+pub riders-kept : (s : Snapshot) (riders : List ℕ) (stops : List Stop) (r : ℕ)
+    → count_by (λ y. y == r) (riders_after_all s riders stops) + count_by (λ y. y == r) (let_off s riders stops)
+    ≡ count_by (λ y. y == r) riders + count_by (λ y. y == r) (taken_on s stops)
 riders-kept s riders [] r = refl
 riders-kept s riders (stop ∷ stops) r =
     let off = filter (λ y. destination_of s y == stop.floor) riders in
@@ -76,21 +80,29 @@ pub count-some : (r : ℕ) (xs : List ℕ) → is_among r xs ≡ true → 1 ≤ 
 count-some r [] h = absurd (false≢true h)
 count-some r (x ∷ xs) h =
     let all = count-cons r x xs in
-    elim (or_cases (eqb x r) (is_among r xs) h) [ inl e ↦ (let here = ap {B = ℕ} (λ (b : Bool). cond b 1 0) e in omega (arith, all, here)) | inr e ↦ (let later = count-some r xs e in omega (arith, all, later)) ]
+    elim (or_cases (eqb x r) (is_among r xs) h) [
+      | inl e ↦ (let here = ap {B = ℕ} (λ (b : Bool). cond b 1 0) e in omega (arith, all, here))
+      | inr e ↦ (let later = count-some r xs e in omega (arith, all, later))
+    ]
 
 -- a list that has each number once at most, by its test
 pub count-test : (r : ℕ) (xs : List ℕ) → count_by (λ x. x == r) xs ≤ 1 → count_by (λ x. x == r) xs ≡ cond (is_among r xs) 1 0
 count-test r xs once =
-    elim (cases_Bool (is_among r xs)) [ inl e ↦ (let some = count-some r xs e in let one = ap {B = ℕ} (λ (b : Bool). cond b 1 0) e in omega (arith, some, one, once)) | inr e ↦ count-none r xs e ∙ sym (ap {B = ℕ} (λ (b : Bool). cond b 1 0) e) ]
+    elim (cases_Bool (is_among r xs)) [
+      | inl e ↦ (let some = count-some r xs e in let one = ap {B = ℕ} (λ (b : Bool). cond b 1 0) e in omega (arith, some, one, once))
+      | inr e ↦ count-none r xs e ∙ sym (ap {B = ℕ} (λ (b : Bool). cond b 1 0) e)
+    ]
 
 -- Who has boarded did so before or boards once along the stops.
-pub boarded-along : (s : Snapshot) (c : ℕ) (p : Progress) (stops : List Stop) (r : ℕ) → AllFine s c p stops → cond (p.boarded r) 1 0 + count_by (λ y. y == r) (taken_on s stops) ≡ cond ((after_stops s c p stops).boarded r) 1 0
+pub boarded-along : (s : Snapshot) (c : ℕ) (p : Progress) (stops : List Stop) (r : ℕ) → AllFine s c p stops
+    → cond (p.boarded r) 1 0 + count_by (λ y. y == r) (taken_on s stops) ≡ cond ((after_stops s c p stops).boarded r) 1 0
 boarded-along s c p [] r fine = omega arith
 boarded-along s c p (stop ∷ stops) r fine =
     let later = boarded-along s c (make_stop s c p stop) stops r fine.1 in
     let both = count-append r (boards_by_id s stop) (taken_on s stops) in
     let here = count-test r (boards_by_id s stop) (count-boards s stop r) ∙ ap {B = ℕ} (λ (b : Bool). cond b 1 0) (among-boards s stop r) in
-    let apart = either (p.boarded r) (boards_at s stop r) (λ h. boards_once s c p stop (AllClear-from (breaks s c none_taken p stop) rules_of_stop fine.0) r h) in
+    let apart = either (p.boarded r) (boards_at s stop r)
+    (λ h. boards_once s c p stop (AllClear-from (breaks s c none_taken p stop) rules_of_stop fine.0) r h) in
     omega (arith, later, both, here, apart)
   where
     either : (a b : Bool) → (b ≡ true → a ≡ false) → cond (a || b) 1 0 ≡ cond a 1 0 + cond b 1 0

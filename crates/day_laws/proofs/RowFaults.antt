@@ -1,5 +1,6 @@
 -- Rows: why one is refused, that the call of a good one is new, and their number.
-use Rattle.std.proofs.Common.{◌≡◌, ℕ, ◌+◌, ◌<◌, ◌≤◌, Bool, true, false, cond, not, ◌&&◌, eqb, ltb, leb, List, [], ◌∷◌, ◌++◌, All, length, length-append, refl, sym, ap, ◌∙◌, subst, arith, Option, Some, None, Result, Ok, Err, IfOk, IfErr}
+use Rattle.std.proofs.Common.{◌≡◌, ℕ, ◌+◌, ◌<◌, ◌≤◌, Bool, true, false, cond, not, ◌&&◌, eqb, ltb, leb, List, [], ◌∷◌, ◌++◌, All, length, length-append, refl}
+use Rattle.std.proofs.Common.{sym, ap, ◌∙◌, subst, arith, Option, Some, None, Result, Ok, Err, IfOk, IfErr}
 use Rattle.std.proofs.lemmas.Bool.{ltb-true, leb-true, lt-ltb, eq-eqb, both_ways, false_from_ne_true, not-true}
 use Rattle.std.proofs.lemmas.List.{length-map}
 use Rattle.std.proofs.lemmas.List.Elements.{All-get_or}
@@ -13,7 +14,8 @@ use Rattle.search_model.specs.declared.RowFault.{RowFault}
 use Rattle.search_model.specs.declared.RowFault.TheVariants.{NoRow, BeforeNow}
 use Rattle.search_model.specs.declared.Stated.{Stated}
 use Rattle.search_model.specs.Advancing.{World, advanced, events_by}
-use Rattle.search_model.specs.Days.{Day, DayCall, Row, calls_after, is_row, call_of_row, fault_of_row, fault_of_good_row, fault_of_new_call, step_by, day_after_refused}
+use Rattle.search_model.specs.Days.{Day, DayCall, Row, calls_after, is_row, call_of_row, fault_of_row, fault_of_good_row, fault_of_new_call, step_by}
+use Rattle.search_model.specs.Days.{day_after_refused}
 use Rattle.day_state.specs.Openings.{IsNewCall, taken}
 use Rattle.day_text.specs.Records.{row_within}
 use Rattle.day_laws.specs.Arrivals.{IsBrought, IsWorldBrought}
@@ -41,21 +43,32 @@ good-row b (Some other) row e = at (is_row b other) refl e
 good-fault : (w : World) (n : ℕ) (row : Row) → is_row w.snapshot.building row ≡ true → fault_of_row w n (Some row) ≡ fault_of_good_row w n row
 good-fault w n row h = ap (λ (b : Bool). cond {A = Option RowFault} b (fault_of_good_row w n row) (Some NoRow)) h
 
-pub before-now : (w : World) (n : ℕ) (row : Row) → is_row w.snapshot.building row ≡ true → row.time < w.snapshot.moment → fault_of_row w n (Some row) ≡ Some BeforeNow
-before-now w n row h early = good-fault w n row h ∙ ap (λ (b : Bool). cond {A = Option RowFault} b (Some BeforeNow) (fault_of_new_call (advanced w row.time).snapshot (call_of_row n row))) (lt-ltb row.time w.snapshot.moment early)
+pub before-now : (w : World) (n : ℕ) (row : Row) → is_row w.snapshot.building row ≡ true → row.time < w.snapshot.moment
+    → fault_of_row w n (Some row) ≡ Some BeforeNow
+before-now w n row h early = good-fault w n row h
+    ∙ ap (λ (b : Bool). cond {A = Option RowFault} b (Some BeforeNow) (fault_of_new_call (advanced w row.time).snapshot (call_of_row n row)))
+    (lt-ltb row.time w.snapshot.moment early)
 
-pub in-time : (w : World) (n : ℕ) (row : Row) → is_row w.snapshot.building row ≡ true → w.snapshot.moment ≤ row.time → fault_of_row w n (Some row) ≡ fault_of_new_call (advanced w row.time).snapshot (call_of_row n row)
-in-time w n row h late = good-fault w n row h ∙ ap (λ (b : Bool). cond {A = Option RowFault} b (Some BeforeNow) (fault_of_new_call (advanced w row.time).snapshot (call_of_row n row))) (false_from_ne_true (ltb row.time w.snapshot.moment) (λ k. let early = ltb-true row.time w.snapshot.moment k in omega (arith, early, late)))
+pub in-time : (w : World) (n : ℕ) (row : Row) → is_row w.snapshot.building row ≡ true → w.snapshot.moment ≤ row.time
+    → fault_of_row w n (Some row) ≡ fault_of_new_call (advanced w row.time).snapshot (call_of_row n row)
+in-time w n row h late = good-fault w n row h
+    ∙ ap (λ (b : Bool). cond {A = Option RowFault} b (Some BeforeNow) (fault_of_new_call (advanced w row.time).snapshot (call_of_row n row)))
+    (false_from_ne_true (ltb row.time w.snapshot.moment) (λ k. let early = ltb-true row.time w.snapshot.moment k in omega (arith, early, late)))
 
 -- ---- what a row brings
 
 -- the fault of a row in time is that of its call in the world at its time
-pub brought-fault : (old : World) (n : ℕ) (row : Row) (w : World) (call : Call) (x : Option RowFault) → is_row old.snapshot.building row ≡ true → old.snapshot.moment ≤ row.time → w ≡ advanced old row.time → call ≡ call_of_row n row → fault_of_new_call w.snapshot call ≡ x → fault_of_row old n (Some row) ≡ x
+pub brought-fault : (old : World) (n : ℕ) (row : Row) (w : World) (call : Call) (x : Option RowFault) → is_row old.snapshot.building row ≡ true
+    → old.snapshot.moment ≤ row.time → w ≡ advanced old row.time → call ≡ call_of_row n row → fault_of_new_call w.snapshot call ≡ x
+    → fault_of_row old n (Some row) ≡ x
 brought-fault old n row w call x h late moved called is =
-    in-time old n row h late ∙ ap (λ (v : World). fault_of_new_call v.snapshot (call_of_row n row)) (sym moved) ∙ ap (λ (k : Call). fault_of_new_call w.snapshot k) (sym called) ∙ is
+    in-time old n row h late ∙ ap (λ (v : World). fault_of_new_call v.snapshot (call_of_row n row)) (sym moved)
+    ∙ ap (λ (k : Call). fault_of_new_call w.snapshot k) (sym called) ∙ is
 
 -- the call can be taken, and this is the snapshot with it
-pub brought-world : (old : World) (n : ℕ) (row : Row) (w after : World) (call : Call) (before events : List Event) → is_row old.snapshot.building row ≡ true → old.snapshot.moment ≤ row.time → w ≡ advanced old row.time → call ≡ call_of_row n row → fault_of_new_call w.snapshot call ≡ None → after.snapshot ≡ taken w.snapshot call → before ≡ [] → events ≡ before ++ events_by old row.time → IsWorldBrought old n row events after
+pub brought-world : (old : World) (n : ℕ) (row : Row) (w after : World) (call : Call) (before events : List Event) → is_row old.snapshot.building row ≡ true
+    → old.snapshot.moment ≤ row.time → w ≡ advanced old row.time → call ≡ call_of_row n row → fault_of_new_call w.snapshot call ≡ None
+    → after.snapshot ≡ taken w.snapshot call → before ≡ [] → events ≡ before ++ events_by old row.time → IsWorldBrought old n row events after
 brought-world old n row w after call before events h late moved called none took empty happened =
     record {
       faultless = brought-fault old n row w call None h late moved called none;
@@ -64,7 +77,9 @@ brought-world old n row w after call before events h late moved called none took
     }
 
 -- the row is refused for the fault, or else the world is brought
-pub brought-unless : (old : World) (n : ℕ) (row : Row) (events : List Event) (fault : Option RowFault) (w : World) (answer : Result World RowFault) → IfOk answer (λ x. (x ≡ w) × (fault ≡ None)) → IfErr answer (λ why. fault ≡ Some why) → fault_of_row old n (Some row) ≡ fault → (fault ≡ None → IsWorldBrought old n row events w) → IsBrought old n row events answer
+pub brought-unless : (old : World) (n : ℕ) (row : Row) (events : List Event) (fault : Option RowFault) (w : World) (answer : Result World RowFault)
+    → IfOk answer (λ x. (x ≡ w) × (fault ≡ None)) → IfErr answer (λ why. fault ≡ Some why) → fault_of_row old n (Some row) ≡ fault
+    → (fault ≡ None → IsWorldBrought old n row events w) → IsBrought old n row events answer
 brought-unless old n row events fault w (Ok x) told _ is brought = subst (IsWorldBrought old n row events) (sym told.0) (brought told.1)
 brought-unless old n row events fault w (Err why) _ told is _ = is ∙ told
 
@@ -106,7 +121,9 @@ is-good b row h =
     parts_of true true true true true false h = absurd cc
 
 -- The call of a row is a new one in the world at its time, where all ids are below its number.
-pub call-is-new : (w : World) (n : ℕ) (row : Row) → IsAccepted w.snapshot → IsFeasiblePlan w.snapshot w.plan → All (λ (call : Call). call.id < n) w.snapshot.calls → All (λ (group : Aboard). group.id < n) w.snapshot.aboard → is_row w.snapshot.building row ≡ true → IsNewCall (advanced w row.time).snapshot (call_of_row n row)
+pub call-is-new : (w : World) (n : ℕ) (row : Row) → IsAccepted w.snapshot → IsFeasiblePlan w.snapshot w.plan
+    → All (λ (call : Call). call.id < n) w.snapshot.calls → All (λ (group : Aboard). group.id < n) w.snapshot.aboard → is_row w.snapshot.building row ≡ true
+    → IsNewCall (advanced w row.time).snapshot (call_of_row n row)
 call-is-new w n row a f open_known aboard_known h =
     let there = (advanced w row.time).snapshot in
     let good = is-good w.snapshot.building row h in
@@ -125,7 +142,8 @@ call-is-new w n row a f open_known aboard_known h =
     }
 
 -- That of the next row is.
-pub new-call : (day : Day) (row : Row) → IsStanding day → is_row day.world.snapshot.building row ≡ true → IsNewCall (advanced day.world row.time).snapshot (call_of_row (row_number day) row)
+pub new-call : (day : Day) (row : Row) → IsStanding day → is_row day.world.snapshot.building row ≡ true
+    → IsNewCall (advanced day.world row.time).snapshot (call_of_row (row_number day) row)
 new-call day row is h = call-is-new day.world (row_number day) row is.accepted is.feasible is.open_known is.aboard_known h
 
 -- ---- the number of rows
@@ -133,7 +151,8 @@ new-call day row is h = call-is-new day.world (row_number day) row is.accepted i
 pub refused-number : (old : Day) → row_number (day_after_refused old) ≡ row_number old + 1
 refused-number old = omega arith
 
-pub step-number : (old : Day) (n : ℕ) (said : Option Row) (printed : Stated) (fault : Option RowFault) → row_number (step_by old n said printed fault).day ≡ row_number old + 1
+pub step-number : (old : Day) (n : ℕ) (said : Option Row) (printed : Stated) (fault : Option RowFault)
+    → row_number (step_by old n said printed fault).day ≡ row_number old + 1
 step-number old n said printed (Some fault) = refused-number old
 step-number old n None printed None = refused-number old
 step-number old n (Some row) printed None =

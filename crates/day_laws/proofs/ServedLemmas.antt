@@ -1,5 +1,6 @@
 -- What all events so far tell of each accepted call: it boards once and is delivered once, in time.
-use Rattle.std.proofs.Common.{◌==◌, ◌≡◌, ℕ, ◌+◌, ◌<◌, ◌≤◌, Bool, true, false, cond, eqb, ltb, List, [], ◌∷◌, ◌++◌, map, length, length-append, refl, sym, ap, ◌∙◌, subst, inl, inr, arith, Option, Some, None}
+use Rattle.std.proofs.Common.{◌==◌, ◌≡◌, ℕ, ◌+◌, ◌<◌, ◌≤◌, Bool, true, false, cond, eqb, ltb, List, [], ◌∷◌, ◌++◌, map, length, length-append, refl, sym, ap}
+use Rattle.std.proofs.Common.{◌∙◌, subst, inl, inr, arith, Option, Some, None}
 use Rattle.std.specs.Prelude.{All, Contains, is_some, unwrap_or}
 use Rattle.std.specs.List.{count_by, flat_map, list_all}
 use Rattle.std.proofs.lemmas.Bool.{and_from, or_cases, or_left, false≢true, eqb-true, eq-eqb, false_from_ne_true, ltb-false}
@@ -18,7 +19,9 @@ use Rattle.call_sets.specs.Counting.{is_among}
 use Rattle.elevator_model.specs.Snapshot.{Snapshot, IsAccepted}
 use Rattle.elevator_model.specs.Plans.{IsFeasiblePlan, tour_of}
 use Rattle.search_model.specs.Advancing.{World, advanced, done_by, events_by, last_events}
-use Rattle.search_model.specs.Days.{Day, DayCall, Row, noted_in, calls_after, call_of_row, day_after_accepted, day_after_refused, fault_of_good_row, fault_of_new_call, fault_of_row, is_row, opening_day, opening_world, calls_at_end, delivered_count, is_delivered_call, loses_none, places_of_call}
+use Rattle.search_model.specs.Days.{Day, DayCall, Row, noted_in, calls_after, call_of_row, day_after_accepted, day_after_refused, fault_of_good_row}
+use Rattle.search_model.specs.Days.{fault_of_new_call, fault_of_row, is_row, opening_day, opening_world, calls_at_end, delivered_count, is_delivered_call}
+use Rattle.search_model.specs.Days.{loses_none, places_of_call}
 use Rattle.day_state.specs.Openings.{IsOpeningSnapshot, taken}
 use Rattle.day_state.proofs.AdvanceLaws.{accepted-there}
 use Rattle.day_state.proofs.TakenLaws.{has-place, taken-accepted}
@@ -28,10 +31,12 @@ use Rattle.day_laws.specs.Standing.{row_number}
 use Rattle.day_laws.proofs.Counts.{count_of-cons, count_of-append}
 use Rattle.day_laws.proofs.RiderCounts.{delivers}
 use Rattle.day_laws.proofs.Conserved.{places, conserved, all-delivered, done-fine, tour-fine}
-use Rattle.day_laws.proofs.NoneLost.{count-all, noted_by, calls-noted, noted-id, noted_by-id, later-calls-known, later-aboard-known, count-above, weaker-calls, weaker-groups, weaker-day-calls}
+use Rattle.day_laws.proofs.NoneLost.{count-all, noted_by, calls-noted, noted-id, noted_by-id, later-calls-known, later-aboard-known, count-above, weaker-calls}
+use Rattle.day_laws.proofs.NoneLost.{weaker-groups, weaker-day-calls}
 use Rattle.day_laws.proofs.RowFaults.{call-is-new, is-good}
 use Rattle.day_laws.proofs.BoardCounts.{boards, opens, boards-kept, all-boarded}
-use Rattle.day_laws.proofs.EventMoments.{IsBoardedAt, IsDeliveredAt, IsReleasedBy, HasBoardedBy, HasGotOn, told-front, told-back, told-either, boards-released, delivers-boarded, later-got-on, later-open}
+use Rattle.day_laws.proofs.EventMoments.{IsBoardedAt, IsDeliveredAt, IsReleasedBy, HasBoardedBy, HasGotOn, told-front, told-back, told-either, boards-released}
+use Rattle.day_laws.proofs.EventMoments.{delivers-boarded, later-got-on, later-open}
 
 -- ---- moments and counts
 
@@ -50,7 +55,8 @@ delivery-moments : (n : ℕ) (event : Event) → length (delivery_moment n event
 delivery-moments n (Board call car moment) = refl
 delivery-moments n (Deliver call car moment) = one-moment (call == n) moment
 
-counted : (g : Event → List ℕ) (t : Event → Bool) → ((event : Event) → length (g event) ≡ cond (t event) 1 0) → (events : List Event) → length (flat_map g events) ≡ count_by t events
+counted : (g : Event → List ℕ) (t : Event → Bool) → ((event : Event) → length (g event) ≡ cond (t event) 1 0) → (events : List Event)
+    → length (flat_map g events) ≡ count_by t events
 counted g t each [] = refl
 counted g t each (event ∷ events) =
     let both = length-append (g event) (flat_map g events) in
@@ -88,7 +94,8 @@ last-append before (x ∷ xs) ys = last-append (Some x) xs ys
 noted-board : (event : Event) (x : DayCall) → (noted_in event x).boarded ≡ last_of x.boarded (board_moment x.id event)
 noted-board (Board call car moment) x = at (x.id == call) ∙ ap (λ (b : Bool). last_of x.boarded (cond b (moment ∷ []) [])) (same-ids x.id call)
   where
-    at : (b : Bool) → (cond {A = DayCall} b (record { id = x.id; released = x.released; boarded = Some moment; delivered = x.delivered }) x).boarded ≡ last_of x.boarded (cond b (moment ∷ []) [])
+    at : (b : Bool) → (cond {A = DayCall} b (record { id = x.id; released = x.released; boarded = Some moment; delivered = x.delivered }) x).boarded
+        ≡ last_of x.boarded (cond b (moment ∷ []) [])
     at true = refl
     at false = refl
 noted-board (Deliver call car moment) x = at (x.id == call)
@@ -100,19 +107,22 @@ noted-board (Deliver call car moment) x = at (x.id == call)
 noted-delivery : (event : Event) (x : DayCall) → (noted_in event x).delivered ≡ last_of x.delivered (delivery_moment x.id event)
 noted-delivery (Board call car moment) x = at (x.id == call)
   where
-    at : (b : Bool) → (cond {A = DayCall} b (record { id = x.id; released = x.released; boarded = Some moment; delivered = x.delivered }) x).delivered ≡ x.delivered
+    at : (b : Bool) → (cond {A = DayCall} b (record { id = x.id; released = x.released; boarded = Some moment; delivered = x.delivered }) x).delivered
+        ≡ x.delivered
     at true = refl
     at false = refl
 noted-delivery (Deliver call car moment) x = at (x.id == call) ∙ ap (λ (b : Bool). last_of x.delivered (cond b (moment ∷ []) [])) (same-ids x.id call)
   where
-    at : (b : Bool) → (cond {A = DayCall} b (record { id = x.id; released = x.released; boarded = x.boarded; delivered = Some moment }) x).delivered ≡ last_of x.delivered (cond b (moment ∷ []) [])
+    at : (b : Bool) → (cond {A = DayCall} b (record { id = x.id; released = x.released; boarded = x.boarded; delivered = Some moment }) x).delivered
+        ≡ last_of x.delivered (cond b (moment ∷ []) [])
     at true = refl
     at false = refl
 
 noted-released : (event : Event) (x : DayCall) → (noted_in event x).released ≡ x.released
 noted-released (Board call car moment) x = at (x.id == call)
   where
-    at : (b : Bool) → (cond {A = DayCall} b (record { id = x.id; released = x.released; boarded = Some moment; delivered = x.delivered }) x).released ≡ x.released
+    at : (b : Bool) → (cond {A = DayCall} b (record { id = x.id; released = x.released; boarded = Some moment; delivered = x.delivered }) x).released
+        ≡ x.released
     at true = refl
     at false = refl
 noted-released (Deliver call car moment) x = at (x.id == call)
@@ -128,17 +138,23 @@ noted_by-released (event ∷ events) x = noted_by-released events (noted_in even
 noted_by-boarded : (events : List Event) (x : DayCall) → (noted_by events x).boarded ≡ last_of x.boarded (moments_boarded x.id events)
 noted_by-boarded [] x = refl
 noted_by-boarded (event ∷ events) x =
-    noted_by-boarded events (noted_in event x) ∙ ap (λ (n : ℕ). last_of (noted_in event x).boarded (moments_boarded n events)) (noted-id event x) ∙ ap (λ (o : Option ℕ). last_of o (moments_boarded x.id events)) (noted-board event x) ∙ sym (last-append x.boarded (board_moment x.id event) (moments_boarded x.id events))
+    noted_by-boarded events (noted_in event x) ∙ ap (λ (n : ℕ). last_of (noted_in event x).boarded (moments_boarded n events)) (noted-id event x)
+    ∙ ap (λ (o : Option ℕ). last_of o (moments_boarded x.id events)) (noted-board event x)
+    ∙ sym (last-append x.boarded (board_moment x.id event) (moments_boarded x.id events))
 
 noted_by-delivered : (events : List Event) (x : DayCall) → (noted_by events x).delivered ≡ last_of x.delivered (moments_delivered x.id events)
 noted_by-delivered [] x = refl
 noted_by-delivered (event ∷ events) x =
-    noted_by-delivered events (noted_in event x) ∙ ap (λ (n : ℕ). last_of (noted_in event x).delivered (moments_delivered n events)) (noted-id event x) ∙ ap (λ (o : Option ℕ). last_of o (moments_delivered x.id events)) (noted-delivery event x) ∙ sym (last-append x.delivered (delivery_moment x.id event) (moments_delivered x.id events))
+    noted_by-delivered events (noted_in event x) ∙ ap (λ (n : ℕ). last_of (noted_in event x).delivered (moments_delivered n events)) (noted-id event x)
+    ∙ ap (λ (o : Option ℕ). last_of o (moments_delivered x.id events)) (noted-delivery event x)
+    ∙ sym (last-append x.delivered (delivery_moment x.id event) (moments_delivered x.id events))
 
 -- the same of more events
-still-last : (g : Event → List ℕ) (before now : Option ℕ) (past events : List Event) → before ≡ last_of None (flat_map g past) → now ≡ last_of before (flat_map g events) → now ≡ last_of None (flat_map g (past ++ events))
+still-last : (g : Event → List ℕ) (before now : Option ℕ) (past events : List Event) → before ≡ last_of None (flat_map g past)
+    → now ≡ last_of before (flat_map g events) → now ≡ last_of None (flat_map g (past ++ events))
 still-last g before now past events was is =
-    is ∙ ap (λ (o : Option ℕ). last_of o (flat_map g events)) was ∙ sym (last-append None (flat_map g past) (flat_map g events)) ∙ ap (last_of None) (sym (flat_map-append g past events))
+    is ∙ ap (λ (o : Option ℕ). last_of o (flat_map g events)) was ∙ sym (last-append None (flat_map g past) (flat_map g events))
+    ∙ ap (last_of None) (sym (flat_map-append g past events))
 
 -- ---- what is told so far
 
@@ -201,32 +217,53 @@ module _ (s : Snapshot) (events : List Event) (later : Snapshot) (leads : LeadsT
       let id = sym (noted_by-id events x) in
       let released = sym (noted_by-released events x) in
       let noted = noted_by events x in
-      subst (λ (i : ℕ). IsCallTold later (past ++ events) i noted.released noted.boarded noted.delivered) id (subst (λ (r : ℕ). IsCallTold later (past ++ events) x.id r noted.boarded noted.delivered) released (record {
-        boards = (let kept = leads.boards x.id in let was = told.boards in let both = count_of-append (boards x.id) past events in omega (arith, kept, was, both));
-        deliveries = (let kept = leads.deliveries x.id in let was = told.deliveries in let both = count_of-append (delivers x.id) past events in omega (arith, kept, was, both));
+      subst (λ (i : ℕ). IsCallTold later (past ++ events) i noted.released noted.boarded noted.delivered) id
+      (subst (λ (r : ℕ). IsCallTold later (past ++ events) x.id r noted.boarded noted.delivered) released (record {
+        boards = (let kept = leads.boards x.id in let was = told.boards in let both = count_of-append (boards x.id) past events in
+            omega (arith, kept, was, both));
+        deliveries = (let kept = leads.deliveries x.id in let was = told.deliveries in let both = count_of-append (delivers x.id) past events in
+            omega (arith, kept, was, both));
         boarded_is = still-last (board_moment x.id) x.boarded noted.boarded past events told.boarded_is (noted_by-boarded events x);
         delivered_is = still-last (delivery_moment x.id) x.delivered noted.delivered past events told.delivered_is (noted_by-delivered events x);
-        late = λ m h. elim (told-either m (board_moment x.id) past events h) [ inl before ↦ told.late m before | inr now ↦ (let found = leads.released x.id m now in let same = All-contains (λ (call : Call). call.id ≡ x.id → call.released ≡ x.released) s.calls found.0 told.same found.1 found.2 in let early = found.3 in omega (arith, same, early)) ];
-        same = All-weaker (Contains s.calls) (λ (call : Call). call.id ≡ x.id → call.released ≡ x.released) (λ call there. All-contains (λ (call : Call). call.id ≡ x.id → call.released ≡ x.released) s.calls call told.same there) later.calls leads.is_open;
+        late = λ m h. elim (told-either m (board_moment x.id) past events h) [
+          | inl before ↦ told.late m before
+          | inr now ↦ (let found = leads.released x.id m now in
+              let same = All-contains (λ (call : Call). call.id ≡ x.id → call.released ≡ x.released) s.calls found.0 told.same found.1 found.2 in
+              let early = found.3 in omega (arith, same, early))
+        ];
+        same = All-weaker (Contains s.calls) (λ (call : Call). call.id ≡ x.id → call.released ≡ x.released)
+            (λ call there. All-contains (λ (call : Call). call.id ≡ x.id → call.released ≡ x.released) s.calls call told.same there) later.calls leads.is_open;
       }))
 
-  told-later : (bound : ℕ) (calls : List DayCall) → All (λ (call : Call). call.id < bound) s.calls → AreTold bound s calls past → AreTold bound later (map (noted_by events) calls) (past ++ events)
+  told-later : (bound : ℕ) (calls : List DayCall) → All (λ (call : Call). call.id < bound) s.calls → AreTold bound s calls past
+      → AreTold bound later (map (noted_by events) calls) (past ++ events)
   told-later bound calls open_known told = record {
-    each = All-map (IsTold later (past ++ events)) (noted_by events) calls (All-weaker (IsTold s past) (λ x. IsTold later (past ++ events) (noted_by events x)) one-later calls told.each);
+    each = All-map (IsTold later (past ++ events)) (noted_by events) calls
+        (All-weaker (IsTold s past) (λ x. IsTold later (past ++ events) (noted_by events x)) one-later calls told.each);
     aboard = All-weaker (HasGotOn s events) (λ (group : Aboard). IsBoardedAt group.id group.boarded (past ++ events)) got-on later.aboard leads.got_on;
-    order = λ n m h. elim (told-either m (delivery_moment n) past events h) [ inl before ↦ (let found = told.order n m before in (found.0, told-front found.0 (board_moment n) past events found.1, found.2)) | inr now ↦ now-order n m (leads.boarded n m now) ];
-    known = λ n m h. elim (told-either m (board_moment n) past events h) [ inl before ↦ told.known n m before | inr now ↦ (let found = leads.released n m now in subst (λ (i : ℕ). i < bound) found.2 (All-contains (λ (call : Call). call.id < bound) s.calls found.0 open_known found.1)) ];
+    order = λ n m h. elim (told-either m (delivery_moment n) past events h) [
+      | inl before ↦ (let found = told.order n m before in (found.0, told-front found.0 (board_moment n) past events found.1, found.2))
+      | inr now ↦ now-order n m (leads.boarded n m now)
+    ];
+    known = λ n m h. elim (told-either m (board_moment n) past events h) [
+      | inl before ↦ told.known n m before
+      | inr now ↦ (let found = leads.released n m now in
+          subst (λ (i : ℕ). i < bound) found.2 (All-contains (λ (call : Call). call.id < bound) s.calls found.0 open_known found.1))
+    ];
   }
     where
       was-aboard : (group : Aboard) → Contains s.aboard group → IsBoardedAt group.id group.boarded (past ++ events)
-      was-aboard group there = told-front group.boarded (board_moment group.id) past events (All-contains (λ (g : Aboard). IsBoardedAt g.id g.boarded past) s.aboard group told.aboard there)
+      was-aboard group there =
+          told-front group.boarded (board_moment group.id) past events
+          (All-contains (λ (g : Aboard). IsBoardedAt g.id g.boarded past) s.aboard group told.aboard there)
 
       got-on : (group : Aboard) → HasGotOn s events group → IsBoardedAt group.id group.boarded (past ++ events)
       got-on group (inl there) = was-aboard group there
       got-on group (inr now) = told-back group.boarded (board_moment group.id) past events now
 
       now-order : (n m : ℕ) → HasBoardedBy s events n m → (before : ℕ) × IsBoardedAt n before (past ++ events) × (before ≤ m)
-      now-order n m (inl aboard) = (aboard.0.boarded, subst (λ (i : ℕ). IsBoardedAt i aboard.0.boarded (past ++ events)) aboard.2 (was-aboard aboard.0 aboard.1), aboard.3)
+      now-order n m (inl aboard) =
+          (aboard.0.boarded, subst (λ (i : ℕ). IsBoardedAt i aboard.0.boarded (past ++ events)) aboard.2 (was-aboard aboard.0 aboard.1), aboard.3)
       now-order n m (inr now) = (now.0, told-back now.0 (board_moment n) past events now.1, now.2)
 
 -- ---- a call more
@@ -252,14 +289,17 @@ module _ (n : ℕ) (s : Snapshot) (call : Call) (calls : List DayCall) (past : L
   old-told : (x : DayCall) → x.id < n → IsTold s past x → IsTold (with_one s call) past x
   old-told x below was =
       let more = opens-more s call x.id in
-      let none = ap {B = ℕ} (λ (b : Bool). cond b 1 0) (false_from_ne_true (call.id == x.id) (λ h. let same = eqb-true call.id x.id h in omega (arith, same, is, below))) in
+      let none = ap {B = ℕ} (λ (b : Bool). cond b 1 0)
+      (false_from_ne_true (call.id == x.id) (λ h. let same = eqb-true call.id x.id h in omega (arith, same, is, below))) in
       record {
         boards = (let old = was.boards in omega (arith, more, none, old));
         deliveries = (let old = was.deliveries in omega (arith, more, none, old));
         boarded_is = was.boarded_is;
         delivered_is = was.delivered_is;
         late = was.late;
-        same = All-append (λ (c : Call). c.id ≡ x.id → c.released ≡ x.released) s.calls (call ∷ []) was.same (All-cons (λ (c : Call). c.id ≡ x.id → c.released ≡ x.released) call [] (λ e. absurd (omega (arith, e, is, below))) (All-nil (λ (c : Call). c.id ≡ x.id → c.released ≡ x.released)));
+        same = All-append (λ (c : Call). c.id ≡ x.id → c.released ≡ x.released) s.calls (call ∷ []) was.same
+            (All-cons (λ (c : Call). c.id ≡ x.id → c.released ≡ x.released) call [] (λ e. absurd (omega (arith, e, is, below)))
+            (All-nil (λ (c : Call). c.id ≡ x.id → c.released ≡ x.released)));
       }
 
   not-boarded : (m : ℕ) → IsBoardedAt n m past → ⊥
@@ -284,12 +324,18 @@ module _ (n : ℕ) (s : Snapshot) (call : Call) (calls : List DayCall) (past : L
         boarded_is = ap (last_of None) (sym (empty-list (moments_boarded n past) boarded));
         delivered_is = ap (last_of None) (sym (empty-list (moments_delivered n past) delivered));
         late = λ m h. absurd (not-boarded m h);
-        same = All-append (λ (c : Call). c.id ≡ n → c.released ≡ call.released) s.calls (call ∷ []) (All-weaker (λ (c : Call). c.id < n) (λ (c : Call). c.id ≡ n → c.released ≡ call.released) (λ c below e. absurd (omega (arith, below, e))) s.calls calls_known) (All-cons (λ (c : Call). c.id ≡ n → c.released ≡ call.released) call [] (λ e. refl) (All-nil (λ (c : Call). c.id ≡ n → c.released ≡ call.released)));
+        same = All-append (λ (c : Call). c.id ≡ n → c.released ≡ call.released) s.calls (call ∷ [])
+            (All-weaker (λ (c : Call). c.id < n) (λ (c : Call). c.id ≡ n → c.released ≡ call.released)
+            (λ c below e. absurd (omega (arith, below, e))) s.calls calls_known)
+            (All-cons (λ (c : Call). c.id ≡ n → c.released ≡ call.released) call [] (λ e. refl)
+            (All-nil (λ (c : Call). c.id ≡ n → c.released ≡ call.released)));
       }
 
-  one-more : All (λ (c : Call). c.id < n) s.calls → All (λ (group : Aboard). group.id < n) s.aboard → All (λ (x : DayCall). x.id < n) calls → AreTold (n + 1) (with_one s call) (calls ++ new_call n call ∷ []) past
+  one-more : All (λ (c : Call). c.id < n) s.calls → All (λ (group : Aboard). group.id < n) s.aboard → All (λ (x : DayCall). x.id < n) calls
+      → AreTold (n + 1) (with_one s call) (calls ++ new_call n call ∷ []) past
   one-more calls_known groups_known ids_known = record {
-    each = All-append (IsTold (with_one s call) past) calls (new_call n call ∷ []) (both-known calls ids_known told.each) (All-cons (IsTold (with_one s call) past) (new_call n call) [] (new-told calls_known groups_known) (All-nil (IsTold (with_one s call) past)));
+    each = All-append (IsTold (with_one s call) past) calls (new_call n call ∷ []) (both-known calls ids_known told.each)
+        (All-cons (IsTold (with_one s call) past) (new_call n call) [] (new-told calls_known groups_known) (All-nil (IsTold (with_one s call) past)));
     aboard = told.aboard;
     order = told.order;
     known = λ i m h. (let below = told.known i m h in omega (arith, below));
@@ -297,7 +343,9 @@ module _ (n : ℕ) (s : Snapshot) (call : Call) (calls : List DayCall) (past : L
     where
       both-known : (xs : List DayCall) → All (λ (x : DayCall). x.id < n) xs → All (IsTold s past) xs → All (IsTold (with_one s call) past) xs
       both-known [] known each = All-nil (IsTold (with_one s call) past)
-      both-known (x ∷ xs) known each = All-cons (IsTold (with_one s call) past) x xs (old-told x (All-head (λ (y : DayCall). y.id < n) x xs known) (All-head (IsTold s past) x xs each)) (both-known xs (All-tail (λ (y : DayCall). y.id < n) x xs known) (All-tail (IsTold s past) x xs each))
+      both-known (x ∷ xs) known each =
+          All-cons (IsTold (with_one s call) past) x xs (old-told x (All-head (λ (y : DayCall). y.id < n) x xs known) (All-head (IsTold s past) x xs each))
+          (both-known xs (All-tail (λ (y : DayCall). y.id < n) x xs known) (All-tail (IsTold s past) x xs each))
 
 -- ---- the day
 
@@ -322,7 +370,8 @@ opening-serves s a o f = record {
   aboard_known = subst (All (λ (group : Aboard). group.id < 1)) (sym (empty s.aboard o.aboard)) (All-nil (λ (group : Aboard). group.id < 1));
   told = record {
     each = All-nil (IsTold s []);
-    aboard = subst (All (λ (group : Aboard). IsBoardedAt group.id group.boarded [])) (sym (empty s.aboard o.aboard)) (All-nil (λ (group : Aboard). IsBoardedAt group.id group.boarded []));
+    aboard = subst (All (λ (group : Aboard). IsBoardedAt group.id group.boarded [])) (sym (empty s.aboard o.aboard))
+        (All-nil (λ (group : Aboard). IsBoardedAt group.id group.boarded []));
     order = λ n m h. absurd (false≢true h);
     known = λ n m h. absurd (false≢true h);
   };
@@ -343,18 +392,26 @@ refused-serves day past is =
       known = weaker-day-calls n (row_number (day_after_refused day)) day.calls more is.known;
       open_known = weaker-calls n (row_number (day_after_refused day)) day.world.snapshot.calls more is.open_known;
       aboard_known = weaker-groups n (row_number (day_after_refused day)) day.world.snapshot.aboard more is.aboard_known;
-      told = record { each = told.each; aboard = told.aboard; order = told.order; known = λ i m h. (let below = told.known i m h in omega (arith, below, more)) };
+      told = record {
+        each = told.each;
+        aboard = told.aboard;
+        order = told.order;
+        known = λ i m h. (let below = told.known i m h in omega (arith, below, more));
+      };
     }
 
 -- the snapshot with the call of a row that is not refused
-accepted-next : (w : World) (n : ℕ) (row : Row) → IsAccepted w.snapshot → IsFeasiblePlan w.snapshot w.plan → All (λ (call : Call). call.id < n) w.snapshot.calls → All (λ (group : Aboard). group.id < n) w.snapshot.aboard → fault_of_row w n (Some row) ≡ None → IsAccepted (taken (advanced w row.time).snapshot (call_of_row n row))
+accepted-next : (w : World) (n : ℕ) (row : Row) → IsAccepted w.snapshot → IsFeasiblePlan w.snapshot w.plan
+    → All (λ (call : Call). call.id < n) w.snapshot.calls → All (λ (group : Aboard). group.id < n) w.snapshot.aboard → fault_of_row w n (Some row) ≡ None
+    → IsAccepted (taken (advanced w row.time).snapshot (call_of_row n row))
 accepted-next w n row a f open_known aboard_known none =
     let there = (advanced w row.time).snapshot in
     let call = call_of_row n row in
     let good = first (is_row w.snapshot.building row) (fault_of_good_row w n row) none in
     let in_time = second (ltb row.time w.snapshot.moment) (fault_of_new_call there call) good.1 in
     let place = has-place there call in_time.1 in
-    taken-accepted there call (accepted-there w row.time a f (ltb-false row.time w.snapshot.moment in_time.0) (is-good w.snapshot.building row good.0).time) (call-is-new w n row a f open_known aboard_known good.0) place.room place.car
+    taken-accepted there call (accepted-there w row.time a f (ltb-false row.time w.snapshot.moment in_time.0) (is-good w.snapshot.building row good.0).time)
+    (call-is-new w n row a f open_known aboard_known good.0) place.room place.car
   where
     first : (b : Bool) (o : Option RowFault) → cond {A = Option RowFault} b o (Some NoRow) ≡ None → (b ≡ true) × (o ≡ None)
     first true o h = (refl, h)
@@ -364,7 +421,10 @@ accepted-next w n row a f open_known aboard_known none =
     second true o h = absurd cc
     second false o h = (refl, h)
 
-pub accepted-serves : (day : Day) (row : Row) (printed : Stated) (past : List Event) → IsDayServing day past → fault_of_row day.world (row_number day) (Some row) ≡ None → IsFeasiblePlan (day_after_accepted day (row_number day) row printed).world.snapshot printed.plan → IsDayServing (day_after_accepted day (row_number day) row printed) (past ++ events_by day.world row.time)
+pub accepted-serves : (day : Day) (row : Row) (printed : Stated) (past : List Event) → IsDayServing day past
+    → fault_of_row day.world (row_number day) (Some row) ≡ None
+    → IsFeasiblePlan (day_after_accepted day (row_number day) row printed).world.snapshot printed.plan
+    → IsDayServing (day_after_accepted day (row_number day) row printed) (past ++ events_by day.world row.time)
 accepted-serves day row printed past is none feasible =
     let n = row_number day in
     let w = day.world in
@@ -376,7 +436,10 @@ accepted-serves day row printed past is none feasible =
     let next = day_after_accepted day n row printed in
     let same = sym (calls-noted day.calls events) in
     let told = told-later w.snapshot events there (advance-leads w row.time is.accepted is.feasible) past n day.calls is.open_known is.told in
-    let known : All (λ (x : DayCall). x.id < n) noted = All-map (λ (x : DayCall). x.id < n) (noted_by events) day.calls (All-weaker (λ (x : DayCall). x.id < n) (λ (x : DayCall). (noted_by events x).id < n) (λ x h. subst (λ (i : ℕ). i < n) (sym (noted_by-id events x)) h) day.calls is.known) in
+    let known : All (λ (x : DayCall). x.id < n) noted =
+    All-map (λ (x : DayCall). x.id < n) (noted_by events) day.calls
+    (All-weaker (λ (x : DayCall). x.id < n) (λ (x : DayCall). (noted_by events x).id < n)
+    (λ x h. subst (λ (i : ℕ). i < n) (sym (noted_by-id events x)) h) day.calls is.known) in
     let calls = later-calls-known w row.time n is.open_known in
     let groups = later-aboard-known w row.time n is.accepted is.feasible is.open_known is.aboard_known in
     let size = length-append (calls_after day.calls events) (new ∷ []) in
@@ -387,12 +450,15 @@ accepted-serves day row printed past is none feasible =
     let all : IsServing (n + 1) next.world (noted ++ new ∷ []) (past ++ events) = record {
       accepted = accepted-next w n row is.accepted is.feasible is.open_known is.aboard_known none;
       feasible = feasible;
-      known = All-append (λ (x : DayCall). x.id < n + 1) noted (new ∷ []) (weaker-day-calls n (n + 1) noted more known) (All-cons (λ (x : DayCall). x.id < n + 1) new [] (omega arith) (All-nil (λ (x : DayCall). x.id < n + 1)));
-      open_known = All-append (λ (c : Call). c.id < n + 1) there.calls (call ∷ []) (weaker-calls n (n + 1) there.calls more calls) (All-cons (λ (c : Call). c.id < n + 1) call [] (omega arith) (All-nil (λ (c : Call). c.id < n + 1)));
+      known = All-append (λ (x : DayCall). x.id < n + 1) noted (new ∷ []) (weaker-day-calls n (n + 1) noted more known)
+          (All-cons (λ (x : DayCall). x.id < n + 1) new [] (omega arith) (All-nil (λ (x : DayCall). x.id < n + 1)));
+      open_known = All-append (λ (c : Call). c.id < n + 1) there.calls (call ∷ []) (weaker-calls n (n + 1) there.calls more calls)
+          (All-cons (λ (c : Call). c.id < n + 1) call [] (omega arith) (All-nil (λ (c : Call). c.id < n + 1)));
       aboard_known = weaker-groups n (n + 1) there.aboard more groups;
       told = one-more n there call noted (past ++ events) refl told calls groups known;
     } in
-    subst (λ (bound : ℕ). IsServing bound next.world next.calls (past ++ events)) number (subst (λ (xs : List DayCall). IsServing (n + 1) next.world (xs ++ new ∷ []) (past ++ events)) same all)
+    subst (λ (bound : ℕ). IsServing bound next.world next.calls (past ++ events)) number
+    (subst (λ (xs : List DayCall). IsServing (n + 1) next.world (xs ++ new ∷ []) (past ++ events)) same all)
 
 -- ---- the end
 
@@ -402,10 +468,14 @@ has-one m xs e = ap (is_among m) e ∙ or_left (eqb m m) false (eq-eqb m m refl)
 is-one : (b m : ℕ) (xs : List ℕ) → xs ≡ m ∷ [] → is_among b xs ≡ true → m ≡ b
 is-one b m xs e h = elim (or_cases (eqb m b) false (sym (ap (is_among b) e) ∙ h)) [ inl same ↦ eqb-true m b same | inr none ↦ absurd (false≢true none) ]
 
-served-call : (s : Snapshot) (past : List Event) (x : DayCall) → ((n m : ℕ) → IsDeliveredAt n m past → (before : ℕ) × IsBoardedAt n before past × (before ≤ m)) → IsTold (emptied s) past x → IsServedOnce past x
+served-call : (s : Snapshot) (past : List Event) (x : DayCall) → ((n m : ℕ) → IsDeliveredAt n m past → (before : ℕ) × IsBoardedAt n before past × (before ≤ m))
+    → IsTold (emptied s) past x → IsServedOnce past x
 served-call s past x order told =
-    let on = one-item (moments_boarded x.id past) (let count = boards-counted x.id past in let none : opens (emptied s) x.id ≡ 0 = refl in let all = told.boards in omega (arith, count, none, all)) in
-    let off = one-item (moments_delivered x.id past) (let count = deliveries-counted x.id past in let none : places (emptied s) x.id ≡ 0 = refl in let all = told.deliveries in omega (arith, count, none, all)) in
+    let on = one-item (moments_boarded x.id past)
+    (let count = boards-counted x.id past in let none : opens (emptied s) x.id ≡ 0 = refl in let all = told.boards in omega (arith, count, none, all)) in
+    let off = one-item (moments_delivered x.id past)
+    (let count = deliveries-counted x.id past in let none : places (emptied s) x.id ≡ 0 = refl in let all = told.deliveries in
+    omega (arith, count, none, all)) in
     let before = order x.id off.0 (has-one off.0 (moments_delivered x.id past) off.1) in
     let same = is-one before.0 on.0 (moments_boarded x.id past) on.1 before.1 in
     record {
@@ -415,7 +485,10 @@ served-call s past x order told =
       deliveries = off.1;
       not_before_release = told.late on.0 (has-one on.0 (moments_boarded x.id past) on.1);
       not_before_board = (let early = before.2 in omega (arith, early, same));
-      told = ap {B = Served} (λ (o : Option ℕ). record { call = x.id; released = x.released; boarded = unwrap_or o 0; delivered = unwrap_or x.delivered 0 }) (told.boarded_is ∙ ap (last_of None) on.1) ∙ ap {B = Served} (λ (o : Option ℕ). record { call = x.id; released = x.released; boarded = on.0; delivered = unwrap_or o 0 }) (told.delivered_is ∙ ap (last_of None) off.1);
+      told = ap {B = Served} (λ (o : Option ℕ). record { call = x.id; released = x.released; boarded = unwrap_or o 0; delivered = unwrap_or x.delivered 0 })
+          (told.boarded_is ∙ ap (last_of None) on.1)
+          ∙ ap {B = Served} (λ (o : Option ℕ). record { call = x.id; released = x.released; boarded = on.0; delivered = unwrap_or o 0 })
+          (told.delivered_is ∙ ap (last_of None) off.1);
     }
 
 -- Once the plan is run to its end each accepted call boarded once and was delivered once, in time.
@@ -424,7 +497,9 @@ end-served day past is =
     let s = day.world.snapshot in
     let last = last_events day.world in
     let later = told-later s last (emptied s) (end-leads day.world is.accepted is.feasible) past (row_number day) day.calls is.open_known is.told in
-    subst (All (IsServedOnce (past ++ last))) (sym (calls-noted day.calls last)) (All-weaker (IsTold (emptied s) (past ++ last)) (IsServedOnce (past ++ last)) (λ x each. served-call s (past ++ last) x later.order each) (map (noted_by last) day.calls) later.each)
+    subst (All (IsServedOnce (past ++ last))) (sym (calls-noted day.calls last))
+    (All-weaker (IsTold (emptied s) (past ++ last)) (IsServedOnce (past ++ last)) (λ x each. served-call s (past ++ last) x later.order each)
+    (map (noted_by last) day.calls) later.each)
 
 -- of no calls there is nothing to tell
 pub none-served : (day : Day) (events : List Event) → day.calls ≡ [] → All (IsServedOnce events) (calls_at_end day)
@@ -453,7 +528,8 @@ told-one s past x told =
 -- where it is neither open nor aboard it is delivered
 told-delivered : (s : Snapshot) (past : List Event) (x : DayCall) → places s x.id ≡ 0 → IsTold s past x → is_some x.delivered ≡ true
 told-delivered s past x none told =
-    let one = one-item (moments_delivered x.id past) (let count = deliveries-counted x.id past in let all = told.deliveries in omega (arith, count, none, all)) in
+    let one = one-item (moments_delivered x.id past)
+    (let count = deliveries-counted x.id past in let all = told.deliveries in omega (arith, count, none, all)) in
     ap is_some (told.delivered_is ∙ ap (last_of None) one.1)
 
 pub serving-loses-none : (day : Day) (past : List Event) → IsDayServing day past → loses_none day ≡ true
@@ -462,7 +538,8 @@ serving-loses-none day past is = each day.calls is.told.each
     each : (xs : List DayCall) → All (IsTold day.world.snapshot past) xs → list_all (λ (x : DayCall). places_of_call day.world.snapshot x == 1) xs ≡ true
     each [] all = refl
     each (x ∷ xs) all =
-        and_from (places_of_call day.world.snapshot x == 1) (list_all (λ (y : DayCall). places_of_call day.world.snapshot y == 1) xs) (eq-eqb (places_of_call day.world.snapshot x) 1 (told-one day.world.snapshot past x (All-head (IsTold day.world.snapshot past) x xs all)))
+        and_from (places_of_call day.world.snapshot x == 1) (list_all (λ (y : DayCall). places_of_call day.world.snapshot y == 1) xs)
+        (eq-eqb (places_of_call day.world.snapshot x) 1 (told-one day.world.snapshot past x (All-head (IsTold day.world.snapshot past) x xs all)))
         (each xs (All-tail (IsTold day.world.snapshot past) x xs all))
 
 -- Once the plan is run to its end each accepted call is delivered.
@@ -472,5 +549,7 @@ serving-delivered day past is =
     let last = last_events day.world in
     let later = told-later s last (emptied s) (end-leads day.world is.accepted is.feasible) past (row_number day) day.calls is.open_known is.told in
     ap (count_by is_delivered_call) (calls-noted day.calls last)
-    ∙ count-all is_delivered_call (map (noted_by last) day.calls) (All-weaker (IsTold (emptied s) (past ++ last)) (λ (x : DayCall). is_delivered_call x ≡ true) (λ x told. told-delivered (emptied s) (past ++ last) x refl told) (map (noted_by last) day.calls) later.each)
+    ∙ count-all is_delivered_call (map (noted_by last) day.calls)
+    (All-weaker (IsTold (emptied s) (past ++ last)) (λ (x : DayCall). is_delivered_call x ≡ true)
+    (λ x told. told-delivered (emptied s) (past ++ last) x refl told) (map (noted_by last) day.calls) later.each)
     ∙ length-map day.calls (noted_by last)

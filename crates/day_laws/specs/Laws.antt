@@ -21,5 +21,6 @@ pub record LosesNobody (run : Run) : Type 0 where
 
 abbrev pub DayLaw : Type 0
 DayLaw =
-    (opening : Snapshot) (printed : ℕ → Stated) (rows : List (Option Row)) → IsAccepted opening → IsOpeningSnapshot opening → ArePlanned IsFeasibleStated opening printed rows
+    (opening : Snapshot) (printed : ℕ → Stated) (rows : List (Option Row)) → IsAccepted opening → IsOpeningSnapshot opening
+    → ArePlanned IsFeasibleStated opening printed rows
     → LosesNobody (day_run opening printed rows)

@@ -1,5 +1,6 @@
 -- Calls in the order of their ids: an event is noted at one place.
-use Rattle.std.proofs.Common.{◌==◌, ◌≡◌, ℕ, zero, suc, ◌<◌, ◌≤◌, Bool, true, false, cond, List, [], ◌∷◌, ◌++◌, map, length, get_or, set, refl, sym, ap, ◌∙◌, subst, inl, inr, arith, Option, Some, None, Result, Ok, Err, IfOk, IfErr}
+use Rattle.std.proofs.Common.{◌==◌, ◌≡◌, ℕ, zero, suc, ◌<◌, ◌≤◌, Bool, true, false, cond, List, [], ◌∷◌, ◌++◌, map, length, get_or, set, refl, sym, ap, ◌∙◌}
+use Rattle.std.proofs.Common.{subst, inl, inr, arith, Option, Some, None, Result, Ok, Err, IfOk, IfErr}
 use Rattle.std.specs.Prelude.{IfSome, IfNone}
 use Rattle.std.specs.Result.{result_ok}
 use Rattle.std.specs.List.Sorted.{IsSearchInRange, IsBinarySearchResult, IsNonDecreasingBy}
@@ -41,17 +42,22 @@ module _ (calls : List LoggedCall) (rise : IdsRise (day_calls calls)) (id : ℕ)
 
   comparisons_rise : IsNonDecreasingBy (λ (x : LoggedCall). ordering_index (nat_cmp x.id id)) calls
   comparisons_rise = IsNonDecreasingBy-from_default (λ (x : LoggedCall). ordering_index (nat_cmp x.id id)) calls no_logged (λ i j le in_range.
-      let keys_rise : (get_or calls i no_logged).id ≤ (get_or calls j no_logged).id = grind (arith, ids-rise i j, λ (same : i ≡ j). ap (λ (k : ℕ). (get_or calls k no_logged).id) same) in
+      let keys_rise : (get_or calls i no_logged).id ≤ (get_or calls j no_logged).id =
+      grind (arith, ids-rise i j, λ (same : i ≡ j). ap (λ (k : ℕ). (get_or calls k no_logged).id) same) in
       grind (arith, nat_tests))
 
-  pub searched : (r : Result ℕ ℕ) → IsSearchInRange r (length calls) → IsBinarySearchResult (λ (x : LoggedCall). nat_cmp x.id id) calls r → IfOk r (IsFoundAt calls id) × IfErr r (λ _. IsNowhere calls id)
+  pub searched : (r : Result ℕ ℕ) → IsSearchInRange r (length calls) → IsBinarySearchResult (λ (x : LoggedCall). nat_cmp x.id id) calls r
+      → IfOk r (IsFoundAt calls id) × IfErr r (λ _. IsNowhere calls id)
   searched (Ok at) in_range equal = ((in_range, id-at calls at in_range ∙ ranked _ id _ (sym (equal no_logged))), tt)
   searched (Err at) in_range parted = (tt, nowhere)
     where
       nowhere : IsNowhere calls id
       nowhere k below same =
           let here = id-at calls k below in
-          elim (cases_lt k at) [ inl lt ↦ (let less = ranked _ id _ (sym ((parted comparisons_rise).0 k no_logged (omega arith) lt)) in omega (arith, less, here, same)) | inr ge ↦ (let more = ranked _ id _ (sym ((parted comparisons_rise).1 k no_logged ge below)) in omega (arith, more, here, same)) ]
+          elim (cases_lt k at) [
+            | inl lt ↦ (let less = ranked _ id _ (sym ((parted comparisons_rise).0 k no_logged (omega arith) lt)) in omega (arith, less, here, same))
+            | inr ge ↦ (let more = ranked _ id _ (sym ((parted comparisons_rise).1 k no_logged ge below)) in omega (arith, more, here, same))
+          ]
 
 -- ---- what is noted
 
@@ -71,31 +77,47 @@ noted-apart (Deliver call car moment) x apart = at (x.id == call) (false_from_ne
 pub noted-nowhere : (calls : List LoggedCall) (event : Event) → IsNowhere calls (id_of_event event) → day_calls calls ≡ map (noted_in event) (day_calls calls)
 noted-nowhere [] event none = refl
 noted-nowhere (x ∷ calls) event none =
-    ap (λ (y : DayCall). y ∷ day_calls calls) (sym (noted-apart event (day_call x) (λ e. none 0 (omega arith) e))) ∙ ap (λ (ys : List DayCall). noted_in event (day_call x) ∷ ys) (noted-nowhere calls event (λ k below e. none (suc k) (omega (arith, below)) e))
+    ap (λ (y : DayCall). y ∷ day_calls calls) (sym (noted-apart event (day_call x) (λ e. none 0 (omega arith) e)))
+    ∙ ap (λ (ys : List DayCall). noted_in event (day_call x) ∷ ys) (noted-nowhere calls event (λ k below e. none (suc k) (omega (arith, below)) e))
 
 -- where no two ids are equal, an event is noted at its place alone
-pub noted-set : (calls : List LoggedCall) (event : Event) (k : ℕ) (y : LoggedCall) → k < length calls → ((i : ℕ) → i < length calls → id_at (day_calls calls) i ≡ id_of_event event → i ≡ k) → day_call y ≡ noted_in event (day_call (get_or calls k no_logged)) → day_calls (set calls k y) ≡ map (noted_in event) (day_calls calls)
+pub noted-set : (calls : List LoggedCall) (event : Event) (k : ℕ) (y : LoggedCall) → k < length calls
+    → ((i : ℕ) → i < length calls → id_at (day_calls calls) i ≡ id_of_event event → i ≡ k) → day_call y ≡ noted_in event (day_call (get_or calls k no_logged))
+    → day_calls (set calls k y) ≡ map (noted_in event) (day_calls calls)
 noted-set [] event k y below only is = absurd (omega (arith, below))
 noted-set (x ∷ calls) event zero y below only is =
-    ap (λ (z : DayCall). z ∷ day_calls calls) is ∙ ap (λ (ys : List DayCall). noted_in event (day_call x) ∷ ys) (noted-nowhere calls event (λ i low e. let same = only (suc i) (omega (arith, low)) e in omega (arith, same)))
+    ap (λ (z : DayCall). z ∷ day_calls calls) is
+    ∙ ap (λ (ys : List DayCall). noted_in event (day_call x) ∷ ys)
+    (noted-nowhere calls event (λ i low e. let same = only (suc i) (omega (arith, low)) e in omega (arith, same)))
 noted-set (x ∷ calls) event (suc k) y below only is =
-    ap (λ (z : DayCall). z ∷ day_calls (set calls k y)) (sym (noted-apart event (day_call x) (λ e. let same = only 0 (omega arith) e in omega (arith, same)))) ∙ ap (λ (ys : List DayCall). noted_in event (day_call x) ∷ ys) (noted-set calls event k y (omega (arith, below)) (λ i low e. let same = only (suc i) (omega (arith, low)) e in omega (arith, same)) is)
+    ap (λ (z : DayCall). z ∷ day_calls (set calls k y)) (sym (noted-apart event (day_call x) (λ e. let same = only 0 (omega arith) e in omega (arith, same))))
+    ∙ ap (λ (ys : List DayCall). noted_in event (day_call x) ∷ ys)
+    (noted-set calls event k y (omega (arith, below)) (λ i low e. let same = only (suc i) (omega (arith, low)) e in omega (arith, same)) is)
 
 -- in rising ids each stands once
-pub only-place : (calls : List LoggedCall) (id k : ℕ) → IdsRise (day_calls calls) → IsFoundAt calls id k → (i : ℕ) → i < length calls → id_at (day_calls calls) i ≡ id → i ≡ k
+pub only-place : (calls : List LoggedCall) (id k : ℕ) → IdsRise (day_calls calls) → IsFoundAt calls id k → (i : ℕ) → i < length calls
+    → id_at (day_calls calls) i ≡ id → i ≡ k
 only-place calls id k rise found i below same =
     let size = length-map calls day_call in
     let at = found.1 in
     let there = found.0 in
-    elim (cases_order i k) [ inl e ↦ e | inr either ↦ elim either [ inl lt ↦ (let less = rise i k lt (omega (arith, there, size)) in absurd (omega (arith, less, at, same))) | inr gt ↦ (let less = rise k i gt (omega (arith, below, size)) in absurd (omega (arith, less, at, same))) ] ]
+    elim (cases_order i k) [
+      | inl e ↦ e
+      | inr either ↦ elim either [
+        | inl lt ↦ (let less = rise i k lt (omega (arith, there, size)) in absurd (omega (arith, less, at, same)))
+        | inr gt ↦ (let less = rise k i gt (omega (arith, below, size)) in absurd (omega (arith, less, at, same)))
+      ]
+    ]
 
 -- what the search says, as an option
-pub found-some : (calls : List LoggedCall) (id : ℕ) (r : Result ℕ ℕ) (o : Option ℕ) → o ≡ result_ok r → IfOk r (IsFoundAt calls id) × IfErr r (λ _. IsNowhere calls id) → IfSome o (IsFoundAt calls id) × IfNone o (IsNowhere calls id)
+pub found-some : (calls : List LoggedCall) (id : ℕ) (r : Result ℕ ℕ) (o : Option ℕ) → o ≡ result_ok r → IfOk r (IsFoundAt calls id)
+    × IfErr r (λ _. IsNowhere calls id) → IfSome o (IsFoundAt calls id) × IfNone o (IsNowhere calls id)
 found-some calls id (Ok k) o is found = subst (λ (x : Option ℕ). IfSome x (IsFoundAt calls id) × IfNone x (IsNowhere calls id)) (sym is) (found.0, tt)
 found-some calls id (Err k) o is found = subst (λ (x : Option ℕ). IfSome x (IsFoundAt calls id) × IfNone x (IsNowhere calls id)) (sym is) (tt, found.1)
 
 -- one event more
-pub noted-more : (calls : List DayCall) (events : List Event) (event : Event) → calls_after calls (events ++ event ∷ []) ≡ map (noted_in event) (calls_after calls events)
+pub noted-more : (calls : List DayCall) (events : List Event) (event : Event)
+    → calls_after calls (events ++ event ∷ []) ≡ map (noted_in event) (calls_after calls events)
 noted-more calls [] event = refl
 noted-more calls (first ∷ events) event = noted-more (map (noted_in first) calls) events event
 

@@ -1,5 +1,6 @@
 -- Lines of a text: what a run reads of them.
-use Rattle.std.proofs.Common.{◌≡◌, ℕ, zero, suc, ◌-◌, ◌<◌, Bool, true, false, cond, eqb, List, [], ◌∷◌, ◌++◌, length, take, refl, sym, ap, ◌∙◌, subst, arith, Option, Some, None, Result, Ok, Err}
+use Rattle.std.proofs.Common.{◌≡◌, ℕ, zero, suc, ◌-◌, ◌<◌, Bool, true, false, cond, eqb, List, [], ◌∷◌, ◌++◌, length, take, refl, sym, ap, ◌∙◌, subst, arith}
+use Rattle.std.proofs.Common.{Option, Some, None, Result, Ok, Err}
 use Rattle.std.specs.Prelude.{IsErrOf, OnOk, OnErr}
 use Rattle.std.specs.List.{concat}
 use Rattle.std.specs.Io.BufRead.{strip_last}
@@ -42,7 +43,8 @@ last_place b xs = omega (arith, length-append xs (b ∷ []))
 strip_pushed : (b : ℕ) (xs : List ℕ) → strip_last b (xs ++ b ∷ []) ≡ xs
 strip_pushed b xs =
     let all = xs ++ b ∷ [] in
-    ap (λ (e : Bool). cond e (take (length all - 1) all) all) (ends_with_byte-push b xs) ∙ ap (λ (n : ℕ). take n all) (last_place b xs) ∙ take-append-le (length xs) xs (b ∷ []) (omega arith) ∙ take_all (length xs) xs (omega arith)
+    ap (λ (e : Bool). cond e (take (length all - 1) all) all) (ends_with_byte-push b xs) ∙ ap (λ (n : ℕ). take n all) (last_place b xs)
+    ∙ take-append-le (length xs) xs (b ∷ []) (omega arith) ∙ take_all (length xs) xs (omega arith)
 
 -- this line with an end
 abbrev pub ended : List ℕ → List ℕ
@@ -51,7 +53,8 @@ ended line = (line ++ 13 ∷ []) ++ 10 ∷ []
 pub line_of-ended : (line : List ℕ) → line_of (ended line) ≡ line
 line_of-ended line =
     let all = ended line in
-    ap (λ (e : Bool). cond e (strip_last 13 (strip_last 10 all)) all) (ends_with_byte-push 10 (line ++ 13 ∷ [])) ∙ ap (strip_last 13) (strip_pushed 10 (line ++ 13 ∷ [])) ∙ strip_pushed 13 line
+    ap (λ (e : Bool). cond e (strip_last 13 (strip_last 10 all)) all) (ends_with_byte-push 10 (line ++ 13 ∷ []))
+    ∙ ap (strip_last 13) (strip_pushed 10 (line ++ 13 ∷ [])) ∙ strip_pushed 13 line
 
 abbrev zeros : ℕ → List ℕ
 zeros zero = []
@@ -74,41 +77,61 @@ line-read right old new text None after line next done =
     record { piece = ended line; done = subst (λ (l : List ℕ). AreRowsDone right old (rows_of_line l) new text) (sym (line_of-ended line)) done; next = tt }
 line-read right old new text (Some from) None line next done = absurd next
 line-read right old new text (Some from) (Some to) line next done =
-    record { piece = next.0; done = subst (λ (l : List ℕ). AreRowsDone right old (rows_of_line l) new text) (sym next.3) done; next = between from to next.0 next.1 next.6 }
+    record {
+      piece = next.0;
+      done = subst (λ (l : List ℕ). AreRowsDone right old (rows_of_line l) new text) (sym next.3) done;
+      next =
+          between from to next.0 next.1 next.6;
+    }
 
 pub long-line-read : (right : Right) (old new : Day) (text : List ℕ) (before after : Option TextState) (raw : List ℕ)
     → NextRaw before (Ok Long) raw after → AreRowsDone right old (None ∷ []) new text → IsLineDone right old new text before after
 long-line-read right old new text None after raw next done =
     let line = zeros 4097 in
     let long = length-zeros 4097 in
-    record { piece = ended line; done = subst (λ r. AreRowsDone right old r new text) (sym (ap rows_of_line (line_of-ended line) ∙ long-rows line (omega (arith, long)))) done; next = tt }
+    record {
+      piece = ended line;
+      done =
+          subst (λ r. AreRowsDone right old r new text) (sym (ap rows_of_line (line_of-ended line) ∙ long-rows line (omega (arith, long)))) done;
+      next = tt;
+    }
 long-line-read right old new text (Some from) None raw next done = absurd next
 long-line-read right old new text (Some from) (Some to) raw next done =
-    record { piece = next.0; done = subst (λ r. AreRowsDone right old r new text) (sym (long-rows (line_of next.0) next.3)) done; next = between from to next.0 next.1 next.5 }
+    record {
+      piece = next.0;
+      done = subst (λ r. AreRowsDone right old r new text) (sym (long-rows (line_of next.0) next.3)) done;
+      next =
+          between from to next.0 next.1 next.5;
+    }
 
 -- ---- where a run stops
 
-pub stops-end : (before after : Option TextState) (raw : List ℕ) (left : Option (List ℕ)) → NextRaw before (Ok End) raw after → IsAtEnd left → StopsAt (Ok tt) before left
+pub stops-end : (before after : Option TextState) (raw : List ℕ) (left : Option (List ℕ)) → NextRaw before (Ok End) raw after → IsAtEnd left
+    → StopsAt (Ok tt) before left
 stops-end None after raw left next end = tt
 stops-end (Some from) after raw left next end = (ap pieces_of next.0, end)
 
 -- what is left of a text whose first line was read, but for the memory for its row
-pub stops-line : (before after : Option TextState) (raw : List ℕ) (left : Option (List ℕ)) → NextRaw before (Ok Line) raw after → StopsAt (Err NoMemory) before left
+pub stops-line : (before after : Option TextState) (raw : List ℕ) (left : Option (List ℕ)) → NextRaw before (Ok Line) raw after
+    → StopsAt (Err NoMemory) before left
 stops-line None after raw left next = tt
 stops-line (Some from) None raw left next = absurd next
 stops-line (Some from) (Some to) raw left next = record { piece = next.0; pieces = pieces_of to.bytes; next = next.1 }
 
-pub stops-long-line : (before after : Option TextState) (raw : List ℕ) (left : Option (List ℕ)) → NextRaw before (Ok Long) raw after → StopsAt (Err NoMemory) before left
+pub stops-long-line : (before after : Option TextState) (raw : List ℕ) (left : Option (List ℕ)) → NextRaw before (Ok Long) raw after
+    → StopsAt (Err NoMemory) before left
 stops-long-line None after raw left next = tt
 stops-long-line (Some from) None raw left next = absurd next
 stops-long-line (Some from) (Some to) raw left next = record { piece = next.0; pieces = pieces_of to.bytes; next = next.1 }
 
-pub stops-too-long : (before after : Option TextState) (raw : List ℕ) (left : Option (List ℕ)) → NextRaw before (Err TextTooLong) raw after → StopsAt (Err TooLong) before left
+pub stops-too-long : (before after : Option TextState) (raw : List ℕ) (left : Option (List ℕ)) → NextRaw before (Err TextTooLong) raw after
+    → StopsAt (Err TooLong) before left
 stops-too-long None after raw left next = tt
 stops-too-long (Some from) after raw left next = record { piece = next.0; pieces = next.1; next = next.2; long = omega (arith, next.3) }
 
 -- a read failed behind these bytes
-pub stops-cut : (page : PageState) (before left : Option (List ℕ)) (taken : List ℕ) → before ≡ prepend_known taken left → (HasWholeLine (page.unread ++ taken) → ⊥) → StopsAt (Err Read) (text_at page before) left
+pub stops-cut : (page : PageState) (before left : Option (List ℕ)) (taken : List ℕ) → before ≡ prepend_known taken left
+    → (HasWholeLine (page.unread ++ taken) → ⊥) → StopsAt (Err Read) (text_at page before) left
 stops-cut page before None taken given none = subst (λ (known : Option (List ℕ)). StopsAt (Err Read) (text_at page known) None) (sym given) tt
 stops-cut page before (Some later) taken given none =
     subst (λ (known : Option (List ℕ)). StopsAt (Err Read) (text_at page known) (Some later)) (sym given)
@@ -117,30 +140,43 @@ stops-cut page before (Some later) taken given none =
 -- ---- one line
 
 -- a line that is over long was refused
-pub long-line-done : (right : Right) (old new : Day) (text line : List ℕ) {E : Type 0} (done : Result Unit E) → line_limit < length line → OnOk done (new ≡ day_after_refused old) → OnOk done (text ≡ refused_text (row_number old) NoRow)
+pub long-line-done : (right : Right) (old new : Day) (text line : List ℕ) {E : Type 0} (done : Result Unit E) → line_limit < length line
+    → OnOk done (new ≡ day_after_refused old) → OnOk done (text ≡ refused_text (row_number old) NoRow)
     → OnOk done (AreRowsDone right old (rows_of_line line) new text)
-long-line-done right old new text line (Ok unit) long day log = subst (λ r. AreRowsDone right old r new text) (sym (long-rows line long)) (long-row-done right old new text day log)
+long-line-done right old new text line (Ok unit) long day log =
+    subst (λ r. AreRowsDone right old r new text) (sym (long-rows line long)) (long-row-done right old new text day log)
 long-line-done right old new text line (Err error) long day log = tt
 
-pub line-next : (right : Right) (old new : Day) (text : List ℕ) (before after : Option TextState) (line : List ℕ) (left : Option (List ℕ)) {E : Type 0} (done : Result Unit E)
-    → NextRaw before (Ok Line) line after → OnOk done (AreRowsDone right old (rows_of_line line) new text) → OnErr done (new ≡ old) → DidNext right old new (next_after done) text before after left
+pub line-next : (right : Right) (old new : Day) (text : List ℕ) (before after : Option TextState) (line : List ℕ) (left : Option (List ℕ)) {E : Type 0}
+    (done : Result Unit E)
+    → NextRaw before (Ok Line) line after → OnOk done (AreRowsDone right old (rows_of_line line) new text) → OnErr done (new ≡ old)
+    → DidNext right old new (next_after done) text before after left
 line-next right old new text before after line left (Ok unit) next ok err = line-read right old new text before after line next ok
 line-next right old new text before after line left (Err error) next ok err = (err, stops-line before after line left next)
 
 -- the same of what a call answered
-pub line-answered : (right : Right) (old new : Day) (text : List ℕ) (before after : Option TextState) (line raw : List ℕ) (left : Option (List ℕ)) {E : Type 0} (done : Result Unit E) (read : Result RawLine TextFault) (turn : Result NextRow RunFault)
-    → read ≡ Ok Line → line ≡ raw → turn ≡ next_after done → NextRaw before read raw after → OnOk done (AreRowsDone right old (rows_of_line line) new text) → OnErr done (new ≡ old) → DidNext right old new turn text before after left
+pub line-answered : (right : Right) (old new : Day) (text : List ℕ) (before after : Option TextState) (line raw : List ℕ) (left : Option (List ℕ)) {E : Type 0}
+    (done : Result Unit E) (read : Result RawLine TextFault) (turn : Result NextRow RunFault)
+    → read ≡ Ok Line → line ≡ raw → turn ≡ next_after done → NextRaw before read raw after → OnOk done (AreRowsDone right old (rows_of_line line) new text)
+    → OnErr done (new ≡ old) → DidNext right old new turn text before after left
 line-answered right old new text before after line raw left done read turn is same turn_is next ok err =
     subst (λ (t : Result NextRow RunFault). DidNext right old new t text before after left) (sym turn_is)
-    (line-next right old new text before after line left done (subst (λ (l : List ℕ). NextRaw before (Ok Line) l after) (sym same) (subst (λ (r : Result RawLine TextFault). NextRaw before r raw after) is next)) ok err)
+    (line-next right old new text before after line left done
+    (subst (λ (l : List ℕ). NextRaw before (Ok Line) l after) (sym same) (subst (λ (r : Result RawLine TextFault). NextRaw before r raw after) is next)) ok
+    err)
 
-pub long-line-next : (right : Right) (old new : Day) (text : List ℕ) (before after : Option TextState) (raw : List ℕ) (left : Option (List ℕ)) {E : Type 0} (done : Result Unit E)
-    → NextRaw before (Ok Long) raw after → OnOk done (new ≡ day_after_refused old) → OnOk done (text ≡ refused_text (row_number old) NoRow) → OnErr done (new ≡ old) → DidNext right old new (next_after done) text before after left
-long-line-next right old new text before after raw left (Ok unit) next day log err = long-line-read right old new text before after raw next (long-row-done right old new text day log)
+pub long-line-next : (right : Right) (old new : Day) (text : List ℕ) (before after : Option TextState) (raw : List ℕ) (left : Option (List ℕ)) {E : Type 0}
+    (done : Result Unit E)
+    → NextRaw before (Ok Long) raw after → OnOk done (new ≡ day_after_refused old) → OnOk done (text ≡ refused_text (row_number old) NoRow)
+    → OnErr done (new ≡ old) → DidNext right old new (next_after done) text before after left
+long-line-next right old new text before after raw left (Ok unit) next day log err =
+    long-line-read right old new text before after raw next (long-row-done right old new text day log)
 long-line-next right old new text before after raw left (Err error) next day log err = (err, stops-long-line before after raw left next)
 
-pub long-line-answered : (right : Right) (old new : Day) (text : List ℕ) (before after : Option TextState) (raw : List ℕ) (left : Option (List ℕ)) {E : Type 0} (done : Result Unit E) (read : Result RawLine TextFault) (turn : Result NextRow RunFault)
-    → read ≡ Ok Long → turn ≡ next_after done → NextRaw before read raw after → OnOk done (new ≡ day_after_refused old) → OnOk done (text ≡ refused_text (row_number old) NoRow) → OnErr done (new ≡ old) → DidNext right old new turn text before after left
+pub long-line-answered : (right : Right) (old new : Day) (text : List ℕ) (before after : Option TextState) (raw : List ℕ) (left : Option (List ℕ)) {E : Type 0}
+    (done : Result Unit E) (read : Result RawLine TextFault) (turn : Result NextRow RunFault)
+    → read ≡ Ok Long → turn ≡ next_after done → NextRaw before read raw after → OnOk done (new ≡ day_after_refused old)
+    → OnOk done (text ≡ refused_text (row_number old) NoRow) → OnErr done (new ≡ old) → DidNext right old new turn text before after left
 long-line-answered right old new text before after raw left done read turn is turn_is next day log err =
     subst (λ (t : Result NextRow RunFault). DidNext right old new t text before after left) (sym turn_is)
     (long-line-next right old new text before after raw left done (subst (λ (r : Result RawLine TextFault). NextRaw before r raw after) is next) day log err)
@@ -150,7 +186,8 @@ pub end-next : (right : Right) (day : Day) (text : List ℕ) (before after : Opt
 end-next right day text before after raw left next end = (refl, stops-end before after raw left next end)
 
 -- A line could not be read: where the source tells what it has left, it is never one of the other two faults.
-pub fault-next : (right : Right) (day : Day) (text : List ℕ) (page : PageState) (old left : Option (List ℕ)) (after : Option TextState) (raw : List ℕ) (fault : TextFault) (taken : List ℕ)
+pub fault-next : (right : Right) (day : Day) (text : List ℕ) (page : PageState) (old left : Option (List ℕ)) (after : Option TextState) (raw : List ℕ)
+    (fault : TextFault) (taken : List ℕ)
     → NextRaw (text_at page old) (Err fault) raw after → old ≡ prepend_known taken left → (fault ≡ TextRead → HasWholeLine (page.unread ++ taken) → ⊥)
     → DidNext right day day (Err (fault_of fault)) text (text_at page old) after left
 fault-next right day text page old left after raw TextTooLong taken next given none = (refl, stops-too-long (text_at page old) after raw left next)
@@ -166,9 +203,12 @@ fault-next right day text page old left after raw TextNoMemory taken next given 
     stops-none None next = tt
     stops-none (Some from) next = absurd next
 
-pub fault-answered : (right : Right) (day : Day) (text : List ℕ) (page : PageState) (old left : Option (List ℕ)) (after : Option TextState) (raw : List ℕ) (fault : TextFault) (taken : List ℕ) (read : Result RawLine TextFault) (answer : RunFault)
-    → read ≡ Err fault → answer ≡ fault_of fault → NextRaw (text_at page old) read raw after → old ≡ prepend_known taken left → (IsErrOf read TextRead → HasWholeLine (page.unread ++ taken) → ⊥)
+pub fault-answered : (right : Right) (day : Day) (text : List ℕ) (page : PageState) (old left : Option (List ℕ)) (after : Option TextState) (raw : List ℕ)
+    (fault : TextFault) (taken : List ℕ) (read : Result RawLine TextFault) (answer : RunFault)
+    → read ≡ Err fault → answer ≡ fault_of fault → NextRaw (text_at page old) read raw after → old ≡ prepend_known taken left
+    → (IsErrOf read TextRead → HasWholeLine (page.unread ++ taken) → ⊥)
     → DidNext right day day (Err answer) text (text_at page old) after left
 fault-answered right day text page old left after raw fault taken read answer is answer_is next given none =
     subst (λ (f : RunFault). DidNext right day day (Err f) text (text_at page old) after left) (sym answer_is)
-    (fault-next right day text page old left after raw fault taken (subst (λ (r : Result RawLine TextFault). NextRaw (text_at page old) r raw after) is next) given (λ e. none (is ∙ ap Err e)))
+    (fault-next right day text page old left after raw fault taken
+    (subst (λ (r : Result RawLine TextFault). NextRaw (text_at page old) r raw after) is next) given (λ e. none (is ∙ ap Err e)))

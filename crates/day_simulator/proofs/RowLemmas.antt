@@ -26,90 +26,158 @@ use Rattle.day_laws.proofs.RowFaults.{refused-number, step-number}
 
 -- ---- steps
 
-step-refused : (old : Day) (said : Option Row) (printed : Stated) (fault : RowFault) → fault_of_row old.world (row_number old) said ≡ Some fault → next_step old said printed ≡ record { day = day_after_refused old; log = Refused (row_number old) fault }
+step-refused : (old : Day) (said : Option Row) (printed : Stated) (fault : RowFault) → fault_of_row old.world (row_number old) said ≡ Some fault
+    → next_step old said printed ≡ record { day = day_after_refused old; log = Refused (row_number old) fault }
 step-refused old None printed fault is = ap (step_by old (row_number old) None printed) is
 step-refused old (Some row) printed fault is = ap (step_by old (row_number old) (Some row) printed) is
 
-step-accepted : (old : Day) (row : Row) (printed : Stated) → fault_of_row old.world (row_number old) (Some row) ≡ None → next_step old (Some row) printed ≡ record { day = day_after_accepted old (row_number old) row printed; log = Accepted (row_number old) (events_by old.world row.time) printed }
+step-accepted : (old : Day) (row : Row) (printed : Stated) → fault_of_row old.world (row_number old) (Some row) ≡ None
+    → next_step old (Some row) printed
+    ≡ record { day = day_after_accepted old (row_number old) row printed; log = Accepted (row_number old) (events_by old.world row.time) printed }
 step-accepted old row printed is = ap (step_by old (row_number old) (Some row) printed) is
 
 -- what is known of a row, over its step
-does : (right : Snapshot → Stated → List ℕ → Type 0) (old : Day) (said : Option Row) (new : Day) (before after : List ℕ) (answer : RowAnswer) (printed : Stated) (proof : List ℕ) (step : Step) → next_step old said printed ≡ step → new ≡ step.day → after ≡ before ++ row_text new.world.snapshot step.log proof → IsRightLog (λ s stated. right s stated proof) new.world step.log → answer ≡ answer_of step.log → DoesRow right old said new before after answer printed proof
+does : (right : Snapshot → Stated → List ℕ → Type 0) (old : Day) (said : Option Row) (new : Day) (before after : List ℕ) (answer : RowAnswer)
+    (printed : Stated) (proof : List ℕ) (step : Step) → next_step old said printed ≡ step → new ≡ step.day
+    → after ≡ before ++ row_text new.world.snapshot step.log proof → IsRightLog (λ s stated. right s stated proof) new.world step.log
+    → answer ≡ answer_of step.log → DoesRow right old said new before after answer printed proof
 does right old said new before after answer printed proof step is day text right_plan answered =
-    let P : Step → Type 0 = λ x. (new ≡ x.day) × (after ≡ before ++ row_text new.world.snapshot x.log proof) × IsRightLog (λ s stated. right s stated proof) new.world x.log × (answer ≡ answer_of x.log) in
+    let P : Step → Type 0 = λ x. (new ≡ x.day) × (after ≡ before ++ row_text new.world.snapshot x.log proof)
+    × IsRightLog (λ s stated. right s stated proof) new.world x.log × (answer ≡ answer_of x.log) in
     let all = subst P (sym is) (day, text, right_plan, answered) in
     record { day = all.0; text = all.1; right_plan = all.2; answer_is = all.3 }
 
 abbrev no_plan : Stated
 no_plan = record { plan = []; cost = 0; bound = 0 }
 
-pub refused-row : (right : Snapshot → Stated → List ℕ → Type 0) (old : Day) (said : Option Row) (fault : RowFault) (new : Day) (before after : List ℕ) (answer : RowAnswer) → fault_of_row old.world (row_number old) said ≡ Some fault → IsRefused old fault new before after answer → IsRowDone right old said new before after answer
-refused-row right old said fault new before after answer is refused =
-    (no_plan, [], does right old said new before after answer no_plan [] (record { day = day_after_refused old; log = Refused (row_number old) fault }) (step-refused old said no_plan fault is) refused.day refused.text tt refused.answer_is)
+pub refused-row : (right : Snapshot → Stated → List ℕ → Type 0) (old : Day) (said : Option Row) (fault : RowFault) (new : Day) (before after : List ℕ)
+    (answer : RowAnswer) → fault_of_row old.world (row_number old) said ≡ Some fault → IsRefused old fault new before after answer
+    → IsRowDone right old said new before after answer
+refused-row right old said fault new before after answer is refused = (
+  no_plan,
+  [],
+  does right old said new before after answer no_plan [] (record { day = day_after_refused old; log = Refused (row_number old) fault })
+      (step-refused old said no_plan fault is) refused.day refused.text tt refused.answer_is,
+)
 
-pub accepted-row : (right : Snapshot → Stated → List ℕ → Type 0) (old : Day) (row : Row) (new : Day) (before after : List ℕ) (answer : RowAnswer) (printed : Stated) (proof : List ℕ) → fault_of_row old.world (row_number old) (Some row) ≡ None → new ≡ day_after_accepted old (row_number old) row printed → after ≡ before ++ accepted_text new.world.snapshot (row_number old) (events_by old.world row.time) printed proof → right new.world.snapshot printed proof → answer ≡ Taken printed.cost printed.bound → IsRowDone right old (Some row) new before after answer
-accepted-row right old row new before after answer printed proof is day text right_plan answered =
-    (printed, proof, does right old (Some row) new before after answer printed proof (record { day = day_after_accepted old (row_number old) row printed; log = Accepted (row_number old) (events_by old.world row.time) printed }) (step-accepted old row printed is) day text right_plan answered)
+pub accepted-row : (right : Snapshot → Stated → List ℕ → Type 0) (old : Day) (row : Row) (new : Day) (before after : List ℕ) (answer : RowAnswer)
+    (printed : Stated) (proof : List ℕ) → fault_of_row old.world (row_number old) (Some row) ≡ None → new ≡ day_after_accepted old (row_number old) row printed
+    → after ≡ before ++ accepted_text new.world.snapshot (row_number old) (events_by old.world row.time) printed proof → right new.world.snapshot printed proof
+    → answer ≡ Taken printed.cost printed.bound → IsRowDone right old (Some row) new before after answer
+accepted-row right old row new before after answer printed proof is day text right_plan answered = (
+  printed,
+  proof,
+  does right old (Some row) new before after answer printed proof
+      (record { day = day_after_accepted old (row_number old) row printed; log = Accepted (row_number old) (events_by old.world row.time) printed })
+      (step-accepted old row printed is) day text right_plan answered,
+)
 
 -- ---- taking a call
 
 -- The day that took the call of a good row stands.
-pub taken-stands : (day inside : Day) (row : Row) (w : World) (cost bound more : ℕ) (calls : List DayCall) → inside ≡ day → IsStanding inside → row_number day < 2 ^ 32
+pub taken-stands : (day inside : Day) (row : Row) (w : World) (cost bound more : ℕ) (calls : List DayCall) → inside ≡ day → IsStanding inside
+    → row_number day < 2 ^ 32
     → w ≡ with_call (advanced day.world row.time) (call_of_row (row_number day) row) w.plan → IsAccepted w.snapshot → IsFeasiblePlan w.snapshot w.plan
-    → more ≡ (if nat_lt bound cost then 1 else 0) → calls ≡ calls_after inside.calls (events_by day.world row.time) ++ record { id = row_number day; released = row.time; boarded = None; delivered = None } ∷ []
+    → more ≡ (if nat_lt bound cost then 1 else 0)
+    → calls ≡ calls_after inside.calls (events_by day.world row.time)
+    ++ record { id = row_number day; released = row.time; boarded = None; delivered = None } ∷ []
     → IsStanding (record { world = w; refused = inside.refused; unsolved = inside.unsolved + more; calls = calls })
 taken-stands day inside row w cost bound more calls same is low world accepted feasible counted noted =
-    subst IsStanding (sym after) (accepted-stands day row printed (subst IsStanding same is) low (subst (λ (x : World). IsAccepted x.snapshot) world accepted) (subst (λ (x : World). IsFeasiblePlan x.snapshot w.plan) world feasible))
+    subst IsStanding (sym after)
+    (accepted-stands day row printed (subst IsStanding same is) low (subst (λ (x : World). IsAccepted x.snapshot) world accepted)
+    (subst (λ (x : World). IsFeasiblePlan x.snapshot w.plan) world feasible))
   where
     printed : Stated
     printed = record { plan = w.plan; cost = cost; bound = bound }
 
-    after : record { world = w; refused = inside.refused; unsolved = inside.unsolved + more; calls = calls } ≡ day_after_accepted day (row_number day) row printed
+    after : record { world = w; refused = inside.refused; unsolved = inside.unsolved + more; calls = calls }
+        ≡ day_after_accepted day (row_number day) row printed
     after =
         ap (λ (x : World). record { world = x; refused = inside.refused; unsolved = inside.unsolved + more; calls = calls }) world
-        ∙ ap (λ (n : ℕ). record { world = with_call (advanced day.world row.time) (call_of_row (row_number day) row) w.plan; refused = inside.refused; unsolved = inside.unsolved + n; calls = calls }) counted
-        ∙ ap (λ (xs : List DayCall). record { world = with_call (advanced day.world row.time) (call_of_row (row_number day) row) w.plan; refused = inside.refused; unsolved = inside.unsolved + (if nat_lt bound cost then 1 else 0); calls = xs }) noted
-        ∙ ap (λ (d : Day). record { world = with_call (advanced day.world row.time) (call_of_row (row_number day) row) w.plan; refused = d.refused; unsolved = d.unsolved + (if nat_lt bound cost then 1 else 0); calls = calls_after d.calls (events_by day.world row.time) ++ record { id = row_number day; released = row.time; boarded = None; delivered = None } ∷ [] }) same
+        ∙ ap (λ (n : ℕ).
+        record {
+          world = with_call (advanced day.world row.time) (call_of_row (row_number day) row) w.plan;
+          refused = inside.refused;
+          unsolved =
+              inside.unsolved + n;
+          calls = calls;
+        }) counted
+        ∙ ap (λ (xs : List DayCall).
+        record {
+          world = with_call (advanced day.world row.time) (call_of_row (row_number day) row) w.plan;
+          refused = inside.refused;
+          unsolved =
+              inside.unsolved + (if nat_lt bound cost then 1 else 0);
+          calls = xs;
+        }) noted
+        ∙ ap (λ (d : Day).
+        record {
+          world = with_call (advanced day.world row.time) (call_of_row (row_number day) row) w.plan;
+          refused = d.refused;
+          unsolved =
+              d.unsolved + (if nat_lt bound cost then 1 else 0);
+          calls = calls_after d.calls (events_by day.world row.time)
+              ++ record { id = row_number day; released = row.time; boarded = None; delivered = None } ∷ [];
+        }) same
 
 -- The row of a call that was taken, with a plan that is right in the world that took it, was accepted.
-pub taken-row : (right : Snapshot → Stated → List ℕ → Type 0) (old : Day) (row : Row) (new : Day) (before after text : List ℕ) (s : Snapshot) (n : ℕ) (events : List Event) (plan : List (List Stop)) (printed : Stated) (proof : List ℕ)
-    → fault_of_row old.world (row_number old) (Some row) ≡ None → new ≡ day_after_accepted old (row_number old) row (record { plan = plan; cost = printed.cost; bound = printed.bound }) → plan ≡ printed.plan
+pub taken-row : (right : Snapshot → Stated → List ℕ → Type 0) (old : Day) (row : Row) (new : Day) (before after text : List ℕ) (s : Snapshot) (n : ℕ)
+    (events : List Event) (plan : List (List Stop)) (printed : Stated) (proof : List ℕ)
+    → fault_of_row old.world (row_number old) (Some row) ≡ None
+    → new ≡ day_after_accepted old (row_number old) row (record { plan = plan; cost = printed.cost; bound = printed.bound }) → plan ≡ printed.plan
     → s ≡ (with_call (advanced old.world row.time) (call_of_row (row_number old) row) []).snapshot → n ≡ row_number old → events ≡ events_by old.world row.time
-    → text ≡ accepted_text s n events printed proof → after ≡ before ++ text → right s printed proof → IsRowDone right old (Some row) new before after (Taken printed.cost printed.bound)
+    → text ≡ accepted_text s n events printed proof → after ≡ before ++ text → right s printed proof
+    → IsRowDone right old (Some row) new before after (Taken printed.cost printed.bound)
 taken-row right old row new before after text s n events plan printed proof none is planned stands numbered happened says wrote right_plan =
-    accepted-row right old row new before after (Taken printed.cost printed.bound) printed proof none day lines (subst (λ (x : Snapshot). right x printed proof) there right_plan) refl
+    accepted-row right old row new before after (Taken printed.cost printed.bound) printed proof none day lines
+    (subst (λ (x : Snapshot). right x printed proof) there right_plan) refl
   where
     day : new ≡ day_after_accepted old (row_number old) row printed
-    day = is ∙ ap (λ (p : List (List Stop)). day_after_accepted old (row_number old) row (record { plan = p; cost = printed.cost; bound = printed.bound })) planned
+    day = is ∙ ap (λ (p : List (List Stop)). day_after_accepted old (row_number old) row (record { plan = p; cost = printed.cost; bound = printed.bound }))
+        planned
 
     there : s ≡ new.world.snapshot
     there = stands ∙ sym (ap (λ (d : Day). d.world.snapshot) day)
 
     lines : after ≡ before ++ accepted_text new.world.snapshot (row_number old) (events_by old.world row.time) printed proof
     lines =
-        wrote ∙ ap (λ (xs : List ℕ). before ++ xs) (says ∙ ap (λ (x : Snapshot). accepted_text x n events printed proof) there ∙ ap (λ (k : ℕ). accepted_text new.world.snapshot k events printed proof) numbered ∙ ap (λ (es : List Event). accepted_text new.world.snapshot (row_number old) es printed proof) happened)
+        wrote ∙ ap (λ (xs : List ℕ). before ++ xs)
+        (says ∙ ap (λ (x : Snapshot). accepted_text x n events printed proof) there
+        ∙ ap (λ (k : ℕ). accepted_text new.world.snapshot k events printed proof) numbered
+        ∙ ap (λ (es : List Event). accepted_text new.world.snapshot (row_number old) es printed proof) happened)
 
 -- ---- what is answered
 
-pub refused-answer : (right : Snapshot → Stated → List ℕ → Type 0) (old : Day) (said : Option Row) (fault : RowFault) (new : Day) (before after : List ℕ) (r : Result RowAnswer AllocError) → fault_of_row old.world (row_number old) said ≡ Some fault → IfOk r (IsRefused old fault new before after) → IfOk r (IsRowDone right old said new before after)
+pub refused-answer : (right : Snapshot → Stated → List ℕ → Type 0) (old : Day) (said : Option Row) (fault : RowFault) (new : Day) (before after : List ℕ)
+    (r : Result RowAnswer AllocError) → fault_of_row old.world (row_number old) said ≡ Some fault → IfOk r (IsRefused old fault new before after)
+    → IfOk r (IsRowDone right old said new before after)
 refused-answer right old said fault new before after (Ok answer) is refused = refused-row right old said fault new before after answer is refused
 refused-answer right old said fault new before after (Err error) is refused = tt
 
 -- the same of another wording of the row
-pub answer-said : (right : Snapshot → Stated → List ℕ → Type 0) (old : Day) (said other : Option Row) (new : Day) (before after : List ℕ) (r : Result RowAnswer AllocError) → said ≡ other → IfOk r (IsRowDone right old said new before after) → IfOk r (IsRowDone right old other new before after)
+pub answer-said : (right : Snapshot → Stated → List ℕ → Type 0) (old : Day) (said other : Option Row) (new : Day) (before after : List ℕ)
+    (r : Result RowAnswer AllocError) → said ≡ other → IfOk r (IsRowDone right old said new before after) → IfOk r (IsRowDone right old other new before after)
 answer-said right old said other new before after r same done = subst (λ (x : Option Row). IfOk r (IsRowDone right old x new before after)) same done
 
 -- ---- the number of rows
 
-pub refused-numbered : (old : Day) (fault : RowFault) (new : Day) (before after : List ℕ) (r : Result RowAnswer AllocError) → IfOk r (IsRefused old fault new before after) → OnOk r (row_number new ≡ row_number old + 1)
+pub refused-numbered : (old : Day) (fault : RowFault) (new : Day) (before after : List ℕ) (r : Result RowAnswer AllocError)
+    → IfOk r (IsRefused old fault new before after) → OnOk r (row_number new ≡ row_number old + 1)
 refused-numbered old fault new before after (Ok answer) refused = ap row_number refused.day ∙ refused-number old
 refused-numbered old fault new before after (Err error) refused = tt
 
-pub done-numbered : (right : Snapshot → Stated → List ℕ → Type 0) (old : Day) (said : Option Row) (new : Day) (before after : List ℕ) (r : Result RowAnswer AllocError) → IfOk r (IsRowDone right old said new before after) → OnOk r (row_number new ≡ row_number old + 1)
-done-numbered right old said new before after (Ok answer) done = ap row_number done.2.day ∙ step-number old (row_number old) said done.0 (fault_of_row old.world (row_number old) said)
+pub done-numbered : (right : Snapshot → Stated → List ℕ → Type 0) (old : Day) (said : Option Row) (new : Day) (before after : List ℕ)
+    (r : Result RowAnswer AllocError) → IfOk r (IsRowDone right old said new before after) → OnOk r (row_number new ≡ row_number old + 1)
+done-numbered right old said new before after (Ok answer) done = ap row_number done.2.day
+    ∙ step-number old (row_number old) said done.0 (fault_of_row old.world (row_number old) said)
 done-numbered right old said new before after (Err error) done = tt
 
 -- what a planner answered is right by its answers
-pub answered : {F : Type 0} (g : Shared F (Bor Snapshot × Unit {0}) (Result Planned AllocError)) (f : F) (shown : Bor Snapshot) (r : Result Planned AllocError) (planned : Planned) → r ≡ Ok planned → g.post f (shown, tt) r → right_by (FnReturnsAt g f) shown.now planned.stated planned.proof.items
-answered g f shown r planned is met =
-    (planned, record { shown = shown; shows = refl; says = record { met = subst (λ (x : Result Planned AllocError). g.post f (shown, tt) x) is met } }, refl, refl)
+pub answered : {F : Type 0} (g : Shared F (Bor Snapshot × Unit {0}) (Result Planned AllocError)) (f : F) (shown : Bor Snapshot) (r : Result Planned AllocError)
+    (planned : Planned) → r ≡ Ok planned → g.post f (shown, tt) r → right_by (FnReturnsAt g f) shown.now planned.stated planned.proof.items
+answered g f shown r planned is met = (
+  planned,
+  record { shown = shown; shows = refl; says = record { met = subst (λ (x : Result Planned AllocError). g.post f (shown, tt) x) is met } },
+  refl,
+  refl,
+)

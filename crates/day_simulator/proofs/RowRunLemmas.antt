@@ -1,5 +1,6 @@
 -- Rows done one after another.
-use Rattle.std.proofs.Common.{◌≡◌, ℕ, ◌<◌, ◌≤◌, Bool, false, true≢false, cond, eqb, ltb, List, [], ◌∷◌, ◌++◌, length, refl, sym, ap, ◌∙◌, subst, arith, Option, None}
+use Rattle.std.proofs.Common.{◌≡◌, ℕ, ◌<◌, ◌≤◌, Bool, false, true≢false, cond, eqb, ltb, List, [], ◌∷◌, ◌++◌, length, refl, sym, ap, ◌∙◌, subst, arith, Option}
+use Rattle.std.proofs.Common.{None}
 use Rattle.std.proofs.lemmas.Bool.{false_from_ne_true, ltb-true, lt-ltb}
 use Rattle.search_model.specs.Days.{Day, Row, day_after_refused}
 use Rattle.search_model.specs.declared.RowFault.TheVariants.{NoRow}
@@ -24,39 +25,55 @@ append-assoc [] ys zs = refl
 append-assoc (x ∷ xs) ys zs = ap (λ r. x ∷ r) (append-assoc xs ys zs)
 
 -- one row
-pub one-row : (right : Right) (old : Day) (said : Option Row) (new : Day) (text : List ℕ) (answer : RowAnswer) → IsRowDone right old said new [] text answer → AreRowsDone right old (said ∷ []) new text
+pub one-row : (right : Right) (old : Day) (said : Option Row) (new : Day) (text : List ℕ) (answer : RowAnswer) → IsRowDone right old said new [] text answer
+    → AreRowsDone right old (said ∷ []) new text
 one-row right old said new text answer done = (new, text, [], answer, done, (refl, refl), sym (append-nil text))
 
 -- and later ones
-pub rows-more : (right : Right) (a b c : Day) (xs ys : List (Option Row)) (t u : List ℕ) → AreRowsDone right a xs b t → AreRowsDone right b ys c u → AreRowsDone right a (xs ++ ys) c (t ++ u)
+pub rows-more : (right : Right) (a b c : Day) (xs ys : List (Option Row)) (t u : List ℕ) → AreRowsDone right a xs b t → AreRowsDone right b ys c u
+    → AreRowsDone right a (xs ++ ys) c (t ++ u)
 rows-more right a b c [] ys t u first later =
     subst (λ (d : Day). AreRowsDone right d ys c (t ++ u)) first.0 (subst (λ (v : List ℕ). AreRowsDone right b ys c (v ++ u)) (sym first.1) later)
-rows-more right a b c (x ∷ xs) ys t u first later =
-    (first.0, first.1, first.2 ++ u, first.3, first.4, rows-more right first.0 b c xs ys first.2 u first.5 later, ap (λ (v : List ℕ). v ++ u) first.6 ∙ append-assoc first.1 first.2 u)
+rows-more right a b c (x ∷ xs) ys t u first later = (
+  first.0,
+  first.1,
+  first.2 ++ u,
+  first.3,
+  first.4,
+  rows-more right first.0 b c xs ys first.2 u first.5 later,
+  ap (λ (v : List ℕ). v ++ u) first.6
+      ∙ append-assoc first.1 first.2 u,
+)
 
 pub rows-joined : (ps qs : List (List ℕ)) → rows_of (ps ++ qs) ≡ rows_of ps ++ rows_of qs
 rows-joined [] qs = refl
-rows-joined (p ∷ ps) qs = ap (λ (r : List (Option Row)). rows_of_line (line_of p) ++ r) (rows-joined ps qs) ∙ sym (append-assoc (rows_of_line (line_of p)) (rows_of ps) (rows_of qs))
+rows-joined (p ∷ ps) qs = ap (λ (r : List (Option Row)). rows_of_line (line_of p) ++ r) (rows-joined ps qs)
+    ∙ sym (append-assoc (rows_of_line (line_of p)) (rows_of ps) (rows_of qs))
 
 pub rows-of-one : (p : List ℕ) → rows_of (p ∷ []) ≡ rows_of_line (line_of p)
 rows-of-one p = append-nil (rows_of_line (line_of p))
 
 -- the rows of one more line
-pub line-more : (right : Right) (a b c : Day) (ps : List (List ℕ)) (p : List ℕ) (t u : List ℕ) → AreRowsDone right a (rows_of ps) b t → AreRowsDone right b (rows_of_line (line_of p)) c u → AreRowsDone right a (rows_of (ps ++ p ∷ [])) c (t ++ u)
+pub line-more : (right : Right) (a b c : Day) (ps : List (List ℕ)) (p : List ℕ) (t u : List ℕ) → AreRowsDone right a (rows_of ps) b t
+    → AreRowsDone right b (rows_of_line (line_of p)) c u → AreRowsDone right a (rows_of (ps ++ p ∷ [])) c (t ++ u)
 line-more right a b c ps p t u first later =
-    subst (λ (r : List (Option Row)). AreRowsDone right a r c (t ++ u)) (sym (rows-joined ps (p ∷ []) ∙ ap (λ (r : List (Option Row)). rows_of ps ++ r) (rows-of-one p)))
+    subst (λ (r : List (Option Row)). AreRowsDone right a r c (t ++ u))
+    (sym (rows-joined ps (p ∷ []) ∙ ap (λ (r : List (Option Row)). rows_of ps ++ r) (rows-of-one p)))
     (rows-more right a b c (rows_of ps) (rows_of_line (line_of p)) t u first later)
 
 -- ---- the rows of a line
 
 pub short-rows : (line : List ℕ) → length line ≤ 4096 → rows_of_line line ≡ rows_of_short line
-short-rows line short = ap (λ (b : Bool). cond {A = List (Option Row)} b (None ∷ []) (rows_of_short line)) (false_from_ne_true (ltb line_limit (length line)) (λ k. let more = ltb-true line_limit (length line) k in omega (arith, more, short)))
+short-rows line short =
+    ap (λ (b : Bool). cond {A = List (Option Row)} b (None ∷ []) (rows_of_short line))
+    (false_from_ne_true (ltb line_limit (length line)) (λ k. let more = ltb-true line_limit (length line) k in omega (arith, more, short)))
 
 pub some-bytes : (line : List ℕ) (none_yet : Bool) → none_yet ≡ eqb (length line) 0 → none_yet ≡ false → line ≡ [] → ⊥
 some-bytes line none_yet is some none = true≢false (sym (is ∙ ap (λ (l : List ℕ). eqb (length l) 0) none) ∙ some)
 
 -- what a row of some bytes did
-pub short-row-done : (right : Right) (old new : Day) (line text : List ℕ) (answer : RowAnswer) → (line ≡ [] → ⊥) → IsRowDone right old (row_of_line line) new [] text answer → AreRowsDone right old (rows_of_short line) new text
+pub short-row-done : (right : Right) (old new : Day) (line text : List ℕ) (answer : RowAnswer) → (line ≡ [] → ⊥)
+    → IsRowDone right old (row_of_line line) new [] text answer → AreRowsDone right old (rows_of_short line) new text
 short-row-done right old new [] text answer full done = absurd (full refl)
 short-row-done right old new (b ∷ line) text answer full done = one-row right old (row_of_line (b ∷ line)) new text answer done
 
@@ -69,6 +86,7 @@ long-rows line long = ap (λ (b : Bool). cond {A = List (Option Row)} b (None �
 pub no_plan : Stated
 no_plan = record { plan = []; cost = 0; bound = 0 }
 
-pub long-row-done : (right : Right) (old new : Day) (text : List ℕ) → new ≡ day_after_refused old → text ≡ refused_text (row_number old) NoRow → AreRowsDone right old (None ∷ []) new text
+pub long-row-done : (right : Right) (old new : Day) (text : List ℕ) → new ≡ day_after_refused old → text ≡ refused_text (row_number old) NoRow
+    → AreRowsDone right old (None ∷ []) new text
 long-row-done right old new text day log =
     one-row right old None new text (RefusedBy 41) (no_plan, [], record { day = day; text = log; right_plan = tt; answer_is = refl })

@@ -17,15 +17,19 @@ use Rattle.day_laws.specs.Once.{events_of_log}
 use Rattle.day_simulator.specs.Served.{AreServedOnce, events_of_rows}
 
 module _ (right : Right) (law : PlannerLaw right) where
-  row-serves : (old : Day) (said : Option Row) (new : Day) (text : List ℕ) (answer : RowAnswer) (past : List Event) → IsDayServing old past → (done : IsRowDone right old said new [] text answer) → IsDayServing new (past ++ events_of_log (next_step old said done.0).log)
+  row-serves : (old : Day) (said : Option Row) (new : Day) (text : List ℕ) (answer : RowAnswer) (past : List Event) → IsDayServing old past
+      → (done : IsRowDone right old said new [] text answer) → IsDayServing new (past ++ events_of_log (next_step old said done.0).log)
   row-serves old said new text answer past serves done =
       let printed = done.0 in
       let proof = done.1 in
       let does = done.2 in
       let is_right = subst (λ (d : Day). IsRightLog (λ s stated. right s stated proof) d.world (next_step old said printed).log) does.day does.right_plan in
-      subst (λ (d : Day). IsDayServing d (past ++ events_of_log (next_step old said printed).log)) (sym does.day) (step-serves (λ s stated. right s stated proof) (λ s stated h. (law s stated proof h).feasible) old said printed (fault_of_row old.world (row_number old) said) past refl is_right serves)
+      subst (λ (d : Day). IsDayServing d (past ++ events_of_log (next_step old said printed).log)) (sym does.day)
+      (step-serves (λ s stated. right s stated proof) (λ s stated h. (law s stated proof h).feasible) old said printed
+      (fault_of_row old.world (row_number old) said) past refl is_right serves)
 
-  rows-serve : (old : Day) (rows : List (Option Row)) (new : Day) (text : List ℕ) (past : List Event) → IsDayServing old past → (done : AreRowsDone right old rows new text) → IsDayServing new (past ++ events_of_rows right old rows new text done)
+  rows-serve : (old : Day) (rows : List (Option Row)) (new : Day) (text : List ℕ) (past : List Event) → IsDayServing old past
+      → (done : AreRowsDone right old rows new text) → IsDayServing new (past ++ events_of_rows right old rows new text done)
   rows-serve old [] new text past serves done = subst (IsDayServing new) (sym (append-nil past)) (subst (λ (d : Day). IsDayServing d past) (sym done.0) serves)
   rows-serve old (said ∷ rows) new text past serves done =
       let here = events_of_log (next_step old said done.4.0).log in
@@ -34,9 +38,11 @@ module _ (right : Right) (law : PlannerLaw right) where
       subst (IsDayServing new) (append_assoc past here there) (rows-serve done.0 rows new done.2 (past ++ here) first done.5)
 
   -- By the events of the rows and of the end each accepted call is served once.
-  pub served-rows : (opening : Snapshot) (rows : List (Option Row)) (new : Day) (text : List ℕ) → IsAccepted opening → IsOpeningSnapshot opening → (done : AreRowsDone right (opening_day opening) rows new text) → AreServedOnce right (opening_day opening) rows new text done
+  pub served-rows : (opening : Snapshot) (rows : List (Option Row)) (new : Day) (text : List ℕ) → IsAccepted opening → IsOpeningSnapshot opening
+      → (done : AreRowsDone right (opening_day opening) rows new text) → AreServedOnce right (opening_day opening) rows new text done
   served-rows opening rows new text a o done =
-      end-served new (events_of_rows right (opening_day opening) rows new text done) (rows-serve (opening_day opening) rows new text [] (opening-serves opening a o (opening-feasible opening a o)) done)
+      end-served new (events_of_rows right (opening_day opening) rows new text done)
+      (rows-serve (opening_day opening) rows new text [] (opening-serves opening a o (opening-feasible opening a o)) done)
 
 -- before the first row no call is accepted
 pub served-none : (right : Right) (opening : Snapshot) → AreServedOnce right (opening_day opening) [] (opening_day opening) [] (refl, refl)

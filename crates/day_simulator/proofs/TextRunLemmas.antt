@@ -1,5 +1,6 @@
 -- Days from their text: what becomes of a text that is a day, and how great the sums of a report are.
-use Rattle.std.proofs.Common.{◌≡◌, ℕ, zero, suc, ◌+◌, ◌*◌, ◌-◌, ◌<◌, ◌≤◌, ◌^◌, List, [], ◌∷◌, ◌++◌, All, length, refl, sym, ap, ◌∙◌, subst, arith, Option, Some, None, Ok, Err}
+use Rattle.std.proofs.Common.{◌≡◌, ℕ, zero, suc, ◌+◌, ◌*◌, ◌-◌, ◌<◌, ◌≤◌, ◌^◌, List, [], ◌∷◌, ◌++◌, All, length, refl, sym, ap, ◌∙◌, subst, arith, Option, Some}
+use Rattle.std.proofs.Common.{None, Ok, Err}
 use Rattle.std.specs.List.{concat, sum_by}
 use Rattle.std.specs.Prelude.{IfSome, IsSomeAnd}
 use Rattle.std.proofs.lemmas.List.{length-append}
@@ -50,24 +51,31 @@ bytes-joined (x ∷ xs) ys =
     omega (arith, whole, front, rest)
 
 -- such a line is past what a short text has
-no-long-line : (rows : TextState) (passed behind : List (List ℕ)) → bytes_of (pieces_of rows.bytes) ≤ rows.limit → ReadLines rows passed behind → IsTooLong rows passed behind → ⊥
+no-long-line : (rows : TextState) (passed behind : List (List ℕ)) → bytes_of (pieces_of rows.bytes) ≤ rows.limit → ReadLines rows passed behind
+    → IsTooLong rows passed behind → ⊥
 no-long-line rows passed behind short read long =
     let all = ap bytes_of (read.pieces ∙ ap (λ (xs : List (List ℕ)). passed ++ xs) long.next) ∙ bytes-joined passed (long.piece ∷ long.pieces) in
     let next = length-append long.piece (concat long.pieces) in
     absurd (omega (arith, all, next, short, long.long))
 
-short-rows : (right : Right) (opening : Snapshot) (mid : Option TextState) (rows : TextState) (left sink sink' : Option (List ℕ)) → mid ≡ Some rows → bytes_of (pieces_of rows.bytes) ≤ rows.limit → RanDay right opening (Err TooLong) mid left sink sink' → ⊥
+short-rows : (right : Right) (opening : Snapshot) (mid : Option TextState) (rows : TextState) (left sink sink' : Option (List ℕ)) → mid ≡ Some rows
+    → bytes_of (pieces_of rows.bytes) ≤ rows.limit → RanDay right opening (Err TooLong) mid left sink sink' → ⊥
 short-rows right opening mid rows left sink sink' is short ran =
-    let read = subst (λ (m : Option TextState). IfSome m (λ from. ReadLines from ran.passed ran.behind × ReadsDay (Err TooLong) from ran.passed ran.behind left)) is ran.read in
+    let read = subst (λ (m : Option TextState).
+    IfSome m (λ from. ReadLines from ran.passed ran.behind × ReadsDay (Err TooLong) from ran.passed ran.behind left)) is ran.read in
     no-long-line rows ran.passed ran.behind short read.0 read.1
 
-pub rows-end : (right : Right) (opening : Snapshot) (fault : RunFault) (before mid : Option TextState) (left sink sink' : Option (List ℕ)) → TakesDayOpenings before (Ok opening) mid → RanDay right opening (Err fault) mid left sink sink' → IsSomeAnd before IsDayText → EndsUnlessFailed (Err (Rows fault))
+pub rows-end : (right : Right) (opening : Snapshot) (fault : RunFault) (before mid : Option TextState) (left sink sink' : Option (List ℕ))
+    → TakesDayOpenings before (Ok opening) mid → RanDay right opening (Err fault) mid left sink sink' → IsSomeAnd before IsDayText
+    → EndsUnlessFailed (Err (Rows fault))
 rows-end right opening fault None mid left sink sink' takes ran text = absurd text
-rows-end right opening TooLong (Some before) mid left sink sink' takes ran text = short-rows right opening mid text.rows left sink sink' (takes text.opening text.rows text.begins).1 text.short ran
+rows-end right opening TooLong (Some before) mid left sink sink' takes ran text =
+    short-rows right opening mid text.rows left sink sink' (takes text.opening text.rows text.begins).1 text.short ran
 rows-end right opening Read (Some before) mid left sink sink' takes ran text = tt
 rows-end right opening Write (Some before) mid left sink sink' takes ran text = tt
 rows-end right opening NoMemory (Some before) mid left sink sink' takes ran text = tt
 
-pub opening-taken : (fault : TextFault) (before mid : Option TextState) → TakesDayOpenings before (Err fault) mid → IsSomeAnd before IsDayText → EndsUnlessFailed (Err (Opening fault))
+pub opening-taken : (fault : TextFault) (before mid : Option TextState) → TakesDayOpenings before (Err fault) mid → IsSomeAnd before IsDayText
+    → EndsUnlessFailed (Err (Opening fault))
 opening-taken fault None mid takes text = absurd text
 opening-taken fault (Some before) mid takes text = takes text.opening text.rows text.begins

@@ -35,7 +35,8 @@ ReadsDay (Err NoMemory) before passed behind left = Unit {0}
 -- failed, a beginning of the log was.
 abbrev pub WroteDay : Result Ended RunFault → (text : List ℕ) → Day → (old new : Option (List ℕ)) → Type 0
 WroteDay (Ok ended) text day old new =
-    (new ≡ append_known old (day_log text day)) × (ended.served.items ≡ served_of day) × (ended.unsolved ≡ day.unsolved) × (delivered_count day ≡ length day.calls)
+    (new ≡ append_known old (day_log text day)) × (ended.served.items ≡ served_of day) × (ended.unsolved ≡ day.unsolved)
+    × (delivered_count day ≡ length day.calls)
 WroteDay (Err TooLong) text day old new = new ≡ append_known old (rows_log text)
 WroteDay (Err Read) text day old new = new ≡ append_known old (rows_log text)
 WroteDay (Err NoMemory) text day old new = new ≡ append_known old (rows_log text)
@@ -52,7 +53,8 @@ IsCutIn (Err Write) text before behind left old new = IsBegun (rows_log text) ol
 
 -- A day went over the rows of lines in front. None of its accepted calls was lost, by the end of the last plan each boards
 -- once and is delivered once, in time, and its log was written.
-pub record RanDay (right : Right) (opening : Snapshot) (result : Result Ended RunFault) (before : Option TextState) (left sink sink' : Option (List ℕ)) : Type 0 where
+pub record RanDay (right : Right) (opening : Snapshot) (result : Result Ended RunFault) (before : Option TextState)
+    (left sink sink' : Option (List ℕ)) : Type 0 where
   pub passed : List (List ℕ)
   pub behind : List (List ℕ)
   pub day : Day
@@ -66,7 +68,8 @@ pub record RanDay (right : Right) (opening : Snapshot) (result : Result Ended Ru
 
 -- The end of the log was written, and this is told of the day; where the write failed, a beginning of it.
 abbrev pub EndedAs : Day → Result Ended RunFault → (old new : Option (List ℕ)) → Type 0
-EndedAs day (Ok ended) old new = (new ≡ append_known old (end_text day)) × (ended.served.items ≡ served_of day) × (ended.unsolved ≡ day.unsolved) × (delivered_count day ≡ length day.calls)
+EndedAs day (Ok ended) old new = (new ≡ append_known old (end_text day)) × (ended.served.items ≡ served_of day) × (ended.unsolved ≡ day.unsolved)
+    × (delivered_count day ≡ length day.calls)
 EndedAs day (Err TooLong) old new = ⊥
 EndedAs day (Err Read) old new = ⊥
 EndedAs day (Err Write) old new = IsBegun (end_text day) old new

@@ -27,7 +27,8 @@ next_step day said printed = day_step day (row_number day) said printed
 
 -- The row did what the definition says with this plan, which is right where the row was accepted, and its lines
 -- stand behind what stood before.
-pub record DoesRow (right : Snapshot → Stated → List ℕ → Type 0) (old : Day) (said : Option Row) (new : Day) (before after : List ℕ) (answer : RowAnswer) (printed : Stated) (proof : List ℕ) : Type 0 where
+pub record DoesRow (right : Snapshot → Stated → List ℕ → Type 0) (old : Day) (said : Option Row) (new : Day) (before after : List ℕ) (answer : RowAnswer)
+    (printed : Stated) (proof : List ℕ) : Type 0 where
   pub day : new ≡ (next_step old said printed).day
   pub text : after ≡ before ++ row_text new.world.snapshot (next_step old said printed).log proof
   pub right_plan : IsRightLog (λ s stated. right s stated proof) new.world (next_step old said printed).log

@@ -8,7 +8,8 @@ use Rattle.day_simulator.specs.Rows.{next_step}
 use Rattle.day_simulator.specs.RowRuns.{Right, AreRowsDone}
 
 -- the events in the lines of rows that were done, in their order
-abbrev pub events_of_rows : (right : Right) (old : Day) (rows : List (Option Row)) (new : Day) (text : List ℕ) → AreRowsDone right old rows new text → List Event
+abbrev pub events_of_rows : (right : Right) (old : Day) (rows : List (Option Row)) (new : Day) (text : List ℕ) → AreRowsDone right old rows new text
+    → List Event
 events_of_rows right old [] new text done = []
 events_of_rows right old (said ∷ rows) new text done =
     events_of_log (next_step old said done.4.0).log ++ events_of_rows right done.0 rows new done.2 done.5

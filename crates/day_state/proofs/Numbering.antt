@@ -1,5 +1,6 @@
 -- The numbers that pass a test, in order: the number of each among them. Sums along lists without repeats.
-use Rattle.std.proofs.Common.{◌==◌, ◌≡◌, ℕ, zero, suc, ◌+◌, ◌-◌, ◌*◌, ◌<◌, ◌≤◌, Bool, true, false, cond, eqb, List, [], ◌∷◌, ◌++◌, length, get_or, All, refl, sym, ap, ◌∙◌, subst, inl, inr, arith, length-append, append-nil}
+use Rattle.std.proofs.Common.{◌==◌, ◌≡◌, ℕ, zero, suc, ◌+◌, ◌-◌, ◌*◌, ◌<◌, ◌≤◌, Bool, true, false, cond, eqb, List, [], ◌∷◌, ◌++◌, length, get_or, All, refl}
+use Rattle.std.proofs.Common.{sym, ap, ◌∙◌, subst, inl, inr, arith, length-append, append-nil}
 use Rattle.std.proofs.lemmas.List.Concat.{flat_map-append}
 use Rattle.std.proofs.lemmas.List.Elements.{filter-append, All-head, All-tail}
 use Rattle.std.specs.List.{count_by, filter, range_with_len, flat_map, sum_by}
@@ -49,7 +50,8 @@ pub record IsPassing (t : ℕ → Bool) (n j x : ℕ) : Type 0 where
   pub passes : t x ≡ true
   pub rank : rank t x ≡ j
 
-last-passing : (t : ℕ → Bool) (n j : ℕ) (b : Bool) → t n ≡ b → length (passing t n) ≤ j → j < length (passing t n) + cond b 1 0 → (t n ≡ true) × (j ≡ length (passing t n))
+last-passing : (t : ℕ → Bool) (n j : ℕ) (b : Bool) → t n ≡ b → length (passing t n) ≤ j → j < length (passing t n) + cond b 1 0 → (t n ≡ true)
+    × (j ≡ length (passing t n))
 last-passing t n j true e low high = (e, omega arith)
 last-passing t n j false e low high = absurd (omega arith)
 
@@ -57,7 +59,8 @@ at-end : (t : ℕ → Bool) (n j : ℕ) → t n ≡ true → j ≡ length (passi
 at-end t n j h e =
     let at_last = get_or-append_right (passing t n) (n ∷ []) (length (passing t n)) j 0 refl (omega arith) in
     let none : j - length (passing t n) ≡ 0 = omega arith in
-    ap (λ (xs : List ℕ). get_or xs j 0) (passing-more t n ∙ ap (λ (b : Bool). passing t n ++ cond b (n ∷ []) []) h) ∙ at_last ∙ ap (λ (i : ℕ). get_or (n ∷ []) i 0) none
+    ap (λ (xs : List ℕ). get_or xs j 0) (passing-more t n ∙ ap (λ (b : Bool). passing t n ++ cond b (n ∷ []) []) h) ∙ at_last
+    ∙ ap (λ (i : ℕ). get_or (n ∷ []) i 0) none
 
 at-front : (t : ℕ → Bool) (n j : ℕ) → j < length (passing t n) → get_or (passing t (suc n)) j 0 ≡ get_or (passing t n) j 0
 at-front t n j below = ap (λ (xs : List ℕ). get_or xs j 0) (passing-more t n) ∙ get_or_append_left (passing t n) (cond (t n) (n ∷ []) []) 0 j below
@@ -72,7 +75,13 @@ length-more t n =
 pub at-passing : (t : ℕ → Bool) (n j : ℕ) → j < length (passing t n) → IsPassing t n j (get_or (passing t n) j 0)
 at-passing t zero j below = absurd (omega arith)
 at-passing t (suc n) j below =
-    elim (cases_lt j (length (passing t n))) [ inl front ↦ (let r = at-passing t n j front in let b = r.below in let same = at-front t n j front in subst (IsPassing t (suc n) j) (sym same) (record { below = omega arith; passes = r.passes; rank = r.rank })) | inr past ↦ (let more = length-more t n in let last = last-passing t n j (t n) refl past (omega (arith, below, more)) in subst (IsPassing t (suc n) j) (sym (at-end t n j last.0 last.1)) (record { below = omega arith; passes = last.0; rank = sym (length-passing t n) ∙ sym last.1 })) ]
+    elim (cases_lt j (length (passing t n))) [
+      | inl front ↦ (let r = at-passing t n j front in let b = r.below in let same = at-front t n j front in
+          subst (IsPassing t (suc n) j) (sym same) (record { below = omega arith; passes = r.passes; rank = r.rank }))
+      | inr past ↦ (let more = length-more t n in let last = last-passing t n j (t n) refl past (omega (arith, below, more)) in
+          subst (IsPassing t (suc n) j) (sym (at-end t n j last.0 last.1))
+          (record { below = omega arith; passes = last.0; rank = sym (length-passing t n) ∙ sym last.1 }))
+    ]
 
 -- and each that passes is found at its place
 pub record IsRanked (t : ℕ → Bool) (n k : ℕ) : Type 0 where
@@ -83,7 +92,17 @@ pub rank-passing : (t : ℕ → Bool) (n k : ℕ) → k < n → t k ≡ true →
 rank-passing t zero k below h = absurd (omega arith)
 rank-passing t (suc n) k below h =
     let le : k ≤ n = omega arith in
-    elim (eq-or-lt_of_le le) [ inl e ↦ subst (IsRanked t (suc n)) (sym e) (record { below = (let all = length-more t n in let size = length-passing t n in let here = ap {B = ℕ} (λ (b : Bool). cond b 1 0) (subst (λ (x : ℕ). t x ≡ true) e h) in omega (arith, all, size, here)); there = at-end t n (rank t n) (subst (λ (x : ℕ). t x ≡ true) e h) (sym (length-passing t n)) }) | inr lt ↦ (let r = rank-passing t n k lt h in let b = r.below in record { below = (let all = length-more t n in omega (arith, all, b)); there = at-front t n (rank t k) r.below ∙ r.there }) ]
+    elim (eq-or-lt_of_le le) [
+      | inl e ↦ subst (IsRanked t (suc n)) (sym e)
+          (record {
+            below = (let all = length-more t n in let size = length-passing t n in
+                let here = ap {B = ℕ} (λ (b : Bool). cond b 1 0) (subst (λ (x : ℕ). t x ≡ true) e h) in omega (arith, all, size, here));
+            there =
+                at-end t n (rank t n) (subst (λ (x : ℕ). t x ≡ true) e h) (sym (length-passing t n));
+          })
+      | inr lt ↦ (let r = rank-passing t n k lt h in let b = r.below in
+          record { below = (let all = length-more t n in omega (arith, all, b)); there = at-front t n (rank t k) r.below ∙ r.there })
+    ]
 
 -- ---- sums
 
@@ -94,14 +113,16 @@ sum-counted g n (x ∷ xs) below =
     let one = sum_where-one n g x (All-head (λ y. y < n) x xs below) in
     let rest = sum-counted g n xs (All-tail (λ y. y < n) x xs below) in
     let both = sum_below-add n (λ r. cond (eqb x r) (g r) 0) (λ r. count_by (λ y. y == r) xs * g r) in
-    let each = sum_below-same n (λ r. count_by (λ y. y == r) (x ∷ xs) * g r) (λ r. cond (eqb x r) (g r) 0 + count_by (λ y. y == r) xs * g r) (λ r b. split r (eqb x r) (count-cons r x xs)) in
+    let each = sum_below-same n (λ r. count_by (λ y. y == r) (x ∷ xs) * g r) (λ r. cond (eqb x r) (g r) 0 + count_by (λ y. y == r) xs * g r)
+    (λ r b. split r (eqb x r) (count-cons r x xs)) in
     let first = sum-cons in
     omega (arith, first, one, rest, both, each)
   where
     sum-cons : sum_by g (x ∷ xs) ≡ g x + sum_by g xs
     sum-cons = sum_by-cons g x xs
 
-    split : (r : ℕ) (b : Bool) → count_by (λ y. y == r) (x ∷ xs) ≡ cond b 1 0 + count_by (λ y. y == r) xs → count_by (λ y. y == r) (x ∷ xs) * g r ≡ cond b (g r) 0 + count_by (λ y. y == r) xs * g r
+    split : (r : ℕ) (b : Bool) → count_by (λ y. y == r) (x ∷ xs) ≡ cond b 1 0 + count_by (λ y. y == r) xs
+        → count_by (λ y. y == r) (x ∷ xs) * g r ≡ cond b (g r) 0 + count_by (λ y. y == r) xs * g r
     split r true e = ap (λ (m : ℕ). m * g r) e ∙ omega arith
     split r false e = ap (λ (m : ℕ). m * g r) e ∙ omega arith
 
@@ -122,8 +143,11 @@ pub count-ranges : (f : ℕ → List ℕ) (n r : ℕ) → count_by (λ x. x == r
 count-ranges f zero r = refl
 count-ranges f (suc n) r =
     let e : 0 + n ≡ n = omega arith in
-    let joined = ap (flat_map f) (range-more 0 n) ∙ flat_map-append f (range_with_len 0 n) ((0 + n) ∷ []) ∙ ap (λ (x : ℕ). flat_map f (range_with_len 0 n) ++ flat_map f (x ∷ [])) e ∙ ap (λ (ys : List ℕ). flat_map f (range_with_len 0 n) ++ ys) (flat-one (f n)) in
-    ap (count_by (λ x. x == r)) joined ∙ count-append r (flat_map f (range_with_len 0 n)) (f n) ∙ ap (λ (m : ℕ). m + count_by (λ x. x == r) (f n)) (count-ranges f n r)
+    let joined = ap (flat_map f) (range-more 0 n) ∙ flat_map-append f (range_with_len 0 n) ((0 + n) ∷ [])
+    ∙ ap (λ (x : ℕ). flat_map f (range_with_len 0 n) ++ flat_map f (x ∷ [])) e
+    ∙ ap (λ (ys : List ℕ). flat_map f (range_with_len 0 n) ++ ys) (flat-one (f n)) in
+    ap (count_by (λ x. x == r)) joined ∙ count-append r (flat_map f (range_with_len 0 n)) (f n)
+    ∙ ap (λ (m : ℕ). m + count_by (λ x. x == r) (f n)) (count-ranges f n r)
   where
     flat-one : (ys : List ℕ) → ys ++ [] ≡ ys
     flat-one ys = append-nil ys
@@ -134,7 +158,11 @@ one-at-most zero f le apart = omega arith
 one-at-most (suc n) f le apart =
     let before = one-at-most n f (λ c b. le c (omega arith)) (λ c d low high. apart c d low (omega arith)) in
     let last = le n (omega arith) in
-    elim (cases_lt (f n) 1) [ inl none ↦ omega (arith, before, none) | inr some ↦ (let zero_before = sum_below-same n f (λ c. 0) (λ c b. nothing (f c) (λ h. apart c n b (omega arith) h some)) ∙ sum_below-zero n in omega (arith, zero_before, last)) ]
+    elim (cases_lt (f n) 1) [
+      | inl none ↦ omega (arith, before, none)
+      | inr some ↦ (let zero_before = sum_below-same n f (λ c. 0) (λ c b. nothing (f c) (λ h. apart c n b (omega arith) h some)) ∙ sum_below-zero n in
+          omega (arith, zero_before, last))
+    ]
   where
     nothing : (x : ℕ) → (1 ≤ x → ⊥) → x ≡ 0
     nothing zero h = refl

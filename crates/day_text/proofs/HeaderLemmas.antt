@@ -4,7 +4,8 @@ use Rattle.std.specs.Prelude.{option_map}
 use Rattle.csv.specs.Records.{field_at}
 use Rattle.day_text.specs.declared.headers.Header.{Header}
 use Rattle.day_text.specs.declared.headers.Header.TheVariants.{Rows, BankRows}
-use Rattle.day_text.specs.Records.{without_spaces, header_fields, SaysRowHeader, SaysBankRowHeader, SaysHeader, fields_of_line, texts_of_line, number_said, row_of_fields, row_of_numbers}
+use Rattle.day_text.specs.Records.{without_spaces, header_fields, SaysRowHeader, SaysBankRowHeader, SaysHeader, fields_of_line, texts_of_line, number_said}
+use Rattle.day_text.specs.Records.{row_of_fields, row_of_numbers}
 
 row-header-from : (fields : List (List ℕ)) → SaysRowHeader fields → map without_spaces fields ≡ header_fields Rows
 unfolding field_at
@@ -31,7 +32,8 @@ bank-row-header-from (w ∷ []) is = let five = is.five in absurd (omega (arith,
 bank-row-header-from (w ∷ x ∷ []) is = let five = is.five in absurd (omega (arith, five))
 bank-row-header-from (w ∷ x ∷ y ∷ []) is = let five = is.five in absurd (omega (arith, five))
 bank-row-header-from (w ∷ x ∷ y ∷ z ∷ []) is = let five = is.five in absurd (omega (arith, five))
-bank-row-header-from (w ∷ x ∷ y ∷ z ∷ u ∷ []) is = let a = is.bank in let b = is.names.time in let c = is.names.origin in let d = is.names.destination in let e = is.names.persons in cc
+bank-row-header-from (w ∷ x ∷ y ∷ z ∷ u ∷ []) is = let a = is.bank in let b = is.names.time in let c = is.names.origin in let d = is.names.destination in
+    let e = is.names.persons in cc
 bank-row-header-from (w ∷ x ∷ y ∷ z ∷ u ∷ v ∷ rest) is = let five = is.five in absurd (omega (arith, five))
 
 bank-row-header-to : (fields : List (List ℕ)) → map without_spaces fields ≡ header_fields BankRows → SaysBankRowHeader fields
@@ -53,7 +55,9 @@ header-to Rows fields e = row-header-to fields e
 header-to BankRows fields e = bank-row-header-to fields e
 
 -- four fields, and no others, say a row
-pub four-fields : (fields : List (List ℕ)) → length fields ≡ 4 → row_of_fields fields ≡ row_of_numbers (number_said (field_at fields 0)) (number_said (field_at fields 1)) (number_said (field_at fields 2)) (number_said (field_at fields 3))
+pub four-fields : (fields : List (List ℕ)) → length fields ≡ 4
+    → row_of_fields fields ≡ row_of_numbers (number_said (field_at fields 0)) (number_said (field_at fields 1)) (number_said (field_at fields 2))
+    (number_said (field_at fields 3))
 unfolding field_at
 four-fields [] four = absurd (omega (arith, four))
 four-fields (x ∷ []) four = absurd (omega (arith, four))
@@ -63,11 +67,14 @@ four-fields (x ∷ y ∷ z ∷ u ∷ []) four = refl
 four-fields (x ∷ y ∷ z ∷ u ∷ v ∷ rest) four = absurd (omega (arith, four))
 
 -- what the fields of a line say, the line says
-pub header-line : (header : Header) (line : List ℕ) (fields : List (List ℕ)) (b : Bool) → Some fields ≡ fields_of_line line → (b ≡ true → SaysHeader header fields) × (SaysHeader header fields → b ≡ true)
+pub header-line : (header : Header) (line : List ℕ) (fields : List (List ℕ)) (b : Bool) → Some fields ≡ fields_of_line line
+    → (b ≡ true → SaysHeader header fields) × (SaysHeader header fields → b ≡ true)
     → (b ≡ true → texts_of_line line ≡ Some (header_fields header)) × (texts_of_line line ≡ Some (header_fields header) → b ≡ true)
 header-line header line fields b is told =
-    let texts : texts_of_line line ≡ Some (map without_spaces fields) = ap (option_map (map without_spaces)) (sym is) in
-    (λ h. texts ∙ ap (λ (xs : List (List ℕ)). Some xs) (header-from header fields (told.0 h)), λ e. told.1 (header-to header fields (the-fields (map without_spaces fields) (header_fields header) (sym texts ∙ e))))
+    let texts : texts_of_line line ≡ Some (map without_spaces fields) = ap (option_map (map without_spaces)) (sym is) in (
+      λ h. texts ∙ ap (λ (xs : List (List ℕ)). Some xs) (header-from header fields (told.0 h)),
+      λ e. told.1 (header-to header fields (the-fields (map without_spaces fields) (header_fields header) (sym texts ∙ e))),
+    )
   where
     the-fields : (xs ys : List (List ℕ)) → Some xs ≡ Some ys → xs ≡ ys
     the-fields xs ys e = cc

@@ -16,69 +16,89 @@ use Rattle.lift_text.specs.Text.{word, words, line}
 use Rattle.text_sections.specs.Canonical.{line_text}
 use Rattle.text_sections.proofs.CanonicalLemmas.{line_of_numbers}
 use Rattle.answer_text.specs.Texts.{body_text}
-use Rattle.day_text.specs.LogTexts.{event_words, events_text, accepted_words, plan_text, accepted_text, refused_text, total_words, solved_words, total_text, end_text}
+use Rattle.day_text.specs.LogTexts.{event_words, events_text, accepted_words, plan_text, accepted_text, refused_text, total_words, solved_words, total_text}
+use Rattle.day_text.specs.LogTexts.{end_text}
 
 -- what is known of a list that was extended, where memory was there
-pub extended_then : {X E Q : Type 0} (answer : Result X E) (old other new : List ℕ) → new ≡ cond (is_ok answer) (old ++ other) old → (new ≡ old ++ other → Q) → OnOk answer Q
+pub extended_then : {X E Q : Type 0} (answer : Result X E) (old other new : List ℕ) → new ≡ cond (is_ok answer) (old ++ other) old → (new ≡ old ++ other → Q)
+    → OnOk answer Q
 extended_then (Ok x) old other new is more = more is
 extended_then (Err e) old other new is more = tt
 
 -- ---- events
 
-pub wrote_board : (event : Event) (call car moment : ℕ) (old new : List ℕ) → event ≡ Board call car moment → new ≡ old ++ line (codes "board") (call ∷ car ∷ moment ∷ []) → new ≡ old ++ line_text (event_words event)
+pub wrote_board : (event : Event) (call car moment : ℕ) (old new : List ℕ) → event ≡ Board call car moment
+    → new ≡ old ++ line (codes "board") (call ∷ car ∷ moment ∷ []) → new ≡ old ++ line_text (event_words event)
 wrote_board event call car moment old new is wrote =
-    wrote ∙ ap (λ (xs : List ℕ). old ++ xs) (line_of_numbers (codes "board") (call ∷ car ∷ moment ∷ []) ∙ ap (λ (e : Event). line_text (event_words e)) (sym is))
+    wrote ∙ ap (λ (xs : List ℕ). old ++ xs)
+    (line_of_numbers (codes "board") (call ∷ car ∷ moment ∷ []) ∙ ap (λ (e : Event). line_text (event_words e)) (sym is))
 
-pub wrote_deliver : (event : Event) (call car moment : ℕ) (old new : List ℕ) → event ≡ Deliver call car moment → new ≡ old ++ line (codes "deliver") (call ∷ car ∷ moment ∷ []) → new ≡ old ++ line_text (event_words event)
+pub wrote_deliver : (event : Event) (call car moment : ℕ) (old new : List ℕ) → event ≡ Deliver call car moment
+    → new ≡ old ++ line (codes "deliver") (call ∷ car ∷ moment ∷ []) → new ≡ old ++ line_text (event_words event)
 wrote_deliver event call car moment old new is wrote =
-    wrote ∙ ap (λ (xs : List ℕ). old ++ xs) (line_of_numbers (codes "deliver") (call ∷ car ∷ moment ∷ []) ∙ ap (λ (e : Event). line_text (event_words e)) (sym is))
+    wrote ∙ ap (λ (xs : List ℕ). old ++ xs)
+    (line_of_numbers (codes "deliver") (call ∷ car ∷ moment ∷ []) ∙ ap (λ (e : Event). line_text (event_words e)) (sym is))
 
 pub events_are : (events : List Event) → flat_map (λ x. line_text (event_words x)) events ≡ events_text events
 unfolding events_text
 events_are events = sym (flat_map-map line_text event_words events)
 
 -- one more event is written
-pub event_more : (events : List Event) (i : ℕ) (d : Event) (first before after : List ℕ) → i < length events → before ≡ first ++ flat_map (λ x. line_text (event_words x)) (take i events) → after ≡ before ++ line_text (event_words (get_or events i d)) → after ≡ first ++ flat_map (λ x. line_text (event_words x)) (take (i + 1) events)
+pub event_more : (events : List Event) (i : ℕ) (d : Event) (first before after : List ℕ) → i < length events
+    → before ≡ first ++ flat_map (λ x. line_text (event_words x)) (take i events) → after ≡ before ++ line_text (event_words (get_or events i d))
+    → after ≡ first ++ flat_map (λ x. line_text (event_words x)) (take (i + 1) events)
 event_more events i d first before after within so_far wrote =
     let text : Event → List ℕ = λ x. line_text (event_words x) in
     let event = get_or events i d in
     let earlier = flat_map text (take i events) in
-    let both : earlier ++ text event ≡ flat_map text (take i events ++ event ∷ []) = ap (λ (xs : List ℕ). earlier ++ xs) (sym (append-nil (text event))) ∙ sym (flat_map-append text (take i events) (event ∷ [])) in
-    wrote ∙ ap (λ (xs : List ℕ). xs ++ text event) so_far ∙ append_assoc first earlier (text event) ∙ ap (λ (xs : List ℕ). first ++ xs) (both ∙ ap (flat_map text) (sym (take_more events i d within)))
+    let both : earlier ++ text event ≡ flat_map text (take i events ++ event ∷ []) = ap (λ (xs : List ℕ). earlier ++ xs) (sym (append-nil (text event)))
+    ∙ sym (flat_map-append text (take i events) (event ∷ [])) in
+    wrote ∙ ap (λ (xs : List ℕ). xs ++ text event) so_far ∙ append_assoc first earlier (text event)
+    ∙ ap (λ (xs : List ℕ). first ++ xs) (both ∙ ap (flat_map text) (sym (take_more events i d within)))
 
 -- ---- rows
 
-pub wrote_accepted : (number : ℕ) (old first new : List ℕ) → first ≡ old ++ words (codes "row") (number ∷ []) → new ≡ first ++ codes " accepted\n" → new ≡ old ++ line_text (accepted_words number)
+pub wrote_accepted : (number : ℕ) (old first new : List ℕ) → first ≡ old ++ words (codes "row") (number ∷ []) → new ≡ first ++ codes " accepted\n"
+    → new ≡ old ++ line_text (accepted_words number)
 unfolding words word
 wrote_accepted number old first new one two =
     let digits = 32 ∷ decimal number in
-    two ∙ ap (λ (xs : List ℕ). xs ++ codes " accepted\n") (one ∙ ap (λ (xs : List ℕ). old ++ (codes "row" ++ xs)) (append-nil digits)) ∙ regroup old (codes "row") digits (codes " accepted")
+    two ∙ ap (λ (xs : List ℕ). xs ++ codes " accepted\n") (one ∙ ap (λ (xs : List ℕ). old ++ (codes "row" ++ xs)) (append-nil digits))
+    ∙ regroup old (codes "row") digits (codes " accepted")
   where
     regroup : (a b c d : List ℕ) → (a ++ (b ++ c)) ++ (d ++ 10 ∷ []) ≡ a ++ ((b ++ (c ++ d)) ++ 10 ∷ [])
     regroup a b c d = simp append_assoc
 
-pub wrote_refused : (number : ℕ) (fault : RowFault) (code : ℕ) (old first new : List ℕ) → code ≡ code_of_row fault → first ≡ old ++ words (codes "row") (number ∷ []) → new ≡ first ++ line (codes " refused") (code ∷ []) → new ≡ old ++ refused_text number fault
+pub wrote_refused : (number : ℕ) (fault : RowFault) (code : ℕ) (old first new : List ℕ) → code ≡ code_of_row fault
+    → first ≡ old ++ words (codes "row") (number ∷ []) → new ≡ first ++ line (codes " refused") (code ∷ []) → new ≡ old ++ refused_text number fault
 unfolding words word line refused_text
 wrote_refused number fault code old first new is one two =
     let digits = 32 ∷ decimal number in
     let last = 32 ∷ decimal code in
-    two ∙ ap (λ (xs : List ℕ). xs ++ ((codes " refused" ++ (last ++ [])) ++ 10 ∷ [])) (one ∙ ap (λ (xs : List ℕ). old ++ (codes "row" ++ xs)) (append-nil digits)) ∙ regroup old (codes "row") digits (codes " refused") (last ++ []) ∙ ap (λ (n : ℕ). old ++ line_text (codes "row" ∷ decimal number ∷ codes "refused" ∷ decimal n ∷ [])) is
+    two ∙ ap (λ (xs : List ℕ). xs ++ ((codes " refused" ++ (last ++ [])) ++ 10 ∷ []))
+    (one ∙ ap (λ (xs : List ℕ). old ++ (codes "row" ++ xs)) (append-nil digits)) ∙ regroup old (codes "row") digits (codes " refused") (last ++ [])
+    ∙ ap (λ (n : ℕ). old ++ line_text (codes "row" ∷ decimal number ∷ codes "refused" ∷ decimal n ∷ [])) is
   where
     regroup : (a b c d e : List ℕ) → (a ++ (b ++ c)) ++ ((d ++ e) ++ 10 ∷ []) ≡ a ++ ((b ++ (c ++ (d ++ e))) ++ 10 ∷ [])
     regroup a b c d e = simp append_assoc
 
-pub plan_none : (s : Snapshot) (printed : Stated) (proof old new : List ℕ) → length proof ≡ 0 → new ≡ old ++ body_text s printed.plan printed.cost printed.bound → new ≡ old ++ plan_text s printed proof
+pub plan_none : (s : Snapshot) (printed : Stated) (proof old new : List ℕ) → length proof ≡ 0
+    → new ≡ old ++ body_text s printed.plan printed.cost printed.bound → new ≡ old ++ plan_text s printed proof
 plan_none s printed [] old new none wrote = wrote
 plan_none s printed (b ∷ proof) old new none wrote = absurd cc
 
-pub plan_some : (s : Snapshot) (printed : Stated) (proof old new : List ℕ) → (length proof ≡ 0 → ⊥) → new ≡ old ++ proof → new ≡ old ++ plan_text s printed proof
+pub plan_some : (s : Snapshot) (printed : Stated) (proof old new : List ℕ) → (length proof ≡ 0 → ⊥) → new ≡ old ++ proof
+    → new ≡ old ++ plan_text s printed proof
 plan_some s printed [] old new some wrote = absurd (some refl)
 plan_some s printed (b ∷ proof) old new some wrote = wrote
 
-pub wrote_row : (s : Snapshot) (number : ℕ) (events : List Event) (printed : Stated) (proof old first second new : List ℕ) → first ≡ old ++ line_text (accepted_words number) → second ≡ first ++ events_text events → new ≡ second ++ plan_text s printed proof → new ≡ old ++ accepted_text s number events printed proof
+pub wrote_row : (s : Snapshot) (number : ℕ) (events : List Event) (printed : Stated) (proof old first second new : List ℕ)
+    → first ≡ old ++ line_text (accepted_words number) → second ≡ first ++ events_text events → new ≡ second ++ plan_text s printed proof
+    → new ≡ old ++ accepted_text s number events printed proof
 unfolding accepted_text
 wrote_row s number events printed proof old first second new one two three =
-    three ∙ ap (λ (xs : List ℕ). xs ++ plan_text s printed proof) (two ∙ ap (λ (xs : List ℕ). xs ++ events_text events) one) ∙ regroup old (line_text (accepted_words number)) (events_text events) (plan_text s printed proof)
+    three ∙ ap (λ (xs : List ℕ). xs ++ plan_text s printed proof) (two ∙ ap (λ (xs : List ℕ). xs ++ events_text events) one)
+    ∙ regroup old (line_text (accepted_words number)) (events_text events) (plan_text s printed proof)
   where
     regroup : (a b c d : List ℕ) → ((a ++ b) ++ c) ++ d ≡ a ++ (b ++ (c ++ d))
     regroup a b c d = simp append_assoc
@@ -89,14 +109,20 @@ pub wrote_solved : (unsolved : ℕ) (old new : List ℕ) → unsolved ≡ 0 → 
 wrote_solved zero old new none wrote = wrote
 wrote_solved (suc n) old new none wrote = absurd cc
 
-pub wrote_stopped : (unsolved : ℕ) (old new : List ℕ) → (unsolved ≡ 0 → ⊥) → new ≡ old ++ line (codes "# stopped") (unsolved ∷ []) → new ≡ old ++ line_text (solved_words unsolved)
+pub wrote_stopped : (unsolved : ℕ) (old new : List ℕ) → (unsolved ≡ 0 → ⊥) → new ≡ old ++ line (codes "# stopped") (unsolved ∷ [])
+    → new ≡ old ++ line_text (solved_words unsolved)
 wrote_stopped zero old new some wrote = absurd (some refl)
 wrote_stopped (suc n) old new some wrote = wrote ∙ ap (λ (xs : List ℕ). old ++ xs) (line_of_numbers (codes "# stopped") (suc n ∷ []))
 
-pub wrote_total : (accepted refused delivered unsolved : ℕ) (old first second new : List ℕ) → first ≡ old ++ line (codes "total") (accepted ∷ refused ∷ delivered ∷ []) → second ≡ first ++ codes "end\n" → new ≡ second ++ line_text (solved_words unsolved) → new ≡ old ++ total_text accepted refused delivered unsolved
+pub wrote_total : (accepted refused delivered unsolved : ℕ) (old first second new : List ℕ)
+    → first ≡ old ++ line (codes "total") (accepted ∷ refused ∷ delivered ∷ []) → second ≡ first ++ codes "end\n"
+    → new ≡ second ++ line_text (solved_words unsolved) → new ≡ old ++ total_text accepted refused delivered unsolved
 unfolding total_text
 wrote_total accepted refused delivered unsolved old first second new one two three =
-    three ∙ ap (λ (xs : List ℕ). xs ++ line_text (solved_words unsolved)) (two ∙ ap (λ (xs : List ℕ). xs ++ codes "end\n") (one ∙ ap (λ (xs : List ℕ). old ++ xs) (line_of_numbers (codes "total") (accepted ∷ refused ∷ delivered ∷ [])))) ∙ regroup old (line_text (total_words accepted refused delivered)) (codes "end\n") (line_text (solved_words unsolved))
+    three ∙ ap (λ (xs : List ℕ). xs ++ line_text (solved_words unsolved))
+    (two ∙ ap (λ (xs : List ℕ). xs ++ codes "end\n")
+    (one ∙ ap (λ (xs : List ℕ). old ++ xs) (line_of_numbers (codes "total") (accepted ∷ refused ∷ delivered ∷ []))))
+    ∙ regroup old (line_text (total_words accepted refused delivered)) (codes "end\n") (line_text (solved_words unsolved))
   where
     regroup : (a b c d : List ℕ) → ((a ++ b) ++ c) ++ d ≡ a ++ (b ++ (c ++ d))
     regroup a b c d = simp append_assoc
@@ -105,7 +131,9 @@ pub wrote_end : (old first new events total : List ℕ) → first ≡ old ++ eve
 wrote_end old first new events total one two = two ∙ ap (λ (xs : List ℕ). xs ++ total) one ∙ append_assoc old events total
 
 -- the last lines, of the day's own numbers
-pub wrote_log : (day : Day) (old out text fresh : List ℕ) (events : List Event) (accepted refused delivered unsolved : ℕ) → out ≡ old ++ text → text ≡ fresh ++ (events_text events ++ total_text accepted refused delivered unsolved) → fresh ≡ [] → events ≡ last_events day.world → accepted ≡ length day.calls → refused ≡ day.refused → delivered ≡ delivered_count day → unsolved ≡ day.unsolved → out ≡ old ++ end_text day
+pub wrote_log : (day : Day) (old out text fresh : List ℕ) (events : List Event) (accepted refused delivered unsolved : ℕ) → out ≡ old ++ text
+    → text ≡ fresh ++ (events_text events ++ total_text accepted refused delivered unsolved) → fresh ≡ [] → events ≡ last_events day.world
+    → accepted ≡ length day.calls → refused ≡ day.refused → delivered ≡ delivered_count day → unsolved ≡ day.unsolved → out ≡ old ++ end_text day
 wrote_log day old out text fresh events accepted refused delivered unsolved wrote says empty happened counted declined served unmet =
     wrote ∙ ap (λ (xs : List ℕ). old ++ xs) (says ∙ ap (λ (xs : List ℕ). xs ++ (events_text events ++ total_text accepted refused delivered unsolved)) empty
     ∙ ap (λ (es : List Event). events_text es ++ total_text accepted refused delivered unsolved) happened

@@ -13,7 +13,8 @@ pub joined_again : (bytes : List ℕ) → concat (pieces_of bytes) ≡ bytes
 joined_again [] = refl
 joined_again (b ∷ bytes) = at (joined_again bytes) (eqb b 10)
   where
-    at : concat (pieces_of bytes) ≡ bytes → (x : Bool) → concat (cond {A = List (List ℕ)} x ((b ∷ []) ∷ pieces_of bytes) (onto_first b (pieces_of bytes))) ≡ b ∷ bytes
+    at : concat (pieces_of bytes) ≡ bytes → (x : Bool)
+        → concat (cond {A = List (List ℕ)} x ((b ∷ []) ∷ pieces_of bytes) (onto_first b (pieces_of bytes))) ≡ b ∷ bytes
     at again true = ap (λ (xs : List ℕ). b ∷ xs) again
     at again false = joined_onto b (pieces_of bytes) ∙ ap (λ (xs : List ℕ). b ∷ xs) again
 
@@ -22,9 +23,11 @@ pub same_bytes : (xs ys : List ℕ) → pieces_of xs ≡ pieces_of ys → xs ≡
 same_bytes xs ys same = sym (joined_again xs) ∙ ap concat same ∙ joined_again ys
 
 -- behind a line as many bytes less may be read as it has
-pub limit_behind : (before now : TextState) (piece : List ℕ) → pieces_of before.bytes ≡ piece ∷ pieces_of now.bytes → Passed before now → now.limit ≡ before.limit - length piece
+pub limit_behind : (before now : TextState) (piece : List ℕ) → pieces_of before.bytes ≡ piece ∷ pieces_of now.bytes → Passed before now
+    → now.limit ≡ before.limit - length piece
 limit_behind before now piece pieces passed =
-    let bytes : before.bytes ≡ piece ++ now.bytes = sym (joined_again before.bytes) ∙ ap concat pieces ∙ ap (λ (xs : List ℕ). piece ++ xs) (joined_again now.bytes) in
+    let bytes : before.bytes ≡ piece ++ now.bytes = sym (joined_again before.bytes) ∙ ap concat pieces
+    ∙ ap (λ (xs : List ℕ). piece ++ xs) (joined_again now.bytes) in
     let size : length before.bytes ≡ length piece + length now.bytes = ap length bytes ∙ length-append piece now.bytes in
     omega (arith, size, passed.limit)
 

@@ -59,7 +59,8 @@ same_lines (x ∷ xs) (y ∷ ys) read rest a b =
     let both : line_with a.0 x a.1 ≡ line_with b.0 y b.1 = sym a.2 ∙ b.2 in
     let first = same_words a.0 b.0 x y a.1 b.1 both in
     let later = same_rest a.0 b.0 x y a.1 b.1 both in
-    ap (λ (line : Line). line ∷ xs) first ∙ ap (λ (lines : List Line). y ∷ lines) (same_lines xs ys a.1 rest a.3 (subst (λ (r : Reading). BeginsWith ys r rest) (sym later) b.3))
+    ap (λ (line : Line). line ∷ xs) first
+    ∙ ap (λ (lines : List Line). y ∷ lines) (same_lines xs ys a.1 rest a.3 (subst (λ (r : Reading). BeginsWith ys r rest) (sym later) b.3))
   where
     same_words : (m n : ℕ) (x y : Line) (r s : Reading) → line_with m x r ≡ line_with n y s → x ≡ y
     same_words m n x y r s e = cc
@@ -91,38 +92,48 @@ same_place text (words ∷ lines) x y a b =
     same_place a.0 lines x y a.2 (subst (λ (t : TextState). AreBetween t lines y) (sym first) b.2)
 
 -- behind the first line that is the header there is one place
-pub same_rows : (header : Header) (line limit : ℕ) (pieces : List (List ℕ)) (x y : TextState) → HeaderFirst header line limit pieces x → HeaderFirst header line limit pieces y → x ≡ y
+pub same_rows : (header : Header) (line limit : ℕ) (pieces : List (List ℕ)) (x y : TextState) → HeaderFirst header line limit pieces x
+    → HeaderFirst header line limit pieces y → x ≡ y
 same_rows header line limit [] x y a b = absurd a
 same_rows header line limit (piece ∷ pieces) x y a b = by_kind (same_rows header (line + 1) (limit - length piece) pieces x y) a.1 b.1
   where
     by_kind : (HeaderFirst header (line + 1) (limit - length piece) pieces x → HeaderFirst header (line + 1) (limit - length piece) pieces y → x ≡ y)
-        → ((IsEmptyLine piece × HeaderFirst header (line + 1) (limit - length piece) pieces x) ⊎ (IsHeaderLine header piece × IsBehindPiece line limit piece pieces x))
-        → ((IsEmptyLine piece × HeaderFirst header (line + 1) (limit - length piece) pieces y) ⊎ (IsHeaderLine header piece × IsBehindPiece line limit piece pieces y)) → x ≡ y
+        → ((IsEmptyLine piece × HeaderFirst header (line + 1) (limit - length piece) pieces x)
+        ⊎ (IsHeaderLine header piece × IsBehindPiece line limit piece pieces x))
+        → ((IsEmptyLine piece × HeaderFirst header (line + 1) (limit - length piece) pieces y)
+        ⊎ (IsHeaderLine header piece × IsBehindPiece line limit piece pieces y)) → x ≡ y
     by_kind later (inl c) (inl d) = later c.1 d.1
     by_kind later (inl c) (inr d) = absurd (empty_or_header header piece c.0 d.0)
     by_kind later (inr c) (inl d) = absurd (empty_or_header header piece d.0 c.0)
-    by_kind later (inr c) (inr d) = same_state x y (c.1.line_is ∙ sym d.1.line_is) (c.1.limit_is ∙ sym d.1.limit_is) (same_bytes x.bytes y.bytes (c.1.pieces_are ∙ sym d.1.pieces_are))
+    by_kind later (inr c) (inr d) =
+        same_state x y (c.1.line_is ∙ sym d.1.line_is) (c.1.limit_is ∙ sym d.1.limit_is) (same_bytes x.bytes y.bytes (c.1.pieces_are ∙ sym d.1.pieces_are))
 
 -- where the header is first there is no fault
-pub no_fault : (header : Header) (line limit : ℕ) (pieces : List (List ℕ)) (x : TextState) (fault : TextFault) → HeaderFirst header line limit pieces x → NoHeaderFirst header line limit pieces fault → ⊥
+pub no_fault : (header : Header) (line limit : ℕ) (pieces : List (List ℕ)) (x : TextState) (fault : TextFault) → HeaderFirst header line limit pieces x
+    → NoHeaderFirst header line limit pieces fault → ⊥
 no_fault header line limit [] x fault a b = absurd a
 no_fault header line limit (piece ∷ pieces) x fault a b = by_kind (no_fault header (line + 1) (limit - length piece) pieces x fault) a.0 a.1 b
   where
     by_line : (HeaderFirst header (line + 1) (limit - length piece) pieces x → NoHeaderFirst header (line + 1) (limit - length piece) pieces fault → ⊥)
-        → ((IsEmptyLine piece × HeaderFirst header (line + 1) (limit - length piece) pieces x) ⊎ (IsHeaderLine header piece × IsBehindPiece line limit piece pieces x))
-        → ((IsEmptyLine piece × NoHeaderFirst header (line + 1) (limit - length piece) pieces fault) ⊎ (IsNoHeader header piece × (fault ≡ Bad (line + 1) NoHeader))) → ⊥
+        → ((IsEmptyLine piece × HeaderFirst header (line + 1) (limit - length piece) pieces x)
+        ⊎ (IsHeaderLine header piece × IsBehindPiece line limit piece pieces x))
+        → ((IsEmptyLine piece × NoHeaderFirst header (line + 1) (limit - length piece) pieces fault)
+        ⊎ (IsNoHeader header piece × (fault ≡ Bad (line + 1) NoHeader))) → ⊥
     by_line later (inl c) (inl d) = later c.1 d.1
     by_line later (inl c) (inr d) = d.0.some c.0
     by_line later (inr c) (inl d) = empty_or_header header piece d.0 c.0
     by_line later (inr c) (inr d) = d.0.other c.0
 
-    by_kind : (HeaderFirst header (line + 1) (limit - length piece) pieces x → NoHeaderFirst header (line + 1) (limit - length piece) pieces fault → ⊥) → length piece ≤ limit
-        → ((IsEmptyLine piece × HeaderFirst header (line + 1) (limit - length piece) pieces x) ⊎ (IsHeaderLine header piece × IsBehindPiece line limit piece pieces x)) → NoHeaderFirst header line limit (piece ∷ pieces) fault → ⊥
+    by_kind : (HeaderFirst header (line + 1) (limit - length piece) pieces x → NoHeaderFirst header (line + 1) (limit - length piece) pieces fault → ⊥)
+        → length piece ≤ limit
+        → ((IsEmptyLine piece × HeaderFirst header (line + 1) (limit - length piece) pieces x)
+        ⊎ (IsHeaderLine header piece × IsBehindPiece line limit piece pieces x)) → NoHeaderFirst header line limit (piece ∷ pieces) fault → ⊥
     by_kind later within c (inl d) = let past = d.0 in absurd (omega (arith, within, past))
     by_kind later within c (inr d) = by_line later c d.1
 
 -- a place behind some lines, from which the same is read as from the place behind these, is that place
-pub place_of : (text : TextState) (lines others : List Line) (x y : TextState) → AreBetween text lines x → AreBetween text others y → reading y ≡ reading x → y ≡ x
+pub place_of : (text : TextState) (lines others : List Line) (x y : TextState) → AreBetween text lines x → AreBetween text others y → reading y ≡ reading x
+    → y ≡ x
 place_of text lines others x y a b same =
     let read = subst (λ (r : Reading). BeginsWith others (reading text) r) same (begins text others y b) in
     let lines_same = same_lines others lines (reading text) (reading x) read (begins text lines x a) in

@@ -1,5 +1,6 @@
 -- What is whole in front of bytes is in front of them whatever follows.
-use Rattle.std.proofs.Common.{◌≡◌, ℕ, zero, suc, ◌+◌, ◌-◌, ◌≤◌, ◌⊎◌, inl, inr, Bool, true, false, cond, eqb, List, [], ◌∷◌, ◌++◌, length, take, drop, sym, subst, refl, ap, ◌∙◌, arith, length-append, length-take, take-append-drop, drop_at}
+use Rattle.std.proofs.Common.{◌≡◌, ℕ, zero, suc, ◌+◌, ◌-◌, ◌≤◌, ◌⊎◌, inl, inr, Bool, true, false, cond, eqb, List, [], ◌∷◌, ◌++◌, length, take, drop, sym}
+use Rattle.std.proofs.Common.{subst, refl, ap, ◌∙◌, arith, length-append, length-take, take-append-drop, drop_at}
 use Rattle.std.specs.Prelude.{nat_lt}
 use Rattle.std.specs.List.{concat, onto_first}
 use Rattle.std.proofs.lemmas.List.Folds.{concat-append}
@@ -29,7 +30,8 @@ pub record IsLonger (pieces longer : List (List ℕ)) (rest : List ℕ) (n : ℕ
 longer_none : (pieces : List (List ℕ)) (bytes rest : List ℕ) → concat pieces ≡ bytes → IsLonger pieces (pieces_of (bytes ++ rest)) rest 0
 longer_none pieces bytes rest is = record { some = omega arith; front = refl; behind = ap (λ (l : List ℕ). pieces_of (l ++ rest)) (sym is) }
 
-longer_onto : (b : ℕ) (pieces longer : List (List ℕ)) (rest : List ℕ) (n : ℕ) → IsLonger pieces longer rest (suc n) → IsLonger (onto_first b pieces) (onto_first b longer) rest (suc n)
+longer_onto : (b : ℕ) (pieces longer : List (List ℕ)) (rest : List ℕ) (n : ℕ) → IsLonger pieces longer rest (suc n)
+    → IsLonger (onto_first b pieces) (onto_first b longer) rest (suc n)
 longer_onto b [] longer rest n is = absurd (omega (arith, is.some))
 longer_onto b (piece ∷ pieces) [] rest n is = let none = ap length is.front in absurd (omega (arith, none))
 longer_onto b (piece ∷ pieces) (first ∷ longer) rest n is =
@@ -42,8 +44,10 @@ longer_onto b (piece ∷ pieces) (first ∷ longer) rest n is =
       behind = is.behind;
     }
 
-longer_step : (ends : Bool) (b : ℕ) (bytes rest : List ℕ) (n : ℕ) → eqb b 10 ≡ ends → ((k : ℕ) → k ≤ line_feeds bytes → IsLonger (pieces_of bytes) (pieces_of (bytes ++ rest)) rest k) → suc n ≤ line_feeds (b ∷ bytes)
-    → IsLonger (cond ends ((b ∷ []) ∷ pieces_of bytes) (onto_first b (pieces_of bytes))) (cond ends ((b ∷ []) ∷ pieces_of (bytes ++ rest)) (onto_first b (pieces_of (bytes ++ rest)))) rest (suc n)
+longer_step : (ends : Bool) (b : ℕ) (bytes rest : List ℕ) (n : ℕ) → eqb b 10 ≡ ends
+    → ((k : ℕ) → k ≤ line_feeds bytes → IsLonger (pieces_of bytes) (pieces_of (bytes ++ rest)) rest k) → suc n ≤ line_feeds (b ∷ bytes)
+    → IsLonger (cond ends ((b ∷ []) ∷ pieces_of bytes) (onto_first b (pieces_of bytes)))
+    (cond ends ((b ∷ []) ∷ pieces_of (bytes ++ rest)) (onto_first b (pieces_of (bytes ++ rest)))) rest (suc n)
 longer_step true b bytes rest n is each some =
     let later = each n (omega (arith, line_feeds-cons b bytes true is, some)) in
     record { some = omega (arith, later.some); front = ap (λ (l : List (List ℕ)). (b ∷ []) ∷ l) later.front; behind = later.behind }
@@ -68,7 +72,8 @@ record AreInFront (text later : TextState) (rest : List ℕ) : Type 0 where
   pieces : pieces_of text.bytes ≡ front ++ pieces_of later.bytes
   more : pieces_of (text.bytes ++ rest) ≡ front ++ pieces_of (later.bytes ++ rest)
 
-in_front : (text later : TextState) (rest : List ℕ) → text.line ≤ later.line → pieces_of later.bytes ≡ drop (later.line - text.line) (pieces_of text.bytes) → later.line ≤ text.line + line_feeds text.bytes → AreInFront text later rest
+in_front : (text later : TextState) (rest : List ℕ) → text.line ≤ later.line → pieces_of later.bytes ≡ drop (later.line - text.line) (pieces_of text.bytes)
+    → later.line ≤ text.line + line_feeds text.bytes → AreInFront text later rest
 in_front text later rest up behind whole =
     let n = later.line - text.line in
     let pieces = pieces_of text.bytes in
@@ -94,7 +99,8 @@ no_lines [] none = refl
 no_lines (piece ∷ front) none = absurd (omega (arith, none))
 
 by_judgement : (n m : ℕ) (over clean some : Bool) (found words : Line) (now other rest end : Reading)
-    → cond over (bad_line n OverLong) (cond clean (cond some (line_with n found now) now) (bad_line n ForbiddenByte)) ≡ line_with m words rest → (n ≡ m → other ≡ end)
+    → cond over (bad_line n OverLong) (cond clean (cond some (line_with n found now) now) (bad_line n ForbiddenByte)) ≡ line_with m words rest
+    → (n ≡ m → other ≡ end)
     → (now ≡ line_with m words rest → other ≡ line_with m words end)
     → cond over (bad_line n OverLong) (cond clean (cond some (line_with n found other) other) (bad_line n ForbiddenByte)) ≡ line_with m words end
 by_judgement n m true clean some found words now other rest end is here later = absurd cc
@@ -109,13 +115,15 @@ no_cut_line : (n m : ℕ) (over : Bool) (words : Line) (rest : Reading) → cond
 no_cut_line n m true words rest is = cc
 no_cut_line n m false words rest is = cc
 
-by_room : (n limit m : ℕ) (past : Bool) (words : Line) (now other rest end : Reading) → cond past (cut_short n limit) now ≡ line_with m words rest → (now ≡ line_with m words rest → other ≡ line_with m words end)
+by_room : (n limit m : ℕ) (past : Bool) (words : Line) (now other rest end : Reading) → cond past (cut_short n limit) now ≡ line_with m words rest
+    → (now ≡ line_with m words rest → other ≡ line_with m words end)
     → cond past (cut_short n limit) other ≡ line_with m words end
 by_room n limit m true words now other rest end is later = absurd (no_cut_line n m (nat_lt (line_limit + 1) limit) words rest is)
 by_room n limit m false words now other rest end is later = later is
 
 -- what is read of lines up to the first with a word does not depend on what is behind it
-same_first : (front behind other : List (List ℕ)) (n limit m later : ℕ) (words : Line) (rest : Reading) → n + length front ≡ m → later + size_of front ≡ limit → reading_of n limit (front ++ behind) ≡ line_with m words rest
+same_first : (front behind other : List (List ℕ)) (n limit m later : ℕ) (words : Line) (rest : Reading) → n + length front ≡ m → later + size_of front ≡ limit
+    → reading_of n limit (front ++ behind) ≡ line_with m words rest
     → reading_of n limit (front ++ other) ≡ line_with m words (reading_of m later other)
 same_first [] behind other n limit m later words rest count size is = let up = line_rises behind n limit m words rest is in absurd (omega (arith, up, count))
 same_first (piece ∷ front) behind other n limit m later words rest count size is =
@@ -128,9 +136,11 @@ same_first (piece ∷ front) behind other n limit m later words rest count size 
     let here : n + 1 ≡ m → next ≡ end = λ number.
     (let none = no_lines front (omega (arith, count, number)) in
     let room : left ≡ later = omega (arith, sizes, size, ap size_of none) in
-    ap (λ (k : ℕ). reading_of k left (front ++ other)) number ∙ ap (λ (k : ℕ). reading_of m k (front ++ other)) room ∙ ap (λ (l : List (List ℕ)). reading_of m later (l ++ other)) none) in
+    ap (λ (k : ℕ). reading_of k left (front ++ other)) number ∙ ap (λ (k : ℕ). reading_of m k (front ++ other)) room
+    ∙ ap (λ (l : List (List ℕ)). reading_of m later (l ++ other)) none) in
     by_room (n + 1) limit m (nat_lt limit (length piece)) words (judged (n + 1) text now) (judged (n + 1) text next) rest end is
-    (λ same. by_judgement (n + 1) m (nat_lt line_limit (length text)) (is_clean text) (nat_lt 0 (length (words_of text))) (words_of text) words now next rest end same here
+    (λ same. by_judgement (n + 1) m (nat_lt line_limit (length text)) (is_clean text) (nat_lt 0 (length (words_of text)))
+    (words_of text) words now next rest end same here
     (λ e. same_first front behind other (n + 1) left m later words rest (omega (arith, count)) (omega (arith, sizes, size)) e))
 
 passed_more : (text later : TextState) (rest : List ℕ) → Passed text later → AreInFront text later rest → Passed (with_more rest text) (with_more rest later)
@@ -142,15 +152,19 @@ passed_more text later rest passed is =
       limit = omega (arith, passed.limit, length-append text.bytes rest, length-append later.bytes rest);
     }
 
-next_more : (text : TextState) (words : Line) (later : TextState) (rest : List ℕ) → IsNextLine text words later → later.line ≤ text.line + line_feeds text.bytes → IsNextLine (with_more rest text) words (with_more rest later)
+next_more : (text : TextState) (words : Line) (later : TextState) (rest : List ℕ) → IsNextLine text words later
+    → later.line ≤ text.line + line_feeds text.bytes → IsNextLine (with_more rest text) words (with_more rest later)
 next_more text words later rest next whole =
     let passed = next.passed in
     let is = in_front text later rest passed.lines passed.pieces whole in
-    let bytes : text.bytes ≡ concat is.front ++ later.bytes = sym (concat-pieces text.bytes) ∙ ap concat is.pieces ∙ concat-append is.front (pieces_of later.bytes) ∙ ap (λ (l : List ℕ). concat is.front ++ l) (concat-pieces later.bytes) in
+    let bytes : text.bytes ≡ concat is.front ++ later.bytes = sym (concat-pieces text.bytes) ∙ ap concat is.pieces
+    ∙ concat-append is.front (pieces_of later.bytes) ∙ ap (λ (l : List ℕ). concat is.front ++ l) (concat-pieces later.bytes) in
     let size : later.limit + size_of is.front ≡ text.limit = omega (arith, passed.limit, ap length bytes, length-append (concat is.front) later.bytes) in
     let read = ap (reading_of text.line text.limit) (sym is.pieces) ∙ next.reads in
     record {
-      reads = ap (reading_of text.line text.limit) is.more ∙ same_first is.front (pieces_of later.bytes) (pieces_of (later.bytes ++ rest)) text.line text.limit later.line later.limit words (reading later) is.count size read;
+      reads = ap (reading_of text.line text.limit) is.more
+          ∙ same_first is.front (pieces_of later.bytes) (pieces_of (later.bytes ++ rest)) text.line text.limit later.line later.limit words
+          (reading later) is.count size read;
       passed = passed_more text later rest passed is;
     }
 
@@ -172,7 +186,8 @@ pub between_up : (text : TextState) (lines : List Line) (behind : TextState) →
 between_up text [] behind steps = let same = ap (λ (t : TextState). t.line) steps in omega (arith, same)
 between_up text (words ∷ lines) behind steps = let up = between_up steps.0 lines behind steps.2 in omega (arith, up, steps.1.passed.lines)
 
-between_more : (text : TextState) (lines : List Line) (behind : TextState) (rest : List ℕ) (last : ℕ) → AreBetween text lines behind → behind.line ≤ last → last ≤ text.line + line_feeds text.bytes → AreWhole text lines behind rest last
+between_more : (text : TextState) (lines : List Line) (behind : TextState) (rest : List ℕ) (last : ℕ) → AreBetween text lines behind → behind.line ≤ last
+    → last ≤ text.line + line_feeds text.bytes → AreWhole text lines behind rest last
 between_more text [] behind rest last steps low whole = record {
   between = ap (with_more rest) steps;
   whole = subst (λ (t : TextState). last ≤ t.line + line_feeds t.bytes) steps whole;
@@ -190,22 +205,35 @@ between_more text (words ∷ lines) behind rest last steps low whole =
 
 -- ---- the header
 
-header_with : (header : Header) (front behind other : List (List ℕ)) (line limit : ℕ) (rows rows' : TextState) → HeaderFirst header line limit (front ++ behind) rows → line + length front ≡ rows.line
+header_with : (header : Header) (front behind other : List (List ℕ)) (line limit : ℕ) (rows rows' : TextState)
+    → HeaderFirst header line limit (front ++ behind) rows → line + length front ≡ rows.line
     → rows'.line ≡ rows.line → rows'.limit ≡ rows.limit → pieces_of rows'.bytes ≡ other → HeaderFirst header line limit (front ++ other) rows'
-header_with header [] behind other line limit rows rows' first count same room lines = let up = (header_behind header line limit behind rows first).later in absurd (omega (arith, up, count))
-header_with header (piece ∷ front) behind other line limit rows rows' first count same room lines =
-    (first.0, by_kind (λ later. header_with header front behind other (line + 1) (limit - length piece) rows rows' later (omega (arith, count)) same room lines) first.1)
+header_with header [] behind other line limit rows rows' first count same room lines = let up = (header_behind header line limit behind rows first).later in
+    absurd (omega (arith, up, count))
+header_with header (piece ∷ front) behind other line limit rows rows' first count same room lines = (
+  first.0,
+  by_kind (λ later.
+      header_with header front behind other (line + 1) (limit - length piece) rows rows' later (omega (arith, count)) same room lines) first.1,
+)
   where
-    by_kind : (HeaderFirst header (line + 1) (limit - length piece) (front ++ behind) rows → HeaderFirst header (line + 1) (limit - length piece) (front ++ other) rows')
-        → ((IsEmptyLine piece × HeaderFirst header (line + 1) (limit - length piece) (front ++ behind) rows) ⊎ (IsHeaderLine header piece × IsBehindPiece line limit piece (front ++ behind) rows))
-        → ((IsEmptyLine piece × HeaderFirst header (line + 1) (limit - length piece) (front ++ other) rows') ⊎ (IsHeaderLine header piece × IsBehindPiece line limit piece (front ++ other) rows'))
+    by_kind : (HeaderFirst header (line + 1) (limit - length piece) (front ++ behind) rows
+        → HeaderFirst header (line + 1) (limit - length piece) (front ++ other) rows')
+        → ((IsEmptyLine piece × HeaderFirst header (line + 1) (limit - length piece) (front ++ behind) rows)
+        ⊎ (IsHeaderLine header piece × IsBehindPiece line limit piece (front ++ behind) rows))
+        → ((IsEmptyLine piece × HeaderFirst header (line + 1) (limit - length piece) (front ++ other) rows')
+        ⊎ (IsHeaderLine header piece × IsBehindPiece line limit piece (front ++ other) rows'))
     by_kind later (inl empty) = inl (empty.0, later empty.1)
     by_kind later (inr found) =
         let is = found.1 in
         let none = no_lines front (omega (arith, count, is.line_is)) in
-        inr (found.0, record { line_is = same ∙ is.line_is; limit_is = room ∙ is.limit_is; pieces_are = lines ∙ ap (λ (l : List (List ℕ)). l ++ other) (sym none) })
+        inr (
+          found.0,
+          record
+              { line_is = same ∙ is.line_is; limit_is = room ∙ is.limit_is; pieces_are = lines ∙ ap (λ (l : List (List ℕ)). l ++ other) (sym none) },
+        )
 
-pub header_more : (header : Header) (text rows : TextState) (rest : List ℕ) → HeaderInFront header text rows → rows.line ≤ text.line + line_feeds text.bytes → HeaderInFront header (with_more rest text) (with_more rest rows)
+pub header_more : (header : Header) (text rows : TextState) (rest : List ℕ) → HeaderInFront header text rows → rows.line ≤ text.line + line_feeds text.bytes
+    → HeaderInFront header (with_more rest text) (with_more rest rows)
 header_more header text rows rest first whole =
     let behind = header_behind header text.line text.limit (pieces_of text.bytes) rows first in
     let is = in_front text rows rest (omega (arith, behind.later)) behind.pieces_are whole in
@@ -215,7 +243,8 @@ header_more header text rows rest first whole =
 
 -- ---- an opening
 
-pub opening_more : (text : TextState) (s : Snapshot) (rows : TextState) (rest : List ℕ) → DayOpeningInFront text s rows → rows.line ≤ text.line + line_feeds text.bytes → DayOpeningInFront (with_more rest text) s (with_more rest rows)
+pub opening_more : (text : TextState) (s : Snapshot) (rows : TextState) (rest : List ℕ) → DayOpeningInFront text s rows
+    → rows.line ≤ text.line + line_feeds text.bytes → DayOpeningInFront (with_more rest text) s (with_more rest rows)
 opening_more text s rows rest opening whole =
     let up = (header_behind Rows opening.between.line opening.between.limit (pieces_of opening.between.bytes) rows opening.header).later in
     let higher = between_up opening.above opening.snapshot.0 opening.between opening.snapshot.1 in

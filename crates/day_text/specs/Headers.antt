@@ -36,7 +36,8 @@ abbrev pub HeaderFirst : Header → (line limit : ℕ) → List (List ℕ) → T
 HeaderFirst header line limit [] behind = ⊥
 HeaderFirst header line limit (piece ∷ pieces) behind =
     (length piece ≤ limit)
-    × ((IsEmptyLine piece × HeaderFirst header (line + 1) (limit - length piece) pieces behind) ⊎ (IsHeaderLine header piece × IsBehindPiece line limit piece pieces behind))
+    × ((IsEmptyLine piece × HeaderFirst header (line + 1) (limit - length piece) pieces behind)
+    ⊎ (IsHeaderLine header piece × IsBehindPiece line limit piece pieces behind))
 
 -- The fault of the first line that is not empty: it is not this header, or goes past the most bytes that may be read,
 -- or there is none.
@@ -45,7 +46,8 @@ NoHeaderFirst header line limit [] fault = fault ≡ Bad (line + 1) CutShort
 NoHeaderFirst header line limit (piece ∷ pieces) fault =
     ((limit < length piece) × (fault ≡ TooLong))
     ⊎ ((length piece ≤ limit)
-    × ((IsEmptyLine piece × NoHeaderFirst header (line + 1) (limit - length piece) pieces fault) ⊎ (IsNoHeader header piece × (fault ≡ Bad (line + 1) NoHeader))))
+    × ((IsEmptyLine piece × NoHeaderFirst header (line + 1) (limit - length piece) pieces fault)
+    ⊎ (IsNoHeader header piece × (fault ≡ Bad (line + 1) NoHeader))))
 
 abbrev pub HeaderInFront : Header → TextState → TextState → Type 0
 HeaderInFront header text behind = HeaderFirst header text.line text.limit (pieces_of text.bytes) behind

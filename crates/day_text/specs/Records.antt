@@ -1,5 +1,6 @@
 -- What a line of rows says: the fields of a record, and the four numbers of a row.
-use Rattle.std.specs.Prelude.{◌≡◌, ℕ, ◌+◌, ◌-◌, ◌==◌, ◌&&◌, ◌||◌, nat_eq, nat_le, not, List, [], ◌∷◌, map, take, length, codes, Bool, if◌then◌else◌, Option, Some, None, option_map}
+use Rattle.std.specs.Prelude.{◌≡◌, ℕ, ◌+◌, ◌-◌, ◌==◌, ◌&&◌, ◌||◌, nat_eq, nat_le, not, List, [], ◌∷◌, map, take, length, codes, Bool, if◌then◌else◌, Option}
+use Rattle.std.specs.Prelude.{Some, None, option_map}
 use Rattle.std.specs.List.{list_any, starts_with}
 use Rattle.csv.specs.Machine.{next_record}
 use Rattle.csv.specs.Records.{field_at}
@@ -64,7 +65,8 @@ row_of_numbers None origin destination persons = None
 row_of_numbers (Some time) None destination persons = None
 row_of_numbers (Some time) (Some origin) None persons = None
 row_of_numbers (Some time) (Some origin) (Some destination) None = None
-row_of_numbers (Some time) (Some origin) (Some destination) (Some persons) = Some (record { time = time; origin = origin; destination = destination; persons = persons })
+row_of_numbers (Some time) (Some origin) (Some destination) (Some persons) =
+    Some (record { time = time; origin = origin; destination = destination; persons = persons })
 
 -- four fields with a number each
 abbrev pub row_of_fields : List (List ℕ) → Option Row
@@ -72,7 +74,8 @@ row_of_fields [] = None
 row_of_fields (time ∷ []) = None
 row_of_fields (time ∷ origin ∷ []) = None
 row_of_fields (time ∷ origin ∷ destination ∷ []) = None
-row_of_fields (time ∷ origin ∷ destination ∷ persons ∷ []) = row_of_numbers (number_of_field time) (number_of_field origin) (number_of_field destination) (number_of_field persons)
+row_of_fields (time ∷ origin ∷ destination ∷ persons ∷ []) =
+    row_of_numbers (number_of_field time) (number_of_field origin) (number_of_field destination) (number_of_field persons)
 row_of_fields (time ∷ origin ∷ destination ∷ persons ∷ more ∷ rest) = None
 
 abbrev pub row_of_record : Option (List (List ℕ)) → Option Row

@@ -32,11 +32,13 @@ named_word word named is = by_day (bytes_eq word (codes "day")) refl is
     by_plan true e same = names Plan e same
     by_plan false e same = absurd cc
 
-    by_day : (b : Bool) → bytes_eq word (codes "day") ≡ b → cond b (Some Day) (cond (bytes_eq word (codes "plan")) (Some Plan) None) ≡ Some named → word ≡ word_of named
+    by_day : (b : Bool) → bytes_eq word (codes "day") ≡ b → cond b (Some Day) (cond (bytes_eq word (codes "plan")) (Some Plan) None) ≡ Some named
+        → word ≡ word_of named
     by_day true e same = names Day e same
     by_day false e same = by_plan (bytes_eq word (codes "plan")) refl same
 
-pub known : (words : List Text) (word : Text) (found : Option Subject) → slice_get words 1 ≡ Some word → found ≡ subject_named word → IfSome found (IsSecond words)
+pub known : (words : List Text) (word : Text) (found : Option Subject) → slice_get words 1 ≡ Some word → found ≡ subject_named word
+    → IfSome found (IsSecond words)
 known words word None second is = tt
 known words word (Some named) second is = second ∙ ap Some (named_word word named (sym is))
 
@@ -61,7 +63,8 @@ module _ (words : List Text) (named : Subject) (second : IsSecond words named) w
   taken_given : (request : Request) (t : AreTaken words request) → AreGiven (app named) words t.rows
   taken_given request t = subst (λ k. AreGiven (app k) words t.rows) (taken_subject request t) t.given
 
-  pub taken : (rows : List Row) (size : Size) → AreGiven (app named) words rows → AsksForSize rows size → AreTaken words (record { subject = named; size = size })
+  pub taken : (rows : List Row) (size : Size) → AreGiven (app named) words rows → AsksForSize rows size
+      → AreTaken words (record { subject = named; size = size })
   taken rows size given asks = record { subject = second; rows = rows; given = given; size = asks }
 
   taken_size : (rows : List Row) → AreGiven (app named) words rows → (request : Request) → AreTaken words request → AsksForSize rows request.size
@@ -69,7 +72,8 @@ module _ (words : List Text) (named : Subject) (second : IsSecond words named) w
       let mine = taken_given request t in
       subst (λ r. AsksForSize r request.size) (mine.found ∙ sym given.found) t.size
 
-  pub taken_one : (rows : List Row) (size : Size) → AreGiven (app named) words rows → AsksForSize rows size → (other : Request) → AreTaken words other → other ≡ record { subject = named; size = size }
+  pub taken_one : (rows : List Row) (size : Size) → AreGiven (app named) words rows → AsksForSize rows size → (other : Request) → AreTaken words other
+      → other ≡ record { subject = named; size = size }
   taken_one rows size given asks other t =
       let subject = taken_subject other t in
       let same = size_one rows other.size size (taken_size rows given other t) asks in
@@ -80,5 +84,6 @@ module _ (words : List Text) (named : Subject) (second : IsSecond words named) w
   refused_by_options none request t = none t.rows (taken_given request t)
 
   -- nor where they ask for no size
-  pub refused_by_rows : (rows : List Row) → AreGiven (app named) words rows → ((size : Size) → AsksForSize rows size → ⊥) → (request : Request) → AreTaken words request → ⊥
+  pub refused_by_rows : (rows : List Row) → AreGiven (app named) words rows → ((size : Size) → AsksForSize rows size → ⊥) → (request : Request)
+      → AreTaken words request → ⊥
   refused_by_rows rows given none request t = none request.size (taken_size rows given request t)

@@ -39,7 +39,8 @@ two_words one other no_dashes nor_these unlike (inl (suc zero, lt, same)) = nor_
 two_words one other no_dashes nor_these unlike (inl (suc (suc k), lt, same)) = absurd (omega arith)
 two_words one other no_dashes nor_these unlike (inr r) = by_places r.first r.second r.order r.within r.repeats
   where
-    by_places : (first second : ℕ) → first < second → second < 2 → Repeats (slice_index_or (one ∷ other ∷ []) first []) (slice_index_or (one ∷ other ∷ []) second []) → ⊥
+    by_places : (first second : ℕ) → first < second → second < 2
+        → Repeats (slice_index_or (one ∷ other ∷ []) first []) (slice_index_or (one ∷ other ∷ []) second []) → ⊥
     by_places zero zero order within same = absurd (omega arith)
     by_places zero (suc zero) order within same = unlike same
     by_places zero (suc (suc k)) order within same = absurd (omega arith)
@@ -70,7 +71,13 @@ unfolding clap_on_literals
 by_next_word = record {
   subject = refl;
   rows = matches_of (app Day) (codes "day" ∷ codes "--width" ∷ codes "917" ∷ []);
-  given = record { clear = two_words (codes "--width") (codes "917") (λ e. absurd cc) (λ e. absurd cc) (λ r. let bytes : 57 ≡ 45 = ap (λ w. first_byte (Some w)) r.second_option in absurd (omega (arith, bytes))); accepted = refl; found = refl };
+  given = record {
+    clear =
+        two_words (codes "--width") (codes "917") (λ e. absurd cc) (λ e. absurd cc)
+        (λ r. let bytes : 57 ≡ 45 = ap (λ w. first_byte (Some w)) r.second_option in absurd (omega (arith, bytes)));
+    accepted = refl;
+    found = refl;
+  };
   size = record { width = refl; height = refl };
 }
 
@@ -80,7 +87,8 @@ by_both = record {
   subject = refl;
   rows = matches_of (app Day) (codes "day" ∷ codes "--height=10000" ∷ codes "--width=400" ∷ []);
   given = record {
-    clear = two_words (codes "--height=10000") (codes "--width=400") (λ e. absurd cc) (λ e. absurd cc) (λ r. let same : codes "--height" ≡ codes "--width" = r.same in absurd cc);
+    clear = two_words (codes "--height=10000") (codes "--width=400") (λ e. absurd cc) (λ e. absurd cc)
+        (λ r. let same : codes "--height" ≡ codes "--width" = r.same in absurd cc);
     accepted = refl;
     found = refl;
   };
@@ -114,7 +122,8 @@ unfolding clap_on_literals
 one_more size t = let refused = t.given.accepted in absurd cc
 
 repeated : (request : Request) → AreTaken (codes "lift_draw" ∷ codes "day" ∷ codes "--width" ∷ codes "500" ∷ codes "--width=600" ∷ []) request → ⊥
-repeated request t = t.given.clear (inr (record { first = 0; second = 2; order = lit< tt; within = lit< tt; repeats = record { first_option = refl; second_option = refl; same = refl } }))
+repeated request t = t.given.clear
+    (inr (record { first = 0; second = 2; order = lit< tt; within = lit< tt; repeats = record { first_option = refl; second_option = refl; same = refl } }))
 
 dashes_alone : (request : Request) → AreTaken (codes "lift_draw" ∷ codes "day" ∷ codes "--width=500" ∷ codes "--" ∷ []) request → ⊥
 dashes_alone request t = t.given.clear (inl (1, lit< tt, refl))

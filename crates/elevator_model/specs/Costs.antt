@@ -25,7 +25,8 @@ cost_of_wait b wait = b.wait_weight * wait + b.patience_weight * (wait - b.patie
 -- what a rider costs that boards and gets off at these moments; groups aboard wait no more
 abbrev pub cost_of_rider : Snapshot → ℕ → (boarded delivered : ℕ) → ℕ
 cost_of_rider s r boarded delivered =
-    persons_of s r * ((if nat_lt r (call_count s) then cost_of_wait s.building (boarded - (call_of s r).released) else 0) + s.building.travel_weight * (delivered - boarded))
+    persons_of s r * ((if nat_lt r (call_count s) then cost_of_wait s.building (boarded - (call_of s r).released) else 0) + s.building.travel_weight *
+    (delivered - boarded))
 
 -- those who rode with the car and got off
 abbrev pub is_delivered : Snapshot → ℕ → Progress → ℕ → Bool

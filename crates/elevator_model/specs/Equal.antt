@@ -11,4 +11,5 @@ same_stop = eq_of_both (on (λ (s : Stop). s.floor) ◌==◌) (on (λ (s : Stop)
 
 pub same_stop_law : IsPartialEquivalence same_stop
 same_stop_law =
-    and_per (on_per (λ (s : Stop). s.floor) (partial_equiv_from_equiv nat_eq_equiv)) (on_per (λ (s : Stop). s.boards) (lists_per (partial_equiv_from_equiv nat_eq_equiv)))
+    and_per (on_per (λ (s : Stop). s.floor) (partial_equiv_from_equiv nat_eq_equiv))
+    (on_per (λ (s : Stop). s.boards) (lists_per (partial_equiv_from_equiv nat_eq_equiv)))

@@ -1,5 +1,6 @@
 -- The first fault of a building and of a snapshot. At one item the faults are tested in this order.
-use Rattle.std.specs.Prelude.{◌++◌, ℕ, ◌+◌, ◌^◌, ◌==◌, ◌&&◌, ◌||◌, not, List, [], ◌∷◌, length, Bool, true, false, nat_le, nat_lt, slice_index_or, if◌then◌else◌, Option, Some, None, sum_by}
+use Rattle.std.specs.Prelude.{◌++◌, ℕ, ◌+◌, ◌^◌, ◌==◌, ◌&&◌, ◌||◌, not, List, [], ◌∷◌, length, Bool, true, false, nat_le, nat_lt, slice_index_or, if◌then◌else◌}
+use Rattle.std.specs.Prelude.{Option, Some, None, sum_by}
 use Rattle.std.specs.List.{list_any}
 use Rattle.elevator_model.specs.declared.CarSpec.{CarSpec}
 use Rattle.elevator_model.specs.declared.CarState.{CarState}
@@ -7,7 +8,9 @@ use Rattle.elevator_model.specs.declared.CarState.TheVariants.{Idle, Coming, Mov
 use Rattle.elevator_model.specs.declared.Aboard.{Aboard}
 use Rattle.elevator_model.specs.declared.Call.{Call}
 use Rattle.elevator_model.specs.declared.Fault.{Fault}
-use Rattle.elevator_model.specs.declared.Fault.TheVariants.{OutOfRange, NotRising, IdUsedBefore, NoSuchFloor, OriginIsDestination, NoPossibleCar, PinCannotTake, WrongSide, OverCapacity, MomentOutOfRange, TooManyCalls, TooManyCars, NotServed, PersonsOutOfRange, NoOpenFloor}
+use Rattle.elevator_model.specs.declared.Fault.TheVariants.{OutOfRange, NotRising, IdUsedBefore, NoSuchFloor, OriginIsDestination, NoPossibleCar, PinCannotTake}
+use Rattle.elevator_model.specs.declared.Fault.TheVariants.{WrongSide, OverCapacity, MomentOutOfRange, TooManyCalls, TooManyCars, NotServed, PersonsOutOfRange}
+use Rattle.elevator_model.specs.declared.Fault.TheVariants.{NoOpenFloor}
 use Rattle.call_sets.specs.Counting.{has, any_below, sum_where}
 use Rattle.elevator_model.specs.Building.{Building, floor_count, car_of, most_calls, most_cars}
 use Rattle.elevator_model.specs.Snapshot.{Snapshot, floor_of, serves, is_open, can_take, no_state}
@@ -21,7 +24,11 @@ first_of_tests (t ∷ ts) = if t.0 then Some t.1 else first_of_tests ts
 abbrev pub fault_of_spec : (floors greatest : ℕ) → List CarSpec → CarSpec → Option Fault
 fault_of_spec floors greatest before car =
     first_of_tests
-    ((not (nat_le 1 car.capacity && nat_le car.capacity 64 && nat_le car.opening 60000 && nat_le car.closing 60000 && nat_le car.boarding 60000 && nat_le car.alighting 60000), OutOfRange)
+    ((
+      not (nat_le 1 car.capacity && nat_le car.capacity 64 && nat_le car.opening 60000 && nat_le car.closing 60000 && nat_le car.boarding 60000
+          && nat_le car.alighting 60000),
+      OutOfRange,
+    )
     ∷ (list_any (λ (x : CarSpec). x.id == car.id) before, IdUsedBefore)
     ∷ (nat_le (2 ^ floors) car.serves, NoSuchFloor)
     ∷ (nat_le greatest (length before), TooManyCars)
@@ -38,7 +45,10 @@ is_within low high n = nat_le low n && nat_le n high
 
 abbrev pub in_ranges : Building → Bool
 in_ranges b =
-    is_within 1 3 b.version && is_within 2 64 (floor_count b) && not (list_any (λ h. nat_lt 1000000 h) b.heights) && is_within 100 20000 b.speed && is_within 100 5000 b.accel && nat_le b.wait_weight 1000 && nat_le b.travel_weight 1000 && nat_le b.patience 1000000000 && nat_le b.patience_weight 1000 && (not (b.version == 1) || (b.patience + b.patience_weight == 0)) && (b.travel.floors == floor_count b) && nat_lt 0 (length b.cars)
+    is_within 1 3 b.version && is_within 2 64 (floor_count b) && not (list_any (λ h. nat_lt 1000000 h) b.heights) && is_within 100 20000 b.speed
+    && is_within 100 5000 b.accel && nat_le b.wait_weight 1000 && nat_le b.travel_weight 1000 && nat_le b.patience 1000000000
+    && nat_le b.patience_weight 1000 && (not (b.version == 1) || (b.patience + b.patience_weight == 0)) && (b.travel.floors == floor_count b)
+    && nat_lt 0 (length b.cars)
 
 -- Of the building itself.
 abbrev pub fault_of_frame : Building → Option Fault

@@ -1,5 +1,6 @@
 -- Partial tours: the beginning of a tour, as a list of moves.
-use Rattle.std.specs.Prelude.{ℕ, ◌&&◌, List, [], ◌∷◌, ◌++◌, map, flat_map, Bool, true, false, nat_lt, IsSome, is_some, is_none, filter, if◌then◌else◌, Option, Some, None}
+use Rattle.std.specs.Prelude.{ℕ, ◌&&◌, List, [], ◌∷◌, ◌++◌, map, flat_map, Bool, true, false, nat_lt, IsSome, is_some, is_none, filter, if◌then◌else◌, Option}
+use Rattle.std.specs.Prelude.{Some, None}
 use Rattle.std.specs.List.{list_all, range_with_len}
 use Rattle.elevator_model.specs.declared.Stop.{Stop}
 use Rattle.elevator_model.specs.declared.Move.{Move}
@@ -39,17 +40,20 @@ course_if false x = None
 -- The car goes to a stop at floor g.
 abbrev pub go_on : Snapshot → ℕ → Course → Option Stop → ℕ → Option Course
 go_on s c x None g =
-    course_if (may_stand s c x.before (record { floor = g; boards = [] })) (record { left = x.left; before = x.before; present = Some (record { floor = g; boards = [] }); ended = false })
+    course_if (may_stand s c x.before (record { floor = g; boards = [] }))
+    (record { left = x.left; before = x.before; present = Some (record { floor = g; boards = [] }); ended = false })
 go_on s c x (Some p) g =
     let after = make_stop s c x.before p in
-    course_if (may_be_left s c x.before p && may_stand s c after (record { floor = g; boards = [] })) (record { left = x.left ++ p ∷ []; before = after; present = Some (record { floor = g; boards = [] }); ended = false })
+    course_if (may_be_left s c x.before p && may_stand s c after (record { floor = g; boards = [] }))
+    (record { left = x.left ++ p ∷ []; before = after; present = Some (record { floor = g; boards = [] }); ended = false })
 
 -- A call boards at the present stop; calls board by rising index.
 abbrev pub board_on : Snapshot → ℕ → Course → Option Stop → ℕ → Option Course
 board_on s c x None j = None
 board_on s c x (Some p) j =
     let stop : Stop = record { floor = p.floor; boards = p.boards ++ j ∷ [] } in
-    course_if (list_all (λ i. nat_lt i j) p.boards && may_stand s c x.before stop) (record { left = x.left; before = x.before; present = Some stop; ended = false })
+    course_if (list_all (λ i. nat_lt i j) p.boards && may_stand s c x.before stop)
+    (record { left = x.left; before = x.before; present = Some stop; ended = false })
 
 -- The tour ends.
 abbrev pub end_on : Snapshot → ℕ → Course → Option Stop → Option Course

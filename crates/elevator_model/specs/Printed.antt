@@ -1,9 +1,12 @@
 -- The numbers that are printed for faults and for rules.
 use Rattle.std.specs.Prelude.{ℕ}
 use Rattle.elevator_model.specs.declared.Fault.{Fault}
-use Rattle.elevator_model.specs.declared.Fault.TheVariants.{OutOfRange, NotRising, IdUsedBefore, NoSuchFloor, OriginIsDestination, NoPossibleCar, PinCannotTake, WrongSide, OverCapacity, MomentOutOfRange, TooManyCalls, TooManyCars, NotServed, PersonsOutOfRange, NoTravelSquare, NoOpenFloor}
+use Rattle.elevator_model.specs.declared.Fault.TheVariants.{OutOfRange, NotRising, IdUsedBefore, NoSuchFloor, OriginIsDestination, NoPossibleCar, PinCannotTake}
+use Rattle.elevator_model.specs.declared.Fault.TheVariants.{WrongSide, OverCapacity, MomentOutOfRange, TooManyCalls, TooManyCars, NotServed, PersonsOutOfRange}
+use Rattle.elevator_model.specs.declared.Fault.TheVariants.{NoTravelSquare, NoOpenFloor}
 use Rattle.elevator_model.specs.declared.Rule.{Rule}
-use Rattle.elevator_model.specs.declared.Rule.TheVariants.{FirstStop, SameFloorTwice, UselessStop, TurnWithPassengers, Capacity, QueueOrder, Car, Floor, Delivery, CallTwice, Origin, Unserved}
+use Rattle.elevator_model.specs.declared.Rule.TheVariants.{FirstStop, SameFloorTwice, UselessStop, TurnWithPassengers, Capacity, QueueOrder, Car, Floor}
+use Rattle.elevator_model.specs.declared.Rule.TheVariants.{Delivery, CallTwice, Origin, Unserved}
 
 abbrev pub code_of : Fault → ℕ
 code_of OutOfRange = 7

@@ -1,5 +1,6 @@
 -- Snapshots: where each car is, who is aboard, which calls are open.
-use Rattle.std.specs.Prelude.{◌≡◌, ℕ, ◌+◌, ◌-◌, ◌≤◌, ◌<◌, ◌==◌, ◌&&◌, ◌||◌, not, List, length, Bool, true, false, nat_le, nat_lt, IsTrue, slice_index, slice_index_or, if◌then◌else◌, Option, Some, None}
+use Rattle.std.specs.Prelude.{◌≡◌, ℕ, ◌+◌, ◌-◌, ◌≤◌, ◌<◌, ◌==◌, ◌&&◌, ◌||◌, not, List, length, Bool, true, false, nat_le, nat_lt, IsTrue, slice_index}
+use Rattle.std.specs.Prelude.{slice_index_or, if◌then◌else◌, Option, Some, None}
 use Rattle.elevator_model.specs.declared.CarSpec.{CarSpec}
 use Rattle.elevator_model.specs.declared.CarState.{CarState}
 use Rattle.elevator_model.specs.declared.CarState.TheVariants.{Idle, Coming, Moving}
@@ -83,7 +84,9 @@ abbrev pub is_open : Building → ℕ → ℕ → CarState → ℕ → Bool
 is_open b c t (Idle floor free) g = false
 is_open b c t (Coming floor arrives) g = false
 is_open b c t (Moving from up left) g =
-    serves b c g && (if up then nat_lt from g else nat_lt g from) && can_stop b.speed b.accel (t - left) (difference (slice_index b.heights from) (slice_index b.heights g)) && nat_le t (left + time_between b.travel from g)
+    serves b c g && (if up then nat_lt from g else nat_lt g from)
+    && can_stop b.speed b.accel (t - left) (difference (slice_index b.heights from) (slice_index b.heights g))
+    && nat_le t (left + time_between b.travel from g)
 
 -- the car may make its first stop here
 abbrev pub may_stop_first : Building → ℕ → ℕ → CarState → ℕ → Bool
@@ -111,9 +114,13 @@ persons_aboard s c = sum_where (length s.aboard) (λ k. (group_of s k).car == c)
 -- all but those for that floor do; moving, each destination is open.
 abbrev pub AreOnOneSide : Snapshot → ℕ → CarState → Type 0
 AreOnOneSide s c (Idle floor free) =
-    (k m : ℕ) → k < length s.aboard → m < length s.aboard → (group_of s k).car ≡ c → (group_of s m).car ≡ c → IsTrue ((nat_lt (group_of s k).destination floor && nat_lt (group_of s m).destination floor) || (nat_lt floor (group_of s k).destination && nat_lt floor (group_of s m).destination))
+    (k m : ℕ) → k < length s.aboard → m < length s.aboard → (group_of s k).car ≡ c → (group_of s m).car ≡ c
+    → IsTrue ((nat_lt (group_of s k).destination floor && nat_lt (group_of s m).destination floor)
+    || (nat_lt floor (group_of s k).destination && nat_lt floor (group_of s m).destination))
 AreOnOneSide s c (Coming floor arrives) =
-    (k m : ℕ) → k < length s.aboard → m < length s.aboard → (group_of s k).car ≡ c → (group_of s m).car ≡ c → IsTrue ((nat_le (group_of s k).destination floor && nat_le (group_of s m).destination floor) || (nat_le floor (group_of s k).destination && nat_le floor (group_of s m).destination))
+    (k m : ℕ) → k < length s.aboard → m < length s.aboard → (group_of s k).car ≡ c → (group_of s m).car ≡ c
+    → IsTrue ((nat_le (group_of s k).destination floor && nat_le (group_of s m).destination floor)
+    || (nat_le floor (group_of s k).destination && nat_le floor (group_of s m).destination))
 AreOnOneSide s c (Moving from up left) =
     (k : ℕ) → k < length s.aboard → (group_of s k).car ≡ c → IsTrue (is_open s.building c s.moment (Moving from up left) (group_of s k).destination)
 

@@ -1,14 +1,17 @@
 -- Tours: who is carried, when, and the rules that a tour may not break.
-use Rattle.std.specs.Prelude.{◌≡◌, ℕ, ◌+◌, ◌-◌, ◌*◌, ◌==◌, ◌&&◌, ◌||◌, not, List, [], ◌∷◌, length, Bool, true, false, nat_le, nat_lt, count_by, if◌then◌else◌, Option, Some, None}
+use Rattle.std.specs.Prelude.{◌≡◌, ℕ, ◌+◌, ◌-◌, ◌*◌, ◌==◌, ◌&&◌, ◌||◌, not, List, [], ◌∷◌, length, Bool, true, false, nat_le, nat_lt, count_by, if◌then◌else◌}
+use Rattle.std.specs.Prelude.{Option, Some, None}
 use Rattle.std.specs.List.{list_any}
 use Rattle.elevator_model.specs.declared.Call.{Call}
 use Rattle.elevator_model.specs.declared.Stop.{Stop}
 use Rattle.elevator_model.specs.declared.Broken.{Broken}
 use Rattle.elevator_model.specs.declared.Rule.{Rule}
-use Rattle.elevator_model.specs.declared.Rule.TheVariants.{FirstStop, SameFloorTwice, UselessStop, TurnWithPassengers, Capacity, QueueOrder, Car, Floor, Delivery, CallTwice, Origin}
+use Rattle.elevator_model.specs.declared.Rule.TheVariants.{FirstStop, SameFloorTwice, UselessStop, TurnWithPassengers, Capacity, QueueOrder, Car, Floor}
+use Rattle.elevator_model.specs.declared.Rule.TheVariants.{Delivery, CallTwice, Origin}
 use Rattle.call_sets.specs.Counting.{any_below, sum_where, is_among}
 use Rattle.elevator_model.specs.Travel.{time_between}
-use Rattle.elevator_model.specs.Snapshot.{Snapshot, call_count, call_of, group_of, spec_of, state_of, floor_of, moment_of, is_coming, is_idle, is_possible, serves, may_stop_first}
+use Rattle.elevator_model.specs.Snapshot.{Snapshot, call_count, call_of, group_of, spec_of, state_of, floor_of, moment_of, is_coming, is_idle, is_possible}
+use Rattle.elevator_model.specs.Snapshot.{serves, may_stop_first}
 
 -- Riders are numbered: the open calls, and after them the groups aboard.
 abbrev pub rider_count : Snapshot → ℕ
@@ -123,7 +126,8 @@ overtakes s p j = any_below (call_count s) (λ k. p.boarded k && is_later_in_que
 -- car rises above it, or falls below it.
 abbrev pub turns_with : Snapshot → Progress → ℕ → ℕ → Bool
 turns_with s p f g =
-    (nat_lt f g && any_below (rider_count s) (λ r. p.carried r && nat_lt (destination_of s r) g)) || (nat_lt g f && any_below (rider_count s) (λ r. p.carried r && nat_lt g (destination_of s r)))
+    (nat_lt f g && any_below (rider_count s) (λ r. p.carried r && nat_lt (destination_of s r) g))
+    || (nat_lt g f && any_below (rider_count s) (λ r. p.carried r && nat_lt g (destination_of s r)))
 
 abbrev pub is_call_for : Snapshot → ℕ → ℕ → Bool
 is_call_for s c j = nat_lt j (call_count s) && is_possible s c (call_of s j)

@@ -42,4 +42,5 @@ pub record IsTravelSquare (t : Square) : Type 0 where
 pub record IsTravelOf (heights : List ℕ) (speed accel : ℕ) (t : Square) : Type 0 where
   pub floors : t.floors ≡ length heights
   pub size : length t.times ≡ length heights * length heights
-  pub least : (f g : ℕ) → f < length heights → g < length heights → IsLeastTime speed accel (difference (slice_index heights f) (slice_index heights g)) (time_between t f g)
+  pub least : (f g : ℕ) → f < length heights → g < length heights
+      → IsLeastTime speed accel (difference (slice_index heights f) (slice_index heights g)) (time_between t f g)

@@ -12,11 +12,14 @@ use Rattle.elevator_model.specs.declared.Move.{Move}
 use Rattle.elevator_model.specs.declared.Move.TheVariants.{Board, Leave, End}
 use Rattle.elevator_model.specs.declared.Fault.{Fault}
 use Rattle.elevator_model.specs.declared.Rule.{Rule}
-use Rattle.elevator_model.specs.declared.Rule.TheVariants.{FirstStop, SameFloorTwice, UselessStop, TurnWithPassengers, Capacity, QueueOrder, Car, Floor, Delivery, CallTwice, Origin, Unserved}
+use Rattle.elevator_model.specs.declared.Rule.TheVariants.{FirstStop, SameFloorTwice, UselessStop, TurnWithPassengers, Capacity, QueueOrder, Car, Floor}
+use Rattle.elevator_model.specs.declared.Rule.TheVariants.{Delivery, CallTwice, Origin, Unserved}
 use Rattle.elevator_model.specs.Travel.{Square}
 use Rattle.elevator_model.specs.Building.{Building}
 use Rattle.elevator_model.specs.Snapshot.{Snapshot}
-use Rattle.elevator_model.specs.declared.Fault.TheVariants.{OutOfRange, NotRising, IdUsedBefore, NoSuchFloor, OriginIsDestination, NoPossibleCar, PinCannotTake, WrongSide, OverCapacity, MomentOutOfRange, TooManyCalls, TooManyCars, NotServed, PersonsOutOfRange, NoOpenFloor}
+use Rattle.elevator_model.specs.declared.Fault.TheVariants.{OutOfRange, NotRising, IdUsedBefore, NoSuchFloor, OriginIsDestination, NoPossibleCar, PinCannotTake}
+use Rattle.elevator_model.specs.declared.Fault.TheVariants.{WrongSide, OverCapacity, MomentOutOfRange, TooManyCalls, TooManyCars, NotServed, PersonsOutOfRange}
+use Rattle.elevator_model.specs.declared.Fault.TheVariants.{NoOpenFloor}
 use Rattle.elevator_model.specs.Faults.{first_fault_of_building, first_fault_of_snapshot}
 use Rattle.elevator_model.specs.Tours.{first_broken}
 use Rattle.elevator_model.specs.Costs.{cost_of, timeline_of}
@@ -118,8 +121,10 @@ pub record AreBroken : Type 0 where
   pub same_floor : Breaks one_call (stop 0 [] ∷ []) 1 UselessStop
   pub twice_there : Breaks one_call (stop 0 (0 ∷ []) ∷ stop 0 [] ∷ stop 1 [] ∷ []) 2 SameFloorTwice
   pub turn : Breaks two_ways (stop 1 (0 ∷ 1 ∷ []) ∷ stop 2 [] ∷ stop 0 [] ∷ []) 2 TurnWithPassengers
-  pub past_a_destination : Breaks (shown 1 0 8 (Idle 0 0) [] (call 1 0 1 1 ∷ call 2 0 2 1 ∷ [])) (stop 0 (0 ∷ 1 ∷ []) ∷ stop 2 [] ∷ stop 1 [] ∷ []) 2 TurnWithPassengers
-  pub below_a_destination : Breaks (shown 1 0 8 (Idle 3 0) [] (call 1 3 2 1 ∷ call 2 3 1 1 ∷ [])) (stop 3 (0 ∷ 1 ∷ []) ∷ stop 1 [] ∷ stop 2 [] ∷ []) 2 TurnWithPassengers
+  pub past_a_destination : Breaks (shown 1 0 8 (Idle 0 0) [] (call 1 0 1 1 ∷ call 2 0 2 1 ∷ []))
+      (stop 0 (0 ∷ 1 ∷ []) ∷ stop 2 [] ∷ stop 1 [] ∷ []) 2 TurnWithPassengers
+  pub below_a_destination : Breaks (shown 1 0 8 (Idle 3 0) [] (call 1 3 2 1 ∷ call 2 3 1 1 ∷ []))
+      (stop 3 (0 ∷ 1 ∷ []) ∷ stop 1 [] ∷ stop 2 [] ∷ []) 2 TurnWithPassengers
   pub capacity : Breaks three_persons (stop 0 (0 ∷ 1 ∷ []) ∷ stop 1 [] ∷ []) 1 Capacity
   pub queue : Breaks one_queue (stop 0 (1 ∷ []) ∷ stop 1 [] ∷ stop 0 (0 ∷ []) ∷ stop 3 [] ∷ []) 3 QueueOrder
   pub no_call : Breaks one_call (stop 0 (0 ∷ 5 ∷ []) ∷ stop 1 [] ∷ []) 1 Car
@@ -221,7 +226,10 @@ pub record ArePlans : Type 0 where
 -- first faults, by their places
 pub record AreFaults : Type 0 where
   pub none : first_fault_of_snapshot one_call ≡ None
-  pub two_sides : first_fault_of_snapshot (shown 1 0 8 (Idle 1 0) (record { id = 8; car = 0; destination = 3; persons = 1; boarded = 0 } ∷ record { id = 9; car = 0; destination = 0; persons = 1; boarded = 0 } ∷ []) []) ≡ Some (WrongSide, 3)
+  pub two_sides : first_fault_of_snapshot
+      (shown 1 0 8 (Idle 1 0)
+      (record { id = 8; car = 0; destination = 3; persons = 1; boarded = 0 } ∷ record { id = 9; car = 0; destination = 0; persons = 1; boarded = 0 } ∷ []) [])
+      ≡ Some (WrongSide, 3)
   pub too_late : first_fault_of_snapshot (moving_at 6001) ≡ Some (NoOpenFloor, 1)
   pub no_car : first_fault_of_snapshot (shown 1 0 1 (Idle 0 0) [] (call 1 0 3 2 ∷ [])) ≡ Some (NoPossibleCar, 2)
   pub building : first_fault_of_building (building_with (car_for 8)) ≡ None
@@ -251,8 +259,34 @@ pub record AreBuildingFaults : Type 0 where
   pub two_cars : first_fault_of_building (building_of_cars 1 (cars_to 2)) ≡ None
   pub no_version : first_fault_of_building (building_of_cars 4 (cars_to 2)) ≡ Some (OutOfRange, 0)
   pub no_cars : first_fault_of_building (building_of_cars 1 []) ≡ Some (OutOfRange, 0)
-  pub patience_in_one : first_fault_of_building (record { version = 1; heights = 0 ∷ 4000 ∷ 8000 ∷ 12000 ∷ []; speed = 2000; accel = 1000; wait_weight = 1; travel_weight = 1; patience = 0; patience_weight = 1; cars = cars_to 1; travel = four_floors }) ≡ Some (OutOfRange, 0)
-  pub slow : first_fault_of_building (record { version = 2; heights = 0 ∷ 4000 ∷ 8000 ∷ 12000 ∷ []; speed = 99; accel = 1000; wait_weight = 1; travel_weight = 1; patience = 0; patience_weight = 1; cars = cars_to 1; travel = four_floors }) ≡ Some (OutOfRange, 0)
+  pub patience_in_one : first_fault_of_building
+      (record {
+        version = 1;
+        heights = 0 ∷ 4000 ∷ 8000 ∷ 12000 ∷ [];
+        speed = 2000;
+        accel = 1000;
+        wait_weight = 1;
+        travel_weight = 1;
+        patience =
+            0;
+        patience_weight = 1;
+        cars = cars_to 1;
+        travel = four_floors;
+      }) ≡ Some (OutOfRange, 0)
+  pub slow : first_fault_of_building
+      (record {
+        version = 2;
+        heights = 0 ∷ 4000 ∷ 8000 ∷ 12000 ∷ [];
+        speed = 99;
+        accel = 1000;
+        wait_weight = 1;
+        travel_weight = 1;
+        patience =
+            0;
+        patience_weight = 1;
+        cars = cars_to 1;
+        travel = four_floors;
+      }) ≡ Some (OutOfRange, 0)
   pub level : first_fault_of_building (with_heights (0 ∷ 4000 ∷ 4000 ∷ 12000 ∷ [])) ≡ Some (NotRising, 0)
   pub too_high_first : first_fault_of_building (with_heights (0 ∷ 4000 ∷ 4000 ∷ 1000001 ∷ [])) ≡ Some (OutOfRange, 0)
   pub other_floors : first_fault_of_building (with_heights (0 ∷ 4000 ∷ 8000 ∷ [])) ≡ Some (OutOfRange, 0)
@@ -269,7 +303,8 @@ abbrev pub group : (id destination persons boarded : ℕ) → Aboard
 group id destination persons boarded = record { id = id; car = 0; destination = destination; persons = persons; boarded = boarded }
 
 abbrev pub call_from : (id origin destination persons released : ℕ) → (pin : Option ℕ) → Call
-call_from id origin destination persons released pin = record { id = id; origin = origin; destination = destination; persons = persons; released = released; pin = pin }
+call_from id origin destination persons released pin =
+    record { id = id; origin = origin; destination = destination; persons = persons; released = released; pin = pin }
 
 -- calls with the ids 1 to n, in falling order
 abbrev pub calls_to : ℕ → List Call
@@ -411,10 +446,14 @@ pub record AreUneven : Type 0 where
   pub together : Costs riders_down (stop 0 [] ∷ stop 1 (0 ∷ 1 ∷ []) ∷ stop 3 [] ∷ []) 621302
   pub in_turn : Costs riders_down (stop 0 [] ∷ stop 1 (0 ∷ []) ∷ stop 3 [] ∷ stop 1 (1 ∷ []) ∷ stop 3 [] ∷ []) 771574
   pub released_first : Breaks riders_down (stop 0 [] ∷ stop 1 (1 ∷ []) ∷ stop 3 [] ∷ stop 1 (0 ∷ []) ∷ stop 3 [] ∷ []) 4 QueueOrder
-  pub with_who_stays : Breaks (uneven 1 0 0 4 1000 (Idle 0 1000) (group 30 3 3 400 ∷ []) (call_from 5 1 3 2 900 None ∷ [])) (stop 1 (0 ∷ []) ∷ stop 3 [] ∷ []) 1 Capacity
-  pub coming : Costs (uneven 1 0 0 5 1000 (Coming 0 1000) (group 30 3 3 400 ∷ []) (call_from 5 1 3 2 900 None ∷ [])) (stop 0 [] ∷ stop 1 (0 ∷ []) ∷ stop 3 [] ∷ []) 174920
-  pub two_queues : Costs (uneven 1 0 0 5 1000 (Idle 1 1000) [] (call_from 1 1 3 1 900 None ∷ call_from 2 1 0 1 950 None ∷ [])) (stop 1 (1 ∷ []) ∷ stop 0 [] ∷ stop 1 (0 ∷ []) ∷ stop 3 [] ∷ []) 73934
-  pub two_origins : Costs (uneven 1 0 0 5 1000 (Idle 1 1000) [] (call_from 1 0 3 1 900 None ∷ call_from 2 1 3 1 950 None ∷ [])) (stop 1 (1 ∷ []) ∷ stop 3 [] ∷ stop 0 (0 ∷ []) ∷ stop 3 [] ∷ []) 105270
+  pub with_who_stays : Breaks (uneven 1 0 0 4 1000 (Idle 0 1000) (group 30 3 3 400 ∷ []) (call_from 5 1 3 2 900 None ∷ []))
+      (stop 1 (0 ∷ []) ∷ stop 3 [] ∷ []) 1 Capacity
+  pub coming : Costs (uneven 1 0 0 5 1000 (Coming 0 1000) (group 30 3 3 400 ∷ []) (call_from 5 1 3 2 900 None ∷ []))
+      (stop 0 [] ∷ stop 1 (0 ∷ []) ∷ stop 3 [] ∷ []) 174920
+  pub two_queues : Costs (uneven 1 0 0 5 1000 (Idle 1 1000) [] (call_from 1 1 3 1 900 None ∷ call_from 2 1 0 1 950 None ∷ []))
+      (stop 1 (1 ∷ []) ∷ stop 0 [] ∷ stop 1 (0 ∷ []) ∷ stop 3 [] ∷ []) 73934
+  pub two_origins : Costs (uneven 1 0 0 5 1000 (Idle 1 1000) [] (call_from 1 0 3 1 900 None ∷ call_from 2 1 3 1 950 None ∷ []))
+      (stop 1 (1 ∷ []) ∷ stop 3 [] ∷ stop 0 (0 ∷ []) ∷ stop 3 [] ∷ []) 105270
   pub speeding_up : Costs (uneven 1 0 0 5 5000 (Moving 2 true 3882) [] (call_from 1 3 0 1 900 None ∷ [])) (stop 3 (0 ∷ []) ∷ stop 0 [] ∷ []) 40241
   pub too_fast : Breaks (uneven 1 0 0 5 5000 (Moving 2 true 3881) [] (call_from 1 3 0 1 900 None ∷ [])) (stop 3 (0 ∷ []) ∷ stop 0 [] ∷ []) 1 FirstStop
   pub at_full_speed : Costs (uneven 1 0 0 5 5000 (Moving 0 true 2500) [] (call_from 1 2 0 1 900 None ∷ [])) (stop 2 (0 ∷ []) ∷ stop 0 [] ∷ []) 51675
@@ -423,7 +462,8 @@ pub record AreUneven : Type 0 where
   pub too_near : Breaks (uneven 1 0 0 5 7001 (Moving 0 true 1000) [] (call_from 1 2 0 1 900 None ∷ [])) (stop 2 (0 ∷ []) ∷ stop 0 [] ∷ []) 1 FirstStop
   pub there_now : Costs (quick_at 4000) (stop 2 (0 ∷ []) ∷ stop 0 [] ∷ []) 23300
   pub would_have_passed : Breaks (quick_at 4001) (stop 2 (0 ∷ []) ∷ stop 0 [] ∷ []) 1 FirstStop
-  pub timeline : timeline_of riders_down 0 (stop 0 [] ∷ stop 1 (0 ∷ 1 ∷ []) ∷ stop 3 [] ∷ []) ≡ times 12875 13975 17375 ∷ times 21250 22350 23950 ∷ times 30492 31592 34992 ∷ []
+  pub timeline : timeline_of riders_down 0 (stop 0 [] ∷ stop 1 (0 ∷ 1 ∷ []) ∷ stop 3 [] ∷ []) ≡ times 12875 13975 17375 ∷ times 21250 22350 23950
+      ∷ times 30492 31592 34992 ∷ []
   pub without_a_leg : timeline_of (uneven 1 0 0 5 1000 (Coming 0 1000) (group 30 3 3 400 ∷ []) []) 0 (stop 3 [] ∷ []) ≡ times 1000 2100 5500 ∷ []
 
 -- three cars of different numbers, the second of which has a group aboard
@@ -457,7 +497,8 @@ pub record AreUnevenPlans : Type 0 where
 pub record AreLowest : Type 0 where
   pub useless : Breaks riders_down (stop 0 [] ∷ stop 1 (0 ∷ []) ∷ stop 0 [] ∷ []) 3 UselessStop
   pub turn : Breaks riders_down (stop 3 (0 ∷ 1 ∷ []) ∷ []) 1 TurnWithPassengers
-  pub capacity : Breaks (uneven 2 2000 5 3 1000 (Idle 2 5000) [] (call_from 5 1 3 2 900 None ∷ call_from 2 1 3 1 950 None ∷ call_from 8 3 0 2 700 None ∷ [])) (stop 1 (1 ∷ []) ∷ stop 3 (2 ∷ []) ∷ stop 1 (0 ∷ []) ∷ []) 3 Capacity
+  pub capacity : Breaks (uneven 2 2000 5 3 1000 (Idle 2 5000) [] (call_from 5 1 3 2 900 None ∷ call_from 2 1 3 1 950 None ∷ call_from 8 3 0 2 700 None ∷ []))
+      (stop 1 (1 ∷ []) ∷ stop 3 (2 ∷ []) ∷ stop 1 (0 ∷ []) ∷ []) 3 Capacity
   pub queue : Breaks riders_down (stop 0 [] ∷ stop 1 (1 ∷ []) ∷ stop 3 [] ∷ stop 1 (0 ∷ 9 ∷ []) ∷ []) 4 QueueOrder
   pub car : BadAt three_cars ([] ∷ (stop 3 [] ∷ stop 0 [] ∷ stop 1 (0 ∷ []) ∷ []) ∷ [] ∷ []) 1 3 Car
   pub floor : BadAt three_cars ([] ∷ (stop 3 [] ∷ stop 0 [] ∷ stop 1 (1 ∷ 1 ∷ []) ∷ []) ∷ [] ∷ []) 1 3 Floor

@@ -21,12 +21,14 @@ use Rattle.further_commands.specs.TableOutcome.{IsToldOf, TableAnswerIsDue, Tabl
 pub read_text : (left : Option (List ℕ)) (t : Square) → IsReadAlone (option_map whole_text left) t → (input : List ℕ) → left ≡ Some input → IsTableText input t
 read_text left t read input given = subst (λ (x : Option (List ℕ)). IsReadAlone (option_map whole_text x) t) given read
 
-pub takes_text : (left : Option (List ℕ)) (input : List ℕ) (t : Square) (answer : Result Square TextFault) → left ≡ Some input → IsTableText input t → TakesLoneTables (option_map whole_text left) answer → IsAnsweredAlone t answer
+pub takes_text : (left : Option (List ℕ)) (input : List ℕ) (t : Square) (answer : Result Square TextFault) → left ≡ Some input → IsTableText input t
+    → TakesLoneTables (option_map whole_text left) answer → IsAnsweredAlone t answer
 takes_text left input t answer given is takes = (subst (λ (x : Option (List ℕ)). TakesLoneTables (option_map whole_text x) answer) given takes) t is
 
 -- ---- what is due
 
-pub ends_told : (left left' : Option (List ℕ)) (old new : Streams) (text : List ℕ) (status result : Status) → TableAnswerIsDue left left' status text → Puts text status result old.taken new.taken old.write_faults new.write_faults → Ends (TableDue left left') old new result
+pub ends_told : (left left' : Option (List ℕ)) (old new : Streams) (text : List ℕ) (status result : Status) → TableAnswerIsDue left left' status text
+    → Puts text status result old.taken new.taken old.write_faults new.write_faults → Ends (TableDue left left') old new result
 ends_told left left' old new text Done result due put = ends_put (TableDue left left') old new text Done result due (λ wrote. wrote) put
 ends_told left left' old new text Refused result due put = ends_put (TableDue left left') old new text Refused result due (λ wrote. wrote) put
 ends_told left left' old new text Words result due put = absurd due.told
@@ -41,8 +43,16 @@ abbrev IsWrong : Option (List ℕ) → TextFault → Type 0
 IsWrong left fault = (input : List ℕ) → left ≡ Some input → IsLoneTableFault (reading (whole_text input)) fault
 
 -- a refusal line tells what was said of the input
-pub refusal_due : (left left' : Option (List ℕ)) (fault : TextFault) (text : List ℕ) → IsRefusalLine fault text → IsRefusedAlone (option_map whole_text left) fault → FaultShows (option_map whole_text left) fault left' → TableRefusalIsDue left left' text
-refusal_due left left' fault text is_line refused shows = record { fault = fault; is_line = is_line; read = told_by_line (IsRefusedAlone (option_map whole_text left)) (IsWrong left) bad long fault text is_line refused; shows = shows }
+pub refusal_due : (left left' : Option (List ℕ)) (fault : TextFault) (text : List ℕ) → IsRefusalLine fault text
+    → IsRefusedAlone (option_map whole_text left) fault → FaultShows (option_map whole_text left) fault left' → TableRefusalIsDue left left' text
+refusal_due left left' fault text is_line refused shows =
+    record {
+      fault = fault;
+      is_line = is_line;
+      read =
+          told_by_line (IsRefusedAlone (option_map whole_text left)) (IsWrong left) bad long fault text is_line refused;
+      shows = shows;
+    }
   where
     bad : (number : ℕ) (code : TextCode) → IsRefusedAlone (option_map whole_text left) (Bad number code) → IsWrong left (Bad number code)
     bad number code told input given = subst (λ (x : Option (List ℕ)). IsRefusedAlone (option_map whole_text x) (Bad number code)) given told

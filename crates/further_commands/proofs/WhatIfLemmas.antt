@@ -22,10 +22,12 @@ use Rattle.further_commands.specs.WhatIfOutcome.{AnswerIsDue, IsAnswered, IsAskR
 
 -- ---- of what was read
 
-pub read_asked : (left : Option (List ℕ)) (s : Snapshot) → IsReadAsked (option_map whole_text left) s → (input : List ℕ) → left ≡ Some input → IsAskedCaseText input s
+pub read_asked : (left : Option (List ℕ)) (s : Snapshot) → IsReadAsked (option_map whole_text left) s → (input : List ℕ) → left ≡ Some input
+    → IsAskedCaseText input s
 read_asked left s read input given = subst (λ (x : Option (List ℕ)). IsReadAsked (option_map whole_text x) s) given read
 
-pub takes_asked : (left : Option (List ℕ)) (input : List ℕ) (s : Snapshot) (answer : Result Snapshot AskFault) → left ≡ Some input → IsAskedCaseText input s → TakesAskedCases (option_map whole_text left) answer → IsAnsweredAsked s answer
+pub takes_asked : (left : Option (List ℕ)) (input : List ℕ) (s : Snapshot) (answer : Result Snapshot AskFault) → left ≡ Some input → IsAskedCaseText input s
+    → TakesAskedCases (option_map whole_text left) answer → IsAnsweredAsked s answer
 takes_asked left input s answer given is takes = (subst (λ (x : Option (List ℕ)). TakesAskedCases (option_map whole_text x) answer) given takes) s is
 
 -- ---- what is told
@@ -51,7 +53,8 @@ done_or_stopped extras Read is = absurd is
 done_or_stopped extras Write is = absurd is
 done_or_stopped extras Memory is = absurd is
 
-pub is_told : (s : Snapshot) (rounds moves : ℕ) (extras : List Extra) (regret : Regret) (status : Status) (text : List ℕ) → AreExtras s rounds moves extras → IsRegret s extras regret → IsStatusOf extras status → text ≡ what_if_text s extras regret → IsTold s rounds moves status text
+pub is_told : (s : Snapshot) (rounds moves : ℕ) (extras : List Extra) (regret : Regret) (status : Status) (text : List ℕ) → AreExtras s rounds moves extras
+    → IsRegret s extras regret → IsStatusOf extras status → text ≡ what_if_text s extras regret → IsTold s rounds moves status text
 is_told s rounds moves extras regret status text are is status_is is_text = record {
   extras = extras;
   regret = regret;
@@ -63,9 +66,13 @@ is_told s rounds moves extras regret status text are is status_is is_text = reco
 
 -- ---- what is due
 
-pub ends_told : (rounds moves : ℕ) (left left' : Option (List ℕ)) (old new : Streams) (text : List ℕ) (status result : Status) → AnswerIsDue rounds moves left left' status text → Puts text status result old.taken new.taken old.write_faults new.write_faults → Ends (WhatIfDue rounds moves left left') old new result
-ends_told rounds moves left left' old new text Done result due put = ends_put (WhatIfDue rounds moves left left') old new text Done result due (λ wrote. wrote) put
-ends_told rounds moves left left' old new text Stopped result due put = ends_put (WhatIfDue rounds moves left left') old new text Stopped result due (λ wrote. wrote) put
+pub ends_told : (rounds moves : ℕ) (left left' : Option (List ℕ)) (old new : Streams) (text : List ℕ) (status result : Status)
+    → AnswerIsDue rounds moves left left' status text → Puts text status result old.taken new.taken old.write_faults new.write_faults
+    → Ends (WhatIfDue rounds moves left left') old new result
+ends_told rounds moves left left' old new text Done result due put =
+    ends_put (WhatIfDue rounds moves left left') old new text Done result due (λ wrote. wrote) put
+ends_told rounds moves left left' old new text Stopped result due put =
+    ends_put (WhatIfDue rounds moves left left') old new text Stopped result due (λ wrote. wrote) put
 ends_told rounds moves left left' old new text Words result due put = absurd due.told.status_is
 ends_told rounds moves left left' old new text Refused result due put = absurd due.told.status_is
 ends_told rounds moves left left' old new text Input result due put = absurd due.told.status_is
@@ -78,9 +85,13 @@ abbrev IsWrong : Option (List ℕ) → AskFault → Type 0
 IsWrong left fault = (input : List ℕ) → left ≡ Some input → IsAskFault (reading (whole_text input)) fault
 
 -- a refusal line tells what was said of the input
-refusal_told : (left : Option (List ℕ)) (fault : AskFault) (text : List ℕ) → IsAskRefusal fault text → IsRefusedAsked (option_map whole_text left) fault → IsWrong left fault
-refusal_told left (NothingAsked line) text is_line refused = λ input given. subst (λ (x : Option (List ℕ)). IsRefusedAsked (option_map whole_text x) (NothingAsked line)) given refused
-refusal_told left (Text fault) text is_line refused = told_by_line (λ (f : TextFault). IsRefusedAsked (option_map whole_text left) (Text f)) (λ (f : TextFault). IsWrong left (Text f)) bad long fault text is_line refused
+refusal_told : (left : Option (List ℕ)) (fault : AskFault) (text : List ℕ) → IsAskRefusal fault text → IsRefusedAsked (option_map whole_text left) fault
+    → IsWrong left fault
+refusal_told left (NothingAsked line) text is_line refused =
+    λ input given. subst (λ (x : Option (List ℕ)). IsRefusedAsked (option_map whole_text x) (NothingAsked line)) given refused
+refusal_told left (Text fault) text is_line refused =
+    told_by_line (λ (f : TextFault). IsRefusedAsked (option_map whole_text left) (Text f))
+    (λ (f : TextFault). IsWrong left (Text f)) bad long fault text is_line refused
   where
     bad : (number : ℕ) (code : TextCode) → IsRefusedAsked (option_map whole_text left) (Text (Bad number code)) → IsWrong left (Text (Bad number code))
     bad number code told input given = subst (λ (x : Option (List ℕ)). IsRefusedAsked (option_map whole_text x) (Text (Bad number code))) given told
@@ -88,20 +99,27 @@ refusal_told left (Text fault) text is_line refused = told_by_line (λ (f : Text
     long : IsRefusedAsked (option_map whole_text left) (Text TooLong) → IsWrong left (Text TooLong)
     long told input given = subst (λ (x : Option (List ℕ)). IsRefusedAsked (option_map whole_text x) (Text TooLong)) given told
 
-refusal_due : (left left' : Option (List ℕ)) (fault : AskFault) (text : List ℕ) → IsAskRefusal fault text → IsRefusedAsked (option_map whole_text left) fault → AskFaultShows (option_map whole_text left) fault left' → RefusalIsDue left left' text
-refusal_due left left' fault text is_line refused shows = record { fault = fault; is_line = is_line; read = refusal_told left fault text is_line refused; shows = shows }
+refusal_due : (left left' : Option (List ℕ)) (fault : AskFault) (text : List ℕ) → IsAskRefusal fault text → IsRefusedAsked (option_map whole_text left) fault
+    → AskFaultShows (option_map whole_text left) fault left' → RefusalIsDue left left' text
+refusal_due left left' fault text is_line refused shows =
+    record { fault = fault; is_line = is_line; read = refusal_told left fault text is_line refused; shows = shows }
 
-pub ends_refused : (rounds moves : ℕ) (left left' : Option (List ℕ)) (fault : AskFault) (old new : Streams) (result : Status) → IsRefusedAsked (option_map whole_text left) fault → AskFaultShows (option_map whole_text left) fault left' → (fault ≡ Text FailedRead → Rose old.read_faults new.read_faults)
+pub ends_refused : (rounds moves : ℕ) (left left' : Option (List ℕ)) (fault : AskFault) (old new : Streams) (result : Status)
+    → IsRefusedAsked (option_map whole_text left) fault → AskFaultShows (option_map whole_text left) fault left'
+    → (fault ≡ Text FailedRead → Rose old.read_faults new.read_faults)
     → PutsAskFault fault result old.taken new.taken old.write_faults new.write_faults → Ends (WhatIfDue rounds moves left left') old new result
 ends_refused rounds moves left left' (Text fault) old new result refused shows rose put =
-    ends_fault (WhatIfDue rounds moves left left') fault old new result (λ text is_line. refusal_due left left' (Text fault) text is_line refused shows) (λ e. rose (ap Text e)) put
+    ends_fault (WhatIfDue rounds moves left left') fault old new result (λ text is_line. refusal_due left left' (Text fault) text is_line refused shows)
+    (λ e. rose (ap Text e)) put
 ends_refused rounds moves left left' (NothingAsked line) old new result refused shows rose put =
-    ends_line (WhatIfDue rounds moves left left') (IsNothingAskedLine line) old new result (λ text is_line. refusal_due left left' (NothingAsked line) text is_line refused shows) put
+    ends_line (WhatIfDue rounds moves left left') (IsNothingAskedLine line) old new result
+    (λ text is_line. refusal_due left left' (NothingAsked line) text is_line refused shows) put
 
 -- ---- when
 
 -- the answer that was put, unless the sink failed
-pub is_answered : (snapshot s : Snapshot) (rounds moves : ℕ) (text : List ℕ) (status result : Status) → snapshot ≡ s → IsTold snapshot rounds moves status text → (AreEnough snapshot rounds moves → status ≡ Done) → result ≡ status → IsAnswered s rounds moves result
+pub is_answered : (snapshot s : Snapshot) (rounds moves : ℕ) (text : List ℕ) (status result : Status) → snapshot ≡ s → IsTold snapshot rounds moves status text
+    → (AreEnough snapshot rounds moves → status ≡ Done) → result ≡ status → IsAnswered s rounds moves result
 is_answered snapshot s rounds moves text status result same told enough put =
     record {
       ended = elim (done_or_stopped told.extras status told.status_is) [ inl done ↦ first (put ∙ done) | inr stopped ↦ second (put ∙ stopped) ];
@@ -118,12 +136,14 @@ pub out_of_memory : (s : Snapshot) (rounds moves : ℕ) (result : Status) → re
 out_of_memory s rounds moves result is = record { ended = inr (inr is); enough = λ all. inr is }
 
 -- where the input is such a case, memory ran out
-pub asked_memory : (s : Snapshot) (fault : AskFault) (result : Status) (old new : Option (List ℕ)) (before after : ℕ) → PutsAskFault fault result old new before after → IsAnsweredAsked s (Err fault) → (fault ≡ Text FailedRead → ⊥) → result ≡ Memory
+pub asked_memory : (s : Snapshot) (fault : AskFault) (result : Status) (old new : Option (List ℕ)) (before after : ℕ)
+    → PutsAskFault fault result old new before after → IsAnsweredAsked s (Err fault) → (fault ≡ Text FailedRead → ⊥) → result ≡ Memory
 asked_memory s (Text fault) result old new before after put never read =
     fault_memory (λ (f : TextFault). Tells f ⊥) (λ number code none. none) (λ none. none) fault result old new before after put never (λ e. read (ap Text e))
 asked_memory s (NothingAsked line) result old new before after put never read = absurd never
 
 -- unless the source or the sink failed, the input was refused
-pub refused_status : (fault : AskFault) (result : Status) (old new : Option (List ℕ)) (before after : ℕ) → PutsAskFault fault result old new before after → (fault ≡ Text FailedRead → ⊥) → (Rose before after → ⊥) → (result ≡ Input) ⊎ (result ≡ Memory)
+pub refused_status : (fault : AskFault) (result : Status) (old new : Option (List ℕ)) (before after : ℕ) → PutsAskFault fault result old new before after
+    → (fault ≡ Text FailedRead → ⊥) → (Rose before after → ⊥) → (result ≡ Input) ⊎ (result ≡ Memory)
 refused_status (Text fault) result old new before after put read sure = fault_status fault result old new before after put (λ e. read (ap Text e)) sure
 refused_status (NothingAsked line) result old new before after put read sure = line_status (IsNothingAskedLine line) result old new before after put sure

@@ -23,7 +23,8 @@ uneven_three = record {
 
 pub record AreWhatIfTexts : Type 0 where
   -- the cars in the order of the building, by their ids
-  pub unsettled : what_if_text uneven_three (Between (negsuc 4206) (pos 105750) ∷ Exact (negsuc 98) ∷ NoExtra ∷ []) (record { car = 0; low = pos 0; high = pos 109957 })
+  pub unsettled : what_if_text uneven_three (Between (negsuc 4206) (pos 105750) ∷ Exact (negsuc 98) ∷ NoExtra ∷ [])
+      (record { car = 0; low = pos 0; high = pos 109957 })
       ≡ codes "car 7 between -4207 105750\ncar 8 exact -99\ncar 2 none\nnearest 7 regret 0 109957\nend\n"
   pub settled : what_if_text uneven_pair (Exact (pos 120000) ∷ Exact (pos 105750) ∷ []) (record { car = 0; low = pos 14250; high = pos 14250 })
       ≡ codes "car 7 exact 120000\ncar 8 exact 105750\nnearest 7 regret 14250 14250\nend\n"

@@ -23,11 +23,14 @@ use Rattle.group_commands.specs.BanksOutcome.{BankRefusalIsDue, BanksDue, IsBank
 
 -- ---- of what was read
 
-pub read_text : (left : Option (List ℕ)) (banks : BankInput) → AreBanksRead (option_map whole_text left) banks.banks.items banks.strays → (input : List ℕ) → left ≡ Some input → IsBanksText input (views_of banks.banks.items) banks.strays
+pub read_text : (left : Option (List ℕ)) (banks : BankInput) → AreBanksRead (option_map whole_text left) banks.banks.items banks.strays → (input : List ℕ)
+    → left ≡ Some input → IsBanksText input (views_of banks.banks.items) banks.strays
 read_text left banks read input given = subst (λ (x : Option (List ℕ)). AreBanksRead (option_map whole_text x) banks.banks.items banks.strays) given read
 
-pub takes_text : (left : Option (List ℕ)) (input : List ℕ) (views : List BankView) (strays : ℕ) (answer : Result BankInput BankFault) → left ≡ Some input → IsBanksText input views strays → TakesInputs (option_map whole_text left) answer → IsInputAnswered views strays answer
-takes_text left input views strays answer given is takes = (subst (λ (x : Option (List ℕ)). TakesInputs (option_map whole_text x) answer) given takes) views strays is
+pub takes_text : (left : Option (List ℕ)) (input : List ℕ) (views : List BankView) (strays : ℕ) (answer : Result BankInput BankFault) → left ≡ Some input
+    → IsBanksText input views strays → TakesInputs (option_map whole_text left) answer → IsInputAnswered views strays answer
+takes_text left input views strays answer given is takes =
+    (subst (λ (x : Option (List ℕ)). TakesInputs (option_map whole_text x) answer) given takes) views strays is
 
 -- ---- what is told
 
@@ -43,7 +46,8 @@ told_status logs status is = elim (either_status logs) [ inl done ↦ inl (is �
 
 -- ---- what is due
 
-pub ends_told : (rounds moves : ℕ) (left left' : Option (List ℕ)) (old new : Streams) (text : List ℕ) (status result : Status) → LogsAreDue rounds moves left left' status text → Puts text status result old.taken new.taken old.write_faults new.write_faults
+pub ends_told : (rounds moves : ℕ) (left left' : Option (List ℕ)) (old new : Streams) (text : List ℕ) (status result : Status)
+    → LogsAreDue rounds moves left left' status text → Puts text status result old.taken new.taken old.write_faults new.write_faults
     → Ends (BanksDue rounds moves left left') old new result
 ends_told rounds moves left left' old new text status result due put =
     ends_either (BanksDue rounds moves left left') old new text Done Stopped status result (λ (x : Status). LogsAreDue rounds moves left left' x text)
@@ -54,10 +58,15 @@ abbrev IsWrong : Option (List ℕ) → BankFault → Type 0
 IsWrong left fault = (input : List ℕ) → left ≡ Some input → IsBanksFault (whole_text input) fault
 
 -- a refusal line tells what was said of the input
-refusal_told : (left : Option (List ℕ)) (fault : BankFault) (text : List ℕ) → IsBankRefusal fault text → AreBanksRefused (option_map whole_text left) fault → IsWrong left fault
-refusal_told left (UsedId line) text is_line refused = λ input given. subst (λ (x : Option (List ℕ)). AreBanksRefused (option_map whole_text x) (UsedId line)) given refused
-refusal_told left (TooMany line) text is_line refused = λ input given. subst (λ (x : Option (List ℕ)). AreBanksRefused (option_map whole_text x) (TooMany line)) given refused
-refusal_told left (Text fault) text is_line refused = told_by_line (λ (f : TextFault). AreBanksRefused (option_map whole_text left) (Text f)) (λ (f : TextFault). IsWrong left (Text f)) bad long fault text is_line refused
+refusal_told : (left : Option (List ℕ)) (fault : BankFault) (text : List ℕ) → IsBankRefusal fault text → AreBanksRefused (option_map whole_text left) fault
+    → IsWrong left fault
+refusal_told left (UsedId line) text is_line refused =
+    λ input given. subst (λ (x : Option (List ℕ)). AreBanksRefused (option_map whole_text x) (UsedId line)) given refused
+refusal_told left (TooMany line) text is_line refused =
+    λ input given. subst (λ (x : Option (List ℕ)). AreBanksRefused (option_map whole_text x) (TooMany line)) given refused
+refusal_told left (Text fault) text is_line refused =
+    told_by_line (λ (f : TextFault). AreBanksRefused (option_map whole_text left) (Text f))
+    (λ (f : TextFault). IsWrong left (Text f)) bad long fault text is_line refused
   where
     bad : (number : ℕ) (code : TextCode) → AreBanksRefused (option_map whole_text left) (Text (Bad number code)) → IsWrong left (Text (Bad number code))
     bad number code told input given = subst (λ (x : Option (List ℕ)). AreBanksRefused (option_map whole_text x) (Text (Bad number code))) given told
@@ -65,33 +74,43 @@ refusal_told left (Text fault) text is_line refused = told_by_line (λ (f : Text
     long : AreBanksRefused (option_map whole_text left) (Text TooLong) → IsWrong left (Text TooLong)
     long told input given = subst (λ (x : Option (List ℕ)). AreBanksRefused (option_map whole_text x) (Text TooLong)) given told
 
-refusal_due : (left left' : Option (List ℕ)) (fault : BankFault) (text : List ℕ) → IsBankRefusal fault text → AreBanksRefused (option_map whole_text left) fault → BankFaultShows (option_map whole_text left) fault left' → BankRefusalIsDue left left' text
-refusal_due left left' fault text is_line refused shows = record { fault = fault; is_line = is_line; read = refusal_told left fault text is_line refused; shows = shows }
+refusal_due : (left left' : Option (List ℕ)) (fault : BankFault) (text : List ℕ) → IsBankRefusal fault text
+    → AreBanksRefused (option_map whole_text left) fault → BankFaultShows (option_map whole_text left) fault left' → BankRefusalIsDue left left' text
+refusal_due left left' fault text is_line refused shows =
+    record { fault = fault; is_line = is_line; read = refusal_told left fault text is_line refused; shows = shows }
 
-pub ends_refused : (rounds moves : ℕ) (left left' : Option (List ℕ)) (fault : BankFault) (old new : Streams) (result : Status) → AreBanksRefused (option_map whole_text left) fault → BankFaultShows (option_map whole_text left) fault left' → (fault ≡ Text FailedRead → Rose old.read_faults new.read_faults)
+pub ends_refused : (rounds moves : ℕ) (left left' : Option (List ℕ)) (fault : BankFault) (old new : Streams) (result : Status)
+    → AreBanksRefused (option_map whole_text left) fault → BankFaultShows (option_map whole_text left) fault left'
+    → (fault ≡ Text FailedRead → Rose old.read_faults new.read_faults)
     → PutsBankFault fault result old.taken new.taken old.write_faults new.write_faults → Ends (BanksDue rounds moves left left') old new result
 ends_refused rounds moves left left' (Text fault) old new result refused shows rose put =
-    ends_fault (BanksDue rounds moves left left') fault old new result (λ text is_line. refusal_due left left' (Text fault) text is_line refused shows) (λ e. rose (ap Text e)) put
+    ends_fault (BanksDue rounds moves left left') fault old new result (λ text is_line. refusal_due left left' (Text fault) text is_line refused shows)
+    (λ e. rose (ap Text e)) put
 ends_refused rounds moves left left' (UsedId line) old new result refused shows rose put =
-    ends_line (BanksDue rounds moves left left') (IsUsedIdLine line) old new result (λ text is_line. refusal_due left left' (UsedId line) text is_line refused shows) put
+    ends_line (BanksDue rounds moves left left') (IsUsedIdLine line) old new result
+    (λ text is_line. refusal_due left left' (UsedId line) text is_line refused shows) put
 ends_refused rounds moves left left' (TooMany line) old new result refused shows rose put =
-    ends_line (BanksDue rounds moves left left') (IsTooManyBanksLine line) old new result (λ text is_line. refusal_due left left' (TooMany line) text is_line refused shows) put
+    ends_line (BanksDue rounds moves left left') (IsTooManyBanksLine line) old new result
+    (λ text is_line. refusal_due left left' (TooMany line) text is_line refused shows) put
 
 -- ---- when
 
 -- the answer that was put, unless the sink failed
-pub is_answered : (logs : List BankLog) (status result : Status) → status ≡ status_of_logs logs → result ≡ status → (result ≡ Done) ⊎ (result ≡ Stopped) ⊎ (result ≡ Memory)
+pub is_answered : (logs : List BankLog) (status result : Status) → status ≡ status_of_logs logs → result ≡ status → (result ≡ Done) ⊎ (result ≡ Stopped)
+    ⊎ (result ≡ Memory)
 is_answered logs status result is put = elim (told_status logs status is) [ inl done ↦ inl (put ∙ done) | inr stopped ↦ inr (inl (put ∙ stopped)) ]
 
 -- where the input is the text of banks, memory ran out
-pub banks_memory : (views : List BankView) (strays : ℕ) (fault : BankFault) (result : Status) (old new : Option (List ℕ)) (before after : ℕ) → PutsBankFault fault result old new before after → IsInputAnswered views strays (Err fault) → (fault ≡ Text FailedRead → ⊥) → result ≡ Memory
+pub banks_memory : (views : List BankView) (strays : ℕ) (fault : BankFault) (result : Status) (old new : Option (List ℕ)) (before after : ℕ)
+    → PutsBankFault fault result old new before after → IsInputAnswered views strays (Err fault) → (fault ≡ Text FailedRead → ⊥) → result ≡ Memory
 banks_memory views strays (Text fault) result old new before after put never read =
     fault_memory (λ (f : TextFault). Tells f ⊥) (λ number code none. none) (λ none. none) fault result old new before after put never (λ e. read (ap Text e))
 banks_memory views strays (UsedId line) result old new before after put never read = absurd never
 banks_memory views strays (TooMany line) result old new before after put never read = absurd never
 
 -- unless the source or the sink failed, the input was refused
-pub refused_status : (fault : BankFault) (result : Status) (old new : Option (List ℕ)) (before after : ℕ) → PutsBankFault fault result old new before after → (fault ≡ Text FailedRead → ⊥) → (Rose before after → ⊥) → (result ≡ Input) ⊎ (result ≡ Memory)
+pub refused_status : (fault : BankFault) (result : Status) (old new : Option (List ℕ)) (before after : ℕ) → PutsBankFault fault result old new before after
+    → (fault ≡ Text FailedRead → ⊥) → (Rose before after → ⊥) → (result ≡ Input) ⊎ (result ≡ Memory)
 refused_status (Text fault) result old new before after put read sure = fault_status fault result old new before after put (λ e. read (ap Text e)) sure
 refused_status (UsedId line) result old new before after put read sure = line_status (IsUsedIdLine line) result old new before after put sure
 refused_status (TooMany line) result old new before after put read sure = line_status (IsTooManyBanksLine line) result old new before after put sure

@@ -1,5 +1,6 @@
 -- A pair plan is a mixture of halves.
-use Rattle.std.proofs.Common.{◌≡◌, ℕ, zero, suc, ◌+◌, ◌*◌, ◌^◌, ◌<◌, ◌≤◌, ◌==◌, Bool, true, false, cond, List, [], ◌∷◌, refl, sym, ap, ◌∙◌, subst, inl, inr, arith}
+use Rattle.std.proofs.Common.{◌≡◌, ℕ, zero, suc, ◌+◌, ◌*◌, ◌^◌, ◌<◌, ◌≤◌, ◌==◌, Bool, true, false, cond, List, [], ◌∷◌, refl, sym, ap, ◌∙◌, subst, inl, inr}
+use Rattle.std.proofs.Common.{arith}
 use Rattle.std.specs.Prelude.{sum_by, All}
 use Rattle.std.proofs.lemmas.Bool.{cases_Bool, cases_eq, cases_lt, and_parts, eq-eqb, eqb-true, ne_eqb, cond-true, cond-false}
 use Rattle.std.proofs.lemmas.Nat.{pow_pos}
@@ -22,11 +23,13 @@ use Rattle.half_plans.specs.declared.Share.{Share}
 use Rattle.half_plans.specs.declared.Pair.{Pair}
 use Rattle.half_plans.specs.Mixtures.{weight_where, mixture_cost, IsShare}
 use Rattle.car_search.specs.Counts.{one_if}
-use Rattle.half_plans.specs.PairPlans.{list_of, tour_at, AreTourLists, boards_of_pair, cost_of_pair, IsPairPlan, pair_plan_cost, share_of, shares_of_pair, shares_below, shares_of, HalvesLaw}
+use Rattle.half_plans.specs.PairPlans.{list_of, tour_at, AreTourLists, boards_of_pair, cost_of_pair, IsPairPlan, pair_plan_cost, share_of, shares_of_pair}
+use Rattle.half_plans.specs.PairPlans.{shares_below, shares_of, HalvesLaw}
 
 -- ---- sums over the shares of pairs
 
-over_cars : (f : Share → ℕ) (lists : List (List (List Stop))) (pairs : ℕ → Pair) (n : ℕ) → sum_by f (shares_below lists pairs n) ≡ sum_below n (λ c. sum_by f (shares_of_pair c (list_of lists c) (pairs c)))
+over_cars : (f : Share → ℕ) (lists : List (List (List Stop))) (pairs : ℕ → Pair) (n : ℕ)
+    → sum_by f (shares_below lists pairs n) ≡ sum_below n (λ c. sum_by f (shares_of_pair c (list_of lists c) (pairs c)))
 over_cars f lists pairs zero = refl
 over_cars f lists pairs (suc n) =
     let joined = sum_by-append f (shares_below lists pairs n) (shares_of_pair n (list_of lists n) (pairs n)) in
@@ -39,15 +42,19 @@ of_one f x = (let first = sum_by-cons f x [] in omega (arith, first))
 of_two : (f : Share → ℕ) (x y : Share) → sum_by f (x ∷ y ∷ []) ≡ f x + f y
 of_two f x y = (let first = sum_by-cons f x (y ∷ []) in let second = of_one f y in omega (arith, first, second))
 
-of_pair : (f : Share → ℕ) (g : List Stop → ℕ) (c : ℕ) (tours : List (List Stop)) (pair : Pair) → ((tour : List Stop) → f (share_of c 1 tour) ≡ g tour) → ((tour : List Stop) → f (share_of c 2 tour) ≡ g tour + g tour) → sum_by f (shares_of_pair c tours pair) ≡ g (tour_at tours pair.first) + g (tour_at tours pair.second)
+of_pair : (f : Share → ℕ) (g : List Stop → ℕ) (c : ℕ) (tours : List (List Stop)) (pair : Pair) → ((tour : List Stop) → f (share_of c 1 tour) ≡ g tour)
+    → ((tour : List Stop) → f (share_of c 2 tour) ≡ g tour + g tour)
+    → sum_by f (shares_of_pair c tours pair) ≡ g (tour_at tours pair.first) + g (tour_at tours pair.second)
 of_pair f g c tours pair once twice =
     let first = tour_at tours pair.first in
     let second = tour_at tours pair.second in
     let one : List Share = share_of c 2 first ∷ [] in
     let two : List Share = share_of c 1 first ∷ share_of c 1 second ∷ [] in
     elim (cases_Bool (pair.first == pair.second)) [
-      | inl e ↦ ap (sum_by f) (cond-true (pair.first == pair.second) one two e) ∙ of_one f (share_of c 2 first) ∙ twice first ∙ ap (λ (k : ℕ). g first + g (tour_at tours k)) (eqb-true pair.first pair.second e)
-      | inr e ↦ ap (sum_by f) (cond-false (pair.first == pair.second) one two e) ∙ of_two f (share_of c 1 first) (share_of c 1 second) ∙ ap (λ (k : ℕ). k + f (share_of c 1 second)) (once first) ∙ ap (λ (k : ℕ). g first + k) (once second)
+      | inl e ↦ ap (sum_by f) (cond-true (pair.first == pair.second) one two e) ∙ of_one f (share_of c 2 first) ∙ twice first
+          ∙ ap (λ (k : ℕ). g first + g (tour_at tours k)) (eqb-true pair.first pair.second e)
+      | inr e ↦ ap (sum_by f) (cond-false (pair.first == pair.second) one two e) ∙ of_two f (share_of c 1 first) (share_of c 1 second)
+          ∙ ap (λ (k : ℕ). k + f (share_of c 1 second)) (once first) ∙ ap (λ (k : ℕ). g first + k) (once second)
     ]
 
 -- ---- the shares of a pair are tours of the root
@@ -57,8 +64,10 @@ sum_alone : (n c : ℕ) (f : ℕ → ℕ) → c < n → ((d : ℕ) → d < n →
 sum_alone zero c f lt others = absurd (omega (arith, lt))
 sum_alone (suc n) c f lt others =
     elim (cases_eq n c) [
-      | inl e ↦ (let none = all_none n f (λ d less. others d (omega (arith, less)) (λ same. absurd (omega (arith, same, e, less)))) in let here = ap f e in omega (arith, none, here))
-      | inr ne ↦ (let before = sum_alone n c f (less_than ne) (λ d less apart. others d (omega (arith, less)) apart) in let here = others n (omega arith) ne in omega (arith, before, here))
+      | inl e ↦ (let none = all_none n f (λ d less. others d (omega (arith, less)) (λ same. absurd (omega (arith, same, e, less)))) in let here = ap f e in
+          omega (arith, none, here))
+      | inr ne ↦ (let before = sum_alone n c f (less_than ne) (λ d less apart. others d (omega (arith, less)) apart) in let here = others n (omega arith) ne in
+          omega (arith, before, here))
     ]
   where
     less_than : (n ≡ c → ⊥) → c < n
@@ -71,9 +80,12 @@ sum_alone (suc n) c f lt others =
         let here = none m (omega arith) in
         omega (arith, before, here)
 
-boarded-allowed : (s : Snapshot) (c : ℕ) (tour : List Stop) (j : ℕ) → IsFeasible s c tour → c < car_count s → is_boarded_in tour j ≡ true → allows (root_of s) c j ≡ true
+boarded-allowed : (s : Snapshot) (c : ℕ) (tour : List Stop) (j : ℕ) → IsFeasible s c tour → c < car_count s → is_boarded_in tour j ≡ true
+    → allows (root_of s) c j ≡ true
 boarded-allowed s c tour j feasible lt boards =
-    ap (λ (x : ℕ). has x c) (set_of-root s j (boarded-below s c tour j feasible boards)) ∙ has-set_where (car_count s) (λ d. is_possible s d (call_of s j)) c lt ∙ (and_parts (nat_lt j (call_count s)) (is_possible s c (call_of s j)) (boarded-possible s c tour j feasible boards)).1
+    ap (λ (x : ℕ). has x c) (set_of-root s j (boarded-below s c tour j feasible boards))
+    ∙ has-set_where (car_count s) (λ d. is_possible s d (call_of s j)) c lt
+    ∙ (and_parts (nat_lt j (call_count s)) (is_possible s c (call_of s j)) (boarded-possible s c tour j feasible boards)).1
 
 -- a call that one car alone may board is one of the snapshot
 required-below : (s : Snapshot) (c j : ℕ) → requires_of (root_of s) c j ≡ true → j < call_count s
@@ -110,9 +122,17 @@ module _ (s : Snapshot) (lists : List (List (List Stop))) (pairs : ℕ → Pair)
   second_feasible c lt = are.feasible c lt (pairs c).second [] (plan.places c lt).within
 
   -- a call that one car alone may board boards in both of its tours
-  required-both : (c j : ℕ) → c < car_count s → requires_of (root_of s) c j ≡ true → (is_boarded_in (tour_at (list_of lists c) (pairs c).first) j ≡ true) × (is_boarded_in (tour_at (list_of lists c) (pairs c).second) j ≡ true)
+  required-both : (c j : ℕ) → c < car_count s → requires_of (root_of s) c j ≡ true → (is_boarded_in (tour_at (list_of lists c) (pairs c).first) j ≡ true)
+      × (is_boarded_in (tour_at (list_of lists c) (pairs c).second) j ≡ true)
   required-both c j lt required =
-      both_boarded (is_boarded_in (tour_at (list_of lists c) (pairs c).first) j) (is_boarded_in (tour_at (list_of lists c) (pairs c).second) j) (sym (sum_alone (car_count s) c (λ d. boards_of_pair (list_of lists d) (pairs d) j) lt (λ d less apart. (let first = not_boarded (is_boarded_in (tour_at (list_of lists d) (pairs d).first) j) (λ boards. apart (only d (boarded-allowed s d (tour_at (list_of lists d) (pairs d).first) j (first_feasible d less) less boards))) in let second = not_boarded (is_boarded_in (tour_at (list_of lists d) (pairs d).second) j) (λ boards. apart (only d (boarded-allowed s d (tour_at (list_of lists d) (pairs d).second) j (second_feasible d less) less boards))) in omega (arith, first, second)))) ∙ plan.twice j (required-below s c j required))
+      both_boarded (is_boarded_in (tour_at (list_of lists c) (pairs c).first) j) (is_boarded_in (tour_at (list_of lists c) (pairs c).second) j)
+      (sym (sum_alone (car_count s) c (λ d. boards_of_pair (list_of lists d) (pairs d) j) lt
+      (λ d less apart. (let first =
+      not_boarded (is_boarded_in (tour_at (list_of lists d) (pairs d).first) j)
+      (λ boards. apart (only d (boarded-allowed s d (tour_at (list_of lists d) (pairs d).first) j (first_feasible d less) less boards))) in
+      let second = not_boarded (is_boarded_in (tour_at (list_of lists d) (pairs d).second) j)
+      (λ boards. apart (only d (boarded-allowed s d (tour_at (list_of lists d) (pairs d).second) j (second_feasible d less) less boards))) in
+      omega (arith, first, second)))) ∙ plan.twice j (required-below s c j required))
     where
       only : (d : ℕ) → allows (root_of s) d j ≡ true → d ≡ c
       only d allowed =
@@ -148,20 +168,25 @@ module _ (s : Snapshot) (lists : List (List (List Stop))) (pairs : ℕ → Pair)
       let one : List Share = share_of c 2 first ∷ [] in
       let two : List Share = share_of c 1 first ∷ share_of c 1 second ∷ [] in
       elim (cases_Bool (pair.first == pair.second)) [
-        | inl e ↦ subst (All (IsShare s)) (sym (cond-true (pair.first == pair.second) one two e)) (All-cons (IsShare s) (share_of c 2 first) [] (first_share c 2 lt (omega arith)) (All-nil (IsShare s)))
-        | inr e ↦ subst (All (IsShare s)) (sym (cond-false (pair.first == pair.second) one two e)) (All-cons (IsShare s) (share_of c 1 first) (share_of c 1 second ∷ []) (first_share c 1 lt (omega arith)) (All-cons (IsShare s) (share_of c 1 second) [] (second_share c 1 lt (omega arith)) (All-nil (IsShare s))))
+        | inl e ↦ subst (All (IsShare s)) (sym (cond-true (pair.first == pair.second) one two e))
+            (All-cons (IsShare s) (share_of c 2 first) [] (first_share c 2 lt (omega arith)) (All-nil (IsShare s)))
+        | inr e ↦ subst (All (IsShare s)) (sym (cond-false (pair.first == pair.second) one two e))
+            (All-cons (IsShare s) (share_of c 1 first) (share_of c 1 second ∷ []) (first_share c 1 lt (omega arith))
+            (All-cons (IsShare s) (share_of c 1 second) [] (second_share c 1 lt (omega arith)) (All-nil (IsShare s))))
       ]
 
   all_shares : (n : ℕ) → n ≤ car_count s → All (IsShare s) (shares_below lists pairs n)
   all_shares zero le = All-nil (IsShare s)
   all_shares (suc n) le =
-      All-append (IsShare s) (shares_below lists pairs n) (shares_of_pair n (list_of lists n) (pairs n)) (all_shares n (omega (arith, le))) (pair_shares n (omega (arith, le)))
+      All-append (IsShare s) (shares_below lists pairs n) (shares_of_pair n (list_of lists n) (pairs n)) (all_shares n (omega (arith, le)))
+      (pair_shares n (omega (arith, le)))
 
   -- ---- its sums
 
   car_of_pair : (c d : ℕ) → sum_by (λ (x : Share). cond (x.car == c) x.weight 0) (shares_of_pair d (list_of lists d) (pairs d)) ≡ cond (d == c) 2 0
   car_of_pair c d =
-      of_pair (λ (x : Share). cond (x.car == c) x.weight 0) (λ tour. cond (d == c) 1 0) d (list_of lists d) (pairs d) (λ tour. refl) (λ tour. doubled (d == c)) ∙ sym (doubled (d == c))
+      of_pair (λ (x : Share). cond (x.car == c) x.weight 0) (λ tour. cond (d == c) 1 0) d (list_of lists d) (pairs d) (λ tour. refl) (λ tour. doubled (d == c))
+      ∙ sym (doubled (d == c))
     where
       doubled : (b : Bool) → cond b 2 0 ≡ cond b 1 0 + cond b 1 0
       doubled true = refl
@@ -169,11 +194,18 @@ module _ (s : Snapshot) (lists : List (List (List Stop))) (pairs : ℕ → Pair)
 
   by_car : (c : ℕ) → c < car_count s → weight_where (λ (x : Share). x.car == c) (shares_of s lists pairs) ≡ 2
   by_car c lt =
-      over_cars (λ (x : Share). cond (x.car == c) x.weight 0) lists pairs (car_count s) ∙ sum_below-same (car_count s) (λ d. sum_by (λ (x : Share). cond (x.car == c) x.weight 0) (shares_of_pair d (list_of lists d) (pairs d))) (λ d. cond (d == c) 2 0) (λ d less. car_of_pair c d) ∙ sum_alone (car_count s) c (λ d. cond (d == c) 2 0) lt (λ d less apart. cond-false (d == c) 2 0 (ne_eqb d c apart)) ∙ cond-true (c == c) 2 0 (eq-eqb c c refl)
+      over_cars (λ (x : Share). cond (x.car == c) x.weight 0) lists pairs (car_count s)
+      ∙ sum_below-same (car_count s) (λ d. sum_by (λ (x : Share). cond (x.car == c) x.weight 0) (shares_of_pair d (list_of lists d) (pairs d)))
+      (λ d. cond (d == c) 2 0) (λ d less. car_of_pair c d)
+      ∙ sum_alone (car_count s) c (λ d. cond (d == c) 2 0) lt (λ d less apart. cond-false (d == c) 2 0 (ne_eqb d c apart))
+      ∙ cond-true (c == c) 2 0 (eq-eqb c c refl)
 
-  call_of_pair : (j d : ℕ) → sum_by (λ (x : Share). cond (is_boarded_in x.tour j) x.weight 0) (shares_of_pair d (list_of lists d) (pairs d)) ≡ boards_of_pair (list_of lists d) (pairs d) j
+  call_of_pair : (j d : ℕ)
+      → sum_by (λ (x : Share). cond (is_boarded_in x.tour j) x.weight 0) (shares_of_pair d (list_of lists d) (pairs d))
+      ≡ boards_of_pair (list_of lists d) (pairs d) j
   call_of_pair j d =
-      of_pair (λ (x : Share). cond (is_boarded_in x.tour j) x.weight 0) (λ tour. one_if (is_boarded_in tour j)) d (list_of lists d) (pairs d) (λ tour. refl) (λ tour. doubled (is_boarded_in tour j))
+      of_pair (λ (x : Share). cond (is_boarded_in x.tour j) x.weight 0) (λ tour. one_if (is_boarded_in tour j)) d (list_of lists d) (pairs d) (λ tour. refl)
+      (λ tour. doubled (is_boarded_in tour j))
     where
       doubled : (b : Bool) → cond b 2 0 ≡ one_if b + one_if b
       doubled true = refl
@@ -181,15 +213,21 @@ module _ (s : Snapshot) (lists : List (List (List Stop))) (pairs : ℕ → Pair)
 
   by_call : (j : ℕ) → j < call_count s → weight_where (λ (x : Share). is_boarded_in x.tour j) (shares_of s lists pairs) ≡ 2
   by_call j lt =
-      over_cars (λ (x : Share). cond (is_boarded_in x.tour j) x.weight 0) lists pairs (car_count s) ∙ sum_below-same (car_count s) (λ d. sum_by (λ (x : Share). cond (is_boarded_in x.tour j) x.weight 0) (shares_of_pair d (list_of lists d) (pairs d))) (λ d. boards_of_pair (list_of lists d) (pairs d) j) (λ d less. call_of_pair j d) ∙ plan.twice j lt
+      over_cars (λ (x : Share). cond (is_boarded_in x.tour j) x.weight 0) lists pairs (car_count s)
+      ∙ sum_below-same (car_count s) (λ d. sum_by (λ (x : Share). cond (is_boarded_in x.tour j) x.weight 0) (shares_of_pair d (list_of lists d) (pairs d)))
+      (λ d. boards_of_pair (list_of lists d) (pairs d) j) (λ d less. call_of_pair j d) ∙ plan.twice j lt
 
-  cost_of_shares : (d : ℕ) → sum_by (λ (x : Share). x.weight * cost_of s x.car x.tour) (shares_of_pair d (list_of lists d) (pairs d)) ≡ cost_of_pair s d (list_of lists d) (pairs d)
+  cost_of_shares : (d : ℕ)
+      → sum_by (λ (x : Share). x.weight * cost_of s x.car x.tour) (shares_of_pair d (list_of lists d) (pairs d)) ≡ cost_of_pair s d (list_of lists d) (pairs d)
   cost_of_shares d =
-      of_pair (λ (x : Share). x.weight * cost_of s x.car x.tour) (λ tour. cost_of s d tour) d (list_of lists d) (pairs d) (λ tour. omega arith) (λ tour. omega arith)
+      of_pair (λ (x : Share). x.weight * cost_of s x.car x.tour) (λ tour. cost_of s d tour) d (list_of lists d) (pairs d) (λ tour. omega arith)
+      (λ tour. omega arith)
 
   by_cost : mixture_cost s (shares_of s lists pairs) ≡ pair_plan_cost s lists pairs
   by_cost =
-      over_cars (λ (x : Share). x.weight * cost_of s x.car x.tour) lists pairs (car_count s) ∙ sum_below-same (car_count s) (λ d. sum_by (λ (x : Share). x.weight * cost_of s x.car x.tour) (shares_of_pair d (list_of lists d) (pairs d))) (λ d. cost_of_pair s d (list_of lists d) (pairs d)) (λ d less. cost_of_shares d)
+      over_cars (λ (x : Share). x.weight * cost_of s x.car x.tour) lists pairs (car_count s)
+      ∙ sum_below-same (car_count s) (λ d. sum_by (λ (x : Share). x.weight * cost_of s x.car x.tour) (shares_of_pair d (list_of lists d) (pairs d)))
+      (λ d. cost_of_pair s d (list_of lists d) (pairs d)) (λ d less. cost_of_shares d)
 
 pub halves : HalvesLaw
 halves s lists pairs are plan = record {

@@ -42,4 +42,5 @@ pub record IsRootLeaf (s : Snapshot) (leaf : Leaf) : Type 0 where
 -- in thousandths.
 abbrev pub MixtureLaw : Type 0
 MixtureLaw =
-    (s : Snapshot) (shares : List Share) (whole cost : ℕ) (leaf : Leaf) → IsMixture s shares whole cost → IsRootLeaf s leaf → (pos whole *ℤ sum_of_leaf leaf) ≤ℤ scaled cost
+    (s : Snapshot) (shares : List Share) (whole cost : ℕ) (leaf : Leaf) → IsMixture s shares whole cost → IsRootLeaf s leaf
+    → (pos whole *ℤ sum_of_leaf leaf) ≤ℤ scaled cost

@@ -53,7 +53,8 @@ share_of car weight tour = record { car = car; weight = weight; tour = tour }
 
 abbrev pub shares_of_pair : ℕ → List (List Stop) → Pair → List Share
 shares_of_pair c tours pair =
-    if pair.first == pair.second then share_of c 2 (tour_at tours pair.first) ∷ [] else share_of c 1 (tour_at tours pair.first) ∷ share_of c 1 (tour_at tours pair.second) ∷ []
+    if pair.first == pair.second then share_of c 2 (tour_at tours pair.first) ∷ [] else share_of c 1 (tour_at tours pair.first)
+    ∷ share_of c 1 (tour_at tours pair.second) ∷ []
 
 -- the shares of the first n cars, in the order of the cars
 abbrev pub shares_below : List (List (List Stop)) → (pairs : ℕ → Pair) → ℕ → List Share
@@ -66,7 +67,8 @@ shares_of s lists pairs = shares_below lists pairs (car_count s)
 -- A pair plan is a mixture of halves.
 abbrev pub HalvesLaw : Type 0
 HalvesLaw =
-    (s : Snapshot) (lists : List (List (List Stop))) (pairs : ℕ → Pair) → AreTourLists s lists → IsPairPlan s lists pairs → IsMixture s (shares_of s lists pairs) 2 (pair_plan_cost s lists pairs)
+    (s : Snapshot) (lists : List (List (List Stop))) (pairs : ℕ → Pair) → AreTourLists s lists → IsPairPlan s lists pairs
+    → IsMixture s (shares_of s lists pairs) 2 (pair_plan_cost s lists pairs)
 
 -- how many unordered pairs of places below n there are, those of one place twice among them
 abbrev pub pair_count : ℕ → ℕ

@@ -21,7 +21,8 @@ reduced_cost_of_pair prices x = scaled x.cost -ℤ (prices_in prices x.calls.fir
 pub record IsPriced (prices : List ℤ) (x : CarPairs) : Type 0 where
   pub low : neg_ℤ (pos (4 * 10 ^ 26)) ≤ℤ x.least
   pub high : x.least ≤ℤ pos (4 * 10 ^ 26)
-  pub excess : (i : ℕ) → i < length x.candidates.items → (candidate_at x.candidates.items i).excess ≡ reduced_cost_of_pair prices (candidate_at x.candidates.items i) -ℤ x.least
+  pub excess : (i : ℕ) → i < length x.candidates.items
+      → (candidate_at x.candidates.items i).excess ≡ reduced_cost_of_pair prices (candidate_at x.candidates.items i) -ℤ x.least
   pub small : All IsSmall x.candidates.items
 
 -- a cost and a reduced cost that leave room for the sums of pairs and of plans

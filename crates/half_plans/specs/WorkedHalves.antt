@@ -46,7 +46,8 @@ pub record ArePairPlans : Type 0 where
   -- two tours of the first car, and one of the second twice
   pub doubled : Boards (of_two (pair_of 0 2) (pair_of 2 2)) (2 ∷ 2 ∷ 2 ∷ 2 ∷ [])
   pub doubled_cost : pair_plan_cost up_and_down worked_lists (of_two (pair_of 0 2) (pair_of 2 2)) ≡ 140000
-  pub doubled_shares : shares_of up_and_down worked_lists (of_two (pair_of 0 2) (pair_of 2 2)) ≡ share_of 0 1 (up_down 0 2) ∷ share_of 0 1 (down_up 2 0) ∷ share_of 1 2 (up_down 1 3) ∷ []
+  pub doubled_shares : shares_of up_and_down worked_lists (of_two (pair_of 0 2) (pair_of 2 2)) ≡ share_of 0 1 (up_down 0 2) ∷ share_of 0 1 (down_up 2 0)
+      ∷ share_of 1 2 (up_down 1 3) ∷ []
   pub first_feasible : IsFeasible up_and_down 0 (down_up 2 0)
   pub second_feasible : IsFeasible up_and_down 1 (up_down 1 3)
   -- the first call boards three times, and the second once

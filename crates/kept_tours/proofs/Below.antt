@@ -23,7 +23,8 @@ use Rattle.kept_tours.proofs.WalkingLemmas.{moved_on, not_below}
 
 -- ---- which they are
 
-pub useful_left : (t : PartialTour) (demand : Demand) (x : Course) (next : Followers) → course t ≡ Some x → ShutsUseless t demand → AreUseful t.snapshot t.car x (has demand.allowed) next → AreFollowersLeft demand false t x next
+pub useful_left : (t : PartialTour) (demand : Demand) (x : Course) (next : Followers) → course t ≡ Some x → ShutsUseless t demand
+    → AreUseful t.snapshot t.car x (has demand.allowed) next → AreFollowersLeft demand false t x next
 useful_left t demand x next leads shuts are = record {
   stays = keeps_move t demand x;
   passing = are;
@@ -53,7 +54,8 @@ pub record AreWithoutLeaves (all next : Followers) : Type 0 where
   pub leaves : (g : ℕ) → has next.leaves g ≡ (has all.leaves g && not (has all.leaves g))
   pub ends : next.ends ≡ all.ends
 
-pub no_leaves_left : (t : PartialTour) (demand : Demand) (x : Course) (all next : Followers) → AreFollowers t.snapshot t.car x (has demand.allowed) all → AreWithoutLeaves all next → AreFollowersLeft demand true t x next
+pub no_leaves_left : (t : PartialTour) (demand : Demand) (x : Course) (all next : Followers) → AreFollowers t.snapshot t.car x (has demand.allowed) all
+    → AreWithoutLeaves all next → AreFollowersLeft demand true t x next
 no_leaves_left t demand x all next are without = record {
   stays = is_no_leave;
   passing = record {
@@ -82,7 +84,9 @@ no_leaves_left t demand x all next are without = record {
     useful End = λ e. absurd (true≢false (sym e))
 
 -- What is known of leaves that are left out, and of what no tour of the node goes on with, holds of all that is left out.
-pub out_of_left : (Out : Move → Type 0) (no_leaves : Bool) (t : PartialTour) (demand : Demand) (x : Course) (next : Followers) (left : AreFollowersLeft demand no_leaves t x next) → (no_leaves ≡ true → (g : ℕ) → Out (Leave g)) → ((m : Move) → IsShut demand (with_move t m) → Out m) → (m : Move) → left.stays m ≡ false → Out m
+pub out_of_left : (Out : Move → Type 0) (no_leaves : Bool) (t : PartialTour) (demand : Demand) (x : Course) (next : Followers)
+    (left : AreFollowersLeft demand no_leaves t x next) → (no_leaves ≡ true → (g : ℕ) → Out (Leave g)) → ((m : Move) → IsShut demand (with_move t m) → Out m)
+    → (m : Move) → left.stays m ≡ false → Out m
 out_of_left Out true t demand x next left vain shut m e = let leaf = left.leaves refl m e in subst Out (sym leaf.1) (vain refl leaf.0)
 out_of_left Out false t demand x next left vain shut m e = shut m (left.shut refl m e)
 
@@ -90,18 +94,22 @@ out_of_left Out false t demand x next left vain shut m e = shut m (left.shut ref
 abbrev pub LeavesInVain : Aim → (departs : Course → Type 0) → (bound : Course → ℤ) → (worth : ℤ) → Type 0
 LeavesInVain a departs bound worth = (x y : Course) (floor : ℕ) → departs x → move_on a.snapshot a.car x (Leave floor) ≡ Some y → worth ≤ℤ bound y
 
-pub left_below : (a : Aim) (departs : Course → Type 0) (no_leaves : Bool) (t : PartialTour) (demand : Demand) (bound : Course → ℤ) (worth : ℤ) (x : Course) (next : Followers) → AimsAt a t → course t ≡ Some x → departs x → (no_leaves ≡ true → LeavesInVain a departs bound worth) → AreFollowersLeft demand no_leaves t x next → AreFollowersBelow demand bound worth t x next
+pub left_below : (a : Aim) (departs : Course → Type 0) (no_leaves : Bool) (t : PartialTour) (demand : Demand) (bound : Course → ℤ) (worth : ℤ) (x : Course)
+    (next : Followers) → AimsAt a t → course t ≡ Some x → departs x → (no_leaves ≡ true → LeavesInVain a departs bound worth)
+    → AreFollowersLeft demand no_leaves t x next → AreFollowersBelow demand bound worth t x next
 left_below a departs no_leaves t demand bound worth x next aims leads there vain left = record {
   stays = left.stays;
   passing = left.passing;
-  out = out_of_left (λ m. IsNotKept demand bound worth (with_move t m)) no_leaves t demand x next left leaves (λ m shut y led. and_left (goes_on t demand y) (int_lt (bound y) worth) (shut y led));
+  out = out_of_left (λ m. IsNotKept demand bound worth (with_move t m)) no_leaves t demand x next left leaves
+      (λ m shut y led. and_left (goes_on t demand y) (int_lt (bound y) worth) (shut y led));
   useful = left.useful;
 }
   where
     leaves : no_leaves ≡ true → (g : ℕ) → IsNotKept demand bound worth (with_move t (Leave g))
     leaves told g y led =
         let moved = moved_on t (Leave g) x y leads led in
-        let aimed = subst (λ (s : Snapshot). move_on s a.car x (Leave g) ≡ Some y) (sym aims.snapshot) (subst (λ (c : ℕ). move_on t.snapshot c x (Leave g) ≡ Some y) (sym aims.car) moved) in
+        let aimed = subst (λ (s : Snapshot). move_on s a.car x (Leave g) ≡ Some y) (sym aims.snapshot)
+        (subst (λ (c : ℕ). move_on t.snapshot c x (Leave g) ≡ Some y) (sym aims.car) moved) in
         and_right (goes_on t demand y) (int_lt (bound y) worth) (not_below (bound y) worth (vain told x y g there aimed))
 
 -- ---- one after the other
@@ -110,10 +118,17 @@ left_below a departs no_leaves t demand bound worth x next aims leads there vain
 abbrev pub GoesToKept : PartialTour → Demand → (bound : Course → ℤ) → (worth : ℤ) → (next : Option Move) → (from : ℕ) → Type 0
 GoesToKept p demand bound worth next from = GoesPast (λ m. IsNotKept demand bound worth (with_move p m)) p demand.allowed next from
 
-pub first_kept : (p : PartialTour) (demand : Demand) (bound : Course → ℤ) (worth : ℤ) (x : Course) (set : Followers) (next : Option Move) → course p ≡ Some x → AreFollowersBelow demand bound worth p x set → ((s : Snapshot) (test : Move → Bool) → ArePassing s test set → next ≡ first_of (filter test (all_moves s))) → GoesToKept p demand bound worth next 0
+pub first_kept : (p : PartialTour) (demand : Demand) (bound : Course → ℤ) (worth : ℤ) (x : Course) (set : Followers) (next : Option Move) → course p ≡ Some x
+    → AreFollowersBelow demand bound worth p x set
+    → ((s : Snapshot) (test : Move → Bool) → ArePassing s test set → next ≡ first_of (filter test (all_moves s))) → GoesToKept p demand bound worth next 0
 first_kept p demand bound worth x set next leads below first =
-    past_to_first (λ m. IsNotKept demand bound worth (with_move p m)) p demand.allowed x below.stays next leads below.out (first p.snapshot (λ m. may_be_next p.snapshot p.car x (has demand.allowed) m && below.stays m) below.passing)
+    past_to_first (λ m. IsNotKept demand bound worth (with_move p m)) p demand.allowed x below.stays next leads below.out
+    (first p.snapshot (λ m. may_be_next p.snapshot p.car x (has demand.allowed) m && below.stays m) below.passing)
 
-pub next_kept : (p : PartialTour) (demand : Demand) (bound : Course → ℤ) (worth : ℤ) (x : Course) (set : Followers) (m : Move) (next : Option Move) (place : ℕ) → course p ≡ Some x → AreFollowersBelow demand bound worth p x set → IsAt p demand.allowed (Some m) place → ((s : Snapshot) (test : Move → Bool) → ArePassing s test set → next ≡ next_after m (filter test (all_moves s))) → GoesToKept p demand bound worth next (place + 1) × (from_next next (followers p demand.allowed) < from_next (Some m) (followers p demand.allowed))
+pub next_kept : (p : PartialTour) (demand : Demand) (bound : Course → ℤ) (worth : ℤ) (x : Course) (set : Followers) (m : Move) (next : Option Move) (place : ℕ)
+    → course p ≡ Some x → AreFollowersBelow demand bound worth p x set → IsAt p demand.allowed (Some m) place
+    → ((s : Snapshot) (test : Move → Bool) → ArePassing s test set → next ≡ next_after m (filter test (all_moves s)))
+    → GoesToKept p demand bound worth next (place + 1) × (from_next next (followers p demand.allowed) < from_next (Some m) (followers p demand.allowed))
 next_kept p demand bound worth x set m next place leads below at after =
-    past_to_next (λ v. IsNotKept demand bound worth (with_move p v)) p demand.allowed x below.stays m next place leads below.out at (after p.snapshot (λ v. may_be_next p.snapshot p.car x (has demand.allowed) v && below.stays v) below.passing)
+    past_to_next (λ v. IsNotKept demand bound worth (with_move p v)) p demand.allowed x below.stays m next place leads below.out at
+    (after p.snapshot (λ v. may_be_next p.snapshot p.car x (has demand.allowed) v && below.stays v) below.passing)

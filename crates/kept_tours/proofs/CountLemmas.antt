@@ -35,7 +35,8 @@ skips_first : (o rest : Option (List Stop)) → o ≡ None → rest ≡ None →
 skips_first o rest none later = ap (λ (p : Option (List Stop)). first_of p rest) none ∙ later
 
 -- one more in front of a list
-tells_more : (s : Snapshot) (c : ℕ) (price : ℕ → ℤ) (worth : ℤ) (n : ℕ) (w : List Move) (lists : List (List Move)) (o : Option (List Stop)) (seen : Seen) → tour_under_at s c price worth (course_of s c w) ≡ o → Tells s c price worth n lists seen → Tells s c price worth (suc n) (w ∷ lists) (seen_at o seen)
+tells_more : (s : Snapshot) (c : ℕ) (price : ℕ → ℤ) (worth : ℤ) (n : ℕ) (w : List Move) (lists : List (List Move)) (o : Option (List Stop)) (seen : Seen)
+    → tour_under_at s c price worth (course_of s c w) ≡ o → Tells s c price worth n lists seen → Tells s c price worth (suc n) (w ∷ lists) (seen_at o seen)
 tells_more s c price worth n w lists (Some tour) seen is told = ap (λ (p : Option (List Stop)). first_of p (first_under s c price worth (take n lists))) is
 tells_more s c price worth n w lists None (goes_on left) is told =
     (let all = told.0 in omega (arith, all), skips_first (tour_under_at s c price worth (course_of s c w)) (first_under s c price worth lists) is told.1)
@@ -44,28 +45,35 @@ tells_more s c price worth n w lists None passes is told =
 tells_more s c price worth n w lists None (finds tour) is told =
     ap (λ (p : Option (List Stop)). first_of p (first_under s c price worth (take n lists))) is ∙ told
 
-see_tells : (s : Snapshot) (c : ℕ) (price : ℕ → ℤ) (worth : ℤ) (n : ℕ) (lists : List (List Move)) → Tells s c price worth n lists (see (λ w. tour_under_at s c price worth (course_of s c w)) n lists)
+see_tells : (s : Snapshot) (c : ℕ) (price : ℕ → ℤ) (worth : ℤ) (n : ℕ) (lists : List (List Move))
+    → Tells s c price worth n lists (see (λ w. tour_under_at s c price worth (course_of s c w)) n lists)
 see_tells s c price worth zero [] = (refl, refl)
 see_tells s c price worth (suc n) [] = (omega arith, refl)
 see_tells s c price worth zero (w ∷ lists) = (omega arith, refl)
 see_tells s c price worth (suc n) (w ∷ lists) =
-    tells_more s c price worth n w lists (tour_under_at s c price worth (course_of s c w)) (see (λ v. tour_under_at s c price worth (course_of s c v)) n lists) refl (see_tells s c price worth n lists)
+    tells_more s c price worth n w lists (tour_under_at s c price worth (course_of s c w))
+    (see (λ v. tour_under_at s c price worth (course_of s c v)) n lists) refl (see_tells s c price worth n lists)
 
 -- ---- what a walk has counted
 
 -- where it goes on, at most the limit are left
-left_few : (s : Snapshot) (c : ℕ) (price : ℕ → ℤ) (worth : ℤ) (limit : ℕ) (lists : List (List Move)) (visits : Visits) (moves : List Move) → Tells s c price worth limit lists (seen_of visits moves) → LeavesFew limit visits
+left_few : (s : Snapshot) (c : ℕ) (price : ℕ → ℤ) (worth : ℤ) (limit : ℕ) (lists : List (List Move)) (visits : Visits) (moves : List Move)
+    → Tells s c price worth limit lists (seen_of visits moves) → LeavesFew limit visits
 left_few s c price worth limit lists visits moves told left is =
     let here = subst (λ (v : Visits). Tells s c price worth limit lists (seen_of v moves)) is told in
     let all = here.0 in
     omega (arith, all)
 
-pub leaves_few : (a : Aim) (bound : Course → ℤ) (worth : ℤ) (limit : ℕ) (moves : List Move) (visits : Visits) → Scanned a bound worth limit moves visits → LeavesFew limit visits
+pub leaves_few : (a : Aim) (bound : Course → ℤ) (worth : ℤ) (limit : ℕ) (moves : List Move) (visits : Visits) → Scanned a bound worth limit moves visits
+    → LeavesFew limit visits
 leaves_few a bound worth limit moves visits scanned =
     let lists = kept_list_by a.snapshot a.car bound a.allowed a.required worth in
-    left_few a.snapshot a.car a.price worth limit lists visits moves (subst (Tells a.snapshot a.car a.price worth limit lists) scanned.seen (see_tells a.snapshot a.car a.price worth limit lists))
+    left_few a.snapshot a.car a.price worth limit lists visits moves
+    (subst (Tells a.snapshot a.car a.price worth limit lists) scanned.seen (see_tells a.snapshot a.car a.price worth limit lists))
 
-count_told : (s : Snapshot) (c : ℕ) (price : ℕ → ℤ) (worth : ℤ) (limit : ℕ) (lists : List (List Move)) (visits : Visits) (moves : List Move) → Tells s c price worth limit lists (seen_of visits moves) → ((v : ℤ) → visits ≡ Under v → v ≡ value_of s c price (stops_made moves)) → IsCount s c price worth limit lists (stops_made moves) (count_of limit visits)
+count_told : (s : Snapshot) (c : ℕ) (price : ℕ → ℤ) (worth : ℤ) (limit : ℕ) (lists : List (List Move)) (visits : Visits) (moves : List Move)
+    → Tells s c price worth limit lists (seen_of visits moves) → ((v : ℤ) → visits ≡ Under v → v ≡ value_of s c price (stops_made moves))
+    → IsCount s c price worth limit lists (stops_made moves) (count_of limit visits)
 count_told s c price worth limit lists (Going left) moves told value = record {
   counted = (let all = told.0 in omega (arith, all));
   within = omega arith;
@@ -78,11 +86,14 @@ count_told s c price worth limit lists (Under v) moves told value = record { fir
 abbrev pub leaf_aim : Snapshot → Node → Leaf → ℕ → Aim
 leaf_aim s node leaf c = record { snapshot = s; car = c; price = price_in leaf; allowed = allows node c; required = requires_of node c }
 
-pub counted_is : (s : Snapshot) (node : Node) (leaf : Leaf) (c : ℕ) (worth : ℤ) (limit : ℕ) (moves : List Move) (visits : Visits) (a : Aim) → a ≡ leaf_aim s node leaf c → Scanned a (λ x. completion_bound_for a x) worth limit moves visits → IsCounted s node leaf c worth limit (stops_made moves) (count_of limit visits)
+pub counted_is : (s : Snapshot) (node : Node) (leaf : Leaf) (c : ℕ) (worth : ℤ) (limit : ℕ) (moves : List Move) (visits : Visits) (a : Aim)
+    → a ≡ leaf_aim s node leaf c → Scanned a (λ x. completion_bound_for a x) worth limit moves visits
+    → IsCounted s node leaf c worth limit (stops_made moves) (count_of limit visits)
 counted_is s node leaf c worth limit moves visits a is scanned =
     let here = subst (λ (b : Aim). Scanned b (λ x. completion_bound_for b x) worth limit moves visits) is scanned in
     let lists = kept_list s c (price_in leaf) (allows node c) (requires_of node c) worth in
-    count_told s c (price_in leaf) worth limit lists visits moves (subst (Tells s c (price_in leaf) worth limit lists) here.seen (see_tells s c (price_in leaf) worth limit lists)) here.value
+    count_told s c (price_in leaf) worth limit lists visits moves
+    (subst (Tells s c (price_in leaf) worth limit lists) here.seen (see_tells s c (price_in leaf) worth limit lists)) here.value
 
 -- ---- aims
 
@@ -95,7 +106,8 @@ same_sets f g h = λ i j. h j i
 pub same_prices : (f g : ℕ → ℤ) → ((j : ℕ) → f j ≡ g j) → f ≡ g
 same_prices f g h = λ i j. h j i
 
-pub demands_too : (s : Snapshot) (c : ℕ) (allowed required allowed' required' : ℕ → Bool) → ((j : ℕ) → allowed' j ≡ allowed j) → ((j : ℕ) → required' j ≡ required j) → IsDemand s c allowed required → IsDemand s c allowed' required'
+pub demands_too : (s : Snapshot) (c : ℕ) (allowed required allowed' required' : ℕ → Bool) → ((j : ℕ) → allowed' j ≡ allowed j)
+    → ((j : ℕ) → required' j ≡ required j) → IsDemand s c allowed required → IsDemand s c allowed' required'
 demands_too s c allowed required allowed' required' l r demand = record {
   within = λ j e. l j ∙ demand.within j (sym (r j) ∙ e);
   possible = λ j e. demand.possible j (sym (l j) ∙ e);

@@ -1,9 +1,11 @@
 -- Lists with one entry for each number below a count, and what they state of each.
-use Rattle.std.proofs.Common.{◌≡◌, ℕ, zero, suc, ◌+◌, ◌<◌, ◌≤◌, ◌==◌, Bool, true, false, not, ◌||◌, cond, List, [], ◌∷◌, ◌++◌, length, map, take, set, get_or, get_or-set_same, get_or-set_other, refl, sym, ap, ◌∙◌, subst, inl, inr, arith, neg_ℤ, negsuc, ◌^◌, ◌*◌, ◌≤ℤ◌, to_z, of_z, SFits}
+use Rattle.std.proofs.Common.{◌≡◌, ℕ, zero, suc, ◌+◌, ◌<◌, ◌≤◌, ◌==◌, Bool, true, false, not, ◌||◌, cond, List, [], ◌∷◌, ◌++◌, length, map, take, set, get_or}
+use Rattle.std.proofs.Common.{get_or-set_same, get_or-set_other, refl, sym, ap, ◌∙◌, subst, inl, inr, arith, neg_ℤ, negsuc, ◌^◌, ◌*◌, ◌≤ℤ◌, to_z, of_z, SFits}
 use Rattle.std.specs.Prelude.{ℤ, pos, ◌+ℤ◌, nat_lt, count_by, sum_by}
 use Rattle.std.specs.List.{list_all}
 use Rattle.std.proofs.lemmas.Int.{ints, to_z-of_z}
-use Rattle.std.proofs.lemmas.Bool.{and_parts, and_from, cases_Bool, cases_eq, cases_lt, eqb-true, eq-eqb, ne_eqb, cond-true, cond-false, lt-ltb, ltb-true, not_from_false, not-true}
+use Rattle.std.proofs.lemmas.Bool.{and_parts, and_from, cases_Bool, cases_eq, cases_lt, eqb-true, eq-eqb, ne_eqb, cond-true, cond-false, lt-ltb, ltb-true}
+use Rattle.std.proofs.lemmas.Bool.{not_from_false, not-true}
 use Rattle.std.proofs.lemmas.List.{take_more, take_all, get_or_default}
 use Rattle.std.specs.Int.{w128}
 use Rattle.std.proofs.lemmas.List.Sums.{sum_by-cons}
@@ -29,7 +31,8 @@ times-all n (x ∷ keys) h =
     let both = and_parts (nat_lt x n) (list_all (λ k. nat_lt k n) keys) h in
     let one : sum_below n (λ k. cond (x == k) 1 0) ≡ 1 = sum_where-one n (λ _. 1) x (ltb-true x n both.0) in
     let rest = times-all n keys both.1 in
-    let split : sum_below n (λ k. times k (x ∷ keys)) ≡ sum_below n (λ k. cond (x == k) 1 0 + times k keys) = sum_below-same n (λ k. times k (x ∷ keys)) (λ k. cond (x == k) 1 0 + times k keys) (λ k b. times-cons k x keys) in
+    let split : sum_below n (λ k. times k (x ∷ keys)) ≡ sum_below n (λ k. cond (x == k) 1 0 + times k keys) =
+    sum_below-same n (λ k. times k (x ∷ keys)) (λ k. cond (x == k) 1 0 + times k keys) (λ k b. times-cons k x keys) in
     let added = sum_below-add n (λ k. cond (x == k) 1 0) (λ k. times k keys) in
     omega (arith, one, rest, split, added)
 
@@ -46,7 +49,10 @@ each_one zero f h all k b = absurd (omega (arith, b))
 each_one (suc n) f h all k b =
     let before = at_least_each n f (λ i c. h i (omega (arith, c))) in
     let last = h n (omega arith) in
-    elim (cases_lt k n) [ inl lt ↦ each_one n f (λ i c. h i (omega (arith, c))) (omega (arith, all, last)) k lt | inr le ↦ (let same : k ≡ n = omega (arith, le, b) in ap f same ∙ (omega (arith, all, before, last))) ]
+    elim (cases_lt k n) [
+      | inl lt ↦ each_one n f (λ i c. h i (omega (arith, c))) (omega (arith, all, last)) k lt
+      | inr le ↦ (let same : k ≡ n = omega (arith, le, b) in ap f same ∙ (omega (arith, all, before, last)))
+    ]
 
 sum_ones : (n : ℕ) (f : ℕ → ℕ) → ((k : ℕ) → k < n → f k ≡ 1) → sum_below n f ≡ n
 sum_ones zero f h = refl
@@ -75,7 +81,8 @@ once-from n keys h =
 
 pub once-to : (n : ℕ) (keys : List ℕ) → EachOnce n keys → are_each_once n keys ≡ true
 once-to n keys each =
-    and_from (list_all (λ k. nat_lt k n) keys) _ each.below (not_from_false _ (any_below-none n (λ k. not (times k keys == 1)) (λ k b. ap not (eq-eqb (times k keys) 1 (each.once k b)))))
+    and_from (list_all (λ k. nat_lt k n) keys) _ each.below
+    (not_from_false _ (any_below-none n (λ k. not (times k keys == 1)) (λ k b. ap not (eq-eqb (times k keys) 1 (each.once k b)))))
 
 pub once-length : (n : ℕ) (keys : List ℕ) → are_each_once n keys ≡ true → length keys ≡ n
 once-length n keys h =
@@ -86,16 +93,24 @@ among_times : (k : ℕ) (keys : List ℕ) → is_among k keys ≡ true → 1 ≤
 among_times k [] h = absurd cc
 among_times k (x ∷ keys) h =
     let step = times-cons k x keys in
-    elim (cases_Bool (x == k)) [ inl e ↦ (let one = ap {B = ℕ} (λ (b : Bool). cond b 1 0) e in omega (arith, step, one)) | inr e ↦ (let later = among_times k keys (ap (λ (b : Bool). b || is_among k keys) (sym e) ∙ h) in omega (arith, step, later)) ]
+    elim (cases_Bool (x == k)) [
+      | inl e ↦ (let one = ap {B = ℕ} (λ (b : Bool). cond b 1 0) e in omega (arith, step, one))
+      | inr e ↦ (let later = among_times k keys (ap (λ (b : Bool). b || is_among k keys) (sym e) ∙ h) in omega (arith, step, later))
+    ]
 
 times_among : (k : ℕ) (keys : List ℕ) → times k keys ≡ 1 → is_among k keys ≡ true
 times_among k [] h = absurd cc
 times_among k (x ∷ keys) h =
     let step = times-cons k x keys in
-    elim (cases_Bool (x == k)) [ inl e ↦ ap (λ (b : Bool). b || is_among k keys) e | inr e ↦ (let none = ap {B = ℕ} (λ (b : Bool). cond b 1 0) e in let later = times_among k keys (omega (arith, step, none, h)) in ap (λ (b : Bool). b || is_among k keys) e ∙ later) ]
+    elim (cases_Bool (x == k)) [
+      | inl e ↦ ap (λ (b : Bool). b || is_among k keys) e
+      | inr e ↦ (let none = ap {B = ℕ} (λ (b : Bool). cond b 1 0) e in let later = times_among k keys (omega (arith, step, none, h)) in
+          ap (λ (b : Bool). b || is_among k keys) e ∙ later)
+    ]
 
 -- as many keys as numbers, all below, and each number among them
-pub once-among : (n : ℕ) (keys : List ℕ) → length keys ≡ n → list_all (λ k. nat_lt k n) keys ≡ true → ((k : ℕ) → k < n → is_among k keys ≡ true) → are_each_once n keys ≡ true
+pub once-among : (n : ℕ) (keys : List ℕ) → length keys ≡ n → list_all (λ k. nat_lt k n) keys ≡ true → ((k : ℕ) → k < n → is_among k keys ≡ true)
+    → are_each_once n keys ≡ true
 once-among n keys len below all =
     let sum = times-all n keys below in
     once-to n keys (record { below = below; once = each_one n (λ k. times k keys) (λ k b. among_times k keys (all k b)) (omega (arith, sum, len)) })
@@ -131,22 +146,33 @@ module _ {X : Type 0} where
   sum_none key v j [] h = refl
   sum_none key v j (x ∷ xs) h =
       let step = times-cons j (key x) (map key xs) in
-      elim (cases_Bool (key x == j)) [ inl e ↦ absurd (let one = ap {B = ℕ} (λ (b : Bool). cond b 1 0) e in omega (arith, step, one, h)) | inr e ↦ (let rest = sum_none key v j xs (omega (arith, step, h)) in let here = cond-false (key x == j) (v x) (pos 0) e in omega (arith, ints, rest, here)) ]
+      elim (cases_Bool (key x == j)) [
+        | inl e ↦ absurd (let one = ap {B = ℕ} (λ (b : Bool). cond b 1 0) e in omega (arith, step, one, h))
+        | inr e ↦ (let rest = sum_none key v j xs (omega (arith, step, h)) in let here = cond-false (key x == j) (v x) (pos 0) e in
+            omega (arith, ints, rest, here))
+      ]
 
   claims_none : (key : X → ℕ) (v : X → ℕ) (j : ℕ) (xs : List X) → times j (map key xs) ≡ 0 → sum_by (λ x. cond (key x == j) (v x) 0) xs ≡ 0
   claims_none key v j [] h = refl
   claims_none key v j (x ∷ xs) h =
       let step = times-cons j (key x) (map key xs) in
       let more = sum_by-cons (λ y. cond (key y == j) (v y) 0) x xs in
-      elim (cases_Bool (key x == j)) [ inl e ↦ absurd (let one = ap {B = ℕ} (λ (b : Bool). cond b 1 0) e in omega (arith, step, one, h)) | inr e ↦ (let rest = claims_none key v j xs (omega (arith, step, h)) in let here = cond-false (key x == j) (v x) 0 e in omega (arith, more, rest, here)) ]
+      elim (cases_Bool (key x == j)) [
+        | inl e ↦ absurd (let one = ap {B = ℕ} (λ (b : Bool). cond b 1 0) e in omega (arith, step, one, h))
+        | inr e ↦ (let rest = claims_none key v j xs (omega (arith, step, h)) in let here = cond-false (key x == j) (v x) 0 e in
+            omega (arith, more, rest, here))
+      ]
 
   times_here : (key : X → ℕ) (j : ℕ) (xs : List X) (i : ℕ) (d : X) → i < length xs → key (get_or xs i d) ≡ j → 1 ≤ times j (map key xs)
   times_here key j [] i d lt e = absurd (omega (arith, lt))
-  times_here key j (x ∷ xs) zero d lt e = (let step = times-cons j (key x) (map key xs) in let one = ap {B = ℕ} (λ (b : Bool). cond b 1 0) (eq-eqb (key x) j e) in omega (arith, step, one))
-  times_here key j (x ∷ xs) (suc i) d lt e = (let step = times-cons j (key x) (map key xs) in let later = times_here key j xs i d (omega (arith, lt)) e in omega (arith, step, later))
+  times_here key j (x ∷ xs) zero d lt e =
+      (let step = times-cons j (key x) (map key xs) in let one = ap {B = ℕ} (λ (b : Bool). cond b 1 0) (eq-eqb (key x) j e) in omega (arith, step, one))
+  times_here key j (x ∷ xs) (suc i) d lt e =
+      (let step = times-cons j (key x) (map key xs) in let later = times_here key j xs i d (omega (arith, lt)) e in omega (arith, step, later))
 
   -- another entry stands in front of the one of the key
-  skip_first : (key : X → ℕ) (v : X → ℤ) (j : ℕ) (x : X) (xs : List X) (z : ℤ) → 1 ≤ times j (map key xs) → times j (map key (x ∷ xs)) ≡ 1 → (times j (map key xs) ≡ 1 → int_sum_by (λ y. cond (key y == j) (v y) (pos 0)) xs ≡ z) → int_sum_by (λ y. cond (key y == j) (v y) (pos 0)) (x ∷ xs) ≡ z
+  skip_first : (key : X → ℕ) (v : X → ℤ) (j : ℕ) (x : X) (xs : List X) (z : ℤ) → 1 ≤ times j (map key xs) → times j (map key (x ∷ xs)) ≡ 1
+      → (times j (map key xs) ≡ 1 → int_sum_by (λ y. cond (key y == j) (v y) (pos 0)) xs ≡ z) → int_sum_by (λ y. cond (key y == j) (v y) (pos 0)) (x ∷ xs) ≡ z
   skip_first key v j x xs z later h rest = by_key (key x == j) refl
     where
       step : times j (map key (x ∷ xs)) ≡ cond (key x == j) 1 0 + times j (map key xs)
@@ -154,9 +180,11 @@ module _ {X : Type 0} where
 
       by_key : (b : Bool) → (key x == j) ≡ b → int_sum_by (λ y. cond (key y == j) (v y) (pos 0)) (x ∷ xs) ≡ z
       by_key true t = absurd (let one = ap {B = ℕ} (λ (b : Bool). cond b 1 0) t in omega (arith, step, one, later, h))
-      by_key false t = (let none = ap {B = ℕ} (λ (b : Bool). cond b 1 0) t in let more = rest (omega (arith, step, none, h)) in let here = cond-false (key x == j) (v x) (pos 0) t in omega (arith, ints, more, here))
+      by_key false t = (let none = ap {B = ℕ} (λ (b : Bool). cond b 1 0) t in let more = rest (omega (arith, step, none, h)) in
+          let here = cond-false (key x == j) (v x) (pos 0) t in omega (arith, ints, more, here))
 
-  skip_claim : (key : X → ℕ) (v : X → ℕ) (j : ℕ) (x : X) (xs : List X) (z : ℕ) → 1 ≤ times j (map key xs) → times j (map key (x ∷ xs)) ≡ 1 → (times j (map key xs) ≡ 1 → sum_by (λ y. cond (key y == j) (v y) 0) xs ≡ z) → sum_by (λ y. cond (key y == j) (v y) 0) (x ∷ xs) ≡ z
+  skip_claim : (key : X → ℕ) (v : X → ℕ) (j : ℕ) (x : X) (xs : List X) (z : ℕ) → 1 ≤ times j (map key xs) → times j (map key (x ∷ xs)) ≡ 1
+      → (times j (map key xs) ≡ 1 → sum_by (λ y. cond (key y == j) (v y) 0) xs ≡ z) → sum_by (λ y. cond (key y == j) (v y) 0) (x ∷ xs) ≡ z
   skip_claim key v j x xs z later h rest = by_key (key x == j) refl
     where
       step : times j (map key (x ∷ xs)) ≡ cond (key x == j) 1 0 + times j (map key xs)
@@ -167,10 +195,12 @@ module _ {X : Type 0} where
 
       by_key : (b : Bool) → (key x == j) ≡ b → sum_by (λ y. cond (key y == j) (v y) 0) (x ∷ xs) ≡ z
       by_key true t = absurd (let one = ap {B = ℕ} (λ (b : Bool). cond b 1 0) t in omega (arith, step, one, later, h))
-      by_key false t = (let none = ap {B = ℕ} (λ (b : Bool). cond b 1 0) t in let more = rest (omega (arith, step, none, h)) in let here = cond-false (key x == j) (v x) 0 t in omega (arith, all, more, here))
+      by_key false t = (let none = ap {B = ℕ} (λ (b : Bool). cond b 1 0) t in let more = rest (omega (arith, step, none, h)) in
+          let here = cond-false (key x == j) (v x) 0 t in omega (arith, all, more, here))
 
   -- the one entry of a key
-  pub sum_once : (key : X → ℕ) (v : X → ℤ) (j : ℕ) (xs : List X) (i : ℕ) (d : X) → i < length xs → key (get_or xs i d) ≡ j → times j (map key xs) ≡ 1 → int_sum_by (λ x. cond (key x == j) (v x) (pos 0)) xs ≡ v (get_or xs i d)
+  pub sum_once : (key : X → ℕ) (v : X → ℤ) (j : ℕ) (xs : List X) (i : ℕ) (d : X) → i < length xs → key (get_or xs i d) ≡ j → times j (map key xs) ≡ 1
+      → int_sum_by (λ x. cond (key x == j) (v x) (pos 0)) xs ≡ v (get_or xs i d)
   sum_once key v j [] i d lt e h = absurd (omega (arith, lt))
   sum_once key v j (x ∷ xs) zero d lt e h =
       let step = times-cons j (key x) (map key xs) in
@@ -181,7 +211,8 @@ module _ {X : Type 0} where
   sum_once key v j (x ∷ xs) (suc i) d lt e h =
       skip_first key v j x xs (v (get_or xs i d)) (times_here key j xs i d (omega (arith, lt)) e) h (λ one. sum_once key v j xs i d (omega (arith, lt)) e one)
 
-  pub claims_once : (key : X → ℕ) (v : X → ℕ) (j : ℕ) (xs : List X) (i : ℕ) (d : X) → i < length xs → key (get_or xs i d) ≡ j → times j (map key xs) ≡ 1 → sum_by (λ x. cond (key x == j) (v x) 0) xs ≡ v (get_or xs i d)
+  pub claims_once : (key : X → ℕ) (v : X → ℕ) (j : ℕ) (xs : List X) (i : ℕ) (d : X) → i < length xs → key (get_or xs i d) ≡ j → times j (map key xs) ≡ 1
+      → sum_by (λ x. cond (key x == j) (v x) 0) xs ≡ v (get_or xs i d)
   claims_once key v j [] i d lt e h = absurd (omega (arith, lt))
   claims_once key v j (x ∷ xs) zero d lt e h =
       let step = times-cons j (key x) (map key xs) in
@@ -191,13 +222,18 @@ module _ {X : Type 0} where
       let here = cond-true (key x == j) (v x) 0 (eq-eqb (key x) j e) in
       omega (arith, more, rest, here)
   claims_once key v j (x ∷ xs) (suc i) d lt e h =
-      skip_claim key v j x xs (v (get_or xs i d)) (times_here key j xs i d (omega (arith, lt)) e) h (λ one. claims_once key v j xs i d (omega (arith, lt)) e one)
+      skip_claim key v j x xs (v (get_or xs i d)) (times_here key j xs i d (omega (arith, lt)) e) h
+      (λ one. claims_once key v j xs i d (omega (arith, lt)) e one)
 
   -- the entry of a key that is among them
   pub place_of : (key : X → ℕ) (j : ℕ) (xs : List X) (d : X) → is_among j (map key xs) ≡ true → (i : ℕ) × (i < length xs) × (key (get_or xs i d) ≡ j)
   place_of key j [] d h = absurd cc
   place_of key j (x ∷ xs) d h =
-      elim (cases_Bool (key x == j)) [ inl e ↦ (0, omega arith, eqb-true (key x) j e) | inr e ↦ (let later = place_of key j xs d (ap (λ (b : Bool). b || is_among j (map key xs)) (sym e) ∙ h) in let lt = later.1 in (suc later.0, omega (arith, lt), later.2)) ]
+      elim (cases_Bool (key x == j)) [
+        | inl e ↦ (0, omega arith, eqb-true (key x) j e)
+        | inr e ↦ (let later = place_of key j xs d (ap (λ (b : Bool). b || is_among j (map key xs)) (sym e) ∙ h) in let lt = later.1 in
+            (suc later.0, omega (arith, lt), later.2))
+      ]
 
   -- a test that all pass is passed at each place
   pub all_at : (key : X → ℕ) (n : ℕ) (xs : List X) (i : ℕ) (d : X) → list_all (λ k. nat_lt k n) (map key xs) ≡ true → i < length xs → key (get_or xs i d) < n
@@ -230,10 +266,12 @@ times_past n j (x ∷ keys) h past =
     omega (arith, step, none, rest)
 
 module _ {X : Type 0} where
-  pub sum_past : (key : X → ℕ) (v : X → ℤ) (n j : ℕ) (xs : List X) → list_all (λ k. nat_lt k n) (map key xs) ≡ true → n ≤ j → int_sum_by (λ x. cond (key x == j) (v x) (pos 0)) xs ≡ pos 0
+  pub sum_past : (key : X → ℕ) (v : X → ℤ) (n j : ℕ) (xs : List X) → list_all (λ k. nat_lt k n) (map key xs) ≡ true → n ≤ j
+      → int_sum_by (λ x. cond (key x == j) (v x) (pos 0)) xs ≡ pos 0
   sum_past key v n j xs h past = sum_none key v j xs (times_past n j (map key xs) h past)
 
-  pub claims_past : (key : X → ℕ) (v : X → ℕ) (n j : ℕ) (xs : List X) → list_all (λ k. nat_lt k n) (map key xs) ≡ true → n ≤ j → sum_by (λ x. cond (key x == j) (v x) 0) xs ≡ 0
+  pub claims_past : (key : X → ℕ) (v : X → ℕ) (n j : ℕ) (xs : List X) → list_all (λ k. nat_lt k n) (map key xs) ≡ true → n ≤ j
+      → sum_by (λ x. cond (key x == j) (v x) 0) xs ≡ 0
   claims_past key v n j xs h past = claims_none key v j xs (times_past n j (map key xs) h past)
 
 -- ---- tables by key
@@ -243,14 +281,23 @@ module _ {X V : Type 0} where
   abbrev pub Written : (key : X → ℕ) → (is_right : ℕ → V → Type 0) → List X → List V → (dv : V) → ℕ → Type 0
   Written key is_right xs table dv i = (k : ℕ) (d : X) → k < i → is_right (key (get_or xs k d)) (get_or table (key (get_or xs k d)) dv)
 
-  pub write_more : (key : X → ℕ) (is_right : ℕ → V → Type 0) (xs : List X) (table : List V) (dv v : V) (i j : ℕ) (d : X) → j ≡ key (get_or xs i d) → j < length table → i < length xs → is_right j v → Written key is_right xs table dv i → Written key is_right xs (set table j v) dv (i + 1)
+  pub write_more : (key : X → ℕ) (is_right : ℕ → V → Type 0) (xs : List X) (table : List V) (dv v : V) (i j : ℕ) (d : X) → j ≡ key (get_or xs i d)
+      → j < length table → i < length xs → is_right j v → Written key is_right xs table dv i → Written key is_right xs (set table j v) dv (i + 1)
   write_more key is_right xs table dv v i j d at lt within right before k e b =
-      elim (cases_eq (key (get_or xs k e)) j) [ inl same ↦ subst (λ (n : ℕ). is_right n (get_or (set table j v) n dv)) (sym same) (subst (is_right j) (sym (get_or-set_same table j v dv lt)) right) | inr other ↦ subst (is_right (key (get_or xs k e))) (sym (get_or-set_other table j (key (get_or xs k e)) v dv other)) (before k e (earlier other)) ]
+      elim (cases_eq (key (get_or xs k e)) j) [
+        | inl same ↦ subst (λ (n : ℕ). is_right n (get_or (set table j v) n dv)) (sym same) (subst (is_right j) (sym (get_or-set_same table j v dv lt)) right)
+        | inr other ↦ subst (is_right (key (get_or xs k e))) (sym (get_or-set_other table j (key (get_or xs k e)) v dv other)) (before k e (earlier other))
+      ]
     where
       earlier : (key (get_or xs k e) ≡ j → ⊥) → k < i
-      earlier other = elim (cases_lt k i) [ inl less ↦ less | inr le ↦ absurd (other (let same : k ≡ i = omega (arith, le, b) in ap (λ (n : ℕ). key (get_or xs n e)) same ∙ ap key (get_or_default xs i e d within) ∙ sym at)) ]
+      earlier other = elim (cases_lt k i) [
+        | inl less ↦ less
+        | inr le ↦ absurd
+            (other (let same : k ≡ i = omega (arith, le, b) in ap (λ (n : ℕ). key (get_or xs n e)) same ∙ ap key (get_or_default xs i e d within) ∙ sym at))
+      ]
 
-  pub written_all : (key : X → ℕ) (is_right : ℕ → V → Type 0) (xs : List X) (table : List V) (dv : V) (n i j : ℕ) → are_each_once n (map key xs) ≡ true → length xs ≤ i → Written key is_right xs table dv i → j < n → X → is_right j (get_or table j dv)
+  pub written_all : (key : X → ℕ) (is_right : ℕ → V → Type 0) (xs : List X) (table : List V) (dv : V) (n i j : ℕ) → are_each_once n (map key xs) ≡ true
+      → length xs ≤ i → Written key is_right xs table dv i → j < n → X → is_right j (get_or table j dv)
   written_all key is_right xs table dv n i j once le written lt d =
       let at = place_of key j xs d (among-once n (map key xs) once j lt) in
       let within = at.1 in
@@ -263,7 +310,8 @@ int_sum_by-append f [] ys = omega (arith, ints)
 int_sum_by-append f (x ∷ xs) ys = omega (arith, ints, int_sum_by-append f xs ys)
 
 -- one more item, for a loop's step
-pub int_sum_by-more : {X : Type 0} (f : X → ℤ) (xs : List X) (i : ℕ) (d : X) → i < length xs → int_sum_by f (take (i + 1) xs) ≡ int_sum_by f (take i xs) +ℤ f (get_or xs i d)
+pub int_sum_by-more : {X : Type 0} (f : X → ℤ) (xs : List X) (i : ℕ) (d : X) → i < length xs
+    → int_sum_by f (take (i + 1) xs) ≡ int_sum_by f (take i xs) +ℤ f (get_or xs i d)
 int_sum_by-more f xs i d h =
     ap (int_sum_by f) (take_more xs i d h) ∙ omega (arith, ints, int_sum_by-append f (take i xs) (get_or xs i d ∷ []))
 
@@ -282,22 +330,27 @@ pub record SumsTo {X : Type 0} (f : X → ℤ) (xs : List X) (most k : ℕ) (sum
   pub high : sum ≤ℤ pos (most * k)
 
 -- a sum that is stored
-stored_more : (sum v : ℤ) → neg_ℤ (pos (10 ^ 29)) ≤ℤ sum → sum ≤ℤ pos (10 ^ 29) → neg_ℤ (pos (10 ^ 29)) ≤ℤ v → v ≤ℤ pos (10 ^ 29) → to_z w128 (of_z w128 (sum +ℤ to_z w128 (of_z w128 v))) ≡ sum +ℤ v
+stored_more : (sum v : ℤ) → neg_ℤ (pos (10 ^ 29)) ≤ℤ sum → sum ≤ℤ pos (10 ^ 29) → neg_ℤ (pos (10 ^ 29)) ≤ℤ v → v ≤ℤ pos (10 ^ 29)
+    → to_z w128 (of_z w128 (sum +ℤ to_z w128 (of_z w128 v))) ≡ sum +ℤ v
 stored_more sum v low high low' high' =
     let one = stored v (omega (arith, ints, low')) (omega (arith, ints, high')) in
     ap (λ (z : ℤ). to_z w128 (of_z w128 (sum +ℤ z))) one ∙ stored (sum +ℤ v) (omega (arith, ints, low, low')) (omega (arith, ints, high, high'))
 
-pub stored_both : (a b : ℤ) → neg_ℤ (pos (10 ^ 29)) ≤ℤ a → a ≤ℤ pos (10 ^ 29) → neg_ℤ (pos (10 ^ 29)) ≤ℤ b → b ≤ℤ pos (10 ^ 29) → to_z w128 (of_z w128 (to_z w128 (of_z w128 a) +ℤ to_z w128 (of_z w128 b))) ≡ a +ℤ b
+pub stored_both : (a b : ℤ) → neg_ℤ (pos (10 ^ 29)) ≤ℤ a → a ≤ℤ pos (10 ^ 29) → neg_ℤ (pos (10 ^ 29)) ≤ℤ b → b ≤ℤ pos (10 ^ 29)
+    → to_z w128 (of_z w128 (to_z w128 (of_z w128 a) +ℤ to_z w128 (of_z w128 b))) ≡ a +ℤ b
 stored_both a b low high low' high' =
     let one = stored a (omega (arith, ints, low)) (omega (arith, ints, high)) in
     ap (λ (z : ℤ). to_z w128 (of_z w128 (z +ℤ to_z w128 (of_z w128 b)))) one ∙ stored_more a b low high low' high'
 
 -- a loop's step
-pub sums_more : {X : Type 0} (f : X → ℤ) (xs : List X) (most k : ℕ) (sum v : ℤ) (d : X) → k < length xs → most ≤ 10 ^ 27 → k < 128 → most * k + most ≤ 10 ^ 29 → v ≡ f (get_or xs k d) → neg_ℤ (pos most) ≤ℤ v → v ≤ℤ pos most → SumsTo f xs most k sum → SumsTo f xs most (k + 1) (to_z w128 (of_z w128 (sum +ℤ to_z w128 (of_z w128 v))))
+pub sums_more : {X : Type 0} (f : X → ℤ) (xs : List X) (most k : ℕ) (sum v : ℤ) (d : X) → k < length xs → most ≤ 10 ^ 27 → k < 128 → most * k + most ≤ 10 ^ 29
+    → v ≡ f (get_or xs k d) → neg_ℤ (pos most) ≤ℤ v → v ≤ℤ pos most → SumsTo f xs most k sum
+    → SumsTo f xs most (k + 1) (to_z w128 (of_z w128 (sum +ℤ to_z w128 (of_z w128 v))))
 sums_more f xs most k sum v d lt small few fits e low high so =
     let l = so.low in
     let h = so.high in
-    let is = stored_more sum v (omega (arith, ints, l, fits)) (omega (arith, ints, h, fits)) (omega (arith, ints, low, small)) (omega (arith, ints, high, small)) in
+    let is = stored_more sum v (omega (arith, ints, l, fits)) (omega (arith, ints, h, fits)) (omega (arith, ints, low, small))
+    (omega (arith, ints, high, small)) in
     let step : most * (k + 1) ≡ most * k + most = omega arith in
     record {
       sum_is = is ∙ ap (λ (z : ℤ). z +ℤ v) so.sum_is ∙ ap (λ (z : ℤ). int_sum_by f (take k xs) +ℤ z) e ∙ sym (int_sum_by-more f xs k d lt);

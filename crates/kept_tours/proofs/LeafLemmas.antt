@@ -17,7 +17,8 @@ cars_few s ok = let high = ok.building.cars_high in let few = most_cars-le s.bui
 -- whole lists have one entry for each call and car
 pub whole_lengths : (s : Snapshot) (leaf : Leaf) → has_whole_lists s leaf ≡ true → (length leaf.prices ≡ call_count s) × (length leaf.worths ≡ car_count s)
 whole_lengths s leaf whole =
-    let both = and_parts (are_each_once (call_count s) (map (λ (p : PriceOf). p.call) leaf.prices)) (are_each_once (car_count s) (map (λ (w : WorthOf). w.car) leaf.worths)) whole in (
+    let both = and_parts (are_each_once (call_count s) (map (λ (p : PriceOf). p.call) leaf.prices))
+    (are_each_once (car_count s) (map (λ (w : WorthOf). w.car) leaf.worths)) whole in (
       sym (length-map leaf.prices (λ (p : PriceOf). p.call)) ∙ once-length (call_count s) (map (λ (p : PriceOf). p.call) leaf.prices) both.0,
       sym (length-map leaf.worths (λ (w : WorthOf). w.car)) ∙ once-length (car_count s) (map (λ (w : WorthOf). w.car) leaf.worths) both.1,
     )

@@ -1,5 +1,6 @@
 -- A worth is one exactly where no kept partial tour ends a tour of a lesser value.
-use Rattle.std.proofs.Common.{◌≡◌, ℕ, ◌^◌, ◌<◌, Bool, true, false, ◌&&◌, cond, eqb, List, [], ◌∷◌, refl, sym, ap, ◌∙◌, subst, inl, inr, arith, append-nil, Option, Some, None}
+use Rattle.std.proofs.Common.{◌≡◌, ℕ, ◌^◌, ◌<◌, Bool, true, false, ◌&&◌, cond, eqb, List, [], ◌∷◌, refl, sym, ap, ◌∙◌, subst, inl, inr, arith, append-nil}
+use Rattle.std.proofs.Common.{Option, Some, None}
 use Rattle.std.specs.Prelude.{ℤ, ◌≤ℤ◌, ◌<ℤ◌, int_lt}
 use Rattle.std.proofs.lemmas.Int.{ints}
 use Rattle.std.proofs.lemmas.Bool.{and_parts, eqb-true, cond-false}
@@ -35,34 +36,43 @@ both_none (Some x) b h e = absurd cc
 
 -- ---- the first tour under a worth
 
-under_in : (s : Snapshot) (c : ℕ) (price : ℕ → ℤ) (worth : ℤ) (w : List Move) (lists : List (List Move)) → IsAmongLists w lists → first_under s c price worth lists ≡ None → tour_under_at s c price worth (course_of s c w) ≡ None
+under_in : (s : Snapshot) (c : ℕ) (price : ℕ → ℤ) (worth : ℤ) (w : List Move) (lists : List (List Move)) → IsAmongLists w lists
+    → first_under s c price worth lists ≡ None → tour_under_at s c price worth (course_of s c w) ≡ None
 under_in s c price worth w [] among e = absurd among
 under_in s c price worth w (v ∷ lists) (inl same) e =
-    subst (λ (u : List Move). tour_under_at s c price worth (course_of s c u) ≡ None) same (first_parts (tour_under_at s c price worth (course_of s c v)) (first_under s c price worth lists) e).0
+    subst (λ (u : List Move). tour_under_at s c price worth (course_of s c u) ≡ None) same
+    (first_parts (tour_under_at s c price worth (course_of s c v)) (first_under s c price worth lists) e).0
 under_in s c price worth w (v ∷ lists) (inr later) e =
     under_in s c price worth w lists later (first_parts (tour_under_at s c price worth (course_of s c v)) (first_under s c price worth lists) e).1
 
-no_under : (s : Snapshot) (c : ℕ) (price : ℕ → ℤ) (worth : ℤ) (P : List Move → Type 0) (lists : List (List Move)) → ((w : List Move) → P w → tour_under_at s c price worth (course_of s c w) ≡ None) → Each P lists → first_under s c price worth lists ≡ None
+no_under : (s : Snapshot) (c : ℕ) (price : ℕ → ℤ) (worth : ℤ) (P : List Move → Type 0) (lists : List (List Move))
+    → ((w : List Move) → P w → tour_under_at s c price worth (course_of s c w) ≡ None) → Each P lists → first_under s c price worth lists ≡ None
 no_under s c price worth P [] none each = refl
 no_under s c price worth P (w ∷ lists) none each =
-    both_none (tour_under_at s c price worth (course_of s c w)) (first_under s c price worth lists) (none w each.0) (no_under s c price worth P lists none each.1)
+    both_none (tour_under_at s c price worth (course_of s c w)) (first_under s c price worth lists) (none w each.0)
+    (no_under s c price worth P lists none each.1)
 
-none_under : (s : Snapshot) (c : ℕ) (price : ℕ → ℤ) (worth : ℤ) (o : Option Course) (x : Course) → o ≡ Some x → (x.ended ≡ true → worth ≤ℤ value_of s c price x.left) → tour_under_at s c price worth o ≡ None
+none_under : (s : Snapshot) (c : ℕ) (price : ℕ → ℤ) (worth : ℤ) (o : Option Course) (x : Course) → o ≡ Some x
+    → (x.ended ≡ true → worth ≤ℤ value_of s c price x.left) → tour_under_at s c price worth o ≡ None
 none_under s c price worth o x at high = ap (tour_under_at s c price worth) at ∙ by_end x.ended refl
   where
     not_lower : (v : ℤ) → worth ≤ℤ v → int_lt v worth ≡ false
     not_lower v le = grind (arith, ints)
 
     by_end : (b : Bool) → x.ended ≡ b → cond (x.ended && int_lt (value_of s c price x.left) worth) (Some x.left) None ≡ None
-    by_end true e = cond-false (x.ended && int_lt (value_of s c price x.left) worth) (Some x.left) None (ap (λ (v : Bool). v && int_lt (value_of s c price x.left) worth) e ∙ not_lower (value_of s c price x.left) (high e))
-    by_end false e = cond-false (x.ended && int_lt (value_of s c price x.left) worth) (Some x.left) None (ap (λ (v : Bool). v && int_lt (value_of s c price x.left) worth) e)
+    by_end true e = cond-false (x.ended && int_lt (value_of s c price x.left) worth) (Some x.left) None
+        (ap (λ (v : Bool). v && int_lt (value_of s c price x.left) worth) e ∙ not_lower (value_of s c price x.left) (high e))
+    by_end false e = cond-false (x.ended && int_lt (value_of s c price x.left) worth) (Some x.left) None
+        (ap (λ (v : Bool). v && int_lt (value_of s c price x.left) worth) e)
 
 -- what ends a tour below the worth is found
-some_under : (s : Snapshot) (c : ℕ) (price : ℕ → ℤ) (worth : ℤ) (o : Option Course) (x : Course) → o ≡ Some x → x.ended ≡ true → tour_under_at s c price worth o ≡ None → worth ≤ℤ value_of s c price x.left
+some_under : (s : Snapshot) (c : ℕ) (price : ℕ → ℤ) (worth : ℤ) (o : Option Course) (x : Course) → o ≡ Some x → x.ended ≡ true
+    → tour_under_at s c price worth o ≡ None → worth ≤ℤ value_of s c price x.left
 some_under s c price worth o x at over none = by_test (int_lt (value_of s c price x.left) worth) refl
   where
     here : cond (int_lt (value_of s c price x.left) worth) (Some x.left) None ≡ None
-    here = ap (λ (b : Bool). cond (b && int_lt (value_of s c price x.left) worth) (Some x.left) None) (sym over) ∙ ap (tour_under_at s c price worth) (sym at) ∙ none
+    here = ap (λ (b : Bool). cond (b && int_lt (value_of s c price x.left) worth) (Some x.left) None) (sym over) ∙ ap (tour_under_at s c price worth) (sym at)
+        ∙ none
 
     no_lower : (v : ℤ) → int_lt v worth ≡ false → worth ≤ℤ v
     no_lower v e = grind (arith, ints)
@@ -96,7 +106,8 @@ through : (u v z : ℤ) → u ≤ℤ v → v <ℤ z → u <ℤ z
 through u v z h k = omega (arith, ints, h, k)
 
 -- No kept one ends a tour below the worth, so no tour of the node is below it.
-pub worth_of_car : (s : Snapshot) (node : Node) (c : ℕ) (price : ℕ → ℤ) (worth : ℤ) → IsAccepted s → c < car_count s → IsWithinRoot s node → first_under s c price worth (kept_list s c price (allows node c) (requires_of node c) worth) ≡ None → IsWorth s node c price worth
+pub worth_of_car : (s : Snapshot) (node : Node) (c : ℕ) (price : ℕ → ℤ) (worth : ℤ) → IsAccepted s → c < car_count s → IsWithinRoot s node
+    → first_under s c price worth (kept_list s c price (allows node c) (requires_of node c) worth) ≡ None → IsWorth s node c price worth
 worth_of_car s node c price worth ok car within none tour inside = by_test (int_lt (value_of s c price tour) worth) refl
   where
     no_lower : (v : ℤ) → int_lt v worth ≡ false → worth ≤ℤ v
@@ -122,15 +133,21 @@ worth_of_car s node c price worth ok car within none tour inside = by_test (int_
         at_most worth _ (value_of s c price tour) high (sym (ended_value s c price moves _ tour at refl begins (allows node c) (requires_of node c) inside))
 
 -- a worth has no kept one that ends a tour below it
-pub none_of_worth : (s : Snapshot) (node : Node) (c : ℕ) (price : ℕ → ℤ) (worth : ℤ) → IsAccepted s → c < car_count s → IsWithinRoot s node → IsWorth s node c price worth → first_under s c price worth (kept_list s c price (allows node c) (requires_of node c) worth) ≡ None
+pub none_of_worth : (s : Snapshot) (node : Node) (c : ℕ) (price : ℕ → ℤ) (worth : ℤ) → IsAccepted s → c < car_count s → IsWithinRoot s node
+    → IsWorth s node c price worth → first_under s c price worth (kept_list s c price (allows node c) (requires_of node c) worth) ≡ None
 none_of_worth s node c price worth ok car within is =
-    no_under s c price worth (IsTested s c (allows node c) (is_kept s c price (allows node c) (requires_of node c) worth)) (kept_list s c price (allows node c) (requires_of node c) worth) none (tested_lists-each s c (allows node c) (is_kept s c price (allows node c) (requires_of node c) worth))
+    no_under s c price worth (IsTested s c (allows node c) (is_kept s c price (allows node c) (requires_of node c) worth))
+    (kept_list s c price (allows node c) (requires_of node c) worth) none
+    (tested_lists-each s c (allows node c) (is_kept s c price (allows node c) (requires_of node c) worth))
   where
     demand : IsDemand s c (allows node c) (requires_of node c)
     demand = demand_at s node c ok car within
 
-    none : (w : List Move) → IsTested s c (allows node c) (is_kept s c price (allows node c) (requires_of node c) worth) w → tour_under_at s c price worth (course_of s c w) ≡ None
+    none : (w : List Move) → IsTested s c (allows node c) (is_kept s c price (allows node c) (requires_of node c) worth) w
+        → tour_under_at s c price worth (course_of s c w) ≡ None
     none w tested =
         let x = tested.0 in
-        let both = and_parts (can_be_extended s c (allows node c) (requires_of node c) x) (int_lt (completion_bound s c price (allows node c) (requires_of node c) x) worth) tested.2 in
-        none_under s c price worth (course_of s c w) x tested.1 (λ over. is x.left (ended_within s c (allows node c) (requires_of node c) w x demand tested.1 tested.3 over both.0))
+        let both = and_parts (can_be_extended s c (allows node c) (requires_of node c) x)
+        (int_lt (completion_bound s c price (allows node c) (requires_of node c) x) worth) tested.2 in
+        none_under s c price worth (course_of s c w) x tested.1
+        (λ over. is x.left (ended_within s c (allows node c) (requires_of node c) w x demand tested.1 tested.3 over both.0))

@@ -28,8 +28,11 @@ kept_list_by s c bound allowed required worth = tested_lists s c allowed (is_kep
 -- One move more, where boards are of allowed calls, makes the bound no smaller.
 abbrev pub BoundGrows : Snapshot → ℕ → (bound : Course → ℤ) → (allowed : ℕ → Bool) → Type 0
 BoundGrows s c bound allowed =
-    (moves : List Move) (x y : Course) (m : Move) → AreAllowed allowed moves → boards_allowed allowed m ≡ true → course_of s c moves ≡ Some x → move_on s c x m ≡ Some y → bound x ≤ℤ bound y
+    (moves : List Move) (x y : Course) (m : Move) → AreAllowed allowed moves → boards_allowed allowed m ≡ true → course_of s c moves ≡ Some x
+    → move_on s c x m ≡ Some y → bound x ≤ℤ bound y
 
 -- Where the bound grows, the kept list has exactly the kept partial tours, in the order of moves, each once.
 abbrev pub KeptByLaw : Type 0
-KeptByLaw = (s : Snapshot) (c : ℕ) (bound : Course → ℤ) (allowed required : ℕ → Bool) (worth : ℤ) → IsAccepted s → c < car_count s → IsDemand s c allowed required → BoundGrows s c bound allowed → ListsAll (IsKeptBy s c bound allowed required worth) (kept_list_by s c bound allowed required worth)
+KeptByLaw = (s : Snapshot) (c : ℕ) (bound : Course → ℤ) (allowed required : ℕ → Bool) (worth : ℤ) → IsAccepted s → c < car_count s
+    → IsDemand s c allowed required → BoundGrows s c bound allowed
+    → ListsAll (IsKeptBy s c bound allowed required worth) (kept_list_by s c bound allowed required worth)

@@ -55,8 +55,11 @@ abbrev pub GoesBack : (old new : PartialTour) → Visits → Type 0
 GoesBack old new visits = (left : ℕ) → visits ≡ Going left → new ≡ old
 
 -- What a walk through the kept ones that begin with a partial tour has seen.
-pub record Visited (t : PartialTour) (demand : Demand) (price : ℕ → ℤ) (bound : Course → ℤ) (worth : ℤ) (left : ℕ) (new : PartialTour) (visits : Visits) : Type 0 where
-  pub seen : (x : Course) → course t ≡ Some x → (n : ℕ) → moves_left t.snapshot t.car x < n → see (under_for (aim_at t demand price) worth) left (kept_from t.snapshot t.car bound (has demand.allowed) (has demand.required) worth n t.moves x) ≡ seen_of visits new.moves
+pub record Visited (t : PartialTour) (demand : Demand) (price : ℕ → ℤ) (bound : Course → ℤ) (worth : ℤ) (left : ℕ) (new : PartialTour)
+    (visits : Visits) : Type 0 where
+  pub seen : (x : Course) → course t ≡ Some x → (n : ℕ) → moves_left t.snapshot t.car x < n
+      → see (under_for (aim_at t demand price) worth) left (kept_from t.snapshot t.car bound (has demand.allowed) (has demand.required) worth n t.moves x)
+      ≡ seen_of visits new.moves
   pub value : (value : ℤ) → visits ≡ Under value → value ≡ value_of t.snapshot t.car price (stops_made new.moves)
   pub snapshot : new.snapshot ≡ t.snapshot
   pub car : new.car ≡ t.car

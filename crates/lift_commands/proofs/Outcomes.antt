@@ -14,7 +14,8 @@ use Rattle.case_commands.specs.MakeOutcome.{MakeDue, SolvedCaseDue}
 use Rattle.lift_commands.specs.Outcome.{RunDue}
 
 -- what is due of `solve` is due of a run whose words are its words
-pub solve_due : (words : List (List ℕ)) (left left' : Option (List ℕ)) (options : SolveOptions) → AreTaken words (Solve options) → (status : Status) (text : List ℕ) → SolveDue options left left' status text → RunDue words left left' status text
+pub solve_due : (words : List (List ℕ)) (left left' : Option (List ℕ)) (options : SolveOptions) → AreTaken words (Solve options)
+    → (status : Status) (text : List ℕ) → SolveDue options left left' status text → RunDue words left left' status text
 solve_due words left left' options taken Done text due = inl (record { options = options; taken = taken; answer = due })
 solve_due words left left' options taken Input text due = inl (record { options = options; taken = taken; refusal = due })
 solve_due words left left' options taken Words text due = absurd due
@@ -25,7 +26,8 @@ solve_due words left left' options taken Write text due = due
 solve_due words left left' options taken Memory text due = due
 
 -- and so of `check`
-pub check_due : (words : List (List ℕ)) (left left' : Option (List ℕ)) (options : CheckOptions) → AreTaken words (Check options) → (status : Status) (text : List ℕ) → CheckDue left left' status text → RunDue words left left' status text
+pub check_due : (words : List (List ℕ)) (left left' : Option (List ℕ)) (options : CheckOptions) → AreTaken words (Check options)
+    → (status : Status) (text : List ℕ) → CheckDue left left' status text → RunDue words left left' status text
 check_due words left left' options taken Done text due = inr (inl (record { options = options; taken = taken; verdict = due }))
 check_due words left left' options taken Refused text due = record { options = options; taken = taken; verdict = due }
 check_due words left left' options taken Input text due = inr (record { options = options; taken = taken; refusal = due })
@@ -36,7 +38,8 @@ check_due words left left' options taken Write text due = due
 check_due words left left' options taken Memory text due = due
 
 -- and so of `make`, which reads nothing
-pub make_due : (words : List (List ℕ)) (left : Option (List ℕ)) (sizes : CaseSizes) → AreTaken words (Make sizes) → (status : Status) (text : List ℕ) → MakeDue sizes status text → RunDue words left left status text
+pub make_due : (words : List (List ℕ)) (left : Option (List ℕ)) (sizes : CaseSizes) → AreTaken words (Make sizes) → (status : Status) (text : List ℕ)
+    → MakeDue sizes status text → RunDue words left left status text
 make_due words left sizes taken Done text due = inr (inr (inl (record { sizes = sizes; taken = taken; unread = refl; case = due })))
 make_due words left sizes taken Input text due = absurd due
 make_due words left sizes taken Words text due = absurd due
@@ -47,7 +50,8 @@ make_due words left sizes taken Write text due = due
 make_due words left sizes taken Memory text due = due
 
 -- and so of `make --run`
-pub solved_case_due : (words : List (List ℕ)) (left : Option (List ℕ)) (options : RunOptions) → AreTaken words (Run options) → (status : Status) (text : List ℕ) → SolvedCaseDue options status text → RunDue words left left status text
+pub solved_case_due : (words : List (List ℕ)) (left : Option (List ℕ)) (options : RunOptions) → AreTaken words (Run options)
+    → (status : Status) (text : List ℕ) → SolvedCaseDue options status text → RunDue words left left status text
 solved_case_due words left options taken Done text due = inr (inr (inr (record { options = options; taken = taken; unread = refl; solved = due })))
 solved_case_due words left options taken Stopped text due = inr (record { options = options; taken = taken; unread = refl; solved = due })
 solved_case_due words left options taken Input text due = absurd due

@@ -69,7 +69,8 @@ pub record CheckRefusalIsAsked (words : List (List ℕ)) (left left' : Option (L
 -- the texts of a run
 abbrev pub RunDue : List (List ℕ) → (left left' : Option (List ℕ)) → DueTexts
 RunDue words left left' Done text =
-    AnswerIsAsked words left left' Done text ⊎ VerdictIsAsked words left left' Done text ⊎ CaseIsAsked words left left' text ⊎ SolvedCaseIsAsked words left left' Done text
+    AnswerIsAsked words left left' Done text ⊎ VerdictIsAsked words left left' Done text ⊎ CaseIsAsked words left left' text
+    ⊎ SolvedCaseIsAsked words left left' Done text
 RunDue words left left' Words text = UsageIsDue words left left' text
 RunDue words left left' Stopped text = AnswerIsAsked words left left' Stopped text ⊎ SolvedCaseIsAsked words left left' Stopped text
 RunDue words left left' Refused text = VerdictIsAsked words left left' Refused text

@@ -1,5 +1,6 @@
 -- What holds of every picture.
-use Rattle.std.proofs.Common.{◌≡◌, ℕ, zero, suc, ◌+◌, ◌-◌, ◌≤◌, ◌<◌, ◌==◌, ◌&&◌, ◌⊎◌, Bool, true, false, cond, List, [], ◌∷◌, length, map, filter, Option, None, Some, refl, ap, subst, arith, inl, inr}
+use Rattle.std.proofs.Common.{◌≡◌, ℕ, zero, suc, ◌+◌, ◌-◌, ◌≤◌, ◌<◌, ◌==◌, ◌&&◌, ◌⊎◌, Bool, true, false, cond, List, [], ◌∷◌, length, map, filter, Option, None}
+use Rattle.std.proofs.Common.{Some, refl, ap, subst, arith, inl, inr}
 use Rattle.std.proofs.lemmas.Bool.{eq-eqb, eqb-true, false_from_ne_true}
 use Rattle.call_sets.specs.Counting.{sum_below}
 use Rattle.call_sets.proofs.Sums.{sum_below-add, sum_below-same, sum_below-zero}
@@ -41,9 +42,11 @@ repeated_is (Some last) s h = same_is last s h
 
 drawn_after : (last : Option Segment) (segments : List Segment) (s : Segment) → IsIn segments s → IsIn (thinned last segments) s ⊎ IsLast last s
 drawn_after last [] s in_them = absurd in_them
-drawn_after last (x ∷ xs) s in_them = by_test (is_repeated last x) refl in_them (λ later. drawn_after last xs s later) (λ later. drawn_after (Some x) xs s later)
+drawn_after last (x ∷ xs) s in_them =
+    by_test (is_repeated last x) refl in_them (λ later. drawn_after last xs s later) (λ later. drawn_after (Some x) xs s later)
   where
-    by_test : (b : Bool) → is_repeated last x ≡ b → (x ≡ s) ⊎ IsIn xs s → (IsIn xs s → IsIn (thinned last xs) s ⊎ IsLast last s) → (IsIn xs s → IsIn (thinned (Some x) xs) s ⊎ (x ≡ s))
+    by_test : (b : Bool) → is_repeated last x ≡ b → (x ≡ s) ⊎ IsIn xs s → (IsIn xs s → IsIn (thinned last xs) s ⊎ IsLast last s)
+        → (IsIn xs s → IsIn (thinned (Some x) xs) s ⊎ (x ≡ s))
         → IsIn (cond {A = List Segment} b (thinned last xs) (x ∷ thinned (Some x) xs)) s ⊎ IsLast last s
     by_test true h (inl here) same fresh = inr (subst (IsLast last) here (repeated_is last x h))
     by_test true h (inr later) same fresh = same later
@@ -57,7 +60,8 @@ known_all : (last : Option Segment) (segments : List Segment) (s : Segment) → 
 known_all last [] s drawn = drawn
 known_all last (x ∷ xs) s drawn = by_test (is_repeated last x) drawn (λ later. known_all last xs s later) (λ later. known_all (Some x) xs s later)
   where
-    by_test : (b : Bool) → IsIn (cond {A = List Segment} b (thinned last xs) (x ∷ thinned (Some x) xs)) s → (IsIn (thinned last xs) s → IsIn xs s) → (IsIn (thinned (Some x) xs) s → IsIn xs s) → (x ≡ s) ⊎ IsIn xs s
+    by_test : (b : Bool) → IsIn (cond {A = List Segment} b (thinned last xs) (x ∷ thinned (Some x) xs)) s → (IsIn (thinned last xs) s → IsIn xs s)
+        → (IsIn (thinned (Some x) xs) s → IsIn xs s) → (x ≡ s) ⊎ IsIn xs s
     by_test true drawn same fresh = inr (same drawn)
     by_test false (inl here) same fresh = inl here
     by_test false (inr later) same fresh = inr (fresh later)
@@ -75,7 +79,8 @@ past : (n j : ℕ) → n ≤ j → sum_below n (one_of j) ≡ 0
 past zero j above = refl
 past (suc n) j above =
     let rest = past n j (omega (arith, above)) in
-    let here : one_of j n ≡ 0 = ap (λ (b : Bool). cond {A = ℕ} b 1 0) (false_from_ne_true (j == n) (λ same. let e = eqb-true j n same in omega (arith, above, e))) in
+    let here : one_of j n ≡ 0 =
+    ap (λ (b : Bool). cond {A = ℕ} b 1 0) (false_from_ne_true (j == n) (λ same. let e = eqb-true j n same in omega (arith, above, e))) in
     omega (arith, rest, here)
 
 one_below : (n j : ℕ) → j < n → sum_below n (one_of j) ≡ 1
@@ -97,7 +102,9 @@ one_below (suc n) j below = by_test (j == n) refl (λ apart. one_below n j (omeg
 more_doors : (f : Frame) (leg : Leg) (legs : List Leg) (car : ℕ) → length (doors_of f (leg ∷ legs) car) ≡ one_of leg.car car + length (doors_of f legs car)
 more_doors f leg legs car = by_test (is_of car leg)
   where
-    by_test : (b : Bool) → length (map (doors_line f) (cond {A = List Leg} b (leg ∷ filter (is_of car) legs) (filter (is_of car) legs))) ≡ cond b 1 0 + length (map (doors_line f) (filter (is_of car) legs))
+    by_test : (b : Bool)
+        → length (map (doors_line f) (cond {A = List Leg} b (leg ∷ filter (is_of car) legs) (filter (is_of car) legs)))
+        ≡ cond b 1 0 + length (map (doors_line f) (filter (is_of car) legs))
     by_test true = omega arith
     by_test false = omega arith
 
@@ -109,7 +116,8 @@ doors_once f [] cars of_cars = no_doors f cars
 doors_once f (leg ∷ legs) cars of_cars =
     let later = doors_once f legs cars of_cars.1 in
     let one = one_below cars leg.car of_cars.0 in
-    let split = sum_below-same cars (λ car. length (doors_of f (leg ∷ legs) car)) (λ car. one_of leg.car car + length (doors_of f legs car)) (λ car below. more_doors f leg legs car) in
+    let split = sum_below-same cars (λ car. length (doors_of f (leg ∷ legs) car)) (λ car. one_of leg.car car + length (doors_of f legs car))
+    (λ car below. more_doors f leg legs car) in
     let added = sum_below-add cars (one_of leg.car) (λ car. length (doors_of f legs car)) in
     omega (arith, later, one, split, added)
 

@@ -19,7 +19,8 @@ use Rattle.lift_picture.specs.declared.labels.Caption.TheVariants.{Number, Car, 
 use Rattle.lift_picture.specs.declared.labels.Label.{Label}
 use Rattle.lift_picture.specs.Frames.{frame_of}
 use Rattle.lift_picture.specs.Segments.{segment_text, thinned}
-use Rattle.lift_picture.specs.Layers.{doors_of, fall_at, falls_of, floor_lines, is_of, legend_y, minute_lines, rides_of, rise_at, rises_of, sample_line, sample_x, ticks, stands_of, waits_of, ways_of}
+use Rattle.lift_picture.specs.Layers.{doors_of, fall_at, falls_of, floor_lines, is_of, legend_y, minute_lines, rides_of, rise_at, rises_of, sample_line}
+use Rattle.lift_picture.specs.Layers.{sample_x, ticks, stands_of, waits_of, ways_of}
 use Rattle.lift_picture.specs.Labels.{car_labels, floor_labels, legend_label, minute_labels, name_of_axis, name_of_floors}
 
 -- ---- what stands before the layers
@@ -117,7 +118,8 @@ caption_text Floors = codes "floor"
 caption_text (Across axis) = axis_text axis
 
 unfoldable pub label_text : Label → List ℕ
-label_text label = codes "<text class='" ++ anchor_text label.anchor ++ words (codes "' transform='translate(") (label.x ∷ label.y ∷ []) ++ codes ")'>" ++ caption_text label.caption ++ codes "</text>\n"
+label_text label = codes "<text class='" ++ anchor_text label.anchor ++ words (codes "' transform='translate(") (label.x ∷ label.y ∷ []) ++ codes ")'>"
+    ++ caption_text label.caption ++ codes "</text>\n"
 
 abbrev pub name_labels : Frame → Axis → (cars : ℕ) → List Label
 name_labels f axis cars = legend_label f cars Waiting ∷ legend_label f (cars + 1) Riding ∷ name_of_floors ∷ name_of_axis f axis ∷ []

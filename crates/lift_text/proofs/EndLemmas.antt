@@ -1,5 +1,6 @@
 -- How the ends of lines show in the bytes that were taken.
-use Rattle.std.proofs.Common.{◌≡◌, ◌≢◌, ℕ, ◌+◌, ◌<◌, ◌⊎◌, inl, inr, Bool, true, List, [], ◌∷◌, ◌++◌, All, IfSome, Option, None, Some, length, take, drop, get_or, arith, ap, sym, ◌∙◌, refl, subst, append_assoc, drop_at}
+use Rattle.std.proofs.Common.{◌≡◌, ◌≢◌, ℕ, ◌+◌, ◌<◌, ◌⊎◌, inl, inr, Bool, true, List, [], ◌∷◌, ◌++◌, All, IfSome, Option, None, Some, length, take, drop}
+use Rattle.std.proofs.Common.{get_or, arith, ap, sym, ◌∙◌, refl, subst, append_assoc, drop_at}
 use Rattle.std.specs.Prelude.{◌==◌}
 use Rattle.std.specs.List.{concat, position_or_len}
 use Rattle.std.specs.Io.KnownBytes.{IsAtEnd}
@@ -20,13 +21,15 @@ use Rattle.lift_text.proofs.PageLemmas.{state}
 
 -- what was taken, where the page says the same of the bytes in other words
 pub gathered_same : (past quota quota' size : ℕ) (held held' taken : List ℕ) (left left' : Option (List ℕ)) (number : ℕ) (bytes : List ℕ)
-    → Gathered past quota quota' held held' taken left left' → number ≡ quota → bytes ≡ held → Gathered past number quota' bytes (take size held' ++ drop size held') taken left left'
+    → Gathered past quota quota' held held' taken left left' → number ≡ quota → bytes ≡ held
+    → Gathered past number quota' bytes (take size held' ++ drop size held') taken left left'
 gathered_same past quota quota' size held held' taken left left' number bytes is quotas helds = record {
   took = subst (λ n. Took past n quota' taken left left') (sym quotas) is.took;
   kept = λ none. ap (λ l. l ++ taken) helds ∙ is.kept none ∙ sym (take-append-drop size held');
 }
 
-pub line_ends_other : (found : Front) (page : PageState) → ((line size : ℕ) → found ≢ Line line size) → FoundShows found page.unread page.ended → LineEnds found page
+pub line_ends_other : (found : Front) (page : PageState) → ((line size : ℕ) → found ≢ Line line size) → FoundShows found page.unread page.ended
+    → LineEnds found page
 line_ends_other (Line line size) page other shows = absurd (other line size refl)
 line_ends_other Long page other shows = shows
 line_ends_other Cut page other shows = tt
@@ -35,7 +38,8 @@ line_ends_other End page other shows = tt
 -- a whole line, and then more
 pub pieces_of-whole : (piece tail : List ℕ) → IsWholeLine piece → pieces_of (piece ++ tail) ≡ piece ∷ pieces_of tail
 pieces_of-whole piece tail whole =
-    ap (λ l. pieces_of (l ++ tail)) whole.is ∙ ap pieces_of (append_assoc whole.front (10 ∷ []) tail) ∙ pieces_of-append whole.front tail whole.none ∙ ap (λ l. l ∷ pieces_of tail) (sym whole.is)
+    ap (λ l. pieces_of (l ++ tail)) whole.is ∙ ap pieces_of (append_assoc whole.front (10 ∷ []) tail) ∙ pieces_of-append whole.front tail whole.none
+    ∙ ap (λ l. l ∷ pieces_of tail) (sym whole.is)
 
 -- whole lines, and then more
 pub pieces_of-wholes : (passed : List (List ℕ)) (tail : List ℕ) → All IsWholeLine passed → pieces_of (concat passed ++ tail) ≡ passed ++ pieces_of tail
@@ -52,7 +56,8 @@ pub whole_has : (piece : List ℕ) → IsWholeLine piece → HasWholeLine piece
 whole_has piece whole = subst HasWholeLine (sym whole.is) (Contains-push whole.front 10)
 
 -- the first line of bytes that have an LF has it
-first_at : (bytes : List ℕ) (place : ℕ) → place < length bytes → ((k : ℕ) → k < place → get_or bytes k 0 ≢ 10) → get_or bytes place 0 ≡ 10 → All HasWholeLine (take 1 (pieces_of bytes))
+first_at : (bytes : List ℕ) (place : ℕ) → place < length bytes → ((k : ℕ) → k < place → get_or bytes k 0 ≢ 10) → get_or bytes place 0 ≡ 10
+    → All HasWholeLine (take 1 (pieces_of bytes))
 first_at bytes place inside before here =
     let piece = take (place + 1) bytes in
     let rest = drop (place + 1) bytes in
@@ -63,17 +68,20 @@ first_at bytes place inside before here =
 first_whole : (bytes : List ℕ) → HasWholeLine bytes → All HasWholeLine (take 1 (pieces_of bytes))
 first_whole bytes has =
     let place = position_or_len (λ b. b == 10) bytes in
-    let before : (k : ℕ) → k < place → get_or bytes k 0 ≢ 10 = λ k below is. false≢true (sym (fails_before_first (λ b. b == 10) bytes k 0 below) ∙ ap (λ b. b == 10) is) in
+    let before : (k : ℕ) → k < place
+    → get_or bytes k 0 ≢ 10 = λ k below is. false≢true (sym (fails_before_first (λ b. b == 10) bytes k 0 below) ∙ ap (λ b. b == 10) is) in
     elim (cases_lt place (length bytes)) [
       | inl inside ↦ first_at bytes place inside before (eqb-true _ 10 (passes_at_first (λ b. b == 10) bytes 0 inside))
       | inr outside ↦ absurd (no_whole_line bytes (λ k below. before k (omega arith)) has)
     ]
 
-first_known : (line limit : ℕ) (known : Option (List ℕ)) → IfSome known HasWholeLine → IfSome (state line limit known) (λ text. All HasWholeLine (take 1 (pieces_of text.bytes)))
+first_known : (line limit : ℕ) (known : Option (List ℕ)) → IfSome known HasWholeLine
+    → IfSome (state line limit known) (λ text. All HasWholeLine (take 1 (pieces_of text.bytes)))
 first_known line limit None has = tt
 first_known line limit (Some bytes) has = first_whole bytes has
 
-pub first_feed : (line limit : ℕ) (known : Option (List ℕ)) (ended : Bool) → IfSome known HasWholeLine ⊎ (ended ≡ true) → HaveLineFeeds (state line limit known) 1 ended
+pub first_feed : (line limit : ℕ) (known : Option (List ℕ)) (ended : Bool) → IfSome known HasWholeLine ⊎ (ended ≡ true)
+    → HaveLineFeeds (state line limit known) 1 ended
 first_feed line limit known ended (inl has) = inl (first_known line limit known has)
 first_feed line limit known ended (inr end) = inr end
 
@@ -85,13 +93,15 @@ found_whole (Some text) None current line size found whole = absurd found
 found_whole (Some text) (Some rest) current line size found whole =
     subst (λ l. All HasWholeLine (take 1 l)) (sym found.pieces) (All-cons HasWholeLine current [] (whole_has current whole) (All-nil HasWholeLine))
 
-pub found_feed : (before after : Option TextState) (current : List ℕ) (line size : ℕ) (ended : Bool) → Advanced (Line line size) before current after → IsWholeLine current ⊎ (ended ≡ true) → HaveLineFeeds before 1 ended
+pub found_feed : (before after : Option TextState) (current : List ℕ) (line size : ℕ) (ended : Bool) → Advanced (Line line size) before current after
+    → IsWholeLine current ⊎ (ended ≡ true) → HaveLineFeeds before 1 ended
 found_feed before after current line size ended found (inl whole) = inl (found_whole before after current line size found whole)
 found_feed before after current line size ended found (inr end) = inr end
 
 -- the first line of these bytes
 end_shows_first : (current unread : List ℕ) (left : Option (List ℕ))
-    → IsWholeLine current ⊎ (IsAtEnd left ⊎ (NoLineFeed (current ++ unread) × (4097 < length (current ++ unread)))) → EndShows (get_or (pieces_of (current ++ unread)) 0 []) left
+    → IsWholeLine current ⊎ (IsAtEnd left ⊎ (NoLineFeed (current ++ unread) × (4097 < length (current ++ unread))))
+    → EndShows (get_or (pieces_of (current ++ unread)) 0 []) left
 end_shows_first current unread left (inl whole) =
     let first = ap (λ l. get_or l 0 []) (pieces_of-whole current unread whole) in
     inl (ap (ends_with_byte 10) (first ∙ whole.is) ∙ ends_with_byte-push 10 whole.front)
@@ -109,12 +119,14 @@ end_shows_behind : (front current unread : List ℕ) (count : ℕ) (left : Optio
 end_shows_behind front current unread count left (inl lines) ends =
     let bytes = current ++ unread in
     let same : count ≡ count + 0 = omega arith in
-    let behind = ap (λ n. get_or (pieces_of (front ++ bytes)) n []) same ∙ sym (get_or-drop count (pieces_of (front ++ bytes)) 0 []) ∙ ap (λ l. get_or l 0 []) (lines bytes) in
+    let behind = ap (λ n. get_or (pieces_of (front ++ bytes)) n []) same ∙ sym (get_or-drop count (pieces_of (front ++ bytes)) 0 [])
+    ∙ ap (λ l. get_or l 0 []) (lines bytes) in
     subst (λ piece. EndShows piece left) (sym behind) (end_shows_first current unread left ends)
 end_shows_behind front current unread count left (inr end) ends = inr (inl end)
 
 -- the same, where the flag of the end tells it
-pub end_shows_after : (passed : List (List ℕ)) (current unread : List ℕ) (before after : Bool) (left : Option (List ℕ)) → (before ≡ true → after ≡ true) → (after ≡ true → IsAtEnd left)
+pub end_shows_after : (passed : List (List ℕ)) (current unread : List ℕ) (before after : Bool) (left : Option (List ℕ)) → (before ≡ true → after ≡ true)
+    → (after ≡ true → IsAtEnd left)
     → All IsWholeLine passed ⊎ (before ≡ true) → IsWholeLine current ⊎ ((after ≡ true) ⊎ (NoLineFeed (current ++ unread) × (4097 < length (current ++ unread))))
     → EndShows (get_or (pieces_of (concat passed ++ (current ++ unread))) (length passed) []) left
 end_shows_after passed current unread before after left stays at_end lines ends =
@@ -142,5 +154,6 @@ answer_whole bytes answer =
     let place = position_or_len (λ b. b == 10) bytes in
     elim (cases_lt place (length bytes)) [
       | inl inside ↦ (place, inside, eqb-true _ 10 (passes_at_first (λ b. b == 10) bytes 10 inside))
-      | inr outside ↦ absurd (no_answer bytes (λ k below is. false≢true (sym (fails_before_first (λ b. b == 10) bytes k 0 (omega arith)) ∙ ap (λ b. b == 10) is)) answer)
+      | inr outside ↦ absurd
+          (no_answer bytes (λ k below is. false≢true (sym (fails_before_first (λ b. b == 10) bytes k 0 (omega arith)) ∙ ap (λ b. b == 10) is)) answer)
     ]

@@ -1,11 +1,13 @@
 -- The first line of a text.
-use Rattle.std.proofs.Common.{◌≡◌, ◌≢◌, ℕ, suc, ◌+◌, ◌-◌, ◌<◌, ◌≤◌, Bool, true, false, cond, eqb, List, [], ◌∷◌, ◌++◌, Option, None, Some, length, take, drop, get_or, arith, ap, sym, ◌∙◌, refl, subst, append_assoc, append-nil, length-append, IfSome, drop-cons, add-one, inl, inr}
+use Rattle.std.proofs.Common.{◌≡◌, ◌≢◌, ℕ, suc, ◌+◌, ◌-◌, ◌<◌, ◌≤◌, Bool, true, false, cond, eqb, List, [], ◌∷◌, ◌++◌, Option, None, Some, length, take, drop}
+use Rattle.std.proofs.Common.{get_or, arith, ap, sym, ◌∙◌, refl, subst, append_assoc, append-nil, length-append, IfSome, drop-cons, add-one, inl, inr}
 use Rattle.std.specs.Prelude.{◌==◌}
 use Rattle.std.specs.List.{onto_first, position_or_len}
 use Rattle.std.specs.Io.KnownBytes.{prepend_known, IsAtEnd}
 use Rattle.std.specs.Io.BufRead.{ends_with_byte, strip_last}
 use Rattle.std.proofs.lemmas.Bool.Decides.{nat_tests}
-use Rattle.std.proofs.lemmas.List.{take-append-le, take-append-drop, length-take-le, take_at, take_rest, get_or_at, get_or_append_left, get_or-drop, get_or-take, get_or_default, length-drop, length-take, take_more}
+use Rattle.std.proofs.lemmas.List.{take-append-le, take-append-drop, length-take-le, take_at, take_rest, get_or_at, get_or_append_left, get_or-drop}
+use Rattle.std.proofs.lemmas.List.{get_or-take, get_or_default, length-drop, length-take, take_more}
 use Rattle.std.proofs.lemmas.List.Elements.{Contains-append_left}
 use Rattle.std.proofs.lemmas.List.Sums.{fails_before_first, passes_at_first}
 use Rattle.std.proofs.lemmas.Bool.{cases_lt, false≢true, eqb-true}
@@ -74,7 +76,8 @@ begins_at front tail line none within stripped =
     let piece : take (length front + 1) (front ++ 10 ∷ tail) ≡ front ++ 10 ∷ [] = take-append-add front (10 ∷ tail) 1 in
     let rest : drop (length front + 1) (front ++ 10 ∷ tail) ≡ tail = drop-append-add front (10 ∷ tail) 1 in
     record {
-      pieces = pieces_of-append front tail none ∙ ap (λ p. p ∷ pieces_of tail) (sym piece) ∙ ap (λ t. take (length front + 1) (front ++ 10 ∷ tail) ∷ pieces_of t) (sym rest);
+      pieces = pieces_of-append front tail none ∙ ap (λ p. p ∷ pieces_of tail) (sym piece)
+          ∙ ap (λ t. take (length front + 1) (front ++ 10 ∷ tail) ∷ pieces_of t) (sym rest);
       content = ap line_of piece ∙ line_of-push front ∙ sym stripped ∙ sym (take-append-le line front (10 ∷ tail) within);
     }
 
@@ -95,16 +98,20 @@ one_line_last : (bytes : List ℕ) → NoLineFeed bytes → 0 < length bytes →
 one_line_last [] none some = absurd (omega arith)
 one_line_last (x ∷ bytes) none some =
     let all = x ∷ bytes in
-    subst (λ piece. IsOneLine piece (length all)) (sym (take-length all)) (record { pieces = pieces_of-last x bytes none; content = line_of-last all none ∙ sym (take-length all) })
+    subst (λ piece. IsOneLine piece (length all)) (sym (take-length all))
+    (record { pieces = pieces_of-last x bytes none; content = line_of-last all none ∙ sym (take-length all) })
 
-pub found_one_last : (found : Front) (unread : List ℕ) (size : ℕ) → (size ≡ 0 → found ≡ End) → (0 < size → found ≡ Line size size) → size ≡ length unread → NoLineFeed unread
+pub found_one_last : (found : Front) (unread : List ℕ) (size : ℕ) → (size ≡ 0 → found ≡ End) → (0 < size → found ≡ Line size size) → size ≡ length unread
+    → NoLineFeed unread
     → FoundOne found unread
 found_one_last found unread size is_end is_line whole none = elim (cases_lt 0 size) [
-  | inl some ↦ subst (λ f. FoundOne f unread) (sym (is_line some)) (subst (λ n. FoundOne (Line n n) unread) (sym whole) (one_line_last unread none (omega arith)))
+  | inl some ↦ subst (λ f. FoundOne f unread) (sym (is_line some))
+      (subst (λ n. FoundOne (Line n n) unread) (sym whole) (one_line_last unread none (omega arith)))
   | inr nothing ↦ subst (λ f. FoundOne f unread) (sym (is_end (omega arith))) tt
 ]
 
-pub whole_line_at : (unread : List ℕ) (place : ℕ) → place < length unread → ((k : ℕ) → k < place → get_or unread k 0 ≢ 10) → get_or unread place 0 ≡ 10 → IsWholeLine (take (place + 1) unread)
+pub whole_line_at : (unread : List ℕ) (place : ℕ) → place < length unread → ((k : ℕ) → k < place → get_or unread k 0 ≢ 10) → get_or unread place 0 ≡ 10
+    → IsWholeLine (take (place + 1) unread)
 whole_line_at unread place inside none here =
     let size = length-take-le place unread (omega arith) in
     record {
@@ -114,7 +121,8 @@ whole_line_at unread place inside none here =
     }
 
 -- nothing changes at the front where more comes behind it
-pub none_more : (bytes more both : List ℕ) (place : ℕ) → both ≡ bytes ++ more → place ≤ length bytes → ((k : ℕ) → k < place → get_or bytes k 0 ≢ 10) → (k : ℕ) → k < place → get_or both k 0 ≢ 10
+pub none_more : (bytes more both : List ℕ) (place : ℕ) → both ≡ bytes ++ more → place ≤ length bytes → ((k : ℕ) → k < place → get_or bytes k 0 ≢ 10) → (k : ℕ)
+    → k < place → get_or both k 0 ≢ 10
 none_more bytes more both place joined within none k below is =
     none k below (sym (get_or_append_left bytes more 0 k (omega arith)) ∙ ap (λ l. get_or l k 0) (sym joined) ∙ is)
 
@@ -123,7 +131,8 @@ pub no_whole_line : (bytes : List ℕ) → NoLineFeed bytes → ¬ HasWholeLine 
 no_whole_line bytes none has = none has.0 has.1 (sym (get_or_default bytes has.0 10 0 has.1) ∙ has.2)
 
 -- nor in the front of what was searched
-pub no_whole_front : (front more bytes : List ℕ) (place : ℕ) → front ++ more ≡ bytes → length bytes ≤ place → ((k : ℕ) → k < place → get_or bytes k 0 ≢ 10) → ¬ HasWholeLine front
+pub no_whole_front : (front more bytes : List ℕ) (place : ℕ) → front ++ more ≡ bytes → length bytes ≤ place → ((k : ℕ) → k < place → get_or bytes k 0 ≢ 10)
+    → ¬ HasWholeLine front
 no_whole_front front more bytes place joined past none has =
     no_whole_line bytes (λ k below. none k (omega arith)) (subst HasWholeLine joined (Contains-append_left front more 10 has))
 
@@ -141,11 +150,13 @@ pub begins_found : (before left : Option (List ℕ)) (unread : List ℕ) (line s
 begins_found before None unread line size known begins = subst (λ b. IfSome b (λ bytes. BeginsWithLine bytes line size)) (sym known) tt
 begins_found before (Some rest) unread line size known begins = subst (λ b. IfSome b (λ bytes. BeginsWithLine bytes line size)) (sym known) (begins rest)
 
-pub begins_found_last : (before left : Option (List ℕ)) (unread : List ℕ) → before ≡ prepend_known unread left → IsAtEnd left → NoLineFeed unread → 0 < length unread
+pub begins_found_last : (before left : Option (List ℕ)) (unread : List ℕ) → before ≡ prepend_known unread left → IsAtEnd left → NoLineFeed unread
+    → 0 < length unread
     → IfSome before (λ bytes. BeginsWithLine bytes (length unread) (length unread))
 begins_found_last before None unread known end none some = subst (λ b. IfSome b (λ bytes. BeginsWithLine bytes (length unread) (length unread))) (sym known) tt
 begins_found_last before (Some rest) unread known end none some =
-    subst (λ b. IfSome b (λ bytes. BeginsWithLine bytes (length unread) (length unread))) (sym (known ∙ ap (λ r. Some (unread ++ r)) end ∙ ap Some (append-nil unread))) (begins_last unread none some)
+    subst (λ b. IfSome b (λ bytes. BeginsWithLine bytes (length unread) (length unread)))
+    (sym (known ∙ ap (λ r. Some (unread ++ r)) end ∙ ap Some (append-nil unread))) (begins_last unread none some)
 
 -- a search from a place on, where there was no LF before
 abbrev rest_from : List ℕ → ℕ → List ℕ
@@ -156,7 +167,10 @@ same_byte bytes from k = ap (λ l. get_or l k 0) (take_rest bytes from) ∙ get_
 
 pub none_until : (bytes : List ℕ) (from place : ℕ) → ((k : ℕ) → k < from → get_or bytes k 0 ≢ 10)
     → place ≡ position_or_len (λ b. b == 10) (rest_from bytes from) → (k : ℕ) → k < from + place → get_or bytes k 0 ≢ 10
-none_until bytes from place none found k below is = elim (cases_lt k from) [ inl before ↦ none k before is | inr after ↦ false≢true (sym (differs after) ∙ same after) ]
+none_until bytes from place none found k below is = elim (cases_lt k from) [
+  | inl before ↦ none k before is
+  | inr after ↦ false≢true (sym (differs after) ∙ same after)
+]
   where
     differs : from ≤ k → (get_or (rest_from bytes from) (k - from) 0 == 10) ≡ false
     differs after = fails_before_first (λ b. b == 10) (rest_from bytes from) (k - from) 0 (omega arith)
@@ -166,30 +180,39 @@ none_until bytes from place none found k below is = elim (cases_lt k from) [ inl
         let place_is : from + (k - from) ≡ k = omega arith in
         ap (λ b. b == 10) (same_byte bytes from (k - from) ∙ ap (λ i. get_or bytes i 0) place_is ∙ is)
 
-pub found_at : (bytes : List ℕ) (from place : ℕ) → place ≡ position_or_len (λ b. b == 10) (rest_from bytes from) → from + place < length bytes → get_or bytes (from + place) 0 ≡ 10
+pub found_at : (bytes : List ℕ) (from place : ℕ) → place ≡ position_or_len (λ b. b == 10) (rest_from bytes from) → from + place < length bytes
+    → get_or bytes (from + place) 0 ≡ 10
 found_at bytes from place found inside =
     let size = ap length (take_rest bytes from) ∙ length-drop from bytes in
     let passes = passes_at_first (λ b. b == 10) (rest_from bytes from) 0 (omega arith) in
     let here = ap (λ i. get_or (rest_from bytes from) i 0 == 10) found ∙ passes in
     sym (same_byte bytes from place) ∙ eqb-true _ 10 here
 
-pub begins_in_window : (unread rest : List ℕ) (place line : ℕ) → place < length unread → ((k : ℕ) → k < place → get_or unread k 0 ≢ 10) → get_or unread place 0 ≡ 10
+pub begins_in_window : (unread rest : List ℕ) (place line : ℕ) → place < length unread → ((k : ℕ) → k < place → get_or unread k 0 ≢ 10)
+    → get_or unread place 0 ≡ 10
     → take line (take place unread) ≡ strip_last 13 (take place unread) → line ≤ place → BeginsWithLine (unread ++ rest) line (place + 1)
 begins_in_window unread rest place line inside none here stripped within =
     let front = take place unread in
     let tail = drop (place + 1) unread ++ rest in
     let size = length-take-le place unread (omega arith) in
     let split : unread ++ rest ≡ front ++ 10 ∷ tail =
-    ap (λ l. l ++ rest) (sym (take-append-drop place unread) ∙ ap (λ l. front ++ l) (drop-cons unread place 0 inside ∙ ap (λ b. b ∷ drop (suc place) unread) here ∙ ap (λ n. 10 ∷ drop n unread) (sym (add-one place))))
+    ap (λ l. l ++ rest)
+    (sym (take-append-drop place unread)
+    ∙ ap (λ l. front ++ l) (drop-cons unread place 0 inside ∙ ap (λ b. b ∷ drop (suc place) unread) here
+    ∙ ap (λ n. 10 ∷ drop n unread) (sym (add-one place))))
     ∙ append_assoc front (10 ∷ drop (place + 1) unread) rest in
     let none_in_front : NoLineFeed front = λ k below is. none k (omega arith) (sym (get_or-take place unread k 0 (omega arith)) ∙ is) in
     subst (λ l. BeginsWithLine l line (place + 1)) (sym split)
     (subst (λ n. BeginsWithLine (front ++ 10 ∷ tail) line (n + 1)) size (begins_at front tail line none_in_front (omega arith) stripped))
 
 -- the end of the input: nothing, or a last line
-pub found_last : (found : Front) (before left : Option (List ℕ)) (unread : List ℕ) (size quota : ℕ) → (size ≡ 0 → found ≡ End) → (0 < size → found ≡ Line size size)
+pub found_last : (found : Front) (before left : Option (List ℕ)) (unread : List ℕ) (size quota : ℕ) → (size ≡ 0 → found ≡ End)
+    → (0 < size → found ≡ Line size size)
     → size ≡ length unread → before ≡ prepend_known unread left → IsAtEnd left → NoLineFeed unread → FoundIn found before unread left quota
-found_last found before left unread size quota is_end is_line whole known end none = elim (cases_lt 0 size) [ inl some ↦ with_line some | inr nothing ↦ without nothing ]
+found_last found before left unread size quota is_end is_line whole known end none = elim (cases_lt 0 size) [
+  | inl some ↦ with_line some
+  | inr nothing ↦ without nothing
+]
   where
     with_line : 0 < size → FoundIn found before unread left quota
     with_line some =
@@ -201,16 +224,22 @@ found_last found before left unread size quota is_end is_line whole known end no
     without nothing = subst (λ f. FoundIn f before unread left quota) (sym (is_end (omega arith))) (known, empty_list unread (omega arith), end)
 
 -- the first piece of what goes on behind bytes without an LF
-pub pieces_of-front : (front : List ℕ) (b : ℕ) (bytes : List ℕ) → NoLineFeed front → (piece : List ℕ) × (pieces : List (List ℕ)) × (pieces_of (front ++ b ∷ bytes) ≡ (front ++ b ∷ piece) ∷ pieces)
+pub pieces_of-front : (front : List ℕ) (b : ℕ) (bytes : List ℕ) → NoLineFeed front → (piece : List ℕ) × (pieces : List (List ℕ))
+    × (pieces_of (front ++ b ∷ bytes) ≡ (front ++ b ∷ piece) ∷ pieces)
 pieces_of-front [] b bytes none = first_of (eqb b 10) (pieces_of bytes)
   where
-    first_of : (ends : Bool) (later : List (List ℕ)) → (piece : List ℕ) × (pieces : List (List ℕ)) × (cond ends ((b ∷ []) ∷ later) (onto_first b later) ≡ (b ∷ piece) ∷ pieces)
+    first_of : (ends : Bool) (later : List (List ℕ)) → (piece : List ℕ) × (pieces : List (List ℕ))
+        × (cond ends ((b ∷ []) ∷ later) (onto_first b later) ≡ (b ∷ piece) ∷ pieces)
     first_of true later = ([], later, refl)
     first_of false [] = ([], [], refl)
     first_of false (piece ∷ pieces) = (piece, pieces, refl)
 pieces_of-front (x ∷ front) b bytes none =
-    let later = pieces_of-front front b bytes (no_line_feed-tail x front none) in
-    (later.0, later.1, ap (λ e. cond e ((x ∷ []) ∷ pieces_of (front ++ b ∷ bytes)) (onto_first x (pieces_of (front ++ b ∷ bytes)))) (not_equal x 10 (none 0 (omega arith))) ∙ ap (onto_first x) later.2)
+    let later = pieces_of-front front b bytes (no_line_feed-tail x front none) in (
+      later.0,
+      later.1,
+      ap (λ e. cond e ((x ∷ []) ∷ pieces_of (front ++ b ∷ bytes)) (onto_first x (pieces_of (front ++ b ∷ bytes))))
+          (not_equal x 10 (none 0 (omega arith))) ∙ ap (onto_first x) later.2,
+    )
 
 length-strip_last : (b : ℕ) (xs : List ℕ) → length xs ≤ length (strip_last b xs) + 1
 length-strip_last b xs = by_case (ends_with_byte b xs)

@@ -15,4 +15,5 @@ place_found byte bytes at inside before here =
 pub place_missing : (byte : ℕ) (bytes : List ℕ) → ((k : ℕ) → 0 ≤ k → k < length bytes → (get_or bytes k 0 == byte) ≡ true → ⊥)
     → length bytes ≡ position_or_len (λ b. b == byte) bytes
 place_missing byte bytes none =
-    sym (position_or_len_is (λ b. b == byte) bytes (length bytes) 0 (omega arith) (λ k below. false-not_true _ (none k (omega arith) below)) (λ below. absurd (omega arith)))
+    sym (position_or_len_is (λ b. b == byte) bytes (length bytes) 0 (omega arith) (λ k below. false-not_true _ (none k (omega arith) below))
+    (λ below. absurd (omega arith)))

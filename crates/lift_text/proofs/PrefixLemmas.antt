@@ -1,5 +1,6 @@
 -- The lines in the front of a text, and what a bad line's answer says of all bytes that were taken.
-use Rattle.std.proofs.Common.{◌≡◌, ℕ, zero, suc, ◌+◌, ◌-◌, ◌<◌, Bool, true, false, cond, eqb, List, [], ◌∷◌, ◌++◌, Option, None, Some, length, take, drop, get_or, arith, ap, sym, ◌∙◌, refl, subst, append_assoc, length-append, take-append-drop}
+use Rattle.std.proofs.Common.{◌≡◌, ℕ, zero, suc, ◌+◌, ◌-◌, ◌<◌, Bool, true, false, cond, eqb, List, [], ◌∷◌, ◌++◌, Option, None, Some, length, take, drop}
+use Rattle.std.proofs.Common.{get_or, arith, ap, sym, ◌∙◌, refl, subst, append_assoc, length-append, take-append-drop}
 use Rattle.std.specs.List.{onto_first}
 use Rattle.std.specs.Io.KnownBytes.{prepend_known}
 use Rattle.std.proofs.Math.Seq.{take-add}
@@ -26,7 +27,8 @@ first_cut m piece pieces =
     ap (λ k. take k piece) none
 
 -- one byte more in front of the first of the pieces
-onto_first-cut : (b m n : ℕ) (short whole : List (List ℕ)) → ((k : ℕ) → get_or short k [] ≡ cut_piece m k whole) → get_or (onto_first b short) n [] ≡ cut_piece (suc m) n (onto_first b whole)
+onto_first-cut : (b m n : ℕ) (short whole : List (List ℕ)) → ((k : ℕ) → get_or short k [] ≡ cut_piece m k whole)
+    → get_or (onto_first b short) n [] ≡ cut_piece (suc m) n (onto_first b whole)
 onto_first-cut b m zero [] [] same = ap (λ l. b ∷ l) (sym (take-nil m)) ∙ first_cut (suc m) (b ∷ []) []
 onto_first-cut b m zero [] (q ∷ whole) same = ap (λ l. b ∷ l) (same 0 ∙ sym (first_cut m q whole)) ∙ first_cut (suc m) (b ∷ q) whole
 onto_first-cut b m zero (p ∷ short) [] same = ap (λ l. b ∷ l) (same 0 ∙ take-nil (m - 0) ∙ sym (take-nil m)) ∙ first_cut (suc m) (b ∷ []) []
@@ -60,13 +62,16 @@ pieces_of-take (b ∷ bytes) zero n =
 pieces_of-take (b ∷ bytes) (suc m) n = one_more (eqb b 10) b m n (pieces_of (take m bytes)) (pieces_of bytes) (λ k. pieces_of-take bytes m k)
 
 -- the same line in the front of a text and in the front of what is left of it
-pub same_piece : (all unread rest taken : List ℕ) (before : List ℕ) (line k : ℕ) → all ≡ before ++ (taken ++ rest) → pieces_of (unread ++ (taken ++ rest)) ≡ drop line (pieces_of all)
+pub same_piece : (all unread rest taken : List ℕ) (before : List ℕ) (line k : ℕ) → all ≡ before ++ (taken ++ rest)
+    → pieces_of (unread ++ (taken ++ rest)) ≡ drop line (pieces_of all)
     → get_or (pieces_of (before ++ taken)) (line + k) [] ≡ get_or (pieces_of (unread ++ taken)) k []
 same_piece all unread rest taken before line k whole passed =
     let bytes = unread ++ (taken ++ rest) in
     let lines = pieces_of all in
-    let front : take (length (before ++ taken)) all ≡ before ++ taken = ap (take (length (before ++ taken))) (whole ∙ sym (append_assoc before taken rest)) ∙ take_at (before ++ taken) rest _ refl in
-    let later : take (length (unread ++ taken)) bytes ≡ unread ++ taken = ap (take (length (unread ++ taken))) (sym (append_assoc unread taken rest)) ∙ take_at (unread ++ taken) rest _ refl in
+    let front : take (length (before ++ taken)) all ≡ before ++ taken = ap (take (length (before ++ taken))) (whole ∙ sym (append_assoc before taken rest))
+    ∙ take_at (before ++ taken) rest _ refl in
+    let later : take (length (unread ++ taken)) bytes ≡ unread ++ taken = ap (take (length (unread ++ taken))) (sym (append_assoc unread taken rest))
+    ∙ take_at (unread ++ taken) rest _ refl in
     let split = ap size_of (take-append-drop line lines) in
     let count : length (before ++ taken) - size_of (take (line + k) lines) ≡ length (unread ++ taken) - size_of (take k (pieces_of bytes)) = omega (
       arith,
@@ -91,9 +96,11 @@ same_piece all unread rest taken before line k whole passed =
 
 -- of a whole text of which a front was taken by the calls before, and more by the last: the bad line's end shows
 -- in all that was taken
-pub bad_line_shows_in_all : (all before unread taken : List ℕ) (left left' : Option (List ℕ)) (text : TextState) (number : ℕ) → Some all ≡ prepend_known before left → left ≡ prepend_known taken left'
+pub bad_line_shows_in_all : (all before unread taken : List ℕ) (left left' : Option (List ℕ)) (text : TextState) (number : ℕ)
+    → Some all ≡ prepend_known before left → left ≡ prepend_known taken left'
     → Some text.bytes ≡ prepend_known unread left → Passed (whole_text all) text → text.line < number
-    → EndShows (get_or (pieces_of (unread ++ taken)) (number - (text.line + 1)) []) left' → EndShows (get_or (pieces_of (before ++ taken)) (number - 1) []) left'
+    → EndShows (get_or (pieces_of (unread ++ taken)) (number - (text.line + 1)) []) left'
+    → EndShows (get_or (pieces_of (before ++ taken)) (number - 1) []) left'
 bad_line_shows_in_all all before unread taken left None text number given more known passed later shows =
     let none : Some all ≡ None = given ∙ ap (prepend_known before) more in
     absurd cc

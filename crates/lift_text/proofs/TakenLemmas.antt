@@ -9,7 +9,8 @@ pub took_nothing : (quota : ℕ) (left : Option (List ℕ)) → Took 0 quota quo
 took_nothing quota left = record { given = prepend_known-nil left; counted = omega arith; spent = λ past. absurd (omega arith) }
 
 -- what was taken at first, and then more
-pub took_more : (past before mid after : ℕ) (taken more : List ℕ) (left left' left'' : Option (List ℕ)) → Took 0 before mid taken left left' → Took past mid after more left' left''
+pub took_more : (past before mid after : ℕ) (taken more : List ℕ) (left left' left'' : Option (List ℕ)) → Took 0 before mid taken left left'
+    → Took past mid after more left' left''
     → Took past before after (taken ++ more) left left''
 took_more past before mid after taken more left left' left'' first second = record {
   given = given_more left left' left'' taken more first.given second.given;
@@ -18,7 +19,8 @@ took_more past before mid after taken more left left' left'' first second = reco
 }
 
 -- when nothing of the quota was left, one byte more was taken
-pub took_last : (quota quota' b : ℕ) (taken : List ℕ) (left left' left'' : Option (List ℕ)) → left ≡ prepend_known taken left' → left' ≡ prepend_known (b ∷ []) left''
+pub took_last : (quota quota' b : ℕ) (taken : List ℕ) (left left' left'' : Option (List ℕ)) → left ≡ prepend_known taken left'
+    → left' ≡ prepend_known (b ∷ []) left''
     → quota' + length taken ≡ quota → quota' ≡ 0 → Took 1 quota quota' (taken ++ b ∷ []) left left''
 took_last quota quota' b taken left left' left'' given more count none = record {
   given = given_more left left' left'' taken (b ∷ []) given more;
@@ -27,7 +29,8 @@ took_last quota quota' b taken left left' left'' given more count none = record 
 }
 
 -- at the end of the quota one byte more was taken
-pub gathered_cut : (quota quota' b : ℕ) (held held' taken : List ℕ) (left left' left'' : Option (List ℕ)) → left ≡ prepend_known taken left' → left' ≡ prepend_known (b ∷ []) left''
+pub gathered_cut : (quota quota' b : ℕ) (held held' taken : List ℕ) (left left' left'' : Option (List ℕ)) → left ≡ prepend_known taken left'
+    → left' ≡ prepend_known (b ∷ []) left''
     → held ++ taken ≡ held' → quota' + length held' ≡ quota + length held → quota' ≡ 0 → Gathered 1 quota quota' held held' (taken ++ b ∷ []) left left''
 gathered_cut quota quota' b held held' taken left left' left'' given more same count none = record {
   took = took_last quota quota' b taken left left' left'' given more (omega (arith, ap length same, length-append held taken)) none;

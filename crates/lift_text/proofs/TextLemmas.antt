@@ -1,5 +1,6 @@
 -- What stands of a text where writing it ended early.
-use Rattle.std.proofs.Common.{◌≡◌, ℕ, ◌+◌, ◌<◌, List, [], ◌∷◌, ◌++◌, length, take, drop, get_or, arith, ap, sym, subst, ◌∙◌, append_assoc, append-nil, length-append}
+use Rattle.std.proofs.Common.{◌≡◌, ℕ, ◌+◌, ◌<◌, List, [], ◌∷◌, ◌++◌, length, take, drop, get_or, arith, ap, sym, subst, ◌∙◌, append_assoc, append-nil}
+use Rattle.std.proofs.Common.{length-append}
 use Rattle.std.proofs.Math.Seq.{take-append-add}
 use Rattle.std.specs.List.{flat_map}
 use Rattle.std.proofs.lemmas.List.{take-append-drop, take-append-le, take_all, take_more}
@@ -43,8 +44,12 @@ begins_words old mid new name numbers i inside written begun =
     let rest = flat_map word (drop (i + 1) numbers) in
     let front = flat_map word (take i numbers) in
     let split : numbers ≡ take (i + 1) numbers ++ drop (i + 1) numbers = sym (take-append-drop (i + 1) numbers) in
-    let more : flat_map word (take (i + 1) numbers) ≡ front ++ next = ap (flat_map word) (take_more numbers i 0 inside) ∙ flat_map-append word (take i numbers) (get_or numbers i 0 ∷ []) ∙ ap (λ l. front ++ l) (append-nil next) in
+    let more : flat_map word (take (i + 1) numbers) ≡ front ++ next = ap (flat_map word) (take_more numbers i 0 inside)
+    ∙ flat_map-append word (take i numbers) (get_or numbers i 0 ∷ []) ∙ ap (λ l. front ++ l) (append-nil next) in
     let whole : name ++ flat_map word numbers ≡ (name ++ front) ++ (next ++ rest) =
-    ap (λ l. name ++ l) (ap (flat_map word) split ∙ flat_map-append word (take (i + 1) numbers) (drop (i + 1) numbers) ∙ ap (λ l. l ++ rest) more ∙ append_assoc front next rest)
+    ap (λ l. name ++ l)
+    (ap (flat_map word) split ∙ flat_map-append word (take (i + 1) numbers) (drop (i + 1) numbers) ∙ ap (λ l. l ++ rest) more
+    ∙ append_assoc front next rest)
     ∙ sym (append_assoc name front (next ++ rest)) in
-    subst (λ text. BeginsAfter old new text) (sym whole) (begins_behind old mid new (name ++ front) (next ++ rest) written (begins_first mid new next rest begun))
+    subst (λ text. BeginsAfter old new text) (sym whole)
+    (begins_behind old mid new (name ++ front) (next ++ rest) written (begins_first mid new next rest begun))

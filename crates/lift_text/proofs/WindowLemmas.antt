@@ -15,7 +15,8 @@ pub slice_range-written : (items into post rest : List ℕ) (start end count len
 slice_range-written items into post rest start end count len ordered inside part fits =
     let whole = take len (take end items ++ (into ++ post) ++ rest) in
     let regrouped = append_assoc (take end items) (into ++ post) rest ∙ ap (λ l. take end items ++ l) (append_assoc into post rest) in
-    let front = take-take (end + count) len (take end items ++ (into ++ post) ++ rest) fits ∙ ap (take (end + count)) regrouped ∙ take-overwritten end count items into (post ++ rest) inside part in
+    let front = take-take (end + count) len (take end items ++ (into ++ post) ++ rest) fits ∙ ap (take (end + count)) regrouped
+    ∙ take-overwritten end count items into (post ++ rest) inside part in
     let whole_front = length-take-le end items inside in
     between_is whole start (end + count) ∙ ap (drop start) front ∙ drop-append-le start (take end items) (take count into) (omega arith)
     ∙ ap (λ l. l ++ take count into) (sym (between_is items start end))

@@ -1,5 +1,6 @@
 -- The words of a line, found from the front.
-use Rattle.std.proofs.Common.{◌≡◌, ℕ, suc, not, ◌==◌, ◌+◌, ◌-◌, ◌<◌, ◌≤◌, Bool, true, false, cond, List, [], ◌∷◌, ◌++◌, length, take, drop, get_or, arith, ap, sym, ◌∙◌, refl, subst, drop-cons, add-one, ◌⊎◌, inl, inr, append_assoc, append-nil}
+use Rattle.std.proofs.Common.{◌≡◌, ℕ, suc, not, ◌==◌, ◌+◌, ◌-◌, ◌<◌, ◌≤◌, Bool, true, false, cond, List, [], ◌∷◌, ◌++◌, length, take, drop, get_or, arith, ap}
+use Rattle.std.proofs.Common.{sym, ◌∙◌, refl, subst, drop-cons, add-one, ◌⊎◌, inl, inr, append_assoc, append-nil}
 use Rattle.std.specs.Prelude.{All, filter, nat_lt, slice_range}
 use Rattle.std.proofs.lemmas.List.{take-append-drop, drop-drop, take_rest, take-take, get_or_default, map-append, length-map}
 use Rattle.std.proofs.lemmas.Slice.{between_is}
@@ -15,7 +16,8 @@ use Rattle.lift_text.specs.Words.{part_of, parts_of, word_span}
 abbrev pub NoBlank : List ℕ → ℕ → ℕ → Type 0
 NoBlank text start end = (k : ℕ) → start ≤ k → k < end → is_blank (get_or text k 0) ≡ false
 
-no_blank_part : (text : List ℕ) (start end : ℕ) → start ≤ end → end ≤ length text → NoBlank text start end → All (λ b. is_blank b ≡ false) (slice_range text start end)
+no_blank_part : (text : List ℕ) (start end : ℕ) → start ≤ end → end ≤ length text → NoBlank text start end
+    → All (λ b. is_blank b ≡ false) (slice_range text start end)
 no_blank_part text start end ordered inside none k d below =
     let size = length-between text start end inside in
     let in_text : start + k < length text = omega arith in
@@ -26,7 +28,8 @@ drop_at : (text : List ℕ) (start i : ℕ) → start ≤ i → i < length text 
 drop_at text start i ordered inside =
     let place : start + (i - start) ≡ i = omega arith in
     sym (take-append-drop (i - start) (drop start text))
-    ∙ ap (λ rest. slice_range text start i ++ rest) (drop-drop (i - start) start text ∙ ap (λ n. drop n text) place ∙ drop-cons text i 0 inside ∙ ap (λ n. get_or text i 0 ∷ drop n text) (sym (add-one i)))
+    ∙ ap (λ rest. slice_range text start i ++ rest)
+    (drop-drop (i - start) start text ∙ ap (λ n. drop n text) place ∙ drop-cons text i 0 inside ∙ ap (λ n. get_or text i 0 ∷ drop n text) (sym (add-one i)))
 
 words_in_first : (part : List ℕ) (b : ℕ) (rest : List ℕ) → All (λ x. is_blank x ≡ false) part → is_blank b ≡ true
     → words_in (part ++ b ∷ rest) ≡ cond (nat_lt 0 (length part)) (part ∷ words_in rest) (words_in rest)
@@ -40,7 +43,8 @@ parts_of-word : (text : List ℕ) (start end : ℕ) (rest : List (List ℕ)) →
     → cond (nat_lt 0 (length (slice_range text start end))) (slice_range text start end ∷ rest) rest ≡ parts_of text (word_span start end) ++ rest
 parts_of-word text start end rest ordered inside = by_case (cases_lt start end)
   where
-    by_case : (start < end) ⊎ (end ≤ start) → cond (nat_lt 0 (length (slice_range text start end))) (slice_range text start end ∷ rest) rest ≡ parts_of text (word_span start end) ++ rest
+    by_case : (start < end) ⊎ (end ≤ start)
+        → cond (nat_lt 0 (length (slice_range text start end))) (slice_range text start end ∷ rest) rest ≡ parts_of text (word_span start end) ++ rest
     by_case (inl below) = grind (arith, nat_tests, length-between text start end inside)
     by_case (inr none) = grind (arith, nat_tests, length-between text start end inside)
 
@@ -64,7 +68,8 @@ pub parts_of-append : (text : List ℕ) (xs ys : List Span) → parts_of text (x
 parts_of-append text xs ys = map-append (part_of text) xs ys
 
 -- the words so far and those of the rest are all words, one blank on
-pub words_more : (text : List ℕ) (spans spans' : List Span) (start i : ℕ) → start ≤ i → i < length text → NoBlank text start i → is_blank (get_or text i 0) ≡ true
+pub words_more : (text : List ℕ) (spans spans' : List Span) (start i : ℕ) → start ≤ i → i < length text → NoBlank text start i
+    → is_blank (get_or text i 0) ≡ true
     → spans' ≡ spans ++ word_span start i → parts_of text spans ++ words_in (drop start text) ≡ words_in text
     → parts_of text spans' ++ words_in (drop (i + 1) text) ≡ words_in text
 words_more text spans spans' start i ordered inside none blank added before =
@@ -97,7 +102,10 @@ within_more size spans spans' start end ordered inside added before =
     (All-append (IsWithin size) spans (word_span start end) before (within_one size (nat_lt start end) (record { start = start; end = end }) (ordered, inside)))
 
 pub no_blank_more : (text : List ℕ) (start i : ℕ) → NoBlank text start i → is_blank (get_or text i 0) ≡ false → NoBlank text start (i + 1)
-no_blank_more text start i none here k low high = elim (cases_lt k i) [ inl below ↦ none k low below | inr above ↦ (let same : k ≡ i = omega arith in ap (λ n. is_blank (get_or text n 0)) same ∙ here) ]
+no_blank_more text start i none here k low high = elim (cases_lt k i) [
+  | inl below ↦ none k low below
+  | inr above ↦ (let same : k ≡ i = omega arith in ap (λ n. is_blank (get_or text n 0)) same ∙ here)
+]
 
 within_tail : (size : ℕ) (span : Span) (spans : List Span) → All (IsWithin size) (span ∷ spans) → All (IsWithin size) spans
 within_tail size span spans within = λ k d below. within (suc k) d (omega arith)
@@ -107,14 +115,17 @@ pub parts_of-take : (n : ℕ) (line : List ℕ) (spans : List Span) → All (IsW
 parts_of-take n line [] within = refl
 parts_of-take n line (span ∷ spans) within =
     let inside : span.end ≤ n = (within 0 span (omega arith)).1 in
-    let same = between_is (take n line) span.start span.end ∙ ap (drop span.start) (take-take span.end n line inside) ∙ sym (between_is line span.start span.end) in
-    ap (λ part. part ∷ parts_of (take n line) spans) same ∙ ap (λ parts. part_of line span ∷ parts) (parts_of-take n line spans (within_tail n span spans within))
+    let same = between_is (take n line) span.start span.end ∙ ap (drop span.start) (take-take span.end n line inside)
+    ∙ sym (between_is line span.start span.end) in
+    ap (λ part. part ∷ parts_of (take n line) spans) same
+    ∙ ap (λ parts. part_of line span ∷ parts) (parts_of-take n line spans (within_tail n span spans within))
 
 pub within_le : (size n : ℕ) (spans : List Span) → size ≤ n → All (IsWithin size) spans → All (IsWithin n) spans
 within_le size n spans le within = λ k d below. (let one = within k d below in (one.0, omega (arith, one.1)))
 
 -- a line has a word exactly where there is a span
-pub some_words : (text : List ℕ) (spans : List Span) (words : List (List ℕ)) (count : ℕ) (is_empty : Bool) → parts_of text spans ≡ words → count ≡ length spans → is_empty ≡ (count == 0)
+pub some_words : (text : List ℕ) (spans : List Span) (words : List (List ℕ)) (count : ℕ) (is_empty : Bool) → parts_of text spans ≡ words → count ≡ length spans
+    → is_empty ≡ (count == 0)
     → not is_empty ≡ nat_lt 0 (length words)
 some_words text spans words count is_empty same whole empty =
     let size = ap length (sym same) ∙ length-map spans (part_of text) in

@@ -1,5 +1,6 @@
 -- What is read of a text, line by line.
-use Rattle.std.specs.Prelude.{◌≡◌, ℕ, ◌+◌, ◌-◌, ◌≤◌, ◌<◌, Bool, true, false, nat_lt, List, [], ◌∷◌, ◌++◌, length, take, drop, All, slice_index_or, ◌⊎◌, IsTrue, Option, None, Some, IfSome, IsSomeAnd, Result, Ok, Err, if◌then◌else◌}
+use Rattle.std.specs.Prelude.{◌≡◌, ℕ, ◌+◌, ◌-◌, ◌≤◌, ◌<◌, Bool, true, false, nat_lt, List, [], ◌∷◌, ◌++◌, length, take, drop, All, slice_index_or, ◌⊎◌, IsTrue}
+use Rattle.std.specs.Prelude.{Option, None, Some, IfSome, IsSomeAnd, Result, Ok, Err, if◌then◌else◌}
 use Rattle.std.specs.List.{concat}
 use Rattle.std.specs.Io.KnownBytes.{IsAtEnd}
 use Rattle.std.specs.Io.BufRead.{ends_with_byte}
@@ -65,8 +66,10 @@ pub record Passed (before after : TextState) : Type 0 where
 -- what the next line with a word is, by the answer, the words and the number of lines after it
 abbrev pub NextLine : Option TextState → Result Bool TextFault → List (List ℕ) → ℕ → Option TextState → Type 0
 NextLine None answer words line after = Unit {0}
-NextLine (Some before) (Ok true) words line after = IsSomeAnd after (λ text. (reading before ≡ line_with line words (reading text)) × (text.line ≡ line) × Passed before text)
-NextLine (Some before) (Ok false) words line after = (reading before ≡ finished line) × IsSomeAnd after (λ text. (text.bytes ≡ []) × (text.line ≡ line) × Passed before text)
+NextLine (Some before) (Ok true) words line after =
+    IsSomeAnd after (λ text. (reading before ≡ line_with line words (reading text)) × (text.line ≡ line) × Passed before text)
+NextLine (Some before) (Ok false) words line after = (reading before ≡ finished line)
+    × IsSomeAnd after (λ text. (text.bytes ≡ []) × (text.line ≡ line) × Passed before text)
 NextLine (Some before) (Err (Bad number code)) words line after = (reading before ≡ bad_line number code) × (line ≡ number)
 NextLine (Some before) (Err TooLong) words line after = reading before ≡ past_limit
 NextLine (Some before) (Err Read) words line after = Unit {0}
@@ -76,13 +79,15 @@ NextLine (Some before) (Err NoMemory) words line after = ⊥
 abbrev pub NextRaw : Option TextState → Result RawLine TextFault → List ℕ → Option TextState → Type 0
 NextRaw None answer raw after = Unit {0}
 NextRaw (Some before) (Ok Line) raw after = IsSomeAnd after (λ text.
-    (piece : List ℕ) × (pieces_of before.bytes ≡ piece ∷ pieces_of text.bytes) × (length piece ≤ before.limit) × (line_of piece ≡ raw) × (length raw ≤ line_limit)
+    (piece : List ℕ) × (pieces_of before.bytes ≡ piece ∷ pieces_of text.bytes) × (length piece ≤ before.limit) × (line_of piece ≡ raw)
+    × (length raw ≤ line_limit)
     × (text.line ≡ before.line + 1) × Passed before text)
 NextRaw (Some before) (Ok Long) raw after = IsSomeAnd after (λ text.
     (piece : List ℕ) × (pieces_of before.bytes ≡ piece ∷ pieces_of text.bytes) × (length piece ≤ before.limit) × (line_limit < length (line_of piece))
     × (text.line ≡ before.line + 1) × Passed before text)
 NextRaw (Some before) (Ok End) raw after = (before.bytes ≡ []) × (after ≡ Some before)
-NextRaw (Some before) (Err TooLong) raw after = (piece : List ℕ) × (pieces : List (List ℕ)) × (pieces_of before.bytes ≡ piece ∷ pieces) × (before.limit < length piece)
+NextRaw (Some before) (Err TooLong) raw after = (piece : List ℕ) × (pieces : List (List ℕ)) × (pieces_of before.bytes ≡ piece ∷ pieces)
+    × (before.limit < length piece)
 NextRaw (Some before) (Err Read) raw after = Unit {0}
 NextRaw (Some before) (Err (Bad line code)) raw after = ⊥
 NextRaw (Some before) (Err NoMemory) raw after = ⊥

@@ -1,6 +1,7 @@
 -- What the words are taken as.
 use mathlib.Core.HLevel.{is_prop→PathP}
-use Rattle.std.proofs.Common.{◌≡◌, ◌≤◌, ◌^◌, ◌∙◌, ℕ, Bool, true, false, IsTrue, cond, List, drop, codes, Option, Some, None, slice_get, IfSome, subst, sym, ap, inl, inr, refl}
+use Rattle.std.proofs.Common.{◌≡◌, ◌≤◌, ◌^◌, ◌∙◌, ℕ, Bool, true, false, IsTrue, cond, List, drop, codes, Option, Some, None, slice_get, IfSome, subst, sym, ap}
+use Rattle.std.proofs.Common.{inl, inr, refl}
 use Rattle.std.specs.Coded.{le_prop}
 use Rattle.std.specs.Prelude.{◌↔◌}
 use Rattle.std.specs.Str.{bytes_eq}
@@ -10,7 +11,8 @@ use Rattle.clap.specs.Simple.{matches_of}
 use Rattle.clap.specs.Takes.{takes}
 use Rattle.lift_words.specs.Table.{app, command_of, word_of}
 use Rattle.option_words.specs.Given.{AreGiven}
-use Rattle.lift_words.specs.Taken.{AreTaken, Asks, AsksBy, AsksForBrief, AsksForCerts, AsksForDay, AsksForProgress, AsksForRoot, AsksForSearch, AsksForSizes, AsksToCheck, AsksToRun, AsksToSolve, IsSecond, command_asked}
+use Rattle.lift_words.specs.Taken.{AreTaken, Asks, AsksBy, AsksForBrief, AsksForCerts, AsksForDay, AsksForProgress, AsksForRoot, AsksForSearch, AsksForSizes}
+use Rattle.lift_words.specs.Taken.{AsksToCheck, AsksToRun, AsksToSolve, IsSecond, command_asked}
 use Rattle.lift_words.specs.declared.table.CommandWord.{CommandWord}
 use Rattle.lift_words.specs.declared.table.CommandWord.TheVariants as command
 use Rattle.lift_words.specs.declared.request.Request.{Request}
@@ -104,7 +106,8 @@ named_word word named is = by_solve (bytes_eq word (codes "solve")) refl is
     by_solve true e same = names command.Solve e same
     by_solve false e same = by_check (bytes_eq word (codes "check")) refl same
 
-pub known : (words : List Text) (word : Text) (found : Option CommandWord) → slice_get words 1 ≡ Some word → found ≡ command_of word → IfSome found (IsSecond words)
+pub known : (words : List Text) (word : Text) (found : Option CommandWord) → slice_get words 1 ≡ Some word → found ≡ command_of word
+    → IfSome found (IsSecond words)
 known words word None second is = tt
 known words word (Some named) second is = second ∙ ap Some (named_word word named (sym is))
 
@@ -358,5 +361,6 @@ module _ (words : List Text) (named : CommandWord) (second : IsSecond words name
   refused_by_options none request t = none (matches_of (app named) (drop 1 words)) (taken_given request t)
 
   -- nor where they ask for none
-  pub refused_by_rows : (rows : List Row) → AreGiven (app named) words rows → ((request : Request) → AsksBy named rows request → ⊥) → (request : Request) → AreTaken words request → ⊥
+  pub refused_by_rows : (rows : List Row) → AreGiven (app named) words rows → ((request : Request) → AsksBy named rows request → ⊥) → (request : Request)
+      → AreTaken words request → ⊥
   refused_by_rows rows given none request t = none request (taken_asks rows given request t)

@@ -46,7 +46,8 @@ two one other unlike r = by_places r.first r.second r.order r.within r.repeats
     by_places zero (suc (suc k)) order within same = absurd (omega arith)
     by_places (suc j) k order within same = absurd (omega arith)
 
-pub solve_by_defaults : AreTaken (codes "lift" ∷ codes "solve" ∷ codes "--brief" ∷ []) (Solve (record { limits = limits_of 2000 75000 (tt, tt) (tt, tt); workers = workers_of 1 (tt, tt); claims = 1000000000; brief = true; progress = false }))
+pub solve_by_defaults : AreTaken (codes "lift" ∷ codes "solve" ∷ codes "--brief" ∷ [])
+    (Solve (record { limits = limits_of 2000 75000 (tt, tt) (tt, tt); workers = workers_of 1 (tt, tt); claims = 1000000000; brief = true; progress = false }))
 unfolding clap_on_literals
 solve_by_defaults = record {
   command = refl;
@@ -74,7 +75,8 @@ make_with_four_floors = record {
     only (zero, lt, same) = absurd cc
     only (suc k, lt, same) = absurd (omega arith)
 
-pub run_with_five_rounds : AreTaken (codes "lift" ∷ codes "make" ∷ codes "--run" ∷ codes "--rounds=5" ∷ []) (Run (record { sizes = record { number = 1; floors = 12; cars = 4; calls = 20 }; limits = limits_of 5 75000 (tt, tt) (tt, tt) }))
+pub run_with_five_rounds : AreTaken (codes "lift" ∷ codes "make" ∷ codes "--run" ∷ codes "--rounds=5" ∷ [])
+    (Run (record { sizes = record { number = 1; floors = 12; cars = 4; calls = 20 }; limits = limits_of 5 75000 (tt, tt) (tt, tt) }))
 unfolding clap_on_literals
 run_with_five_rounds = record {
   command = refl;
@@ -92,14 +94,23 @@ run_with_five_rounds = record {
     only (suc zero, lt, same) = absurd cc
     only (suc (suc k), lt, same) = absurd (omega arith)
 
-pub solve_with_certificate : AreTaken (codes "lift" ∷ codes "solve" ∷ codes "--rounds=5" ∷ []) (Solve (record { limits = limits_of 5 75000 (tt, tt) (tt, tt); workers = workers_of 1 (tt, tt); claims = 1000000000; brief = false; progress = false }))
+pub solve_with_certificate : AreTaken (codes "lift" ∷ codes "solve" ∷ codes "--rounds=5" ∷ [])
+    (Solve (record { limits = limits_of 5 75000 (tt, tt) (tt, tt); workers = workers_of 1 (tt, tt); claims = 1000000000; brief = false; progress = false }))
 unfolding clap_on_literals
 solve_with_certificate = record {
   command = refl;
   unrepeated = alone (codes "--rounds=5");
   no_dashes = only;
   accepted = refl;
-  asks = record { brief = (λ e. absurd cc, λ e. absurd cc); progress = (λ e. absurd cc, λ e. absurd cc); rounds = refl; moves = refl; workers = refl; claims = refl };
+  asks = record {
+    brief = (λ e. absurd cc, λ e. absurd cc);
+    progress = (λ e. absurd cc, λ e. absurd cc);
+    rounds = refl;
+    moves = refl;
+    workers = refl;
+    claims =
+        refl;
+  };
 }
   where
     only : Contains (codes "--rounds=5" ∷ []) (codes "--") → ⊥
@@ -120,21 +131,35 @@ check_with_three = record {
     only (zero, lt, same) = absurd cc
     only (suc k, lt, same) = absurd (omega arith)
 
-pub day_of_five_rounds : AreTaken (codes "lift" ∷ codes "day" ∷ codes "--rounds=5" ∷ []) (Day (record { search = record { limits = limits_of 5 75000 (tt, tt) (tt, tt); workers = workers_of 1 (tt, tt) }; claims = 1000000000; certs = false; progress = false }))
+pub day_of_five_rounds : AreTaken (codes "lift" ∷ codes "day" ∷ codes "--rounds=5" ∷ [])
+    (Day (record {
+      search = record { limits = limits_of 5 75000 (tt, tt) (tt, tt); workers = workers_of 1 (tt, tt) };
+      claims = 1000000000;
+      certs =
+          false;
+      progress = false;
+    }))
 unfolding clap_on_literals
 day_of_five_rounds = record {
   command = refl;
   unrepeated = alone (codes "--rounds=5");
   no_dashes = only;
   accepted = refl;
-  asks = record { certs = (λ e. absurd cc, λ e. absurd cc); progress = (λ e. absurd cc, λ e. absurd cc); search = record { rounds = refl; moves = refl; workers = refl }; claims = refl };
+  asks = record {
+    certs = (λ e. absurd cc, λ e. absurd cc);
+    progress = (λ e. absurd cc, λ e. absurd cc);
+    search =
+        record { rounds = refl; moves = refl; workers = refl };
+    claims = refl;
+  };
 }
   where
     only : Contains (codes "--rounds=5" ∷ []) (codes "--") → ⊥
     only (zero, lt, same) = absurd cc
     only (suc k, lt, same) = absurd (omega arith)
 
-pub solve_with_progress : AreTaken (codes "lift" ∷ codes "solve" ∷ codes "--progress" ∷ []) (Solve (record { limits = limits_of 2000 75000 (tt, tt) (tt, tt); workers = workers_of 1 (tt, tt); claims = 1000000000; brief = false; progress = true }))
+pub solve_with_progress : AreTaken (codes "lift" ∷ codes "solve" ∷ codes "--progress" ∷ [])
+    (Solve (record { limits = limits_of 2000 75000 (tt, tt) (tt, tt); workers = workers_of 1 (tt, tt); claims = 1000000000; brief = false; progress = true }))
 unfolding clap_on_literals
 solve_with_progress = record {
   command = refl;
@@ -148,21 +173,35 @@ solve_with_progress = record {
     only (zero, lt, same) = absurd cc
     only (suc k, lt, same) = absurd (omega arith)
 
-pub day_with_certificates : AreTaken (codes "lift" ∷ codes "day" ∷ codes "--certs" ∷ []) (Day (record { search = record { limits = limits_of 2000 75000 (tt, tt) (tt, tt); workers = workers_of 1 (tt, tt) }; claims = 1000000000; certs = true; progress = false }))
+pub day_with_certificates : AreTaken (codes "lift" ∷ codes "day" ∷ codes "--certs" ∷ [])
+    (Day (record {
+      search = record { limits = limits_of 2000 75000 (tt, tt) (tt, tt); workers = workers_of 1 (tt, tt) };
+      claims = 1000000000;
+      certs =
+          true;
+      progress = false;
+    }))
 unfolding clap_on_literals
 day_with_certificates = record {
   command = refl;
   unrepeated = alone (codes "--certs");
   no_dashes = only;
   accepted = refl;
-  asks = record { certs = (λ _. refl, λ _. refl); progress = (λ e. absurd cc, λ e. absurd cc); search = record { rounds = refl; moves = refl; workers = refl }; claims = refl };
+  asks = record {
+    certs = (λ _. refl, λ _. refl);
+    progress = (λ e. absurd cc, λ e. absurd cc);
+    search =
+        record { rounds = refl; moves = refl; workers = refl };
+    claims = refl;
+  };
 }
   where
     only : Contains (codes "--certs" ∷ []) (codes "--") → ⊥
     only (zero, lt, same) = absurd cc
     only (suc k, lt, same) = absurd (omega arith)
 
-pub report_with_three : AreTaken (codes "lift" ∷ codes "report" ∷ codes "--workers=3" ∷ []) (Report (record { limits = limits_of 2000 75000 (tt, tt) (tt, tt); workers = workers_of 3 (tt, tt) }))
+pub report_with_three : AreTaken (codes "lift" ∷ codes "report" ∷ codes "--workers=3" ∷ [])
+    (Report (record { limits = limits_of 2000 75000 (tt, tt) (tt, tt); workers = workers_of 3 (tt, tt) }))
 unfolding clap_on_literals
 report_with_three = record {
   command = refl;
@@ -200,7 +239,8 @@ table_with_a_word (Banks options) t = let bytes : 116 ≡ 98 = ap first_byte t.c
 table_with_a_word (Root options) t = let other = t.command in absurd cc
 table_with_a_word (Audit options) t = let bytes : 116 ≡ 97 = ap first_byte t.command in absurd (omega (arith, bytes))
 
-pub whatif_of_five_moves : AreTaken (codes "lift" ∷ codes "whatif" ∷ codes "--moves=5" ∷ []) (WhatIf (record { limits = limits_of 2000 5 (tt, tt) (tt, tt); workers = workers_of 1 (tt, tt) }))
+pub whatif_of_five_moves : AreTaken (codes "lift" ∷ codes "whatif" ∷ codes "--moves=5" ∷ [])
+    (WhatIf (record { limits = limits_of 2000 5 (tt, tt) (tt, tt); workers = workers_of 1 (tt, tt) }))
 unfolding clap_on_literals
 whatif_of_five_moves = record {
   command = refl;
@@ -228,7 +268,8 @@ brief_whatif (Banks options) t = let other = t.command in absurd cc
 brief_whatif (Root options) t = let other = t.command in absurd cc
 brief_whatif (Audit options) t = let other = t.command in absurd cc
 
-pub banks_of_three_workers : AreTaken (codes "lift" ∷ codes "banks" ∷ codes "--workers=3" ∷ []) (Banks (record { limits = limits_of 2000 75000 (tt, tt) (tt, tt); workers = workers_of 3 (tt, tt) }))
+pub banks_of_three_workers : AreTaken (codes "lift" ∷ codes "banks" ∷ codes "--workers=3" ∷ [])
+    (Banks (record { limits = limits_of 2000 75000 (tt, tt) (tt, tt); workers = workers_of 3 (tt, tt) }))
 unfolding clap_on_literals
 banks_of_three_workers = record {
   command = refl;
@@ -369,7 +410,15 @@ run_with_value (Root options) t = let bytes : 109 ≡ 114 = ap first_byte t.comm
 run_with_value (Audit options) t = let other = t.command in absurd cc
 
 pub brief_twice : (request : Request) → AreTaken (codes "lift" ∷ codes "solve" ∷ codes "--brief" ∷ codes "--brief" ∷ []) request → ⊥
-brief_twice request t = t.unrepeated (record { first = 0; second = 1; order = lit< tt; within = lit< tt; repeats = record { first_option = refl; second_option = refl; same = refl } })
+brief_twice request t =
+    t.unrepeated (record {
+      first = 0;
+      second = 1;
+      order = lit< tt;
+      within = lit< tt;
+      repeats =
+          record { first_option = refl; second_option = refl; same = refl };
+    })
 
 pub dashes_alone : (request : Request) → AreTaken (codes "lift" ∷ codes "solve" ∷ codes "--brief" ∷ codes "--" ∷ []) request → ⊥
 dashes_alone request t = t.no_dashes (1, lit< tt, refl)

@@ -1,5 +1,6 @@
 -- The rows of a day in front of its log.
-use Rattle.std.specs.Prelude.{◌≡◌, ℕ, ◌+◌, ◌<◌, ◌≤◌, List, [], ◌∷◌, ◌++◌, length, map, codes, All, Option, None, Some, IfSome, IsSomeAnd, IsTrue, option_map, Result, Ok, Err}
+use Rattle.std.specs.Prelude.{◌≡◌, ℕ, ◌+◌, ◌<◌, ◌≤◌, List, [], ◌∷◌, ◌++◌, length, map, codes, All, Option, None, Some, IfSome, IsSomeAnd, IsTrue, option_map}
+use Rattle.std.specs.Prelude.{Result, Ok, Err}
 use Rattle.elevator_model.specs.Building.{Building}
 use Rattle.search_model.specs.Days.{Row, is_row}
 use Rattle.lift_text.specs.Lines.{pieces_of, line_of}

@@ -1,5 +1,6 @@
 -- The lines of a table of measured times: `times T0 T1 ..`, one for each floor.
-use Rattle.std.specs.Prelude.{◌≡◌, ℕ, ◌+◌, ◌-◌, ◌*◌, ◌/◌, ◌==◌, ◌&&◌, Bool, true, nat_lt, List, [], ◌∷◌, ◌++◌, length, Option, IfSome, ◌≤◌, None, Some, Result, Ok, Err, codes, refl, if◌then◌else◌}
+use Rattle.std.specs.Prelude.{◌≡◌, ℕ, ◌+◌, ◌-◌, ◌*◌, ◌/◌, ◌==◌, ◌&&◌, Bool, true, nat_lt, List, [], ◌∷◌, ◌++◌, length, Option, IfSome, ◌≤◌, None, Some, Result}
+use Rattle.std.specs.Prelude.{Ok, Err, codes, refl, if◌then◌else◌}
 use Rattle.lift_text.specs.Reading.{TextState, line_with, finished}
 use Rattle.lift_text.specs.declared.faults.TextFault.{TextFault}
 use Rattle.lift_text.specs.declared.codes.TextCode.TheVariants.{NoLineWord, Missing, TooMany, OutOfRange, CutShort, NoTime}
@@ -75,7 +76,8 @@ IsRefusedTable before floors fault now = (end : TableState) × ReadAs after befo
 abbrev times_line : List (List ℕ) → Line
 times_line words = codes "times" ∷ words
 
-table_row : outcome after (line_with 2 (times_line (codes "0" ∷ codes "5000" ∷ [])) (line_with 3 (times_line (codes "4999" ∷ codes "0" ∷ [])) (finished 7))) (no_rows (Some 2))
+table_row : outcome after (line_with 2 (times_line (codes "0" ∷ codes "5000" ∷ [])) (line_with 3 (times_line (codes "4999" ∷ codes "0" ∷ [])) (finished 7)))
+    (no_rows (Some 2))
     ≡ accepted (record { floors = Some 2; times = 0 ∷ 5000 ∷ 4999 ∷ 0 ∷ [] }) (finished 7)
 table_row = refl
 
@@ -85,7 +87,8 @@ zero_row = refl
 between_row : outcome after (line_with 7 (times_line (codes "0" ∷ codes "0" ∷ [])) (finished 7)) (no_rows None) ≡ refused 7 NoTime
 between_row = refl
 
-short_row : outcome after (line_with 2 (times_line (codes "0" ∷ codes "5000" ∷ [])) (line_with 3 (times_line (codes "4999" ∷ [])) (finished 7))) (no_rows None) ≡ refused 3 Missing
+short_row : outcome after (line_with 2 (times_line (codes "0" ∷ codes "5000" ∷ [])) (line_with 3 (times_line (codes "4999" ∷ [])) (finished 7))) (no_rows None)
+    ≡ refused 3 Missing
 short_row = refl
 
 long_row : outcome after (line_with 2 (times_line (codes "0" ∷ codes "5000" ∷ codes "1" ∷ [])) (finished 7)) (no_rows (Some 2)) ≡ refused 2 TooMany

@@ -1,5 +1,6 @@
 -- A node in which each call has one car left: the tours of pricings that reached no limit make a plan.
-use Rattle.std.proofs.Common.{◌≡◌, ℕ, zero, suc, ◌<◌, ◌≤◌, ◌^◌, ◌==◌, eqb, Bool, true, false, List, [], ◌∷◌, length, map, get_or, refl, sym, ap, ◌∙◌, subst, arith}
+use Rattle.std.proofs.Common.{◌≡◌, ℕ, zero, suc, ◌<◌, ◌≤◌, ◌^◌, ◌==◌, eqb, Bool, true, false, List, [], ◌∷◌, length, map, get_or, refl, sym, ap, ◌∙◌, subst}
+use Rattle.std.proofs.Common.{arith}
 use Rattle.std.specs.Prelude.{ℤ, pos, ◌+ℤ◌, ◌≤ℤ◌, Some}
 use Rattle.std.proofs.lemmas.Int.{ints}
 use Rattle.std.proofs.lemmas.Bool.{both_ways, eqb-true, eq-eqb}
@@ -52,7 +53,9 @@ worths-sum (t ∷ cars) = ap (λ (z : ℤ). t.priced.worth +ℤ z) (worths-sum c
 scaled-rounds : (cost : ℕ) (sum : ℤ) → scaled cost ≤ℤ sum → pos cost ≤ℤ rounded_up sum
 scaled-rounds cost sum le = let most = (rounded_up-least sum).enough in omega (arith, ints, le, most)
 
-module _ (s : Snapshot) (most_tours : ℕ) (node : Node) (prices : List ℤ) (cars : List TurnOf) (plan : List (List Stop)) (answers : AreAnswersIn s most_tours node prices cars) (is_node : IsNodeOf s node) (single : AreSingle (call_count s) node) (few : car_count s ≤ 16) (none : (c : ℕ) → c < length cars → (get_or cars c no_turn).priced.spent ≡ false) (of : IsPlanOf cars plan) where
+module _ (s : Snapshot) (most_tours : ℕ) (node : Node) (prices : List ℤ) (cars : List TurnOf) (plan : List (List Stop))
+    (answers : AreAnswersIn s most_tours node prices cars) (is_node : IsNodeOf s node) (single : AreSingle (call_count s) node) (few : car_count s ≤ 16)
+    (none : (c : ℕ) → c < length cars → (get_or cars c no_turn).priced.spent ≡ false) (of : IsPlanOf cars plan) where
   below : (c : ℕ) → c < car_count s → c < length cars
   below c lt = let count = answers.count in omega (arith, lt, count)
 
@@ -77,7 +80,10 @@ module _ (s : Snapshot) (most_tours : ℕ) (node : Node) (prices : List ℤ) (ca
       let found = any_below-true (car_count s) (has (set_of node j)) (is_node.some j lt) in
       let at = found.0 in
       let is : set_of node j ≡ 2 ^ at = single j lt at found.2 in
-      once (length plan) (λ c. is_boarded_in (tour_of plan c) j) at (subst (λ (n : ℕ). at < n) (sym cars_are) found.1) ((within at found.1).serves j (eq-eqb (set_of node j) (2 ^ at) is)) (λ d below' boards. sym (has-single at d (subst (λ (x : ℕ). has x d ≡ true) is ((within d (subst (λ (n : ℕ). d < n) cars_are below')).keeps j boards))))
+      once (length plan) (λ c. is_boarded_in (tour_of plan c) j) at (subst (λ (n : ℕ). at < n) (sym cars_are) found.1)
+      ((within at found.1).serves j (eq-eqb (set_of node j) (2 ^ at) is))
+      (λ d below' boards. sym
+      (has-single at d (subst (λ (x : ℕ). has x d ≡ true) is ((within d (subst (λ (n : ℕ). d < n) cars_are below')).keeps j boards))))
 
   pub single-feasible : IsFeasiblePlan s plan
   single-feasible = record { cars = cars_are; tours = λ c lt. (within c lt).feasible; serves_once = serves }
@@ -86,13 +92,20 @@ module _ (s : Snapshot) (most_tours : ℕ) (node : Node) (prices : List ℤ) (ca
   pub single-cost : scaled (plan_cost_of s plan) ≡ sum_of_sheet (sheet_of_turn prices cars)
   single-cost =
       let values = values-sum s plan (price_at prices) single-feasible in
-      let worths : int_sum_below (car_count s) (λ c. value_of s c (price_at prices) (tour_of plan c)) ≡ int_sum_below (car_count s) (λ c. (get_or cars c no_turn).priced.worth) = int_sum-same (car_count s) (λ c. value_of s c (price_at prices) (tour_of plan c)) (λ c. (get_or cars c no_turn).priced.worth) (λ c lt. ap (value_of s c (price_at prices)) (sym (same_tour c lt)) ∙ (gives c lt).has_it) in
-      let listed : int_sum_below (car_count s) (λ c. (get_or cars c no_turn).priced.worth) ≡ sum_of_worths (map turn_worth cars) = ap (λ (n : ℕ). int_sum_below n (λ c. (get_or cars c no_turn).priced.worth)) (sym answers.count) ∙ int_sum-list (λ (t : TurnOf). t.priced.worth) cars no_turn ∙ sym (worths-sum cars) in
-      let priced : int_sum_below (call_count s) (price_at prices) ≡ int_sum_by (λ (x : ℤ). x) prices = ap (λ (n : ℕ). int_sum_below n (price_at prices)) (sym answers.calls) ∙ int_sum-list (λ (x : ℤ). x) prices (pos 0) in
+      let worths : int_sum_below (car_count s) (λ c. value_of s c (price_at prices) (tour_of plan c))
+      ≡ int_sum_below (car_count s) (λ c. (get_or cars c no_turn).priced.worth) =
+      int_sum-same (car_count s) (λ c. value_of s c (price_at prices) (tour_of plan c)) (λ c. (get_or cars c no_turn).priced.worth)
+      (λ c lt. ap (value_of s c (price_at prices)) (sym (same_tour c lt)) ∙ (gives c lt).has_it) in
+      let listed : int_sum_below (car_count s) (λ c. (get_or cars c no_turn).priced.worth) ≡ sum_of_worths (map turn_worth cars) =
+      ap (λ (n : ℕ). int_sum_below n (λ c. (get_or cars c no_turn).priced.worth)) (sym answers.count)
+      ∙ int_sum-list (λ (t : TurnOf). t.priced.worth) cars no_turn ∙ sym (worths-sum cars) in
+      let priced : int_sum_below (call_count s) (price_at prices) ≡ int_sum_by (λ (x : ℤ). x) prices =
+      ap (λ (n : ℕ). int_sum_below n (price_at prices)) (sym answers.calls) ∙ int_sum-list (λ (x : ℤ). x) prices (pos 0) in
       omega (arith, ints, values, worths, listed, priced)
 
   -- so the plan costs no more than the bound of a leaf with that sum or a greater one
-  pub single-bound : (cost : ℕ) (sheet : PriceSheet) → cost ≤ plan_cost_of s plan → sum_of_sheet (sheet_of_turn prices cars) ≤ℤ sum_of_sheet sheet → pos cost ≤ℤ rounded_up (sum_of_sheet sheet)
+  pub single-bound : (cost : ℕ) (sheet : PriceSheet) → cost ≤ plan_cost_of s plan → sum_of_sheet (sheet_of_turn prices cars) ≤ℤ sum_of_sheet sheet
+      → pos cost ≤ℤ rounded_up (sum_of_sheet sheet)
   single-bound cost sheet le up =
       let is = single-cost in
       let most = scaled-rounds (plan_cost_of s plan) (sum_of_sheet sheet) (omega (arith, ints, is, up)) in

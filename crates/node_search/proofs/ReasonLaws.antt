@@ -13,7 +13,8 @@ use Rattle.node_search.specs.Searches.{IsAtRest}
 use Rattle.node_search.specs.Reasons.{HasLastState}
 use Rattle.node_search.proofs.SearchEnd.{below_at, left_spent}
 
-pub last_state : (s : Snapshot) (rounds most_tours : ℕ) (start : PriceSheet) (turns : List Turn) (x : Search) (why : StopReason) (f : Found) → IsEnded s rounds most_tours start turns x → IsAnswerOf x.tree.branches x.best turns why f → IsReasonOf s most_tours x why
+pub last_state : (s : Snapshot) (rounds most_tours : ℕ) (start : PriceSheet) (turns : List Turn) (x : Search) (why : StopReason) (f : Found)
+    → IsEnded s rounds most_tours start turns x → IsAnswerOf x.tree.branches x.best turns why f → IsReasonOf s most_tours x why
     → HasLastState s rounds most_tours start f
 last_state s rounds most_tours start turns x why f ended is reason = record {
   last = x;
@@ -25,7 +26,8 @@ last_state s rounds most_tours start turns x why f ended is reason = record {
 }
 
 -- Where nothing is left to price and the bound is below the cost, the limit of partial tours is named.
-pub names_moves : (s : Snapshot) (rounds most_tours : ℕ) (start : PriceSheet) (f : Found) (x : HasLastState s rounds most_tours start f) → IsAtRest s x.last → f.stated.bound < f.stated.cost → (car : ℕ) × (f.why ≡ Moves car most_tours)
+pub names_moves : (s : Snapshot) (rounds most_tours : ℕ) (start : PriceSheet) (f : Found) (x : HasLastState s rounds most_tours start f) → IsAtRest s x.last
+    → f.stated.bound < f.stated.cost → (car : ℕ) × (f.why ≡ Moves car most_tours)
 names_moves s rounds most_tours start f x rest low = by_reason f.why refl x.reason
   where
     by_reason : (why : StopReason) → f.why ≡ why → IsReasonOf s most_tours x.last why → (car : ℕ) × (f.why ≡ Moves car most_tours)

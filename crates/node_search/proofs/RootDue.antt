@@ -9,7 +9,8 @@ use Rattle.node_search.specs.Roots.{IsEnough, IsSolvedIfUnspent}
 use Rattle.node_search.specs.Found.{HasDueTurns}
 
 -- where some call has two cars
-pub due_many : (s : Snapshot) (rounds most : ℕ) (root : Root) → IsEnough most root → most ≡ min rounds 20 → 1 ≤ rounds → (AreSingle (call_count s) (root_of s) → ⊥) → HasDueTurns s rounds root
+pub due_many : (s : Snapshot) (rounds most : ℕ) (root : Root) → IsEnough most root → most ≡ min rounds 20 → 1 ≤ rounds
+    → (AreSingle (call_count s) (root_of s) → ⊥) → HasDueTurns s rounds root
 due_many s rounds most root enough most_is some many =
     record {
       few = (let few = enough.few in omega (arith, few, most_is));
@@ -19,7 +20,8 @@ due_many s rounds most root enough most_is some many =
     }
 
 -- where each call has one car
-pub due_one : (s : Snapshot) (rounds : ℕ) (root : Root) → length root.turns.items ≡ 1 → IsSolvedIfUnspent root → 1 ≤ rounds → AreSingle (call_count s) (root_of s) → HasDueTurns s rounds root
+pub due_one : (s : Snapshot) (rounds : ℕ) (root : Root) → length root.turns.items ≡ 1 → IsSolvedIfUnspent root → 1 ≤ rounds
+    → AreSingle (call_count s) (root_of s) → HasDueTurns s rounds root
 due_one s rounds root one solved some single =
     record {
       few = omega (arith, one, some);

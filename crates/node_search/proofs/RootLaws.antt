@@ -40,7 +40,9 @@ pub record IsStepOf (s : Snapshot) (most_tours : ℕ) (old new : Root) (cars : L
   pub tree : new.tree.branches ≡ set old.tree.branches 0 (noted (at_place old.tree.branches 0) old.prices.items cars)
   pub turns : new.turns.items ≡ old.turns.items ++ turn_with old.prices.items cars ∷ []
   pub count : length new.prices.items ≡ length old.prices.items
-  pub each : (j : ℕ) → j < length old.prices.items → price_at new.prices.items j ≡ moved_price old.prices.items (pos (greatest_price (start_of_turns old.turns.items old.prices.items) / (length old.turns.items + 1))) cars j
+  pub each : (j : ℕ) → j < length old.prices.items
+      → price_at new.prices.items j
+      ≡ moved_price old.prices.items (pos (greatest_price (start_of_turns old.turns.items old.prices.items) / (length old.turns.items + 1))) cars j
   pub best : IsBest s new.best
   pub pool : new.best.pool ≡ with_turn old.best.pool 0 cars
   pub cheapest : IsCheapestOf s most_tours new.best.pool new.best.cost
@@ -48,11 +50,14 @@ pub record IsStepOf (s : Snapshot) (most_tours : ℕ) (old new : Root) (cars : L
   pub pools : length old.best.pool.tours ≡ car_count s
 
 -- they were, and the turn was put behind the others
-pub taken_step : (s : Snapshot) (most_tours : ℕ) (old mid new : Root) (next : List ℤ) (cars : List TurnOf) → HasTakenIn s most_tours old mid next cars → new.tree ≡ mid.tree → new.best ≡ mid.best → new.step ≡ mid.step → new.prices.items ≡ next → new.turns.items ≡ mid.turns.items ++ turn_with mid.prices.items cars ∷ [] → IsStepOf s most_tours old new cars
+pub taken_step : (s : Snapshot) (most_tours : ℕ) (old mid new : Root) (next : List ℤ) (cars : List TurnOf) → HasTakenIn s most_tours old mid next cars
+    → new.tree ≡ mid.tree → new.best ≡ mid.best → new.step ≡ mid.step → new.prices.items ≡ next
+    → new.turns.items ≡ mid.turns.items ++ turn_with mid.prices.items cars ∷ [] → IsStepOf s most_tours old new cars
 taken_step s most_tours old mid new next cars is tree best step prices turns =
     record {
       tree = ap (λ (nodes : TreeNodes Steps). nodes.branches) tree ∙ is.tree;
-      turns = turns ∙ ap (λ (ts : List Turn). ts ++ turn_with mid.prices.items cars ∷ []) is.turns ∙ ap (λ (ps : List ℤ). old.turns.items ++ turn_with ps cars ∷ []) is.prices;
+      turns = turns ∙ ap (λ (ts : List Turn). ts ++ turn_with mid.prices.items cars ∷ []) is.turns
+          ∙ ap (λ (ps : List ℤ). old.turns.items ++ turn_with ps cars ∷ []) is.prices;
       count = ap length prices ∙ is.count;
       each = λ j lt. ap (λ (ps : List ℤ). price_at ps j) prices ∙ is.each j lt;
       best = subst (IsBest s) (sym best) is.best;
@@ -68,7 +73,8 @@ taken_cheaper old mid new best cheaper = subst (λ (b : Best). b.cost ≤ old.be
 leaf_of_kind : (s : Snapshot) (most_tours : ℕ) (node : Node) (b : Branch) → b.split ≡ None → IsKindIn s most_tours node b b.split → IsLeafIn s most_tours node b
 leaf_of_kind s most_tours node b leaf kind = subst (IsKindIn s most_tours node b) leaf kind
 
-module _ (s : Snapshot) (most_tours : ℕ) (few_cars : car_count s ≤ 16) (old new : Root) (cars : List TurnOf) (is : IsRoot s most_tours old) (lt : length old.turns.items < 20) (given : AreAnswersIn s most_tours (root_of s) old.prices.items cars) (step : IsStepOf s most_tours old new cars) where
+module _ (s : Snapshot) (most_tours : ℕ) (few_cars : car_count s ≤ 16) (old new : Root) (cars : List TurnOf) (is : IsRoot s most_tours old)
+    (lt : length old.turns.items < 20) (given : AreAnswersIn s most_tours (root_of s) old.prices.items cars) (step : IsStepOf s most_tours old new cars) where
   abbrev b : Branch
   b = is.branch
 
@@ -94,7 +100,8 @@ module _ (s : Snapshot) (most_tours : ℕ) (few_cars : car_count s ≤ 16) (old 
   first_of = ap (λ (tree : List Branch). at_place tree 0) is.lone
 
   lone : new.tree.branches ≡ noted b prices cars ∷ []
-  lone = step.tree ∙ ap (λ (a : Branch). set old.tree.branches 0 (noted a prices cars)) first_of ∙ ap (λ (tree : List Branch). set tree 0 (noted b prices cars)) is.lone
+  lone = step.tree ∙ ap (λ (a : Branch). set old.tree.branches 0 (noted a prices cars)) first_of
+      ∙ ap (λ (tree : List Branch). set tree 0 (noted b prices cars)) is.lone
 
   start_same : start_of_turns new.turns.items new.prices.items ≡ start_of_turns old.turns.items prices
   start_same = ap (λ (ts : List Turn). start_of_turns ts new.prices.items) step.turns ∙ start-more old.turns.items turn new.prices.items
@@ -113,13 +120,15 @@ module _ (s : Snapshot) (most_tours : ℕ) (few_cars : car_count s ≤ 16) (old 
 
   due : new.prices.items ≡ due_prices s start new.turns.items
   due =
-      moved_are_due s start prices new.prices.items (length old.turns.items + 1) cars given.calls step.count step.each ∙ sym (due-more s start old.turns.items turn) ∙ ap (due_prices s start) (sym step.turns)
+      moved_are_due s start prices new.prices.items (length old.turns.items + 1) cars given.calls step.count step.each
+      ∙ sym (due-more s start old.turns.items turn) ∙ ap (due_prices s start) (sym step.turns)
 
   few_tours : (c : ℕ) → length (tours_of_car old.best.pool c) < 32
   few_tours c = let most = is.few c in omega (arith, most, lt)
 
   of_pool : (c : ℕ) → IsTurnOfCar (tours_of_car old.best.pool c) (tours_of_car new.best.pool c) (get_or cars c no_turn).tour
-  of_pool c = subst (λ (p : TourPool). IsTurnOfCar (tours_of_car old.best.pool c) (tours_of_car p c) (get_or cars c no_turn).tour) (sym step.pool) (turn_of_pool old.best.pool cars (given.count ∙ sym step.pools) few_tours c)
+  of_pool c = subst (λ (p : TourPool). IsTurnOfCar (tours_of_car old.best.pool c) (tours_of_car p c) (get_or cars c no_turn).tour) (sym step.pool)
+      (turn_of_pool old.best.pool cars (given.count ∙ sym step.pools) few_tours c)
 
   still_pooled : (t : Turn) → IsPooled s old.best.pool t → IsPooled s new.best.pool t
   still_pooled t h c tour below e = (of_pool c).keeps tour (h c tour below e)
@@ -149,8 +158,13 @@ module _ (s : Snapshot) (most_tours : ℕ) (few_cars : car_count s ≤ 16) (old 
         small = subst (λ (z : ℤ). z ≤ℤ pos (10 ^ 24)) (sym step.step) is.small;
         few_turns = (let count = count_is in omega (arith, count, lt));
         turns = subst (λ (ps : List ℤ). AreRootTurns s most_tours ps new.turns.items) (sym start_same) turns_are;
-        takes = subst (All (IsTurnBelow (sum_of_sheet (noted b prices cars).sheet))) (sym step.turns) (All-push (IsTurnBelow (sum_of_sheet (noted b prices cars).sheet)) old.turns.items turn (All-weaker (IsTurnBelow (sum_of_sheet b.sheet)) (IsTurnBelow (sum_of_sheet (noted b prices cars).sheet)) still_below old.turns.items is.takes) turn_below);
-        pooled = subst (All (IsPooled s new.best.pool)) (sym step.turns) (All-push (IsPooled s new.best.pool) old.turns.items turn (All-weaker (IsPooled s old.best.pool) (IsPooled s new.best.pool) still_pooled old.turns.items is.pooled) turn_pooled);
+        takes = subst (All (IsTurnBelow (sum_of_sheet (noted b prices cars).sheet))) (sym step.turns)
+            (All-push (IsTurnBelow (sum_of_sheet (noted b prices cars).sheet)) old.turns.items turn
+            (All-weaker (IsTurnBelow (sum_of_sheet b.sheet)) (IsTurnBelow (sum_of_sheet (noted b prices cars).sheet)) still_below old.turns.items is.takes)
+            turn_below);
+        pooled = subst (All (IsPooled s new.best.pool)) (sym step.turns)
+            (All-push (IsPooled s new.best.pool) old.turns.items turn
+            (All-weaker (IsPooled s old.best.pool) (IsPooled s new.best.pool) still_pooled old.turns.items is.pooled) turn_pooled);
         few = λ c. (let more = (of_pool c).few in let most = is.few c in let count = count_is in omega (arith, more, most, count));
         covered = λ _. step.cheapest;
       }

@@ -43,10 +43,14 @@ root_lone s most_tours root is = ap length is.lone
 
 -- ---- one turn
 
-module _ (s : Snapshot) (most_tours : ℕ) (old new : Root) (cars : List TurnOf) (is : IsRoot s most_tours old) (given : AreAnswersIn s most_tours (root_of s) old.prices.items cars) (tree : new.tree.branches ≡ set old.tree.branches 0 (noted (at_place old.tree.branches 0) old.prices.items cars)) (turns : new.turns.items ≡ old.turns.items ++ turn_with old.prices.items cars ∷ []) where
+module _ (s : Snapshot) (most_tours : ℕ) (old new : Root) (cars : List TurnOf) (is : IsRoot s most_tours old)
+    (given : AreAnswersIn s most_tours (root_of s) old.prices.items cars)
+    (tree : new.tree.branches ≡ set old.tree.branches 0 (noted (at_place old.tree.branches 0) old.prices.items cars))
+    (turns : new.turns.items ≡ old.turns.items ++ turn_with old.prices.items cars ∷ []) where
   sheet : IsNotedSheet s most_tours is.branch.node is.branch.sheet (sheet_of_turn old.prices.items cars) (noted is.branch old.prices.items cars).sheet
   sheet =
-      noted-sheet s most_tours is.branch.node is.branch old.prices.items cars (root_leaf s most_tours old is) is.begins (subst (λ (n : Node). AreAnswersIn s most_tours n old.prices.items cars) (sym is.at.node) given)
+      noted-sheet s most_tours is.branch.node is.branch old.prices.items cars (root_leaf s most_tours old is) is.begins
+      (subst (λ (n : Node). AreAnswersIn s most_tours n old.prices.items cars) (sym is.at.node) given)
 
   new_leaf : leaf_of_root new ≡ noted is.branch old.prices.items cars
   new_leaf =
@@ -55,8 +59,10 @@ module _ (s : Snapshot) (most_tours : ℕ) (old new : Root) (cars : List TurnOf)
   pub has_turned : new.best.cost ≤ old.best.cost → HasTurned old new
   has_turned cheaper =
       record {
-        start = ap (λ (ts : List Turn). start_of_turns ts new.prices.items) turns ∙ start-more old.turns.items (turn_with old.prices.items cars) new.prices.items;
-        rises = (let up = sheet.rises in let was = ap (λ (b : Branch). sum_of_sheet b.sheet) (root_branch s most_tours old is) in let now = ap (λ (b : Branch). sum_of_sheet b.sheet) new_leaf in omega (arith, ints, up, was, now));
+        start = ap (λ (ts : List Turn). start_of_turns ts new.prices.items) turns
+            ∙ start-more old.turns.items (turn_with old.prices.items cars) new.prices.items;
+        rises = (let up = sheet.rises in let was = ap (λ (b : Branch). sum_of_sheet b.sheet) (root_branch s most_tours old is) in
+            let now = ap (λ (b : Branch). sum_of_sheet b.sheet) new_leaf in omega (arith, ints, up, was, now));
         cheaper = cheaper;
       }
 
@@ -88,7 +94,8 @@ turned-more a b c h i =
 
 -- ---- a cheaper plan
 
-pub root-cheaper : (s : Snapshot) (most_tours : ℕ) (old : Root) (best : Best) → IsRoot s most_tours old → IsBest s best → best.pool ≡ old.best.pool → best.cost ≤ old.best.cost → IsRoot s most_tours (record { tree = old.tree; best = best; turns = old.turns; prices = old.prices; step = old.step })
+pub root-cheaper : (s : Snapshot) (most_tours : ℕ) (old : Root) (best : Best) → IsRoot s most_tours old → IsBest s best → best.pool ≡ old.best.pool
+    → best.cost ≤ old.best.cost → IsRoot s most_tours (record { tree = old.tree; best = best; turns = old.turns; prices = old.prices; step = old.step })
 root-cheaper s most_tours old best is is_best pool cheaper =
     record {
       branch = is.branch;
@@ -107,10 +114,12 @@ root-cheaper s most_tours old best is is_best pool cheaper =
       takes = is.takes;
       pooled = subst (λ (p : TourPool). All (IsPooled s p) old.turns.items) (sym pool) is.pooled;
       few = subst (λ (p : TourPool). (c : ℕ) → length (tours_of_car p c) ≤ 1 + length old.turns.items) (sym pool) is.few;
-      covered = λ lt enough plan made. (let most = is.covered lt enough plan (subst (λ (p : TourPool). IsMadeOf p plan) pool made) in omega (arith, most, cheaper));
+      covered = λ lt enough plan made.
+          (let most = is.covered lt enough plan (subst (λ (p : TourPool). IsMadeOf p plan) pool made) in omega (arith, most, cheaper));
     }
 
-pub turned-cheaper : (old : Root) (best : Best) → best.cost ≤ old.best.cost → HasTurned old (record { tree = old.tree; best = best; turns = old.turns; prices = old.prices; step = old.step })
+pub turned-cheaper : (old : Root) (best : Best) → best.cost ≤ old.best.cost
+    → HasTurned old (record { tree = old.tree; best = best; turns = old.turns; prices = old.prices; step = old.step })
 turned-cheaper old best cheaper = record { start = refl; rises = omega (arith, ints); cheaper = cheaper }
 
 pub none_of : {X : Type 0} (o : Option X) → is_some o ≡ false → o ≡ None

@@ -1,5 +1,6 @@
 -- What a round takes, asks and takes in.
-use Rattle.std.proofs.Common.{◌≡◌, ℕ, ◌+◌, ◌*◌, ◌-◌, ◌<◌, ◌≤◌, List, [], ◌∷◌, ◌++◌, length, get_or, take, drop, refl, sym, ap, ◌∙◌, subst, inl, inr, arith, length-append, ℤ}
+use Rattle.std.proofs.Common.{◌≡◌, ℕ, ◌+◌, ◌*◌, ◌-◌, ◌<◌, ◌≤◌, List, [], ◌∷◌, ◌++◌, length, get_or, take, drop, refl, sym, ap, ◌∙◌, subst, inl, inr, arith}
+use Rattle.std.proofs.Common.{length-append, ℤ}
 use Rattle.std.specs.Prelude.{Some, None, All, slice_get}
 use Rattle.std.proofs.lemmas.Int.{ints}
 use Rattle.std.proofs.lemmas.Bool.{cases_lt}
@@ -21,10 +22,12 @@ use Rattle.pricing_rounds.proofs.RoundLemmas.{answers_in}
 use Rattle.node_search.specs.declared.search.Search.{Search}
 use Rattle.node_search.specs.declared.rounds.Chosen.{Chosen}
 use Rattle.node_search.specs.Best.{IsBest}
-use Rattle.node_search.specs.Searches.{AreChosen, ArePriced, AreTaken, AreTasksFor, HasAdvanced, HasSettled, IsAtRest, IsPricedFrom, IsPricingOf, IsSearching, IsTaken, IsTaskFor, IsUnderWay, IsWanted}
+use Rattle.node_search.specs.Searches.{AreChosen, ArePriced, AreTaken, AreTasksFor, HasAdvanced, HasSettled, IsAtRest, IsPricedFrom, IsPricingOf, IsSearching}
+use Rattle.node_search.specs.Searches.{IsTaken, IsTaskFor, IsUnderWay, IsWanted}
 
 -- what holds of each element at its place holds with one more at the end
-pub get_more : {X : Type 0} (P : ℕ → X → Type 0) (xs : List X) (x : X) → ((i : ℕ) (y : X) → slice_get xs i ≡ Some y → P i y) → P (length xs) x → (i : ℕ) (y : X) → slice_get (xs ++ x ∷ []) i ≡ Some y → P i y
+pub get_more : {X : Type 0} (P : ℕ → X → Type 0) (xs : List X) (x : X) → ((i : ℕ) (y : X) → slice_get xs i ≡ Some y → P i y) → P (length xs) x
+    → (i : ℕ) (y : X) → slice_get (xs ++ x ∷ []) i ≡ Some y → P i y
 get_more {X} P xs x each last i y at =
     let within = slice_get_within (xs ++ x ∷ []) i y at in
     let count = length-append xs (x ∷ []) in
@@ -48,16 +51,19 @@ pub record ArePricedTo (x : Search) (places : List ℕ) (k : ℕ) (chosen : List
 pub priced_none : (x : Search) (places : List ℕ) → ArePricedTo x places 0 []
 priced_none x places = record { count = refl; each = λ i c at. absurd (omega (arith, slice_get_within [] i c at)) }
 
-pub priced_more : (x : Search) (places : List ℕ) (k : ℕ) (chosen : List Chosen) (c : Chosen) → ArePricedTo x places k chosen → IsPricedFrom x (get_or places k 0) c → ArePricedTo x places (k + 1) (chosen ++ c ∷ [])
+pub priced_more : (x : Search) (places : List ℕ) (k : ℕ) (chosen : List Chosen) (c : Chosen) → ArePricedTo x places k chosen
+    → IsPricedFrom x (get_or places k 0) c → ArePricedTo x places (k + 1) (chosen ++ c ∷ [])
 priced_more x places k chosen c so_far this =
     let count = length-append chosen (c ∷ []) in
     let was = so_far.count in
     record {
       count = omega (arith, count, was);
-      each = get_more (λ i d. IsPricedFrom x (get_or places i 0) d) chosen c so_far.each (subst (λ (n : ℕ). IsPricedFrom x (get_or places n 0) c) (sym was) this);
+      each = get_more (λ i d. IsPricedFrom x (get_or places i 0) d) chosen c so_far.each
+          (subst (λ (n : ℕ). IsPricedFrom x (get_or places n 0) c) (sym was) this);
     }
 
-pub taken_of : (s : Snapshot) (x : Search) (places : List ℕ) (k : ℕ) (chosen : List Chosen) → AreChosen s x.best.cost x.tree.branches places → k ≡ length places → ArePricedTo x places k chosen → AreTaken s x chosen
+pub taken_of : (s : Snapshot) (x : Search) (places : List ℕ) (k : ℕ) (chosen : List Chosen) → AreChosen s x.best.cost x.tree.branches places
+    → k ≡ length places → ArePricedTo x places k chosen → AreTaken s x chosen
 taken_of s x places k chosen are all priced =
     let count : length chosen ≡ length places = priced.count ∙ all in
     record {
@@ -71,7 +77,8 @@ taken_of s x places k chosen are all priced =
             within = subst (λ (n : ℕ). n < length x.tree.branches) at (are.some.within i below);
             wanted = subst (λ (n : ℕ). IsWanted s x.best.cost (at_place x.tree.branches n)) at (are.some.wanted i below);
             calls = subst (λ (n : ℕ). length c.prices.items ≡ length (at_place x.tree.branches n).sheet.prices) at from.calls;
-            begins = λ new. ap (λ (n : ℕ). (at_place x.tree.branches n).sheet.prices) (sym at) ∙ from.begins (ap (λ (n : ℕ). (at_place x.tree.branches n).rounds) at ∙ new);
+            begins = λ new. ap (λ (n : ℕ). (at_place x.tree.branches n).sheet.prices) (sym at)
+                ∙ from.begins (ap (λ (n : ℕ). (at_place x.tree.branches n).rounds) at ∙ new);
           };
       rise = λ i j c d less at_i at_j.
           let first = priced.each i c at_i in
@@ -97,7 +104,8 @@ module _ (s : Snapshot) (most_tours : ℕ) (x : Search) (chosen : List Chosen) (
   taken-at : (i : ℕ) (c : Chosen) → slice_get chosen i ≡ Some c → IsTaken s x c
   taken-at i c at = subst (IsTaken s x) (get_or_from_slice_get chosen i c c at) (taken.each i c (slice_get_within chosen i c at))
 
-  stands : (k : ℕ) → k < length x.tree.branches → (at_place x.tree.branches k).split ≡ None → IsLeafIn s most_tours (at_place x.tree.branches k).node (at_place x.tree.branches k)
+  stands : (k : ℕ) → k < length x.tree.branches → (at_place x.tree.branches k).split ≡ None
+      → IsLeafIn s most_tours (at_place x.tree.branches k).node (at_place x.tree.branches k)
   stands k lt leaf =
       let at = stand-at (IsBranchAt s most_tours) k (root_place s ∷ []) x.tree.branches lt way.tree.branches in
       leaf_of_kind s most_tours (at_place x.tree.branches k).node (at_place x.tree.branches k) leaf at.1.kind
@@ -110,7 +118,8 @@ module _ (s : Snapshot) (most_tours : ℕ) (x : Search) (chosen : List Chosen) (
       let rests : IsResting s x.best.cost b = if_leaf (IsResting s x.best.cost b) b.split wanted.leaf at.1 in
       elim (cases_lt b.rounds 20) [
         | inl few ↦ few
-        | inr many ↦ (let past = rests.many (λ single. wanted.open_yet (omega (arith, many)) single) many in let below = wanted.below in absurd (omega (arith, ints, past, below)))
+        | inr many ↦ (let past = rests.many (λ single. wanted.open_yet (omega (arith, many)) single) many in let below = wanted.below in
+            absurd (omega (arith, ints, past, below)))
       ]
 
   task_is : (c : Chosen) (task : Task) → IsTaken s x c → IsTaskFor x c task → IsTaskOf s task
@@ -129,11 +138,13 @@ module _ (s : Snapshot) (most_tours : ℕ) (x : Search) (chosen : List Chosen) (
     tasks_are i d lt =
         let count = asked.count in
         elim (slice_get_cases chosen i).1 [
-          | inl there ↦ task_is there.0 (get_or tasks i d) (taken-at i there.0 there.2) (asked.each i there.0 (get_or tasks i d) there.2 (slice_get-get_or tasks i d lt))
+          | inl there ↦
+              task_is there.0 (get_or tasks i d) (taken-at i there.0 there.2) (asked.each i there.0 (get_or tasks i d) there.2 (slice_get-get_or tasks i d lt))
           | inr past ↦ (let end = past.0 in absurd (omega (arith, lt, count, end)))
         ]
 
-    pub priced_are : (cars : ℕ) (answers : List TurnOf) → cars ≡ car_count s → length answers ≡ length tasks * cars → AreAnswersOf s most_tours tasks cars answers → ArePriced s most_tours x chosen answers
+    pub priced_are : (cars : ℕ) (answers : List TurnOf) → cars ≡ car_count s → length answers ≡ length tasks * cars
+        → AreAnswersOf s most_tours tasks cars answers → ArePriced s most_tours x chosen answers
     priced_are cars answers all count right =
         let same = asked.count in
         record {
@@ -152,7 +163,11 @@ module _ (s : Snapshot) (most_tours : ℕ) (x : Search) (chosen : List Chosen) (
                       leaf = it.wanted.leaf;
                       few = few_rounds c.place it.within it.wanted;
                       begins = it.begins;
-                      answers = subst (λ (n : ℕ). AreAnswersIn s most_tours (at_place x.tree.branches c.place).node c.prices.items (take n (drop (i * n) answers))) all (subst (λ (ps : List ℤ). AreAnswersIn s most_tours (at_place x.tree.branches c.place).node ps (take cars (drop (i * cars) answers))) for.prices (subst (λ (n : Node). AreAnswersIn s most_tours n task.prices.now (take cars (drop (i * cars) answers))) for.node answers_here));
+                      answers =
+                          subst (λ (n : ℕ). AreAnswersIn s most_tours (at_place x.tree.branches c.place).node c.prices.items (take n (drop (i * n) answers)))
+                          all (subst (λ (ps : List ℤ).
+                          AreAnswersIn s most_tours (at_place x.tree.branches c.place).node ps (take cars (drop (i * cars) answers))) for.prices
+                          (subst (λ (n : Node). AreAnswersIn s most_tours n task.prices.now (take cars (drop (i * cars) answers))) for.node answers_here));
                     })
                 | inr past ↦ (let end = past.0 in absurd (omega (arith, lt, same, end)))
               ];
@@ -188,7 +203,8 @@ pub record HasTakenFrom (s : Snapshot) (most_tours : ℕ) (chosen : List Chosen)
   pub longer : length old.tree.branches ≤ length now.tree.branches
   pub same : (i : ℕ) (c : Chosen) → i < k → slice_get chosen i ≡ Some c → at_place now.tree.branches c.place ≡ at_place old.tree.branches c.place
 
-pub taken_none : (s : Snapshot) (most_tours : ℕ) (chosen : List Chosen) (x : Search) → IsUnderWay s most_tours x → HasTakenFrom s most_tours chosen (length chosen) x x
+pub taken_none : (s : Snapshot) (most_tours : ℕ) (chosen : List Chosen) (x : Search) → IsUnderWay s most_tours x
+    → HasTakenFrom s most_tours chosen (length chosen) x x
 taken_none s most_tours chosen x way =
     record {
       within = omega arith;
@@ -198,7 +214,9 @@ taken_none s most_tours chosen x way =
       same = λ i c lt at. refl;
     }
 
-pub pricing_kept : (s : Snapshot) (most_tours : ℕ) (old now : Search) (place : ℕ) (prices : List ℤ) (cars : List TurnOf) → length old.tree.branches ≤ length now.tree.branches → at_place now.tree.branches place ≡ at_place old.tree.branches place → IsPricingOf s most_tours old place prices cars → IsPricingOf s most_tours now place prices cars
+pub pricing_kept : (s : Snapshot) (most_tours : ℕ) (old now : Search) (place : ℕ) (prices : List ℤ) (cars : List TurnOf)
+    → length old.tree.branches ≤ length now.tree.branches → at_place now.tree.branches place ≡ at_place old.tree.branches place
+    → IsPricingOf s most_tours old place prices cars → IsPricingOf s most_tours now place prices cars
 pricing_kept s most_tours old now place prices cars longer same it =
     let within = it.within in
     record {
@@ -209,9 +227,11 @@ pricing_kept s most_tours old now place prices cars longer same it =
       answers = subst (λ (b : Branch). AreAnswersIn s most_tours b.node prices cars) (sym same) it.answers;
     }
 
-module _ (s : Snapshot) (most_tours : ℕ) (chosen : List Chosen) (answers : List TurnOf) (old : Search) (priced : ArePriced s most_tours old chosen answers) (k : ℕ) (c : Chosen) (at : slice_get chosen k ≡ Some c) (mid : Search) (so_far : HasTakenFrom s most_tours chosen (k + 1) old mid) where
+module _ (s : Snapshot) (most_tours : ℕ) (chosen : List Chosen) (answers : List TurnOf) (old : Search) (priced : ArePriced s most_tours old chosen answers)
+    (k : ℕ) (c : Chosen) (at : slice_get chosen k ≡ Some c) (mid : Search) (so_far : HasTakenFrom s most_tours chosen (k + 1) old mid) where
   pub next_pricing : IsPricingOf s most_tours mid c.place c.prices.items (take (car_count s) (drop (k * car_count s) answers))
-  next_pricing = pricing_kept s most_tours old mid c.place c.prices.items (take (car_count s) (drop (k * car_count s) answers)) so_far.longer (so_far.same k c (omega arith) at) (priced.each k c at)
+  next_pricing = pricing_kept s most_tours old mid c.place c.prices.items (take (car_count s) (drop (k * car_count s) answers)) so_far.longer
+      (so_far.same k c (omega arith) at) (priced.each k c at)
 
   pub taken_more : (new : Search) → IsUnderWay s most_tours new → HasSettled s mid new c.place → HasTakenFrom s most_tours chosen k old new
   taken_more new way this =
@@ -231,14 +251,20 @@ module _ (s : Snapshot) (most_tours : ℕ) (chosen : List Chosen) (answers : Lis
 
 -- ---- the round
 
-pub round_searching : (s : Snapshot) (most_tours n : ℕ) (old mid new : Search) → IsSearching s most_tours old → 0 < n → n ≤ 4 → IsUnderWay s most_tours mid → HasAdvanced s n old mid → IsBest s new.best → new.best.cost ≤ mid.best.cost → new.tree.branches ≡ mid.tree.branches → new.done ≡ old.done + 1 → IsSearching s most_tours new
+pub round_searching : (s : Snapshot) (most_tours n : ℕ) (old mid new : Search) → IsSearching s most_tours old → 0 < n → n ≤ 4 → IsUnderWay s most_tours mid
+    → HasAdvanced s n old mid → IsBest s new.best → new.best.cost ≤ mid.best.cost → new.tree.branches ≡ mid.tree.branches → new.done ≡ old.done + 1
+    → IsSearching s most_tours new
 round_searching s most_tours n old mid new was some few way advanced best cheaper tree done =
     let pricings = was.pricings in
     let size = was.size in
     let pricings' = advanced.pricings in
     let size' = advanced.size in
     record {
-      under_way = record { best = best; tree = subst (IsTreeOf s most_tours new.best.cost) (sym tree) (tree-cheaper s most_tours mid.best.cost new.best.cost mid.tree.branches cheaper way.tree) };
+      under_way = record {
+        best = best;
+        tree = subst (IsTreeOf s most_tours new.best.cost) (sym tree)
+            (tree-cheaper s most_tours mid.best.cost new.best.cost mid.tree.branches cheaper way.tree);
+      };
       begun = omega (arith, done);
       pricings = subst (λ (t : List Branch). new.done ≤ pricings_of t) (sym tree) (omega (arith, done, pricings, pricings', some));
       size = subst (λ (t : List Branch). length t ≤ 8 * new.done + 1) (sym tree) (omega (arith, done, size, size', few));

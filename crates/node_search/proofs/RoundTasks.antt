@@ -19,13 +19,15 @@ tasks_none x chosen = record { count = refl; each = λ i task at. absurd (omega 
 some_same : (c d : Chosen) → Some c ≡ Some d → c ≡ d
 some_same c d e = cc
 
-pub tasks_more : (x : Search) (chosen : List Chosen) (k : ℕ) (tasks : List Task) (c : Chosen) (task : Task) → AreTasksTo x chosen k tasks → slice_get chosen k ≡ Some c → IsTaskFor x c task → AreTasksTo x chosen (k + 1) (tasks ++ task ∷ [])
+pub tasks_more : (x : Search) (chosen : List Chosen) (k : ℕ) (tasks : List Task) (c : Chosen) (task : Task) → AreTasksTo x chosen k tasks
+    → slice_get chosen k ≡ Some c → IsTaskFor x c task → AreTasksTo x chosen (k + 1) (tasks ++ task ∷ [])
 tasks_more x chosen k tasks c task so_far at this =
     let count = length-append tasks (task ∷ []) in
     let was = so_far.count in
     record {
       count = omega (arith, count, was);
-      each = get_more (λ i t. (d : Chosen) → slice_get chosen i ≡ Some d → IsTaskFor x d t) tasks task so_far.each (λ d at_d. subst (λ (e : Chosen). IsTaskFor x e task) (some_same c d (sym at ∙ ap (slice_get chosen) (sym was) ∙ at_d)) this);
+      each = get_more (λ i t. (d : Chosen) → slice_get chosen i ≡ Some d → IsTaskFor x d t) tasks task so_far.each
+          (λ d at_d. subst (λ (e : Chosen). IsTaskFor x e task) (some_same c d (sym at ∙ ap (slice_get chosen) (sym was) ∙ at_d)) this);
     }
 
 pub tasks_all : (x : Search) (chosen : List Chosen) (k : ℕ) (tasks : List Task) → k ≡ length chosen → AreTasksTo x chosen k tasks → AreTasksFor x chosen tasks

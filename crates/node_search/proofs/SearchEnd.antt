@@ -42,7 +42,8 @@ use Rattle.root_turns.proofs.TurnPrices.{stored}
 use Rattle.node_search.proofs.SearchStart.{branches_alone, lone_stands, turns_above}
 
 -- what stands below the root stands after the rounds
-pub ended_of : (s : Snapshot) (rounds most_tours : ℕ) (start : PriceSheet) (turns : List Turn) (old new : Search) → IsBegun s rounds most_tours start turns old → IsSearching s most_tours new → HasRun s rounds old new → IsEnded s rounds most_tours start turns new
+pub ended_of : (s : Snapshot) (rounds most_tours : ℕ) (start : PriceSheet) (turns : List Turn) (old new : Search) → IsBegun s rounds most_tours start turns old
+    → IsSearching s most_tours new → HasRun s rounds old new → IsEnded s rounds most_tours start turns new
 ended_of s rounds most_tours start turns old new begun searching run =
     record {
       begun = record {
@@ -52,7 +53,10 @@ ended_of s rounds most_tours start turns old new begun searching run =
           root_turns = begun.above.root_turns;
           few_turns = begun.above.few_turns;
           above_start = run.sums (sum_of_sheet start) begun.above.above_start;
-          above_turns = All-weaker (λ (turn : Turn). AllInTree (IsAtLeast (sum_of_turn turn)) s old.tree.branches) (λ (turn : Turn). AllInTree (IsAtLeast (sum_of_turn turn)) s new.tree.branches) (λ turn h. run.sums (sum_of_turn turn) h) turns begun.above.above_turns;
+          above_turns =
+              All-weaker (λ (turn : Turn). AllInTree (IsAtLeast (sum_of_turn turn)) s old.tree.branches)
+              (λ (turn : Turn). AllInTree (IsAtLeast (sum_of_turn turn)) s new.tree.branches)
+              (λ turn h. run.sums (sum_of_turn turn) h) turns begun.above.above_turns;
           tours = λ enough other feasible of. (let le = begun.above.tours enough other feasible of in let cheaper = run.cheaper in omega (arith, le, cheaper));
         };
         few = run.few;
@@ -71,14 +75,19 @@ least-cost cost (Tip leaf ∷ twigs) =
     let is = int_min_is (bound_of_leaf leaf) (least_bound cost twigs) in
     omega (arith, ints, rest, is)
 
-pub bound_natural : (s : Snapshot) (most_tours : ℕ) (start : PriceSheet) (turns : List Turn) (tree : List Branch) (best : Best) → IsBest s best → HasTurnsAbove s most_tours start turns tree best.cost → pos 0 ≤ℤ sum_of_sheet start → pos 0 ≤ℤ least_of best.cost tree
+pub bound_natural : (s : Snapshot) (most_tours : ℕ) (start : PriceSheet) (turns : List Turn) (tree : List Branch) (best : Best) → IsBest s best
+    → HasTurnsAbove s most_tours start turns tree best.cost → pos 0 ≤ℤ sum_of_sheet start → pos 0 ≤ℤ least_of best.cost tree
 bound_natural s most_tours start turns tree best is above natural =
     bound_exists s start tree best.plan best.cost above.sheet natural above.above_start is.feasible is.costs
 
 -- ---- a root that is not open
 
 -- Its tree is one leaf, whose bound is not below the cost.
-pub found_solved : (s : Snapshot) (rounds most_tours : ℕ) (start : PriceSheet) (root : Root) (bound : ℕ) → 1 ≤ car_count s → IsTurned s rounds most_tours start root → pos root.best.cost ≤ℤ bound_of_sheet (leaf_of_root root).sheet → pos bound ≡ least_of root.best.cost root.tree.branches → IsFound start.prices (bound_of_sheet start) s rounds most_tours root.best.plan root.best.cost bound (map twig_of root.tree.branches) root.turns.items Solved
+pub found_solved : (s : Snapshot) (rounds most_tours : ℕ) (start : PriceSheet) (root : Root) (bound : ℕ) → 1 ≤ car_count s
+    → IsTurned s rounds most_tours start root → pos root.best.cost ≤ℤ bound_of_sheet (leaf_of_root root).sheet
+    → pos bound ≡ least_of root.best.cost root.tree.branches
+    → IsFound start.prices (bound_of_sheet start) s rounds most_tours root.best.plan root.best.cost bound
+    (map twig_of root.tree.branches) root.turns.items Solved
 found_solved s rounds most_tours start root bound cars turned closed bound_is =
     found s rounds most_tours start root.turns.items root.tree.branches root.best.plan root.best.cost bound Solved (record {
       sheet = above.sheet;
@@ -99,7 +108,8 @@ found_solved s rounds most_tours start root bound cars turned closed bound_is =
     high = subst (λ (b : Branch). pos root.best.cost ≤ℤ bound_of_sheet b.sheet) (root_branch s most_tours root is) closed
 
     leaves : AllInTree (IsAbove (pos root.best.cost)) s root.tree.branches
-    leaves = subst (AllInTree (IsAbove (pos root.best.cost)) s) (sym is.lone) (lone_stands (IsAbove (pos root.best.cost)) s is.branch is.leaf (of_leaf (pos root.best.cost ≤ℤ bound_of_sheet is.branch.sheet) is.branch.split high))
+    leaves = subst (AllInTree (IsAbove (pos root.best.cost)) s) (sym is.lone)
+        (lone_stands (IsAbove (pos root.best.cost)) s is.branch is.leaf (of_leaf (pos root.best.cost ≤ℤ bound_of_sheet is.branch.sheet) is.branch.split high))
 
     solved : root.best.cost ≡ bound
     solved =
@@ -108,7 +118,8 @@ found_solved s rounds most_tours start root bound cars turned closed bound_is =
         omega (arith, ints, low, most, bound_is)
 
     unsplit : list_any is_split (map twig_of root.tree.branches) ≡ false
-    unsplit = ap (λ (bs : List Branch). list_any is_split (map twig_of bs)) is.lone ∙ ap (λ (x : Option SplitAt). list_any is_split (twig_at x is.branch.sheet ∷ [])) is.leaf
+    unsplit = ap (λ (bs : List Branch). list_any is_split (map twig_of bs)) is.lone
+        ∙ ap (λ (x : Option SplitAt). list_any is_split (twig_at x is.branch.sheet ∷ [])) is.leaf
 
     many : HasChoice s → IsTrue (list_any is_split (map twig_of root.tree.branches)) ⊎ (bound < root.best.cost) → length root.turns.items ≡ min rounds 20
     many choice (inl some) = absurd (both_ways (list_any is_split (map twig_of root.tree.branches)) unsplit some)
@@ -123,7 +134,9 @@ module _ (s : Snapshot) (rounds most_tours : ℕ) (start : PriceSheet) (turns : 
   abbrev cost : ℕ
   cost = x.best.cost
 
-  pub found_ended : (bound : ℕ) (why : StopReason) → pos bound ≡ least_of x.best.cost x.tree.branches → IsReason s rounds most_tours x.best.cost bound (map twig_of x.tree.branches) why → IsFound start.prices (bound_of_sheet start) s rounds most_tours x.best.plan x.best.cost bound (map twig_of x.tree.branches) turns why
+  pub found_ended : (bound : ℕ) (why : StopReason) → pos bound ≡ least_of x.best.cost x.tree.branches
+      → IsReason s rounds most_tours x.best.cost bound (map twig_of x.tree.branches) why
+      → IsFound start.prices (bound_of_sheet start) s rounds most_tours x.best.plan x.best.cost bound (map twig_of x.tree.branches) turns why
   found_ended bound why bound_is reason =
       let above = ended.begun.above in
       let way = ended.begun.searching.under_way in
@@ -134,11 +147,13 @@ module _ (s : Snapshot) (rounds most_tours : ℕ) (start : PriceSheet) (turns : 
         branches = way.tree.branches;
         above_start = above.above_start;
         above_turns = above.above_turns;
-      }) (let size = ended.begun.searching.size in let few = ended.begun.few in omega (arith, size, few)) way.best.feasible way.best.costs bound_is (λ choice _. ended.begun.many choice) above.tours reason
+      }) (let size = ended.begun.searching.size in let few = ended.begun.few in omega (arith, size, few)) way.best.feasible way.best.costs bound_is
+      (λ choice _. ended.begun.many choice) above.tours reason
 
   resting_at : (k : ℕ) → IsBelow x.best.cost x.tree.branches k → IsResting s x.best.cost (at_place x.tree.branches k)
   resting_at k below =
-      if_leaf (IsResting s x.best.cost (at_place x.tree.branches k)) (at_place x.tree.branches k).split below.leaf (stand-at (IsRestingAt s x.best.cost) k (root_place s ∷ []) x.tree.branches below.in_tree ended.begun.searching.under_way.tree.resting).1
+      if_leaf (IsResting s x.best.cost (at_place x.tree.branches k)) (at_place x.tree.branches k).split below.leaf
+      (stand-at (IsRestingAt s x.best.cost) k (root_place s ∷ []) x.tree.branches below.in_tree ended.begun.searching.under_way.tree.resting).1
 
   -- a leaf that is left below the cost was spent
   pub left_spent : (k : ℕ) → IsBelow x.best.cost x.tree.branches k → IsAtRest s x → (at_place x.tree.branches k).spent ≡ None → ⊥
@@ -166,7 +181,8 @@ module _ (s : Snapshot) (rounds most_tours : ℕ) (start : PriceSheet) (turns : 
       by_kind None leaf rests = λ below. spent leaf rests below b.spent refl
       by_kind (Some at) leaf rests = tt
 
-  stuck_all : (places : List TreePlace) (bs : List Branch) → AllStand (IsRestingAt s x.best.cost) places bs → ((k : ℕ) → k < length bs → IsLeft s x.best.cost (at_place bs k)) → AllStand (IsStuckAt s x.best.cost) places bs
+  stuck_all : (places : List TreePlace) (bs : List Branch) → AllStand (IsRestingAt s x.best.cost) places bs
+      → ((k : ℕ) → k < length bs → IsLeft s x.best.cost (at_place bs k)) → AllStand (IsStuckAt s x.best.cost) places bs
   stuck_all [] [] h left = tt
   stuck_all [] (b ∷ bs) h left = absurd h
   stuck_all (place ∷ places) [] h left = absurd h
@@ -174,7 +190,8 @@ module _ (s : Snapshot) (rounds most_tours : ℕ) (start : PriceSheet) (turns : 
       (stuck b h.0 (left 0 (omega arith)), stuck_all (places_after place (twig_of b) places) bs h.1 (λ k lt. left (suc k) (omega (arith, lt))))
 
   -- Why it ended.
-  pub reason_is : (bound : ℕ) (why : StopReason) → pos bound ≡ least_of x.best.cost x.tree.branches → IsReasonOf s most_tours x why → IsReason s rounds most_tours x.best.cost bound (map twig_of x.tree.branches) why
+  pub reason_is : (bound : ℕ) (why : StopReason) → pos bound ≡ least_of x.best.cost x.tree.branches → IsReasonOf s most_tours x why
+      → IsReason s rounds most_tours x.best.cost bound (map twig_of x.tree.branches) why
   reason_is bound Solved bound_is high =
       let most = least-cost x.best.cost (map twig_of x.tree.branches) in
       omega (arith, ints, high, most, bound_is)
@@ -182,13 +199,20 @@ module _ (s : Snapshot) (rounds most_tours : ℕ) (start : PriceSheet) (turns : 
       let low = why.below in
       let lt : bound < x.best.cost = omega (arith, ints, low, bound_is) in
       let way = ended.begun.searching.under_way in
-      let all : x.done ≡ rounds = (elim ended.ended [ inl e ↦ e | inr rest ↦ (let at = below_at bound bound_is lt in absurd (left_spent at.0 at.1 rest (why.unspent rest at.0 at.1))) ]) in
-      out_of_rounds s rounds most_tours x.best.cost bound done x.tree.branches way.tree.priced way.tree.branches (subst (λ (n : ℕ). n ≤ pricings_of x.tree.branches) (sym why.done_is) ended.begun.searching.pricings) (why.done_is ∙ all) lt
+      let all : x.done ≡ rounds = (elim ended.ended [
+        | inl e ↦ e
+        | inr rest ↦ (let at = below_at bound bound_is lt in absurd (left_spent at.0 at.1 rest (why.unspent rest at.0 at.1)))
+      ]) in
+      out_of_rounds s rounds most_tours x.best.cost bound done x.tree.branches way.tree.priced way.tree.branches
+      (subst (λ (n : ℕ). n ≤ pricings_of x.tree.branches) (sym why.done_is) ended.begun.searching.pricings) (why.done_is ∙ all) lt
   reason_is bound (Moves car count) bound_is why =
       let low = why.below in
       let lt : bound < x.best.cost = omega (arith, ints, low, bound_is) in
       let way = ended.begun.searching.under_way in
-      subst (λ (n : ℕ). IsOutOfMoves s most_tours x.best.cost bound car n (map twig_of x.tree.branches)) (sym why.count_is) (out_of_moves s most_tours x.best.cost bound car x.tree.branches why.place (stuck_all (root_place s ∷ []) x.tree.branches way.tree.resting why.rest) way.tree.priced way.tree.branches lt why.at.in_tree why.at.leaf why.at.below why.spent)
+      subst (λ (n : ℕ). IsOutOfMoves s most_tours x.best.cost bound car n (map twig_of x.tree.branches)) (sym why.count_is)
+      (out_of_moves s most_tours x.best.cost bound car x.tree.branches why.place
+      (stuck_all (root_place s ∷ []) x.tree.branches way.tree.resting why.rest) way.tree.priced way.tree.branches lt why.at.in_tree why.at.leaf
+      why.at.below why.spent)
 
 -- ---- the bound in 64 bits
 
@@ -196,18 +220,24 @@ natural_fits : (z : ℤ) (cost : ℕ) → cost < 2 ^ 64 → pos 0 ≤ℤ z → z
 natural_fits (pos n) cost few low high = (tt, record { fits = omega (arith, ints, few, high) })
 natural_fits (negsuc n) cost few low high = absurd (omega (arith, ints, low))
 
-pub natural_cast : (z : ℤ) (cost : ℕ) → cost < 2 ^ 64 → pos 0 ≤ℤ z → z ≤ℤ pos cost → T (non_neg (to_z w128 (of_z w128 z))) × FitsWord w64 (nat_abs (to_z w128 (of_z w128 z)))
+pub natural_cast : (z : ℤ) (cost : ℕ) → cost < 2 ^ 64 → pos 0 ≤ℤ z → z ≤ℤ pos cost → T (non_neg (to_z w128 (of_z w128 z)))
+    × FitsWord w64 (nat_abs (to_z w128 (of_z w128 z)))
 natural_cast z cost few low high =
-    subst (λ (y : ℤ). T (non_neg y) × FitsWord w64 (nat_abs y)) (sym (stored z (omega (arith, ints, low)) (omega (arith, ints, few, high)))) (natural_fits z cost few low high)
+    subst (λ (y : ℤ). T (non_neg y) × FitsWord w64 (nat_abs y)) (sym (stored z (omega (arith, ints, low)) (omega (arith, ints, few, high))))
+    (natural_fits z cost few low high)
 
 -- ---- the answer
 
-pub answer_found : (start : List ℤ) (least : ℤ) (s : Snapshot) (rounds most_tours : ℕ) (tree : List Branch) (best : Best) (turns : List Turn) (why : StopReason) (f : Found) → IsAnswerOf tree best turns why f → IsFound start least s rounds most_tours best.plan best.cost f.stated.bound (map twig_of tree) turns why → IsFound start least s rounds most_tours f.stated.plan f.stated.cost f.stated.bound f.tree.twigs f.turns f.why
+pub answer_found : (start : List ℤ) (least : ℤ) (s : Snapshot) (rounds most_tours : ℕ) (tree : List Branch) (best : Best) (turns : List Turn)
+    (why : StopReason) (f : Found) → IsAnswerOf tree best turns why f
+    → IsFound start least s rounds most_tours best.plan best.cost f.stated.bound (map twig_of tree) turns why
+    → IsFound start least s rounds most_tours f.stated.plan f.stated.cost f.stated.bound f.tree.twigs f.turns f.why
 answer_found start least s rounds most_tours tree best turns why f is h =
     let a = subst (λ (p : List (List Stop)). IsFound start least s rounds most_tours p best.cost f.stated.bound (map twig_of tree) turns why) (sym is.plan) h in
     let b = subst (λ (n : ℕ). IsFound start least s rounds most_tours f.stated.plan n f.stated.bound (map twig_of tree) turns why) (sym is.cost) a in
     let c = subst (λ (ts : List Twig). IsFound start least s rounds most_tours f.stated.plan f.stated.cost f.stated.bound ts turns why) (sym is.twigs) b in
-    let d = subst (λ (ts : List Turn). IsFound start least s rounds most_tours f.stated.plan f.stated.cost f.stated.bound f.tree.twigs ts why) (sym is.turns_are) c in
+    let d = subst (λ (ts : List Turn). IsFound start least s rounds most_tours f.stated.plan f.stated.cost f.stated.bound f.tree.twigs ts why)
+    (sym is.turns_are) c in
     subst (λ (w : StopReason). IsFound start least s rounds most_tours f.stated.plan f.stated.cost f.stated.bound f.tree.twigs f.turns w) (sym is.why_is) d
 
 pub if_ok : {X E : Type 0} (r : Result X E) (P Q : X → Type 0) → ((x : X) → P x → Q x) → IfOk r P → IfOk r Q

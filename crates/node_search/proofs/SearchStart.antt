@@ -22,7 +22,8 @@ use Rattle.search_tree.specs.declared.branches.SplitAt.{SplitAt}
 use Rattle.search_tree.specs.declared.branches.Branch.{Branch}
 use Rattle.search_tree.specs.Sheets.{PriceSheet, sum_of_sheet}
 use Rattle.search_tree.specs.Branches.{AreSingle, at_place, twig_at, split_at, first_part, second_part, split_tree}
-use Rattle.search_tree.specs.Standing.{Holding, AllInTree, AllStand, IsAtLeast, IsBranchAt, IsPricedAt, IsResting, IsRestingAt, IsTreeOf, bound_of_sheet, pricings_of}
+use Rattle.search_tree.specs.Standing.{Holding, AllInTree, AllStand, IsAtLeast, IsBranchAt, IsPricedAt, IsResting, IsRestingAt, IsTreeOf, bound_of_sheet}
+use Rattle.search_tree.specs.Standing.{pricings_of}
 use Rattle.search_tree.proofs.StandingLemmas.{stand-split, noted_split, first_place, second_place}
 use Rattle.search_tree.proofs.TreeLaws.{of_leaf, priced-above, split-branches, split-priced, split-resting}
 use Rattle.node_search.specs.declared.best.Best.{Best}
@@ -37,20 +38,25 @@ use Rattle.node_search.proofs.RootTurns.{root_branch, root_node}
 
 -- ---- a choice
 
-possible-one : (s : Snapshot) (j : ℕ) → j < call_count s → AreSingle (call_count s) (root_of s) → IsNodeOf s (root_of s) → sum_where (car_count s) (λ c. is_possible s c (call_of s j)) (λ _. 1) ≡ 1
+possible-one : (s : Snapshot) (j : ℕ) → j < call_count s → AreSingle (call_count s) (root_of s) → IsNodeOf s (root_of s)
+    → sum_where (car_count s) (λ c. is_possible s c (call_of s j)) (λ _. 1) ≡ 1
 possible-one s j lt single is_node =
     let found = any_below-true (car_count s) (has (set_of (root_of s) j)) (is_node.some j lt) in
     of_member found.0 found.1 found.2 (single j lt found.0 found.2)
   where
-    of_member : (c : ℕ) → c < car_count s → has (set_of (root_of s) j) c ≡ true → set_of (root_of s) j ≡ 2 ^ c → sum_where (car_count s) (λ d. is_possible s d (call_of s j)) (λ _. 1) ≡ 1
+    of_member : (c : ℕ) → c < car_count s → has (set_of (root_of s) j) c ≡ true → set_of (root_of s) j ≡ 2 ^ c
+        → sum_where (car_count s) (λ d. is_possible s d (call_of s j)) (λ _. 1) ≡ 1
     of_member c below own is =
-        sum_where-same (car_count s) (λ d. is_possible s d (call_of s j)) (eqb c) (λ _. 1) (λ _. 1) (λ d lt'. by_test d lt' (has (2 ^ c) d) refl) (λ d lt' e. refl) ∙ sum_where-one (car_count s) (λ _. 1) c below
+        sum_where-same (car_count s) (λ d. is_possible s d (call_of s j)) (eqb c) (λ _. 1) (λ _. 1) (λ d lt'. by_test d lt' (has (2 ^ c) d) refl)
+        (λ d lt' e. refl) ∙ sum_where-one (car_count s) (λ _. 1) c below
       where
         member : (d : ℕ) → d < car_count s → is_possible s d (call_of s j) ≡ has (2 ^ c) d
-        member d lt' = sym (has-set_where (car_count s) (λ e. is_possible s e (call_of s j)) d lt') ∙ ap (λ (x : ℕ). has x d) (sym (set_of-root s j lt)) ∙ ap (λ (x : ℕ). has x d) is
+        member d lt' = sym (has-set_where (car_count s) (λ e. is_possible s e (call_of s j)) d lt') ∙ ap (λ (x : ℕ). has x d) (sym (set_of-root s j lt))
+            ∙ ap (λ (x : ℕ). has x d) is
 
         apart : (d : ℕ) → has (2 ^ c) d ≡ false → (b : Bool) → eqb c d ≡ b → eqb c d ≡ false
-        apart d none true e = absurd (both_ways (has (2 ^ c) d) none (subst (λ (k : ℕ). has (2 ^ c) k ≡ true) (eqb-true c d e) (subst (λ (x : ℕ). has x c ≡ true) is own)))
+        apart d none true e =
+            absurd (both_ways (has (2 ^ c) d) none (subst (λ (k : ℕ). has (2 ^ c) k ≡ true) (eqb-true c d e) (subst (λ (x : ℕ). has x c ≡ true) is own)))
         apart d none false e = e
 
         by_test : (d : ℕ) → d < car_count s → (b : Bool) → has (2 ^ c) d ≡ b → is_possible s d (call_of s j) ≡ eqb c d
@@ -112,7 +118,8 @@ module _ (s : Snapshot) (rounds most_tours : ℕ) (start : PriceSheet) (root : R
         root_turns = subst (λ (ps : List ℤ). AreRootTurns s most_tours ps root.turns.items) turned.start_is is.turns;
         few_turns = is.few_turns;
         above_start = at_least (sum_of_sheet start) (subst (λ (a : Branch). sum_of_sheet start ≤ℤ sum_of_sheet a.sheet) leaf_is turned.rises);
-        above_turns = All-weaker (IsTurnBelow (sum_of_sheet b.sheet)) (λ (turn : Turn). AllInTree (IsAtLeast (sum_of_turn turn)) s root.tree.branches) (λ turn h. at_least (sum_of_turn turn) h) root.turns.items is.takes;
+        above_turns = All-weaker (IsTurnBelow (sum_of_sheet b.sheet)) (λ (turn : Turn). AllInTree (IsAtLeast (sum_of_turn turn)) s root.tree.branches)
+            (λ turn h. at_least (sum_of_turn turn) h) root.turns.items is.takes;
         tours = turns_cheapest s most_tours root is cars;
       }
 
@@ -133,8 +140,12 @@ module _ (s : Snapshot) (rounds most_tours : ℕ) (start : PriceSheet) (root : R
     rests : ((AreSingle (call_count s) (root_of s) → ⊥) → length root.turns.items < 20) → IsResting s root.best.cost b
     rests few =
         record {
-          single = λ single _ none. subst (λ (a : Branch). pos root.best.cost ≤ℤ bound_of_sheet a.sheet) leaf_is (turned.due.single (subst (AreSingle (call_count s)) is.at.node single) is_open (subst (λ (a : Branch). a.spent ≡ None) (sym leaf_is) none));
-          many = λ some most. (let below = few (λ single. some (subst (AreSingle (call_count s)) (sym is.at.node) single)) in let same = is.rounds in absurd (omega (arith, below, same, most)));
+          single = λ single _ none.
+              subst (λ (a : Branch). pos root.best.cost ≤ℤ bound_of_sheet a.sheet) leaf_is
+              (turned.due.single (subst (AreSingle (call_count s)) is.at.node single) is_open (subst (λ (a : Branch). a.spent ≡ None) (sym leaf_is) none));
+          many = λ some most.
+              (let below = few (λ single. some (subst (AreSingle (call_count s)) (sym is.at.node) single)) in let same = is.rounds in
+              absurd (omega (arith, below, same, most)));
         }
 
     tree_alone : ((AreSingle (call_count s) (root_of s) → ⊥) → length root.turns.items < 20) → IsTreeOf s most_tours root.best.cost root.tree.branches
@@ -148,20 +159,23 @@ module _ (s : Snapshot) (rounds most_tours : ℕ) (start : PriceSheet) (root : R
     rounds_alone : pricings_of root.tree.branches ≡ length root.turns.items
     rounds_alone = ap pricings_of is.lone ∙ (let sum = sum_by-cons (λ (a : Branch). a.rounds) b [] in let same = is.rounds in omega (arith, sum, same))
 
-    pub begun_alone : (x : Search) → x.tree.branches ≡ root.tree.branches → x.best ≡ root.best → x.done ≡ length root.turns.items → ((AreSingle (call_count s) (root_of s) → ⊥) → length root.turns.items < 20) → IsBegun s rounds most_tours start root.turns.items x
+    pub begun_alone : (x : Search) → x.tree.branches ≡ root.tree.branches → x.best ≡ root.best → x.done ≡ length root.turns.items
+        → ((AreSingle (call_count s) (root_of s) → ⊥) → length root.turns.items < 20) → IsBegun s rounds most_tours start root.turns.items x
     begun_alone x tree best done few =
         let cost : x.best.cost ≡ root.best.cost = ap (λ (a : Best). a.cost) best in
         record {
           searching = record {
             under_way = record {
               best = subst (IsBest s) (sym best) is.best;
-              tree = subst (λ (n : ℕ). IsTreeOf s most_tours n x.tree.branches) (sym cost) (subst (IsTreeOf s most_tours root.best.cost) (sym tree) (tree_alone few));
+              tree = subst (λ (n : ℕ). IsTreeOf s most_tours n x.tree.branches) (sym cost)
+                  (subst (IsTreeOf s most_tours root.best.cost) (sym tree) (tree_alone few));
             };
             begun = (let some = turned.due.begun is_open in omega (arith, some, done));
             pricings = (let same = ap pricings_of tree in let all = rounds_alone in omega (arith, same, all, done));
             size = (let one = ap length tree in let one' = ap length is.lone in omega (arith, one, one'));
           };
-          above = subst (HasTurnsAbove s most_tours start root.turns.items x.tree.branches) (sym cost) (subst (λ (bs : List Branch). HasTurnsAbove s most_tours start root.turns.items bs root.best.cost) (sym tree) (turns_above some_cars));
+          above = subst (HasTurnsAbove s most_tours start root.turns.items x.tree.branches) (sym cost)
+              (subst (λ (bs : List Branch). HasTurnsAbove s most_tours start root.turns.items bs root.best.cost) (sym tree) (turns_above some_cars));
           few = (let most = turned.due.few in omega (arith, most, done));
           many = λ choice. choice_many choice is_open;
         }
@@ -178,20 +192,30 @@ module _ (s : Snapshot) (rounds most_tours : ℕ) (start : PriceSheet) (root : R
       is_split : tree ≡ noted_split same split.call split.part (b ∷ []) 0
       is_split = split.split ∙ ap (λ (bs : List Branch). split_tree bs 0 split.call split.part) is.lone
 
-      parts : (Q : Holding) → ((place : TreePlace) → IsBranchAt s most_tours place b → Q place b → Q place (split_at b split.call split.part) × Q (first_place place split.call split.part) (first_part b split.call split.part) × Q (second_place place split.call split.part) (second_part b split.call split.part)) → Q (root_place s) b → AllInTree Q s tree
+      parts : (Q : Holding)
+          → ((place : TreePlace) → IsBranchAt s most_tours place b → Q place b → Q place (split_at b split.call split.part)
+          × Q (first_place place split.call split.part) (first_part b split.call split.part)
+          × Q (second_place place split.call split.part) (second_part b split.call split.part)) → Q (root_place s) b → AllInTree Q s tree
       parts Q f h =
-          subst (AllInTree Q s) (sym is_split) (stand-split (IsBranchAt s most_tours) Q same split.call split.part 0 (root_place s ∷ []) (b ∷ []) (omega arith) is.leaf f (lone_stands (IsBranchAt s most_tours) s b is.leaf is.at) (lone_stands Q s b is.leaf h))
+          subst (AllInTree Q s) (sym is_split)
+          (stand-split (IsBranchAt s most_tours) Q same split.call split.part 0 (root_place s ∷ []) (b ∷ []) (omega arith) is.leaf f
+          (lone_stands (IsBranchAt s most_tours) s b is.leaf is.at) (lone_stands Q s b is.leaf h))
 
       tree_split : IsTreeOf s most_tours root.best.cost tree
       tree_split =
           record {
-            branches = parts (IsBranchAt s most_tours) (λ place p q. split-branches s most_tours few_cars b split.call split.part split.small part_is is.at.is_node place p is.leaf) is.at;
-            priced = parts (IsPricedAt s most_tours) (λ place p q. split-priced s most_tours few_cars b split.call split.part split.small part_is is.at.is_node place p is.leaf was) priced;
+            branches = parts (IsBranchAt s most_tours)
+                (λ place p q. split-branches s most_tours few_cars b split.call split.part split.small part_is is.at.is_node place p is.leaf) is.at;
+            priced = parts (IsPricedAt s most_tours)
+                (λ place p q. split-priced s most_tours few_cars b split.call split.part split.small part_is is.at.is_node place p is.leaf was) priced;
             resting = split_rests;
           }
         where
           split_rests : AllInTree (IsRestingAt s root.best.cost) s tree
-          split_rests = subst (AllInTree (IsRestingAt s root.best.cost) s) (sym is_split) (let three = split-resting s most_tours few_cars b split.call split.part split.small part_is is.at.is_node root.best.cost (root_place s) in (three.0, (three.1, (three.2, tt))))
+          split_rests =
+              subst (AllInTree (IsRestingAt s root.best.cost) s) (sym is_split)
+              (let three = split-resting s most_tours few_cars b split.call split.part split.small part_is is.at.is_node root.best.cost (root_place s) in
+              (three.0, (three.1, (three.2, tt))))
 
       least_split : (z : ℤ) → z ≤ℤ sum_of_sheet b.sheet → AllInTree (IsAtLeast z) s tree
       least_split z le =
@@ -204,7 +228,9 @@ module _ (s : Snapshot) (rounds most_tours : ℕ) (start : PriceSheet) (root : R
             root_turns = subst (λ (ps : List ℤ). AreRootTurns s most_tours ps root.turns.items) turned.start_is is.turns;
             few_turns = is.few_turns;
             above_start = least_split (sum_of_sheet start) (subst (λ (a : Branch). sum_of_sheet start ≤ℤ sum_of_sheet a.sheet) leaf_is turned.rises);
-            above_turns = All-weaker (IsTurnBelow (sum_of_sheet b.sheet)) (λ (turn : Turn). AllInTree (IsAtLeast (sum_of_turn turn)) s tree) (λ turn h. least_split (sum_of_turn turn) h) root.turns.items is.takes;
+            above_turns =
+                All-weaker (IsTurnBelow (sum_of_sheet b.sheet)) (λ (turn : Turn). AllInTree (IsAtLeast (sum_of_turn turn)) s tree)
+                (λ turn h. least_split (sum_of_turn turn) h) root.turns.items is.takes;
             tours = turns_cheapest s most_tours root is some_cars;
           }
 
@@ -217,29 +243,39 @@ module _ (s : Snapshot) (rounds most_tours : ℕ) (start : PriceSheet) (root : R
           let same = is.rounds in
           omega (arith, one, two, three, same))
 
-      pub begun_split : (x : Search) → x.tree.branches ≡ tree → x.best ≡ root.best → x.done ≡ length root.turns.items → IsBegun s rounds most_tours start root.turns.items x
+      pub begun_split : (x : Search) → x.tree.branches ≡ tree → x.best ≡ root.best → x.done ≡ length root.turns.items
+          → IsBegun s rounds most_tours start root.turns.items x
       begun_split x tree_is best done =
           let cost : x.best.cost ≡ root.best.cost = ap (λ (a : Best). a.cost) best in
           record {
             searching = record {
               under_way = record {
                 best = subst (IsBest s) (sym best) is.best;
-                tree = subst (λ (n : ℕ). IsTreeOf s most_tours n x.tree.branches) (sym cost) (subst (IsTreeOf s most_tours root.best.cost) (sym tree_is) tree_split);
+                tree = subst (λ (n : ℕ). IsTreeOf s most_tours n x.tree.branches) (sym cost)
+                    (subst (IsTreeOf s most_tours root.best.cost) (sym tree_is) tree_split);
               };
               begun = (let some = turned.due.begun is_open in omega (arith, some, done));
               pricings = (let same = ap pricings_of tree_is in let all = rounds_split in omega (arith, same, all, done));
-              size = (let some = turned.due.begun is_open in let one = ap length tree_is in let three = ap length is_split in omega (arith, one, three, some, done));
+              size = (let some = turned.due.begun is_open in let one = ap length tree_is in let three = ap length is_split in
+                  omega (arith, one, three, some, done));
             };
-            above = subst (HasTurnsAbove s most_tours start root.turns.items x.tree.branches) (sym cost) (subst (λ (bs : List Branch). HasTurnsAbove s most_tours start root.turns.items bs root.best.cost) (sym tree_is) turns_split);
+            above = subst (HasTurnsAbove s most_tours start root.turns.items x.tree.branches) (sym cost)
+                (subst (λ (bs : List Branch). HasTurnsAbove s most_tours start root.turns.items bs root.best.cost) (sym tree_is) turns_split);
             few = (let most = turned.due.few in omega (arith, most, done));
             many = λ choice. choice_many choice is_open;
           }
 
 -- ---- the search that begins
 
-pub begun_is : (s : Snapshot) (rounds most_tours : ℕ) (start : PriceSheet) (root : Root) → IsTurned s rounds most_tours start root → IsAccepted s → car_count s ≤ 16 → IsOpenRoot root → (x : Search) → x.best ≡ root.best → x.done ≡ length root.turns.items → IsSplit 0 root.tree.branches x.tree.branches ⊎ IsKeptRoot (call_count s) (length root.turns.items) root.tree.branches x.tree.branches → IsBegun s rounds most_tours start root.turns.items x
+pub begun_is : (s : Snapshot) (rounds most_tours : ℕ) (start : PriceSheet) (root : Root) → IsTurned s rounds most_tours start root → IsAccepted s
+    → car_count s ≤ 16 → IsOpenRoot root → (x : Search) → x.best ≡ root.best → x.done ≡ length root.turns.items → IsSplit 0 root.tree.branches x.tree.branches
+    ⊎ IsKeptRoot (call_count s) (length root.turns.items) root.tree.branches x.tree.branches → IsBegun s rounds most_tours start root.turns.items x
 begun_is s rounds most_tours start root turned accepted few_cars is_open x best done grown =
-    elim grown [ inl split ↦ begun_split s rounds most_tours start root turned few_cars accepted.building.cars_low is_open x.tree.branches split x refl best done | inr kept ↦ begun_alone s rounds most_tours start root turned few_cars accepted.building.cars_low is_open x kept.same best done (λ many. kept.few (λ single. many (subst (AreSingle (call_count s)) root_node_is single))) ]
+    elim grown [
+      | inl split ↦ begun_split s rounds most_tours start root turned few_cars accepted.building.cars_low is_open x.tree.branches split x refl best done
+      | inr kept ↦ begun_alone s rounds most_tours start root turned few_cars accepted.building.cars_low is_open x kept.same best done
+          (λ many. kept.few (λ single. many (subst (AreSingle (call_count s)) root_node_is single)))
+    ]
   where
     root_node_is : (at_place root.tree.branches 0).node ≡ root_of s
     root_node_is = ap (λ (b : Branch). b.node) (root_branch s most_tours root turned.stands) ∙ turned.stands.at.node

@@ -24,7 +24,8 @@ use Rattle.node_search.specs.Searches.{IsSearching, IsAtRest}
 -- where this many tries are enough, no plan made of the tours of the turns is cheaper
 abbrev pub IsCheapestOfTurns : Snapshot → (most_tours cost : ℕ) → List Turn → Type 0
 IsCheapestOfTurns s most_tours cost turns =
-    34 ^ car_count s ≤ most_tours → (other : List (List Stop)) → IsFeasiblePlan s other → ((c : ℕ) → c < car_count s → IsTourOfTurns turns c (tour_of other c)) → cost ≤ plan_cost_of s other
+    34 ^ car_count s ≤ most_tours → (other : List (List Stop)) → IsFeasiblePlan s other → ((c : ℕ) → c < car_count s → IsTourOfTurns turns c (tour_of other c))
+    → cost ≤ plan_cost_of s other
 
 -- the root's bound is below the cost
 abbrev pub IsOpenRoot : Root → Type 0

@@ -73,7 +73,9 @@ pub record HasTakenIn (s : Snapshot) (most_tours : ℕ) (old new : Root) (next :
   pub cheapest : IsCheapestOf s most_tours new.best.pool new.best.cost
   pub cheaper : new.best.cost ≤ old.best.cost
   pub count : length next ≡ length old.prices.items
-  pub each : (j : ℕ) → j < length old.prices.items → price_at next j ≡ moved_price old.prices.items (pos (greatest_price (start_of_turns old.turns.items old.prices.items) / (length old.turns.items + 1))) cars j
+  pub each : (j : ℕ) → j < length old.prices.items
+      → price_at next j ≡ moved_price old.prices.items
+      (pos (greatest_price (start_of_turns old.turns.items old.prices.items) / (length old.turns.items + 1))) cars j
 
 -- what turns keep
 pub record HasTurned (old new : Root) : Type 0 where

@@ -1,5 +1,6 @@
 -- A search below the root.
-use Rattle.std.specs.Prelude.{◌⊎◌, All, take, drop, slice_get, ◌≡◌, ℕ, ◌+◌, ◌*◌, ◌^◌, ◌<◌, ◌≤◌, true, ℤ, pos, ◌<ℤ◌, List, [], length, Some, None, slice_index_or}
+use Rattle.std.specs.Prelude.{◌⊎◌, All, take, drop, slice_get, ◌≡◌, ℕ, ◌+◌, ◌*◌, ◌^◌, ◌<◌, ◌≤◌, true, ℤ, pos, ◌<ℤ◌, List, [], length, Some, None}
+use Rattle.std.specs.Prelude.{slice_index_or}
 use Rattle.elevator_model.specs.declared.Stop.{Stop}
 use Rattle.elevator_model.specs.Snapshot.{Snapshot, car_count, call_count}
 use Rattle.elevator_model.specs.Plans.{tour_of}
@@ -114,7 +115,8 @@ pub record AreTaken (s : Snapshot) (x : Search) (chosen : List Chosen) : Type 0 
 -- all cars were priced in each of these leaves: those of one after those of the other
 pub record ArePriced (s : Snapshot) (most_tours : ℕ) (x : Search) (chosen : List Chosen) (answers : List TurnOf) : Type 0 where
   pub count : length answers ≡ length chosen * car_count s
-  pub each : (i : ℕ) (c : Chosen) → slice_get chosen i ≡ Some c → IsPricingOf s most_tours x c.place c.prices.items (take (car_count s) (drop (i * car_count s) answers))
+  pub each : (i : ℕ) (c : Chosen) → slice_get chosen i ≡ Some c
+      → IsPricingOf s most_tours x c.place c.prices.items (take (car_count s) (drop (i * car_count s) answers))
   pub rise : AreRising chosen
 
 -- what n pricings of leaves change

@@ -1,5 +1,6 @@
 -- What `clap`'s clauses say of a plain command, and of the words behind others.
-use Rattle.std.proofs.Common.{◌≡◌, ◌∙◌, ◌-◌, ◌<◌, ℕ, Bool, false, List, [], ◌∷◌, true, IsTrue, drop, length, map, take, slice_get, slice_index_or, Some, IfErr, IfOk, Result, Ok, Err, ap, subst, sym, arith}
+use Rattle.std.proofs.Common.{◌≡◌, ◌∙◌, ◌-◌, ◌<◌, ℕ, Bool, false, List, [], ◌∷◌, true, IsTrue, drop, length, map, take, slice_get, slice_index_or, Some, IfErr}
+use Rattle.std.proofs.Common.{IfOk, Result, Ok, Err, ap, subst, sym, arith}
 use Rattle.std.proofs.lemmas.List.{drop-map, take_rest}
 use Rattle.clap.specs.Walk.{Row, Text}
 use Rattle.clap.specs.Simple.{App, is_simple, matches_of}
@@ -22,7 +23,8 @@ module _ (app : App) (words : List Text) (plain : IsPlain app) where
   same_rows rows h = (h plain.simple).0
 
 -- an error for another cause than memory tells that the words are not taken
-pub not_taken : (app : App) (words : List Text) (kind : ErrorKind) → (kind ≡ OutOfMemory → ⊥) → (takes app words ≡ true → kind ≡ OutOfMemory) → takes app words ≡ true → ⊥
+pub not_taken : (app : App) (words : List Text) (kind : ErrorKind) → (kind ≡ OutOfMemory → ⊥) → (takes app words ≡ true → kind ≡ OutOfMemory)
+    → takes app words ≡ true → ⊥
 not_taken app words kind other h taken = other (h taken)
 
 -- ---- words as the program has them
@@ -45,7 +47,8 @@ module _ {X : Type 0} (f : X → Text) (xs : List X) where
   from_command = map f (take (length xs - 1) (drop 1 xs))
 
   module _ (app : App) where
-    given : (unclear : Bool) (rows : List Row) → unclear ≡ false → (AreUnclear options → IsTrue unclear) → takes app from_command ≡ true → rows ≡ matches_of app from_command → AreGiven app (map f xs) rows
+    given : (unclear : Bool) (rows : List Row) → unclear ≡ false → (AreUnclear options → IsTrue unclear) → takes app from_command ≡ true
+        → rows ≡ matches_of app from_command → AreGiven app (map f xs) rows
     given unclear rows is shows accepted found = record {
       clear = λ u. refuted unclear is shows (subst AreUnclear (sym (rest_is 2)) u);
       accepted = sym (ap (takes app) (rest_is 1)) ∙ accepted;
@@ -60,11 +63,13 @@ module _ {X : Type 0} (f : X → Text) (xs : List X) where
 
     -- what was found in clear words, and why nothing was
     module _ {M E : Type 0} (rows_in : M → List Row) (answer : Result M E) where
-      pub found_given : (unclear : Bool) → unclear ≡ false → (AreUnclear options → IsTrue unclear) → IfOk answer (λ _. takes app from_command ≡ true) → IfOk answer (λ m. rows_in m ≡ matches_of app from_command)
+      pub found_given : (unclear : Bool) → unclear ≡ false → (AreUnclear options → IsTrue unclear) → IfOk answer (λ _. takes app from_command ≡ true)
+          → IfOk answer (λ m. rows_in m ≡ matches_of app from_command)
           → IfOk answer (λ m. AreGiven app (map f xs) (rows_in m))
       found_given unclear is shows accepted found = at answer accepted found
         where
-          at : (a : Result M E) → IfOk a (λ _. takes app from_command ≡ true) → IfOk a (λ m. rows_in m ≡ matches_of app from_command) → IfOk a (λ m. AreGiven app (map f xs) (rows_in m))
+          at : (a : Result M E) → IfOk a (λ _. takes app from_command ≡ true) → IfOk a (λ m. rows_in m ≡ matches_of app from_command)
+              → IfOk a (λ m. AreGiven app (map f xs) (rows_in m))
           at (Ok m) accepted found = given unclear (rows_in m) is shows accepted found
           at (Err e) accepted found = tt
 
@@ -72,6 +77,7 @@ module _ {X : Type 0} (f : X → Text) (xs : List X) where
           → IfErr answer (λ fault. fault ≡ NotTaken → (rows : List Row) → AreGiven app (map f xs) rows → ⊥)
       refused_given NotTaken refused = at answer refused
         where
-          at : (a : Result M E) → IfErr a (λ fault. fault ≡ NotTaken → takes app from_command ≡ true → ⊥) → IfErr a (λ fault. fault ≡ NotTaken → (rows : List Row) → AreGiven app (map f xs) rows → ⊥)
+          at : (a : Result M E) → IfErr a (λ fault. fault ≡ NotTaken → takes app from_command ≡ true → ⊥)
+              → IfErr a (λ fault. fault ≡ NotTaken → (rows : List Row) → AreGiven app (map f xs) rows → ⊥)
           at (Ok m) refused = tt
           at (Err e) refused = λ is. untaken (refused is)

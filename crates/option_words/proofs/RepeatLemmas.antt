@@ -1,5 +1,6 @@
 -- Loops over words.
-use Rattle.std.proofs.Common.{◌≡◌, ◌∙◌, ◌<◌, ◌≤◌, ◌+◌, ◌-◌, ◌⊎◌, ℕ, Bool, false, List, [], map, length, take, drop, slice_index_or, subst, sym, ap, inl, inr, arith, IsTrue, true≢false}
+use Rattle.std.proofs.Common.{◌≡◌, ◌∙◌, ◌<◌, ◌≤◌, ◌+◌, ◌-◌, ◌⊎◌, ℕ, Bool, false, List, [], map, length, take, drop, slice_index_or, subst, sym, ap, inl, inr}
+use Rattle.std.proofs.Common.{arith, IsTrue, true≢false}
 use Rattle.std.specs.List.{Contains}
 use Rattle.std.proofs.lemmas.List.{get_or-map, get_or-drop, drop-map, take_rest, length-drop, length-map}
 use Rattle.std.proofs.lemmas.Bool.{cases_lt}
@@ -38,10 +39,12 @@ module _ {X : Type 0} (f : X → Text) (xs : List X) (k : ℕ) (x : X) (lt : k <
   rest_is : map f (take (length xs - (k + 1)) (drop (k + 1) xs)) ≡ drop (k + 1) (map f xs)
   rest_is = ap (map f) (take_rest xs (k + 1)) ∙ sym (drop-map f (k + 1) xs)
 
-  pub from_rest : RepeatsOneOf (f x) (map f (take (length xs - (k + 1)) (drop (k + 1) xs))) → RepeatsOneOf (slice_index_or (map f xs) k []) (drop (k + 1) (map f xs))
+  pub from_rest : RepeatsOneOf (f x) (map f (take (length xs - (k + 1)) (drop (k + 1) xs)))
+      → RepeatsOneOf (slice_index_or (map f xs) k []) (drop (k + 1) (map f xs))
   from_rest r = subst (λ w. RepeatsOneOf w (drop (k + 1) (map f xs))) (sym (word_is [])) (subst (RepeatsOneOf (f x)) rest_is r)
 
-  pub to_rest : RepeatsOneOf (slice_index_or (map f xs) k []) (drop (k + 1) (map f xs)) → RepeatsOneOf (f x) (map f (take (length xs - (k + 1)) (drop (k + 1) xs)))
+  pub to_rest : RepeatsOneOf (slice_index_or (map f xs) k []) (drop (k + 1) (map f xs))
+      → RepeatsOneOf (f x) (map f (take (length xs - (k + 1)) (drop (k + 1) xs)))
   to_rest r = subst (RepeatsOneOf (f x)) (sym rest_is) (subst (λ w. RepeatsOneOf w (drop (k + 1) (map f xs))) (word_is []) r)
 
 -- a word that repeats an earlier one stands behind it

@@ -1,5 +1,6 @@
 -- Where `clap` finds no fault, it takes the words: step for step, `Faults` and `Takes` of `clap` say the same.
-use Rattle.std.proofs.Common.{◌≡◌, ◌∙◌, ◌+◌, ◌&&◌, ◌||◌, ℕ, Bool, cond, true, false, not, zero, suc, List, [], ◌∷◌, length, drop, min, codes, Option, Some, None, is_some, refl, sym, ap, arith}
+use Rattle.std.proofs.Common.{◌≡◌, ◌∙◌, ◌+◌, ◌&&◌, ◌||◌, ℕ, Bool, cond, true, false, not, zero, suc, List, [], ◌∷◌, length, drop, min, codes, Option, Some}
+use Rattle.std.proofs.Common.{None, is_some, refl, sym, ap, arith}
 use Rattle.std.specs.Prelude.{◌==◌, encode_utf8, slice_get, nat_le, nat_lt}
 use Rattle.std.specs.List.{list_all, list_any}
 use Rattle.std.specs.Option.{option_map_or}
@@ -9,12 +10,18 @@ use Rattle.clap.specs.Lexer.{long_of, short_of}
 use Rattle.clap.specs.Matches.{count_text}
 use Rattle.clap.specs.Facts.{explicit_source, parser_of_value, unwrap_or_range}
 use Rattle.clap.specs.ValueTests.{accepts}
-use Rattle.clap.specs.Walk.{Held, Names, Row, Rule, Step, Text, Waiting, Walk, action_of, arg_by_id, arg_by_index, arg_by_long, arg_by_short, attached_value, count_of, finished, has_row, is_pending, most_values, nothing_held, reacted, settled, subcommand_met, takes_several, takes_values, values_or_missing, walk, walk_from, walked, word_met}
+use Rattle.clap.specs.Walk.{Held, Names, Row, Rule, Step, Text, Waiting, Walk, action_of, arg_by_id, arg_by_index, arg_by_long, arg_by_short, attached_value}
+use Rattle.clap.specs.Walk.{count_of, finished, has_row, is_pending, most_values, nothing_held, reacted, settled, subcommand_met, takes_several, takes_values}
+use Rattle.clap.specs.Walk.{values_or_missing, walk, walk_from, walked, word_met}
 use Rattle.clap.specs.Walk.{next, trailing, subcommand, value}
 use Rattle.clap.specs.Simple.{App, Shape, argument_words, built, entered}
-use Rattle.clap.specs.Takes.{action_passes, built_takes, bundle_step_passes, count_passes, default_passes, entered_passes, flag_word_passes, flags_pass, is_given, is_valid, level_passes, long_passes, option_passes, other_passes, positional_passes, react_passes, set_passes, settle_passes, short_passes, step_passes, takes, turn_passes, use_passes, walk_passes, word_passes}
+use Rattle.clap.specs.Takes.{action_passes, built_takes, bundle_step_passes, count_passes, default_passes, entered_passes, flag_word_passes, flags_pass}
+use Rattle.clap.specs.Takes.{is_given, is_valid, level_passes, long_passes, option_passes, other_passes, positional_passes, react_passes, set_passes}
+use Rattle.clap.specs.Takes.{settle_passes, short_passes, step_passes, takes, turn_passes, use_passes, walk_passes, word_passes}
 use Rattle.clap.specs.Kinds.{Kinds, or_else, range_kinds, value_kinds, values_kinds}
-use Rattle.clap.specs.Faults.{action_fault, bundle_step_fault, check_fault, count_fault, defaults_fault, fault_of, flag_word_fault, flags_fault, level_fault, long_fault, option_fault, other_fault, positional_fault, react_fault, repeat_fault, set_fault, settle_fault, short_fault, step_fault, stray_fault, turn_fault, use_fault, values_fault, walk_fault, word_fault}
+use Rattle.clap.specs.Faults.{action_fault, bundle_step_fault, check_fault, count_fault, defaults_fault, fault_of, flag_word_fault, flags_fault, level_fault}
+use Rattle.clap.specs.Faults.{long_fault, option_fault, other_fault, positional_fault, react_fault, repeat_fault, set_fault, settle_fault, short_fault}
+use Rattle.clap.specs.Faults.{step_fault, stray_fault, turn_fault, use_fault, values_fault, walk_fault, word_fault}
 use Rattle.clap.proofs.FaultLemmas.{leaf_fault}
 use Rattle.option_words.specs.Options.{IsPlain}
 use Rattle.clap.specs.declared.builder.action.ArgAction.{ArgAction}
@@ -57,7 +64,10 @@ range_ok least most n e =
     let first = unmet (nat_lt 0 least && n == 0) _ _ _ e in
     by_same (least == most) refl first.1
   where
-    by_same : (same : Bool) → (least == most) ≡ same → cond same (cond (least == n) [] (kind.WrongNumberOfValues ∷ [])) (cond (nat_lt n least) (kind.TooFewValues ∷ []) (cond (nat_lt most n) (kind.TooManyValues ∷ []) [])) ≡ [] → (nat_le least n ≡ true) × (nat_le n most ≡ true)
+    by_same : (same : Bool) → (least == most) ≡ same
+        → cond same (cond (least == n) [] (kind.WrongNumberOfValues ∷ []))
+        (cond (nat_lt n least) (kind.TooFewValues ∷ []) (cond (nat_lt most n) (kind.TooManyValues ∷ []) [])) ≡ [] → (nat_le least n ≡ true)
+        × (nat_le n most ≡ true)
     by_same true same h = let is = met (least == n) _ _ h in (grind (arith, nat_tests), grind (arith, nat_tests))
     by_same false same h =
         let few = unmet (nat_lt n least) _ _ _ h in
@@ -69,7 +79,8 @@ range_ok least most n e =
 set_ok : (again : Bool) (a : Rule) (values : List Text) (rows : List Row) → set_fault again a values rows ≡ [] → set_passes again a values rows ≡ true
 set_ok again a values rows e =
     let e2 = parts (repeat_fault again a.id rows) (values_fault a values) e in
-    both _ _ (once (has_row a.id rows) again (unmet (has_row a.id rows && not again) _ _ _ e2.0).0) (values_ok a.ignore_case (parser_of_value a.parser) values e2.1)
+    both _ _ (once (has_row a.id rows) again (unmet (has_row a.id rows && not again) _ _ _ e2.0).0)
+    (values_ok a.ignore_case (parser_of_value a.parser) values e2.1)
   where
     once : (has more : Bool) → (has && not more) ≡ false → (not has || more) ≡ true
     once true true h = refl
@@ -80,7 +91,8 @@ count_ok : (a : Rule) (values : List Text) (rows : List Row) → count_fault a v
 count_ok a [] rows e = value_ok a.ignore_case (parser_of_value a.parser) (count_text (min (count_of a.id rows + 1) 255)) e
 count_ok a (v ∷ vs) rows e = values_ok a.ignore_case (parser_of_value a.parser) (v ∷ vs) e
 
-action_ok : (x : ArgAction) (again : Bool) (a : Rule) (values : List Text) (rows : List Row) → action_fault x again a values rows ≡ [] → action_passes x again a values rows ≡ true
+action_ok : (x : ArgAction) (again : Bool) (a : Rule) (values : List Text) (rows : List Row) → action_fault x again a values rows ≡ []
+    → action_passes x again a values rows ≡ true
 action_ok action.Set again a values rows e = set_ok again a values rows e
 action_ok action.SetTrue again a values rows e = set_ok again a values rows e
 action_ok action.SetFalse again a values rows e = set_ok again a values rows e
@@ -103,7 +115,8 @@ module _ (c : List Rule) (again : Bool) where
   settle_ok : (h : Held) → settle_fault c again h ≡ [] → settle_passes c again h ≡ true
   settle_ok h e = by_pending h.pending e
     where
-      by_rule : (values : List Text) (o : Option Rule) → option_map_or (λ a. use_fault again a values h.rows) o [] ≡ [] → option_map_or (λ a. use_passes again a values h.rows) o true ≡ true
+      by_rule : (values : List Text) (o : Option Rule) → option_map_or (λ a. use_fault again a values h.rows) o [] ≡ []
+          → option_map_or (λ a. use_passes again a values h.rows) o true ≡ true
       by_rule values None e = refl
       by_rule values (Some a) e = use_ok again a values h.rows e
 
@@ -125,7 +138,8 @@ module _ (c : List Rule) (again : Bool) where
   long_ok None v h e = absurd cc
   long_ok (Some a) v h e = by_taking (takes_values a) e
     where
-      flag : (o : Option Text) → cond (is_some o) (kind.TooManyValues ∷ []) (react_fault c again a [] h) ≡ [] → (not (is_some o) && react_passes c again a [] h) ≡ true
+      flag : (o : Option Text) → cond (is_some o) (kind.TooManyValues ∷ []) (react_fault c again a [] h) ≡ []
+          → (not (is_some o) && react_passes c again a [] h) ≡ true
       flag None e = react_ok a [] h e
       flag (Some x) e = absurd cc
 
@@ -189,7 +203,8 @@ module _ (s : Shape) where
       by_dashes true e = refl
       by_dashes false e = flag_word_ok s.rules s.args_override_self (long_of word) word h e
 
-  word_ok : (names : Names) (is_trailing : Bool) (waiting : Waiting) (word : Text) (h : Held) → word_fault s names is_trailing waiting word h ≡ [] → word_passes s names is_trailing waiting word h ≡ true
+  word_ok : (names : Names) (is_trailing : Bool) (waiting : Waiting) (word : Text) (h : Held) → word_fault s names is_trailing waiting word h ≡ []
+      → word_passes s names is_trailing waiting word h ≡ true
   word_ok names true waiting word h e = refl
   word_ok names false waiting word h e = other_ok (subcommand_met names waiting word) word h e
 
@@ -233,11 +248,14 @@ module _ (s : Shape) where
 
   -- ---- after the walk
 
-  none_missing : (rows : List Row) (rules : List Rule) → list_any (λ a. a.required && not (is_given a.id rows)) rules ≡ false → list_all (λ a. not a.required || is_given a.id rows) rules ≡ true
+  none_missing : (rows : List Row) (rules : List Rule) → list_any (λ a. a.required && not (is_given a.id rows)) rules ≡ false
+      → list_all (λ a. not a.required || is_given a.id rows) rules ≡ true
   none_missing rows [] e = refl
-  none_missing rows (a ∷ rules) e = by_first a.required (is_given a.id rows) (list_any (λ b. b.required && not (is_given b.id rows)) rules) e (none_missing rows rules)
+  none_missing rows (a ∷ rules) e =
+      by_first a.required (is_given a.id rows) (list_any (λ b. b.required && not (is_given b.id rows)) rules) e (none_missing rows rules)
     where
-      by_first : (required given missing : Bool) → ((required && not given) || missing) ≡ false → (missing ≡ false → list_all (λ b. not b.required || is_given b.id rows) rules ≡ true)
+      by_first : (required given missing : Bool) → ((required && not given) || missing) ≡ false
+          → (missing ≡ false → list_all (λ b. not b.required || is_given b.id rows) rules ≡ true)
           → ((not required || given) && list_all (λ b. not b.required || is_given b.id rows) rules) ≡ true
       by_first true true missing e rest = rest e
       by_first true false missing e rest = absurd cc
@@ -257,7 +275,8 @@ module _ (s : Shape) where
       unwanted true false e = absurd cc
       unwanted false given e = refl
 
-      required : (negates : Bool) → (list_any (λ a. a.required && not (is_given a.id rows)) s.rules ≡ false → list_all (λ a. not a.required || is_given a.id rows) s.rules ≡ true)
+      required : (negates : Bool)
+          → (list_any (λ a. a.required && not (is_given a.id rows)) s.rules ≡ false → list_all (λ a. not a.required || is_given a.id rows) s.rules ≡ true)
           → (not (negates && false) && list_any (λ a. a.required && not (is_given a.id rows)) s.rules) ≡ false
           → ((negates && false) || list_all (λ a. not a.required || is_given a.id rows) s.rules) ≡ true
       required true none e = none e

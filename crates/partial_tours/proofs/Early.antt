@@ -1,5 +1,6 @@
 -- No moment of a partial tour is late.
-use Rattle.std.proofs.Common.{◌≡◌, ℕ, ◌<◌, ◌≤◌, Bool, true, false, cond, List, [], ◌∷◌, length, get_or, refl, sym, ap, ◌∙◌, subst, inl, inr, arith, Option, Some, None}
+use Rattle.std.proofs.Common.{◌≡◌, ℕ, ◌<◌, ◌≤◌, Bool, true, false, cond, List, [], ◌∷◌, length, get_or, refl, sym, ap, ◌∙◌, subst, inl, inr, arith, Option}
+use Rattle.std.proofs.Common.{Some, None}
 use Rattle.std.specs.Option.{is_some}
 use Rattle.std.proofs.lemmas.Bool.{and_parts, or_cases, false≢true, ltb-true}
 use Rattle.elevator_model.specs.declared.Stop.{Stop}
@@ -32,17 +33,22 @@ pub record IsEarly (s : Snapshot) (c : ℕ) (x : Course) : Type 0 where
   pub noted : (j : ℕ) → x.before.boarded j ≡ true → x.before.boarded_at j < 10000000000
   pub near : IsIn (floor_count s.building) x.present
 
-stop_low : (s : Snapshot) (c : ℕ) (p : Progress) (stop : Stop) → IsAccepted s → c < car_count s → latest s p ≤ 8000000000 → p.floor < floor_count s.building → stop.floor < floor_count s.building → (make_stop s c p stop).opened < 10000000000
+stop_low : (s : Snapshot) (c : ℕ) (p : Progress) (stop : Stop) → IsAccepted s → c < car_count s → latest s p ≤ 8000000000 → p.floor < floor_count s.building
+    → stop.floor < floor_count s.building → (make_stop s c p stop).opened < 10000000000
 stop_low s c p stop a b budget from near =
     let arrives = arrival-le s c p stop.floor a from near in
     let opening = (a.building.cars c b).opening in
     omega (arith, arrives, opening, budget)
 
-reached_low : (s : Snapshot) (c : ℕ) (before : Progress) (present : Option Stop) → IsAccepted s → c < car_count s → latest s before ≤ 8000000000 → before.floor < floor_count s.building → before.opened ≤ before.leaves → IsIn (floor_count s.building) present → (progress_after s c before present).opened < 10000000000
+reached_low : (s : Snapshot) (c : ℕ) (before : Progress) (present : Option Stop) → IsAccepted s → c < car_count s → latest s before ≤ 8000000000
+    → before.floor < floor_count s.building → before.opened ≤ before.leaves → IsIn (floor_count s.building) present
+    → (progress_after s c before present).opened < 10000000000
 reached_low s c before None a b budget from timely near = omega (arith, budget, timely)
 reached_low s c before (Some stop) a b budget from timely near = stop_low s c before stop a b budget from near
 
-reached_noted : (s : Snapshot) (c : ℕ) (before : Progress) (present : Option Stop) → ((j : ℕ) → before.boarded j ≡ true → before.boarded_at j < 10000000000) → (progress_after s c before present).opened < 10000000000 → (j : ℕ) → (progress_after s c before present).boarded j ≡ true → (progress_after s c before present).boarded_at j < 10000000000
+reached_noted : (s : Snapshot) (c : ℕ) (before : Progress) (present : Option Stop) → ((j : ℕ) → before.boarded j ≡ true → before.boarded_at j < 10000000000)
+    → (progress_after s c before present).opened < 10000000000 → (j : ℕ) → (progress_after s c before present).boarded j ≡ true
+    → (progress_after s c before present).boarded_at j < 10000000000
 reached_noted s c before None noted low j h = noted j h
 reached_noted s c before (Some stop) noted low j h =
     by_board (boards_at s stop j) refl
@@ -54,25 +60,30 @@ reached_noted s c before (Some stop) noted low j h =
 pub opened_early : (s : Snapshot) (c : ℕ) (x : Course) → IsAccepted s → c < car_count s → IsEarly s c x → (reached s c x).opened < 10000000000
 opened_early s c x a b e = reached_low s c x.before x.present a b e.budget e.from e.timely e.near
 
-pub boarded_early : (s : Snapshot) (c : ℕ) (x : Course) (j : ℕ) → IsAccepted s → c < car_count s → IsEarly s c x → (reached s c x).boarded j ≡ true → (reached s c x).boarded_at j < 10000000000
+pub boarded_early : (s : Snapshot) (c : ℕ) (x : Course) (j : ℕ) → IsAccepted s → c < car_count s → IsEarly s c x → (reached s c x).boarded j ≡ true
+    → (reached s c x).boarded_at j < 10000000000
 boarded_early s c x j a b e h = reached_noted s c x.before x.present e.noted (opened_early s c x a b e) j h
 
 -- the present stop is left
-budget_after : (s : Snapshot) (c : ℕ) (before : Progress) (present : Option Stop) → IsAccepted s → c < car_count s → latest s before ≤ 8000000000 → before.floor < floor_count s.building → may_leave s c before present ≡ true → latest s (progress_after s c before present) ≤ 8000000000
+budget_after : (s : Snapshot) (c : ℕ) (before : Progress) (present : Option Stop) → IsAccepted s → c < car_count s → latest s before ≤ 8000000000
+    → before.floor < floor_count s.building → may_leave s c before present ≡ true → latest s (progress_after s c before present) ≤ 8000000000
 budget_after s c before None a b budget from ok = budget
 budget_after s c before (Some stop) a b budget from ok =
     let falls = latest_falls s c before stop a b from (none-from (broken_at s c none_taken before stop) ok) in
     omega (arith, falls, budget)
 
-floor_after : (s : Snapshot) (c : ℕ) (before : Progress) (present : Option Stop) → before.floor < floor_count s.building → IsIn (floor_count s.building) present → (progress_after s c before present).floor < floor_count s.building
+floor_after : (s : Snapshot) (c : ℕ) (before : Progress) (present : Option Stop) → before.floor < floor_count s.building
+    → IsIn (floor_count s.building) present → (progress_after s c before present).floor < floor_count s.building
 floor_after s c before None from near = from
 floor_after s c before (Some stop) from near = near
 
-timely_after : (s : Snapshot) (c : ℕ) (before : Progress) (present : Option Stop) → before.opened ≤ before.leaves → (progress_after s c before present).opened ≤ (progress_after s c before present).leaves
+timely_after : (s : Snapshot) (c : ℕ) (before : Progress) (present : Option Stop) → before.opened ≤ before.leaves
+    → (progress_after s c before present).opened ≤ (progress_after s c before present).leaves
 timely_after s c before None timely = timely
 timely_after s c before (Some stop) timely = omega arith
 
-early_after : (s : Snapshot) (c : ℕ) (x y : Course) → IsAccepted s → c < car_count s → IsEarly s c x → may_leave s c x.before x.present ≡ true → y.before ≡ reached s c x → IsIn (floor_count s.building) y.present → IsEarly s c y
+early_after : (s : Snapshot) (c : ℕ) (x y : Course) → IsAccepted s → c < car_count s → IsEarly s c x → may_leave s c x.before x.present ≡ true
+    → y.before ≡ reached s c x → IsIn (floor_count s.building) y.present → IsEarly s c y
 early_after s c x y a b e ok same near = record {
   budget = subst (λ (p : Progress). latest s p ≤ 8000000000) (sym same) (budget_after s c x.before x.present a b e.budget e.from ok);
   from = subst (λ (p : Progress). p.floor < floor_count s.building) (sym same) (floor_after s c x.before x.present e.from e.near);
@@ -81,10 +92,12 @@ early_after s c x y a b e ok same near = record {
   near = near;
 }
 
-early_move : (s : Snapshot) (c : ℕ) (x : Course) (m : Move) (y : Course) → IsAccepted s → c < car_count s → IsEarly s c x → move_on s c x m ≡ Some y → IsEarly s c y
+early_move : (s : Snapshot) (c : ℕ) (x : Course) (m : Move) (y : Course) → IsAccepted s → c < car_count s → IsEarly s c x → move_on s c x m ≡ Some y
+    → IsEarly s c y
 early_move s c x (Leave g) y a b e h =
     let at = leave_leads_to s c x g y h in
-    early_after s c x y a b e at.0 (ap (λ (z : Course). z.before) at.2) (subst (IsIn (floor_count s.building)) (sym (ap (λ (z : Course). z.present) at.2)) (stands_in s c (reached s c x) g at.1))
+    early_after s c x y a b e at.0 (ap (λ (z : Course). z.before) at.2)
+    (subst (IsIn (floor_count s.building)) (sym (ap (λ (z : Course). z.present) at.2)) (stands_in s c (reached s c x) g at.1))
 early_move s c x End y a b e h =
     let same = ending_leads_to s c x y h in
     let ok = and_parts (may_leave s c x.before x.present) (may_end s c (reached s c x)) (sym (end_some s c x (cond-some x.ended _ y h).0) ∙ ap is_some h) in
@@ -101,7 +114,8 @@ early_move s c x (Board j) y a b e h =
       near = subst (IsIn (floor_count s.building)) (sym (ap (λ (z : Course). z.present) at.leads)) here;
     }
 
-early_moves : (s : Snapshot) (c : ℕ) (x : Course) (ms : List Move) (y : Course) → IsAccepted s → c < car_count s → IsEarly s c x → moves_on s c (Some x) ms ≡ Some y → IsEarly s c y
+early_moves : (s : Snapshot) (c : ℕ) (x : Course) (ms : List Move) (y : Course) → IsAccepted s → c < car_count s → IsEarly s c x
+    → moves_on s c (Some x) ms ≡ Some y → IsEarly s c y
 early_moves s c x [] y a b e h = let same : x ≡ y = cc in subst (IsEarly s c) same e
 early_moves s c x (m ∷ ms) y a b e h =
     let step = leads_on s c x m ms y h in
@@ -124,7 +138,9 @@ pub course_early : (s : Snapshot) (c : ℕ) (moves : List Move) (x : Course) →
 course_early s c moves x a b h = early_moves s c (course_start s c) moves x a b (early_start s c a b) h
 
 -- the moment that is noted of a call that boarded
-pub moment_noted : (s : Snapshot) (c : ℕ) (moves : List Move) (steps : List Step) (moments : List ℕ) (x : Course) (j moment : ℕ) → IsAccepted s → IsTallied s c moves steps moments → course_of s c moves ≡ Some x → j < call_count s → (reached s c x).boarded j ≡ true → moment ≡ get_or moments j moment → moment ≡ (reached s c x).boarded_at j
+pub moment_noted : (s : Snapshot) (c : ℕ) (moves : List Move) (steps : List Step) (moments : List ℕ) (x : Course) (j moment : ℕ) → IsAccepted s
+    → IsTallied s c moves steps moments → course_of s c moves ≡ Some x → j < call_count s → (reached s c x).boarded j ≡ true → moment ≡ get_or moments j moment
+    → moment ≡ (reached s c x).boarded_at j
 moment_noted s c moves steps moments x j moment a t at below boarded is =
     let whole = ap (course_of s c) (take_all (length moves) moves (omega arith)) ∙ at in
     let noted = (t.noted (length moves) x (omega arith) whole).each j below boarded in

@@ -1,5 +1,6 @@
 -- Each move that is lawful after a partial tour is among its lawful moves.
-use Rattle.std.proofs.Common.{◌≡◌, ℕ, zero, suc, ◌+◌, ◌<◌, ◌≤◌, Bool, true, false, cond, ◌&&◌, ◌⊎◌, eqb, ltb, List, [], ◌∷◌, ◌++◌, length, map, get_or, refl, sym, ap, subst, inl, inr, arith, Option, Some, None}
+use Rattle.std.proofs.Common.{◌≡◌, ℕ, zero, suc, ◌+◌, ◌<◌, ◌≤◌, Bool, true, false, cond, ◌&&◌, ◌⊎◌, eqb, ltb, List, [], ◌∷◌, ◌++◌, length, map, get_or, refl}
+use Rattle.std.proofs.Common.{sym, ap, subst, inl, inr, arith, Option, Some, None}
 use Rattle.std.specs.List.{list_all, filter, range_with_len}
 use Rattle.std.specs.Option.{is_some}
 use Rattle.std.proofs.lemmas.Bool.{false≢true, and_parts, and_from, not-false, ltb-true, eqb-true, eqb-false, cases_Bool}
@@ -62,17 +63,21 @@ filter_passes : (t : Move → Bool) (xs : List Move) (k : ℕ) (d : Move) → k 
 filter_passes t [] k d b = absurd (omega arith)
 filter_passes t (x ∷ xs) k d b = passes_cond t x (filter t xs) d (filter_passes t xs) (t x) refl k b
   where
-    passes_cond : (t : Move → Bool) (x : Move) (ys : List Move) (d : Move) → ((k : ℕ) (d : Move) → k < length ys → t (get_or ys k d) ≡ true) → (v : Bool) → t x ≡ v → (k : ℕ) → k < length (cond v (x ∷ ys) ys) → t (get_or (cond v (x ∷ ys) ys) k d) ≡ true
+    passes_cond : (t : Move → Bool) (x : Move) (ys : List Move) (d : Move) → ((k : ℕ) (d : Move) → k < length ys → t (get_or ys k d) ≡ true) → (v : Bool)
+        → t x ≡ v → (k : ℕ) → k < length (cond v (x ∷ ys) ys) → t (get_or (cond v (x ∷ ys) ys) k d) ≡ true
     passes_cond t x ys d later true e zero b = e
     passes_cond t x ys d later true e (suc k) b = later k d (omega arith)
     passes_cond t x ys d later false e k b = later k d b
 
 -- a lawful move of the list is lawful
-pub lawful_at : (s : Snapshot) (c : ℕ) (x : Course) (allowed : ℕ → Bool) (k : ℕ) (d : Move) → k < length (lawful_moves s c x allowed) → is_some (move_on s c x (get_or (lawful_moves s c x allowed) k d)) ≡ true
+pub lawful_at : (s : Snapshot) (c : ℕ) (x : Course) (allowed : ℕ → Bool) (k : ℕ) (d : Move) → k < length (lawful_moves s c x allowed)
+    → is_some (move_on s c x (get_or (lawful_moves s c x allowed) k d)) ≡ true
 lawful_at s c x allowed k d b =
-    (and_parts (boards_allowed allowed (get_or (lawful_moves s c x allowed) k d)) _ (filter_passes (λ m. boards_allowed allowed m && is_some (move_on s c x m)) (all_moves s) k d b)).1
+    (and_parts (boards_allowed allowed (get_or (lawful_moves s c x allowed) k d)) _
+    (filter_passes (λ m. boards_allowed allowed m && is_some (move_on s c x m)) (all_moves s) k d b)).1
 
-floor_of_stand : (s : Snapshot) (c : ℕ) (p : Progress) (g : ℕ) (bs : List ℕ) → may_stand s c p (record { floor = g; boards = bs }) ≡ true → g < floor_count s.building
+floor_of_stand : (s : Snapshot) (c : ℕ) (p : Progress) (g : ℕ) (bs : List ℕ) → may_stand s c p (record { floor = g; boards = bs }) ≡ true
+    → g < floor_count s.building
 floor_of_stand s c p g bs ok =
     let clear = AllClear-from (breaks s c none_taken p (record { floor = g; boards = bs })) rules_but_useless (none-from _ ok) in
     let served = not-false (serves s.building c g) clear.1.1.1.1.1.1.0 in
@@ -95,18 +100,25 @@ some_at (Some z) y h = refl
 in_all : (s : Snapshot) (c : ℕ) (x : Course) (m : Move) (y : Course) → move_on s c x m ≡ Some y → In m (all_moves s)
 in_all s c x (Board j) y h =
     let below = call_of_board s c x x.present j y (cond-some x.ended _ y h).1 in
-    in_front (Board j) (map Board (range_with_len 0 (call_count s)) ++ map Leave (range_with_len 0 (floor_count s.building))) (End ∷ []) (in_front (Board j) (map Board (range_with_len 0 (call_count s))) (map Leave (range_with_len 0 (floor_count s.building))) (in_range Board 0 (call_count s) j (omega arith) (omega arith)))
+    in_front (Board j) (map Board (range_with_len 0 (call_count s)) ++ map Leave (range_with_len 0 (floor_count s.building))) (End ∷ [])
+    (in_front (Board j) (map Board (range_with_len 0 (call_count s))) (map Leave (range_with_len 0 (floor_count s.building)))
+    (in_range Board 0 (call_count s) j (omega arith) (omega arith)))
 in_all s c x (Leave g) y h =
     let below = floor_of_go s c x x.present g y (cond-some x.ended _ y h).1 in
-    in_front (Leave g) (map Board (range_with_len 0 (call_count s)) ++ map Leave (range_with_len 0 (floor_count s.building))) (End ∷ []) (in_back (Leave g) (map Board (range_with_len 0 (call_count s))) (map Leave (range_with_len 0 (floor_count s.building))) (in_range Leave 0 (floor_count s.building) g (omega arith) (omega arith)))
+    in_front (Leave g) (map Board (range_with_len 0 (call_count s)) ++ map Leave (range_with_len 0 (floor_count s.building))) (End ∷ [])
+    (in_back (Leave g) (map Board (range_with_len 0 (call_count s))) (map Leave (range_with_len 0 (floor_count s.building)))
+    (in_range Leave 0 (floor_count s.building) g (omega arith) (omega arith)))
 in_all s c x End y h = in_back End (map Board (range_with_len 0 (call_count s)) ++ map Leave (range_with_len 0 (floor_count s.building))) (End ∷ []) (inl refl)
 
-all_allowed : (s : Snapshot) (c : ℕ) (x : Course) (allowed : ℕ → Bool) (m : Move) (y : Course) → ((j : ℕ) → j < call_count s → allowed j ≡ true) → move_on s c x m ≡ Some y → boards_allowed allowed m ≡ true
+all_allowed : (s : Snapshot) (c : ℕ) (x : Course) (allowed : ℕ → Bool) (m : Move) (y : Course) → ((j : ℕ) → j < call_count s → allowed j ≡ true)
+    → move_on s c x m ≡ Some y → boards_allowed allowed m ≡ true
 all_allowed s c x allowed (Board j) y all h = all j (call_of_board s c x x.present j y (cond-some x.ended _ y h).1)
 all_allowed s c x allowed (Leave g) y all h = refl
 all_allowed s c x allowed End y all h = refl
 
 -- A move that leads on is among the lawful moves, where each call is allowed.
-pub in_lawful : (s : Snapshot) (c : ℕ) (x : Course) (allowed : ℕ → Bool) (m : Move) (y : Course) → ((j : ℕ) → j < call_count s → allowed j ≡ true) → move_on s c x m ≡ Some y → In m (lawful_moves s c x allowed)
+pub in_lawful : (s : Snapshot) (c : ℕ) (x : Course) (allowed : ℕ → Bool) (m : Move) (y : Course) → ((j : ℕ) → j < call_count s → allowed j ≡ true)
+    → move_on s c x m ≡ Some y → In m (lawful_moves s c x allowed)
 in_lawful s c x allowed m y all h =
-    in_filter (λ v. boards_allowed allowed v && is_some (move_on s c x v)) m (all_moves s) (and_from (boards_allowed allowed m) _ (all_allowed s c x allowed m y all h) (some_at (move_on s c x m) y h)) (in_all s c x m y h)
+    in_filter (λ v. boards_allowed allowed v && is_some (move_on s c x v)) m (all_moves s)
+    (and_from (boards_allowed allowed m) _ (all_allowed s c x allowed m y all h) (some_at (move_on s c x m) y h)) (in_all s c x m y h)

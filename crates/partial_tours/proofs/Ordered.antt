@@ -1,5 +1,6 @@
 -- The lawful moves after a partial tour stand in their list in order, and so once each.
-use Rattle.std.proofs.Common.{◌≡◌, ℕ, zero, suc, ◌+◌, ◌<◌, ◌≤◌, Bool, true, false, cond, List, [], ◌∷◌, ◌++◌, length, map, get_or, refl, sym, ap, ◌∙◌, subst, inl, inr, ◌⊎◌, ltb, arith}
+use Rattle.std.proofs.Common.{◌≡◌, ℕ, zero, suc, ◌+◌, ◌<◌, ◌≤◌, Bool, true, false, cond, List, [], ◌∷◌, ◌++◌, length, map, get_or, refl, sym, ap, ◌∙◌, subst}
+use Rattle.std.proofs.Common.{inl, inr, ◌⊎◌, ltb, arith}
 use Rattle.std.specs.List.{filter, range_with_len, slice_get}
 use Rattle.std.proofs.lemmas.Bool.{lt-ltb, ltb-true, cases_Bool}
 use Rattle.elevator_model.specs.declared.Move.{Move}
@@ -25,16 +26,21 @@ rising_append [] ys a b across = b
 rising_append (x ∷ xs) ys a b across =
     (λ m h. elim (in_cases m xs ys h) [ inl k ↦ a.0 m k | inr k ↦ across x m (inl refl) k ], rising_append xs ys a.1 b (λ m n h k. across m n (inr h) k))
 
-in_range-low : (f : ℕ → Move) (index : Move → ℕ) → ((j : ℕ) → index (f j) ≡ j) → (m : Move) (a n : ℕ) → In m (map f (range_with_len a n)) → (a ≤ index m) × (f (index m) ≡ m)
+in_range-low : (f : ℕ → Move) (index : Move → ℕ) → ((j : ℕ) → index (f j) ≡ j) → (m : Move) (a n : ℕ) → In m (map f (range_with_len a n)) → (a ≤ index m)
+    × (f (index m) ≡ m)
 in_range-low f index back m a zero h = absurd h
 in_range-low f index back m a (suc n) (inl e) =
     let same : index m ≡ a = sym (ap index e) ∙ back a in (omega (arith, same), ap f same ∙ e)
 in_range-low f index back m a (suc n) (inr h) = let r = in_range-low f index back m (a + 1) n h in let low = r.0 in (omega arith, r.1)
 
-rising_range : (f : ℕ → Move) (index : Move → ℕ) → ((j : ℕ) → index (f j) ≡ j) → ((i j : ℕ) → i < j → comes_before (f i) (f j) ≡ true) → (a n : ℕ) → AreRising (map f (range_with_len a n))
+rising_range : (f : ℕ → Move) (index : Move → ℕ) → ((j : ℕ) → index (f j) ≡ j) → ((i j : ℕ) → i < j → comes_before (f i) (f j) ≡ true) → (a n : ℕ)
+    → AreRising (map f (range_with_len a n))
 rising_range f index back before a zero = tt
-rising_range f index back before a (suc n) =
-    (λ m h. (let r = in_range-low f index back m (a + 1) n h in let low = r.0 in subst (λ (v : Move). comes_before (f a) v ≡ true) r.1 (before a (index m) (omega arith))), rising_range f index back before (a + 1) n)
+rising_range f index back before a (suc n) = (
+  λ m h. (let r = in_range-low f index back m (a + 1) n h in let low = r.0 in
+      subst (λ (v : Move). comes_before (f a) v ≡ true) r.1 (before a (index m) (omega arith))),
+  rising_range f index back before (a + 1) n,
+)
 
 abbrev index_of : Move → ℕ
 index_of (Board j) = j
@@ -48,9 +54,13 @@ all_before_end End n other e = absurd (other refl)
 
 rising_all : (s : Snapshot) → AreRising (all_moves s)
 rising_all s =
-    rising_append (map Board (range_with_len 0 (call_count s)) ++ map Leave (range_with_len 0 (floor_count s.building))) (End ∷ []) (rising_append (map Board (range_with_len 0 (call_count s))) (map Leave (range_with_len 0 (floor_count s.building))) (rising_range Board index_of (λ j. refl) (λ i j lt. lt-ltb i j lt) 0 (call_count s)) (rising_range Leave index_of (λ j. refl) (λ i j lt. lt-ltb i j lt) 0 (floor_count s.building)) across) ((λ m h. absurd h), tt) to_end
+    rising_append (map Board (range_with_len 0 (call_count s)) ++ map Leave (range_with_len 0 (floor_count s.building))) (End ∷ [])
+    (rising_append (map Board (range_with_len 0 (call_count s))) (map Leave (range_with_len 0 (floor_count s.building)))
+    (rising_range Board index_of (λ j. refl) (λ i j lt. lt-ltb i j lt) 0 (call_count s))
+    (rising_range Leave index_of (λ j. refl) (λ i j lt. lt-ltb i j lt) 0 (floor_count s.building)) across) ((λ m h. absurd h), tt) to_end
   where
-    across : (m n : Move) → In m (map Board (range_with_len 0 (call_count s))) → In n (map Leave (range_with_len 0 (floor_count s.building))) → comes_before m n ≡ true
+    across : (m n : Move) → In m (map Board (range_with_len 0 (call_count s))) → In n (map Leave (range_with_len 0 (floor_count s.building)))
+        → comes_before m n ≡ true
     across m n h k =
         let board = (in_range-low Board index_of (λ j. refl) m 0 (call_count s) h).1 in
         let leave = (in_range-low Leave index_of (λ j. refl) n 0 (floor_count s.building) k).1 in
@@ -62,9 +72,13 @@ rising_all s =
     leave_end : (m : Move) → Leave (index_of m) ≡ m → m ≡ End → ⊥
     leave_end m e k = cc
 
-    to_end : (m n : Move) → In m (map Board (range_with_len 0 (call_count s)) ++ map Leave (range_with_len 0 (floor_count s.building))) → In n (End ∷ []) → comes_before m n ≡ true
+    to_end : (m n : Move) → In m (map Board (range_with_len 0 (call_count s)) ++ map Leave (range_with_len 0 (floor_count s.building))) → In n (End ∷ [])
+        → comes_before m n ≡ true
     to_end m n h (inl e) =
-        all_before_end m n (λ k. elim (in_cases m (map Board (range_with_len 0 (call_count s))) (map Leave (range_with_len 0 (floor_count s.building))) h) [ inl b ↦ board_end m (in_range-low Board index_of (λ j. refl) m 0 (call_count s) b).1 k | inr b ↦ leave_end m (in_range-low Leave index_of (λ j. refl) m 0 (floor_count s.building) b).1 k ]) e
+        all_before_end m n (λ k. elim (in_cases m (map Board (range_with_len 0 (call_count s))) (map Leave (range_with_len 0 (floor_count s.building))) h) [
+          | inl b ↦ board_end m (in_range-low Board index_of (λ j. refl) m 0 (call_count s) b).1 k
+          | inr b ↦ leave_end m (in_range-low Leave index_of (λ j. refl) m 0 (floor_count s.building) b).1 k
+        ]) e
     to_end m n h (inr k) = absurd k
 
 pub in_kept : (t : Move → Bool) (m : Move) (xs : List Move) → In m (filter t xs) → In m xs
@@ -130,7 +144,8 @@ distinct_places (x ∷ xs) (suc j) (suc k) d h lt b same = distinct_places xs j 
 pub filter_behind : (x : Move) (xs : List Move) → ((m : Move) → In m xs → comes_before x m ≡ true) → filter (comes_before x) xs ≡ xs
 filter_behind x [] h = refl
 filter_behind x (y ∷ ys) h =
-    ap (λ (b : Bool). cond b (y ∷ filter (comes_before x) ys) (filter (comes_before x) ys)) (h y (inl refl)) ∙ ap (λ (l : List Move). y ∷ l) (filter_behind x ys (λ m k. h m (inr k)))
+    ap (λ (b : Bool). cond b (y ∷ filter (comes_before x) ys) (filter (comes_before x) ys)) (h y (inl refl))
+    ∙ ap (λ (l : List Move). y ∷ l) (filter_behind x ys (λ m k. h m (inr k)))
 
 first_at : (xs : List Move) → first_of xs ≡ slice_get xs 0
 first_at [] = refl

@@ -13,7 +13,8 @@ pub record IsFirstPassing (test : Move → Bool) (xs : List Move) (from : ℕ) (
   pub fail : (n : ℕ) → from ≤ n → n < place → test (get_or xs n d) ≡ false
   pub is : next ≡ slice_get xs place
 
-one_further : (test : Move → Bool) (x : Move) (xs : List Move) (from : ℕ) (d : Move) (next : Option Move) → IsFirstPassing test xs from d next → IsFirstPassing test (x ∷ xs) (suc from) d next
+one_further : (test : Move → Bool) (x : Move) (xs : List Move) (from : ℕ) (d : Move) (next : Option Move) → IsFirstPassing test xs from d next
+    → IsFirstPassing test (x ∷ xs) (suc from) d next
 one_further test x xs from d next h = let l = h.later in let w = h.within in record {
   place = suc h.place;
   later = omega (arith, l);
@@ -36,18 +37,29 @@ pub first_passing_of : (test : Move → Bool) (xs : List Move) (d : Move) → Is
 first_passing_of test [] d = record { place = 0; later = omega arith; within = omega arith; fail = λ n a b. absurd (omega (arith, b)); is = refl }
 first_passing_of test (x ∷ xs) d = by_test (test x) refl (first_passing_of test xs d)
   where
-    fails : test x ≡ false → (later : IsFirstPassing test xs 0 d (first_of (filter test xs))) (n : ℕ) → 0 ≤ n → n < suc later.place → test (get_or (x ∷ xs) n d) ≡ false
+    fails : test x ≡ false → (later : IsFirstPassing test xs 0 d (first_of (filter test xs))) (n : ℕ) → 0 ≤ n → n < suc later.place
+        → test (get_or (x ∷ xs) n d) ≡ false
     fails e later zero a b = e
     fails e later (suc n) a b = later.fail n (omega arith) (omega (arith, b))
 
-    by_test : (b : Bool) → test x ≡ b → IsFirstPassing test xs 0 d (first_of (filter test xs)) → IsFirstPassing test (x ∷ xs) 0 d (first_of (filter test (x ∷ xs)))
-    by_test true e later = record { place = 0; later = omega arith; within = omega arith; fail = λ n a b. absurd (omega (arith, b)); is = ap first_of (taken test x xs e) }
+    by_test : (b : Bool) → test x ≡ b → IsFirstPassing test xs 0 d (first_of (filter test xs))
+        → IsFirstPassing test (x ∷ xs) 0 d (first_of (filter test (x ∷ xs)))
+    by_test true e later =
+        record { place = 0; later = omega arith; within = omega arith; fail = λ n a b. absurd (omega (arith, b)); is = ap first_of (taken test x xs e) }
     by_test false e later =
         let w = later.within in
-        record { place = suc later.place; later = omega arith; within = omega (arith, w); fail = fails e later; is = ap first_of (passed_by test x xs e) ∙ later.is }
+        record {
+          place = suc later.place;
+          later = omega arith;
+          within = omega (arith, w);
+          fail = fails e later;
+          is = ap first_of (passed_by test x xs e)
+              ∙ later.is;
+        }
 
 -- what comes behind a move
-pub next_passing_of : (test : Move → Bool) (xs : List Move) (k : ℕ) (d : Move) → AreRising xs → k < length xs → IsFirstPassing test xs (suc k) d (next_after (get_or xs k d) (filter test xs))
+pub next_passing_of : (test : Move → Bool) (xs : List Move) (k : ℕ) (d : Move) → AreRising xs → k < length xs
+    → IsFirstPassing test xs (suc k) d (next_after (get_or xs k d) (filter test xs))
 next_passing_of test [] k d h b = absurd (omega (arith, b))
 next_passing_of test (x ∷ xs) zero d h b =
     let first = one_further test x xs 0 d (first_of (filter test xs)) (first_passing_of test xs d) in

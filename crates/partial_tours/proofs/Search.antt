@@ -1,5 +1,6 @@
 -- The depth-first search over partial tours.
-use Rattle.std.proofs.Common.{◌≡◌, ℕ, zero, suc, ◌+◌, ◌-◌, ◌^◌, ◌<◌, ◌≤◌, true, false, cond, ◌⊎◌, eqb, List, [], ◌∷◌, ◌++◌, length, get_or, refl, sym, ap, ◌∙◌, subst, inl, inr, arith, append_assoc, append-nil, length-append, Option, Some, None}
+use Rattle.std.proofs.Common.{◌≡◌, ℕ, zero, suc, ◌+◌, ◌-◌, ◌^◌, ◌<◌, ◌≤◌, true, false, cond, ◌⊎◌, eqb, List, [], ◌∷◌, ◌++◌, length, get_or, refl, sym, ap, ◌∙◌}
+use Rattle.std.proofs.Common.{subst, inl, inr, arith, append_assoc, append-nil, length-append, Option, Some, None}
 use Rattle.std.specs.List.{slice_get, filter}
 use Rattle.std.specs.Option.{IsSome, is_some}
 use Rattle.std.proofs.Math.Nat.{eq-or-lt_of_le}
@@ -15,7 +16,8 @@ use Rattle.call_sets.specs.Counting.{has}
 use Rattle.elevator_model.specs.Building.{most_calls}
 use Rattle.elevator_model.specs.Snapshot.{Snapshot, call_count, IsAccepted}
 use Rattle.elevator_model.specs.Tours.{IsFeasible}
-use Rattle.elevator_model.specs.Partial.{Course, course_of, course_start, move_on, move_on_from, moves_on, lawful_moves, go_on, board_on, end_on, moves_of, IsLawful}
+use Rattle.elevator_model.specs.Partial.{Course, course_of, course_start, move_on, move_on_from, moves_on, lawful_moves, go_on, board_on, end_on, moves_of}
+use Rattle.elevator_model.specs.Partial.{IsLawful}
 use Rattle.partial_tours.specs.PartialTour.{PartialTour, course, with_move}
 use Rattle.tour_rules.specs.Measure.{moves_left}
 use Rattle.tour_rules.proofs.Measure.{moves_left-falls}
@@ -75,14 +77,16 @@ last_of_push : (front : List Move) (m : Move) → slice_get (front ++ m ∷ []) 
 last_of_push front m =
     let size = length-append front (m ∷ []) in
     let place : length (front ++ m ∷ []) - 1 ≡ length front = omega (arith, size) in
-    ap (slice_get (front ++ m ∷ [])) place ∙ slice_get-get_or (front ++ m ∷ []) (length front) m (omega (arith, size)) ∙ ap (λ (y : Move). Some y) (get_or-append_seam front m [] m)
+    ap (slice_get (front ++ m ∷ [])) place ∙ slice_get-get_or (front ++ m ∷ []) (length front) m (omega (arith, size))
+    ∙ ap (λ (y : Move). Some y) (get_or-append_seam front m [] m)
 
 some_of : (o : Option Course) → IsSome o → (x : Course) × (o ≡ Some x)
 some_of None h = absurd (false≢true h)
 some_of (Some x) h = (x, refl)
 
 -- the last move says whether the tour has ended
-pub ended_last : (s : Snapshot) (c : ℕ) (ms : List Move) (m : Move) → IsLawful s c ms → slice_get ms (length ms - 1) ≡ Some m → (x : Course) × (course_of s c ms ≡ Some x) × (ends_tour m ≡ x.ended)
+pub ended_last : (s : Snapshot) (c : ℕ) (ms : List Move) (m : Move) → IsLawful s c ms → slice_get ms (length ms - 1) ≡ Some m → (x : Course)
+    × (course_of s c ms ≡ Some x) × (ends_tour m ≡ x.ended)
 ended_last s c ms m lawful last =
     let x = some_of (course_of s c ms) lawful in
     elim (shape ms) [ inl e ↦ absurd (no_last e) | inr w ↦ (x.0, x.1, by_last w.0 w.1 w.2 x.0 x.1) ]
@@ -115,7 +119,8 @@ pub listed_last : (t : List Stop) (old : List (List Stop)) → IsListed t (old +
 listed_last t old = let size = length-append old (t ∷ []) in (length old, omega (arith, size), get_or-append_seam old t [] [])
 
 -- what stands in the old list stands in the new one
-still_listed : (t : List Stop) (old new : List (List Stop)) → length old ≤ length new → ((k : ℕ) → k < length old → tour_at new k ≡ tour_at old k) → IsListed t old → IsListed t new
+still_listed : (t : List Stop) (old new : List (List Stop)) → length old ≤ length new → ((k : ℕ) → k < length old → tour_at new k ≡ tour_at old k)
+    → IsListed t old → IsListed t new
 still_listed t old new longer kept h = let b = h.1 in (h.0, omega arith, kept h.0 h.1 ∙ h.2)
 
 -- nothing comes after the end
@@ -128,17 +133,21 @@ only_end s c x y (m ∷ later) over h = absurd (stuck m (leads_on s c x m later 
     stuck (Leave g) z e = both_ways x.ended (cond-some x.ended _ z e).0 over
     stuck End z e = both_ways x.ended (cond-some x.ended _ z e).0 over
 
-after : (s : Snapshot) (c : ℕ) (ms later : List Move) (x y : Course) → course_of s c ms ≡ Some x → course_of s c (ms ++ later) ≡ Some y → moves_on s c (Some x) later ≡ Some y
+after : (s : Snapshot) (c : ℕ) (ms later : List Move) (x y : Course) → course_of s c ms ≡ Some x → course_of s c (ms ++ later) ≡ Some y
+    → moves_on s c (Some x) later ≡ Some y
 after s c ms later x y h k = sym (ap (λ (o : Option Course). moves_on s c o later) h) ∙ sym (moves_on-append s c (Some (course_start s c)) ms later) ∙ k
 
 -- the tour of an ended partial tour is added
-pub adds_tour : (p : PartialTour) (x : Course) (tour : List Stop) (old : List (List Stop)) → course p ≡ Some x → x.ended ≡ true → tour ≡ x.left → AddsTours p old (old ++ tour ∷ [])
+pub adds_tour : (p : PartialTour) (x : Course) (tour : List Stop) (old : List (List Stop)) → course p ≡ Some x → x.ended ≡ true → tour ≡ x.left
+    → AddsTours p old (old ++ tour ∷ [])
 adds_tour p x tour old leads over same = record {
   longer = (let size = length-append old (tour ∷ []) in omega (arith, size));
   kept = λ k b. get_or-append old (tour ∷ []) [] k b;
   feasible = λ k low b. subst (IsFeasible p.snapshot p.car) (sym (here k low b ∙ same)) (ended_feasible p.snapshot p.car p.moves x leads over);
   follows = λ k low b. ([], ap (moves_of p.snapshot) (here k low b ∙ same) ∙ moves_told p.snapshot p.car p.moves x leads over ∙ sym (append-nil p.moves));
-  complete = λ later y h ended. (let one = only_end p.snapshot p.car x y later over (after p.snapshot p.car p.moves later x y leads h) in subst (λ (t : List Stop). IsListed t (old ++ tour ∷ [])) (same ∙ ap (λ (z : Course). z.left) one) (listed_last tour old));
+  complete = λ later y h ended.
+      (let one = only_end p.snapshot p.car x y later over (after p.snapshot p.car p.moves later x y leads h) in
+      subst (λ (t : List Stop). IsListed t (old ++ tour ∷ [])) (same ∙ ap (λ (z : Course). z.left) one) (listed_last tour old));
   once = λ j k low lt b _. (let size = length-append old (tour ∷ []) in absurd (omega (arith, size)));
 }
   where
@@ -155,8 +164,10 @@ pub record AddsFirst (p : PartialTour) (nexts : List Move) (i : ℕ) (old new : 
   pub longer : length old ≤ length new
   pub kept : (k : ℕ) → k < length old → tour_at new k ≡ tour_at old k
   pub feasible : (k : ℕ) → length old ≤ k → k < length new → IsFeasible p.snapshot p.car (tour_at new k)
-  pub follows : (k : ℕ) → length old ≤ k → k < length new → (n : ℕ) × (n < i) × ((later : List Move) × (moves_of p.snapshot (tour_at new k) ≡ p.moves ++ get_or nexts n (Board 0) ∷ later))
-  pub done : (k : ℕ) → k < i → (later : List Move) (x : Course) → course_of p.snapshot p.car (p.moves ++ get_or nexts k (Board 0) ∷ later) ≡ Some x → x.ended ≡ true → IsListed x.left new
+  pub follows : (k : ℕ) → length old ≤ k → k < length new → (n : ℕ) × (n < i)
+      × ((later : List Move) × (moves_of p.snapshot (tour_at new k) ≡ p.moves ++ get_or nexts n (Board 0) ∷ later))
+  pub done : (k : ℕ) → k < i → (later : List Move) (x : Course) → course_of p.snapshot p.car (p.moves ++ get_or nexts k (Board 0) ∷ later) ≡ Some x
+      → x.ended ≡ true → IsListed x.left new
   pub once : (j k : ℕ) → length old ≤ j → j < k → k < length new → moves_of p.snapshot (tour_at new j) ≡ moves_of p.snapshot (tour_at new k) → ⊥
 
 pub adds_none : (p : PartialTour) (nexts : List Move) (old : List (List Stop)) → AddsFirst p nexts 0 old old
@@ -177,7 +188,8 @@ cancel_front (m ∷ front) a b h = let tails : front ++ a ≡ front ++ b = cc in
 first_same : (m n : Move) (a b : List Move) → m ∷ a ≡ n ∷ b → m ≡ n
 first_same m n a b h = cc
 
-pub adds_next : (p : PartialTour) (nexts : List Move) (i : ℕ) (old mid new : List (List Stop)) (m : Move) → AreRising nexts → i < length nexts → AddsFirst p nexts i old mid → m ≡ get_or nexts i (Board 0) → AddsTours (with_move p m) mid new → AddsFirst p nexts (i + 1) old new
+pub adds_next : (p : PartialTour) (nexts : List Move) (i : ℕ) (old mid new : List (List Stop)) (m : Move) → AreRising nexts → i < length nexts
+    → AddsFirst p nexts i old mid → m ≡ get_or nexts i (Board 0) → AddsTours (with_move p m) mid new → AddsFirst p nexts (i + 1) old new
 adds_next p nexts i old mid new m distinct within first same more = record {
   longer = (let a = first.longer in let b = more.longer in omega arith);
   kept = λ k b. more.kept k (let longer = first.longer in omega arith) ∙ first.kept k b;
@@ -189,26 +201,58 @@ adds_next p nexts i old mid new m distinct within first same more = record {
   where
     feasible_at : (k : ℕ) → length old ≤ k → k < length new → IsFeasible p.snapshot p.car (tour_at new k)
     feasible_at k low b =
-        elim (cases_lt k (length mid)) [ inl lt ↦ subst (IsFeasible p.snapshot p.car) (sym (more.kept k lt)) (first.feasible k low lt) | inr ge ↦ more.feasible k ge b ]
+        elim (cases_lt k (length mid)) [
+          | inl lt ↦ subst (IsFeasible p.snapshot p.car) (sym (more.kept k lt)) (first.feasible k low lt)
+          | inr ge ↦ more.feasible k ge b
+        ]
 
-    follows_at : (k : ℕ) → length old ≤ k → k < length new → (n : ℕ) × (n < i + 1) × ((later : List Move) × (moves_of p.snapshot (tour_at new k) ≡ p.moves ++ get_or nexts n (Board 0) ∷ later))
+    follows_at : (k : ℕ) → length old ≤ k → k < length new → (n : ℕ) × (n < i + 1)
+        × ((later : List Move) × (moves_of p.snapshot (tour_at new k) ≡ p.moves ++ get_or nexts n (Board 0) ∷ later))
     follows_at k low b =
-        elim (cases_lt k (length mid)) [ inl lt ↦ (let f = first.follows k low lt in let g = f.1 in (f.0, omega arith, (f.2.0, ap (moves_of p.snapshot) (more.kept k lt) ∙ f.2.1))) | inr ge ↦ (i, omega arith, (let f = more.follows k ge b in (f.0, f.1 ∙ append_assoc p.moves (m ∷ []) f.0 ∙ ap (λ (v : Move). p.moves ++ v ∷ f.0) same))) ]
+        elim (cases_lt k (length mid)) [
+          | inl lt ↦ (let f = first.follows k low lt in let g = f.1 in (f.0, omega arith, (f.2.0, ap (moves_of p.snapshot) (more.kept k lt) ∙ f.2.1)))
+          | inr ge ↦ (
+            i,
+            omega arith,
+            (let f = more.follows k ge b in (f.0, f.1 ∙ append_assoc p.moves (m ∷ []) f.0 ∙ ap (λ (v : Move). p.moves ++ v ∷ f.0) same)),
+          )
+        ]
 
-    done_at : (k : ℕ) → k < i + 1 → (later : List Move) (x : Course) → course_of p.snapshot p.car (p.moves ++ get_or nexts k (Board 0) ∷ later) ≡ Some x → x.ended ≡ true → IsListed x.left new
+    done_at : (k : ℕ) → k < i + 1 → (later : List Move) (x : Course) → course_of p.snapshot p.car (p.moves ++ get_or nexts k (Board 0) ∷ later) ≡ Some x
+        → x.ended ≡ true → IsListed x.left new
     done_at k b later x h ended =
         let le : k ≤ i = omega arith in
-        elim (eq-or-lt_of_le le) [ inl e ↦ more.complete later x (ap (course_of p.snapshot p.car) (append_assoc p.moves (m ∷ []) later ∙ ap (λ (v : Move). p.moves ++ v ∷ later) (same ∙ sym (ap (λ (j : ℕ). get_or nexts j (Board 0)) e))) ∙ h) ended | inr lt ↦ still_listed x.left mid new more.longer more.kept (first.done k lt later x h ended) ]
+        elim (eq-or-lt_of_le le) [
+          | inl e ↦ more.complete later x
+              (ap (course_of p.snapshot p.car)
+              (append_assoc p.moves (m ∷ []) later ∙ ap (λ (v : Move). p.moves ++ v ∷ later) (same ∙ sym (ap (λ (j : ℕ). get_or nexts j (Board 0)) e))) ∙ h)
+              ended
+          | inr lt ↦ still_listed x.left mid new more.longer more.kept (first.done k lt later x h ended)
+        ]
 
     once_at : (j k : ℕ) → length old ≤ j → j < k → k < length new → moves_of p.snapshot (tour_at new j) ≡ moves_of p.snapshot (tour_at new k) → ⊥
     once_at j k low lt b e =
-        elim (cases_lt k (length mid)) [ inl early_k ↦ first.once j k low lt early_k (sym (ap (moves_of p.snapshot) (more.kept j (omega arith))) ∙ e ∙ ap (moves_of p.snapshot) (more.kept k early_k)) | inr late_k ↦ elim (cases_lt j (length mid)) [ inl early_j ↦ (let f = first.follows j low early_j in let g = more.follows k late_k b in distinct_places nexts f.0 i (Board 0) distinct f.1 within (first_same (get_or nexts f.0 (Board 0)) (get_or nexts i (Board 0)) f.2.0 g.0 (cancel_front p.moves (get_or nexts f.0 (Board 0) ∷ f.2.0) (get_or nexts i (Board 0) ∷ g.0) (sym f.2.1 ∙ sym (ap (moves_of p.snapshot) (more.kept j early_j)) ∙ e ∙ g.1 ∙ append_assoc p.moves (m ∷ []) g.0 ∙ ap (λ (v : Move). p.moves ++ v ∷ g.0) same)))) | inr late_j ↦ more.once j k late_j lt b e ] ]
+        elim (cases_lt k (length mid)) [
+          | inl early_k ↦
+              first.once j k low lt early_k (sym (ap (moves_of p.snapshot) (more.kept j (omega arith))) ∙ e ∙ ap (moves_of p.snapshot) (more.kept k early_k))
+          | inr late_k ↦ elim (cases_lt j (length mid)) [
+            | inl early_j ↦
+                (let f = first.follows j low early_j in let g = more.follows k late_k b in
+                distinct_places nexts f.0 i (Board 0) distinct f.1 within
+                (first_same (get_or nexts f.0 (Board 0)) (get_or nexts i (Board 0)) f.2.0 g.0
+                (cancel_front p.moves (get_or nexts f.0 (Board 0) ∷ f.2.0) (get_or nexts i (Board 0) ∷ g.0)
+                (sym f.2.1 ∙ sym (ap (moves_of p.snapshot) (more.kept j early_j)) ∙ e ∙ g.1 ∙ append_assoc p.moves (m ∷ []) g.0
+                ∙ ap (λ (v : Move). p.moves ++ v ∷ g.0) same))))
+            | inr late_j ↦ more.once j k late_j lt b e
+          ]
+        ]
 
 -- 2 ^ 128 - 1 has each call
 pub all_calls : (s : Snapshot) → call_count s ≤ 128 → (j : ℕ) → j < call_count s → has (2 ^ 128 - 1) j ≡ true
 all_calls s few j b = ap (λ (n : ℕ). eqb n 1) (bit_at_ones 128 j (omega arith))
 
-pub adds_all : (p : PartialTour) (x : Course) (nexts : List Move) (old new : List (List Stop)) → call_count p.snapshot ≤ 128 → course p ≡ Some x → x.ended ≡ false → nexts ≡ lawful_moves p.snapshot p.car x (has (2 ^ 128 - 1)) → AddsFirst p nexts (length nexts) old new → AddsTours p old new
+pub adds_all : (p : PartialTour) (x : Course) (nexts : List Move) (old new : List (List Stop)) → call_count p.snapshot ≤ 128 → course p ≡ Some x
+    → x.ended ≡ false → nexts ≡ lawful_moves p.snapshot p.car x (has (2 ^ 128 - 1)) → AddsFirst p nexts (length nexts) old new → AddsTours p old new
 adds_all p x nexts old new few leads runs are first = record {
   longer = first.longer;
   kept = first.kept;
@@ -220,19 +264,26 @@ adds_all p x nexts old new few leads runs are first = record {
   where
     complete_by : (later : List Move) (y : Course) → course_of p.snapshot p.car (p.moves ++ later) ≡ Some y → y.ended ≡ true → IsListed y.left new
     complete_by [] y h ended =
-        let here = after p.snapshot p.car p.moves [] x y leads h in let same : x ≡ y = cc in absurd (both_ways x.ended runs (ap (λ (z : Course). z.ended) same ∙ ended))
+        let here = after p.snapshot p.car p.moves [] x y leads h in let same : x ≡ y = cc in
+        absurd (both_ways x.ended runs (ap (λ (z : Course). z.ended) same ∙ ended))
     complete_by (m ∷ later) y h ended =
         let step = leads_on p.snapshot p.car x m later y (after p.snapshot p.car p.moves (m ∷ later) x y leads h) in
         let among = in_lawful p.snapshot p.car x (has (2 ^ 128 - 1)) m step.next (all_calls p.snapshot few) step.first in
-        at_place (λ (v : Move). course_of p.snapshot p.car (p.moves ++ v ∷ later) ≡ Some y → IsListed y.left new) m nexts (Board 0) (subst (In m) (sym are) among) (λ k b led. first.done k b later y led ended) h
+        at_place (λ (v : Move). course_of p.snapshot p.car (p.moves ++ v ∷ later) ≡ Some y → IsListed y.left new) m nexts (Board 0)
+        (subst (In m) (sym are) among) (λ k b led. first.done k b later y led ended) h
 
 -- a move of the list is lawful
-pub next_lawful : (p : PartialTour) (x : Course) (nexts : List Move) (k : ℕ) (m : Move) → course p ≡ Some x → nexts ≡ lawful_moves p.snapshot p.car x (has (2 ^ 128 - 1)) → k < length nexts → m ≡ get_or nexts k (Board 0) → IsLawful p.snapshot p.car (p.moves ++ m ∷ [])
+pub next_lawful : (p : PartialTour) (x : Course) (nexts : List Move) (k : ℕ) (m : Move) → course p ≡ Some x
+    → nexts ≡ lawful_moves p.snapshot p.car x (has (2 ^ 128 - 1)) → k < length nexts → m ≡ get_or nexts k (Board 0)
+    → IsLawful p.snapshot p.car (p.moves ++ m ∷ [])
 next_lawful p x nexts k m leads are b same =
     let bound : k < length (lawful_moves p.snapshot p.car x (has (2 ^ 128 - 1))) = subst (λ (l : List Move). k < length l) are b in
     let moved = lawful_at p.snapshot p.car x (has (2 ^ 128 - 1)) k (Board 0) bound in
-    let here : is_some (move_on p.snapshot p.car x m) ≡ true = subst (λ (v : Move). is_some (move_on p.snapshot p.car x v) ≡ true) (sym (same ∙ ap (λ (l : List Move). get_or l k (Board 0)) are)) moved in
-    subst (λ (o : Option Course). is_some o ≡ true) (sym (moves_on-append p.snapshot p.car (Some (course_start p.snapshot p.car)) p.moves (m ∷ []) ∙ ap (λ (o : Option Course). move_on_from p.snapshot p.car o m) leads)) here
+    let here : is_some (move_on p.snapshot p.car x m) ≡ true =
+    subst (λ (v : Move). is_some (move_on p.snapshot p.car x v) ≡ true) (sym (same ∙ ap (λ (l : List Move). get_or l k (Board 0)) are)) moved in
+    subst (λ (o : Option Course). is_some o ≡ true)
+    (sym (moves_on-append p.snapshot p.car (Some (course_start p.snapshot p.car)) p.moves (m ∷ [])
+    ∙ ap (λ (o : Option Course). move_on_from p.snapshot p.car o m) leads)) here
 
 -- ---- a walk from one of these moves to the next
 
@@ -260,7 +311,8 @@ first_place : (moves : List Move) → first_of moves ≡ slice_get moves 0
 first_place [] = refl
 first_place (m ∷ moves) = refl
 
-pub walks_first : (p : PartialTour) (x : Course) (next : Option Move) (old : List (List Stop)) → course p ≡ Some x → next ≡ first_of (lawful_moves p.snapshot p.car x (has (2 ^ 128 - 1))) → Walks p next old old
+pub walks_first : (p : PartialTour) (x : Course) (next : Option Move) (old : List (List Stop)) → course p ≡ Some x
+    → next ≡ first_of (lawful_moves p.snapshot p.car x (has (2 ^ 128 - 1))) → Walks p next old old
 unfolding followers next_from
 walks_first p x next old leads are =
     let same = ap (next_from p.snapshot p.car) leads in
@@ -291,14 +343,17 @@ rising_followers p = by_course (course p)
     by_course (Some x) = rising_lawful p.snapshot p.car x (has (2 ^ 128 - 1))
 
 -- the move is lawful
-pub walks_lawful : (p : PartialTour) (x : Course) (m : Move) (old new : List (List Stop)) → course p ≡ Some x → Walks p (Some m) old new → IsLawful p.snapshot p.car (p.moves ++ m ∷ [])
+pub walks_lawful : (p : PartialTour) (x : Course) (m : Move) (old new : List (List Stop)) → course p ≡ Some x → Walks p (Some m) old new
+    → IsLawful p.snapshot p.car (p.moves ++ m ∷ [])
 unfolding followers next_from
 walks_lawful p x m old new leads walks =
     let here = in_place (followers p) walks.place m walks.is in
     next_lawful p x (followers p) walks.place m leads (ap (next_from p.snapshot p.car) leads) here.0 here.1
 
 -- one move further
-pub walks_on : (p : PartialTour) (x : Course) (m : Move) (next : Option Move) (old mid new : List (List Stop)) → course p ≡ Some x → Walks p (Some m) old mid → AddsTours (with_move p m) mid new → next ≡ next_after m (lawful_moves p.snapshot p.car x (has (2 ^ 128 - 1))) → Walks p next old new × (from_next next (followers p) < from_next (Some m) (followers p))
+pub walks_on : (p : PartialTour) (x : Course) (m : Move) (next : Option Move) (old mid new : List (List Stop)) → course p ≡ Some x → Walks p (Some m) old mid
+    → AddsTours (with_move p m) mid new → next ≡ next_after m (lawful_moves p.snapshot p.car x (has (2 ^ 128 - 1))) → Walks p next old new
+    × (from_next next (followers p) < from_next (Some m) (followers p))
 unfolding followers next_from
 walks_on p x m next old mid new leads walks more are =
     let rising = rising_followers p in
@@ -318,7 +373,8 @@ walks_on p x m next old mid new leads walks more are =
       fewer next is (omega (arith, left, at_m)),
     )
   where
-    fewer : (o : Option Move) → o ≡ slice_get (followers p) (suc walks.place) → from_next (Some m) (followers p) + walks.place ≡ length (followers p) → from_next o (followers p) < from_next (Some m) (followers p)
+    fewer : (o : Option Move) → o ≡ slice_get (followers p) (suc walks.place) → from_next (Some m) (followers p) + walks.place ≡ length (followers p)
+        → from_next o (followers p) < from_next (Some m) (followers p)
     fewer None e size = omega arith
     fewer (Some n) e size =
         let there = in_place (followers p) (suc walks.place) n e in
@@ -327,11 +383,13 @@ walks_on p x m next old mid new leads walks more are =
         omega (arith, left, at_n, size)
 
 -- no move is left, and all tours are added
-pub walks_end : (p : PartialTour) (x : Course) (old new : List (List Stop)) → call_count p.snapshot ≤ 128 → course p ≡ Some x → x.ended ≡ false → Walks p None old new → AddsTours p old new
+pub walks_end : (p : PartialTour) (x : Course) (old new : List (List Stop)) → call_count p.snapshot ≤ 128 → course p ≡ Some x → x.ended ≡ false
+    → Walks p None old new → AddsTours p old new
 unfolding followers next_from
 walks_end p x old new few leads runs walks =
     let all = no_place (followers p) walks.place walks.within walks.is in
-    adds_all p x (followers p) old new few leads runs (ap (next_from p.snapshot p.car) leads) (subst (λ (i : ℕ). AddsFirst p (followers p) i old new) all walks.added)
+    adds_all p x (followers p) old new few leads runs (ap (next_from p.snapshot p.car) leads)
+    (subst (λ (i : ℕ). AddsFirst p (followers p) i old new) all walks.added)
 
 -- one more move, and fewer are left
 pub left_falls : (p : PartialTour) (m : Move) → IsLawful p.snapshot p.car (p.moves ++ m ∷ []) → left_in (with_move p m) < left_in p

@@ -5,7 +5,8 @@ use Rattle.elevator_model.specs.declared.Stop.{Stop}
 use Rattle.elevator_model.specs.declared.Move.{Move}
 use Rattle.call_sets.specs.Counting.{has, any_below}
 use Rattle.elevator_model.specs.Snapshot.{Snapshot, call_count, call_of, spec_of}
-use Rattle.elevator_model.specs.Tours.{Progress, rider_count, persons_where, stays_on, boards_at, gets_off, is_call_for, overtakes, is_later_in_queue, persons_of}
+use Rattle.elevator_model.specs.Tours.{Progress, rider_count, persons_where, stays_on, boards_at, gets_off, is_call_for, overtakes, is_later_in_queue}
+use Rattle.elevator_model.specs.Tours.{persons_of}
 use Rattle.elevator_model.specs.Partial.{Course, progress_after, may_stand, may_be_left, boards_allowed, move_on}
 use Rattle.partial_tours.specs.declared.points.Point.{Point}
 use Rattle.tour_rules.specs.Leaving.{IsKept}
@@ -75,7 +76,8 @@ empty_stop g = record { floor = g; boards = [] }
 -- what a call needs to board at a stop that stands
 abbrev pub board_test : Snapshot → ℕ → Progress → Stop → ℕ → Bool
 board_test s c q p j =
-    is_call_for s c j && not (q.boarded j) && ((call_of s j).origin == p.floor) && not (overtakes s q j) && nat_le (persons_where s (stays_on s q p.floor) + persons_where s (boards_at s p) + persons_of s j) (spec_of s c).capacity
+    is_call_for s c j && not (q.boarded j) && ((call_of s j).origin == p.floor) && not (overtakes s q j)
+    && nat_le (persons_where s (stays_on s q p.floor) + persons_where s (boards_at s p) + persons_of s j) (spec_of s c).capacity
 
 -- a move that boards allowed calls only and is lawful
 abbrev pub may_be_next : Snapshot → ℕ → Course → (allowed : ℕ → Bool) → Move → Bool

@@ -47,12 +47,14 @@ with_moment End opened moments = moments
 
 -- the move is lawful where the point and the tally stand
 abbrev pub LeadsOnTallied : Snapshot → ℕ → Point → Tally → List ℕ → Move → Type 0
-LeadsOnTallied s c point tally moments m = (x : Course) × (y : Course) × (count : ℕ) × TracksCourse s c point x × IsTally s c count tally x × AreNoted s c moments x × (count < 450) × (move_on s c x m ≡ Some y)
+LeadsOnTallied s c point tally moments m = (x : Course) × (y : Course) × (count : ℕ) × TracksCourse s c point x × IsTally s c count tally x
+    × AreNoted s c moments x × (count < 450) × (move_on s c x m ≡ Some y)
 
 -- a lawful move leads from the one step to the other
 abbrev pub IsStepAfter : Snapshot → ℕ → Step → List ℕ → Move → Step → Type 0
 IsStepAfter s c step moments m new =
-    (x y : Course) (count : ℕ) → TracksCourse s c step.point x → IsTally s c count step.tally x → AreNoted s c moments x → count < 450 → move_on s c x m ≡ Some y → TracksCourse s c new.point y × IsTally s c (count + 1) new.tally y
+    (x y : Course) (count : ℕ) → TracksCourse s c step.point x → IsTally s c count step.tally x → AreNoted s c moments x → count < 450
+    → move_on s c x m ≡ Some y → TracksCourse s c new.point y × IsTally s c (count + 1) new.tally y
 
 -- What a partial tour keeps: a tally after each of its moves, and the moments at which calls boarded.
 pub record IsTallied (s : Snapshot) (c : ℕ) (moves : List Move) (steps : List Step) (moments : List ℕ) : Type 0 where

@@ -12,7 +12,8 @@ use Rattle.lift_picture.specs.declared.scenes.Scene.{Scene}
 use Rattle.picture_reader.specs.declared.log_kinds.Happenings.{Happenings}
 use Rattle.log_rows.specs.Rows.{AreRowsGiven, TellsNoLog}
 use Rattle.picture_reader.specs.LogDrafts.{Draft, after, blank}
-use Rattle.picture_reader.specs.DayScenes.{IsAnswered, IsDayAnswered, IsLogAnswered, IsLogRead, IsSceneOf, bad_line, bad_opening, behind, in_log, line_behind, no_log}
+use Rattle.picture_reader.specs.DayScenes.{IsAnswered, IsDayAnswered, IsLogAnswered, IsLogRead, IsSceneOf, bad_line, bad_opening, behind, in_log, line_behind}
+use Rattle.picture_reader.specs.DayScenes.{no_log}
 
 -- what is told of one thing is told of another that follows
 tells : {P Q : Type 0} (fault : TextFault) → (P → Q) → Tells fault P → Tells fault Q
@@ -24,7 +25,8 @@ tells NoMemory f told = tt
 -- ---- the lines of a log
 
 module _ (opening : Snapshot) (rows : List (Option GoodRow)) (before now : Option TextState) (start end : Draft) (blank_is : start ≡ blank opening rows) where
-  pub log_read : (told : Happenings) → told.legs.items ≡ end.legs → told.refusals.items ≡ end.refusals → ReadAs after before start (Ok tt) end now → IsLogRead opening rows before (Ok told) now
+  pub log_read : (told : Happenings) → told.legs.items ≡ end.legs → told.refusals.items ≡ end.refusals → ReadAs after before start (Ok tt) end now
+      → IsLogRead opening rows before (Ok told) now
   log_read told legs refusals read = at before (subst (λ (d : Draft). ReadAs after before d (Ok tt) end now) blank_is read)
     where
       at : (text : Option TextState) → ReadAs after text (blank opening rows) (Ok tt) end now → IsLogRead opening rows text (Ok told) now
@@ -44,21 +46,32 @@ module _ (opening : Snapshot) (rows : List (Option GoodRow)) (before now : Optio
 -- ---- a whole log
 
 module _ (opening : Snapshot) (rows : List (Option GoodRow)) where
-  pub log_shown : (before mid : Option TextState) (told : Happenings) (scene : Scene) → IsLogRead opening rows before (Ok told) mid → IsEnd mid → IsSceneOf opening told.legs.items told.refusals.items scene → IsLogAnswered opening rows before (Ok scene)
+  pub log_shown : (before mid : Option TextState) (told : Happenings) (scene : Scene) → IsLogRead opening rows before (Ok told) mid → IsEnd mid
+      → IsSceneOf opening told.legs.items told.refusals.items scene → IsLogAnswered opening rows before (Ok scene)
   log_shown None mid told scene read ends shown = tt
   log_shown (Some log) None told scene read ends shown = absurd read.3
   log_shown (Some log) (Some rest) told scene read ends shown = record {
     end = read.0;
     lines = ends.0;
     front = read.3 ∙ ap (λ (r : Reading). accepted read.0 r) ends.1;
-    shown = record { axis = shown.axis; floors = shown.floors; start = shown.start; cars = shown.cars; legs_are = shown.legs_are ∙ read.1; refusals_are = shown.refusals_are ∙ read.2 };
+    shown = record {
+      axis = shown.axis;
+      floors = shown.floors;
+      start = shown.start;
+      cars = shown.cars;
+      legs_are = shown.legs_are
+          ∙ read.1;
+      refusals_are = shown.refusals_are ∙ read.2;
+    };
   }
 
-  pub log_bad : (before now : Option TextState) (fault : TextFault) → IsLogRead opening rows before (Err fault) now → IsLogAnswered opening rows before (Err fault)
+  pub log_bad : (before now : Option TextState) (fault : TextFault) → IsLogRead opening rows before (Err fault) now
+      → IsLogAnswered opening rows before (Err fault)
   log_bad None now fault read = tt
   log_bad (Some log) now fault read = tells fault (λ bad. bad_line bad) read
 
-  pub log_late : (before mid : Option TextState) (told : Happenings) (fault : TextFault) → IsLogRead opening rows before (Ok told) mid → IsNoEnd mid fault → IsLogAnswered opening rows before (Err fault)
+  pub log_late : (before mid : Option TextState) (told : Happenings) (fault : TextFault) → IsLogRead opening rows before (Ok told) mid → IsNoEnd mid fault
+      → IsLogAnswered opening rows before (Err fault)
   log_late None mid told fault read late = tt
   log_late (Some log) None told fault read late = absurd read.3
   log_late (Some log) (Some rest) told fault read late = tells fault (λ is. line_behind read.0 (reading rest) read.3 is) late
@@ -69,7 +82,8 @@ module _ (opening : Snapshot) (rows : List (Option GoodRow)) where
 
 -- ---- behind the opening
 
-pub day_answered : (opening : Snapshot) (rows : List (Option GoodRow)) (before mid : Option TextState) (answer : Result Scene TextFault) → AreRowsGiven opening.building rows before mid → IsLogAnswered opening rows mid answer → IsDayAnswered opening before answer
+pub day_answered : (opening : Snapshot) (rows : List (Option GoodRow)) (before mid : Option TextState) (answer : Result Scene TextFault)
+    → AreRowsGiven opening.building rows before mid → IsLogAnswered opening rows mid answer → IsDayAnswered opening before answer
 day_answered opening rows None mid (Ok scene) given shows = tt
 day_answered opening rows (Some from) None (Ok scene) given shows = absurd given
 day_answered opening rows (Some from) (Some log) (Ok scene) given shows = record { rows = rows; log = log; front = given; shows = shows }
@@ -86,7 +100,8 @@ rows_refused opening (Some from) NoMemory told = tt
 
 -- ---- a text
 
-pub text_answered : (opening : Snapshot) (before mid : Option TextState) (answer : Result Scene TextFault) → IsDayOpeningRead before opening mid → IsDayAnswered opening mid answer → IsAnswered before answer
+pub text_answered : (opening : Snapshot) (before mid : Option TextState) (answer : Result Scene TextFault) → IsDayOpeningRead before opening mid
+    → IsDayAnswered opening mid answer → IsAnswered before answer
 text_answered opening None mid (Ok scene) opens shows = tt
 text_answered opening (Some text) None (Ok scene) opens shows = absurd opens
 text_answered opening (Some text) (Some from) (Ok scene) opens shows = record { opening = opening; from = from; opens = opens; shows = shows }

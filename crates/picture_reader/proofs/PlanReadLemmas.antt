@@ -21,7 +21,8 @@ tells NoMemory f told = tt
 -- ---- an answer
 
 module _ (s : Snapshot) where
-  pub answer_shown : (before mid : Option TextState) (stated : Stated) (scene : Scene) → IsReadAnswer before s stated mid → IsEnd mid → IsSceneOf s stated scene → IsAnswerShown s before (Ok scene)
+  pub answer_shown : (before mid : Option TextState) (stated : Stated) (scene : Scene) → IsReadAnswer before s stated mid → IsEnd mid
+      → IsSceneOf s stated scene → IsAnswerShown s before (Ok scene)
   answer_shown None mid stated scene read ends shown = tt
   answer_shown (Some from) None stated scene read ends shown = absurd read.2
   answer_shown (Some from) (Some rest) stated scene read ends shown = record {
@@ -38,7 +39,8 @@ module _ (s : Snapshot) where
   answer_bad (Some from) now Read refused = tt
   answer_bad (Some from) now NoMemory refused = tt
 
-  pub answer_late : (before mid : Option TextState) (stated : Stated) (fault : TextFault) → IsReadAnswer before s stated mid → IsNoEnd mid fault → IsAnswerShown s before (Err fault)
+  pub answer_late : (before mid : Option TextState) (stated : Stated) (fault : TextFault) → IsReadAnswer before s stated mid → IsNoEnd mid fault
+      → IsAnswerShown s before (Err fault)
   answer_late None mid stated fault read late = tt
   answer_late (Some from) None stated fault read late = absurd read.2
   answer_late (Some from) (Some rest) stated fault read late = tells fault (λ is. line_behind read.0 (reading rest) read.2 is) late
@@ -49,7 +51,8 @@ module _ (s : Snapshot) where
 
 -- ---- a text
 
-pub plan_answered : (s : Snapshot) (before mid : Option TextState) (answer : Result Scene TextFault) → IsReadCase before s mid → IsAnswerShown s mid answer → IsPlanAnswered before answer
+pub plan_answered : (s : Snapshot) (before mid : Option TextState) (answer : Result Scene TextFault) → IsReadCase before s mid → IsAnswerShown s mid answer
+    → IsPlanAnswered before answer
 plan_answered s None mid (Ok scene) case shows = tt
 plan_answered s (Some text) None (Ok scene) case shows = absurd case
 plan_answered s (Some text) (Some from) (Ok scene) case shows = record { snapshot = s; from = reading from; case = case; shows = shows }

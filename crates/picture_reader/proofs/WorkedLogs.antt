@@ -38,11 +38,13 @@ other_answer = refl
 no_call : outcome after (line_with 23 (codes "board" ∷ codes "2" ∷ codes "1" ∷ codes "4000" ∷ []) (finished 23)) (blank opening rows) ≡ refused 23 UnknownId
 no_call = refl
 
-not_boarded : outcome after (line_with 23 (codes "deliver" ∷ codes "1" ∷ codes "1" ∷ codes "7500" ∷ []) (finished 23)) (blank opening rows) ≡ refused 23 OutOfOrder
+not_boarded : outcome after (line_with 23 (codes "deliver" ∷ codes "1" ∷ codes "1" ∷ codes "7500" ∷ []) (finished 23)) (blank opening rows)
+    ≡ refused 23 OutOfOrder
 not_boarded = refl
 
 -- the totals before each row has its line, and what is no line of a log
-early_totals : outcome after (line_with 17 row_one (line_with 19 (codes "total" ∷ codes "1" ∷ codes "0" ∷ codes "0" ∷ []) (finished 21))) (blank opening rows) ≡ refused 19 OutOfOrder
+early_totals : outcome after (line_with 17 row_one (line_with 19 (codes "total" ∷ codes "1" ∷ codes "0" ∷ codes "0" ∷ []) (finished 21))) (blank opening rows)
+    ≡ refused 19 OutOfOrder
 early_totals = refl
 
 other_word : outcome after (line_with 17 (codes "rows" ∷ codes "1" ∷ []) (finished 17)) (blank opening rows) ≡ refused 17 NoLineWord
@@ -60,5 +62,6 @@ certified = line_with 19 (codes "answer" ∷ codes "1" ∷ []) (line_with 20 (co
     (line_with 23 (codes "total" ∷ codes "1" ∷ codes "1" ∷ codes "0" ∷ []) (line_with 24 (codes "end" ∷ []) (finished 25))))))
 
 passed_over : outcome after (line_with 17 row_one (line_with 18 (codes "cost" ∷ codes "x" ∷ []) certified)) (blank opening rows)
-    ≡ accepted (record { opening = opening; rows = rows; part = Totals; told = 2; legs = []; refusals = record { moment = opening.moment; floor = 0 } ∷ [] }) (finished 25)
+    ≡ accepted (record { opening = opening; rows = rows; part = Totals; told = 2; legs = []; refusals = record { moment = opening.moment; floor = 0 } ∷ [] })
+    (finished 25)
 passed_over = refl

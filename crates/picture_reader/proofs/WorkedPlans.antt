@@ -20,15 +20,18 @@ shown = record {
 }
 
 abbrev at_stop : (floor left moment : ℕ) → Leg
-at_stop floor left moment = record { kind = Visit; call = 0; car = 0; from = floor; since = left; to = floor; until = moment; left = left; begun = moment; done = moment }
+at_stop floor left moment =
+    record { kind = Visit; call = 0; car = 0; from = floor; since = left; to = floor; until = moment; left = left; begun = moment; done = moment }
 
 -- call 9 boards where the car stands, and gets off with the group at floor 0; call 5 boards at floor 1 and stays
 a_tour : car_legs shown 0 (stop 2 (1 ∷ []) ∷ stop 0 [] ∷ stop 1 (0 ∷ []) ∷ []) ≡
     at_stop 2 0 0
     ∷ at_stop 2 0 60000 ∷ record { kind = Wait; call = 1; car = 0; from = 2; since = 0; to = 2; until = 60000; left = 60000; begun = 60000; done = 60000 }
-    ∷ at_stop 0 60000 120000 ∷ record { kind = Ride; call = 30; car = 0; from = 2; since = 0; to = 0; until = 120000; left = 120000; begun = 120000; done = 120000 }
+    ∷ at_stop 0 60000 120000
+    ∷ record { kind = Ride; call = 30; car = 0; from = 2; since = 0; to = 0; until = 120000; left = 120000; begun = 120000; done = 120000 }
     ∷ record { kind = Ride; call = 1; car = 0; from = 2; since = 60000; to = 0; until = 120000; left = 120000; begun = 120000; done = 120000 }
-    ∷ at_stop 1 120000 180000 ∷ record { kind = Wait; call = 0; car = 0; from = 1; since = 0; to = 1; until = 180000; left = 180000; begun = 180000; done = 180000 }
+    ∷ at_stop 1 120000 180000
+    ∷ record { kind = Wait; call = 0; car = 0; from = 1; since = 0; to = 1; until = 180000; left = 180000; begun = 180000; done = 180000 }
     ∷ []
 unfolding car_legs stop_legs
 a_tour = refl

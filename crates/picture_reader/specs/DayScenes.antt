@@ -55,7 +55,8 @@ pub record DayShows (opening : Snapshot) (from : TextState) (scene : Scene) : Ty
 -- no log follows, or something is wrong with it
 pub data DayFails (opening : Snapshot) (from : TextState) (fault : TextFault) : Type 0 where
   no_log : TellsRows from fault → DayFails opening from fault
-  in_log : (rows : List (Option GoodRow)) (log : TextState) → RowsBeforeLog opening.building from (map said_of rows) log → LogFails opening rows log fault → DayFails opening from fault
+  in_log : (rows : List (Option GoodRow)) (log : TextState) → RowsBeforeLog opening.building from (map said_of rows) log → LogFails opening rows log fault
+      → DayFails opening from fault
 
 -- ---- a text
 
@@ -76,7 +77,8 @@ pub data IsDayFault (text : TextState) (fault : TextFault) : Type 0 where
 abbrev pub IsLogRead : Snapshot → List (Option GoodRow) → Option TextState → Result Happenings TextFault → Option TextState → Type 0
 IsLogRead opening rows None answer now = Unit {0}
 IsLogRead opening rows (Some log) (Ok told) now =
-    (end : Draft) × (told.legs.items ≡ end.legs) × (told.refusals.items ≡ end.refusals) × IsSomeAnd now (λ behind. LogInFront opening rows log end (reading behind))
+    (end : Draft) × (told.legs.items ≡ end.legs) × (told.refusals.items ≡ end.refusals)
+    × IsSomeAnd now (λ behind. LogInFront opening rows log end (reading behind))
 IsLogRead opening rows (Some log) (Err fault) now = Tells fault (IsRefusedWith (outcome after (reading log) (blank opening rows)) fault)
 
 abbrev pub IsLogAnswered : Snapshot → List (Option GoodRow) → Option TextState → Result Scene TextFault → Type 0

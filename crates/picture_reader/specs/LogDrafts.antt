@@ -59,7 +59,8 @@ log_word words =
 abbrev pub answer_said : Draft → (row : ℕ) → Line → Judged Said
 answer_said d row words =
     if is_word words 2 (codes "accepted") then (exactly words 3 >>= λ _. Ok (Accepted row))
-    else (if is_word words 2 (codes "refused") then (exactly words 4 >>= λ _. (number words 3 41 44 >>= λ _. Ok (Refused row (refusal_of d.opening.moment (row_at d.rows row)))))
+    else (if is_word words 2 (codes "refused") then
+    (exactly words 4 >>= λ _. (number words 3 41 44 >>= λ _. Ok (Refused row (refusal_of d.opening.moment (row_at d.rows row)))))
     else Err NoLineWord)
 
 abbrev pub row_said : Draft → Line → Judged Said

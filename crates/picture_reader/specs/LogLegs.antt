@@ -1,5 +1,6 @@
 -- The legs that the events of a log end.
-use Rattle.std.specs.Prelude.{ℕ, ◌+◌, ◌-◌, ◌*◌, ◌^◌, ◌==◌, ◌&&◌, nat_lt, min, max, Bool, List, reverse, find, slice_index_or, Option, None, Some, Ok, Err, if◌then◌else◌}
+use Rattle.std.specs.Prelude.{ℕ, ◌+◌, ◌-◌, ◌*◌, ◌^◌, ◌==◌, ◌&&◌, nat_lt, min, max, Bool, List, reverse, find, slice_index_or, Option, None, Some, Ok, Err}
+use Rattle.std.specs.Prelude.{if◌then◌else◌}
 use Rattle.elevator_model.specs.Travel.{Square, time_between}
 use Rattle.lift_text.specs.declared.codes.TextCode.TheVariants.{OutOfOrder, UnknownId}
 use Rattle.text_sections.specs.Judging.{Judged}

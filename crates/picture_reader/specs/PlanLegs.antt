@@ -18,15 +18,40 @@ later moment = min (moment + 60000) (2 ^ 64 - 1)
 
 -- the car comes here, from where it left at this moment
 abbrev pub visit_leg : Halt → (left : ℕ) → Leg
-visit_leg h left = record { kind = Visit; call = 0; car = h.car; from = h.floor; since = left; to = h.floor; until = h.moment; left = left; begun = h.moment; done = h.moment }
+visit_leg h left = record
+    { kind = Visit; call = 0; car = h.car; from = h.floor; since = left; to = h.floor; until = h.moment; left = left; begun = h.moment; done = h.moment }
 
 -- the ride ends that this rider began
 abbrev pub ride_leg : Halt → Rider → Leg
-ride_leg h rider = record { kind = Ride; call = rider.number; car = h.car; from = rider.from; since = rider.since; to = h.floor; until = h.moment; left = h.moment; begun = h.moment; done = h.moment }
+ride_leg h rider = record {
+  kind = Ride;
+  call = rider.number;
+  car = h.car;
+  from = rider.from;
+  since = rider.since;
+  to = h.floor;
+  until = h.moment;
+  left = h.moment;
+  begun =
+      h.moment;
+  done = h.moment;
+}
 
 -- the wait ends of this call, at its origin, which began before the plan
 abbrev pub wait_leg : Snapshot → Halt → ℕ → Leg
-wait_leg s h call = record { kind = Wait; call = call; car = h.car; from = (call_of s call).origin; since = 0; to = h.floor; until = h.moment; left = h.moment; begun = h.moment; done = h.moment }
+wait_leg s h call = record {
+  kind = Wait;
+  call = call;
+  car = h.car;
+  from = (call_of s call).origin;
+  since = 0;
+  to = h.floor;
+  until = h.moment;
+  left = h.moment;
+  begun =
+      h.moment;
+  done = h.moment;
+}
 
 abbrev pub gets_off : (floor : ℕ) → Rider → Bool
 gets_off floor rider = rider.destination == floor
@@ -64,7 +89,8 @@ halt_at car left stop = record { car = car; floor = stop.floor; moment = later l
 abbrev pub tour_legs : Snapshot → (car left : ℕ) → List Rider → List Stop → List Leg
 tour_legs s car left riders [] = []
 tour_legs s car left riders (stop ∷ stops) =
-    stop_legs s (halt_at car left stop) left riders stop.boards ++ tour_legs s car (later left) (riders_after s (halt_at car left stop) riders stop.boards) stops
+    stop_legs s (halt_at car left stop) left riders stop.boards
+    ++ tour_legs s car (later left) (riders_after s (halt_at car left stop) riders stop.boards) stops
 
 abbrev pub rider_aboard : (floor : ℕ) → Aboard → Rider
 rider_aboard floor group = record { number = group.id; from = floor; since = 0; destination = group.destination }

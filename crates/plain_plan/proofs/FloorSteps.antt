@@ -8,7 +8,8 @@ choice : (b : Bool) (xs rest : List ℕ) (a : ℕ) → (xs ++ cond b (a ∷ []) 
 choice true xs rest a = append_assoc xs (a ∷ []) rest
 choice false xs rest a = ap (λ (l : List ℕ). l ++ rest) (append-nil xs)
 
-pub rising_step : (t : ℕ → Bool) (a top : ℕ) (xs : List ℕ) → a < top → (xs ++ cond (t a) (a ∷ []) []) ++ rising t (a + 1) (top - (a + 1)) ≡ xs ++ rising t a (top - a)
+pub rising_step : (t : ℕ → Bool) (a top : ℕ) (xs : List ℕ) → a < top
+    → (xs ++ cond (t a) (a ∷ []) []) ++ rising t (a + 1) (top - (a + 1)) ≡ xs ++ rising t a (top - a)
 rising_step t a top xs lt =
     let rest = rising t (a + 1) (top - (a + 1)) in
     let e : top - a ≡ suc (top - (a + 1)) = omega arith in

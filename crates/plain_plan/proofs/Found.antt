@@ -1,7 +1,8 @@
 -- What a loop keeps: a number found that passes a test, and facts of each element of a list.
 use Rattle.call_sets.proofs.BelowTests.{any_below-more}
 use Rattle.std.specs.Option.{unwrap_or}
-use Rattle.std.proofs.Common.{below_more, get_or, length, List, [], ◌∷◌, ◌++◌, cond, ◌⊎◌, inl, inr, ◌≡◌, ℕ, ◌+◌, ◌<◌, Bool, true, false, sym, subst, arith, Option, Some, None}
+use Rattle.std.proofs.Common.{below_more, get_or, length, List, [], ◌∷◌, ◌++◌, cond, ◌⊎◌, inl, inr, ◌≡◌, ℕ, ◌+◌, ◌<◌, Bool, true, false, sym, subst, arith}
+use Rattle.std.proofs.Common.{Option, Some, None}
 use Rattle.std.proofs.lemmas.Bool.{both_ways}
 use Rattle.std.proofs.lemmas.List.{get_or_append_left}
 use Rattle.std.proofs.Math.Seq.{get_or-append_seam}
@@ -37,10 +38,20 @@ found_none t n m o found e same some = both_ways (any_below m t) (subst (λ (k :
 
 -- ---- lists with one element more
 
-pub chosen_more : (s : Snapshot) (cars : List ℕ) (n car : ℕ) → length cars ≡ n → ((j : ℕ) → j < n → (get_or cars j 0 < car_count s) × (is_possible s (get_or cars j 0) (call_of s j) ≡ true)) → (car < car_count s) × (is_possible s car (call_of s n) ≡ true) → (j : ℕ) → j < n + 1 → (get_or (cars ++ car ∷ []) j 0 < car_count s) × (is_possible s (get_or (cars ++ car ∷ []) j 0) (call_of s j) ≡ true)
+pub chosen_more : (s : Snapshot) (cars : List ℕ) (n car : ℕ) → length cars ≡ n
+    → ((j : ℕ) → j < n → (get_or cars j 0 < car_count s) × (is_possible s (get_or cars j 0) (call_of s j) ≡ true)) → (car < car_count s)
+    × (is_possible s car (call_of s n) ≡ true) → (j : ℕ) → j < n + 1 → (get_or (cars ++ car ∷ []) j 0 < car_count s)
+    × (is_possible s (get_or (cars ++ car ∷ []) j 0) (call_of s j) ≡ true)
 chosen_more s cars n car counted before here =
-    below_more _ _ (λ j lt. subst (λ (x : ℕ). (x < car_count s) × (is_possible s x (call_of s j) ≡ true)) (sym (get_or_append_left cars (car ∷ []) 0 j (omega arith))) (before j lt)) (subst (λ (x : ℕ). (x < car_count s) × (is_possible s x (call_of s n) ≡ true)) (sym (subst (λ (k : ℕ). get_or (cars ++ car ∷ []) k 0 ≡ car) counted (get_or-append_seam cars car [] 0))) here)
+    below_more _ _ (λ j lt.
+    subst (λ (x : ℕ). (x < car_count s) × (is_possible s x (call_of s j) ≡ true)) (sym (get_or_append_left cars (car ∷ []) 0 j (omega arith)))
+    (before j lt)) (subst (λ (x : ℕ). (x < car_count s) × (is_possible s x (call_of s n) ≡ true))
+    (sym (subst (λ (k : ℕ). get_or (cars ++ car ∷ []) k 0 ≡ car) counted (get_or-append_seam cars car [] 0))) here)
 
-pub tours_more : (s : Snapshot) (chosen : ℕ → ℕ) (order : List ℕ) (tours : List (List Stop)) (n : ℕ) (tour : List Stop) → length tours ≡ n → ((c : ℕ) → c < n → IsPlainTour s c (calls_for chosen c order) (tour_of tours c)) → IsPlainTour s n (calls_for chosen n order) tour → (c : ℕ) → c < n + 1 → IsPlainTour s c (calls_for chosen c order) (tour_of (tours ++ tour ∷ []) c)
+pub tours_more : (s : Snapshot) (chosen : ℕ → ℕ) (order : List ℕ) (tours : List (List Stop)) (n : ℕ) (tour : List Stop) → length tours ≡ n
+    → ((c : ℕ) → c < n → IsPlainTour s c (calls_for chosen c order) (tour_of tours c)) → IsPlainTour s n (calls_for chosen n order) tour → (c : ℕ) → c < n + 1
+    → IsPlainTour s c (calls_for chosen c order) (tour_of (tours ++ tour ∷ []) c)
 tours_more s chosen order tours n tour counted before here =
-    below_more _ _ (λ c lt. subst (IsPlainTour s c (calls_for chosen c order)) (sym (get_or_append_left tours (tour ∷ []) [] c (omega arith))) (before c lt)) (subst (IsPlainTour s n (calls_for chosen n order)) (sym (subst (λ (k : ℕ). tour_of (tours ++ tour ∷ []) k ≡ tour) counted (get_or-append_seam tours tour [] []))) here)
+    below_more _ _ (λ c lt. subst (IsPlainTour s c (calls_for chosen c order)) (sym (get_or_append_left tours (tour ∷ []) [] c (omega arith))) (before c lt))
+    (subst (IsPlainTour s n (calls_for chosen n order))
+    (sym (subst (λ (k : ℕ). tour_of (tours ++ tour ∷ []) k ≡ tour) counted (get_or-append_seam tours tour [] []))) here)

@@ -13,18 +13,22 @@ use Rattle.plain_plan.proofs.Serving.{plain_fine, boarded_opened}
 use Rattle.plain_plan.proofs.Floors.{lowest_passes, opening_holds}
 use Rattle.plain_plan.proofs.Orders.{order_has, among_filter, calls_servable}
 
-tour_feasible : (s : Snapshot) (chosen : ℕ → ℕ) (c : ℕ) (tour : List Stop) → IsAccepted s → AreChosen s chosen → IsPlainTour s c (calls_for chosen c (order_of s (call_count s))) tour → IsFeasible s c tour
+tour_feasible : (s : Snapshot) (chosen : ℕ → ℕ) (c : ℕ) (tour : List Stop) → IsAccepted s → AreChosen s chosen
+    → IsPlainTour s c (calls_for chosen c (order_of s (call_count s))) tour → IsFeasible s c tour
 tour_feasible s chosen c tour ok may plain =
     let js = calls_for chosen c (order_of s (call_count s)) in
     subst (IsFeasible s c) (sym plain.2) (plain_fine s c plain.0 js ok plain.1 (calls_servable s chosen c may))
 
-tour_boards : (s : Snapshot) (chosen : ℕ → ℕ) (c j : ℕ) (tour : List Stop) → j < call_count s → IsPlainTour s c (calls_for chosen c (order_of s (call_count s))) tour → is_boarded_in tour j ≡ eqb (chosen j) c
+tour_boards : (s : Snapshot) (chosen : ℕ → ℕ) (c j : ℕ) (tour : List Stop) → j < call_count s
+    → IsPlainTour s c (calls_for chosen c (order_of s (call_count s))) tour → is_boarded_in tour j ≡ eqb (chosen j) c
 tour_boards s chosen c j tour below plain =
     let order = order_of s (call_count s) in
-    ap (λ (t : List Stop). is_boarded_in t j) plain.2 ∙ boarded_opened s None plain.0 (calls_for chosen c order) j ∙ among_filter (λ i. chosen i == c) order j ∙ ap (λ (b : Bool). b && (chosen j == c)) (order_has s (call_count s) j below)
+    ap (λ (t : List Stop). is_boarded_in t j) plain.2 ∙ boarded_opened s None plain.0 (calls_for chosen c order) j ∙ among_filter (λ i. chosen i == c) order j
+    ∙ ap (λ (b : Bool). b && (chosen j == c)) (order_has s (call_count s) j below)
 
 -- A plain plan is feasible.
-pub plain_feasible : (s : Snapshot) (chosen : ℕ → ℕ) (plan : List (List Stop)) → IsAccepted s → AreChosen s chosen → IsPlainPlan s chosen plan → IsFeasiblePlan s plan
+pub plain_feasible : (s : Snapshot) (chosen : ℕ → ℕ) (plan : List (List Stop)) → IsAccepted s → AreChosen s chosen → IsPlainPlan s chosen plan
+    → IsFeasiblePlan s plan
 plain_feasible s chosen plan ok may plain = record {
   cars = plain.cars;
   tours = λ c below. tour_feasible s chosen c (tour_of plan c) ok may (plain.tours c below);
@@ -33,7 +37,10 @@ plain_feasible s chosen plan ok may plain = record {
   where
     once : (j : ℕ) → j < call_count s → times_served plan j ≡ 1
     once j below =
-        ap (λ (n : ℕ). sum_where n (λ c. is_boarded_in (tour_of plan c) j) (λ _. 1)) plain.cars ∙ sum_below-same (car_count s) (λ c. cond (is_boarded_in (tour_of plan c) j) 1 0) (λ c. cond (eqb (chosen j) c) 1 0) (λ c lt. ap {B = ℕ} (λ (b : Bool). cond b 1 0) (tour_boards s chosen c j (tour_of plan c) below (plain.tours c lt))) ∙ sum_where-one (car_count s) (λ _. 1) (chosen j) (may j below).0
+        ap (λ (n : ℕ). sum_where n (λ c. is_boarded_in (tour_of plan c) j) (λ _. 1)) plain.cars
+        ∙ sum_below-same (car_count s) (λ c. cond (is_boarded_in (tour_of plan c) j) 1 0) (λ c. cond (eqb (chosen j) c) 1 0)
+        (λ c lt. ap {B = ℕ} (λ (b : Bool). cond b 1 0) (tour_boards s chosen c j (tour_of plan c) below (plain.tours c lt)))
+        ∙ sum_where-one (car_count s) (λ _. 1) (chosen j) (may j below).0
 
 -- ---- there is one
 
@@ -63,7 +70,8 @@ lowest_tour s c = opened s None (opening_of s c (state_of s c)) (calls_for (lowe
 lowest_plain : (s : Snapshot) → IsAccepted s → IsPlainPlan s (lowest_car s) (listed 0 (car_count s) (lowest_tour s))
 lowest_plain s ok = record {
   cars = listed-length 0 (car_count s) (lowest_tour s);
-  tours = λ c below. let e : 0 + c ≡ c = omega arith in (opening_of s c (state_of s c), opening_holds s c ok below, listed-at 0 (car_count s) (lowest_tour s) c below ∙ ap (lowest_tour s) e);
+  tours = λ c below. let e : 0 + c ≡ c = omega arith in
+      (opening_of s c (state_of s c), opening_holds s c ok below, listed-at 0 (car_count s) (lowest_tour s) c below ∙ ap (lowest_tour s) e);
 }
 
 -- Each accepted snapshot has a feasible plan.

@@ -34,4 +34,5 @@ opened s pending (g ∷ gs) js = after_pending pending g (opened s (Some g) gs j
 abbrev pub AreServable : Snapshot → ℕ → List ℕ → Type 0
 AreServable s c [] = Unit {0}
 AreServable s c (j ∷ js) =
-    (j < call_count s) × (is_possible s c (call_of s j) ≡ true) × ((i : ℕ) → is_among i js ≡ true → j ≡ i → ⊥) × ((i : ℕ) → is_among i js ≡ true → is_later_in_queue (call_of s j) (call_of s i) ≡ false) × AreServable s c js
+    (j < call_count s) × (is_possible s c (call_of s j) ≡ true) × ((i : ℕ) → is_among i js ≡ true → j ≡ i → ⊥)
+    × ((i : ℕ) → is_among i js ≡ true → is_later_in_queue (call_of s j) (call_of s i) ≡ false) × AreServable s c js

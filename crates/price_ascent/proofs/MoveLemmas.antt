@@ -1,5 +1,6 @@
 -- Prices that move.
-use Rattle.std.proofs.Common.{◌≡◌, ℕ, ◌+◌, ◌*◌, ◌^◌, ◌<◌, ◌≤◌, ℤ, pos, negsuc, neg_ℤ, ◌+ℤ◌, ◌-ℤ◌, ◌*ℤ◌, ◌≤ℤ◌, zero, suc, List, length, set, sym, ap, ◌∙◌, inl, inr, arith}
+use Rattle.std.proofs.Common.{◌≡◌, ℕ, ◌+◌, ◌*◌, ◌^◌, ◌<◌, ◌≤◌, ℤ, pos, negsuc, neg_ℤ, ◌+ℤ◌, ◌-ℤ◌, ◌*ℤ◌, ◌≤ℤ◌, zero, suc, List, length, set, sym, ap, ◌∙◌, inl}
+use Rattle.std.proofs.Common.{inr, arith}
 use mir.Syntax.{w128}
 use mir.Val.{SFits, to_z, of_z}
 use Rattle.std.proofs.Math.IntN.{pos-*ℤ-pos, pos-*ℤ-negsuc}
@@ -54,7 +55,13 @@ change_high (pos k) n low high few = (change_at k n (omega (arith, ints, high)) 
 change_high (negsuc k) n low high few = absurd (omega (arith, ints, low))
 
 -- one price more is moved
-pub moved_more : (prices old : List ℤ) (change : ℕ → ℤ) (n : ℕ) (new : ℤ) → n < length prices → ((j : ℕ) → j < n → price_at prices j ≡ cut (price_at old j +ℤ change j)) → new ≡ cut (price_at old n +ℤ change n) → (j : ℕ) → j < n + 1 → price_at (set prices n new) j ≡ cut (price_at old j +ℤ change j)
+pub moved_more : (prices old : List ℤ) (change : ℕ → ℤ) (n : ℕ) (new : ℤ) → n < length prices
+    → ((j : ℕ) → j < n → price_at prices j ≡ cut (price_at old j +ℤ change j)) → new ≡ cut (price_at old n +ℤ change n) → (j : ℕ) → j < n + 1
+    → price_at (set prices n new) j ≡ cut (price_at old j +ℤ change j)
 moved_more prices old change n new within before here j lt =
     let le : j ≤ n = omega (arith, lt) in
-    elim (eq-or-lt_of_le le) [ inl e ↦ ap (price_at (set prices n new)) e ∙ get_or-set_same prices n new (pos 0) within ∙ here ∙ sym (ap (λ (k : ℕ). cut (price_at old k +ℤ change k)) e) | inr less ↦ get_or-set_other prices n j new (pos 0) (λ same. omega (arith, same, less)) ∙ before j less ]
+    elim (eq-or-lt_of_le le) [
+      | inl e ↦ ap (price_at (set prices n new)) e ∙ get_or-set_same prices n new (pos 0) within ∙ here
+          ∙ sym (ap (λ (k : ℕ). cut (price_at old k +ℤ change k)) e)
+      | inr less ↦ get_or-set_other prices n j new (pos 0) (λ same. omega (arith, same, less)) ∙ before j less
+    ]

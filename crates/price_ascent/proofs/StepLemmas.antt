@@ -1,5 +1,6 @@
 -- A step along a direction goes where its parts point.
-use Rattle.std.proofs.Common.{◌≡◌, ℕ, ◌+◌, ◌<◌, ◌≤◌, ℤ, pos, negsuc, ◌+ℤ◌, ◌*ℤ◌, ◌≤ℤ◌, zero, suc, Option, None, Some, List, length, set, get_or, ap, sym, subst, ◌∙◌, inl, inr, arith}
+use Rattle.std.proofs.Common.{◌≡◌, ℕ, ◌+◌, ◌<◌, ◌≤◌, ℤ, pos, negsuc, ◌+ℤ◌, ◌*ℤ◌, ◌≤ℤ◌, zero, suc, Option, None, Some, List, length, set, get_or, ap, sym, subst}
+use Rattle.std.proofs.Common.{◌∙◌, inl, inr, arith}
 use Rattle.std.specs.Prelude.{SomeIff, unwrap_or}
 use Rattle.std.specs.Int.{Width, w128, saturate_signed, CanDivide}
 use Rattle.std.specs.Int.RustNames.{int_div}
@@ -68,19 +69,36 @@ cut-below : (x z : ℤ) → IsPrice x → z ≤ℤ x → cut z ≤ℤ x
 cut-below x z price h = let low = price.0 in omega (arith, ints, clamps, h, low)
 
 -- a price that moves by the quotient of a product of its part
-pub follows : (from way part square product to : ℤ) (q : Option ℤ) → IsPrice from → pos 0 ≤ℤ way → pos 0 ≤ℤ square → product ≡ saturate_signed w128 (way *ℤ part) → SomeIff q (CanDivide w128 product square) (int_div product square) → to ≡ cut (saturate_signed w128 (from +ℤ unwrap_or q (pos 0))) → FollowsPart part from to
+pub follows : (from way part square product to : ℤ) (q : Option ℤ) → IsPrice from → pos 0 ≤ℤ way → pos 0 ≤ℤ square
+    → product ≡ saturate_signed w128 (way *ℤ part) → SomeIff q (CanDivide w128 product square) (int_div product square)
+    → to ≡ cut (saturate_signed w128 (from +ℤ unwrap_or q (pos 0))) → FollowsPart part from to
 follows from way part square product to q price forward positive product_is quotient to_is =
     record {
       up = λ h.
-          let change = quotient-up product square q quotient (subst (λ (z : ℤ). pos 0 ≤ℤ z) (sym product_is) (saturated-up w128 (way *ℤ part) (times-up way part forward h))) positive in
-          subst (λ (z : ℤ). from ≤ℤ z) (sym to_is) (cut-above from (saturate_signed w128 (from +ℤ unwrap_or q (pos 0))) price (saturated-above from (from +ℤ unwrap_or q (pos 0)) price (omega (arith, ints, change))));
+          let change = quotient-up product square q quotient
+          (subst (λ (z : ℤ). pos 0 ≤ℤ z) (sym product_is) (saturated-up w128 (way *ℤ part) (times-up way part forward h))) positive in
+          subst (λ (z : ℤ). from ≤ℤ z) (sym to_is)
+          (cut-above from (saturate_signed w128 (from +ℤ unwrap_or q (pos 0))) price
+          (saturated-above from (from +ℤ unwrap_or q (pos 0)) price (omega (arith, ints, change))));
       down = λ h.
-          let change = quotient-down product square q quotient (subst (λ (z : ℤ). z ≤ℤ pos 0) (sym product_is) (saturated-down w128 (way *ℤ part) (times-down way part forward h))) positive in
-          subst (λ (z : ℤ). z ≤ℤ from) (sym to_is) (cut-below from (saturate_signed w128 (from +ℤ unwrap_or q (pos 0))) price (saturated-below from (from +ℤ unwrap_or q (pos 0)) price (omega (arith, ints, change))));
+          let change = quotient-down product square q quotient
+          (subst (λ (z : ℤ). z ≤ℤ pos 0) (sym product_is) (saturated-down w128 (way *ℤ part) (times-down way part forward h))) positive in
+          subst (λ (z : ℤ). z ≤ℤ from) (sym to_is)
+          (cut-below from (saturate_signed w128 (from +ℤ unwrap_or q (pos 0))) price
+          (saturated-below from (from +ℤ unwrap_or q (pos 0)) price (omega (arith, ints, change))));
     }
 
 -- one price more follows its part
-pub followed_more : (direction from next : List ℤ) (n : ℕ) (new : ℤ) → n < length next → ((j : ℕ) → j < n → FollowsPart (get_or direction j (pos 0)) (price_at from j) (price_at next j)) → FollowsPart (get_or direction n (pos 0)) (price_at from n) new → (j : ℕ) → j < n + 1 → FollowsPart (get_or direction j (pos 0)) (price_at from j) (price_at (set next n new) j)
+pub followed_more : (direction from next : List ℤ) (n : ℕ) (new : ℤ) → n < length next
+    → ((j : ℕ) → j < n → FollowsPart (get_or direction j (pos 0)) (price_at from j) (price_at next j))
+    → FollowsPart (get_or direction n (pos 0)) (price_at from n) new → (j : ℕ) → j < n + 1
+    → FollowsPart (get_or direction j (pos 0)) (price_at from j) (price_at (set next n new) j)
 followed_more direction from next n new within before here j lt =
     let le : j ≤ n = omega (arith, lt) in
-    elim (eq-or-lt_of_le le) [ inl e ↦ subst (λ (z : ℤ). FollowsPart (get_or direction j (pos 0)) (price_at from j) z) (sym (ap (price_at (set next n new)) e ∙ get_or-set_same next n new (pos 0) within)) (subst (λ (k : ℕ). FollowsPart (get_or direction k (pos 0)) (price_at from k) new) (sym e) here) | inr less ↦ subst (λ (z : ℤ). FollowsPart (get_or direction j (pos 0)) (price_at from j) z) (sym (get_or-set_other next n j new (pos 0) (λ same. omega (arith, same, less)))) (before j less) ]
+    elim (eq-or-lt_of_le le) [
+      | inl e ↦ subst (λ (z : ℤ). FollowsPart (get_or direction j (pos 0)) (price_at from j) z)
+          (sym (ap (price_at (set next n new)) e ∙ get_or-set_same next n new (pos 0) within))
+          (subst (λ (k : ℕ). FollowsPart (get_or direction k (pos 0)) (price_at from k) new) (sym e) here)
+      | inr less ↦ subst (λ (z : ℤ). FollowsPart (get_or direction j (pos 0)) (price_at from j) z)
+          (sym (get_or-set_other next n j new (pos 0) (λ same. omega (arith, same, less)))) (before j less)
+    ]

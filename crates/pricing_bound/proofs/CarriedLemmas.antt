@@ -1,5 +1,6 @@
 -- What those carried cost if the car went straight on: the groups floor by floor.
-use Rattle.std.proofs.Common.{◌≡◌, ◌==◌, ℕ, zero, suc, ◌+◌, ◌-◌, ◌*◌, ◌<◌, ◌≤◌, Bool, true, false, cond, not, ◌&&◌, length, List, ◌∷◌, refl, sym, ap, ◌∙◌, subst, inl, inr, arith, Option, Some}
+use Rattle.std.proofs.Common.{◌≡◌, ◌==◌, ℕ, zero, suc, ◌+◌, ◌-◌, ◌*◌, ◌<◌, ◌≤◌, Bool, true, false, cond, not, ◌&&◌, length, List, ◌∷◌, refl, sym, ap, ◌∙◌}
+use Rattle.std.proofs.Common.{subst, inl, inr, arith, Option, Some}
 use Rattle.std.proofs.lemmas.Bool.{and_parts, and_right, false≢true, eqb-true, ltb-true, or_cases}
 use Rattle.call_sets.specs.Counting.{has, sum_below, sum_where}
 use Rattle.call_sets.proofs.BelowTests.{any_below-false, any_below-true}
@@ -38,14 +39,20 @@ abbrev straight_at : Snapshot → Progress → ℕ → ℕ
 straight_at s p g = p.opened + time_between s.building.travel p.floor g
 
 goes_nowhere : (s : Snapshot) (c visited g : ℕ) (f : ℕ → ℕ) → any_group_to s.aboard c g ≡ false → sum_where (length s.aboard) (is_group_off s c visited g) f ≡ 0
-goes_nowhere s c visited g f none = sum_where-none (length s.aboard) (is_group_off s c visited g) f (λ k lt. none_off ((group_of s k).car == c) (has visited (group_of s k).destination) ((group_of s k).destination == g) (any_below-false (length s.aboard) (is_group_to s.aboard c g) k none lt))
+goes_nowhere s c visited g f none =
+    sum_where-none (length s.aboard) (is_group_off s c visited g) f
+    (λ k lt. none_off ((group_of s k).car == c) (has visited (group_of s k).destination) ((group_of s k).destination == g)
+    (any_below-false (length s.aboard) (is_group_to s.aboard c g) k none lt))
   where
     none_off : (a b d : Bool) → (a && d) ≡ false → ((a && not b) && d) ≡ false
     none_off true true d e = refl
     none_off true false d e = e
     none_off false b d e = refl
 
-floor_cost : (s : Snapshot) (c : ℕ) (p : Progress) (visited set g : ℕ) → IsAccepted s → IsAfterNow s c p → has set g ≡ (any_group_to s.aboard c g && not (has visited g)) → s.building.travel_weight * cond (has set g) (ridden_to s c p g) 0 ≡ sum_where (length s.aboard) (is_group_off s c visited g) (λ k. cost_of_group s k (straight_at s p (group_of s k).destination))
+floor_cost : (s : Snapshot) (c : ℕ) (p : Progress) (visited set g : ℕ) → IsAccepted s → IsAfterNow s c p
+    → has set g ≡ (any_group_to s.aboard c g && not (has visited g))
+    → s.building.travel_weight * cond (has set g) (ridden_to s c p g) 0
+    ≡ sum_where (length s.aboard) (is_group_off s c visited g) (λ k. cost_of_group s k (straight_at s p (group_of s k).destination))
 floor_cost s c p visited set g a late is = by_floor (has visited g) (any_group_to s.aboard c g) refl refl
   where
     tw : ℕ
@@ -54,23 +61,44 @@ floor_cost s c p visited set g a late is = by_floor (has visited g) (any_group_t
     nothing : (x y : ℕ) → y ≡ 0 → x * cond false 0 0 ≡ y
     nothing x y e = omega (arith, e)
 
-    by_floor : (v w : Bool) → has visited g ≡ v → any_group_to s.aboard c g ≡ w → s.building.travel_weight * cond (has set g) (ridden_to s c p g) 0 ≡ sum_where (length s.aboard) (is_group_off s c visited g) (λ k. cost_of_group s k (straight_at s p (group_of s k).destination))
-    by_floor true w e f = ap (λ (b : Bool). s.building.travel_weight * cond b (ridden_to s c p g) 0) (is ∙ ap (λ (b : Bool). any_group_to s.aboard c g && not b) e ∙ and_right (any_group_to s.aboard c g) false refl) ∙ nothing s.building.travel_weight _ (groups_gone s c visited g (λ k. cost_of_group s k (straight_at s p (group_of s k).destination)) e)
-    by_floor false false e f = ap (λ (b : Bool). s.building.travel_weight * cond b (ridden_to s c p g) 0) (is ∙ ap (λ (b : Bool). b && not (has visited g)) f) ∙ nothing s.building.travel_weight _ (goes_nowhere s c visited g (λ k. cost_of_group s k (straight_at s p (group_of s k).destination)) f)
+    by_floor : (v w : Bool) → has visited g ≡ v → any_group_to s.aboard c g ≡ w
+        → s.building.travel_weight * cond (has set g) (ridden_to s c p g) 0
+        ≡ sum_where (length s.aboard) (is_group_off s c visited g) (λ k. cost_of_group s k (straight_at s p (group_of s k).destination))
+    by_floor true w e f =
+        ap (λ (b : Bool). s.building.travel_weight * cond b (ridden_to s c p g) 0)
+        (is ∙ ap (λ (b : Bool). any_group_to s.aboard c g && not b) e ∙ and_right (any_group_to s.aboard c g) false refl)
+        ∙ nothing s.building.travel_weight _ (groups_gone s c visited g (λ k. cost_of_group s k (straight_at s p (group_of s k).destination)) e)
+    by_floor false false e f = ap (λ (b : Bool). s.building.travel_weight * cond b (ridden_to s c p g) 0) (is ∙ ap (λ (b : Bool). b && not (has visited g)) f)
+        ∙ nothing s.building.travel_weight _ (goes_nowhere s c visited g (λ k. cost_of_group s k (straight_at s p (group_of s k).destination)) f)
     by_floor false true e f =
         let on_time : s.moment + (spec_of s c).opening ≤ straight_at s p g = omega (arith, late) in
-        let there = ap (λ (b : Bool). s.building.travel_weight * cond b (ridden_to s c p g) 0) (is ∙ ap (λ (b : Bool). any_group_to s.aboard c g && not b) e ∙ ap (λ (b : Bool). b && true) f) in
+        let there = ap (λ (b : Bool). s.building.travel_weight * cond b (ridden_to s c p g) 0)
+        (is ∙ ap (λ (b : Bool). any_group_to s.aboard c g && not b) e ∙ ap (λ (b : Bool). b && true) f) in
         let cost = groups_cost s c visited g (straight_at s p g) a on_time e in
         let fit = groups_fit s c g (straight_at s p g) a on_time in
-        let ridden = weighed_rides (sum_where (length s.aboard) (is_group_off s c visited g) (λ k. cost_of_group s k (straight_at s p g))) s.building.travel_weight s.building.travel_weight (persons_to s.aboard c g) (persons_to s.aboard c g) (moments_to s.aboard c g) (moments_to s.aboard c g) (straight_at s p g) refl refl refl fit cost in
-        there ∙ ridden ∙ sum_where-same (length s.aboard) (is_group_off s c visited g) (is_group_off s c visited g) (λ k. cost_of_group s k (straight_at s p g)) (λ k. cost_of_group s k (straight_at s p (group_of s k).destination)) (λ k lt. refl) (λ k lt h. ap (λ (d : ℕ). cost_of_group s k (straight_at s p d)) (sym (eqb-true (group_of s k).destination g (and_parts (group_carried s.aboard c visited k) ((group_of s k).destination == g) h).1)))
+        let ridden = weighed_rides
+        (sum_where (length s.aboard) (is_group_off s c visited g) (λ k. cost_of_group s k (straight_at s p g))) s.building.travel_weight
+        s.building.travel_weight (persons_to s.aboard c g) (persons_to s.aboard c g) (moments_to s.aboard c g) (moments_to s.aboard c g)
+        (straight_at s p g) refl refl refl fit cost in
+        there ∙ ridden ∙ sum_where-same (length s.aboard) (is_group_off s c visited g) (is_group_off s c visited g)
+        (λ k. cost_of_group s k (straight_at s p g)) (λ k. cost_of_group s k (straight_at s p (group_of s k).destination)) (λ k lt. refl)
+        (λ k lt h. ap (λ (d : ℕ). cost_of_group s k (straight_at s p d))
+        (sym (eqb-true (group_of s k).destination g (and_parts (group_carried s.aboard c visited k) ((group_of s k).destination == g) h).1)))
 
 -- ---- the car at another stop
 
 pub placed_standing : (s : Snapshot) (c : ℕ) (p : Progress) (g m : ℕ) → IsPlaced s c p → g < floor_count s.building → IsPlaced s c (standing_at p g m)
-placed_standing s c p g m h near = record { kept = record { carried = h.kept.carried; calls = h.kept.calls; groups = h.kept.groups }; floor = near; timely = omega arith; first = λ e. absurd (false≢true (sym e)) }
+placed_standing s c p g m h near =
+    record {
+      kept = record { carried = h.kept.carried; calls = h.kept.calls; groups = h.kept.groups };
+      floor = near;
+      timely = omega arith;
+      first =
+          λ e. absurd (false≢true (sym e));
+    }
 
-pub carried_standing : (s : Snapshot) (c carried visited : ℕ) (p : Progress) (g m : ℕ) → AreCarried s c carried visited p → AreCarried s c carried visited (standing_at p g m)
+pub carried_standing : (s : Snapshot) (c carried visited : ℕ) (p : Progress) (g m : ℕ) → AreCarried s c carried visited p
+    → AreCarried s c carried visited (standing_at p g m)
 carried_standing s c carried visited p g m are = record { calls = are.calls; groups = are.groups }
 
 -- ---- all floors
@@ -82,13 +110,20 @@ one_floor : (d g_all v : ℕ) (carried : Bool) → d < g_all → sum_below g_all
 one_floor d g_all v true lt = sum_where-one g_all (λ _. v) d lt
 one_floor d g_all v false lt = sum_below-zero g_all
 
-pub groups_by_floor : (s : Snapshot) (c : ℕ) (p : Progress) (carried visited set : ℕ) → IsAccepted s → IsPlaced s c p → IsAfterNow s c p → AreCarried s c carried visited p → ((g : ℕ) → has set g ≡ (any_group_to s.aboard c g && not (has visited g))) → s.building.travel_weight * sum_where (floor_count s.building) (has set) (ridden_to s c p) ≡ cost_of_group_rides s p
+pub groups_by_floor : (s : Snapshot) (c : ℕ) (p : Progress) (carried visited set : ℕ) → IsAccepted s → IsPlaced s c p → IsAfterNow s c p
+    → AreCarried s c carried visited p → ((g : ℕ) → has set g ≡ (any_group_to s.aboard c g && not (has visited g)))
+    → s.building.travel_weight * sum_where (floor_count s.building) (has set) (ridden_to s c p) ≡ cost_of_group_rides s p
 groups_by_floor s c p carried visited set a placed late are is =
     let cost = λ (k : ℕ). cost_of_group s k (straight_at s p (group_of s k).destination) in
     let weighed = sum_times (floor_count s.building) s.building.travel_weight (λ g. cond (has set g) (ridden_to s c p g) 0) in
-    let floors = sum_below-same (floor_count s.building) (λ g. s.building.travel_weight * cond (has set g) (ridden_to s c p g) 0) (λ g. sum_where (length s.aboard) (is_group_off s c visited g) cost) (λ g lt. floor_cost s c p visited set g a late (is g)) in
+    let floors = sum_below-same (floor_count s.building) (λ g. s.building.travel_weight * cond (has set g) (ridden_to s c p g) 0)
+    (λ g. sum_where (length s.aboard) (is_group_off s c visited g) cost) (λ g lt. floor_cost s c p visited set g a late (is g)) in
     let swapped = sum_swap (floor_count s.building) (length s.aboard) (λ g k. cond (is_group_off s c visited g k) (cost k) 0) in
-    let each = sum_below-same (length s.aboard) (λ k. sum_below (floor_count s.building) (λ g. cond (is_group_off s c visited g k) (cost k) 0)) (λ k. cond (p.carried (call_count s + k)) (cost_if_straight s p (call_count s + k)) 0) (λ k lt. one_floor (group_of s k).destination (floor_count s.building) (cost k) (group_carried s.aboard c visited k) (group_floor s k a lt) ∙ ap (λ (b : Bool). cond b (cost k) 0) (sym (are.groups k lt)) ∙ ap (λ (x : ℕ). cond (p.carried (call_count s + k)) x 0) (sym (group_straight s c p k placed))) in
+    let each = sum_below-same (length s.aboard) (λ k. sum_below (floor_count s.building) (λ g. cond (is_group_off s c visited g k) (cost k) 0))
+    (λ k. cond (p.carried (call_count s + k)) (cost_if_straight s p (call_count s + k)) 0)
+    (λ k lt. one_floor (group_of s k).destination (floor_count s.building) (cost k) (group_carried s.aboard c visited k) (group_floor s k a lt)
+    ∙ ap (λ (b : Bool). cond b (cost k) 0) (sym (are.groups k lt))
+    ∙ ap (λ (x : ℕ). cond (p.carried (call_count s + k)) x 0) (sym (group_straight s c p k placed))) in
     weighed ∙ floors ∙ swapped ∙ each
 
 -- a floor to which a group goes
@@ -96,11 +131,13 @@ pub goes_within : (s : Snapshot) (c g : ℕ) → IsAccepted s → any_group_to s
 goes_within s c g a h =
     let some = any_below-true (length s.aboard) (is_group_to s.aboard c g) h in
     let near = group_floor s some.0 a some.1 in
-    subst (λ (f : ℕ). f < floor_count s.building) (eqb-true (group_of s some.0).destination g (and_parts _ ((group_of s some.0).destination == g) some.2).1) near
+    subst (λ (f : ℕ). f < floor_count s.building)
+    (eqb-true (group_of s some.0).destination g (and_parts _ ((group_of s some.0).destination == g) some.2).1) near
 
 -- ---- all those carried
 
-pub all_rides : (s : Snapshot) (c : ℕ) (p : Progress) (calls : ℕ) → ((j : ℕ) → j < call_count s → has calls j ≡ p.carried j) → cost_of_call_rides s p calls + cost_of_group_rides s p ≡ cost_of_rides s p
+pub all_rides : (s : Snapshot) (c : ℕ) (p : Progress) (calls : ℕ) → ((j : ℕ) → j < call_count s → has calls j ≡ p.carried j)
+    → cost_of_call_rides s p calls + cost_of_group_rides s p ≡ cost_of_rides s p
 all_rides s c p calls same =
     let split = sum_below-split (call_count s) (length s.aboard) (λ r. cond (p.carried r) (cost_if_straight s p r) 0) in
     let front = sum_where-same (call_count s) (has calls) p.carried (cost_if_straight s p) (cost_if_straight s p) same (λ j lt e. refl) in
@@ -109,7 +146,8 @@ all_rides s c p calls same =
 -- ---- loops over sets
 
 -- one step of a sum whose parts are bounded
-pub one_taken : (left rest : List ℕ) (one bound most sum part : ℕ) → length left ≤ bound → left ≡ one ∷ rest → sum ≤ most * (bound - length left) → part ≤ most → (length rest ≤ bound) × (sum + part ≤ most * (bound - length rest))
+pub one_taken : (left rest : List ℕ) (one bound most sum part : ℕ) → length left ≤ bound → left ≡ one ∷ rest → sum ≤ most * (bound - length left) → part ≤ most
+    → (length rest ≤ bound) × (sum + part ≤ most * (bound - length rest))
 one_taken left rest one bound most sum part few is so_far less =
     let size : length left ≡ suc (length rest) = ap length is in
     let more : bound - length rest ≡ bound - length left + 1 = omega (arith, few, size) in
@@ -121,14 +159,18 @@ one_taken left rest one bound most sum part few is so_far less =
         omega (arith, h, less, whole)
 
 -- a floor of the layout's words
-pub ridden_fits : (s : Snapshot) (c g persons moments arrival : ℕ) → IsAccepted s → persons ≡ persons_to s.aboard c g → moments ≡ moments_to s.aboard c g → s.moment + (spec_of s c).opening ≤ arrival → moments ≤ persons * arrival
+pub ridden_fits : (s : Snapshot) (c g persons moments arrival : ℕ) → IsAccepted s → persons ≡ persons_to s.aboard c g → moments ≡ moments_to s.aboard c g
+    → s.moment + (spec_of s c).opening ≤ arrival → moments ≤ persons * arrival
 ridden_fits s c g persons moments arrival a e f late =
     let fit = groups_fit s c g arrival a late in
     let same = ap (λ (n : ℕ). n * arrival) e in
     omega (arith, fit, f, same)
 
 pub carried_boarded : (s : Snapshot) (c : ℕ) (p : Progress) (j : ℕ) → IsPlaced s c p → j < call_count s → p.carried j ≡ true → p.boarded j ≡ true
-carried_boarded s c p j h lt e = elim (or_cases (p.boarded j) (is_aboard s c j) (h.kept.carried j e)) [ inl k ↦ k | inr k ↦ absurd (false≢true (sym (is_aboard-call s c j lt) ∙ k)) ]
+carried_boarded s c p j h lt e = elim (or_cases (p.boarded j) (is_aboard s c j) (h.kept.carried j e)) [
+  | inl k ↦ k
+  | inr k ↦ absurd (false≢true (sym (is_aboard-call s c j lt) ∙ k))
+]
 
 -- moves lead to one course
 pub one_course : (o : Option Course) (x y : Course) (P : Course → Type 0) → o ≡ Some x → o ≡ Some y → P x → P y

@@ -11,7 +11,8 @@ through t u v h k = omega (arith, ints, h, k)
 
 -- a value that is at most a completion bound
 pub below_lower : (a : Aim) (bound : Course → ℤ) (value : ℤ) (x : Course) → IsLower a bound → value ≤ℤ bound x → UndercutsNone a value x
-below_lower a bound value x lower le = λ moves ok car leads tour begins within. through value (bound x) (value_for a tour) le (lower moves x tour ok car leads begins within)
+below_lower a bound value x lower le =
+    λ moves ok car leads tour begins within. through value (bound x) (value_for a tour) le (lower moves x tour ok car leads begins within)
 
 -- the bound itself
 pub at_lower : (a : Aim) (bound : Course → ℤ) (value : ℤ) (x : Course) → IsLower a bound → value ≡ bound x → UndercutsNone a value x

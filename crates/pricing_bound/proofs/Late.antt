@@ -27,16 +27,19 @@ punctual s c p h late = record {
   leaves = late.leaves;
 }
 
-late_leave : (s : Snapshot) (c : ℕ) (p : Progress) (g : ℕ) → IsAccepted s → c < car_count s → IsPlaced s c p → IsLate s c p → may_stand s c p (empty_stop g) ≡ true → IsLate s c (make_stop s c p (empty_stop g))
+late_leave : (s : Snapshot) (c : ℕ) (p : Progress) (g : ℕ) → IsAccepted s → c < car_count s → IsPlaced s c p → IsLate s c p
+    → may_stand s c p (empty_stop g) ≡ true → IsLate s c (make_stop s c p (empty_stop g))
 late_leave s c p g a b h late stands = record {
   opens = λ e. let arrives = arrives_late s c p g a b (punctual s c p h late) stands in omega (arith, arrives);
   leaves = λ e. absurd (false≢true (sym e));
 }
 
-late_board : (s : Snapshot) (c : ℕ) (before : Progress) (old : Stop) (j : ℕ) → IsLate s c (make_stop s c before old) → IsLate s c (make_stop s c before (with_call_on old j))
+late_board : (s : Snapshot) (c : ℕ) (before : Progress) (old : Stop) (j : ℕ) → IsLate s c (make_stop s c before old)
+    → IsLate s c (make_stop s c before (with_call_on old j))
 late_board s c before old j late = record { opens = λ e. late.opens refl; leaves = λ e. absurd (false≢true (sym e)) }
 
-late_move : (s : Snapshot) (c : ℕ) (x : Course) (m : Move) (y : Course) → IsAccepted s → c < car_count s → IsStanding s c x → IsLate s c (reached s c x) → move_on s c x m ≡ Some y → IsLate s c (reached s c y)
+late_move : (s : Snapshot) (c : ℕ) (x : Course) (m : Move) (y : Course) → IsAccepted s → c < car_count s → IsStanding s c x → IsLate s c (reached s c x)
+    → move_on s c x m ≡ Some y → IsLate s c (reached s c y)
 late_move s c x (Leave g) y a b h late leads =
     let at = leave_leads_to s c x g y leads in
     subst (λ (z : Course). IsLate s c (reached s c z)) (sym at.2) (late_leave s c (reached s c x) g a b (placed_reached s c x h) late at.1)
@@ -46,24 +49,29 @@ late_move s c x (Board j) y a b h late leads =
     subst (λ (z : Course). IsLate s c (reached s c z)) (sym at.leads) (late_board s c x.before at.stop j here)
 late_move s c x End y a b h late leads = subst (λ (z : Course). IsLate s c (reached s c z)) (sym (ending_leads_to s c x y leads)) late
 
-late_moves : (s : Snapshot) (c : ℕ) (x : Course) (ms : List Move) (y : Course) → IsAccepted s → c < car_count s → IsStanding s c x → IsLate s c (reached s c x) → moves_on s c (Some x) ms ≡ Some y → IsLate s c (reached s c y)
+late_moves : (s : Snapshot) (c : ℕ) (x : Course) (ms : List Move) (y : Course) → IsAccepted s → c < car_count s → IsStanding s c x → IsLate s c (reached s c x)
+    → moves_on s c (Some x) ms ≡ Some y → IsLate s c (reached s c y)
 late_moves s c x [] y a b h late leads = let same : x ≡ y = cc in subst (λ (z : Course). IsLate s c (reached s c z)) same late
 late_moves s c x (m ∷ ms) y a b h late leads =
     let step = leads_on s c x m ms y leads in
     late_moves s c step.next ms y a b (standing_move s c x m step.next h step.first) (late_move s c x m step.next a b h late step.first) step.later
 
-course_late : (s : Snapshot) (c : ℕ) (moves : List Move) (x : Course) → IsAccepted s → c < car_count s → course_of s c moves ≡ Some x → IsLate s c (reached s c x)
-course_late s c moves x a b leads = late_moves s c (course_start s c) moves x a b (standing_start s c a b) (record { opens = λ e. absurd (false≢true e); leaves = λ e. refl }) leads
+course_late : (s : Snapshot) (c : ℕ) (moves : List Move) (x : Course) → IsAccepted s → c < car_count s → course_of s c moves ≡ Some x
+    → IsLate s c (reached s c x)
+course_late s c moves x a b leads =
+    late_moves s c (course_start s c) moves x a b (standing_start s c a b) (record { opens = λ e. absurd (false≢true e); leaves = λ e. refl }) leads
 
 -- a car that made a stop departs later still
-pub departs_after_now : (s : Snapshot) (c : ℕ) (moves : List Move) (x : Course) → IsAccepted s → c < car_count s → course_of s c moves ≡ Some x → (reached s c x).begun ≡ true → s.moment ≤ (reached s c x).leaves
+pub departs_after_now : (s : Snapshot) (c : ℕ) (moves : List Move) (x : Course) → IsAccepted s → c < car_count s → course_of s c moves ≡ Some x
+    → (reached s c x).begun ≡ true → s.moment ≤ (reached s c x).leaves
 departs_after_now s c moves x a b leads begun =
     let opens = (course_late s c moves x a b leads).opens begun in
     let timely = (placed_reached s c x (course_standing s c moves x a b leads)).timely in
     omega (arith, opens, timely)
 
 -- where the car has just gone
-pub left_after_now : (s : Snapshot) (c : ℕ) (moves : List Move) (x : Course) (g : ℕ) (y : Course) → IsAccepted s → c < car_count s → course_of s c moves ≡ Some y → move_on s c x (Leave g) ≡ Some y → IsAfterNow s c (reached s c y)
+pub left_after_now : (s : Snapshot) (c : ℕ) (moves : List Move) (x : Course) (g : ℕ) (y : Course) → IsAccepted s → c < car_count s
+    → course_of s c moves ≡ Some y → move_on s c x (Leave g) ≡ Some y → IsAfterNow s c (reached s c y)
 left_after_now s c moves x g y a b leads last =
     let at = leave_leads_to s c x g y last in
     let late = subst (λ (z : Course). IsLate s c (reached s c z)) at.2 (course_late s c moves y a b leads) in

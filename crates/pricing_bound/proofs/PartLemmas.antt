@@ -26,29 +26,38 @@ use Rattle.tour_rules.proofs.Settled.{cost_of_rider-group}
 use Rattle.pricing_bound.specs.Parts.{call_part, group_part}
 use Rattle.pricing_bound.specs.Standing.{IsPlaced, placed_reached, course_standing}
 
-pub placed_at : (t : PartialTour) (x : Course) → IsAccepted t.snapshot → t.car < car_count t.snapshot → course t ≡ Some x → IsPlaced t.snapshot t.car (reached t.snapshot t.car x)
+pub placed_at : (t : PartialTour) (x : Course) → IsAccepted t.snapshot → t.car < car_count t.snapshot → course t ≡ Some x
+    → IsPlaced t.snapshot t.car (reached t.snapshot t.car x)
 placed_at t x a b leads = placed_reached t.snapshot t.car x (course_standing t.snapshot t.car t.moves x a b leads)
 
-pub group_straight : (s : Snapshot) (c : ℕ) (p : Progress) (k : ℕ) → IsPlaced s c p → cost_if_straight s p (call_count s + k) ≡ cost_of_group s k (p.opened + time_between s.building.travel p.floor (group_of s k).destination)
+pub group_straight : (s : Snapshot) (c : ℕ) (p : Progress) (k : ℕ) → IsPlaced s c p
+    → cost_if_straight s p (call_count s + k) ≡ cost_of_group s k (p.opened + time_between s.building.travel p.floor (group_of s k).destination)
 group_straight s c p k h =
-    cost_of_rider-group s k (p.boarded_at (call_count s + k)) (p.opened + time_between s.building.travel p.floor (destination_of s (call_count s + k))) (h.kept.groups k) ∙ ap (λ (d : ℕ). cost_of_group s k (p.opened + time_between s.building.travel p.floor d)) (destination_of-group s k)
+    cost_of_rider-group s k (p.boarded_at (call_count s + k)) (p.opened + time_between s.building.travel p.floor (destination_of s (call_count s + k)))
+    (h.kept.groups k) ∙ ap (λ (d : ℕ). cost_of_group s k (p.opened + time_between s.building.travel p.floor d)) (destination_of-group s k)
 
 -- the cost of a group, as the code finds it
-pub group_found : (s : Snapshot) (b : Building) (groups : List Aboard) (k opened floor delivered cost : ℕ) → b ≡ s.building → groups ≡ s.aboard → delivered ≡ opened + time_between s.building.travel floor (get_or groups k no_group).destination → cost ≡ group_cost b (get_or groups k no_group) delivered → cost ≡ cost_of_group s k (opened + time_between s.building.travel floor (group_of s k).destination)
+pub group_found : (s : Snapshot) (b : Building) (groups : List Aboard) (k opened floor delivered cost : ℕ) → b ≡ s.building → groups ≡ s.aboard
+    → delivered ≡ opened + time_between s.building.travel floor (get_or groups k no_group).destination
+    → cost ≡ group_cost b (get_or groups k no_group) delivered
+    → cost ≡ cost_of_group s k (opened + time_between s.building.travel floor (group_of s k).destination)
 group_found s b groups k opened floor delivered cost same_building same_groups at is = cc
 
 -- ---- the part of one call
 
-pub boarded_part : (carried boarded allowed : Bool) (cost price term : ℤ) → boarded ≡ true → ((cond carried cost (pos 0) -ℤ cond boarded price (pos 0)) +ℤ cond (allowed && not boarded) term (pos 0)) ≡ cond carried cost (pos 0) -ℤ price
+pub boarded_part : (carried boarded allowed : Bool) (cost price term : ℤ) → boarded ≡ true
+    → ((cond carried cost (pos 0) -ℤ cond boarded price (pos 0)) +ℤ cond (allowed && not boarded) term (pos 0)) ≡ cond carried cost (pos 0) -ℤ price
 boarded_part carried true true cost price term e = omega (arith, ints)
 boarded_part carried true false cost price term e = omega (arith, ints)
 boarded_part carried false allowed cost price term e = cc
 
-pub waiting_part : (carried boarded allowed : Bool) (cost price term : ℤ) → carried ≡ false → boarded ≡ false → allowed ≡ true → ((cond carried cost (pos 0) -ℤ cond boarded price (pos 0)) +ℤ cond (allowed && not boarded) term (pos 0)) ≡ term
+pub waiting_part : (carried boarded allowed : Bool) (cost price term : ℤ) → carried ≡ false → boarded ≡ false → allowed ≡ true
+    → ((cond carried cost (pos 0) -ℤ cond boarded price (pos 0)) +ℤ cond (allowed && not boarded) term (pos 0)) ≡ term
 waiting_part false false true cost price term e d f = omega (arith, ints)
 waiting_part carried boarded allowed cost price term e d f = cc
 
-pub no_part : (carried boarded allowed : Bool) (cost price term : ℤ) → carried ≡ false → boarded ≡ false → allowed ≡ false → ((cond carried cost (pos 0) -ℤ cond boarded price (pos 0)) +ℤ cond (allowed && not boarded) term (pos 0)) ≡ pos 0
+pub no_part : (carried boarded allowed : Bool) (cost price term : ℤ) → carried ≡ false → boarded ≡ false → allowed ≡ false
+    → ((cond carried cost (pos 0) -ℤ cond boarded price (pos 0)) +ℤ cond (allowed && not boarded) term (pos 0)) ≡ pos 0
 no_part false false false cost price term e d f = omega (arith, ints)
 no_part carried boarded allowed cost price term e d f = cc
 
@@ -60,14 +69,16 @@ not_carried s c p j h b e =
 -- ---- how many groups there are
 
 -- each group has a person aboard some car
-groups_counted : (s : Snapshot) (n : ℕ) → IsAccepted s → n ≤ length s.aboard → n ≤ sum_below (car_count s) (λ c. sum_where n (λ k. (group_of s k).car == c) (λ k. (group_of s k).persons))
+groups_counted : (s : Snapshot) (n : ℕ) → IsAccepted s → n ≤ length s.aboard
+    → n ≤ sum_below (car_count s) (λ c. sum_where n (λ k. (group_of s k).car == c) (λ k. (group_of s k).persons))
 groups_counted s zero a within = omega arith
 groups_counted s (suc n) a within =
     let rest = groups_counted s n a (omega arith) in
     let group = a.groups n (omega arith) in
     let person = group.persons_low in
     let one = sum_below-one (car_count s) (group_of s n).car (group_of s n).persons group.car in
-    let both = sum_below-add (car_count s) (λ c. sum_where n (λ k. (group_of s k).car == c) (λ k. (group_of s k).persons)) (λ c. cond ((group_of s n).car == c) (group_of s n).persons 0) in
+    let both = sum_below-add (car_count s) (λ c. sum_where n (λ k. (group_of s k).car == c) (λ k. (group_of s k).persons))
+    (λ c. cond ((group_of s n).car == c) (group_of s n).persons 0) in
     omega (arith, rest, person, one, both)
 
 pub groups_few : (s : Snapshot) → IsAccepted s → length s.aboard ≤ 1024
@@ -88,17 +99,23 @@ scaled_or_nothing true cost = refl
 scaled_or_nothing false cost = refl
 
 -- the rides of those carried, of the calls and of the groups
-pub rides_apart : (s : Snapshot) (p : Progress) → scaled (sum_where (rider_count s) p.carried (cost_if_straight s p)) ≡ int_sum_below (call_count s) (λ j. cond (p.carried j) (scaled (cost_if_straight s p j)) (pos 0)) +ℤ int_sum_below (length s.aboard) (group_part s p)
+pub rides_apart : (s : Snapshot) (p : Progress)
+    → scaled (sum_where (rider_count s) p.carried (cost_if_straight s p))
+    ≡ int_sum_below (call_count s) (λ j. cond (p.carried j) (scaled (cost_if_straight s p j)) (pos 0)) +ℤ int_sum_below (length s.aboard) (group_part s p)
 rides_apart s p =
     let cost : ℕ → ℕ = λ r. cond (p.carried r) (cost_if_straight s p r) 0 in
     let split = sum_below-split (call_count s) (length s.aboard) cost in
     let calls = scaled-sum (call_count s) cost in
     let groups = scaled-sum (length s.aboard) (λ k. cost (call_count s + k)) in
-    let each_call = int_sum-same (call_count s) (λ j. scaled (cost j)) (λ j. cond (p.carried j) (scaled (cost_if_straight s p j)) (pos 0)) (λ j b. scaled_or_nothing (p.carried j) (cost_if_straight s p j)) in
-    let each_group = int_sum-same (length s.aboard) (λ k. scaled (cost (call_count s + k))) (group_part s p) (λ k b. scaled_or_nothing (p.carried (call_count s + k)) (cost_if_straight s p (call_count s + k))) in
+    let each_call = int_sum-same (call_count s) (λ j. scaled (cost j)) (λ j. cond (p.carried j) (scaled (cost_if_straight s p j)) (pos 0))
+    (λ j b. scaled_or_nothing (p.carried j) (cost_if_straight s p j)) in
+    let each_group = int_sum-same (length s.aboard) (λ k. scaled (cost (call_count s + k))) (group_part s p)
+    (λ k b. scaled_or_nothing (p.carried (call_count s + k)) (cost_if_straight s p (call_count s + k))) in
     omega (arith, ints, split, calls, groups, each_call, each_group)
 
-pub parts_together : (s : Snapshot) (c : ℕ) (price : ℕ → ℤ) (allowed required : ℕ → Bool) (p : Progress) → ((scaled (settled_cost s c p) +ℤ int_sum_below (length s.aboard) (group_part s p)) +ℤ int_sum_below (call_count s) (call_part s price allowed required p)) ≡ bound_after s c price allowed required p
+pub parts_together : (s : Snapshot) (c : ℕ) (price : ℕ → ℤ) (allowed required : ℕ → Bool) (p : Progress)
+    → ((scaled (settled_cost s c p) +ℤ int_sum_below (length s.aboard) (group_part s p)) +ℤ int_sum_below (call_count s)
+    (call_part s price allowed required p)) ≡ bound_after s c price allowed required p
 parts_together s c price allowed required p =
     let ride : ℕ → ℤ = λ j. cond (p.carried j) (scaled (cost_if_straight s p j)) (pos 0) in
     let paid : ℕ → ℤ = λ j. cond (p.boarded j) (price j) (pos 0) in

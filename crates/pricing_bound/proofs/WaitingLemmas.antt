@@ -1,5 +1,6 @@
 -- What a set of calls that wait adds to a bound, call by call.
-use Rattle.std.proofs.Common.{◌≡◌, ◌==◌, ℕ, zero, suc, ◌+◌, ◌-◌, ◌*◌, ◌^◌, ◌<◌, ◌≤◌, Bool, true, false, cond, ◌||◌, List, [], ◌∷◌, length, filter, refl, sym, ap, ◌∙◌, subst, inl, inr, arith}
+use Rattle.std.proofs.Common.{◌≡◌, ◌==◌, ℕ, zero, suc, ◌+◌, ◌-◌, ◌*◌, ◌^◌, ◌<◌, ◌≤◌, Bool, true, false, cond, ◌||◌, List, [], ◌∷◌, length, filter, refl, sym}
+use Rattle.std.proofs.Common.{ap, ◌∙◌, subst, inl, inr, arith}
 use Rattle.std.specs.Prelude.{ℤ, pos, neg_ℤ, ◌+ℤ◌, ◌≤ℤ◌, int_lt}
 use Rattle.std.specs.List.{range_with_len}
 use Rattle.std.proofs.lemmas.Int.{ints}
@@ -45,7 +46,8 @@ int_filter p f a (suc n) =
     let rest = int_filter p f (a + 1) n in
     let front = int_front n (λ k. cond (p (a + k)) (f (a + k)) (pos 0)) in
     let here = ap (λ (k : ℕ). cond (p k) (f k) (pos 0)) (none_more a) in
-    let same = int_sum-same n (λ k. cond (p (a + 1 + k)) (f (a + 1 + k)) (pos 0)) (λ k. cond (p (a + (1 + k))) (f (a + (1 + k))) (pos 0)) (λ k lt. ap (λ (i : ℕ). cond (p i) (f i) (pos 0)) (later a k)) in
+    let same = int_sum-same n (λ k. cond (p (a + 1 + k)) (f (a + 1 + k)) (pos 0)) (λ k. cond (p (a + (1 + k))) (f (a + (1 + k))) (pos 0))
+    (λ k lt. ap (λ (i : ℕ). cond (p i) (f i) (pos 0)) (later a k)) in
     let taken = by_test (p a) (filter p (range_with_len (a + 1) n)) in
     omega (arith, ints, rest, front, here, same, taken)
   where
@@ -63,9 +65,13 @@ int_members : (bound set n : ℕ) (f : ℕ → ℤ) → n ≤ bound → ((k : �
 unfolding members
 int_members bound set n f le below =
     let all = int_filter (has set) f 0 bound in
-    let from_zero = int_sum-same bound (λ k. cond (has set (0 + k)) (f (0 + k)) (pos 0)) (λ k. cond (has set k) (f k) (pos 0)) (λ k lt. ap (λ (i : ℕ). cond (has set i) (f i) (pos 0)) (zero_more k)) in
-    let split = ap (λ (m : ℕ). int_sum_below m (λ k. cond (has set k) (f k) (pos 0))) (rest_of n bound le) ∙ int_split n (bound - n) (λ k. cond (has set k) (f k) (pos 0)) in
-    let none = int_sum-same (bound - n) (λ k. cond (has set (n + k)) (f (n + k)) (pos 0)) (λ _. pos 0) (λ k lt. ap (λ (b : Bool). cond b (f (n + k)) (pos 0)) (false_from_ne_true (has set (n + k)) (λ e. let high = below (n + k) e in omega (arith, high)))) in
+    let from_zero = int_sum-same bound (λ k. cond (has set (0 + k)) (f (0 + k)) (pos 0)) (λ k. cond (has set k) (f k) (pos 0))
+    (λ k lt. ap (λ (i : ℕ). cond (has set i) (f i) (pos 0)) (zero_more k)) in
+    let split = ap (λ (m : ℕ). int_sum_below m (λ k. cond (has set k) (f k) (pos 0))) (rest_of n bound le)
+    ∙ int_split n (bound - n) (λ k. cond (has set k) (f k) (pos 0)) in
+    let none = int_sum-same (bound - n) (λ k. cond (has set (n + k)) (f (n + k)) (pos 0)) (λ _. pos 0)
+    (λ k lt. ap (λ (b : Bool). cond b (f (n + k)) (pos 0))
+    (false_from_ne_true (has set (n + k)) (λ e. let high = below (n + k) e in omega (arith, high)))) in
     let nothing = int_sum-zero (bound - n) in
     omega (arith, ints, all, from_zero, split, none, nothing)
   where
@@ -124,10 +130,12 @@ among_filter p j a (suc n) le less e = by_place (a == j) refl (λ next. among_fi
         later : (a ≡ j → ⊥) → a + 1 ≤ j
         later apart = elim (eq-or-lt_of_le le) [ inl s ↦ absurd (apart s) | inr lt ↦ omega (arith, lt) ]
 
-    by_place : (v : Bool) → (a == j) ≡ v → (a + 1 ≤ j → is_among j (filter p (range_with_len (a + 1) n)) ≡ true) → is_among j (filter p (range_with_len a (suc n))) ≡ true
+    by_place : (v : Bool) → (a == j) ≡ v → (a + 1 ≤ j → is_among j (filter p (range_with_len (a + 1) n)) ≡ true)
+        → is_among j (filter p (range_with_len a (suc n))) ≡ true
     by_place true at rest =
         let here : p a ≡ true = ap p (eqb-true a j at) ∙ e in
-        ap (λ (b : Bool). is_among j (cond b (a ∷ filter p (range_with_len (a + 1) n)) (filter p (range_with_len (a + 1) n)))) here ∙ or_left (a == j) (is_among j (filter p (range_with_len (a + 1) n))) at
+        ap (λ (b : Bool). is_among j (cond b (a ∷ filter p (range_with_len (a + 1) n)) (filter p (range_with_len (a + 1) n)))) here
+        ∙ or_left (a == j) (is_among j (filter p (range_with_len (a + 1) n))) at
     by_place false at rest = taken (p a) (filter p (range_with_len (a + 1) n)) (rest (next at))
 
 pub among : (bound set j : ℕ) → j < bound → has set j ≡ true → is_among j (members bound set) ≡ true
@@ -143,11 +151,13 @@ among_from : (p : ℕ → Bool) (j a n : ℕ) → is_among j (filter p (range_wi
 among_from p j a zero e = absurd (false≢true e)
 among_from p j a (suc n) e = by_test (p a) refl (λ h. let rest = among_from p j (a + 1) n h in (let le = rest.0 in omega (arith, le), rest.1)) e
   where
-    by_place : (v : Bool) → (a == j) ≡ v → p a ≡ true → (is_among j (filter p (range_with_len (a + 1) n)) ≡ true → (a ≤ j) × (p j ≡ true)) → ((a == j) || is_among j (filter p (range_with_len (a + 1) n))) ≡ true → (a ≤ j) × (p j ≡ true)
+    by_place : (v : Bool) → (a == j) ≡ v → p a ≡ true → (is_among j (filter p (range_with_len (a + 1) n)) ≡ true → (a ≤ j) × (p j ≡ true))
+        → ((a == j) || is_among j (filter p (range_with_len (a + 1) n))) ≡ true → (a ≤ j) × (p j ≡ true)
     by_place true at h later k = (let same = eqb-true a j at in omega (arith, same), sym (ap p (eqb-true a j at)) ∙ h)
     by_place false at h later k = later (sym (ap (λ (b : Bool). b || is_among j (filter p (range_with_len (a + 1) n))) at) ∙ k)
 
-    by_test : (v : Bool) → p a ≡ v → (is_among j (filter p (range_with_len (a + 1) n)) ≡ true → (a ≤ j) × (p j ≡ true)) → is_among j (cond v (a ∷ filter p (range_with_len (a + 1) n)) (filter p (range_with_len (a + 1) n))) ≡ true → (a ≤ j) × (p j ≡ true)
+    by_test : (v : Bool) → p a ≡ v → (is_among j (filter p (range_with_len (a + 1) n)) ≡ true → (a ≤ j) × (p j ≡ true))
+        → is_among j (cond v (a ∷ filter p (range_with_len (a + 1) n)) (filter p (range_with_len (a + 1) n))) ≡ true → (a ≤ j) × (p j ≡ true)
     by_test true h later k = by_place (a == j) refl h later k
     by_test false h later k = later k
 
@@ -155,8 +165,10 @@ filter_once : (p : ℕ → Bool) (a n : ℕ) → AreOnce (filter p (range_with_l
 filter_once p a zero = tt
 filter_once p a (suc n) = by_test (p a) (filter_once p (a + 1) n)
   where
-    by_test : (v : Bool) → AreOnce (filter p (range_with_len (a + 1) n)) → AreOnce (cond v (a ∷ filter p (range_with_len (a + 1) n)) (filter p (range_with_len (a + 1) n)))
-    by_test true rest = (false_from_ne_true (is_among a (filter p (range_with_len (a + 1) n))) (λ e. let le = (among_from p a (a + 1) n e).0 in omega (arith, le)), rest)
+    by_test : (v : Bool) → AreOnce (filter p (range_with_len (a + 1) n))
+        → AreOnce (cond v (a ∷ filter p (range_with_len (a + 1) n)) (filter p (range_with_len (a + 1) n)))
+    by_test true rest =
+        (false_from_ne_true (is_among a (filter p (range_with_len (a + 1) n))) (λ e. let le = (among_from p a (a + 1) n e).0 in omega (arith, le)), rest)
     by_test false rest = rest
 
 pub members_once : (bound set : ℕ) → AreOnce (members bound set)
@@ -194,7 +206,8 @@ pub record AreSoFar (set n : ℕ) (f : ℕ → ℤ) (left : List ℕ) (sum : ℤ
   pub low : neg_ℤ (pos (2 * 10 ^ 24 * (128 - length left))) ≤ℤ sum
   pub high : sum ≤ℤ pos (2 * 10 ^ 24 * (128 - length left))
 
-pub none_so_far : (set left n : ℕ) (f : ℕ → ℤ) (sum : ℤ) → n ≤ 128 → ((j : ℕ) → has set j ≡ true → j < n) → left ≡ set → sum ≡ pos 0 → AreSoFar set n f (members 128 left) sum
+pub none_so_far : (set left n : ℕ) (f : ℕ → ℤ) (sum : ℤ) → n ≤ 128 → ((j : ℕ) → has set j ≡ true → j < n) → left ≡ set → sum ≡ pos 0
+    → AreSoFar set n f (members 128 left) sum
 none_so_far set left n f sum few within e g =
     let all = int_members 128 set n f few within in
     let same = ap (λ (s : ℕ). int_sum_by f (members 128 s)) e in
@@ -206,7 +219,8 @@ none_so_far set left n f sum few within e g =
       high = omega (arith, ints, g);
     }
 
-pub one_added : (set n one : ℕ) (f : ℕ → ℤ) (left rest : List ℕ) (sum new : ℤ) → AreSoFar set n f left sum → left ≡ one ∷ rest → new ≡ sum +ℤ f one → neg_ℤ (pos (2 * 10 ^ 24)) ≤ℤ f one → f one ≤ℤ pos (2 * 10 ^ 24) → AreSoFar set n f rest new
+pub one_added : (set n one : ℕ) (f : ℕ → ℤ) (left rest : List ℕ) (sum new : ℤ) → AreSoFar set n f left sum → left ≡ one ∷ rest → new ≡ sum +ℤ f one
+    → neg_ℤ (pos (2 * 10 ^ 24)) ≤ℤ f one → f one ≤ℤ pos (2 * 10 ^ 24) → AreSoFar set n f rest new
 one_added set n one f left rest sum new h is e term_low term_high =
     let size = one_less left rest one h.few is in
     let less = sum_less f left rest one is in
@@ -223,7 +237,8 @@ one_added set n one f left rest sum new h is e term_low term_high =
       high = omega (arith, ints, high, more, e, term_high);
     }
 
-pub all_added : (set n : ℕ) (f : ℕ → ℤ) (left : List ℕ) (sum : ℤ) → AreSoFar set n f left sum → left ≡ [] → (sum ≡ int_sum_where n (has set) f) × (neg_ℤ (pos (256 * 10 ^ 24)) ≤ℤ sum) × (sum ≤ℤ pos (256 * 10 ^ 24))
+pub all_added : (set n : ℕ) (f : ℕ → ℤ) (left : List ℕ) (sum : ℤ) → AreSoFar set n f left sum → left ≡ [] → (sum ≡ int_sum_where n (has set) f)
+    × (neg_ℤ (pos (256 * 10 ^ 24)) ≤ℤ sum) × (sum ≤ℤ pos (256 * 10 ^ 24))
 all_added set n f left sum h is =
     let total = h.total in
     let none = ap (int_sum_by f) is in

@@ -62,18 +62,23 @@ completion_bound_for a x = completion_bound a.snapshot a.car a.price a.allowed a
 -- No tour for the aim that begins with a partial tour is worth less than its bound.
 abbrev pub IsLower : Aim → (bound : Course → ℤ) → Type 0
 IsLower a bound =
-    (moves : List Move) (x : Course) (tour : List Stop) → IsAccepted a.snapshot → a.car < car_count a.snapshot → course_of a.snapshot a.car moves ≡ Some x → BeginsWith a.snapshot tour moves → IsTourWithin a.snapshot a.car a.allowed a.required tour → bound x ≤ℤ value_for a tour
+    (moves : List Move) (x : Course) (tour : List Stop) → IsAccepted a.snapshot → a.car < car_count a.snapshot → course_of a.snapshot a.car moves ≡ Some x
+    → BeginsWith a.snapshot tour moves → IsTourWithin a.snapshot a.car a.allowed a.required tour → bound x ≤ℤ value_for a tour
 
 -- One move more, where boards are of allowed calls, makes the bound no smaller.
 abbrev pub IsGrowing : Aim → (bound : Course → ℤ) → Type 0
 IsGrowing a bound =
-    (moves : List Move) (x y : Course) (m : Move) → IsAccepted a.snapshot → a.car < car_count a.snapshot → AreAllowed a.allowed moves → boards_allowed a.allowed m ≡ true → course_of a.snapshot a.car moves ≡ Some x → move_on a.snapshot a.car x m ≡ Some y → bound x ≤ℤ bound y
+    (moves : List Move) (x y : Course) (m : Move) → IsAccepted a.snapshot → a.car < car_count a.snapshot → AreAllowed a.allowed moves
+    → boards_allowed a.allowed m ≡ true → course_of a.snapshot a.car moves ≡ Some x → move_on a.snapshot a.car x m ≡ Some y → bound x ≤ℤ bound y
 
 -- The bound is at least what is settled without the prices of the calls that boarded and the positive prices of
 -- the other allowed calls.
 abbrev pub IsAtLeastSettled : Aim → (bound : Course → ℤ) → Type 0
 IsAtLeastSettled a bound =
-    (moves : List Move) (x : Course) → IsAccepted a.snapshot → a.car < car_count a.snapshot → AreAllowed a.allowed moves → course_of a.snapshot a.car moves ≡ Some x → let p = reached a.snapshot a.car x in ((scaled (settled_of a.snapshot a.car x) -ℤ int_sum_where (call_count a.snapshot) p.boarded a.price) -ℤ int_sum_where (call_count a.snapshot) (λ j. a.allowed j && not (p.boarded j)) (λ j. positive_part (a.price j))) ≤ℤ bound x
+    (moves : List Move) (x : Course) → IsAccepted a.snapshot → a.car < car_count a.snapshot → AreAllowed a.allowed moves
+    → course_of a.snapshot a.car moves ≡ Some x → let p = reached a.snapshot a.car x in
+    ((scaled (settled_of a.snapshot a.car x) -ℤ int_sum_where (call_count a.snapshot) p.boarded a.price) -ℤ int_sum_where (call_count a.snapshot)
+    (λ j. a.allowed j && not (p.boarded j)) (λ j. positive_part (a.price j))) ≤ℤ bound x
 
 -- The other aim allows fewer calls and requires more, the required ones being allowed, and is else the same.
 pub record IsNarrower (a other : Aim) : Type 0 where

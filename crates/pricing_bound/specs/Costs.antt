@@ -37,13 +37,22 @@ pub sum_one_off : (n j : ℕ) (f g : ℕ → ℕ) (more : ℕ) → j < n → g j
 sum_one_off zero j f g more b here same = absurd (omega arith)
 sum_one_off (suc n) j f g more b here same =
     let le : j ≤ n = omega arith in
-    elim (eq-or-lt_of_le le) [ inl e ↦ (let below = sum_below-same n g f (λ k lt. same k (λ eq. omega arith)) in let last = subst (λ (x : ℕ). g x ≡ f x + more) e here in omega (arith, below, last)) | inr lt ↦ (let rest = sum_one_off n j f g more lt here same in let last = same n (λ eq. omega arith) in omega (arith, rest, last)) ]
+    elim (eq-or-lt_of_le le) [
+      | inl e ↦ (let below = sum_below-same n g f (λ k lt. same k (λ eq. omega arith)) in let last = subst (λ (x : ℕ). g x ≡ f x + more) e here in
+          omega (arith, below, last))
+      | inr lt ↦ (let rest = sum_one_off n j f g more lt here same in let last = same n (λ eq. omega arith) in omega (arith, rest, last))
+    ]
 
-pub int_sum_one_off : (n j : ℕ) (f g : ℕ → ℤ) (more : ℤ) → j < n → g j ≡ f j +ℤ more → ((k : ℕ) → (k ≡ j → ⊥) → g k ≡ f k) → int_sum_below n g ≡ int_sum_below n f +ℤ more
+pub int_sum_one_off : (n j : ℕ) (f g : ℕ → ℤ) (more : ℤ) → j < n → g j ≡ f j +ℤ more → ((k : ℕ) → (k ≡ j → ⊥) → g k ≡ f k)
+    → int_sum_below n g ≡ int_sum_below n f +ℤ more
 int_sum_one_off zero j f g more b here same = absurd (omega arith)
 int_sum_one_off (suc n) j f g more b here same =
     let le : j ≤ n = omega arith in
-    elim (eq-or-lt_of_le le) [ inl e ↦ (let below = int_sum-same n g f (λ k lt. same k (λ eq. omega arith)) in let last = subst (λ (x : ℕ). g x ≡ f x +ℤ more) e here in omega (arith, ints, below, last)) | inr lt ↦ (let rest = int_sum_one_off n j f g more lt here same in let last = same n (λ eq. omega arith) in omega (arith, ints, rest, last)) ]
+    elim (eq-or-lt_of_le le) [
+      | inl e ↦ (let below = int_sum-same n g f (λ k lt. same k (λ eq. omega arith)) in let last = subst (λ (x : ℕ). g x ≡ f x +ℤ more) e here in
+          omega (arith, ints, below, last))
+      | inr lt ↦ (let rest = int_sum_one_off n j f g more lt here same in let last = same n (λ eq. omega arith) in omega (arith, ints, rest, last))
+    ]
 
 -- ---- what a waiting call adds
 

@@ -9,5 +9,9 @@ use Rattle.pricing_bound.specs.Aims.{Aim, IsNarrower, completion_bound_for}
 
 pub narrowed : (a other : Aim) → IsNarrower a other → (x : Course) → completion_bound_for a x ≤ℤ completion_bound_for other x
 narrowed a other h x =
-    let same : completion_bound a.snapshot a.car a.price other.allowed other.required x ≡ completion_bound_for other x = sym (ap (λ (s : Snapshot). completion_bound s other.car other.price other.allowed other.required x) h.snapshot ∙ ap (λ (c : ℕ). completion_bound a.snapshot c other.price other.allowed other.required x) h.car ∙ ap (λ (price : ℕ → ℤ). completion_bound a.snapshot a.car price other.allowed other.required x) h.price) in
-    subst (λ (z : ℤ). completion_bound_for a x ≤ℤ z) same (bound_narrows a.snapshot a.car a.price a.allowed a.required other.allowed other.required x h.fewer h.more h.inside)
+    let same : completion_bound a.snapshot a.car a.price other.allowed other.required x ≡ completion_bound_for other x =
+    sym (ap (λ (s : Snapshot). completion_bound s other.car other.price other.allowed other.required x) h.snapshot
+    ∙ ap (λ (c : ℕ). completion_bound a.snapshot c other.price other.allowed other.required x) h.car
+    ∙ ap (λ (price : ℕ → ℤ). completion_bound a.snapshot a.car price other.allowed other.required x) h.price) in
+    subst (λ (z : ℤ). completion_bound_for a x ≤ℤ z) same
+    (bound_narrows a.snapshot a.car a.price a.allowed a.required other.allowed other.required x h.fewer h.more h.inside)

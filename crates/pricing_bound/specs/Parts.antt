@@ -9,7 +9,8 @@ use Rattle.search_model.specs.Bounds.{cost_if_straight, waiting_term}
 -- where it has not
 abbrev pub call_part : Snapshot → (price : ℕ → ℤ) → (allowed required : ℕ → Bool) → Progress → ℕ → ℤ
 call_part s price allowed required p j =
-    ((if p.carried j then scaled (cost_if_straight s p j) else pos 0) -ℤ (if p.boarded j then price j else pos 0)) +ℤ (if allowed j && not (p.boarded j) then waiting_term s price required p j else pos 0)
+    ((if p.carried j then scaled (cost_if_straight s p j) else pos 0) -ℤ (if p.boarded j then price j else pos 0)) +ℤ
+    (if allowed j && not (p.boarded j) then waiting_term s price required p j else pos 0)
 
 -- the cost of the ride where the group is carried
 abbrev pub group_part : Snapshot → Progress → ℕ → ℤ

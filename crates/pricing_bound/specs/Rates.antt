@@ -1,5 +1,6 @@
 -- What calls cost, laid out, and what they add to a bound.
-use Rattle.std.specs.Prelude.{◌≡◌, ◌≤◌, ◌<◌, ℕ, ◌+◌, ◌-◌, ◌*◌, ℤ, pos, ◌-ℤ◌, int_lt, Bool, false, true, ◌||◌, List, length, slice_index, slice_index_or, if◌then◌else◌}
+use Rattle.std.specs.Prelude.{◌≡◌, ◌≤◌, ◌<◌, ℕ, ◌+◌, ◌-◌, ◌*◌, ℤ, pos, ◌-ℤ◌, int_lt, Bool, false, true, ◌||◌, List, length, slice_index, slice_index_or}
+use Rattle.std.specs.Prelude.{if◌then◌else◌}
 use Rattle.call_sets.specs.Counting.{has}
 use Rattle.elevator_model.specs.Costs.{cost_of_rider}
 use Rattle.elevator_model.specs.Snapshot.{Snapshot, call_count, call_of}

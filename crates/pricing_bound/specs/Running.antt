@@ -85,4 +85,5 @@ ridden_to s c p g = persons_to s.aboard c g * (p.opened + time_between s.buildin
 
 -- the progress with the car at a stop at floor g, its doors open at the moment m
 abbrev pub standing_at : Progress → (g m : ℕ) → Progress
-standing_at p g m = record { begun = true; floor = g; opened = m; leaves = m; boarded = p.boarded; carried = p.carried; boarded_at = p.boarded_at; delivered_at = p.delivered_at }
+standing_at p g m = record
+    { begun = true; floor = g; opened = m; leaves = m; boarded = p.boarded; carried = p.carried; boarded_at = p.boarded_at; delivered_at = p.delivered_at }

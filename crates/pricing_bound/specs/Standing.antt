@@ -1,6 +1,7 @@
 -- Where lawful moves lead: who is carried boarded, the car is at a floor of the building, and a car that made no
 -- stop is where it was.
-use Rattle.std.proofs.Common.{◌≡◌, ℕ, ◌+◌, ◌<◌, ◌≤◌, Bool, true, false, cond, not, ◌&&◌, ◌||◌, List, [], ◌∷◌, refl, sym, ap, ◌∙◌, subst, arith, Option, Some, None}
+use Rattle.std.proofs.Common.{◌≡◌, ℕ, ◌+◌, ◌<◌, ◌≤◌, Bool, true, false, cond, not, ◌&&◌, ◌||◌, List, [], ◌∷◌, refl, sym, ap, ◌∙◌, subst, arith, Option, Some}
+use Rattle.std.proofs.Common.{None}
 use Rattle.std.proofs.lemmas.Bool.{and_parts, false≢true, ltb-true, eqb-true, not-false}
 use Rattle.elevator_model.specs.declared.CarState.{CarState}
 use Rattle.elevator_model.specs.declared.CarState.TheVariants.{Idle, Coming, Moving}
@@ -33,9 +34,11 @@ pub record IsStanding (s : Snapshot) (c : ℕ) (x : Course) : Type 0 where
   pub before : IsPlaced s c x.before
   pub present : IsIn (floor_count s.building) x.present
 
-placed_after : (s : Snapshot) (c : ℕ) (before : Progress) (present : Option Stop) → IsPlaced s c before → IsIn (floor_count s.building) present → IsPlaced s c (progress_after s c before present)
+placed_after : (s : Snapshot) (c : ℕ) (before : Progress) (present : Option Stop) → IsPlaced s c before → IsIn (floor_count s.building) present
+    → IsPlaced s c (progress_after s c before present)
 placed_after s c before None h near = h
-placed_after s c before (Some stop) h near = record { kept = IsKept-stop s c before stop h.kept; floor = near; timely = omega arith; first = λ e. absurd (false≢true (sym e)) }
+placed_after s c before (Some stop) h near =
+    record { kept = IsKept-stop s c before stop h.kept; floor = near; timely = omega arith; first = λ e. absurd (false≢true (sym e)) }
 
 pub placed_reached : (s : Snapshot) (c : ℕ) (x : Course) → IsStanding s c x → IsPlaced s c (reached s c x)
 placed_reached s c x h = placed_after s c x.before x.present h.before h.present
@@ -57,7 +60,17 @@ standing_moves s c x (m ∷ ms) y h leads =
     standing_moves s c step.next ms y (standing_move s c x m step.next h step.first) step.later
 
 pub standing_start : (s : Snapshot) (c : ℕ) → IsAccepted s → c < car_count s → IsStanding s c (course_start s c)
-standing_start s c a b = record { before = record { kept = IsKept-start s c; floor = ltb-true (floor_of (state_of s c)) (floor_count s.building) (and_parts _ _ (a.placed c b).served).0; timely = omega arith; first = λ e. refl }; present = tt }
+standing_start s c a b =
+    record {
+      before = record {
+        kept = IsKept-start s c;
+        floor = ltb-true (floor_of (state_of s c)) (floor_count s.building) (and_parts _ _ (a.placed c b).served).0;
+        timely =
+            omega arith;
+        first = λ e. refl;
+      };
+      present = tt;
+    }
 
 pub course_standing : (s : Snapshot) (c : ℕ) (moves : List Move) (x : Course) → IsAccepted s → c < car_count s → course_of s c moves ≡ Some x → IsStanding s c x
 course_standing s c moves x a b leads = standing_moves s c (course_start s c) moves x (standing_start s c a b) leads
@@ -76,14 +89,17 @@ no_leg false true h = (refl, refl)
 no_leg false false h = absurd (false≢true (sym h))
 
 -- The doors of a next stop are open no sooner than the car would be there on the straight way.
-pub arrives_after : (s : Snapshot) (c : ℕ) (p : Progress) (g : ℕ) → IsAccepted s → IsPlaced s c p → may_stand s c p (empty_stop g) ≡ true → p.opened + time_between s.building.travel p.floor g ≤ arrival s c p g
+pub arrives_after : (s : Snapshot) (c : ℕ) (p : Progress) (g : ℕ) → IsAccepted s → IsPlaced s c p → may_stand s c p (empty_stop g) ≡ true
+    → p.opened + time_between s.building.travel p.floor g ≤ arrival s c p g
 arrives_after s c p g a h stands = by_leg (has_leg s c p) refl
   where
-    by_leg : (v : Bool) → has_leg s c p ≡ v → p.opened + time_between s.building.travel p.floor g ≤ cond v (p.leaves + time_between s.building.travel p.floor g) p.leaves
+    by_leg : (v : Bool) → has_leg s c p ≡ v
+        → p.opened + time_between s.building.travel p.floor g ≤ cond v (p.leaves + time_between s.building.travel p.floor g) p.leaves
     by_leg true e = let timely = h.timely in omega (arith, timely)
     by_leg false e =
         let parts = no_leg p.begun (is_coming (state_of s c)) e in
-        let first = not-false (may_stop_first s.building c s.moment (state_of s c) g) (sym (ap (λ (x : Bool). not x && not (may_stop_first s.building c s.moment (state_of s c) g)) parts.0) ∙ (stands_empty s c p g stands).first) in
+        let first = not-false (may_stop_first s.building c s.moment (state_of s c) g)
+        (sym (ap (λ (x : Bool). not x && not (may_stop_first s.building c s.moment (state_of s c) g)) parts.0) ∙ (stands_empty s c p g stands).first) in
         let there = h.first parts.0 ∙ comes_to s c g (state_of s c) parts.1 first in
         let floors = a.building.travel_floors in
         let from = h.floor in

@@ -67,7 +67,9 @@ drawn_of pairs k a it =
     (it.0, there, ap (λ (d : Done TurnOf). (d.job, d.answer)) (sym (get_or-map done_at pairs it.0 (k, a) (done_at (k, a)) there) ∙ it.2))
 
 -- where each answer that was drawn is one of its pricing, so is each in its place
-pub answer_at : (s : Snapshot) (most_tours : ℕ) (tasks : List Task) (cars : ℕ) (order : List ℕ) (drawn : List TurnOf) → length drawn ≡ length order → ((n : ℕ) (a : TurnOf) → slice_get drawn n ≡ Some a → IsAnswerAt s most_tours tasks cars (slice_index order n) a) → (p : ℕ) (a : TurnOf) → Contains (zip order drawn) (p, a) → IsAnswerAt s most_tours tasks cars p a
+pub answer_at : (s : Snapshot) (most_tours : ℕ) (tasks : List Task) (cars : ℕ) (order : List ℕ) (drawn : List TurnOf) → length drawn ≡ length order
+    → ((n : ℕ) (a : TurnOf) → slice_get drawn n ≡ Some a → IsAnswerAt s most_tours tasks cars (slice_index order n) a) → (p : ℕ) (a : TurnOf)
+    → Contains (zip order drawn) (p, a) → IsAnswerAt s most_tours tasks cars p a
 answer_at s most_tours tasks cars order drawn same right p a it =
     let n = it.0 in
     let there : n < length order = omega (arith, it.1, pairs_long order drawn same) in
@@ -76,4 +78,5 @@ answer_at s most_tours tasks cars order drawn same right p a it =
     let number : slice_index order n ≡ p = get_or_default order n 0 p there ∙ ap (λ (q : ℕ × TurnOf). q.0) at in
     let answer : get_or drawn n a ≡ a = ap (λ (q : ℕ × TurnOf). q.1) at in
     let told : IsAnswerAt s most_tours tasks cars (slice_index order n) (get_or drawn n a) = right n (get_or drawn n a) (slice_get-get_or drawn n a within) in
-    subst (λ (b : TurnOf). IsAnswerAt s most_tours tasks cars p b) answer (subst (λ (q : ℕ). IsAnswerAt s most_tours tasks cars q (get_or drawn n a)) number told)
+    subst (λ (b : TurnOf). IsAnswerAt s most_tours tasks cars p b) answer
+    (subst (λ (q : ℕ). IsAnswerAt s most_tours tasks cars q (get_or drawn n a)) number told)

@@ -30,19 +30,25 @@ pub task-lt : (tasks cars k : ℕ) → k < tasks * cars → k / cars < tasks
 task-lt tasks zero k h = omega (arith, h)
 task-lt tasks (suc cars) k h = div_below k (suc cars) tasks (omega arith) h
 
-pub gives_tour : (s : Snapshot) (p : Pricing) (given : Option (List Stop)) → GivesWorth s p given → GivesTour s p.node p.car (price_at p.prices) (record { priced = p.answer; tour = given })
+pub gives_tour : (s : Snapshot) (p : Pricing) (given : Option (List Stop)) → GivesWorth s p given
+    → GivesTour s p.node p.car (price_at p.prices) (record { priced = p.answer; tour = given })
 gives_tour s p given it = record { tour = it.tour; given = it.given_is; within = it.within; has_it = it.value }
 
-pub answers_of : (s : Snapshot) (most_tours : ℕ) (tasks : List Task) (cars : ℕ) (answers : List TurnOf) → length answers ≡ length tasks * cars → ((k : ℕ) (a : TurnOf) → slice_get answers k ≡ Some a → IsAnswerOf s most_tours tasks (k / cars) (k % cars) a) → AreAnswersOf s most_tours tasks cars answers
+pub answers_of : (s : Snapshot) (most_tours : ℕ) (tasks : List Task) (cars : ℕ) (answers : List TurnOf) → length answers ≡ length tasks * cars
+    → ((k : ℕ) (a : TurnOf) → slice_get answers k ≡ Some a → IsAnswerOf s most_tours tasks (k / cars) (k % cars) a)
+    → AreAnswersOf s most_tours tasks cars answers
 answers_of s most_tours tasks cars answers count right i c below task at =
     let k = i * cars + c in
     let a = slice_index_or answers k no_turn in
     let there : k < length answers = omega (arith, count, job-lt (length tasks) cars i c (slice_get_within tasks i task at) below) in
     let is = right k a (slice_get-get_or answers k no_turn there) in
-    subst (λ n. IsAnswerOf s most_tours tasks n c a) (div-mul-add i cars c below) (subst (λ n. IsAnswerOf s most_tours tasks (k / cars) n a) (mod-mul-add i cars c below) is) task at
+    subst (λ n. IsAnswerOf s most_tours tasks n c a) (div-mul-add i cars c below)
+    (subst (λ n. IsAnswerOf s most_tours tasks (k / cars) n a) (mod-mul-add i cars c below) is) task at
 
 -- what stands for one task are the answers of its node
-pub answers_in : (s : Snapshot) (most_tours : ℕ) (tasks : List Task) (cars : ℕ) (answers : List TurnOf) (i : ℕ) (task : Task) → cars ≡ car_count s → length answers ≡ length tasks * cars → slice_get tasks i ≡ Some task → IsTaskOf s task → AreAnswersOf s most_tours tasks cars answers → AreAnswersIn s most_tours task.node.now task.prices.now (take cars (drop (i * cars) answers))
+pub answers_in : (s : Snapshot) (most_tours : ℕ) (tasks : List Task) (cars : ℕ) (answers : List TurnOf) (i : ℕ) (task : Task) → cars ≡ car_count s
+    → length answers ≡ length tasks * cars → slice_get tasks i ≡ Some task → IsTaskOf s task → AreAnswersOf s most_tours tasks cars answers
+    → AreAnswersIn s most_tours task.node.now task.prices.now (take cars (drop (i * cars) answers))
 answers_in s most_tours tasks cars answers i task all count at is right =
     let rest = drop (i * cars) answers in
     let next : i + 1 ≤ length tasks = omega (arith, slice_get_within tasks i task at) in

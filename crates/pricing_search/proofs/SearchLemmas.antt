@@ -32,7 +32,8 @@ empty_of t = record { snapshot = t.snapshot; car = t.car; moves = [] }
 pub is_empty : (t : PartialTour) → t.moves ≡ [] → t ≡ empty_of t
 is_empty t h = λ i. record { snapshot = t.snapshot; car = t.car; moves = h i }
 
-pub walking_first : (a : Aim) (demand : Demand) (t : PartialTour) → IsAccepted t.snapshot → t.car < car_count t.snapshot → t.moves ≡ [] → a ≡ aim_at t demand a.price → IsDemand t.snapshot t.car (has demand.allowed) (has demand.required) → IsWalking a demand t
+pub walking_first : (a : Aim) (demand : Demand) (t : PartialTour) → IsAccepted t.snapshot → t.car < car_count t.snapshot → t.moves ≡ []
+    → a ≡ aim_at t demand a.price → IsDemand t.snapshot t.car (has demand.allowed) (has demand.required) → IsWalking a demand t
 walking_first a demand t ok below empty aim demands =
     subst (λ (q : PartialTour). IsWalking a demand q) (sym (is_empty t empty)) (record { accepted = ok; car = below; aim = aim; demands = demands; may = tt })
 
@@ -43,17 +44,20 @@ aim_too first a demand t same aim = same ∙ aim ∙ ap (λ (b : Aim). aim_at t 
 pub aims_first : (a : Aim) (demand : Demand) (t : PartialTour) → a ≡ aim_at t demand a.price → AimsAt a t
 aims_first a demand t aim = record { snapshot = ap (λ (b : Aim). b.snapshot) aim; car = ap (λ (b : Aim). b.car) aim }
 
-pub open_first : (stands : Course → Type 0) (demand : Demand) (t : PartialTour) → t.moves ≡ [] → ((x : Course) → course t ≡ Some x → stands x) → IsOpen stands demand t
+pub open_first : (stands : Course → Type 0) (demand : Demand) (t : PartialTour) → t.moves ≡ [] → ((x : Course) → course t ≡ Some x → stands x)
+    → IsOpen stands demand t
 open_first stands demand t empty there =
     let at : course t ≡ Some (course_start t.snapshot t.car) = ap course (is_empty t empty) in
     record { at = course_start t.snapshot t.car; leads = at; stands_there = there (course_start t.snapshot t.car) at; extends = refl }
 
 -- a lower bound of the empty partial tour has no tour below it
-pub empty_lower : (a : Aim) (t : PartialTour) (bound : Course → ℤ) (value : ℤ) → IsAccepted t.snapshot → t.car < car_count t.snapshot → AimsAt a t → IsLower a bound → value ≡ bound (course_start t.snapshot t.car) → HasNoneBelow a value []
+pub empty_lower : (a : Aim) (t : PartialTour) (bound : Course → ℤ) (value : ℤ) → IsAccepted t.snapshot → t.car < car_count t.snapshot → AimsAt a t
+    → IsLower a bound → value ≡ bound (course_start t.snapshot t.car) → HasNoneBelow a value []
 empty_lower a t bound value ok below aims lower is = λ tour begins within.
     let accepted = subst IsAccepted (sym aims.snapshot) ok in
     let car = subst (λ (s : Snapshot). a.car < car_count s) (sym aims.snapshot) (subst (λ (c : ℕ). c < car_count t.snapshot) (sym aims.car) below) in
-    let start : course_start a.snapshot a.car ≡ course_start t.snapshot t.car = ap (λ (s : Snapshot). course_start s a.car) aims.snapshot ∙ ap (course_start t.snapshot) aims.car in
+    let start : course_start a.snapshot a.car ≡ course_start t.snapshot t.car = ap (λ (s : Snapshot). course_start s a.car) aims.snapshot
+    ∙ ap (course_start t.snapshot) aims.car in
     subst (λ (z : ℤ). z ≤ℤ value_for a tour) (sym is) (lower [] (course_start t.snapshot t.car) tour accepted car (ap Some start) begins within)
 
 -- ---- the answer
@@ -90,21 +94,34 @@ greater_same a b h = grind (arith, ints)
 abbrev pub open_worth : Progress → ℤ
 open_worth p = cond (int_lt p.untried p.best) p.untried p.best
 
-pub searched : (a : Aim) (demand : Demand) (t : PartialTour) (least : ℤ) (most : ℕ) (first last : Progress) (answer : Priced) → IsWalking a demand t → HasNoneBelow a least [] → t.moves ≡ [] → Begins (aim_at t demand a.price) first → Visited t demand a.price most first last → 1 ≤ most → IsBoundSize least → answer.worth ≡ cond (int_lt least (open_worth last)) (open_worth last) least → answer.visits ≡ cond (nat_eq last.visits 0) 1 last.visits → (answer.spent ≡ true → answer.visits ≡ most) → (answer.spent ≡ false → answer.visits ≡ most → ⊥) → IsSearched (aim_at t demand a.price) least most last.found answer
+pub searched : (a : Aim) (demand : Demand) (t : PartialTour) (least : ℤ) (most : ℕ) (first last : Progress) (answer : Priced) → IsWalking a demand t
+    → HasNoneBelow a least [] → t.moves ≡ [] → Begins (aim_at t demand a.price) first → Visited t demand a.price most first last → 1 ≤ most → IsBoundSize least
+    → answer.worth ≡ cond (int_lt least (open_worth last)) (open_worth last) least → answer.visits ≡ cond (nat_eq last.visits 0) 1 last.visits
+    → (answer.spent ≡ true → answer.visits ≡ most) → (answer.spent ≡ false → answer.visits ≡ most → ⊥)
+    → IsSearched (aim_at t demand a.price) least most last.found answer
 searched a demand t least most first last answer w none empty begins walked some size worth_is visits_are spent unspent = record {
   low = (let h = (one_at_least last.visits).0 in omega (arith, h, visits_are));
   high = within;
-  worth = λ tour inside. subst (λ (z : ℤ). z ≤ℤ value_for aim tour) (sym worth_is) (greater_of (λ z. z ≤ℤ value_for aim tour) (open_worth last) least (walked.below (open_worth last) tour may inside (subst (BeginsWith t.snapshot tour) (sym empty) (moves_of t.snapshot tour, refl))) (low_for tour inside));
+  worth = λ tour inside.
+      subst (λ (z : ℤ). z ≤ℤ value_for aim tour) (sym worth_is)
+      (greater_of (λ z. z ≤ℤ value_for aim tour) (open_worth last) least
+      (walked.below (open_worth last) tour may inside (subst (BeginsWith t.snapshot tour) (sym empty) (moves_of t.snapshot tour, refl))) (low_for tour inside));
   size = (
       let low = size.0 in
       let high = begins.size.1 in
       let best = walked.on.best in
-      let under = may.best in
-      (through _ _ answer.worth low at_least, subst (λ (z : ℤ). z ≤ℤ pos (10 ^ 27)) (sym worth_is) (greater_of (λ z. z ≤ℤ pos (10 ^ 27)) (open_worth last) least (through (open_worth last) first.best _ (through (open_worth last) last.best first.best under best) high) size.1))
+      let under = may.best in (
+        through _ _ answer.worth low at_least,
+        subst (λ (z : ℤ). z ≤ℤ pos (10 ^ 27)) (sym worth_is)
+            (greater_of (λ z. z ≤ℤ pos (10 ^ 27)) (open_worth last) least
+            (through (open_worth last) first.best _ (through (open_worth last) last.best first.best under best) high) size.1),
+      )
       );
   at_least = at_least;
   finds = (last.best, walked.found);
-  exact = λ e. subst (IsFoundTour aim last.found) (sym (worth_is ∙ ap (λ (z : ℤ). cond (int_lt least z) z least) (lesser_same last.untried last.best (best_known e)) ∙ greater_same last.best least found_least)) walked.found;
+  exact = λ e. subst (IsFoundTour aim last.found)
+      (sym (worth_is ∙ ap (λ (z : ℤ). cond (int_lt least z) z least) (lesser_same last.untried last.best (best_known e))
+      ∙ greater_same last.best least found_least)) walked.found;
   spent = spent;
   many = few_enough;
 }

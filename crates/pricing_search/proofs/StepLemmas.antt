@@ -7,7 +7,9 @@ use Rattle.partial_tours.specs.PartialTour.{PartialTour, course}
 use Rattle.partial_tours.specs.Orders.{next_after}
 
 -- the next move, told of the partial tour at which a loop began
-pub next_is : (p q : PartialTour) (x : Course) (m : Move) (next : Option Move) (set : ℕ) → q ≡ p → course p ≡ Some x → ((y : Course) → course q ≡ Some y → next ≡ next_after m (lawful_moves q.snapshot q.car y (has set))) → next ≡ next_after m (lawful_moves p.snapshot p.car x (has set))
+pub next_is : (p q : PartialTour) (x : Course) (m : Move) (next : Option Move) (set : ℕ) → q ≡ p → course p ≡ Some x
+    → ((y : Course) → course q ≡ Some y → next ≡ next_after m (lawful_moves q.snapshot q.car y (has set)))
+    → next ≡ next_after m (lawful_moves p.snapshot p.car x (has set))
 next_is p q x m next set back leads value =
     value x (ap course back ∙ leads) ∙ ap (λ (r : PartialTour). next_after m (lawful_moves r.snapshot r.car x (has set))) back
 

@@ -1,5 +1,6 @@
 -- What a search leaves out has no tour below the worth.
-use Rattle.std.proofs.Common.{◌≡◌, ℕ, ◌+◌, ◌<◌, ◌⊎◌, Bool, true, false, cond, ◌&&◌, List, ◌++◌, ◌∷◌, [], refl, sym, ap, ◌∙◌, subst, inl, inr, arith, Option, Some}
+use Rattle.std.proofs.Common.{◌≡◌, ℕ, ◌+◌, ◌<◌, ◌⊎◌, Bool, true, false, cond, ◌&&◌, List, ◌++◌, ◌∷◌, [], refl, sym, ap, ◌∙◌, subst, inl, inr, arith, Option}
+use Rattle.std.proofs.Common.{Some}
 use Rattle.std.specs.Prelude.{ℤ, ◌≤ℤ◌, not}
 use Rattle.std.specs.List.{filter}
 use Rattle.std.proofs.lemmas.Int.{ints}
@@ -30,7 +31,8 @@ use Rattle.pricing_search.specs.Steps.{AreFollowersWorth, IsVain}
 -- ---- what a bound says
 
 -- what is told of where a partial tour leads is told of the tours that begin with it
-pub none_below_there : (a : Aim) (demand : Demand) (t : PartialTour) (stands : Course → Type 0) (value : ℤ) → IsWalking a demand t → IsOpen stands demand t → ((x : Course) → stands x → UndercutsNone a value x) → HasNoneBelow (aim_at t demand a.price) value t.moves
+pub none_below_there : (a : Aim) (demand : Demand) (t : PartialTour) (stands : Course → Type 0) (value : ℤ) → IsWalking a demand t → IsOpen stands demand t
+    → ((x : Course) → stands x → UndercutsNone a value x) → HasNoneBelow (aim_at t demand a.price) value t.moves
 none_below_there a demand t stands value w o are =
     subst (λ (b : Aim). UndercutsNone b value o.at) w.aim (are o.at o.stands_there) t.moves w.accepted w.car o.leads
 
@@ -39,21 +41,29 @@ through t u v h k = omega (arith, ints, h, k)
 
 -- nor is one below a lesser value
 pub lesser_undercuts : (a : Aim) (value worth : ℤ) (x : Course) → worth ≤ℤ value → UndercutsNone a value x → UndercutsNone a worth x
-lesser_undercuts a value worth x le none = λ moves ok car leads tour begins within. through worth value (value_for a tour) le (none moves ok car leads tour begins within)
+lesser_undercuts a value worth x le none =
+    λ moves ok car leads tour begins within. through worth value (value_for a tour) le (none moves ok car leads tour begins within)
 
 -- ---- moves
 
-pub vain_after : (a : Aim) (demand : Demand) (t : PartialTour) (worth : ℤ) (m : Move) → IsWalking a demand t → ((y : Course) → course (with_move t m) ≡ Some y → UndercutsNone a worth y) → IsVain demand a.price worth t m
+pub vain_after : (a : Aim) (demand : Demand) (t : PartialTour) (worth : ℤ) (m : Move) → IsWalking a demand t
+    → ((y : Course) → course (with_move t m) ≡ Some y → UndercutsNone a worth y) → IsVain demand a.price worth t m
 vain_after a demand t worth m w none = λ y there. subst (λ (b : Aim). UndercutsNone b worth y) w.aim (none y there) (t.moves ++ m ∷ []) w.accepted w.car there
 
 -- no tour of the node goes on with it
-pub shut_vain : (demand : Demand) (price : ℕ → ℤ) (worth : ℤ) (t : PartialTour) (m : Move) → IsAccepted t.snapshot → IsDemand t.snapshot t.car (has demand.allowed) (has demand.required) → IsShut demand (with_move t m) → IsVain demand price worth t m
-shut_vain demand price worth t m ok demands shut = λ y there tour begins within. absurd (both_ways (goes_on t demand y) (shut y there) (extendable_to t.snapshot t.car (has demand.allowed) (has demand.required) (t.moves ++ m ∷ []) y ok demands there (tour, within, begins)))
+pub shut_vain : (demand : Demand) (price : ℕ → ℤ) (worth : ℤ) (t : PartialTour) (m : Move) → IsAccepted t.snapshot
+    → IsDemand t.snapshot t.car (has demand.allowed) (has demand.required) → IsShut demand (with_move t m) → IsVain demand price worth t m
+shut_vain demand price worth t m ok demands shut =
+    λ y there tour begins within.
+    absurd (both_ways (goes_on t demand y) (shut y there)
+    (extendable_to t.snapshot t.car (has demand.allowed) (has demand.required) (t.moves ++ m ∷ []) y ok demands there (tour, within, begins)))
 
 -- a move of the partial tour is one for the aim
-pub aimed_move : (a : Aim) (t : PartialTour) (x y : Course) (m : Move) → AimsAt a t → course t ≡ Some x → course (with_move t m) ≡ Some y → move_on a.snapshot a.car x m ≡ Some y
+pub aimed_move : (a : Aim) (t : PartialTour) (x y : Course) (m : Move) → AimsAt a t → course t ≡ Some x → course (with_move t m) ≡ Some y
+    → move_on a.snapshot a.car x m ≡ Some y
 aimed_move a t x y m aims here there =
-    subst (λ (s : Snapshot). move_on s a.car x m ≡ Some y) (sym aims.snapshot) (subst (λ (c : ℕ). move_on t.snapshot c x m ≡ Some y) (sym aims.car) (moved_on t m x y here there))
+    subst (λ (s : Snapshot). move_on s a.car x m ≡ Some y) (sym aims.snapshot)
+    (subst (λ (c : ℕ). move_on t.snapshot c x m ≡ Some y) (sym aims.car) (moved_on t m x y here there))
 
 -- ---- the moves that may follow
 
@@ -61,11 +71,14 @@ aimed_move a t x y m aims here there =
 abbrev pub LeavesInVain : Aim → (departs : Course → Type 0) → (worth : ℤ) → Type 0
 LeavesInVain a departs worth = (x y : Course) (floor : ℕ) → departs x → move_on a.snapshot a.car x (Leave floor) ≡ Some y → UndercutsNone a worth y
 
-pub left_worth : (a : Aim) (departs : Course → Type 0) (no_leaves : Bool) (t : PartialTour) (demand : Demand) (worth : ℤ) (x : Course) (next : Followers) → IsWalking a demand t → course t ≡ Some x → departs x → (no_leaves ≡ true → LeavesInVain a departs worth) → AreFollowersLeft demand no_leaves t x next → AreFollowersWorth demand a.price worth t x next
+pub left_worth : (a : Aim) (departs : Course → Type 0) (no_leaves : Bool) (t : PartialTour) (demand : Demand) (worth : ℤ) (x : Course) (next : Followers)
+    → IsWalking a demand t → course t ≡ Some x → departs x → (no_leaves ≡ true → LeavesInVain a departs worth) → AreFollowersLeft demand no_leaves t x next
+    → AreFollowersWorth demand a.price worth t x next
 left_worth a departs no_leaves t demand worth x next w leads there vain left = record {
   stays = left.stays;
   passing = left.passing;
-  out = out_of_left (IsVain demand a.price worth t) no_leaves t demand x next left leaves (λ m shut. shut_vain demand a.price worth t m w.accepted w.demands shut);
+  out = out_of_left (IsVain demand a.price worth t) no_leaves t demand x next left leaves
+      (λ m shut. shut_vain demand a.price worth t m w.accepted w.demands shut);
   useful = left.useful;
 }
   where
@@ -93,17 +106,21 @@ pub record AreOthers (t : PartialTour) (demand : Demand) (price : ℕ → ℤ) (
   pub without : AreWithoutLeaves set others
 
 -- as the code takes them out
-pub no_leaves : (set others : Followers) (stops : ℕ) → stops ≡ set.leaves → others.boards ≡ set.boards → ((g : ℕ) → has others.leaves g ≡ (has set.leaves g && not (has stops g))) → others.ends ≡ set.ends → AreWithoutLeaves set others
+pub no_leaves : (set others : Followers) (stops : ℕ) → stops ≡ set.leaves → others.boards ≡ set.boards
+    → ((g : ℕ) → has others.leaves g ≡ (has set.leaves g && not (has stops g))) → others.ends ≡ set.ends → AreWithoutLeaves set others
 no_leaves set others stops all boards leaves ends = record {
   boards = boards;
   leaves = λ g. leaves g ∙ ap (λ (left : ℕ). has set.leaves g && not (has left g)) all;
   ends = ends;
 }
 
-abbrev stays_first : {t : PartialTour} {demand : Demand} {price : ℕ → ℤ} {worth : ℤ} {x : Course} {set others : Followers} → AreOthers t demand price worth x set others → Move → Bool
+abbrev stays_first : {t : PartialTour} {demand : Demand} {price : ℕ → ℤ} {worth : ℤ} {x : Course} {set others : Followers}
+    → AreOthers t demand price worth x set others → Move → Bool
 stays_first are m = are.all.stays m && is_no_leave m
 
-others_pass : (t : PartialTour) (demand : Demand) (price : ℕ → ℤ) (worth : ℤ) (x : Course) (set others : Followers) → (are : AreOthers t demand price worth x set others) → ArePassing t.snapshot (λ m. may_be_next t.snapshot t.car x (has demand.allowed) m && stays_first are m) others
+others_pass : (t : PartialTour) (demand : Demand) (price : ℕ → ℤ) (worth : ℤ) (x : Course) (set others : Followers)
+    → (are : AreOthers t demand price worth x set others)
+    → ArePassing t.snapshot (λ m. may_be_next t.snapshot t.car x (has demand.allowed) m && stays_first are m) others
 others_pass t demand price worth x set others are = record {
   boards = λ j. ap (λ (b : ℕ). has b j) are.without.boards ∙ are.all.passing.boards j ∙ with_true (may (Board j)) (are.all.stays (Board j));
   leaves = λ g. are.without.leaves g ∙ with_false (has set.leaves g) (may (Leave g)) (are.all.stays (Leave g));
@@ -128,12 +145,19 @@ others_pass t demand price worth x set others are = record {
     with_false false true false = refl
     with_false false false b = refl
 
-own_of : {t : PartialTour} {demand : Demand} {price : ℕ → ℤ} {worth : ℤ} {x : Course} {set others : Followers} → (m : Move) → (are : AreOthers t demand price worth x set others) → (may_be_next t.snapshot t.car x (has demand.allowed) m && stays_first are m) ≡ true → is_no_leave m ≡ true
+own_of : {t : PartialTour} {demand : Demand} {price : ℕ → ℤ} {worth : ℤ} {x : Course} {set others : Followers} → (m : Move)
+    → (are : AreOthers t demand price worth x set others) → (may_be_next t.snapshot t.car x (has demand.allowed) m && stays_first are m) ≡ true
+    → is_no_leave m ≡ true
 own_of m are passes = (and_parts _ _ (and_parts _ _ passes).1).1
 
-later_out : (t : PartialTour) (demand : Demand) (price : ℕ → ℤ) (worth : ℤ) (x : Course) (set others : Followers) → (are : AreOthers t demand price worth x set others) → (m : Move) → stays_first are m ≡ false → IsLater demand price worth t m
+later_out : (t : PartialTour) (demand : Demand) (price : ℕ → ℤ) (worth : ℤ) (x : Course) (set others : Followers)
+    → (are : AreOthers t demand price worth x set others) → (m : Move) → stays_first are m ≡ false → IsLater demand price worth t m
 later_out t demand price worth x set others are m out =
-    elim (cases_Bool (is_no_leave m)) [ inl other ↦ inr (are.all.out m (false_from_ne_true (are.all.stays m) (λ e. both_ways (stays_first are m) out (and_from (are.all.stays m) (is_no_leave m) e other)))) | inr leave ↦ inl leave ]
+    elim (cases_Bool (is_no_leave m)) [
+      | inl other ↦ inr
+          (are.all.out m (false_from_ne_true (are.all.stays m) (λ e. both_ways (stays_first are m) out (and_from (are.all.stays m) (is_no_leave m) e other))))
+      | inr leave ↦ inl leave
+    ]
 
 first_passes : (test : Move → Bool) (xs : List Move) (m : Move) → first_of (filter test xs) ≡ Some m → test m ≡ true
 first_passes test [] m e = absurd cc
@@ -142,11 +166,14 @@ first_passes test (x ∷ xs) m e = by_test (test x) refl (first_passes test xs m
     the_same : Some x ≡ Some m → x ≡ m
     the_same e = cc
 
-    by_test : (b : Bool) → test x ≡ b → (first_of (filter test xs) ≡ Some m → test m ≡ true) → first_of (cond b (x ∷ filter test xs) (filter test xs)) ≡ Some m → test m ≡ true
+    by_test : (b : Bool) → test x ≡ b → (first_of (filter test xs) ≡ Some m → test m ≡ true) → first_of (cond b (x ∷ filter test xs) (filter test xs)) ≡ Some m
+        → test m ≡ true
     by_test true h later e = subst (λ (v : Move). test v ≡ true) (the_same e) h
     by_test false h later e = later e
 
-pub first_worth : (t : PartialTour) (demand : Demand) (price : ℕ → ℤ) (worth : ℤ) (x : Course) (set others : Followers) (next : Option Move) → course t ≡ Some x → AreOthers t demand price worth x set others → ((s : Snapshot) (test : Move → Bool) → ArePassing s test others → next ≡ first_of (filter test (all_moves s))) → GoesToWorth t demand price worth next 0
+pub first_worth : (t : PartialTour) (demand : Demand) (price : ℕ → ℤ) (worth : ℤ) (x : Course) (set others : Followers) (next : Option Move)
+    → course t ≡ Some x → AreOthers t demand price worth x set others
+    → ((s : Snapshot) (test : Move → Bool) → ArePassing s test others → next ≡ first_of (filter test (all_moves s))) → GoesToWorth t demand price worth next 0
 first_worth t demand price worth x set others next leads are first =
     let test : Move → Bool = λ m. may_be_next t.snapshot t.car x (has demand.allowed) m && stays_first are m in
     let is = first t.snapshot test (others_pass t demand price worth x set others are) in
@@ -155,10 +182,21 @@ first_worth t demand price worth x set others next leads are first =
       own = λ m e. own_of m are (first_passes test (all_moves t.snapshot) m (sym is ∙ e));
     }
 
-pub next_worth : (t : PartialTour) (demand : Demand) (price : ℕ → ℤ) (worth : ℤ) (x : Course) (set others : Followers) (m : Move) (next : Option Move) (place : ℕ) → course t ≡ Some x → AreOthers t demand price worth x set others → IsAt t demand.allowed (Some m) place → ((s : Snapshot) (test : Move → Bool) → ArePassing s test others → next ≡ next_after m (filter test (all_moves s))) → GoesToWorth t demand price worth next (place + 1) × (from_next next (followers t demand.allowed) < from_next (Some m) (followers t demand.allowed))
+pub next_worth : (t : PartialTour) (demand : Demand) (price : ℕ → ℤ) (worth : ℤ) (x : Course) (set others : Followers) (m : Move) (next : Option Move)
+    (place : ℕ) → course t ≡ Some x → AreOthers t demand price worth x set others → IsAt t demand.allowed (Some m) place
+    → ((s : Snapshot) (test : Move → Bool) → ArePassing s test others → next ≡ next_after m (filter test (all_moves s)))
+    → GoesToWorth t demand price worth next (place + 1) × (from_next next (followers t demand.allowed) < from_next (Some m) (followers t demand.allowed))
 next_worth t demand price worth x set others m next place leads are at after =
     let test : Move → Bool = λ v. may_be_next t.snapshot t.car x (has demand.allowed) v && stays_first are v in
     let is = after t.snapshot test (others_pass t demand price worth x set others are) in
-    let goes = past_to_next (IsLater demand price worth t) t demand.allowed x (stays_first are) m next place leads (later_out t demand price worth x set others are) at is in
-    let both = ap first_of (filter_both (comes_before m) test (all_moves t.snapshot)) in
-    (record { past = goes.0; own = λ v e. own_of v are (and_parts (test v) (comes_before m v) (first_passes (λ u. test u && comes_before m u) (all_moves t.snapshot) v (sym both ∙ sym is ∙ e))).0 }, goes.1)
+    let goes = past_to_next (IsLater demand price worth t) t demand.allowed x (stays_first are) m next place leads
+    (later_out t demand price worth x set others are) at is in
+    let both = ap first_of (filter_both (comes_before m) test (all_moves t.snapshot)) in (
+      record {
+        past = goes.0;
+        own =
+            λ v e. own_of v are (and_parts (test v) (comes_before m v)
+            (first_passes (λ u. test u && comes_before m u) (all_moves t.snapshot) v (sym both ∙ sym is ∙ e))).0;
+      },
+      goes.1,
+    )

@@ -19,7 +19,8 @@ pub record LeadsOnwards (demand : Demand) (t : PartialTour) (m : Move) : Type 0 
 -- no tour of the node goes on from the partial tour
 abbrev pub LeadsNowhere : Demand → PartialTour → Type 0
 LeadsNowhere demand t =
-    (x y : Course) (m : Move) → course t ≡ Some x → boards_allowed (has demand.allowed) m ≡ true → move_on t.snapshot t.car x m ≡ Some y → goes_on t demand y ≡ false
+    (x y : Course) (m : Move) → course t ≡ Some x → boards_allowed (has demand.allowed) m ≡ true → move_on t.snapshot t.car x m ≡ Some y
+    → goes_on t demand y ≡ false
 
 -- the move is kept, or it is this one, which promises something
 abbrev pub IsOldOr : (choice : Move) → (promised : Option ℤ) → (old new : Option Move) → Type 0

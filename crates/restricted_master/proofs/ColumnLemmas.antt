@@ -1,5 +1,6 @@
 -- One tour more.
-use Rattle.std.proofs.Common.{◌≡◌, ℕ, ◌+◌, ◌-◌, ◌<◌, List, [], ◌∷◌, ◌++◌, length, get_or, drop, map, filter, Bool, true, false, not, refl, sym, ap, ◌∙◌, subst, inl, inr, arith, length-append, length-drop}
+use Rattle.std.proofs.Common.{◌≡◌, ℕ, ◌+◌, ◌-◌, ◌<◌, List, [], ◌∷◌, ◌++◌, length, get_or, drop, map, filter, Bool, true, false, not, refl, sym, ap, ◌∙◌, subst}
+use Rattle.std.proofs.Common.{inl, inr, arith, length-append, length-drop}
 use Rattle.std.specs.List.{All, AllPairs, remove}
 use Rattle.std.proofs.lemmas.Bool.{cases_Bool}
 use Rattle.std.proofs.lemmas.List.{drop-map, get_or-drop, length-map, map-append}
@@ -39,12 +40,15 @@ tours-with_column columns x =
     let joined : map f (others ++ x ∷ []) ≡ filter (λ (other : List Stop). not (same_tour other x.tour)) (map f columns) ++ x.tour ∷ [] =
     map-append f others (x ∷ []) ∙ ap (λ (l : List (List Stop)). l ++ x.tour ∷ []) kept
     in
-    sym (drop-map f (length (others ++ x ∷ []) - 32) (others ++ x ∷ [])) ∙ ap (λ (n : ℕ). drop (n - 32) (map f (others ++ x ∷ []))) (sym (length-map (others ++ x ∷ []) f)) ∙ ap (newest 32) joined
+    sym (drop-map f (length (others ++ x ∷ []) - 32) (others ++ x ∷ []))
+    ∙ ap (λ (n : ℕ). drop (n - 32) (map f (others ++ x ∷ []))) (sym (length-map (others ++ x ∷ []) f)) ∙ ap (newest 32) joined
 
-pub columns-with_column : (s : Snapshot) (c : ℕ) (columns : List Column) (x : Column) → All (IsColumn s c) columns → IsColumn s c x → All (IsColumn s c) (with_column columns x)
+pub columns-with_column : (s : Snapshot) (c : ℕ) (columns : List Column) (x : Column) → All (IsColumn s c) columns → IsColumn s c x
+    → All (IsColumn s c) (with_column columns x)
 columns-with_column s c columns x all one =
     let p : Column → Bool = λ (other : Column). not (same_tour other.tour x.tour) in
-    All-drop (IsColumn s c) (length (filter p columns ++ x ∷ []) - 32) (filter p columns ++ x ∷ []) (All-push (IsColumn s c) (filter p columns) x (All-filter p (IsColumn s c) columns all) one)
+    All-drop (IsColumn s c) (length (filter p columns ++ x ∷ []) - 32) (filter p columns ++ x ∷ [])
+    (All-push (IsColumn s c) (filter p columns) x (All-filter p (IsColumn s c) columns all) one)
 
 not_true : (b : Bool) → not b ≡ true → b ≡ false
 not_true false h = refl
@@ -53,11 +57,13 @@ not_true true h = cc
 all_pairs-drop : {X : Type 0} (R : X → X → Type 0) (n : ℕ) (xs : List X) → AllPairs R xs → AllPairs R (drop n xs)
 all_pairs-drop R n xs all = λ i j d up lt.
     let long = length-drop n xs in
-    subst (R (get_or (drop n xs) i d)) (sym (get_or-drop n xs j d)) (subst (λ y. R y (get_or xs (n + j) d)) (sym (get_or-drop n xs i d)) (all (n + i) (n + j) d (omega (arith, up)) (omega (arith, lt, long))))
+    subst (R (get_or (drop n xs) i d)) (sym (get_or-drop n xs j d))
+    (subst (λ y. R y (get_or xs (n + j) d)) (sym (get_or-drop n xs i d)) (all (n + i) (n + j) d (omega (arith, up)) (omega (arith, lt, long))))
 
 pub distinct-with_column : (columns : List Column) (x : Column) → AreDistinct columns → AreDistinct (with_column columns x)
 distinct-with_column columns x all =
     let R : Column → Column → Type 0 = λ (y z : Column). same_tour y.tour z.tour ≡ false in
     let p : Column → Bool = λ (other : Column). not (same_tour other.tour x.tour) in
     let others = filter p columns in
-    all_pairs-drop R (length (others ++ x ∷ []) - 32) (others ++ x ∷ []) (all_pairs_push R others x (AllPairs-filter R p columns all) (λ k d lt. not_true _ (filter_passes p columns k d lt)))
+    all_pairs-drop R (length (others ++ x ∷ []) - 32) (others ++ x ∷ [])
+    (all_pairs_push R others x (AllPairs-filter R p columns all) (λ k d lt. not_true _ (filter_passes p columns k d lt)))

@@ -1,5 +1,6 @@
 -- Sums of prices.
-use Rattle.std.proofs.Common.{◌≡◌, ℕ, ◌+◌, ◌-◌, ◌≤◌, ℤ, pos, ◌+ℤ◌, zero, suc, Bool, true, false, cond, List, [], ◌∷◌, ◌++◌, length, filter, refl, ap, ◌∙◌, arith}
+use Rattle.std.proofs.Common.{◌≡◌, ℕ, ◌+◌, ◌-◌, ◌≤◌, ℤ, pos, ◌+ℤ◌, zero, suc, Bool, true, false, cond, List, [], ◌∷◌, ◌++◌, length, filter, refl, ap, ◌∙◌}
+use Rattle.std.proofs.Common.{arith}
 use Rattle.std.specs.List.{range_with_len}
 use Rattle.std.proofs.lemmas.Int.{ints}
 use Rattle.std.proofs.lemmas.List.{get_or_past}
@@ -49,12 +50,14 @@ none_past n (suc m) f none =
     one_more : (n m : ℕ) → n + suc m ≡ suc (n + m)
     one_more n m = omega arith
 
-pub prices_to_come : (prices : List ℤ) (calls : ℕ) → length prices ≤ 128 → int_sum_by (price_at prices) (members 128 calls) ≡ int_sum_where (length prices) (has calls) (price_at prices)
+pub prices_to_come : (prices : List ℤ) (calls : ℕ) → length prices ≤ 128
+    → int_sum_by (price_at prices) (members 128 calls) ≡ int_sum_where (length prices) (has calls) (price_at prices)
 unfolding members
 prices_to_come prices calls few =
     let n = length prices in
     let past = λ (k : ℕ) (le : n ≤ k). by_price (has calls k) k (get_or_past prices k (pos 0) le) in
-    sum_of_filtered (has calls) (price_at prices) 128 ∙ ap (λ (k : ℕ). int_sum_where k (has calls) (price_at prices)) (all_of n few) ∙ none_past n (128 - n) (λ k. cond (has calls k) (price_at prices k) (pos 0)) past
+    sum_of_filtered (has calls) (price_at prices) 128 ∙ ap (λ (k : ℕ). int_sum_where k (has calls) (price_at prices)) (all_of n few)
+    ∙ none_past n (128 - n) (λ k. cond (has calls k) (price_at prices k) (pos 0)) past
   where
     all_of : (n : ℕ) → n ≤ 128 → 128 ≡ n + (128 - n)
     all_of n few = omega (arith, few)

@@ -31,17 +31,20 @@ pub record AreCandidates (s : Snapshot) (c : ℕ) (tours : List (List Stop)) (xs
 -- the candidates of all cars
 pub record AreChoices (pool : TourPool) (choices : List CarColumns) : Type 0 where
   pub cars : length choices ≡ car_count pool.snapshot
-  pub each : (c : ℕ) (d : CarColumns) → c < car_count pool.snapshot → AreCandidates pool.snapshot c (tours_of_car pool c) (slice_index_or choices c d).candidates.items
+  pub each : (c : ℕ) (d : CarColumns) → c < car_count pool.snapshot
+      → AreCandidates pool.snapshot c (tours_of_car pool c) (slice_index_or choices c d).candidates.items
 
 -- each pick is a candidate, and its place has a tour
 pub record CanPick (pool : TourPool) (choices : List CarColumns) (pick : ℕ → ℕ) : Type 0 where
   pub within : (c : ℕ) (d : CarColumns) → c < length choices → pick c < length (slice_index_or choices c d).candidates.items
-  pub place : (c : ℕ) (d : CarColumns) → c < length choices → (candidate_at (slice_index_or choices c d).candidates.items (pick c)).item < length (tours_of_car pool c)
+  pub place : (c : ℕ) (d : CarColumns) → c < length choices
+      → (candidate_at (slice_index_or choices c d).candidates.items (pick c)).item < length (tours_of_car pool c)
 
 -- the plan has the tours that were picked
 pub record IsPicked (pool : TourPool) (choices : List CarColumns) (pick : ℕ → ℕ) (plan : List (List Stop)) : Type 0 where
   pub cars : length plan ≡ length choices
-  pub tours : (c : ℕ) (d : CarColumns) → c < length choices → tour_of plan c ≡ tour_at (tours_of_car pool c) (candidate_at (slice_index_or choices c d).candidates.items (pick c)).item
+  pub tours : (c : ℕ) (d : CarColumns) → c < length choices
+      → tour_of plan c ≡ tour_at (tours_of_car pool c) (candidate_at (slice_index_or choices c d).candidates.items (pick c)).item
 
 -- The picks make a feasible plan, which has their cost.
 pub record IsPlanPick (pool : TourPool) (choices : List CarColumns) (x : Selection) : Type 0 where

@@ -22,5 +22,7 @@ candidate_of prices least place x = record { item = place; cost = x.cost; calls 
 pub record IsPriced (prices : List ℤ) (x : CarColumns) : Type 0 where
   pub low : neg_ℤ (pos (2 * 10 ^ 26)) ≤ℤ x.least
   pub high : x.least ≤ℤ pos (2 * 10 ^ 26)
-  pub excess : (i : ℕ) → i < length x.candidates.items → (candidate_at x.candidates.items i).excess ≡ reduced_cost_of prices (candidate_at x.candidates.items i).cost (candidate_at x.candidates.items i).calls -ℤ x.least
+  pub excess : (i : ℕ) → i < length x.candidates.items
+      → (candidate_at x.candidates.items i).excess
+      ≡ reduced_cost_of prices (candidate_at x.candidates.items i).cost (candidate_at x.candidates.items i).calls -ℤ x.least
   pub small : All IsSmall x.candidates.items

@@ -30,14 +30,16 @@ use Rattle.root_command.specs.RootOutcome.{IsRootTold, RootAnswerIsDue, RootDue,
 pub read_text : (left : Option (List ℕ)) (s : Snapshot) → IsReadAlone (option_map whole_text left) s → (input : List ℕ) → left ≡ Some input → IsCaseText input s
 read_text left s read input given = subst (λ (x : Option (List ℕ)). IsReadAlone (option_map whole_text x) s) given read
 
-pub takes_text : (left : Option (List ℕ)) (input : List ℕ) (s : Snapshot) (answer : Result Snapshot TextFault) → left ≡ Some input → IsCaseText input s → TakesLoneCases (option_map whole_text left) answer → IsAnsweredAlone s answer
+pub takes_text : (left : Option (List ℕ)) (input : List ℕ) (s : Snapshot) (answer : Result Snapshot TextFault) → left ≡ Some input → IsCaseText input s
+    → TakesLoneCases (option_map whole_text left) answer → IsAnsweredAlone s answer
 takes_text left input s answer given is takes = (subst (λ (x : Option (List ℕ)). TakesLoneCases (option_map whole_text x) answer) given takes) s is
 
 -- ---- what is told
 
 -- each share boards calls of the snapshot alone
 pub shares_board : (s : Snapshot) (shares : List Share) (whole cost : ℕ) → IsMixture s shares whole cost → All (λ (x : Share). BoardsCalls s x.tour) shares
-shares_board s shares whole cost is = All-weaker (IsShare s) (λ (x : Share). BoardsCalls s x.tour) (λ x share. stops_fit s x.car (start_of s x.car) 1 x.tour share.tour.feasible) shares is.each
+shares_board s shares whole cost is =
+    All-weaker (IsShare s) (λ (x : Share). BoardsCalls s x.tour) (λ x share. stops_fit s x.car (start_of s x.car) 1 x.tour share.tour.feasible) shares is.each
 
 best_of : (why : RootReason) → status_of why ≡ Done → why ≡ Best
 best_of Best e = refl
@@ -45,7 +47,8 @@ best_of Gap e = absurd (cc e)
 best_of (Moves car count) e = absurd (cc e)
 best_of (Pairs count) e = absurd (cc e)
 
-pub is_told : (s : Snapshot) (rounds moves : ℕ) (answer : RootAnswer) (status : Status) (text : List ℕ) → IsRootSolution s rounds moves answer → status ≡ status_of answer.why → text ≡ root_text s answer → IsRootTold s rounds moves status text
+pub is_told : (s : Snapshot) (rounds moves : ℕ) (answer : RootAnswer) (status : Status) (text : List ℕ) → IsRootSolution s rounds moves answer
+    → status ≡ status_of answer.why → text ≡ root_text s answer → IsRootTold s rounds moves status text
 is_told s rounds moves answer status text is status_is is_text = record {
   answer = answer;
   solution = is;
@@ -62,21 +65,35 @@ done_or_stopped (Moves car count) = inr refl
 done_or_stopped (Pairs count) = inr refl
 
 either_of : (s : Snapshot) (rounds moves : ℕ) (status : Status) (text : List ℕ) → IsRootTold s rounds moves status text → (status ≡ Done) ⊎ (status ≡ Stopped)
-either_of s rounds moves status text told = elim (done_or_stopped told.answer.why) [ inl done ↦ inl (told.status_is ∙ done) | inr stopped ↦ inr (told.status_is ∙ stopped) ]
+either_of s rounds moves status text told = elim (done_or_stopped told.answer.why) [
+  | inl done ↦ inl (told.status_is ∙ done)
+  | inr stopped ↦ inr (told.status_is ∙ stopped)
+]
 
 -- ---- what is due
 
-pub ends_told : (rounds moves : ℕ) (left left' : Option (List ℕ)) (old new : Streams) (text : List ℕ) (status result : Status) → RootAnswerIsDue rounds moves left left' status text → Puts text status result old.taken new.taken old.write_faults new.write_faults → Ends (RootDue rounds moves left left') old new result
+pub ends_told : (rounds moves : ℕ) (left left' : Option (List ℕ)) (old new : Streams) (text : List ℕ) (status result : Status)
+    → RootAnswerIsDue rounds moves left left' status text → Puts text status result old.taken new.taken old.write_faults new.write_faults
+    → Ends (RootDue rounds moves left left') old new result
 ends_told rounds moves left left' old new text status result due put =
-    ends_either (RootDue rounds moves left left') old new text Done Stopped status result (λ (x : Status). RootAnswerIsDue rounds moves left left' x text) (λ h. h) (λ wrote. wrote) (λ h. h) (λ wrote. wrote) (either_of due.snapshot rounds moves status text due.told) due put
+    ends_either (RootDue rounds moves left left') old new text Done Stopped status result (λ (x : Status). RootAnswerIsDue rounds moves left left' x text)
+    (λ h. h) (λ wrote. wrote) (λ h. h) (λ wrote. wrote) (either_of due.snapshot rounds moves status text due.told) due put
 
 -- what is wrong with the input, where it is known
 abbrev IsWrong : Option (List ℕ) → TextFault → Type 0
 IsWrong left fault = (input : List ℕ) → left ≡ Some input → IsLoneCaseFault (reading (whole_text input)) fault
 
 -- a refusal line tells what was said of the input
-pub refusal_due : (left left' : Option (List ℕ)) (fault : TextFault) (text : List ℕ) → IsRefusalLine fault text → IsRefusedAlone (option_map whole_text left) fault → FaultShows (option_map whole_text left) fault left' → RootRefusalIsDue left left' text
-refusal_due left left' fault text is_line refused shows = record { fault = fault; is_line = is_line; read = told_by_line (IsRefusedAlone (option_map whole_text left)) (IsWrong left) bad long fault text is_line refused; shows = shows }
+pub refusal_due : (left left' : Option (List ℕ)) (fault : TextFault) (text : List ℕ) → IsRefusalLine fault text
+    → IsRefusedAlone (option_map whole_text left) fault → FaultShows (option_map whole_text left) fault left' → RootRefusalIsDue left left' text
+refusal_due left left' fault text is_line refused shows =
+    record {
+      fault = fault;
+      is_line = is_line;
+      read =
+          told_by_line (IsRefusedAlone (option_map whole_text left)) (IsWrong left) bad long fault text is_line refused;
+      shows = shows;
+    }
   where
     bad : (number : ℕ) (code : TextCode) → IsRefusedAlone (option_map whole_text left) (Bad number code) → IsWrong left (Bad number code)
     bad number code told input given = subst (λ (x : Option (List ℕ)). IsRefusedAlone (option_map whole_text x) (Bad number code)) given told
@@ -86,5 +103,9 @@ refusal_due left left' fault text is_line refused shows = record { fault = fault
 
 -- ---- when
 
-pub is_answered : (s : Snapshot) (rounds moves : ℕ) (text : List ℕ) (status result : Status) → IsRootTold s rounds moves status text → result ≡ status → (result ≡ Done) ⊎ (result ≡ Stopped) ⊎ (result ≡ Memory)
-is_answered s rounds moves text status result told put = elim (either_of s rounds moves status text told) [ inl done ↦ inl (put ∙ done) | inr stopped ↦ inr (inl (put ∙ stopped)) ]
+pub is_answered : (s : Snapshot) (rounds moves : ℕ) (text : List ℕ) (status result : Status) → IsRootTold s rounds moves status text → result ≡ status
+    → (result ≡ Done) ⊎ (result ≡ Stopped) ⊎ (result ≡ Memory)
+is_answered s rounds moves text status result told put = elim (either_of s rounds moves status text told) [
+  | inl done ↦ inl (put ∙ done)
+  | inr stopped ↦ inr (inl (put ∙ stopped))
+]

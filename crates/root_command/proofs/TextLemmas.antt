@@ -18,9 +18,12 @@ unfolding price_lines
 next_price s prices j = refl
 
 -- one line more
-pub more_prices : (s : Snapshot) (prices : List ℤ) (j : ℕ) (price : ℤ) (old text new : List ℕ) → price ≡ price_at prices j → text ≡ old ++ price_lines s prices j → new ≡ text ++ price_line s j price → new ≡ old ++ price_lines s prices (j + 1)
+pub more_prices : (s : Snapshot) (prices : List ℤ) (j : ℕ) (price : ℤ) (old text new : List ℕ) → price ≡ price_at prices j
+    → text ≡ old ++ price_lines s prices j → new ≡ text ++ price_line s j price → new ≡ old ++ price_lines s prices (j + 1)
 more_prices s prices j price old text new at so_far is =
-    is ∙ ap (λ (z : ℤ). text ++ price_line s j z) at ∙ ap (λ (xs : List ℕ). xs ++ price_line s j (price_at prices j)) so_far ∙ append_assoc old (price_lines s prices j) (price_line s j (price_at prices j)) ∙ ap (λ (xs : List ℕ). old ++ xs) (next_price s prices j) ∙ ap (λ (n : ℕ). old ++ price_lines s prices n) (sym (add-one j))
+    is ∙ ap (λ (z : ℤ). text ++ price_line s j z) at ∙ ap (λ (xs : List ℕ). xs ++ price_line s j (price_at prices j)) so_far
+    ∙ append_assoc old (price_lines s prices j) (price_line s j (price_at prices j)) ∙ ap (λ (xs : List ℕ). old ++ xs) (next_price s prices j)
+    ∙ ap (λ (n : ℕ). old ++ price_lines s prices n) (sym (add-one j))
 
 -- ---- the lines of the cars
 
@@ -28,19 +31,26 @@ pub no_worths : (s : Snapshot) (worths : List ℤ) (text : List ℕ) → text �
 unfolding worth_lines
 no_worths s worths text = sym (append-nil text)
 
-next_worth : (s : Snapshot) (worths : List ℤ) (c : ℕ) → worth_lines s worths c ++ worth_line s c (slice_index_or worths c (pos 0)) ≡ worth_lines s worths (suc c)
+next_worth : (s : Snapshot) (worths : List ℤ) (c : ℕ)
+    → worth_lines s worths c ++ worth_line s c (slice_index_or worths c (pos 0)) ≡ worth_lines s worths (suc c)
 unfolding worth_lines
 next_worth s worths c = refl
 
-pub more_worths : (s : Snapshot) (worths : List ℤ) (c : ℕ) (worth : ℤ) (old text new : List ℕ) → worth ≡ slice_index_or worths c (pos 0) → text ≡ old ++ worth_lines s worths c → new ≡ text ++ worth_line s c worth → new ≡ old ++ worth_lines s worths (c + 1)
+pub more_worths : (s : Snapshot) (worths : List ℤ) (c : ℕ) (worth : ℤ) (old text new : List ℕ) → worth ≡ slice_index_or worths c (pos 0)
+    → text ≡ old ++ worth_lines s worths c → new ≡ text ++ worth_line s c worth → new ≡ old ++ worth_lines s worths (c + 1)
 more_worths s worths c worth old text new at so_far is =
-    is ∙ ap (λ (z : ℤ). text ++ worth_line s c z) at ∙ ap (λ (xs : List ℕ). xs ++ worth_line s c (slice_index_or worths c (pos 0))) so_far ∙ append_assoc old (worth_lines s worths c) (worth_line s c (slice_index_or worths c (pos 0))) ∙ ap (λ (xs : List ℕ). old ++ xs) (next_worth s worths c) ∙ ap (λ (n : ℕ). old ++ worth_lines s worths n) (sym (add-one c))
+    is ∙ ap (λ (z : ℤ). text ++ worth_line s c z) at ∙ ap (λ (xs : List ℕ). xs ++ worth_line s c (slice_index_or worths c (pos 0))) so_far
+    ∙ append_assoc old (worth_lines s worths c) (worth_line s c (slice_index_or worths c (pos 0)))
+    ∙ ap (λ (xs : List ℕ). old ++ xs) (next_worth s worths c) ∙ ap (λ (n : ℕ). old ++ worth_lines s worths n) (sym (add-one c))
 
 -- ---- parts one after another
 
-pub wrote_signed : (name numbers : List ℕ) (z z' : ℤ) (old first second third new : List ℕ) → z' ≡ z → first ≡ old ++ words name numbers → second ≡ first ++ 32 ∷ [] → third ≡ second ++ signed_decimal z' → new ≡ third ++ 10 ∷ [] → new ≡ old ++ signed_line name numbers z
+pub wrote_signed : (name numbers : List ℕ) (z z' : ℤ) (old first second third new : List ℕ) → z' ≡ z → first ≡ old ++ words name numbers
+    → second ≡ first ++ 32 ∷ [] → third ≡ second ++ signed_decimal z' → new ≡ third ++ 10 ∷ [] → new ≡ old ++ signed_line name numbers z
 wrote_signed name numbers z z' old first second third new same one two three four =
-    four ∙ ap (λ (xs : List ℕ). xs ++ 10 ∷ []) (three ∙ ap (λ (y : ℤ). second ++ signed_decimal y) same ∙ ap (λ (xs : List ℕ). xs ++ signed_decimal z) (two ∙ ap (λ (xs : List ℕ). xs ++ 32 ∷ []) one)) ∙ regroup old (words name numbers) (signed_decimal z)
+    four ∙ ap (λ (xs : List ℕ). xs ++ 10 ∷ [])
+    (three ∙ ap (λ (y : ℤ). second ++ signed_decimal y) same
+    ∙ ap (λ (xs : List ℕ). xs ++ signed_decimal z) (two ∙ ap (λ (xs : List ℕ). xs ++ 32 ∷ []) one)) ∙ regroup old (words name numbers) (signed_decimal z)
   where
     regroup : (a b c : List ℕ) → (((a ++ b) ++ 32 ∷ []) ++ c) ++ 10 ∷ [] ≡ a ++ ((b ++ (32 ∷ c)) ++ 10 ∷ [])
     regroup a b c = simp append_assoc
@@ -51,5 +61,7 @@ two_parts old a b first new one two = two ∙ ap (λ (xs : List ℕ). xs ++ b) o
 pub three_parts : (old a b c first second new : List ℕ) → first ≡ old ++ a → second ≡ first ++ b → new ≡ second ++ c → new ≡ old ++ ((a ++ b) ++ c)
 three_parts old a b c first second new one two three = two_parts old (a ++ b) c second new (two_parts old a b first second one two) three
 
-pub four_parts : (old a b c d first second third new : List ℕ) → first ≡ old ++ a → second ≡ first ++ b → third ≡ second ++ c → new ≡ third ++ d → new ≡ old ++ (((a ++ b) ++ c) ++ d)
-four_parts old a b c d first second third new one two three four = two_parts old ((a ++ b) ++ c) d third new (three_parts old a b c first second third one two three) four
+pub four_parts : (old a b c d first second third new : List ℕ) → first ≡ old ++ a → second ≡ first ++ b → third ≡ second ++ c → new ≡ third ++ d
+    → new ≡ old ++ (((a ++ b) ++ c) ++ d)
+four_parts old a b c d first second third new one two three four =
+    two_parts old ((a ++ b) ++ c) d third new (three_parts old a b c first second third one two three) four

@@ -45,7 +45,8 @@ reason_line s (Pairs count) = line (codes "# open pairs") (count ∷ [])
 -- the bound, and the prices and worths that have it
 abbrev pub sheet_text : Snapshot → RootAnswer → List ℕ
 sheet_text s a =
-    line (codes "root") (1 ∷ []) ++ signed_line (codes "bound") [] a.bound ++ price_lines s a.sheet.prices (call_count s) ++ worth_lines s a.sheet.worths (car_count s)
+    line (codes "root") (1 ∷ []) ++ signed_line (codes "bound") [] a.bound ++ price_lines s a.sheet.prices (call_count s)
+    ++ worth_lines s a.sheet.worths (car_count s)
 
 -- the plan in halves
 abbrev pub halves_text : Snapshot → RootAnswer → List ℕ

@@ -43,7 +43,8 @@ hold_none s plan pool is = record {
 
 -- ---- one turn more
 
-module _ (s : Snapshot) (plan : List (List Stop)) (turns : List Turn) (pool : TourPool) (prices : List ℤ) (cars : List TurnOf) (count : length cars ≡ length pool.tours) (few : (c : ℕ) → length (tours_of_car pool c) < 32) (is : HoldTours s plan turns pool.tours) where
+module _ (s : Snapshot) (plan : List (List Stop)) (turns : List Turn) (pool : TourPool) (prices : List ℤ) (cars : List TurnOf)
+    (count : length cars ≡ length pool.tours) (few : (c : ℕ) → length (tours_of_car pool c) < 32) (is : HoldTours s plan turns pool.tours) where
   abbrev new : TourPool
   new = with_turn pool 0 cars
 
@@ -59,11 +60,18 @@ module _ (s : Snapshot) (plan : List (List Stop)) (turns : List Turn) (pool : To
   now : AreListed s new.tours turn
   now c tour lt e = subst (λ (g : Option (List Stop)). IfSome g (Contains (tours_of_car new c))) e (of_car c).has
 
-  none_else : (c : ℕ) (tour : List Stop) → c < car_count s → Contains (tours_of_car new c) tour → (tour ≡ tour_of plan c) ⊎ IsTourOfTurns (turns ++ turn ∷ []) c tour
-  none_else c tour lt h = elim ((of_car c).only tour h) [ inl was ↦ before was | inr given ↦ inr (Any-push (λ (t : Turn). (turn_of_car t c).tour ≡ Some tour) turns turn given) ]
+  none_else : (c : ℕ) (tour : List Stop) → c < car_count s → Contains (tours_of_car new c) tour → (tour ≡ tour_of plan c)
+      ⊎ IsTourOfTurns (turns ++ turn ∷ []) c tour
+  none_else c tour lt h = elim ((of_car c).only tour h) [
+    | inl was ↦ before was
+    | inr given ↦ inr (Any-push (λ (t : Turn). (turn_of_car t c).tour ≡ Some tour) turns turn given)
+  ]
     where
       before : Contains (tours_of_car pool c) tour → (tour ≡ tour_of plan c) ⊎ IsTourOfTurns (turns ++ turn ∷ []) c tour
-      before was = elim (is.only c tour lt was) [ inl own ↦ inl own | inr old ↦ inr (any-left (λ (t : Turn). (turn_of_car t c).tour ≡ Some tour) turns (turn ∷ []) old) ]
+      before was = elim (is.only c tour lt was) [
+        | inl own ↦ inl own
+        | inr old ↦ inr (any-left (λ (t : Turn). (turn_of_car t c).tour ≡ Some tour) turns (turn ∷ []) old)
+      ]
 
   pub hold_more : HoldTours s plan (turns ++ turn ∷ []) new.tours
   hold_more = record {

@@ -26,14 +26,17 @@ use Rattle.root_prices.proofs.ReasonLaws.{reason_is}
 met_bound : (sum bound : ℤ) (cost : ℕ) → (pos 2 *ℤ sum) ≤ℤ scaled cost → pos cost ≤ℤ (pos 2 *ℤ bound) → rounded_up sum ≤ℤ bound
 met_bound sum bound cost below met = (rounded_up-least sum).least bound (omega (arith, ints, below, met))
 
-pub greatest_of_met : (s : Snapshot) (shares : List Share) (bound : ℤ) (cost : ℕ) → MixtureLaw → IsMixture s shares 2 cost → pos cost ≤ℤ (pos 2 *ℤ bound) → IsGreatestAtRoot s bound
+pub greatest_of_met : (s : Snapshot) (shares : List Share) (bound : ℤ) (cost : ℕ) → MixtureLaw → IsMixture s shares 2 cost → pos cost ≤ℤ (pos 2 *ℤ bound)
+    → IsGreatestAtRoot s bound
 greatest_of_met s shares bound cost law is met leaf root = met_bound (sum_of_leaf leaf) bound cost (law s shares 2 cost leaf is root) met
 
-mixture_of : (s : Snapshot) (lists : List (List (List Stop))) (shares : List Share) (cost : ℕ) → HalvesLaw → AreTourLists s lists → ArePairShares s lists shares cost → IsMixture s shares 2 cost
+mixture_of : (s : Snapshot) (lists : List (List (List Stop))) (shares : List Share) (cost : ℕ) → HalvesLaw → AreTourLists s lists
+    → ArePairShares s lists shares cost → IsMixture s shares 2 cost
 mixture_of s lists shares cost law are is =
     subst (λ (xs : List Share). IsMixture s xs 2 cost) (sym is.is) (subst (IsMixture s _ 2) (sym is.cost) (law s lists is.pairs are is.plan))
 
-module _ (most_tours : ℕ) (first : PriceSheet) (x : Series) (shares : List Share) (cost : ℕ) (car : Option ℕ) (spent : Bool) (bound : ℤ) (why : RootReason) (pool : IsPool x.pool) (is : IsSeries x.pool.snapshot most_tours first x) where
+module _ (most_tours : ℕ) (first : PriceSheet) (x : Series) (shares : List Share) (cost : ℕ) (car : Option ℕ) (spent : Bool) (bound : ℤ) (why : RootReason)
+    (pool : IsPool x.pool) (is : IsSeries x.pool.snapshot most_tours first x) where
   abbrev s : Snapshot
   s = x.pool.snapshot
 
@@ -43,7 +46,11 @@ module _ (most_tours : ℕ) (first : PriceSheet) (x : Series) (shares : List Sha
   abbrev answer : RootAnswer
   answer = record { sheet = x.sheet; bound = bound; turns = x.turns.items; shares = shares; cost = cost; why = why }
 
-  pub root_answer : MixtureLaw → HalvesLaw → bound ≡ rounded_up (sum_of_sheet x.sheet) → MatchOption car (All IsNoneSpent x.turns.items) (λ c. Any (IsSpentCar c) x.turns.items) → ArePairShares s lists shares cost → cost ≤ 2 * plan_cost_of s x.start.now → (spent ≡ false → IsCheapestPairing s lists (Some shares) cost) → (spent ≡ true → most_tours ≤ pairing_count lists) → IsChosen bound cost car spent most_tours why → IsRootAnswer s x.start.now first (length x.turns.items) most_tours answer
+  pub root_answer : MixtureLaw → HalvesLaw → bound ≡ rounded_up (sum_of_sheet x.sheet)
+      → MatchOption car (All IsNoneSpent x.turns.items) (λ c. Any (IsSpentCar c) x.turns.items) → ArePairShares s lists shares cost
+      → cost ≤ 2 * plan_cost_of s x.start.now → (spent ≡ false → IsCheapestPairing s lists (Some shares) cost)
+      → (spent ≡ true → most_tours ≤ pairing_count lists) → IsChosen bound cost car spent most_tours why
+      → IsRootAnswer s x.start.now first (length x.turns.items) most_tours answer
   root_answer mixtures halves bound_is found pairs at_most cheapest many chosen = record {
     root_turns = is.root_turns;
     count = refl;
@@ -65,9 +72,11 @@ module _ (most_tours : ℕ) (first : PriceSheet) (x : Series) (shares : List Sha
       mixture = mixture_of s lists shares cost halves (record { cars = pool.cars; feasible = pool.feasible }) pairs
 
 -- the same of a snapshot, a plan and a number that are these
-pub answered : (s s' : Snapshot) (plan plan' : List (List Stop)) (first : PriceSheet) (n n' most_tours : ℕ) (a : RootAnswer) → s' ≡ s → plan' ≡ plan → n' ≡ n → IsRootAnswer s' plan' first n' most_tours a → IsRootAnswer s plan first n most_tours a
+pub answered : (s s' : Snapshot) (plan plan' : List (List Stop)) (first : PriceSheet) (n n' most_tours : ℕ) (a : RootAnswer) → s' ≡ s → plan' ≡ plan → n' ≡ n
+    → IsRootAnswer s' plan' first n' most_tours a → IsRootAnswer s plan first n most_tours a
 answered s s' plan plan' first n n' most_tours a snapshot same count is =
-    subst (λ (z : Snapshot). IsRootAnswer z plan first n most_tours a) snapshot (subst (λ (p : List (List Stop)). IsRootAnswer s' p first n most_tours a) same (subst (λ (k : ℕ). IsRootAnswer s' plan' first k most_tours a) count is))
+    subst (λ (z : Snapshot). IsRootAnswer z plan first n most_tours a) snapshot
+    (subst (λ (p : List (List Stop)). IsRootAnswer s' p first n most_tours a) same (subst (λ (k : ℕ). IsRootAnswer s' plan' first k most_tours a) count is))
 
 pub if_ok : {T E : Type 0} (P Q : T → Type 0) → ((x : T) → P x → Q x) → (r : Result T E) → IfOk r P → IfOk r Q
 if_ok P Q f (Ok x) h = f x h

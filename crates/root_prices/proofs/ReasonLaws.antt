@@ -22,9 +22,11 @@ use Rattle.root_prices.specs.Reasons.{HasFewCars, IsChosen, IsNoneSpent, IsSpent
 abbrev IsTurnSomewhere : Snapshot → (moves : ℕ) → Turn → Type 0
 IsTurnSomewhere s moves turn = (given : List ℤ) × IsRootTurn s moves given turn
 
-follow_each : (s : Snapshot) (moves : ℕ) (start : List ℤ) (i : ℕ) (turn : Turn) (turns : List Turn) → FollowTurn s moves start i turn turns → All (IsTurnSomewhere s moves) turns
+follow_each : (s : Snapshot) (moves : ℕ) (start : List ℤ) (i : ℕ) (turn : Turn) (turns : List Turn) → FollowTurn s moves start i turn turns
+    → All (IsTurnSomewhere s moves) turns
 follow_each s moves start i turn [] h = All-nil (IsTurnSomewhere s moves)
-follow_each s moves start i turn (next ∷ turns) h = All-cons (IsTurnSomewhere s moves) next turns (prices_after s start i turn, h.0) (follow_each s moves start (i + 1) next turns h.1)
+follow_each s moves start i turn (next ∷ turns) h =
+    All-cons (IsTurnSomewhere s moves) next turns (prices_after s start i turn, h.0) (follow_each s moves start (i + 1) next turns h.1)
 
 each_turn : (s : Snapshot) (moves : ℕ) (start : List ℤ) (turns : List Turn) → AreRootTurns s moves start turns → All (IsTurnSomewhere s moves) turns
 each_turn s moves start [] h = All-nil (IsTurnSomewhere s moves)
@@ -35,11 +37,13 @@ few_cars s moves start turns few are =
     All-weaker (IsTurnSomewhere s moves) HasFewCars (λ t is. (let cars = is.1.cars in omega (arith, few, cars))) turns (each_turn s moves start turns are)
 
 -- a pricing that was spent
-spent_many : (s : Snapshot) (moves c : ℕ) (price : ℕ → ℤ) (t : TurnOf) (b : Bool) → b ≡ true → IsPricing s moves c price t b → HasPartialTours s (root_of s) c moves
+spent_many : (s : Snapshot) (moves c : ℕ) (price : ℕ → ℤ) (t : TurnOf) (b : Bool) → b ≡ true → IsPricing s moves c price t b
+    → HasPartialTours s (root_of s) c moves
 spent_many s moves c price t true e is = is.many
 spent_many s moves c price t false e is = absurd (cc e)
 
-unspent_all : (s : Snapshot) (moves : ℕ) (start : List ℤ) (turns : List Turn) → AreRootTurns s moves start turns → All IsNoneSpent turns → All (IsUnspent s) turns
+unspent_all : (s : Snapshot) (moves : ℕ) (start : List ℤ) (turns : List Turn) → AreRootTurns s moves start turns → All IsNoneSpent turns
+    → All (IsUnspent s) turns
 unspent_all s moves start turns are none k d lt c less =
     let is = each_turn s moves start turns are k d lt in
     let cars = is.1.cars in
@@ -47,7 +51,9 @@ unspent_all s moves start turns are none k d lt c less =
 
 -- ---- the reason
 
-module _ (s : Snapshot) (moves : ℕ) (start : List ℤ) (turns : List Turn) (lists : List (List (List Stop))) (bound : ℤ) (cost : ℕ) (shares : List Share) (car : Option ℕ) (spent : Bool) (are : AreRootTurns s moves start turns) (found : MatchOption car (All IsNoneSpent turns) (λ c. Any (IsSpentCar c) turns)) (many : spent ≡ true → moves ≤ pairing_count lists) (cheapest : spent ≡ false → IsCheapestPairing s lists (Some shares) cost) where
+module _ (s : Snapshot) (moves : ℕ) (start : List ℤ) (turns : List Turn) (lists : List (List (List Stop))) (bound : ℤ) (cost : ℕ) (shares : List Share)
+    (car : Option ℕ) (spent : Bool) (are : AreRootTurns s moves start turns) (found : MatchOption car (All IsNoneSpent turns) (λ c. Any (IsSpentCar c) turns))
+    (many : spent ≡ true → moves ≤ pairing_count lists) (cheapest : spent ≡ false → IsCheapestPairing s lists (Some shares) cost) where
   none_of : car ≡ None → All IsNoneSpent turns
   none_of e = subst (λ (o : Option ℕ). MatchOption o (All IsNoneSpent turns) (λ c. Any (IsSpentCar c) turns)) e found
 
@@ -74,8 +80,11 @@ module _ (s : Snapshot) (moves : ℕ) (start : List ℤ) (turns : List Turn) (li
       less : {given : List ℤ} {t u : Turn} → IsRootTurn s moves given t → t ≡ u → c < length u.cars → c < car_count s
       less {given} {t} {u} turn at within = let cars = turn.cars in let same = ap (λ (x : Turn). length x.cars) at in omega (arith, cars, same, within)
 
-      many_of : {given : List ℤ} {t u : Turn} → IsRootTurn s moves given t → t ≡ u → c < car_count s → (turn_of_car u c).priced.spent ≡ true → HasPartialTours s (root_of s) c moves
-      many_of {given} {t} {u} turn at lt e = spent_many s moves c (price_at t.prices) (turn_of_car t c) (turn_of_car t c).priced.spent (ap (λ (x : Turn). (turn_of_car x c).priced.spent) at ∙ e) (turn.pricings c lt)
+      many_of : {given : List ℤ} {t u : Turn} → IsRootTurn s moves given t → t ≡ u → c < car_count s → (turn_of_car u c).priced.spent ≡ true
+          → HasPartialTours s (root_of s) c moves
+      many_of {given} {t} {u} turn at lt e =
+          spent_many s moves c (price_at t.prices) (turn_of_car t c) (turn_of_car t c).priced.spent (ap (λ (x : Turn). (turn_of_car x c).priced.spent) at ∙ e)
+          (turn.pricings c lt)
   reason_is (Pairs count) h = record {
     apart = h.0.apart;
     limit = h.2;

@@ -42,7 +42,9 @@ best_none s first within = record {
   turns_below = All-nil (IsTurnBelow (sum_of_sheet first));
 }
 
-pub new_series : (s : Snapshot) (most_tours : ℕ) (first : PriceSheet) (x : Series) → IsFeasiblePlan s x.start.now → IsSheetIn s (root_of s) first → HoldsPlan s x.start.now x.pool → x.sheet ≡ first → x.turns.items ≡ [] → x.prices.items ≡ first.prices → x.step ≡ pos (greatest_price first.prices) → x.step ≤ℤ pos (10 ^ 24) → IsSeries s most_tours first x
+pub new_series : (s : Snapshot) (most_tours : ℕ) (first : PriceSheet) (x : Series) → IsFeasiblePlan s x.start.now → IsSheetIn s (root_of s) first
+    → HoldsPlan s x.start.now x.pool → x.sheet ≡ first → x.turns.items ≡ [] → x.prices.items ≡ first.prices → x.step ≡ pos (greatest_price first.prices)
+    → x.step ≤ℤ pos (10 ^ 24) → IsSeries s most_tours first x
 new_series s most_tours first x feasible within holds sheet none prices step small = record {
   snapshot = holds.snapshot;
   feasible = feasible;
@@ -58,7 +60,8 @@ new_series s most_tours first x feasible within holds sheet none prices step sma
 
 -- ---- what a turn needs
 
-pub can_take : (s : Snapshot) (most_tours : ℕ) (first : PriceSheet) (x : Series) (cars : List TurnOf) → IsAccepted s → IsSeries s most_tours first x → AreAnswersIn s most_tours (root_of s) x.prices.items cars → CanTake x cars
+pub can_take : (s : Snapshot) (most_tours : ℕ) (first : PriceSheet) (x : Series) (cars : List TurnOf) → IsAccepted s → IsSeries s most_tours first x
+    → AreAnswersIn s most_tours (root_of s) x.prices.items cars → CanTake x cars
 can_take s most_tours first x cars accepted is answers = record {
   count = answers.count ∙ ap car_count (sym is.snapshot);
   few = (let count = answers.count in let few = cars-le s accepted in omega (arith, count, few));
@@ -70,10 +73,13 @@ can_take s most_tours first x cars accepted is answers = record {
   high = is.small;
 }
 
-pub taken_of : (old mid new : Series) (next : List ℤ) (cars : List TurnOf) → HasTakenIn old mid next cars → new.start.now ≡ mid.start.now → new.pool ≡ mid.pool → new.sheet ≡ mid.sheet → new.step ≡ mid.step → new.prices.items ≡ next → new.turns.items ≡ mid.turns.items ++ turn_with mid.prices.items cars ∷ [] → HasTaken old new cars
+pub taken_of : (old mid new : Series) (next : List ℤ) (cars : List TurnOf) → HasTakenIn old mid next cars → new.start.now ≡ mid.start.now → new.pool ≡ mid.pool
+    → new.sheet ≡ mid.sheet → new.step ≡ mid.step → new.prices.items ≡ next → new.turns.items ≡ mid.turns.items ++ turn_with mid.prices.items cars ∷ []
+    → HasTaken old new cars
 taken_of old mid new next cars is start pool sheet step prices turns = record {
   start = start ∙ is.start;
-  turns = turns ∙ ap (λ (ts : List Turn). ts ++ turn_with mid.prices.items cars ∷ []) is.turns ∙ ap (λ (ps : List ℤ). old.turns.items ++ turn_with ps cars ∷ []) is.prices;
+  turns = turns ∙ ap (λ (ts : List Turn). ts ++ turn_with mid.prices.items cars ∷ []) is.turns
+      ∙ ap (λ (ps : List ℤ). old.turns.items ++ turn_with ps cars ∷ []) is.prices;
   step = step ∙ is.step;
   pool = pool ∙ is.pool;
   pools = is.pools;
@@ -84,7 +90,9 @@ taken_of old mid new next cars is start pool sheet step prices turns = record {
 
 -- ---- the best prices
 
-best_more : (s : Snapshot) (most_tours : ℕ) (first : PriceSheet) (turns : List Turn) (sheet : PriceSheet) (prices : List ℤ) (cars : List TurnOf) → IsBestSheet s first turns sheet → AreAnswersIn s most_tours (root_of s) prices cars → IsBestSheet s first (turns ++ turn_with prices cars ∷ []) (better_of sheet (sheet_of_turn prices cars))
+best_more : (s : Snapshot) (most_tours : ℕ) (first : PriceSheet) (turns : List Turn) (sheet : PriceSheet) (prices : List ℤ) (cars : List TurnOf)
+    → IsBestSheet s first turns sheet → AreAnswersIn s most_tours (root_of s) prices cars
+    → IsBestSheet s first (turns ++ turn_with prices cars ∷ []) (better_of sheet (sheet_of_turn prices cars))
 best_more s most_tours first turns sheet prices cars is answers = by_test (int_lt (sum_of_sheet sheet) (sum_of_sheet turned)) refl
   where
     turned : PriceSheet
@@ -96,7 +104,8 @@ best_more s most_tours first turns sheet prices cars is answers = by_test (int_l
     same : sum_of_turn turn ≡ sum_of_sheet turned
     same = turn-sum prices cars
 
-    before : (sheet.prices ≡ first.prices) ⊎ Any (λ (t : Turn). sheet.prices ≡ t.prices) turns → (sheet.prices ≡ first.prices) ⊎ Any (λ (t : Turn). sheet.prices ≡ t.prices) (turns ++ turn ∷ [])
+    before : (sheet.prices ≡ first.prices) ⊎ Any (λ (t : Turn). sheet.prices ≡ t.prices) turns → (sheet.prices ≡ first.prices)
+        ⊎ Any (λ (t : Turn). sheet.prices ≡ t.prices) (turns ++ turn ∷ [])
     before (inl at) = inl at
     before (inr h) = inr (any-left (λ (t : Turn). sheet.prices ≡ t.prices) turns (turn ∷ []) h)
 
@@ -105,7 +114,9 @@ best_more s most_tours first turns sheet prices cars is answers = by_test (int_l
       in_root = turn-sheet s most_tours (root_of s) prices cars answers;
       from = inr (Any-push (λ (t : Turn). prices ≡ t.prices) turns turn refl);
       first_below = (let was = is.first_below in omega (arith, ints, e, was));
-      turns_below = All-push (IsTurnBelow (sum_of_sheet turned)) turns turn (All-weaker (IsTurnBelow (sum_of_sheet sheet)) (IsTurnBelow (sum_of_sheet turned)) (λ t below. omega (arith, ints, e, below)) turns is.turns_below) (let at = same in omega (arith, ints, at));
+      turns_below = All-push (IsTurnBelow (sum_of_sheet turned)) turns turn
+          (All-weaker (IsTurnBelow (sum_of_sheet sheet)) (IsTurnBelow (sum_of_sheet turned)) (λ t below. omega (arith, ints, e, below)) turns is.turns_below)
+          (let at = same in omega (arith, ints, at));
     }
     by_test false e = record {
       in_root = is.in_root;
@@ -116,7 +127,8 @@ best_more s most_tours first turns sheet prices cars is answers = by_test (int_l
 
 -- ---- one turn more
 
-module _ (s : Snapshot) (most_tours : ℕ) (first : PriceSheet) (old new : Series) (cars : List TurnOf) (is : IsSeries s most_tours first old) (few : length old.turns.items < 31) (answers : AreAnswersIn s most_tours (root_of s) old.prices.items cars) (taken : HasTaken old new cars) where
+module _ (s : Snapshot) (most_tours : ℕ) (first : PriceSheet) (old new : Series) (cars : List TurnOf) (is : IsSeries s most_tours first old)
+    (few : length old.turns.items < 31) (answers : AreAnswersIn s most_tours (root_of s) old.prices.items cars) (taken : HasTaken old new cars) where
   abbrev prices : List ℤ
   prices = old.prices.items
 
@@ -136,21 +148,26 @@ module _ (s : Snapshot) (most_tours : ℕ) (first : PriceSheet) (old new : Serie
   few_tours c = let most = is.few c in omega (arith, most, few)
 
   of_pool : (c : ℕ) → IsTurnOfCar (tours_of_car old.pool c) (tours_of_car new.pool c) (get_or cars c no_turn).tour
-  of_pool c = subst (λ (p : TourPool). IsTurnOfCar (tours_of_car old.pool c) (tours_of_car p c) (get_or cars c no_turn).tour) (sym taken.pool) (turn_of_pool old.pool cars pools few_tours c)
+  of_pool c = subst (λ (p : TourPool). IsTurnOfCar (tours_of_car old.pool c) (tours_of_car p c) (get_or cars c no_turn).tour) (sym taken.pool)
+      (turn_of_pool old.pool cars pools few_tours c)
 
   held : HoldTours s old.start.now turns (with_turn old.pool 0 cars).tours
   held = hold_more s old.start.now old.turns.items old.pool prices cars pools few_tours is.tours
 
   tours : HoldTours s new.start.now new.turns.items new.pool.tours
   tours =
-      subst (λ (plan : List (List Stop)). HoldTours s plan new.turns.items new.pool.tours) (sym taken.start) (subst (λ (ts : List Turn). HoldTours s old.start.now ts new.pool.tours) (sym taken.turns) (subst (λ (p : TourPool). HoldTours s old.start.now turns p.tours) (sym taken.pool) held))
+      subst (λ (plan : List (List Stop)). HoldTours s plan new.turns.items new.pool.tours) (sym taken.start)
+      (subst (λ (ts : List Turn). HoldTours s old.start.now ts new.pool.tours) (sym taken.turns)
+      (subst (λ (p : TourPool). HoldTours s old.start.now turns p.tours) (sym taken.pool) held))
 
   turn_is : IsRootTurn s most_tours (due_prices s first.prices old.turns.items) turn
   turn_is = subst (λ (ps : List ℤ). IsRootTurn s most_tours ps turn) is.due (answers_are_turn s most_tours prices cars answers)
 
   due : new.prices.items ≡ due_prices s first.prices new.turns.items
   due =
-      moved_are_due s first.prices prices new.prices.items (length old.turns.items + 1) cars answers.calls taken.count (taken.each (greatest_price first.prices) is.step) ∙ sym (due-more s first.prices old.turns.items turn) ∙ ap (due_prices s first.prices) (sym taken.turns)
+      moved_are_due s first.prices prices new.prices.items (length old.turns.items + 1) cars answers.calls taken.count
+      (taken.each (greatest_price first.prices) is.step) ∙ sym (due-more s first.prices old.turns.items turn)
+      ∙ ap (due_prices s first.prices) (sym taken.turns)
 
   pub series_step : IsSeries s most_tours first new
   series_step = record {
@@ -158,8 +175,10 @@ module _ (s : Snapshot) (most_tours : ℕ) (first : PriceSheet) (old new : Serie
     feasible = subst (IsFeasiblePlan s) (sym taken.start) is.feasible;
     tours = tours;
     few = λ c. (let more = (of_pool c).few in let most = is.few c in let count = series_count in omega (arith, more, most, count));
-    sheet = subst (λ (ts : List Turn). IsBestSheet s first ts new.sheet) (sym taken.turns) (subst (IsBestSheet s first turns) (sym taken.sheet) (best_more s most_tours first old.turns.items old.sheet prices cars is.sheet answers));
-    root_turns = subst (AreRootTurns s most_tours first.prices) (sym taken.turns) (turns-more s most_tours first.prices old.turns.items turn is.root_turns turn_is);
+    sheet = subst (λ (ts : List Turn). IsBestSheet s first ts new.sheet) (sym taken.turns)
+        (subst (IsBestSheet s first turns) (sym taken.sheet) (best_more s most_tours first old.turns.items old.sheet prices cars is.sheet answers));
+    root_turns = subst (AreRootTurns s most_tours first.prices) (sym taken.turns)
+        (turns-more s most_tours first.prices old.turns.items turn is.root_turns turn_is);
     due = due;
     calls = taken.count ∙ is.calls;
     step = taken.step ∙ is.step;

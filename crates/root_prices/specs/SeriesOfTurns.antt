@@ -48,7 +48,8 @@ pub record HasTakenIn (old new : Series) (next : List ℤ) (cars : List TurnOf) 
   pub pools : length old.pool.tours ≡ car_count old.pool.snapshot
   pub sheet : new.sheet ≡ better_of old.sheet (sheet_of_turn old.prices.items cars)
   pub count : length next ≡ length old.prices.items
-  pub each : (most : ℕ) → old.step ≡ pos most → (j : ℕ) → j < length old.prices.items → price_at next j ≡ moved_price old.prices.items (pos (most / (length old.turns.items + 1))) cars j
+  pub each : (most : ℕ) → old.step ≡ pos most → (j : ℕ) → j < length old.prices.items
+      → price_at next j ≡ moved_price old.prices.items (pos (most / (length old.turns.items + 1))) cars j
 
 -- the turn was put behind the others, too
 pub record HasTaken (old new : Series) (cars : List TurnOf) : Type 0 where
@@ -59,4 +60,5 @@ pub record HasTaken (old new : Series) (cars : List TurnOf) : Type 0 where
   pub pools : length old.pool.tours ≡ car_count old.pool.snapshot
   pub sheet : new.sheet ≡ better_of old.sheet (sheet_of_turn old.prices.items cars)
   pub count : length new.prices.items ≡ length old.prices.items
-  pub each : (most : ℕ) → old.step ≡ pos most → (j : ℕ) → j < length old.prices.items → price_at new.prices.items j ≡ moved_price old.prices.items (pos (most / (length old.turns.items + 1))) cars j
+  pub each : (most : ℕ) → old.step ≡ pos most → (j : ℕ) → j < length old.prices.items
+      → price_at new.prices.items j ≡ moved_price old.prices.items (pos (most / (length old.turns.items + 1))) cars j

@@ -25,7 +25,8 @@ filled_none s plan pool empty = record {
   none = λ c le. empty.tours c;
 }
 
-pub filled_more : (s : Snapshot) (plan : List (List Stop)) (pool : TourPool) (k : ℕ) (tour : List Stop) → k < car_count s → tour ≡ tour_of plan k → IsFilledTo s plan pool k → IsFilledTo s plan (with_tour_of_car pool k tour) (k + 1)
+pub filled_more : (s : Snapshot) (plan : List (List Stop)) (pool : TourPool) (k : ℕ) (tour : List Stop) → k < car_count s → tour ≡ tour_of plan k
+    → IsFilledTo s plan pool k → IsFilledTo s plan (with_tour_of_car pool k tour) (k + 1)
 filled_more s plan pool k tour lt tour_is is = record {
   snapshot = is.snapshot;
   cars = length-set pool.tours k (with_tour (tours_of_car pool k) tour) ∙ is.cars;
@@ -38,10 +39,12 @@ filled_more s plan pool k tour lt tour_is is = record {
 
     alone : with_tour (tours_of_car pool k) tour ≡ tour_of plan k ∷ []
     alone =
-        ap (λ (ts : List (List Stop)). with_tour ts tour) (is.none k (omega arith)) ∙ with_tour-few [] tour (omega arith) ∙ ap (λ (t : List Stop). t ∷ []) tour_is
+        ap (λ (ts : List (List Stop)). with_tour ts tour) (is.none k (omega arith)) ∙ with_tour-few [] tour (omega arith)
+        ∙ ap (λ (t : List Stop). t ∷ []) tour_is
 
     at : (c : ℕ) → c ≡ k → tours_of_car (with_tour_of_car pool k tour) c ≡ tour_of plan c ∷ []
-    at c same = subst (λ (i : ℕ). tours_of_car (with_tour_of_car pool k tour) i ≡ tour_of plan i ∷ []) (sym same) (get_or-set_same pool.tours k (with_tour (tours_of_car pool k) tour) [] (let cars = is.cars in omega (arith, cars, lt)) ∙ alone)
+    at c same = subst (λ (i : ℕ). tours_of_car (with_tour_of_car pool k tour) i ≡ tour_of plan i ∷ []) (sym same)
+        (get_or-set_same pool.tours k (with_tour (tours_of_car pool k) tour) [] (let cars = is.cars in omega (arith, cars, lt)) ∙ alone)
 
     before : (c : ℕ) → c < k + 1 → (c ≡ k → ⊥) → c < k
     before c below other = elim (cases_lt c k) [ inl less ↦ less | inr past ↦ absurd (other (omega (arith, past, below))) ]
@@ -55,4 +58,7 @@ filled_all s plan pool k all is = record {
 }
 
 pub holds-few : (s : Snapshot) (plan : List (List Stop)) (pool : TourPool) → HoldsPlan s plan pool → (c : ℕ) → length (tours_of_car pool c) ≤ 1
-holds-few s plan pool is c = elim (cases_lt c (car_count s)) [ inl lt ↦ (let one = ap length (is.tours c lt) in omega (arith, one)) | inr past ↦ (let none = ap length (is.none c past) in omega (arith, none)) ]
+holds-few s plan pool is c = elim (cases_lt c (car_count s)) [
+  | inl lt ↦ (let one = ap length (is.tours c lt) in omega (arith, one))
+  | inr past ↦ (let none = ap length (is.none c past) in omega (arith, none))
+]

@@ -1,5 +1,6 @@
 -- The tours of a turn in the pool.
-use Rattle.std.proofs.Common.{◌≡◌, ℕ, zero, suc, ◌+◌, ◌-◌, ◌<◌, ◌≤◌, ◌==◌, Bool, true, false, not, cond, List, [], ◌∷◌, ◌++◌, length, get_or, set, drop, filter, refl, sym, ap, ◌∙◌, subst, inl, inr, arith}
+use Rattle.std.proofs.Common.{◌≡◌, ℕ, zero, suc, ◌+◌, ◌-◌, ◌<◌, ◌≤◌, ◌==◌, Bool, true, false, not, cond, List, [], ◌∷◌, ◌++◌, length, get_or, set, drop, filter}
+use Rattle.std.proofs.Common.{refl, sym, ap, ◌∙◌, subst, inl, inr, arith}
 use Rattle.std.specs.Prelude.{◌⊎◌, Option, Some, None, IfSome}
 use Rattle.std.specs.List.{Contains}
 use Rattle.std.specs.Cmp.Lexicographic.{pointwise}
@@ -55,7 +56,8 @@ others-has : (tour : List Stop) (tours : List (List Stop)) (u : List Stop) → C
 others-has tour [] u h = absurd (let lt = h.1 in omega (arith, lt))
 others-has tour (t ∷ tours) u h = by_test (same_tour t tour) refl (contains-cases t u tours h) (λ later. others-has tour tours u later)
   where
-    by_test : (b : Bool) → same_tour t tour ≡ b → (t ≡ u) ⊎ Contains tours u → (Contains tours u → (u ≡ tour) ⊎ Contains (others tour tours) u) → (u ≡ tour) ⊎ Contains (cond (not b) (t ∷ others tour tours) (others tour tours)) u
+    by_test : (b : Bool) → same_tour t tour ≡ b → (t ≡ u) ⊎ Contains tours u → (Contains tours u → (u ≡ tour) ⊎ Contains (others tour tours) u) → (u ≡ tour)
+        ⊎ Contains (cond (not b) (t ∷ others tour tours) (others tour tours)) u
     by_test true e (inl at) rest = inl (sym at ∙ tour-same t tour e)
     by_test true e (inr later) rest = rest later
     by_test false e (inl at) rest = inr (subst (Contains (t ∷ others tour tours)) at (contains-here t (others tour tours)))
@@ -66,8 +68,12 @@ others-only : (tour : List Stop) (tours : List (List Stop)) (u : List Stop) → 
 others-only tour [] u h = h
 others-only tour (t ∷ tours) u h = by_test (not (same_tour t tour)) (λ later. others-only tour tours u later) h
   where
-    by_test : (b : Bool) → (Contains (others tour tours) u → Contains tours u) → Contains (cond b (t ∷ others tour tours) (others tour tours)) u → Contains (t ∷ tours) u
-    by_test true rest h = elim (contains-cases t u (others tour tours) h) [ inl at ↦ subst (Contains (t ∷ tours)) at (contains-here t tours) | inr later ↦ contains-later t u tours (rest later) ]
+    by_test : (b : Bool) → (Contains (others tour tours) u → Contains tours u) → Contains (cond b (t ∷ others tour tours) (others tour tours)) u
+        → Contains (t ∷ tours) u
+    by_test true rest h = elim (contains-cases t u (others tour tours) h) [
+      | inl at ↦ subst (Contains (t ∷ tours)) at (contains-here t tours)
+      | inr later ↦ contains-later t u tours (rest later)
+    ]
     by_test false rest h = contains-later t u tours (rest h)
 
 others-length : (tour : List Stop) (tours : List (List Stop)) → length (others tour tours) ≤ length tours
@@ -83,7 +89,8 @@ newest-all n xs le = let none : length xs - n ≡ 0 = omega (arith, le) in ap (�
 
 pub with_tour-few : (tours : List (List Stop)) (tour : List Stop) → length tours < 32 → with_tour tours tour ≡ others tour tours ++ tour ∷ []
 with_tour-few tours tour few =
-    newest-all 32 (others tour tours ++ tour ∷ []) (let le = others-length tour tours in let long = length-append (others tour tours) (tour ∷ []) in omega (arith, few, le, long))
+    newest-all 32 (others tour tours ++ tour ∷ [])
+    (let le = others-length tour tours in let long = length-append (others tour tours) (tour ∷ []) in omega (arith, few, le, long))
 
 pub with_tour-has : (tours : List (List Stop)) (tour : List Stop) → length tours < 32 → Contains (with_tour tours tour) tour
 with_tour-has tours tour few =
@@ -91,7 +98,10 @@ with_tour-has tours tour few =
 
 pub with_tour-keeps : (tours : List (List Stop)) (tour u : List Stop) → length tours < 32 → Contains tours u → Contains (with_tour tours tour) u
 with_tour-keeps tours tour u few h =
-    subst (λ (ts : List (List Stop)). Contains ts u) (sym (with_tour-few tours tour few)) (elim (others-has tour tours u h) [ inl is ↦ subst (Contains (others tour tours ++ tour ∷ [])) (sym is) (Contains-push (others tour tours) tour) | inr kept ↦ Contains-append_left (others tour tours) (tour ∷ []) u kept ])
+    subst (λ (ts : List (List Stop)). Contains ts u) (sym (with_tour-few tours tour few)) (elim (others-has tour tours u h) [
+      | inl is ↦ subst (Contains (others tour tours ++ tour ∷ [])) (sym is) (Contains-push (others tour tours) tour)
+      | inr kept ↦ Contains-append_left (others tour tours) (tour ∷ []) u kept
+    ])
 
 pub with_tour-length : (tours : List (List Stop)) (tour : List Stop) → length tours < 32 → length (with_tour tours tour) ≤ length tours + 1
 with_tour-length tours tour few =
@@ -102,7 +112,10 @@ with_tour-length tours tour few =
 
 pub with_tour-only : (tours : List (List Stop)) (tour u : List Stop) → length tours < 32 → Contains (with_tour tours tour) u → Contains tours u ⊎ (tour ≡ u)
 with_tour-only tours tour u few h =
-    elim (Contains-push_cases (others tour tours) tour u (subst (λ (ts : List (List Stop)). Contains ts u) (with_tour-few tours tour few) h)) [ inl kept ↦ inl (others-only tour tours u kept) | inr is ↦ inr is ]
+    elim (Contains-push_cases (others tour tours) tour u (subst (λ (ts : List (List Stop)). Contains ts u) (with_tour-few tours tour few) h)) [
+      | inl kept ↦ inl (others-only tour tours u kept)
+      | inr is ↦ inr is
+    ]
 
 -- ---- the tours of a turn
 
@@ -110,7 +123,8 @@ abbrev given_to : List (List Stop) → Option (List Stop) → List (List Stop)
 given_to tours None = tours
 given_to tours (Some tour) = with_tour tours tour
 
-given-at : (pool : TourPool) (i c : ℕ) (given : Option (List Stop)) → i < length pool.tours → tours_of_car (with_given pool i given) c ≡ cond (c == i) (given_to (tours_of_car pool c) given) (tours_of_car pool c)
+given-at : (pool : TourPool) (i c : ℕ) (given : Option (List Stop)) → i < length pool.tours
+    → tours_of_car (with_given pool i given) c ≡ cond (c == i) (given_to (tours_of_car pool c) given) (tours_of_car pool c)
 given-at pool i c None lt = by_test (c == i)
   where
     by_test : (b : Bool) → tours_of_car pool c ≡ cond b (tours_of_car pool c) (tours_of_car pool c)
@@ -118,10 +132,12 @@ given-at pool i c None lt = by_test (c == i)
     by_test false = refl
 given-at pool i c (Some tour) lt = by_test (c == i) refl
   where
-    by_test : (b : Bool) → (c == i) ≡ b → get_or (set pool.tours i (with_tour (tours_of_car pool i) tour)) c [] ≡ cond b (with_tour (tours_of_car pool c) tour) (tours_of_car pool c)
+    by_test : (b : Bool) → (c == i) ≡ b
+        → get_or (set pool.tours i (with_tour (tours_of_car pool i) tour)) c [] ≡ cond b (with_tour (tours_of_car pool c) tour) (tours_of_car pool c)
     by_test true e =
         let at = eqb-true c i e in
-        subst (λ (k : ℕ). get_or (set pool.tours i (with_tour (tours_of_car pool i) tour)) k [] ≡ with_tour (tours_of_car pool k) tour) (sym at) (get_or-set_same pool.tours i (with_tour (tours_of_car pool i) tour) [] lt)
+        subst (λ (k : ℕ). get_or (set pool.tours i (with_tour (tours_of_car pool i) tour)) k [] ≡ with_tour (tours_of_car pool k) tour) (sym at)
+        (get_or-set_same pool.tours i (with_tour (tours_of_car pool i) tour) [] lt)
     by_test false e = get_or-set_other pool.tours i c (with_tour (tours_of_car pool i) tour) [] (λ at. both_ways (c == i) e (eq-eqb c i at))
 
 given-cars : (pool : TourPool) (i : ℕ) (given : Option (List Stop)) → length (with_given pool i given).tours ≡ length pool.tours
@@ -148,27 +164,36 @@ neq i j ne = neq_by (i == j) refl
     neq_by false e = e
 
 -- a car before the first one keeps its tours
-turn-before : (pool : TourPool) (i c : ℕ) (cars : List TurnOf) → i + length cars ≤ length pool.tours → c < i → tours_of_car (with_turn pool i cars) c ≡ tours_of_car pool c
+turn-before : (pool : TourPool) (i c : ℕ) (cars : List TurnOf) → i + length cars ≤ length pool.tours → c < i
+    → tours_of_car (with_turn pool i cars) c ≡ tours_of_car pool c
 turn-before pool i c [] le lt = refl
 turn-before pool i c (t ∷ cars) le lt =
     let same = given-cars pool i t.tour in
-    turn-before (with_given pool i t.tour) (i + 1) c cars (omega (arith, le, same)) (omega (arith, lt)) ∙ given-at pool i c t.tour (omega (arith, le)) ∙ ap (λ (b : Bool). cond b (given_to (tours_of_car pool c) t.tour) (tours_of_car pool c)) (neq c i (λ e. omega (arith, e, lt)))
+    turn-before (with_given pool i t.tour) (i + 1) c cars (omega (arith, le, same)) (omega (arith, lt)) ∙ given-at pool i c t.tour (omega (arith, le))
+    ∙ ap (λ (b : Bool). cond b (given_to (tours_of_car pool c) t.tour) (tours_of_car pool c)) (neq c i (λ e. omega (arith, e, lt)))
 
 -- each other one has the tour that its pricing gave
-turn-at : (pool : TourPool) (i k c : ℕ) (cars : List TurnOf) → i + length cars ≤ length pool.tours → i + k ≡ c → k < length cars → tours_of_car (with_turn pool i cars) c ≡ given_to (tours_of_car pool c) (get_or cars k no_turn).tour
+turn-at : (pool : TourPool) (i k c : ℕ) (cars : List TurnOf) → i + length cars ≤ length pool.tours → i + k ≡ c → k < length cars
+    → tours_of_car (with_turn pool i cars) c ≡ given_to (tours_of_car pool c) (get_or cars k no_turn).tour
 turn-at pool i k c [] le e lt = absurd (omega (arith, lt))
 turn-at pool i zero c (t ∷ cars) le e lt =
     let same = given-cars pool i t.tour in
-    turn-before (with_given pool i t.tour) (i + 1) c cars (omega (arith, le, same)) (omega (arith, e)) ∙ given-at pool i c t.tour (omega (arith, le)) ∙ ap (λ (b : Bool). cond b (given_to (tours_of_car pool c) t.tour) (tours_of_car pool c)) (eq-eqb c i (omega (arith, e)))
+    turn-before (with_given pool i t.tour) (i + 1) c cars (omega (arith, le, same)) (omega (arith, e)) ∙ given-at pool i c t.tour (omega (arith, le))
+    ∙ ap (λ (b : Bool). cond b (given_to (tours_of_car pool c) t.tour) (tours_of_car pool c)) (eq-eqb c i (omega (arith, e)))
 turn-at pool i (suc k) c (t ∷ cars) le e lt =
     let same = given-cars pool i t.tour in
-    turn-at (with_given pool i t.tour) (i + 1) k c cars (omega (arith, le, same)) (omega (arith, e)) (omega (arith, lt)) ∙ ap (λ (ts : List (List Stop)). given_to ts (get_or cars k no_turn).tour) (given-at pool i c t.tour (omega (arith, le)) ∙ ap (λ (b : Bool). cond b (given_to (tours_of_car pool c) t.tour) (tours_of_car pool c)) (neq c i (λ at. omega (arith, e, at))))
+    turn-at (with_given pool i t.tour) (i + 1) k c cars (omega (arith, le, same)) (omega (arith, e)) (omega (arith, lt))
+    ∙ ap (λ (ts : List (List Stop)). given_to ts (get_or cars k no_turn).tour)
+    (given-at pool i c t.tour (omega (arith, le))
+    ∙ ap (λ (b : Bool). cond b (given_to (tours_of_car pool c) t.tour) (tours_of_car pool c)) (neq c i (λ at. omega (arith, e, at))))
 
-turn-past : (pool : TourPool) (i c : ℕ) (cars : List TurnOf) → i + length cars ≤ length pool.tours → i + length cars ≤ c → tours_of_car (with_turn pool i cars) c ≡ tours_of_car pool c
+turn-past : (pool : TourPool) (i c : ℕ) (cars : List TurnOf) → i + length cars ≤ length pool.tours → i + length cars ≤ c
+    → tours_of_car (with_turn pool i cars) c ≡ tours_of_car pool c
 turn-past pool i c [] le past = refl
 turn-past pool i c (t ∷ cars) le past =
     let same = given-cars pool i t.tour in
-    turn-past (with_given pool i t.tour) (i + 1) c cars (omega (arith, le, same)) (omega (arith, past)) ∙ given-at pool i c t.tour (omega (arith, le)) ∙ ap (λ (b : Bool). cond b (given_to (tours_of_car pool c) t.tour) (tours_of_car pool c)) (neq c i (λ e. omega (arith, e, past)))
+    turn-past (with_given pool i t.tour) (i + 1) c cars (omega (arith, le, same)) (omega (arith, past)) ∙ given-at pool i c t.tour (omega (arith, le))
+    ∙ ap (λ (b : Bool). cond b (given_to (tours_of_car pool c) t.tour) (tours_of_car pool c)) (neq c i (λ e. omega (arith, e, past)))
 
 -- what a turn makes of a car's tours
 pub record IsTurnOfCar (old new : List (List Stop)) (given : Option (List Stop)) : Type 0 where
@@ -186,6 +211,14 @@ given_car old (Some tour) few = record {
   few = with_tour-length old tour few;
 }
 
-pub turn_of_pool : (pool : TourPool) (cars : List TurnOf) → length cars ≡ length pool.tours → ((c : ℕ) → length (tours_of_car pool c) < 32) → (c : ℕ) → IsTurnOfCar (tours_of_car pool c) (tours_of_car (with_turn pool 0 cars) c) (get_or cars c no_turn).tour
+pub turn_of_pool : (pool : TourPool) (cars : List TurnOf) → length cars ≡ length pool.tours → ((c : ℕ) → length (tours_of_car pool c) < 32) → (c : ℕ)
+    → IsTurnOfCar (tours_of_car pool c) (tours_of_car (with_turn pool 0 cars) c) (get_or cars c no_turn).tour
 turn_of_pool pool cars count few c =
-    elim (cases_lt c (length cars)) [ inl lt ↦ subst (λ (ts : List (List Stop)). IsTurnOfCar (tours_of_car pool c) ts (get_or cars c no_turn).tour) (sym (turn-at pool 0 c c cars (omega (arith, count)) (omega arith) lt)) (given_car (tours_of_car pool c) (get_or cars c no_turn).tour (few c)) | inr past ↦ subst (λ (g : Option (List Stop)). IsTurnOfCar (tours_of_car pool c) (tours_of_car (with_turn pool 0 cars) c) g) (ap (λ (t : TurnOf). t.tour) (sym (get_or_past cars c no_turn past))) (subst (λ (ts : List (List Stop)). IsTurnOfCar (tours_of_car pool c) ts None) (sym (turn-past pool 0 c cars (omega (arith, count)) (omega (arith, past)))) (given_car (tours_of_car pool c) None (few c))) ]
+    elim (cases_lt c (length cars)) [
+      | inl lt ↦ subst (λ (ts : List (List Stop)). IsTurnOfCar (tours_of_car pool c) ts (get_or cars c no_turn).tour)
+          (sym (turn-at pool 0 c c cars (omega (arith, count)) (omega arith) lt)) (given_car (tours_of_car pool c) (get_or cars c no_turn).tour (few c))
+      | inr past ↦ subst (λ (g : Option (List Stop)). IsTurnOfCar (tours_of_car pool c) (tours_of_car (with_turn pool 0 cars) c) g)
+          (ap (λ (t : TurnOf). t.tour) (sym (get_or_past cars c no_turn past)))
+          (subst (λ (ts : List (List Stop)). IsTurnOfCar (tours_of_car pool c) ts None)
+          (sym (turn-past pool 0 c cars (omega (arith, count)) (omega (arith, past)))) (given_car (tours_of_car pool c) None (few c)))
+    ]

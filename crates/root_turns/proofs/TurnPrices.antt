@@ -20,9 +20,11 @@ max_or_zero : (x : ℤ) (m : ℕ) → int_max x (pos m) ≡ pos (max m (or_zero 
 max_or_zero (pos n) m = omega (arith, ints, int_max_is (pos n) (pos m))
 max_or_zero (negsuc n) m = omega (arith, ints, int_max_is (negsuc n) (pos m))
 
-pub greatest-step : (prices : List ℤ) (k : ℕ) (g x : ℤ) → k < length prices → g ≡ pos (greatest_price (take k prices)) → x ≡ get_or prices k (pos 0) → int_max x g ≡ pos (greatest_price (take (k + 1) prices))
+pub greatest-step : (prices : List ℤ) (k : ℕ) (g x : ℤ) → k < length prices → g ≡ pos (greatest_price (take k prices)) → x ≡ get_or prices k (pos 0)
+    → int_max x g ≡ pos (greatest_price (take (k + 1) prices))
 greatest-step prices k g x lt is at =
-    ap (λ (z : ℤ). int_max z g) at ∙ ap (int_max (get_or prices k (pos 0))) is ∙ max_or_zero (get_or prices k (pos 0)) (greatest_price (take k prices)) ∙ ap pos (sym (greatest_more prices k lt))
+    ap (λ (z : ℤ). int_max z g) at ∙ ap (int_max (get_or prices k (pos 0))) is ∙ max_or_zero (get_or prices k (pos 0)) (greatest_price (take k prices))
+    ∙ ap pos (sym (greatest_more prices k lt))
 
 fits_128 : (z : ℤ) → neg_ℤ (pos (10 ^ 30)) ≤ℤ z → z ≤ℤ pos (10 ^ 30) → SFits w128 z
 fits_128 (pos n) low high = record { sfits = omega (arith, ints, high) }
@@ -37,4 +39,5 @@ stored_price z h = let low = h.0 in let high = h.1 in stored z (omega (arith, in
 
 -- the greater of a price and what was the greatest
 pub greater_range : (x g : ℤ) → IsPrice x → neg_ℤ (pos (10 ^ 24)) ≤ℤ g → g ≤ℤ pos (10 ^ 24) → IsPrice (int_max x g)
-greater_range x g h low' high' = let low = h.0 in let high = h.1 in (omega (arith, ints, low, low', int_max_is x g), omega (arith, ints, high, high', int_max_is x g))
+greater_range x g h low' high' = let low = h.0 in let high = h.1 in
+    (omega (arith, ints, low, low', int_max_is x g), omega (arith, ints, high, high', int_max_is x g))

@@ -24,7 +24,8 @@ clear_move s c x (Leave g) y leads e = absurd (false≢true (sym (ap (λ (z : Co
 clear_move s c x (Board j) y leads e = absurd (false≢true (sym (ap (λ (z : Course). z.ended) (board_leads_to s c x j y leads).leads) ∙ e))
 clear_move s c x End y leads e = ap (λ (z : Course). z.present) (ending_leads_to s c x y leads)
 
-clear_moves : (s : Snapshot) (c : ℕ) (x : Course) (ms : List Move) (y : Course) → (x.ended ≡ true → x.present ≡ None) → moves_on s c (Some x) ms ≡ Some y → y.ended ≡ true → y.present ≡ None
+clear_moves : (s : Snapshot) (c : ℕ) (x : Course) (ms : List Move) (y : Course) → (x.ended ≡ true → x.present ≡ None) → moves_on s c (Some x) ms ≡ Some y
+    → y.ended ≡ true → y.present ≡ None
 clear_moves s c x [] y clear leads =
     let same : x ≡ y = cc in
     subst (λ (z : Course). z.ended ≡ true → z.present ≡ None) same clear
@@ -33,9 +34,11 @@ clear_moves s c x (m ∷ ms) y clear leads =
     clear_moves s c step.next ms y (clear_move s c x m step.next step.first) step.later
 
 -- where an ended tour leads
-pub ended_reaches : (s : Snapshot) (c : ℕ) (moves : List Move) (x : Course) → moves_on s c (Some (course_start s c)) moves ≡ Some x → x.ended ≡ true → reached s c x ≡ after_stops s c (start_of s c) x.left
+pub ended_reaches : (s : Snapshot) (c : ℕ) (moves : List Move) (x : Course) → moves_on s c (Some (course_start s c)) moves ≡ Some x → x.ended ≡ true
+    → reached s c x ≡ after_stops s c (start_of s c) x.left
 ended_reaches s c moves x leads ended =
-    ap (progress_after s c x.before) (clear_moves s c (course_start s c) moves x (λ e. refl) leads ended) ∙ (IsSound-moves s c (course_start s c) moves x (IsSound-start s c) leads).before
+    ap (progress_after s c x.before) (clear_moves s c (course_start s c) moves x (λ e. refl) leads ended)
+    ∙ (IsSound-moves s c (course_start s c) moves x (IsSound-start s c) leads).before
 
 pub ended_is_value : EndedRouteLaw
 ended_is_value a moves x leads ended =
@@ -44,5 +47,8 @@ ended_is_value a moves x leads ended =
     let q = after_stops s c (start_of s c) x.left in
     let there = ended_reaches s c moves x leads ended in
     let value : Progress → ℤ = λ p. scaled (settled_cost s c p) -ℤ int_sum_where (call_count s) p.boarded a.price in
-    let paid : int_sum_where (call_count s) q.boarded a.price ≡ prices_of_tour s a.price x.left = int_sum-same (call_count s) (λ j. cond (q.boarded j) (a.price j) (pos 0)) (λ j. cond (is_boarded_in x.left j) (a.price j) (pos 0)) (λ j lt. ap (λ (v : Bool). cond v (a.price j) (pos 0)) (boarded_in s c x.left j lt)) in
-    ap (λ (e : Bool). cond e (value (reached s c x)) (bound_from s c a.price a.allowed a.required (may_still_board x) (route_start s c (reached s c x)))) ended ∙ ap value there ∙ ap (λ (z : ℤ). scaled (cost_of s c x.left) -ℤ z) paid
+    let paid : int_sum_where (call_count s) q.boarded a.price ≡ prices_of_tour s a.price x.left =
+    int_sum-same (call_count s) (λ j. cond (q.boarded j) (a.price j) (pos 0)) (λ j. cond (is_boarded_in x.left j) (a.price j) (pos 0))
+    (λ j lt. ap (λ (v : Bool). cond v (a.price j) (pos 0)) (boarded_in s c x.left j lt)) in
+    ap (λ (e : Bool). cond e (value (reached s c x)) (bound_from s c a.price a.allowed a.required (may_still_board x) (route_start s c (reached s c x)))) ended
+    ∙ ap value there ∙ ap (λ (z : ℤ). scaled (cost_of s c x.left) -ℤ z) paid

@@ -4,7 +4,8 @@
 -- partial tour can become, in the order of their distance, and none of them is reached sooner than on the way
 -- that stops nowhere else: the forced route. No call boards sooner than this route lets it, nor rides for
 -- less than the boarding of its own persons, the doors and the straight way.
-use Rattle.std.specs.Prelude.{◌≡◌, ℕ, zero, suc, ◌+◌, ◌-◌, ◌*◌, ◌==◌, ◌&&◌, ◌||◌, not, ℤ, pos, ◌+ℤ◌, ◌-ℤ◌, int_lt, List, [], ◌∷◌, Bool, true, false, nat_le, nat_lt, if◌then◌else◌, Some}
+use Rattle.std.specs.Prelude.{◌≡◌, ℕ, zero, suc, ◌+◌, ◌-◌, ◌*◌, ◌==◌, ◌&&◌, ◌||◌, not, ℤ, pos, ◌+ℤ◌, ◌-ℤ◌, int_lt, List, [], ◌∷◌, Bool, true, false, nat_le}
+use Rattle.std.specs.Prelude.{nat_lt, if◌then◌else◌, Some}
 use Rattle.std.specs.List.{list_all}
 use Rattle.call_sets.specs.Counting.{sum_where}
 use Rattle.elevator_model.specs.Building.{floor_count}
@@ -87,7 +88,8 @@ boards_from s c up p fs still j =
 -- open
 abbrev pub least_ride : Snapshot → ℕ → (j : ℕ) → ℕ
 least_ride s c j =
-    (spec_of s c).boarding * (call_of s j).persons + (spec_of s c).closing + time_between s.building.travel (call_of s j).origin (call_of s j).destination + (spec_of s c).opening
+    (spec_of s c).boarding * (call_of s j).persons + (spec_of s c).closing + time_between s.building.travel (call_of s j).origin (call_of s j).destination +
+    (spec_of s c).opening
 
 -- what the call costs at least if it boards at the moment m
 abbrev pub cost_if_boarded : Snapshot → ℕ → (j m : ℕ) → ℕ
@@ -109,7 +111,8 @@ cost_on_route s c up p fs r = cost_of_rider s r (p.boarded_at r) (opens_at s c u
 -- what it adds at the earliest moment; without the prices of the calls that boarded.
 abbrev pub bound_on_route : Snapshot → ℕ → (price : ℕ → ℤ) → (allowed required still : ℕ → Bool) → (up : Bool) → Progress → List ℕ → ℤ
 bound_on_route s c price allowed required still up p fs =
-    ((scaled (settled_cost s c p) +ℤ scaled (sum_where (rider_count s) p.carried (cost_on_route s c up p fs))) -ℤ int_sum_where (call_count s) p.boarded price) +ℤ int_sum_where (call_count s) (λ j. allowed j && not (p.boarded j)) (λ j. part_if_boarded s c price required j (boards_from s c up p fs still j))
+    ((scaled (settled_cost s c p) +ℤ scaled (sum_where (rider_count s) p.carried (cost_on_route s c up p fs))) -ℤ int_sum_where (call_count s) p.boarded price)
+    +ℤ int_sum_where (call_count s) (λ j. allowed j && not (p.boarded j)) (λ j. part_if_boarded s c price required j (boards_from s c up p fs still j))
 
 -- the bound where the tour goes on
 abbrev pub bound_from : Snapshot → ℕ → (price : ℕ → ℤ) → (allowed required still : ℕ → Bool) → Progress → ℤ
@@ -120,7 +123,8 @@ bound_from s c price allowed required still p =
 -- prices.
 abbrev pub route_bound : Snapshot → ℕ → (price : ℕ → ℤ) → (allowed required : ℕ → Bool) → Course → ℤ
 route_bound s c price allowed required x =
-    if x.ended then scaled (settled_of s c x) -ℤ int_sum_where (call_count s) (reached s c x).boarded price else bound_from s c price allowed required (may_still_board x) (route_start s c (reached s c x))
+    if x.ended then scaled (settled_of s c x) -ℤ int_sum_where (call_count s) (reached s c x).boarded price else bound_from s c price allowed required
+    (may_still_board x) (route_start s c (reached s c x))
 
 abbrev pub route_bound_for : Aim → Course → ℤ
 route_bound_for a x = route_bound a.snapshot a.car a.price a.allowed a.required x

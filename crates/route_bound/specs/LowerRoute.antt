@@ -1,5 +1,6 @@
 -- The bound along the forced route is at most the value of each tour that the partial tour can become.
-use Rattle.std.proofs.Common.{◌≡◌, ℕ, ◌+◌, ◌<◌, ◌≤◌, Bool, true, false, cond, not, ◌&&◌, ◌||◌, ltb, List, [], ◌∷◌, map, refl, sym, ap, ◌∙◌, subst, arith, Option, Some, None}
+use Rattle.std.proofs.Common.{◌≡◌, ℕ, ◌+◌, ◌<◌, ◌≤◌, Bool, true, false, cond, not, ◌&&◌, ◌||◌, ltb, List, [], ◌∷◌, map, refl, sym, ap, ◌∙◌, subst, arith}
+use Rattle.std.proofs.Common.{Option, Some, None}
 use Rattle.std.specs.Prelude.{ℤ, pos, ◌+ℤ◌, ◌-ℤ◌, ◌≤ℤ◌, int_lt}
 use Rattle.std.specs.List.{list_all}
 use Rattle.std.specs.Option.{is_some}
@@ -35,7 +36,8 @@ use Rattle.pricing_bound.specs.Costs.{low_zero, rider-later, term-most}
 use Rattle.pricing_bound.specs.GrowthLemmas.{destination_in}
 use Rattle.pricing_bound.specs.LowerLemmas.{nobody_carried}
 use Rattle.pricing_bound.specs.Standing.{IsStanding, course_standing, placed_reached, standing_move}
-use Rattle.route_bound.specs.ForcedRoute.{RouteLaw, bound_from, boards_from, cost_if_boarded, cost_on_route, forced_stops, halted, least_ride, may_still_board, opens_at, part_if_boarded, route_bound, route_start}
+use Rattle.route_bound.specs.ForcedRoute.{RouteLaw, bound_from, boards_from, cost_if_boarded, cost_on_route, forced_stops, halted, least_ride, may_still_board}
+use Rattle.route_bound.specs.ForcedRoute.{opens_at, part_if_boarded, route_bound, route_start}
 use Rattle.route_bound.specs.Moves.{IsTimed, boarding, is_known, leaving, moves_keep, moves_stand, timed_reached}
 use Rattle.route_bound.specs.Completions.{CanEnd, Completes, Rode}
 use Rattle.route_bound.specs.RouteTimes.{call_rides, delivers_late, ends_first}
@@ -43,7 +45,10 @@ use Rattle.route_bound.specs.RouteTimes.{call_rides, delivers_late, ends_first}
 -- ---- each rider
 
 -- what the bound has of a rider, by who is known, carried and boards later, against what the tour makes of it
-covers : (known carried boards known' carried' : Bool) (off on joins whole : ℕ) → carried' ≡ false → (carried ≡ true → known ≡ true) → (known ≡ true → known' ≡ true) → (boards ≡ true → known' ≡ true) → (known ≡ true → carried ≡ false → off ≤ whole) → (known ≡ true → carried ≡ true → on ≤ whole) → (known ≡ false → boards ≡ true → joins ≤ whole) → (cond (known && not carried) off 0 + cond carried on 0) + cond (not known && boards) joins 0 ≤ cond (known' && not carried') whole 0
+covers : (known carried boards known' carried' : Bool) (off on joins whole : ℕ) → carried' ≡ false → (carried ≡ true → known ≡ true)
+    → (known ≡ true → known' ≡ true) → (boards ≡ true → known' ≡ true) → (known ≡ true → carried ≡ false → off ≤ whole)
+    → (known ≡ true → carried ≡ true → on ≤ whole) → (known ≡ false → boards ≡ true → joins ≤ whole)
+    → (cond (known && not carried) off 0 + cond carried on 0) + cond (not known && boards) joins 0 ≤ cond (known' && not carried') whole 0
 covers known carried boards known' true off on joins whole e a b d f g h = absurd (false≢true (sym e))
 covers true carried boards false false off on joins whole e a b d f g h = absurd (false≢true (b refl))
 covers true true boards true false off on joins whole e a b d f g h = let le = g refl refl in omega (arith, le)
@@ -69,23 +74,34 @@ abbrev pub Joins : Snapshot → ℕ → (joins : ℕ → ℕ) → (p q : Progres
 Joins s c joins p q =
     (r : ℕ) → r < rider_count s → is_known s c p r ≡ false → q.boarded r ≡ true → joins r ≤ cost_of_rider s r (q.boarded_at r) (q.delivered_at r)
 
-rider_covered : (s : Snapshot) (c : ℕ) (up : Bool) (joins : ℕ → ℕ) (x : Course) (later : List Move) (z : Course) (r : ℕ) → IsAccepted s → IsStanding s c x → IsTimed s c (reached s c x) → Completes s c x later z → Joins s c joins (reached s c x) (reached s c z) → r < rider_count s → (settled_part s c (reached s c x) r + carried_part s c up (reached s c x) r) + joining_part s c joins (reached s c x) (reached s c z) r ≤ settled_part s c (reached s c z) r
+rider_covered : (s : Snapshot) (c : ℕ) (up : Bool) (joins : ℕ → ℕ) (x : Course) (later : List Move) (z : Course) (r : ℕ) → IsAccepted s → IsStanding s c x
+    → IsTimed s c (reached s c x) → Completes s c x later z → Joins s c joins (reached s c x) (reached s c z) → r < rider_count s
+    → (settled_part s c (reached s c x) r + carried_part s c up (reached s c x) r) + joining_part s c joins (reached s c x)
+    (reached s c z) r ≤ settled_part s c (reached s c z) r
 rider_covered s c up joins x later z r a h timed goes joining below =
     let p = reached s c x in
     let q = reached s c z in
     let to = destination_in s r a below in
     let kept = (placed_reached s c x h).kept in
     let keeps = λ (e : is_known s c p r ≡ true). moves_keep s c r x later z h e goes.leads in
-    covers (is_known s c p r) (p.carried r) (q.boarded r) (is_known s c q r) (q.carried r) (cost_of_rider s r (p.boarded_at r) (p.delivered_at r)) (cost_on_route s c up p (forced_stops s up p) r) (joins r) (cost_of_rider s r (q.boarded_at r) (q.delivered_at r))
+    covers (is_known s c p r) (p.carried r) (q.boarded r) (is_known s c q r) (q.carried r) (cost_of_rider s r (p.boarded_at r) (p.delivered_at r))
+    (cost_on_route s c up p (forced_stops s up p) r) (joins r) (cost_of_rider s r (q.boarded_at r) (q.delivered_at r))
     (goes.empty r below)
     (kept.carried r)
     (λ e. (keeps e).known)
     (λ e. or_left (q.boarded r) (is_aboard s c r) e)
-    (λ e off. let same = (keeps e).boarded_at in let told = (keeps e).delivered_at off in rider-later s r (p.boarded_at r) (p.delivered_at r) (q.boarded_at r) (q.delivered_at r) (omega (arith, same)) (omega (arith, same, told)))
-    (λ e on. let same = (keeps e).boarded_at in let late = delivers_late s c r up x later z a below to h timed e on goes in rider-later s r (p.boarded_at r) (opens_at s c up p (forced_stops s up p) _) (q.boarded_at r) (q.delivered_at r) (omega (arith, same)) (omega (arith, same, late)))
+    (λ e off. let same = (keeps e).boarded_at in let told = (keeps e).delivered_at off in
+    rider-later s r (p.boarded_at r) (p.delivered_at r) (q.boarded_at r) (q.delivered_at r) (omega (arith, same)) (omega (arith, same, told)))
+    (λ e on. let same = (keeps e).boarded_at in let late = delivers_late s c r up x later z a below to h timed e on goes in
+    rider-later s r (p.boarded_at r) (opens_at s c up p (forced_stops s up p) _) (q.boarded_at r) (q.delivered_at r) (omega (arith, same))
+    (omega (arith, same, late)))
     (joining r below)
 
-pub riders_covered : (s : Snapshot) (c : ℕ) (up : Bool) (joins : ℕ → ℕ) (x : Course) (later : List Move) (z : Course) → IsAccepted s → IsStanding s c x → IsTimed s c (reached s c x) → Completes s c x later z → Joins s c joins (reached s c x) (reached s c z) → (settled_cost s c (reached s c x) + sum_where (rider_count s) (reached s c x).carried (cost_on_route s c up (reached s c x) (forced_stops s up (reached s c x)))) + sum_below (call_count s) (joining_part s c joins (reached s c x) (reached s c z)) ≤ settled_cost s c (reached s c z)
+pub riders_covered : (s : Snapshot) (c : ℕ) (up : Bool) (joins : ℕ → ℕ) (x : Course) (later : List Move) (z : Course) → IsAccepted s → IsStanding s c x
+    → IsTimed s c (reached s c x) → Completes s c x later z → Joins s c joins (reached s c x) (reached s c z)
+    → (settled_cost s c (reached s c x) + sum_where (rider_count s) (reached s c x).carried
+    (cost_on_route s c up (reached s c x) (forced_stops s up (reached s c x)))) + sum_below (call_count s)
+    (joining_part s c joins (reached s c x) (reached s c z)) ≤ settled_cost s c (reached s c z)
 riders_covered s c up joins x later z a h timed goes joining =
     let n = rider_count s in
     let p = reached s c x in
@@ -103,7 +119,9 @@ abbrev pub least_cost : Snapshot → ℕ → (up : Bool) → Course → ℕ → 
 least_cost s c up x r = cost_if_boarded s c r (boards_from s c up (reached s c x) (forced_stops s up (reached s c x)) (may_still_board x) r)
 
 -- a call that boards later rode
-pub call_rode : (s : Snapshot) (c : ℕ) (up : Bool) (x : Course) (later : List Move) (z : Course) (r : ℕ) → IsAccepted s → IsStanding s c x → IsTimed s c (reached s c x) → Completes s c x later z → (reached s c x).boarded r ≡ false → (reached s c z).boarded r ≡ true → Rode s c r (boards_from s c up (reached s c x) (forced_stops s up (reached s c x)) (may_still_board x) r) (reached s c z)
+pub call_rode : (s : Snapshot) (c : ℕ) (up : Bool) (x : Course) (later : List Move) (z : Course) (r : ℕ) → IsAccepted s → IsStanding s c x
+    → IsTimed s c (reached s c x) → Completes s c x later z → (reached s c x).boarded r ≡ false → (reached s c z).boarded r ≡ true
+    → Rode s c r (boards_from s c up (reached s c x) (forced_stops s up (reached s c x)) (may_still_board x) r) (reached s c z)
 call_rode s c up x later z r a h timed goes old new =
     let ends = (placed_reached s c z (moves_stand s c x later z h goes.leads)).kept in
     call_rides s c r up x later z a (ends.calls r new) h timed old new goes
@@ -114,15 +132,20 @@ rode_costs s c r b q rode =
     let two = rode.delivered_at in
     rider-later s r b (b + least_ride s c r) (q.boarded_at r) (q.delivered_at r) one (omega (arith, one, two))
 
-least_joins : (s : Snapshot) (c : ℕ) (up : Bool) (x : Course) (later : List Move) (z : Course) → IsAccepted s → IsStanding s c x → IsTimed s c (reached s c x) → Completes s c x later z → Joins s c (least_cost s c up x) (reached s c x) (reached s c z)
+least_joins : (s : Snapshot) (c : ℕ) (up : Bool) (x : Course) (later : List Move) (z : Course) → IsAccepted s → IsStanding s c x → IsTimed s c (reached s c x)
+    → Completes s c x later z → Joins s c (least_cost s c up x) (reached s c x) (reached s c z)
 least_joins s c up x later z a h timed goes r below e k =
     let p = reached s c x in
-    rode_costs s c r (boards_from s c up p (forced_stops s up p) (may_still_board x) r) (reached s c z) (call_rode s c up x later z r a h timed goes (or_parts (p.boarded r) (is_aboard s c r) e).0 k)
+    rode_costs s c r (boards_from s c up p (forced_stops s up p) (may_still_board x) r) (reached s c z)
+    (call_rode s c up x later z r a h timed goes (or_parts (p.boarded r) (is_aboard s c r) e).0 k)
 
 -- ---- each call
 
 -- what the bound has of a call and its price, against what the tour has of them
-call_covers : (boarded aboard boards allowed required : Bool) (cost : ℕ) (price : ℤ) → aboard ≡ false → (boarded ≡ true → boards ≡ true) → (boards ≡ true → allowed ≡ true) → (required ≡ true → boards ≡ true) → (cond (allowed && not boarded) (cond required (scaled cost -ℤ price) (cond (int_lt (scaled cost -ℤ price) (pos 0)) (scaled cost -ℤ price) (pos 0))) (pos 0) -ℤ cond boarded price (pos 0)) ≤ℤ (scaled (cond (not (boarded || aboard) && boards) cost 0) -ℤ cond boards price (pos 0))
+call_covers : (boarded aboard boards allowed required : Bool) (cost : ℕ) (price : ℤ) → aboard ≡ false → (boarded ≡ true → boards ≡ true)
+    → (boards ≡ true → allowed ≡ true) → (required ≡ true → boards ≡ true)
+    → (cond (allowed && not boarded) (cond required (scaled cost -ℤ price) (cond (int_lt (scaled cost -ℤ price) (pos 0)) (scaled cost -ℤ price) (pos 0)))
+    (pos 0) -ℤ cond boarded price (pos 0)) ≤ℤ (scaled (cond (not (boarded || aboard) && boards) cost 0) -ℤ cond boards price (pos 0))
 call_covers boarded true boards allowed required cost price e f g h = absurd (false≢true (sym e))
 call_covers true false false allowed required cost price e f g h = absurd (false≢true (f refl))
 call_covers true false true true required cost price e f g h = omega (arith, ints)
@@ -148,13 +171,18 @@ pub record HasBoardedIn (s : Snapshot) (c : ℕ) (allowed required : ℕ → Boo
   pub keeps : (j : ℕ) → j < call_count s → q.boarded j ≡ true → allowed j ≡ true
   pub serves : (j : ℕ) → j < call_count s → required j ≡ true → q.boarded j ≡ true
 
-calls_covered : (s : Snapshot) (c : ℕ) (price : ℕ → ℤ) (allowed required : ℕ → Bool) (up : Bool) (x : Course) (q : Progress) → HasBoardedIn s c allowed required x q → (int_sum_below (call_count s) (waiting_part s c price allowed required up x) -ℤ int_sum_where (call_count s) (reached s c x).boarded price) ≤ℤ (scaled (sum_below (call_count s) (joining_part s c (least_cost s c up x) (reached s c x) q)) -ℤ int_sum_where (call_count s) q.boarded price)
+calls_covered : (s : Snapshot) (c : ℕ) (price : ℕ → ℤ) (allowed required : ℕ → Bool) (up : Bool) (x : Course) (q : Progress)
+    → HasBoardedIn s c allowed required x q
+    → (int_sum_below (call_count s) (waiting_part s c price allowed required up x) -ℤ int_sum_where (call_count s) (reached s c x).boarded price) ≤ℤ
+    (scaled (sum_below (call_count s) (joining_part s c (least_cost s c up x) (reached s c x) q)) -ℤ int_sum_where (call_count s) q.boarded price)
 calls_covered s c price allowed required up x q h =
     let n = call_count s in
     let p = reached s c x in
     let waits = waiting_part s c price allowed required up x in
     let joins = joining_part s c (least_cost s c up x) p q in
-    let each = int_sum-le n (λ j. waits j -ℤ paid_part price p.boarded j) (λ j. scaled (joins j) -ℤ paid_part price q.boarded j) (λ j b. call_covers (p.boarded j) (is_aboard s c j) (q.boarded j) (allowed j) (required j) (least_cost s c up x j) (price j) (is_aboard-call s c j b) (h.stays j) (h.keeps j b) (h.serves j b)) in
+    let each = int_sum-le n (λ j. waits j -ℤ paid_part price p.boarded j) (λ j. scaled (joins j) -ℤ paid_part price q.boarded j)
+    (λ j b. call_covers (p.boarded j) (is_aboard s c j) (q.boarded j) (allowed j) (required j) (least_cost s c up x j) (price j) (is_aboard-call s c j b)
+    (h.stays j) (h.keeps j b) (h.serves j b)) in
     let old = int_sum-minus n waits (paid_part price p.boarded) in
     let new = int_sum-minus n (λ j. scaled (joins j)) (paid_part price q.boarded) in
     let whole = scaled-sum n joins in
@@ -162,22 +190,35 @@ calls_covered s c price allowed required up x q h =
 
 -- ---- the tour
 
-pub together : (settled straight joining whole : ℕ) (paid waiting paid' : ℤ) → (settled + straight) + joining ≤ whole → (waiting -ℤ paid) ≤ℤ (scaled joining -ℤ paid') → (((scaled settled +ℤ scaled straight) -ℤ paid) +ℤ waiting) ≤ℤ (scaled whole -ℤ paid')
+pub together : (settled straight joining whole : ℕ) (paid waiting paid' : ℤ) → (settled + straight) + joining ≤ whole
+    → (waiting -ℤ paid) ≤ℤ (scaled joining -ℤ paid') → (((scaled settled +ℤ scaled straight) -ℤ paid) +ℤ waiting) ≤ℤ (scaled whole -ℤ paid')
 together settled straight joining whole paid waiting paid' h k = omega (arith, ints, h, k)
 
-from_le : (s : Snapshot) (c : ℕ) (price : ℕ → ℤ) (allowed required : ℕ → Bool) (x : Course) (later : List Move) (z : Course) → IsAccepted s → IsStanding s c x → IsTimed s c (reached s c x) → Completes s c x later z → HasBoardedIn s c allowed required x (reached s c z) → bound_from s c price allowed required (may_still_board x) (reached s c x) ≤ℤ (scaled (settled_cost s c (reached s c z)) -ℤ int_sum_where (call_count s) (reached s c z).boarded price)
+from_le : (s : Snapshot) (c : ℕ) (price : ℕ → ℤ) (allowed required : ℕ → Bool) (x : Course) (later : List Move) (z : Course) → IsAccepted s → IsStanding s c x
+    → IsTimed s c (reached s c x) → Completes s c x later z → HasBoardedIn s c allowed required x (reached s c z)
+    → bound_from s c price allowed required (may_still_board x) (reached s c x) ≤ℤ
+    (scaled (settled_cost s c (reached s c z)) -ℤ int_sum_where (call_count s) (reached s c z).boarded price)
 from_le s c price allowed required x later z a h timed goes boards =
     let p = reached s c x in
     let q = reached s c z in
     let up = any_above s p in
-    together (settled_cost s c p) (sum_where (rider_count s) p.carried (cost_on_route s c up p (forced_stops s up p))) (sum_below (call_count s) (joining_part s c (least_cost s c up x) (reached s c x) q)) (settled_cost s c q) (int_sum_where (call_count s) p.boarded price) (int_sum_below (call_count s) (waiting_part s c price allowed required up x)) (int_sum_where (call_count s) q.boarded price) (riders_covered s c up (least_cost s c up x) x later z a h timed goes (least_joins s c up x later z a h timed goes)) (calls_covered s c price allowed required up x q boards)
+    together (settled_cost s c p) (sum_where (rider_count s) p.carried (cost_on_route s c up p (forced_stops s up p)))
+    (sum_below (call_count s) (joining_part s c (least_cost s c up x) (reached s c x) q)) (settled_cost s c q)
+    (int_sum_where (call_count s) p.boarded price) (int_sum_below (call_count s) (waiting_part s c price allowed required up x))
+    (int_sum_where (call_count s) q.boarded price)
+    (riders_covered s c up (least_cost s c up x) x later z a h timed goes (least_joins s c up x later z a h timed goes))
+    (calls_covered s c price allowed required up x q boards)
 
-pub boards_in : (s : Snapshot) (c : ℕ) (allowed required : ℕ → Bool) (x : Course) (later : List Move) (z : Course) (tour : List Stop) → IsAccepted s → IsStanding s c x → Completes s c x later z → ((j : ℕ) → j < call_count s → (reached s c z).boarded j ≡ is_boarded_in tour j) → IsTourWithin s c allowed required tour → HasBoardedIn s c allowed required x (reached s c z)
+pub boards_in : (s : Snapshot) (c : ℕ) (allowed required : ℕ → Bool) (x : Course) (later : List Move) (z : Course) (tour : List Stop) → IsAccepted s
+    → IsStanding s c x → Completes s c x later z → ((j : ℕ) → j < call_count s → (reached s c z).boarded j ≡ is_boarded_in tour j)
+    → IsTourWithin s c allowed required tour → HasBoardedIn s c allowed required x (reached s c z)
 boards_in s c allowed required x later z tour a h goes same within =
     let p = reached s c x in
     let q = reached s c z in
     record {
-      stays = λ j e. (let call = (placed_reached s c x h).kept.calls j e in let known = (moves_keep s c j x later z h (or_left (p.boarded j) (is_aboard s c j) e) goes.leads).known in sym (or_false_right (q.boarded j) (is_aboard s c j) (is_aboard-call s c j call)) ∙ known);
+      stays = λ j e. (let call = (placed_reached s c x h).kept.calls j e in
+          let known = (moves_keep s c j x later z h (or_left (p.boarded j) (is_aboard s c j) e) goes.leads).known in
+          sym (or_false_right (q.boarded j) (is_aboard s c j) (is_aboard-call s c j call)) ∙ known);
       keeps = λ j b e. within.keeps j (sym (same j b) ∙ e);
       serves = λ j b e. same j b ∙ within.serves j e;
     }
@@ -216,17 +257,20 @@ pub record FirstStop (s : Snapshot) (c : ℕ) (x next : Course) : Type 0 where
   pub still : (j : ℕ) → may_still_board x j ≡ true
   pub still_next : (j : ℕ) → may_still_board next j ≡ true
 
-no_stop : (s : Snapshot) (c j : ℕ) (before : Progress) (present : Option Stop) → (progress_after s c before present).begun ≡ false → list_all (λ i. ltb i j) (boards_of present) ≡ true
+no_stop : (s : Snapshot) (c j : ℕ) (before : Progress) (present : Option Stop) → (progress_after s c before present).begun ≡ false
+    → list_all (λ i. ltb i j) (boards_of present) ≡ true
 no_stop s c j before None e = refl
 no_stop s c j before (Some stop) e = absurd (false≢true (sym e))
 
 -- a car that comes to a floor makes its first move there
-pub first_stop : (s : Snapshot) (c : ℕ) (x : Course) (m : Move) (y : Course) → IsStanding s c x → has_leg s c (reached s c x) ≡ false → move_on s c x m ≡ Some y → FirstStop s c x y
+pub first_stop : (s : Snapshot) (c : ℕ) (x : Course) (m : Move) (y : Course) → IsStanding s c x → has_leg s c (reached s c x) ≡ false
+    → move_on s c x m ≡ Some y → FirstStop s c x y
 first_stop s c x (Leave g) y h leg leads =
     let r = reached s c x in
     let at = leave_leads_to s c x g y leads in
     let parts = no_leg r.begun (is_coming (state_of s c)) leg in
-    let first = not-false (may_stop_first s.building c s.moment (state_of s c) g) (sym (ap (λ (b : Bool). not b && not (may_stop_first s.building c s.moment (state_of s c) g)) parts.0) ∙ (stands_empty s c r g at.1).first) in
+    let first = not-false (may_stop_first s.building c s.moment (state_of s c) g)
+    (sym (ap (λ (b : Bool). not b && not (may_stop_first s.building c s.moment (state_of s c) g)) parts.0) ∙ (stands_empty s c r g at.1).first) in
     let floor = comes_to s c g (state_of s c) parts.1 first ∙ sym ((placed_reached s c x h).first parts.0) in
     record {
       there = leaving s c x g y leads ∙ ap (halted s c r) floor;
@@ -251,7 +295,8 @@ pub record StopsFirst (s : Snapshot) (c : ℕ) (x : Course) (later : List Move) 
   pub still_next : (j : ℕ) → may_still_board next j ≡ true
   pub completes : Completes s c next rest z
 
-pub stops_first : (s : Snapshot) (c : ℕ) (x : Course) (later : List Move) (z : Course) → IsStanding s c x → x.ended ≡ false → has_leg s c (reached s c x) ≡ false → Completes s c x later z → StopsFirst s c x later z
+pub stops_first : (s : Snapshot) (c : ℕ) (x : Course) (later : List Move) (z : Course) → IsStanding s c x → x.ended ≡ false
+    → has_leg s c (reached s c x) ≡ false → Completes s c x later z → StopsFirst s c x later z
 stops_first s c x [] z h open_end leg goes =
     let leads = goes.leads in
     let same : x ≡ z = cc in
@@ -270,27 +315,37 @@ stops_first s c x (m ∷ later) z h open_end leg goes =
     }
 
 -- the bound reads of the calls that may still board only whether they may
-pub still_same : (s : Snapshot) (c : ℕ) (price : ℕ → ℤ) (allowed required : ℕ → Bool) (t u : ℕ → Bool) (p : Progress) → ((j : ℕ) → t j ≡ u j) → bound_from s c price allowed required t p ≡ bound_from s c price allowed required u p
+pub still_same : (s : Snapshot) (c : ℕ) (price : ℕ → ℤ) (allowed required : ℕ → Bool) (t u : ℕ → Bool) (p : Progress) → ((j : ℕ) → t j ≡ u j)
+    → bound_from s c price allowed required t p ≡ bound_from s c price allowed required u p
 still_same s c price allowed required t u p h =
     let same : t ≡ u = λ i j. h j i in
     ap (λ (still : ℕ → Bool). bound_from s c price allowed required still p) same
 
-goes_le : (s : Snapshot) (c : ℕ) (price : ℕ → ℤ) (allowed required : ℕ → Bool) (x : Course) (later : List Move) (z : Course) (tour : List Stop) → IsAccepted s → IsStanding s c x → x.ended ≡ false → Completes s c x later z → ((j : ℕ) → j < call_count s → (reached s c z).boarded j ≡ is_boarded_in tour j) → IsTourWithin s c allowed required tour → bound_from s c price allowed required (may_still_board x) (route_start s c (reached s c x)) ≤ℤ (scaled (settled_cost s c (reached s c z)) -ℤ int_sum_where (call_count s) (reached s c z).boarded price)
+goes_le : (s : Snapshot) (c : ℕ) (price : ℕ → ℤ) (allowed required : ℕ → Bool) (x : Course) (later : List Move) (z : Course) (tour : List Stop) → IsAccepted s
+    → IsStanding s c x → x.ended ≡ false → Completes s c x later z → ((j : ℕ) → j < call_count s → (reached s c z).boarded j ≡ is_boarded_in tour j)
+    → IsTourWithin s c allowed required tour
+    → bound_from s c price allowed required (may_still_board x) (route_start s c (reached s c x)) ≤ℤ
+    (scaled (settled_cost s c (reached s c z)) -ℤ int_sum_where (call_count s) (reached s c z).boarded price)
 goes_le s c price allowed required x later z tour a h open_end goes same within =
     let q = reached s c z in
     let p = reached s c x in
     let most = scaled (settled_cost s c q) -ℤ int_sum_where (call_count s) q.boarded price in
     cond_both (has_leg s c p) p (halted s c p p.floor) (λ (r : Progress). bound_from s c price allowed required (may_still_board x) r ≤ℤ most)
-    (λ leg. from_le s c price allowed required x later z a h (timed_reached s c x h leg) goes (boards_in s c allowed required x later z tour a h goes same within))
+    (λ leg. from_le s c price allowed required x later z a h (timed_reached s c x h leg) goes
+    (boards_in s c allowed required x later z tour a h goes same within))
     (λ leg. let f = stops_first s c x later z h open_end leg goes in
     let y = f.next in
     let timed = timed_reached s c y f.standing (ap (has_leg s c) f.there) in
-    let le = from_le s c price allowed required y f.rest z a f.standing timed f.completes (boards_in s c allowed required y f.rest z tour a f.standing f.completes same within) in
+    let le = from_le s c price allowed required y f.rest z a f.standing timed f.completes
+    (boards_in s c allowed required y f.rest z tour a f.standing f.completes same within) in
     let moved = subst (λ (r : Progress). bound_from s c price allowed required (may_still_board y) r ≤ℤ most) f.there le in
-    subst (λ (v : ℤ). v ≤ℤ most) (still_same s c price allowed required (may_still_board y) (may_still_board x) (halted s c p p.floor) (λ j. f.still_next j ∙ sym (f.still j))) moved)
+    subst (λ (v : ℤ). v ≤ℤ most)
+    (still_same s c price allowed required (may_still_board y) (may_still_board x) (halted s c p p.floor) (λ j. f.still_next j ∙ sym (f.still j))) moved)
 
 -- an ended partial tour is the tour
-ended_le : (s : Snapshot) (c : ℕ) (price : ℕ → ℤ) (x : Course) (later : List Move) (z : Course) → x.ended ≡ true → moves_on s c (Some x) later ≡ Some z → (scaled (settled_of s c x) -ℤ int_sum_where (call_count s) (reached s c x).boarded price) ≤ℤ (scaled (settled_cost s c (reached s c z)) -ℤ int_sum_where (call_count s) (reached s c z).boarded price)
+ended_le : (s : Snapshot) (c : ℕ) (price : ℕ → ℤ) (x : Course) (later : List Move) (z : Course) → x.ended ≡ true → moves_on s c (Some x) later ≡ Some z
+    → (scaled (settled_of s c x) -ℤ int_sum_where (call_count s) (reached s c x).boarded price) ≤ℤ
+    (scaled (settled_cost s c (reached s c z)) -ℤ int_sum_where (call_count s) (reached s c z).boarded price)
 ended_le s c price x later z e leads =
     let same = nothing_follows s c x later z e leads in
     let value : Course → ℤ = λ w. scaled (settled_cost s c (reached s c w)) -ℤ int_sum_where (call_count s) (reached s c w).boarded price in
@@ -300,26 +355,31 @@ ended_le s c price x later z e leads =
     no_less v = omega (arith, ints)
 
 -- the tour's last moves lead to its end
-pub tour_completes : (s : Snapshot) (c : ℕ) (moves : List Move) (x : Course) (tour : List Stop) → course_of s c moves ≡ Some x → (begins : BeginsWith s tour moves) → IsFeasible s c tour → Completes s c x begins.0 (ended_at (map (risen s) tour) (after_stops s c (start_of s c) tour))
+pub tour_completes : (s : Snapshot) (c : ℕ) (moves : List Move) (x : Course) (tour : List Stop) → course_of s c moves ≡ Some x
+    → (begins : BeginsWith s tour moves) → IsFeasible s c tour → Completes s c x begins.0 (ended_at (map (risen s) tour) (after_stops s c (start_of s c) tour))
 tour_completes s c moves x tour leads begins feasible =
     let end : Course = ended_at (map (risen s) tour) (after_stops s c (start_of s c) tour) in
     let whole = moves_reach s c tour feasible in
-    let later : moves_on s c (Some x) begins.0 ≡ Some end = sym (ap (λ (o : Option Course). moves_on s c o begins.0) leads) ∙ sym (moves_on-append s c (Some (course_start s c)) moves begins.0) ∙ sym (ap (course_of s c) begins.1) ∙ whole in
+    let later : moves_on s c (Some x) begins.0 ≡ Some end = sym (ap (λ (o : Option Course). moves_on s c o begins.0) leads)
+    ∙ sym (moves_on-append s c (Some (course_start s c)) moves begins.0) ∙ sym (ap (course_of s c) begins.1) ∙ whole in
     let over = (IsSound-moves s c (course_start s c) (moves_of s tour) end (IsSound-start s c) whole).over refl in
     let empty = nobody_carried (not end.before.begun && not (is_idle (state_of s c))) (any_below (rider_count s) end.before.carried) over in
     record { leads = later; ended = refl; empty = λ r lt. any_below-false (rider_count s) end.before.carried r empty lt }
 
 -- so the partial tour can end
-pub tour_can_end : (s : Snapshot) (c : ℕ) (moves : List Move) (x : Course) (tour : List Stop) → course_of s c moves ≡ Some x → BeginsWith s tour moves → IsFeasible s c tour → CanEnd s c x
+pub tour_can_end : (s : Snapshot) (c : ℕ) (moves : List Move) (x : Course) (tour : List Stop) → course_of s c moves ≡ Some x → BeginsWith s tour moves
+    → IsFeasible s c tour → CanEnd s c x
 tour_can_end s c moves x tour leads begins feasible = record {
   later = begins.0;
   last = ended_at (map (risen s) tour) (after_stops s c (start_of s c) tour);
   completes = tour_completes s c moves x tour leads begins feasible;
 }
 
-pub tour_paid : (s : Snapshot) (c : ℕ) (price : ℕ → ℤ) (tour : List Stop) → int_sum_where (call_count s) (after_stops s c (start_of s c) tour).boarded price ≡ prices_of_tour s price tour
+pub tour_paid : (s : Snapshot) (c : ℕ) (price : ℕ → ℤ) (tour : List Stop)
+    → int_sum_where (call_count s) (after_stops s c (start_of s c) tour).boarded price ≡ prices_of_tour s price tour
 tour_paid s c price tour =
-    int_sum-same (call_count s) (λ j. cond ((after_stops s c (start_of s c) tour).boarded j) (price j) (pos 0)) (λ j. cond (is_boarded_in tour j) (price j) (pos 0)) (λ j lt. ap (λ (v : Bool). cond v (price j) (pos 0)) (boarded_in s c tour j lt))
+    int_sum-same (call_count s) (λ j. cond ((after_stops s c (start_of s c) tour).boarded j) (price j) (pos 0))
+    (λ j. cond (is_boarded_in tour j) (price j) (pos 0)) (λ j lt. ap (λ (v : Bool). cond v (price j) (pos 0)) (boarded_in s c tour j lt))
 
 pub route_is_lower : RouteLaw
 route_is_lower aim moves x tour a b leads begins within =
@@ -329,5 +389,9 @@ route_is_lower aim moves x tour a b leads begins within =
     let goes = tour_completes s c moves x tour leads begins within.feasible in
     let boarded = λ (j : ℕ) (lt : j < call_count s). boarded_in s c tour j lt in
     let most = scaled (cost_of s c tour) -ℤ int_sum_where (call_count s) end.before.boarded aim.price in
-    let le : route_bound s c aim.price aim.allowed aim.required x ≤ℤ most = cond_both x.ended (scaled (settled_of s c x) -ℤ int_sum_where (call_count s) (reached s c x).boarded aim.price) (bound_from s c aim.price aim.allowed aim.required (may_still_board x) (route_start s c (reached s c x))) (λ (v : ℤ). v ≤ℤ most) (λ e. ended_le s c aim.price x begins.0 end e goes.leads) (λ e. goes_le s c aim.price aim.allowed aim.required x begins.0 end tour a (course_standing s c moves x a b leads) e goes boarded within) in
+    let le : route_bound s c aim.price aim.allowed aim.required x ≤ℤ most =
+    cond_both x.ended (scaled (settled_of s c x) -ℤ int_sum_where (call_count s) (reached s c x).boarded aim.price)
+    (bound_from s c aim.price aim.allowed aim.required (may_still_board x) (route_start s c (reached s c x))) (λ (v : ℤ). v ≤ℤ most)
+    (λ e. ended_le s c aim.price x begins.0 end e goes.leads)
+    (λ e. goes_le s c aim.price aim.allowed aim.required x begins.0 end tour a (course_standing s c moves x a b leads) e goes boarded within) in
     subst (λ (v : ℤ). route_bound s c aim.price aim.allowed aim.required x ≤ℤ (scaled (cost_of s c tour) -ℤ v)) (tour_paid s c aim.price tour) le

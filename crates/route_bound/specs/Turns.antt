@@ -20,8 +20,11 @@ use Rattle.route_bound.specs.ForcedRoute.{boards_from, cost_if_boarded, forced_s
 -- There and back takes two of them (which follows where the car serves a third floor:
 -- `there_and_back_takes_two` of `Slack.antt`).
 pub record IsStopTime (s : Snapshot) (c step : ℕ) : Type 0 where
-  pub detour : (a b d : ℕ) → serves s.building c a ≡ true → serves s.building c b ≡ true → serves s.building c d ≡ true → (a ≡ b → ⊥) → (b ≡ d → ⊥) → time_between s.building.travel a d + step ≤ time_between s.building.travel a b + time_between s.building.travel b d + (spec_of s c).opening + (spec_of s c).closing
-  pub back : (a b : ℕ) → serves s.building c a ≡ true → serves s.building c b ≡ true → (a ≡ b → ⊥) → 2 * step ≤ time_between s.building.travel a b + time_between s.building.travel b a + 2 * ((spec_of s c).opening + (spec_of s c).closing)
+  pub detour : (a b d : ℕ) → serves s.building c a ≡ true → serves s.building c b ≡ true → serves s.building c d ≡ true → (a ≡ b → ⊥) → (b ≡ d → ⊥)
+      → time_between s.building.travel a d + step ≤ time_between s.building.travel a b + time_between s.building.travel b d + (spec_of s c).opening +
+      (spec_of s c).closing
+  pub back : (a b : ℕ) → serves s.building c a ≡ true → serves s.building c b ≡ true → (a ≡ b → ⊥)
+      → 2 * step ≤ time_between s.building.travel a b + time_between s.building.travel b a + 2 * ((spec_of s c).opening + (spec_of s c).closing)
 
 -- A call with what the bound gains at most where it does not board, in thousandths.
 pub record Turn : Type 0 where
@@ -50,7 +53,8 @@ pub record IsTurn (floors : Snapshot → Progress → List ℕ) (a : Aim) (still
   pub waits : p.boarded turn.call ≡ false
   pub away : is_among (call_of a.snapshot turn.call).origin (floors a.snapshot p) ≡ false
   pub come : (call_of a.snapshot turn.call).released ≤ boards_first a.snapshot a.car still p turn.call
-  pub gain : a.required turn.call ≡ false → (pos turn.gain +ℤ scaled (cost_if_boarded a.snapshot a.car turn.call (boards_first a.snapshot a.car still p turn.call))) ≤ℤ a.price turn.call
+  pub gain : a.required turn.call ≡ false
+      → (pos turn.gain +ℤ scaled (cost_if_boarded a.snapshot a.car turn.call (boards_first a.snapshot a.car still p turn.call))) ≤ℤ a.price turn.call
   pub cost : unit ≤ 1000 * ((call_of a.snapshot turn.call).persons * (a.snapshot.building.wait_weight * step))
 
 -- the calls are of different queues
@@ -80,4 +84,6 @@ pub record AreTurns (floors : Snapshot → Progress → List ℕ) (a : Aim) (x :
 -- With what turns away from these floors add, the bound is still at most the value of each such tour.
 abbrev pub TurnsLaw : (floors : Snapshot → Progress → List ℕ) → Type 0
 TurnsLaw floors =
-    (a : Aim) (moves : List Move) (x : Course) (tour : List Stop) (step unit : ℕ) (turns : List Turn) → IsAccepted a.snapshot → a.car < car_count a.snapshot → course_of a.snapshot a.car moves ≡ Some x → x.ended ≡ false → AreTurns floors a x step unit turns → BeginsWith a.snapshot tour moves → IsTourWithin a.snapshot a.car a.allowed a.required tour → (route_bound_for a x +ℤ pos (sum_of_turns unit 0 turns)) ≤ℤ value_for a tour
+    (a : Aim) (moves : List Move) (x : Course) (tour : List Stop) (step unit : ℕ) (turns : List Turn) → IsAccepted a.snapshot → a.car < car_count a.snapshot
+    → course_of a.snapshot a.car moves ≡ Some x → x.ended ≡ false → AreTurns floors a x step unit turns → BeginsWith a.snapshot tour moves
+    → IsTourWithin a.snapshot a.car a.allowed a.required tour → (route_bound_for a x +ℤ pos (sum_of_turns unit 0 turns)) ≤ℤ value_for a tour

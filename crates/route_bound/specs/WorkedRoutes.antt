@@ -32,13 +32,20 @@ three_ways = record {
     travel_weight = 2;
     patience = 20000;
     patience_weight = 5;
-    cars = record { id = 7; capacity = 9; opening = 1100; closing = 700; boarding = 300; alighting = 900; serves = 63 } ∷ record { id = 8; capacity = 7; opening = 800; closing = 500; boarding = 400; alighting = 600; serves = 63 } ∷ record { id = 9; capacity = 8; opening = 1000; closing = 600; boarding = 350; alighting = 750; serves = 63 } ∷ [];
-    travel = record { floors = 6; times = 0 ∷ 3000 ∷ 4700 ∷ 7000 ∷ 8900 ∷ 10400 ∷ 3100 ∷ 0 ∷ 2600 ∷ 4900 ∷ 6800 ∷ 8300 ∷ 5300 ∷ 3500 ∷ 0 ∷ 3200 ∷ 5100 ∷ 6600 ∷ 6900 ∷ 5100 ∷ 2900 ∷ 0 ∷ 2800 ∷ 4300 ∷ 9300 ∷ 7500 ∷ 5300 ∷ 3700 ∷ 0 ∷ 2400 ∷ 11300 ∷ 9500 ∷ 7300 ∷ 5700 ∷ 3300 ∷ 0 ∷ [] };
+    cars = record { id = 7; capacity = 9; opening = 1100; closing = 700; boarding = 300; alighting = 900; serves = 63 }
+        ∷ record { id = 8; capacity = 7; opening = 800; closing = 500; boarding = 400; alighting = 600; serves = 63 }
+        ∷ record { id = 9; capacity = 8; opening = 1000; closing = 600; boarding = 350; alighting = 750; serves = 63 } ∷ [];
+    travel = record {
+      floors = 6;
+      times = 0 ∷ 3000 ∷ 4700 ∷ 7000 ∷ 8900 ∷ 10400 ∷ 3100 ∷ 0 ∷ 2600 ∷ 4900 ∷ 6800 ∷ 8300 ∷ 5300 ∷ 3500 ∷ 0 ∷ 3200 ∷ 5100 ∷ 6600
+          ∷ 6900 ∷ 5100 ∷ 2900 ∷ 0 ∷ 2800 ∷ 4300 ∷ 9300 ∷ 7500 ∷ 5300 ∷ 3700 ∷ 0 ∷ 2400 ∷ 11300 ∷ 9500 ∷ 7300 ∷ 5700 ∷ 3300 ∷ 0 ∷ [];
+    };
   };
   moment = 6000;
   states = Idle 2 7000 ∷ Moving 0 true 5200 ∷ Coming 4 6500 ∷ [];
   aboard = group 30 1 3 2 4100 ∷ group 31 1 5 1 3900 ∷ group 32 2 4 1 2000 ∷ group 33 2 1 3 3000 ∷ group 34 2 0 2 2500 ∷ [];
-  calls = called 5 2 4 2 900 ∷ called 2 2 5 1 950 ∷ called 9 3 5 1 1400 ∷ called 12 4 5 1 1500 ∷ called 14 5 1 2 1600 ∷ called 16 4 2 1 1700 ∷ called 18 0 3 1 1800 ∷ called 20 1 0 1 2200 ∷ [];
+  calls = called 5 2 4 2 900 ∷ called 2 2 5 1 950 ∷ called 9 3 5 1 1400 ∷ called 12 4 5 1 1500 ∷ called 14 5 1 2 1600 ∷ called 16 4 2 1 1700
+      ∷ called 18 0 3 1 1800 ∷ called 20 1 0 1 2200 ∷ [];
 }
 
 abbrev route_price : ℕ → ℤ
@@ -72,7 +79,8 @@ opens_along c x =
 
 abbrev boards_along : ℕ → Course → List ℕ
 boards_along c x =
-    let p = route_start three_ways c (reached three_ways c x) in map (boards_from three_ways c (any_above three_ways p) p (stops_at c x) (may_still_board x)) (range_with_len 0 8)
+    let p = route_start three_ways c (reached three_ways c x) in
+    map (boards_from three_ways c (any_above three_ways p) p (stops_at c x) (may_still_board x)) (range_with_len 0 8)
 
 -- the forced stops, the moments at which the doors are open there, those at which each call can board, and
 -- the bound
@@ -91,25 +99,35 @@ pub record AreRoutes : Type 0 where
   pub stopped : RouteIs 0 (Leave 2 ∷ []) ([]) ([]) (8100 ∷ 8100 ∷ 13100 ∷ 15000 ∷ 16500 ∷ 15000 ∷ 15200 ∷ 13400 ∷ []) (negsuc 1363501119)
   -- after the last forced stop board: a call whose index has passed at the stop, and one that goes the other
   -- way
-  pub passed_index : RouteIs 0 (Leave 2 ∷ Board 1 ∷ []) (5 ∷ []) (16800 ∷ []) (26800 ∷ 26800 ∷ 13400 ∷ 15300 ∷ 16800 ∷ 22800 ∷ 30800 ∷ 29000 ∷ []) (negsuc 1207351055)
+  pub passed_index : RouteIs 0 (Leave 2 ∷ Board 1 ∷ []) (5 ∷ []) (16800 ∷ []) (26800 ∷ 26800 ∷ 13400 ∷ 15300 ∷ 16800 ∷ 22800 ∷ 30800 ∷ 29000 ∷ [])
+      (negsuc 1207351055)
   -- two forced stops with alighting between
-  pub two_stops : RouteIs 0 (Leave 2 ∷ Board 0 ∷ Board 1 ∷ []) (4 ∷ 5 ∷ []) (15900 ∷ 21900 ∷ []) (31900 ∷ 31900 ∷ 14000 ∷ 15900 ∷ 21900 ∷ 27900 ∷ 35900 ∷ 34100 ∷ []) (negsuc 1151551125)
-  pub between : RouteIs 0 (Leave 2 ∷ Board 0 ∷ Board 1 ∷ Leave 3 ∷ []) (4 ∷ 5 ∷ []) (18600 ∷ 24600 ∷ []) (34600 ∷ 34600 ∷ 14000 ∷ 18600 ∷ 24600 ∷ 30600 ∷ 38600 ∷ 36800 ∷ []) (negsuc 1070551125)
-  pub one_left : RouteIs 0 (Leave 2 ∷ Board 0 ∷ Board 1 ∷ Leave 3 ∷ Board 2 ∷ Leave 4 ∷ []) (5 ∷ []) (24900 ∷ []) (35800 ∷ 35800 ∷ 34200 ∷ 18900 ∷ 24900 ∷ 31800 ∷ 39800 ∷ 38000 ∷ []) (negsuc 1045351125)
+  pub two_stops : RouteIs 0 (Leave 2 ∷ Board 0 ∷ Board 1 ∷ []) (4 ∷ 5 ∷ []) (15900 ∷ 21900 ∷ [])
+      (31900 ∷ 31900 ∷ 14000 ∷ 15900 ∷ 21900 ∷ 27900 ∷ 35900 ∷ 34100 ∷ []) (negsuc 1151551125)
+  pub between : RouteIs 0 (Leave 2 ∷ Board 0 ∷ Board 1 ∷ Leave 3 ∷ []) (4 ∷ 5 ∷ []) (18600 ∷ 24600 ∷ [])
+      (34600 ∷ 34600 ∷ 14000 ∷ 18600 ∷ 24600 ∷ 30600 ∷ 38600 ∷ 36800 ∷ []) (negsuc 1070551125)
+  pub one_left : RouteIs 0 (Leave 2 ∷ Board 0 ∷ Board 1 ∷ Leave 3 ∷ Board 2 ∷ Leave 4 ∷ []) (5 ∷ []) (24900 ∷ [])
+      (35800 ∷ 35800 ∷ 34200 ∷ 18900 ∷ 24900 ∷ 31800 ∷ 39800 ∷ 38000 ∷ []) (negsuc 1045351125)
   pub down : RouteIs 0 (Leave 4 ∷ Board 5 ∷ []) (2 ∷ []) (20600 ∷ []) (20600 ∷ 20600 ∷ 26500 ∷ 28400 ∷ 29900 ∷ 28400 ∷ 28600 ∷ 26800 ∷ []) (negsuc 1006101067)
-  pub up_from_there : RouteIs 0 (Leave 4 ∷ Board 3 ∷ []) (5 ∷ []) (17700 ∷ []) (27700 ∷ 27700 ∷ 26100 ∷ 23700 ∷ 17700 ∷ 23700 ∷ 31700 ∷ 29900 ∷ []) (negsuc 1136901061)
+  pub up_from_there : RouteIs 0 (Leave 4 ∷ Board 3 ∷ []) (5 ∷ []) (17700 ∷ []) (27700 ∷ 27700 ∷ 26100 ∷ 23700 ∷ 17700 ∷ 23700 ∷ 31700 ∷ 29900 ∷ [])
+      (negsuc 1136901061)
   -- a moving car with two forced stops: calls before the first, at it, between the two and behind it
   pub moving : RouteIs 1 ([]) (3 ∷ 5 ∷ []) (13000 ∷ 19800 ∷ []) (10700 ∷ 10700 ∷ 13000 ∷ 18300 ∷ 19800 ∷ 25000 ∷ 6000 ∷ 31200 ∷ []) (negsuc 1292601119)
-  pub before_the_first : RouteIs 1 (Leave 2 ∷ []) (3 ∷ 5 ∷ []) (15200 ∷ 22000 ∷ []) (10700 ∷ 10700 ∷ 15200 ∷ 20500 ∷ 22000 ∷ 27200 ∷ 35200 ∷ 33400 ∷ []) (negsuc 1101001119)
+  pub before_the_first : RouteIs 1 (Leave 2 ∷ []) (3 ∷ 5 ∷ []) (15200 ∷ 22000 ∷ []) (10700 ∷ 10700 ∷ 15200 ∷ 20500 ∷ 22000 ∷ 27200 ∷ 35200 ∷ 33400 ∷ [])
+      (negsuc 1101001119)
   -- a later index can still board at the stop
-  pub later_index : RouteIs 1 (Leave 2 ∷ Board 0 ∷ []) (3 ∷ 4 ∷ 5 ∷ []) (16000 ∷ 21300 ∷ 26200 ∷ []) (35400 ∷ 10700 ∷ 16000 ∷ 21300 ∷ 26200 ∷ 31400 ∷ 39400 ∷ 37600 ∷ []) (negsuc 972601119)
+  pub later_index : RouteIs 1 (Leave 2 ∷ Board 0 ∷ []) (3 ∷ 4 ∷ 5 ∷ []) (16000 ∷ 21300 ∷ 26200 ∷ [])
+      (35400 ∷ 10700 ∷ 16000 ∷ 21300 ∷ 26200 ∷ 31400 ∷ 39400 ∷ 37600 ∷ []) (negsuc 972601119)
   pub at_the_first : RouteIs 1 (Leave 3 ∷ []) (5 ∷ []) (19800 ∷ []) (29000 ∷ 29000 ∷ 13000 ∷ 18300 ∷ 19800 ∷ 25000 ∷ 33000 ∷ 31200 ∷ []) (negsuc 1138201049)
-  pub delivered : RouteIs 1 (Leave 3 ∷ Leave 4 ∷ Board 3 ∷ Leave 5 ∷ []) ([]) ([]) (32200 ∷ 32200 ∷ 30600 ∷ 28200 ∷ 22400 ∷ 28200 ∷ 36200 ∷ 34400 ∷ []) (negsuc 944401061)
+  pub delivered : RouteIs 1 (Leave 3 ∷ Leave 4 ∷ Board 3 ∷ Leave 5 ∷ []) ([]) ([]) (32200 ∷ 32200 ∷ 30600 ∷ 28200 ∷ 22400 ∷ 28200 ∷ 36200 ∷ 34400 ∷ [])
+      (negsuc 944401061)
   -- a coming car first lets off where it comes to
   pub coming : RouteIs 2 ([]) (1 ∷ 0 ∷ []) (17350 ∷ 24300 ∷ []) (32100 ∷ 32100 ∷ 34400 ∷ 36300 ∷ 37800 ∷ 7500 ∷ 24300 ∷ 17350 ∷ []) (negsuc 689901049)
   pub come : RouteIs 2 (Leave 4 ∷ []) (1 ∷ 0 ∷ []) (17350 ∷ 24300 ∷ []) (32100 ∷ 32100 ∷ 34400 ∷ 36300 ∷ 37800 ∷ 7500 ∷ 24300 ∷ 17350 ∷ []) (negsuc 689901049)
-  pub with_a_stop_more : RouteIs 2 (Leave 4 ∷ Board 5 ∷ []) (2 ∷ 1 ∷ 0 ∷ []) (15500 ∷ 21350 ∷ 28300 ∷ []) (36100 ∷ 36100 ∷ 38400 ∷ 40300 ∷ 41800 ∷ 40300 ∷ 28300 ∷ 21350 ∷ []) (negsuc 515501067)
-  pub further_down : RouteIs 2 (Leave 4 ∷ Leave 1 ∷ Board 7 ∷ []) (0 ∷ []) (24650 ∷ []) (33200 ∷ 33200 ∷ 35500 ∷ 37400 ∷ 38900 ∷ 37400 ∷ 24650 ∷ 31500 ∷ []) (negsuc 635251073)
+  pub with_a_stop_more : RouteIs 2 (Leave 4 ∷ Board 5 ∷ []) (2 ∷ 1 ∷ 0 ∷ []) (15500 ∷ 21350 ∷ 28300 ∷ [])
+      (36100 ∷ 36100 ∷ 38400 ∷ 40300 ∷ 41800 ∷ 40300 ∷ 28300 ∷ 21350 ∷ []) (negsuc 515501067)
+  pub further_down : RouteIs 2 (Leave 4 ∷ Leave 1 ∷ Board 7 ∷ []) (0 ∷ []) (24650 ∷ []) (33200 ∷ 33200 ∷ 35500 ∷ 37400 ∷ 38900 ∷ 37400 ∷ 24650 ∷ 31500 ∷ [])
+      (negsuc 635251073)
   pub emptied : RouteIs 2 (Leave 4 ∷ Leave 1 ∷ Leave 0 ∷ []) ([]) ([]) (32100 ∷ 32100 ∷ 34400 ∷ 36300 ∷ 37800 ∷ 36300 ∷ 24300 ∷ 30400 ∷ []) (negsuc 689901049)
   -- a call that is not allowed adds nothing
   pub not_allowed : bound_at 1 first_two (only 1) (Leave 2 ∷ []) ≡ Some (pos 100049924)

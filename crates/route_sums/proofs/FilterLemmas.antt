@@ -17,7 +17,8 @@ still_left false l t h = refl
 still_left true true t h = refl
 still_left true false t h = absurd (let e = h refl in cc)
 
-pub none_filtered : (n set left : ℕ) (test : ℕ → Bool) → n ≤ 128 → ((j : ℕ) → has set j ≡ true → j < n) → left ≡ set → IsFiltered n set test (members 128 left) set
+pub none_filtered : (n set left : ℕ) (test : ℕ → Bool) → n ≤ 128 → ((j : ℕ) → has set j ≡ true → j < n) → left ≡ set
+    → IsFiltered n set test (members 128 left) set
 none_filtered n set left test few within e =
     subst (λ (s : ℕ). IsFiltered n set test (members 128 s) set) (sym e) (record {
       below = members_below 128 set n within;
@@ -38,7 +39,8 @@ at_other s a r t p o new e h k = k ∙ and_true o ∙ h ∙ ap (λ (b : Bool). s
     and_true true = refl
     and_true false = refl
 
-pub one_filtered : (n set one out new : ℕ) (test : ℕ → Bool) (fails : Bool) (left rest : List ℕ) → IsFiltered n set test left out → left ≡ one ∷ rest → fails ≡ not (test one) → ((j : ℕ) → has new j ≡ (has out j && not ((j == one) && fails))) → IsFiltered n set test rest new
+pub one_filtered : (n set one out new : ℕ) (test : ℕ → Bool) (fails : Bool) (left rest : List ℕ) → IsFiltered n set test left out → left ≡ one ∷ rest
+    → fails ≡ not (test one) → ((j : ℕ) → has new j ≡ (has out j && not ((j == one) && fails))) → IsFiltered n set test rest new
 one_filtered n set one out new test fails left rest h is same fewer =
     let once = subst AreOnce is h.once in
     let within = subst (AllPass (has set)) is h.within in
@@ -46,7 +48,18 @@ one_filtered n set one out new test fails left rest h is same fewer =
       below = below_rest n one left rest h.below is;
       within = within.1;
       once = once.1;
-      out_is = λ j. elim (cases_Bool (j == one)) [ inl e ↦ (let at = eqb-true j one e in let first = ap (λ (xs : List ℕ). is_among j xs) is ∙ ap (λ (b : Bool). b || is_among j rest) (eq-eqb one j (sym at)) in at_one (has set j) (is_among j left) (is_among j rest) (test j) (has out j) (has new j) (ap (has set) at ∙ within.0) first (ap (λ (k : ℕ). is_among k rest) at ∙ once.0) (h.out_is j) (fewer j ∙ ap (λ (b : Bool). has out j && not (b && fails)) e ∙ ap (λ (b : Bool). has out j && not (true && b)) (same ∙ ap (λ (k : ℕ). not (test k)) (sym at)))) | inr e ↦ (let apart = eqb-false j one e in let skipped = ap (λ (xs : List ℕ). is_among j xs) is ∙ ap (λ (b : Bool). b || is_among j rest) (ne_eqb one j (λ s. apart (sym s))) in at_other (has set j) (is_among j left) (is_among j rest) (test j) fails (has out j) (has new j) skipped (h.out_is j) (fewer j ∙ ap (λ (b : Bool). has out j && not (b && fails)) e)) ];
+      out_is = λ j. elim (cases_Bool (j == one)) [
+        | inl e ↦ (let at = eqb-true j one e in
+            let first = ap (λ (xs : List ℕ). is_among j xs) is ∙ ap (λ (b : Bool). b || is_among j rest) (eq-eqb one j (sym at)) in
+            at_one (has set j) (is_among j left) (is_among j rest) (test j) (has out j) (has new j) (ap (has set) at ∙ within.0) first
+            (ap (λ (k : ℕ). is_among k rest) at ∙ once.0) (h.out_is j)
+            (fewer j ∙ ap (λ (b : Bool). has out j && not (b && fails)) e
+            ∙ ap (λ (b : Bool). has out j && not (true && b)) (same ∙ ap (λ (k : ℕ). not (test k)) (sym at))))
+        | inr e ↦ (let apart = eqb-false j one e in
+            let skipped = ap (λ (xs : List ℕ). is_among j xs) is ∙ ap (λ (b : Bool). b || is_among j rest) (ne_eqb one j (λ s. apart (sym s))) in
+            at_other (has set j) (is_among j left) (is_among j rest) (test j) fails (has out j) (has new j) skipped (h.out_is j)
+            (fewer j ∙ ap (λ (b : Bool). has out j && not (b && fails)) e))
+      ];
     }
 
 pub all_filtered : (n set out : ℕ) (test : ℕ → Bool) (left : List ℕ) → IsFiltered n set test left out → left ≡ [] → (j : ℕ) → has out j ≡ (has set j && test j)

@@ -1,5 +1,6 @@
 -- What calls add by rows: the sum of a row, its terms, and the places where they stand.
-use Rattle.std.proofs.Common.{◌≡◌, ℕ, suc, ◌+◌, ◌-◌, ◌*◌, ◌/◌, ◌%◌, ◌^◌, ◌<◌, ◌≤◌, true, cond, List, ◌∷◌, length, get_or, set, sym, ap, ◌∙◌, subst, inl, inr, arith}
+use Rattle.std.proofs.Common.{◌≡◌, ℕ, suc, ◌+◌, ◌-◌, ◌*◌, ◌/◌, ◌%◌, ◌^◌, ◌<◌, ◌≤◌, true, cond, List, ◌∷◌, length, get_or, set, sym, ap, ◌∙◌, subst, inl, inr}
+use Rattle.std.proofs.Common.{arith}
 use Rattle.std.specs.Prelude.{ℤ, pos, negsuc, neg_ℤ, ◌+ℤ◌, ◌-ℤ◌, ◌≤ℤ◌, int_lt}
 use Rattle.std.proofs.lemmas.Int.{ints, to_z-of_z, to_z_pos}
 use Rattle.std.proofs.lemmas.List.{get_or-set_same, get_or-set_other, length-set}
@@ -27,7 +28,8 @@ pub record IsRowSum (calls n : ℕ) (f : ℕ → ℤ) (left : List ℕ) (sum : �
   pub low : neg_ℤ (pos (3 * 10 ^ 16 * (128 - length left))) ≤ℤ sum
   pub high : sum ≤ℤ pos 0
 
-pub none_in_row : (calls left n : ℕ) (f : ℕ → ℤ) (sum : ℤ) → n ≤ 128 → ((j : ℕ) → has calls j ≡ true → j < n) → left ≡ calls → sum ≡ pos 0 → IsRowSum calls n f (members 128 left) sum
+pub none_in_row : (calls left n : ℕ) (f : ℕ → ℤ) (sum : ℤ) → n ≤ 128 → ((j : ℕ) → has calls j ≡ true → j < n) → left ≡ calls → sum ≡ pos 0
+    → IsRowSum calls n f (members 128 left) sum
 none_in_row calls left n f sum few within e g =
     record {
       so_far = none_so_far calls left n f sum few within e g;
@@ -35,7 +37,8 @@ none_in_row calls left n f sum few within e g =
       high = omega (arith, ints, g);
     }
 
-pub one_in_row : (calls n one : ℕ) (f : ℕ → ℤ) (left rest : List ℕ) (sum new : ℤ) → IsRowSum calls n f left sum → left ≡ one ∷ rest → new ≡ sum +ℤ f one → neg_ℤ (pos (3 * 10 ^ 16)) ≤ℤ f one → f one ≤ℤ pos 0 → IsRowSum calls n f rest new
+pub one_in_row : (calls n one : ℕ) (f : ℕ → ℤ) (left rest : List ℕ) (sum new : ℤ) → IsRowSum calls n f left sum → left ≡ one ∷ rest → new ≡ sum +ℤ f one
+    → neg_ℤ (pos (3 * 10 ^ 16)) ≤ℤ f one → f one ≤ℤ pos 0 → IsRowSum calls n f rest new
 one_in_row calls n one f left rest sum new h is e term_low term_high =
     let low = h.low in
     let high = h.high in
@@ -53,7 +56,8 @@ pub row_sum_low : (calls n : ℕ) (f : ℕ → ℤ) (left : List ℕ) (sum : ℤ
 row_sum_low calls n f left sum h = let low = h.low in omega (arith, ints, low)
 
 -- what is counted of a term
-pub counted_size : (t : ℤ) → neg_ℤ (pos (3 * 10 ^ 16)) ≤ℤ t → (neg_ℤ (pos (3 * 10 ^ 16)) ≤ℤ cond (int_lt t (pos 0)) t (pos 0)) × (cond (int_lt t (pos 0)) t (pos 0) ≤ℤ pos 0)
+pub counted_size : (t : ℤ) → neg_ℤ (pos (3 * 10 ^ 16)) ≤ℤ t → (neg_ℤ (pos (3 * 10 ^ 16)) ≤ℤ cond (int_lt t (pos 0)) t (pos 0))
+    × (cond (int_lt t (pos 0)) t (pos 0) ≤ℤ pos 0)
 counted_size t low = (grind (arith, ints, low), grind (arith, ints, low))
 
 fits_64 : (z : ℤ) → neg_ℤ (pos (9 * 10 ^ 18)) ≤ℤ z → z ≤ℤ pos (9 * 10 ^ 18) → SFits w64 z
@@ -65,7 +69,8 @@ pub stored_64 : (z : ℤ) → neg_ℤ (pos (9 * 10 ^ 18)) ≤ℤ z → z ≤ℤ 
 stored_64 z low high = to_z-of_z w64 z (fits_64 z low high)
 
 -- the part of a call more
-pub counted_stored : (sum new t z : ℤ) → neg_ℤ (pos (3 * 10 ^ 16)) ≤ℤ z → z ≤ℤ pos (10 ^ 18) → z ≡ t → new ≡ sum +ℤ cond (int_lt (to_z w64 (of_z w64 z)) (pos 0)) (to_z w64 (of_z w64 z)) (pos 0) → new ≡ sum +ℤ cond (int_lt t (pos 0)) t (pos 0)
+pub counted_stored : (sum new t z : ℤ) → neg_ℤ (pos (3 * 10 ^ 16)) ≤ℤ z → z ≤ℤ pos (10 ^ 18) → z ≡ t
+    → new ≡ sum +ℤ cond (int_lt (to_z w64 (of_z w64 z)) (pos 0)) (to_z w64 (of_z w64 z)) (pos 0) → new ≡ sum +ℤ cond (int_lt t (pos 0)) t (pos 0)
 counted_stored sum new t z low high is e =
     e ∙ ap (λ (v : ℤ). sum +ℤ cond (int_lt v (pos 0)) v (pos 0)) (stored_64 z (omega (arith, ints, low)) (omega (arith, ints, high)) ∙ is)
 
@@ -83,39 +88,59 @@ waits_more w m r way =
     whole : (x r : ℕ) → x ≤ (x - r) + r
     whole x r = omega arith
 
-pub term_low : (rate : CallRate) (way leaves : ℕ) (constant : ℤ) → constant ≡ (pos (1000 * rate.wait * way + 1000 * rate.ride) -ℤ pos (1000 * rate.wait * rate.released)) -ℤ rate.price → (constant +ℤ pos (1000 * rate.wait * leaves)) ≤ℤ (scaled (cost_at rate (leaves + way)) -ℤ rate.price)
+pub term_low : (rate : CallRate) (way leaves : ℕ) (constant : ℤ)
+    → constant ≡ (pos (1000 * rate.wait * way + 1000 * rate.ride) -ℤ pos (1000 * rate.wait * rate.released)) -ℤ rate.price
+    → (constant +ℤ pos (1000 * rate.wait * leaves)) ≤ℤ (scaled (cost_at rate (leaves + way)) -ℤ rate.price)
 term_low rate way leaves constant is =
     let more = waits_more rate.wait leaves rate.released way in
     let one = regrouped rate.wait way in
     let two = regrouped rate.wait rate.released in
     let three = regrouped rate.wait leaves in
-    low (1000 * rate.wait * way) (1000 * rate.wait * rate.released) (1000 * rate.wait * leaves) (rate.wait * way) (rate.wait * rate.released) (rate.wait * leaves) (rate.wait * ((leaves + way) - rate.released)) (rate.over * ((leaves + way) - rate.late)) rate.ride rate.price is one two three more
+    low (1000 * rate.wait * way) (1000 * rate.wait * rate.released) (1000 * rate.wait * leaves) (rate.wait * way) (rate.wait * rate.released)
+    (rate.wait * leaves) (rate.wait * ((leaves + way) - rate.released))
+    (rate.over * ((leaves + way) - rate.late)) rate.ride rate.price is one two three more
   where
-    low : (a b c x y z waits over ride : ℕ) (price : ℤ) → constant ≡ (pos (a + 1000 * ride) -ℤ pos b) -ℤ price → a ≡ 1000 * x → b ≡ 1000 * y → c ≡ 1000 * z → z + x ≤ waits + y → (constant +ℤ pos c) ≤ℤ (scaled ((waits + over) + ride) -ℤ price)
+    low : (a b c x y z waits over ride : ℕ) (price : ℤ) → constant ≡ (pos (a + 1000 * ride) -ℤ pos b) -ℤ price → a ≡ 1000 * x → b ≡ 1000 * y → c ≡ 1000 * z
+        → z + x ≤ waits + y → (constant +ℤ pos c) ≤ℤ (scaled ((waits + over) + ride) -ℤ price)
     low a b c x y z waits over ride price is one two three more = omega (arith, ints, is, one, two, three, more)
 
 -- the constant, as the code finds it
-pub constant_stored : (later sooner : ℕ) (price : ℤ) → later ≤ 2 * 10 ^ 15 → sooner ≤ 8 * 10 ^ 15 → neg_ℤ (pos (10 ^ 16)) ≤ℤ price → price ≤ℤ pos (10 ^ 16) → to_z w64 (of_z w64 (to_z w64 (of_z w64 (to_z w64 later -ℤ to_z w64 sooner)) -ℤ to_z w64 (of_z w64 (to_z w128 (of_z w128 price))))) ≡ (pos later -ℤ pos sooner) -ℤ price
+pub constant_stored : (later sooner : ℕ) (price : ℤ) → later ≤ 2 * 10 ^ 15 → sooner ≤ 8 * 10 ^ 15 → neg_ℤ (pos (10 ^ 16)) ≤ℤ price → price ≤ℤ pos (10 ^ 16)
+    → to_z w64 (of_z w64 (to_z w64 (of_z w64 (to_z w64 later -ℤ to_z w64 sooner)) -ℤ to_z w64 (of_z w64 (to_z w128 (of_z w128 price)))))
+    ≡ (pos later -ℤ pos sooner) -ℤ price
 constant_stored later sooner price small less low high =
     let one : to_z w64 later ≡ pos later = to_z_pos w64 later (omega (arith, small)) in
     let two : to_z w64 sooner ≡ pos sooner = to_z_pos w64 sooner (omega (arith, less)) in
-    let three : to_z w64 (of_z w64 (to_z w128 (of_z w128 price))) ≡ price = ap (λ (z : ℤ). to_z w64 (of_z w64 z)) (stored price (omega (arith, ints, low)) (omega (arith, ints, high))) ∙ stored_64 price (omega (arith, ints, low)) (omega (arith, ints, high)) in
-    let apart : to_z w64 (of_z w64 (to_z w64 later -ℤ to_z w64 sooner)) ≡ (pos later -ℤ pos sooner) = ap (λ (z : ℤ). to_z w64 (of_z w64 (z -ℤ to_z w64 sooner))) one ∙ ap (λ (z : ℤ). to_z w64 (of_z w64 (pos later -ℤ z))) two ∙ stored_64 (pos later -ℤ pos sooner) (omega (arith, ints, less)) (omega (arith, ints, small)) in
-    ap (λ (z : ℤ). to_z w64 (of_z w64 (z -ℤ to_z w64 (of_z w64 (to_z w128 (of_z w128 price)))))) apart ∙ ap (λ (z : ℤ). to_z w64 (of_z w64 ((pos later -ℤ pos sooner) -ℤ z))) three ∙ stored_64 ((pos later -ℤ pos sooner) -ℤ price) (omega (arith, ints, less, high)) (omega (arith, ints, small, low))
+    let three : to_z w64 (of_z w64 (to_z w128 (of_z w128 price))) ≡ price =
+    ap (λ (z : ℤ). to_z w64 (of_z w64 z)) (stored price (omega (arith, ints, low)) (omega (arith, ints, high)))
+    ∙ stored_64 price (omega (arith, ints, low)) (omega (arith, ints, high)) in
+    let apart : to_z w64 (of_z w64 (to_z w64 later -ℤ to_z w64 sooner)) ≡ (pos later -ℤ pos sooner) =
+    ap (λ (z : ℤ). to_z w64 (of_z w64 (z -ℤ to_z w64 sooner))) one ∙ ap (λ (z : ℤ). to_z w64 (of_z w64 (pos later -ℤ z))) two
+    ∙ stored_64 (pos later -ℤ pos sooner) (omega (arith, ints, less)) (omega (arith, ints, small)) in
+    ap (λ (z : ℤ). to_z w64 (of_z w64 (z -ℤ to_z w64 (of_z w64 (to_z w128 (of_z w128 price)))))) apart
+    ∙ ap (λ (z : ℤ). to_z w64 (of_z w64 ((pos later -ℤ pos sooner) -ℤ z))) three
+    ∙ stored_64 ((pos later -ℤ pos sooner) -ℤ price) (omega (arith, ints, less, high)) (omega (arith, ints, small, low))
 
-pub term_is : (rate : CallRate) (way : ℕ) (constant : ℤ) → rate.wait ≤ 8000 → rate.ride ≤ 1600000000000 → rate.released ≤ 1000000000 → HasRow rate.is_required rate.price → way ≤ 20060000 → constant ≡ to_z w64 (of_z w64 (to_z w64 (of_z w64 (to_z w64 (1000 * rate.wait * way + 1000 * rate.ride) -ℤ to_z w64 (1000 * rate.wait * rate.released))) -ℤ to_z w64 (of_z w64 (to_z w128 (of_z w128 rate.price))))) → IsTermOf rate way (record { constant = constant; weight = 1000 * rate.wait })
+pub term_is : (rate : CallRate) (way : ℕ) (constant : ℤ) → rate.wait ≤ 8000 → rate.ride ≤ 1600000000000 → rate.released ≤ 1000000000
+    → HasRow rate.is_required rate.price → way ≤ 20060000
+    → constant ≡ to_z w64 (of_z w64
+    (to_z w64 (of_z w64 (to_z w64 (1000 * rate.wait * way + 1000 * rate.ride) -ℤ to_z w64 (1000 * rate.wait * rate.released))) -ℤ to_z w64
+    (of_z w64 (to_z w128 (of_z w128 rate.price))))) → IsTermOf rate way (record { constant = constant; weight = 1000 * rate.wait })
 term_is rate way constant wait ride released worth short stored_is =
     let low = worth.least in
     let high = worth.most in
     let ways = product_small (1000 * rate.wait) way 8000000 20060000 (omega (arith, wait)) short in
     let frees = product_small (1000 * rate.wait) rate.released 8000000 1000000000 (omega (arith, wait)) released in
-    let is : constant ≡ (pos (1000 * rate.wait * way + 1000 * rate.ride) -ℤ pos (1000 * rate.wait * rate.released)) -ℤ rate.price = stored_is ∙ constant_stored (1000 * rate.wait * way + 1000 * rate.ride) (1000 * rate.wait * rate.released) rate.price (omega (arith, ways, ride)) (omega (arith, frees)) low high in
+    let is : constant ≡ (pos (1000 * rate.wait * way + 1000 * rate.ride) -ℤ pos (1000 * rate.wait * rate.released)) -ℤ rate.price = stored_is
+    ∙ constant_stored (1000 * rate.wait * way + 1000 * rate.ride) (1000 * rate.wait * rate.released) rate.price (omega (arith, ways, ride))
+    (omega (arith, frees)) low high in
     record {
       low = λ leaves. term_low rate way leaves constant is;
       size = sized (1000 * rate.wait * way) (1000 * rate.wait * rate.released) is ways frees;
     }
   where
-    sized : (a b : ℕ) → constant ≡ (pos (a + 1000 * rate.ride) -ℤ pos b) -ℤ rate.price → a ≤ 8000000 * 20060000 → b ≤ 8000000 * 1000000000 → IsTermSize (record { constant = constant; weight = 1000 * rate.wait })
+    sized : (a b : ℕ) → constant ≡ (pos (a + 1000 * rate.ride) -ℤ pos b) -ℤ rate.price → a ≤ 8000000 * 20060000 → b ≤ 8000000 * 1000000000
+        → IsTermSize (record { constant = constant; weight = 1000 * rate.wait })
     sized a b is ways frees =
         let low = worth.least in
         let high = worth.most in
@@ -137,18 +162,28 @@ term_size_low term leaves h = above term.constant (term.weight * leaves) h.least
 -- the term is that of call j from floor f, where the call has a row
 abbrev pub IsTermFor : Snapshot → (c : ℕ) → List CallRate → (f j : ℕ) → RowTerm → Type 0
 IsTermFor s c rates f j term =
-    (get_or rates j no_rate).has_row ≡ true → IsTermOf (get_or rates j no_rate) (time_between s.building.travel f (get_or rates j no_rate).origin + (spec_of s c).opening) term
+    (get_or rates j no_rate).has_row ≡ true
+    → IsTermOf (get_or rates j no_rate) (time_between s.building.travel f (get_or rates j no_rate).origin + (spec_of s c).opening) term
 
 -- those of the places below one are put
 pub record ArePutBefore (s : Snapshot) (c : ℕ) (rates : List CallRate) (n : ℕ) (terms : List RowTerm) : Type 0 where
   pub size : length terms ≡ floor_count s.building * length rates
   pub each : (f j : ℕ) → j < length rates → f * length rates + j < n → IsTermAt s c rates terms f j
 
-pub one_put : (s : Snapshot) (c : ℕ) (rates : List CallRate) (n : ℕ) (terms new : List RowTerm) (term : RowTerm) → ArePutBefore s c rates n terms → n < length terms → IsTermFor s c rates (n / length rates) (n % length rates) term → new ≡ set terms n term → ArePutBefore s c rates (n + 1) new
+pub one_put : (s : Snapshot) (c : ℕ) (rates : List CallRate) (n : ℕ) (terms new : List RowTerm) (term : RowTerm) → ArePutBefore s c rates n terms
+    → n < length terms → IsTermFor s c rates (n / length rates) (n % length rates) term → new ≡ set terms n term → ArePutBefore s c rates (n + 1) new
 one_put s c rates n terms new term h lt is same =
     subst (ArePutBefore s c rates (n + 1)) (sym same) (record {
       size = length-set terms n term ∙ h.size;
-      each = λ f j below before. elim (eq-or-lt_of_le (up_to before)) [ inl e ↦ (let at_f : n / length rates ≡ f = ap (λ (k : ℕ). k / length rates) (sym e) ∙ div-mul-add f (length rates) j below in let at_j : n % length rates ≡ j = ap (λ (k : ℕ). k % length rates) (sym e) ∙ mod-mul-add f (length rates) j below in let here : IsTermFor s c rates f j term = subst (λ (k : ℕ). IsTermFor s c rates f k term) at_j (subst (λ (k : ℕ). IsTermFor s c rates k (n % length rates) term) at_f is) in subst (IsTermFor s c rates f j) (sym (ap (λ (k : ℕ). get_or (set terms n term) k no_term) e ∙ get_or-set_same terms n term no_term lt)) here) | inr less ↦ subst (IsTermFor s c rates f j) (sym (get_or-set_other terms n (f * length rates + j) term no_term (λ e. absurd (omega (arith, e, less))))) (h.each f j below less) ];
+      each = λ f j below before. elim (eq-or-lt_of_le (up_to before)) [
+        | inl e ↦ (let at_f : n / length rates ≡ f = ap (λ (k : ℕ). k / length rates) (sym e) ∙ div-mul-add f (length rates) j below in
+            let at_j : n % length rates ≡ j = ap (λ (k : ℕ). k % length rates) (sym e) ∙ mod-mul-add f (length rates) j below in
+            let here : IsTermFor s c rates f j term =
+            subst (λ (k : ℕ). IsTermFor s c rates f k term) at_j (subst (λ (k : ℕ). IsTermFor s c rates k (n % length rates) term) at_f is) in
+            subst (IsTermFor s c rates f j) (sym (ap (λ (k : ℕ). get_or (set terms n term) k no_term) e ∙ get_or-set_same terms n term no_term lt)) here)
+        | inr less ↦ subst (IsTermFor s c rates f j)
+            (sym (get_or-set_other terms n (f * length rates + j) term no_term (λ e. absurd (omega (arith, e, less))))) (h.each f j below less)
+      ];
     })
   where
     up_to : {k : ℕ} → k < n + 1 → k ≤ n
@@ -172,7 +207,8 @@ row_placed f len floors n lt size =
     next : f < floors → f + 1 ≤ floors
     next h = omega (arith, h)
 
-pub all_put : (s : Snapshot) (c : ℕ) (rates : List CallRate) (n : ℕ) (terms : List RowTerm) → ArePutBefore s c rates n terms → length terms ≤ n → AreTerms s c rates terms
+pub all_put : (s : Snapshot) (c : ℕ) (rates : List CallRate) (n : ℕ) (terms : List RowTerm) → ArePutBefore s c rates n terms → length terms ≤ n
+    → AreTerms s c rates terms
 all_put s c rates n terms h le =
     record {
       size = h.size;

@@ -1,5 +1,6 @@
 -- Where a stand leads.
-use Rattle.std.proofs.Common.{◌≡◌, ℕ, ◌+◌, ◌-◌, ◌*◌, ◌<◌, ◌≤◌, Bool, true, false, cond, not, ◌&&◌, ◌||◌, eqb, ltb, min, refl, sym, ap, ◌∙◌, subst, inl, inr, arith, Option, Some, None}
+use Rattle.std.proofs.Common.{◌≡◌, ℕ, ◌+◌, ◌-◌, ◌*◌, ◌<◌, ◌≤◌, Bool, true, false, cond, not, ◌&&◌, ◌||◌, eqb, ltb, min, refl, sym, ap, ◌∙◌, subst, inl, inr}
+use Rattle.std.proofs.Common.{arith, Option, Some, None}
 use Rattle.std.specs.List.{list_all}
 use Rattle.std.specs.Prelude.{ℤ, pos}
 use Rattle.search_model.specs.Sums.{int_sum_where}
@@ -36,15 +37,30 @@ later true o o' l l' w op h k = h
 later false o o' l l' w op h k = omega (arith, h, k)
 
 -- the doors can be open no sooner than the stand tells
-pub soonest_low : (s : Snapshot) (c : ℕ) (newest : Option Newest) (q : Progress) (stand : Stand) (p : Progress) (g : ℕ) → IsStand s c newest q stand p → soonest s c stand g ≤ next_open s c p g
+pub soonest_low : (s : Snapshot) (c : ℕ) (newest : Option Newest) (q : Progress) (stand : Stand) (p : Progress) (g : ℕ) → IsStand s c newest q stand p
+    → soonest s c stand g ≤ next_open s c p g
 soonest_low s c newest q stand p g h =
     let t = s.building.travel in
     let low = later (p.begun && eqb g p.floor) stand.opened p.opened stand.leaves p.leaves (time_between t p.floor g) (spec_of s c).opening h.opened h.leaves in
-    subst (λ (b : Bool). cond (b && eqb g stand.place.floor) stand.opened (stand.leaves + time_between t stand.place.floor g + (spec_of s c).opening) ≤ next_open s c p g) (sym h.place.begun) (subst (λ (f : ℕ). cond (p.begun && eqb g f) stand.opened (stand.leaves + time_between t f g + (spec_of s c).opening) ≤ next_open s c p g) (sym h.place.floor) low)
+    subst (λ (b : Bool).
+    cond (b && eqb g stand.place.floor) stand.opened (stand.leaves + time_between t stand.place.floor g + (spec_of s c).opening) ≤ next_open s c p g)
+    (sym h.place.begun) (subst
+    (λ (f : ℕ). cond (p.begun && eqb g f) stand.opened (stand.leaves + time_between t f g + (spec_of s c).opening) ≤ next_open s c p g)
+    (sym h.place.floor) low)
 
 -- the progress, if it had left at the moment m
 abbrev pub leaving_from : Progress → (m : ℕ) → Progress
-leaving_from p m = record { begun = p.begun; floor = p.floor; opened = p.opened; leaves = m; boarded = p.boarded; carried = p.carried; boarded_at = p.boarded_at; delivered_at = p.delivered_at }
+leaving_from p m = record {
+  begun = p.begun;
+  floor = p.floor;
+  opened = p.opened;
+  leaves = m;
+  boarded = p.boarded;
+  carried = p.carried;
+  boarded_at = p.boarded_at;
+  delivered_at =
+      p.delivered_at;
+}
 
 leg_low : (b : Bool) (m m' way : ℕ) → m ≤ m' → cond b (m + way) m ≤ cond b (m' + way) m'
 leg_low true m m' way h = omega (arith, h)
@@ -55,11 +71,15 @@ arrival_low s c p m f h = leg_low (has_leg s c p) m p.leaves (time_between s.bui
 
 -- ---- a stop where nobody boards
 
-pub halts : (s : Snapshot) (c : ℕ) (newest : Option Newest) (q : Progress) (stand new : Stand) (p : Progress) (f cost : ℕ) → IsStand s c newest q stand p → f < floor_count s.building → Tracks s c new.place (halted s c p f) → ((g : ℕ) → has new.bound_for g ≡ (has stand.bound_for g && not (eqb g f))) → new.opened ≤ (halted s c p f).opened → new.leaves ≤ (halted s c p f).leaves → new.settled ≤ stand.settled + cost → cost ≤ leaving_cost s p f (halted s c p f).opened → IsStand s c newest q new (halted s c p f)
+pub halts : (s : Snapshot) (c : ℕ) (newest : Option Newest) (q : Progress) (stand new : Stand) (p : Progress) (f cost : ℕ) → IsStand s c newest q stand p
+    → f < floor_count s.building → Tracks s c new.place (halted s c p f) → ((g : ℕ) → has new.bound_for g ≡ (has stand.bound_for g && not (eqb g f)))
+    → new.opened ≤ (halted s c p f).opened → new.leaves ≤ (halted s c p f).leaves → new.settled ≤ stand.settled + cost
+    → cost ≤ leaving_cost s p f (halted s c p f).opened → IsStand s c newest q new (halted s c p f)
 halts s c newest q stand new p f cost h lt place bound opened leaves settled costs =
     let more = settled_more_once s c p (empty_stop f) h.kept (λ j e. absurd (both_ways (boards_at s (empty_stop f) j) (no_boards s f j) e)) in
     let old = h.settled in
-    let stays = λ (j : ℕ) (e : (halted s c p f).carried j ≡ true). (and_parts (p.carried j) (not (eqb (destination_of s j) f)) (sym (carried_on s c p f j) ∙ e)).0 in
+    let stays = λ (j : ℕ) (e : (halted s c p f).carried j ≡ true).
+    (and_parts (p.carried j) (not (eqb (destination_of s j) f)) (sym (carried_on s c p f j) ∙ e)).0 in
     record {
       place = place;
       bound_for = λ g. bound g ∙ ap (λ (b : Bool). b && not (eqb g f)) (h.bound_for g) ∙ goes_on_to s c p f g;
@@ -72,12 +92,16 @@ halts s c newest q stand new p f cost h lt place bound opened leaves settled cos
       boarded_at = λ j below e. ap (λ (b : Bool). cond b (halted s c p f).opened (p.boarded_at j)) (no_boards s f j) ∙ h.boarded_at j below (stays j e);
     }
 
-pub opened_low : (s : Snapshot) (c : ℕ) (p : Progress) (m f arrives opening opened most : ℕ) → m ≤ p.leaves → arrives ≡ arrival s c (leaving_from p m) f → opening ≡ (spec_of s c).opening → opened ≡ min (arrives + opening) most → opened ≤ (halted s c p f).opened
+pub opened_low : (s : Snapshot) (c : ℕ) (p : Progress) (m f arrives opening opened most : ℕ) → m ≤ p.leaves → arrives ≡ arrival s c (leaving_from p m) f
+    → opening ≡ (spec_of s c).opening → opened ≡ min (arrives + opening) most → opened ≤ (halted s c p f).opened
 opened_low s c p m f arrives opening opened most h is same cut =
     let low = arrival_low s c p m f h in
     omega (arith, low, is, same, cut)
 
-pub leaves_low : (s : Snapshot) (c : ℕ) (p : Progress) (f persons dwell opened leaves most : ℕ) → opened ≤ (halted s c p f).opened → persons ≡ persons_where s (gets_off s p f) → persons_where s (boards_at s (empty_stop f)) ≡ 0 → dwell ≡ (spec_of s c).alighting * persons + (spec_of s c).boarding * 0 + (spec_of s c).closing → leaves ≡ min (opened + dwell) most → leaves ≤ (halted s c p f).leaves
+pub leaves_low : (s : Snapshot) (c : ℕ) (p : Progress) (f persons dwell opened leaves most : ℕ) → opened ≤ (halted s c p f).opened
+    → persons ≡ persons_where s (gets_off s p f) → persons_where s (boards_at s (empty_stop f)) ≡ 0
+    → dwell ≡ (spec_of s c).alighting * persons + (spec_of s c).boarding * 0 + (spec_of s c).closing → leaves ≡ min (opened + dwell) most
+    → leaves ≤ (halted s c p f).leaves
 leaves_low s c p f persons dwell opened leaves most low off none is cut =
     let time = ap (λ (n : ℕ). (spec_of s c).alighting * n) off in
     let nobody = ap (λ (n : ℕ). (spec_of s c).boarding * n) none in
@@ -85,9 +109,21 @@ leaves_low s c p f persons dwell opened leaves most low off none is cut =
 
 -- ---- a call boards
 
-carries_more : (s : Snapshot) (c : ℕ) (place new : CarPlace) (j r : ℕ) → j < call_count s → new.visited ≡ place.visited → ((k : ℕ) → has new.carried k ≡ (has place.carried k || eqb k j)) → carries s c new.carried new.visited r ≡ (carries s c place.carried place.visited r || eqb r j)
+carries_more : (s : Snapshot) (c : ℕ) (place new : CarPlace) (j r : ℕ) → j < call_count s → new.visited ≡ place.visited
+    → ((k : ℕ) → has new.carried k ≡ (has place.carried k || eqb k j))
+    → carries s c new.carried new.visited r ≡ (carries s c place.carried place.visited r || eqb r j)
 carries_more s c place new j r lt same more =
-    elim (cases_Bool (ltb r (call_count s))) [ inl e ↦ ap (λ (b : Bool). cond b (has new.carried r) (group_carried s.aboard c new.visited (r - call_count s))) e ∙ more r ∙ ap (λ (b : Bool). b || eqb r j) (sym (ap (λ (b : Bool). cond b (has place.carried r) (group_carried s.aboard c place.visited (r - call_count s))) e)) | inr e ↦ (let le = ltb-false r (call_count s) e in ap (λ (b : Bool). cond b (has new.carried r) (group_carried s.aboard c new.visited (r - call_count s))) e ∙ ap (λ (v : ℕ). group_carried s.aboard c v (r - call_count s)) same ∙ or_false (group_carried s.aboard c place.visited (r - call_count s)) ∙ ap (λ (b : Bool). group_carried s.aboard c place.visited (r - call_count s) || b) (sym (ne_eqb r j (λ same. omega (arith, same, lt, le)))) ∙ ap (λ (b : Bool). b || eqb r j) (sym (ap (λ (b : Bool). cond b (has place.carried r) (group_carried s.aboard c place.visited (r - call_count s))) e))) ]
+    elim (cases_Bool (ltb r (call_count s))) [
+      | inl e ↦ ap (λ (b : Bool). cond b (has new.carried r) (group_carried s.aboard c new.visited (r - call_count s))) e ∙ more r
+          ∙ ap (λ (b : Bool). b || eqb r j)
+          (sym (ap (λ (b : Bool). cond b (has place.carried r) (group_carried s.aboard c place.visited (r - call_count s))) e))
+      | inr e ↦ (let le = ltb-false r (call_count s) e in
+          ap (λ (b : Bool). cond b (has new.carried r) (group_carried s.aboard c new.visited (r - call_count s))) e
+          ∙ ap (λ (v : ℕ). group_carried s.aboard c v (r - call_count s)) same ∙ or_false (group_carried s.aboard c place.visited (r - call_count s))
+          ∙ ap (λ (b : Bool). group_carried s.aboard c place.visited (r - call_count s) || b) (sym (ne_eqb r j (λ same. omega (arith, same, lt, le))))
+          ∙ ap (λ (b : Bool). b || eqb r j)
+          (sym (ap (λ (b : Bool). cond b (has place.carried r) (group_carried s.aboard c place.visited (r - call_count s))) e)))
+    ]
   where
     or_false : (a : Bool) → a ≡ (a || false)
     or_false true = refl
@@ -110,7 +146,10 @@ either true b h e = refl
 either false true h e = absurd (both_ways true e refl)
 either false false h e = h
 
-pub boards : (s : Snapshot) (c : ℕ) (before : Progress) (stop : Stop) (j : ℕ) (new_call : Newest) (stand new : Stand) → IsKept s c before → Boards s c before stop j → list_all (λ i. ltb i j) stop.boards ≡ true → new_call.call ≡ j → new_call.moment ≡ (make_stop s c before stop).opened → IsStand s c None (make_stop s c before stop) stand (make_stop s c before stop) → HasBoard s c stand new j → IsStand s c (Some new_call) (make_stop s c before stop) new (make_stop s c before (with_call_on stop j))
+pub boards : (s : Snapshot) (c : ℕ) (before : Progress) (stop : Stop) (j : ℕ) (new_call : Newest) (stand new : Stand) → IsKept s c before
+    → Boards s c before stop j → list_all (λ i. ltb i j) stop.boards ≡ true → new_call.call ≡ j → new_call.moment ≡ (make_stop s c before stop).opened
+    → IsStand s c None (make_stop s c before stop) stand (make_stop s c before stop) → HasBoard s c stand new j
+    → IsStand s c (Some new_call) (make_stop s c before stop) new (make_stop s c before (with_call_on stop j))
 boards s c before stop j new_call stand new kept on rises is_call is_moment h b =
     let p = make_stop s c before stop in
     let r = make_stop s c before (with_call_on stop j) in
@@ -130,7 +169,8 @@ boards s c before stop j new_call stand new kept on rises is_call is_moment h b 
         begun = b.begun ∙ h.place.begun;
         floor = b.floor ∙ h.place.floor;
         boarded = λ k below. b.boarded k ∙ ap (λ (z : Bool). z || eqb k j) (h.place.boarded k below) ∙ sym (boarded_more s c before stop j k lt);
-        carried = λ k below. carries_more s c stand.place new.place j k lt b.visited b.carried ∙ ap (λ (z : Bool). z || eqb k j) (h.place.carried k below) ∙ sym (carried_more s c before stop j k lt);
+        carried = λ k below. carries_more s c stand.place new.place j k lt b.visited b.carried ∙ ap (λ (z : Bool). z || eqb k j) (h.place.carried k below)
+            ∙ sym (carried_more s c before stop j k lt);
       };
       bound_for = λ f. b.bound_for f ∙ ap (λ (z : Bool). z || eqb f (call_of s j).destination) (h.bound_for f) ∙ goes_with s c before stop j f lt;
       kept = IsKept-stop s c before (with_call_on stop j) kept;
@@ -138,12 +178,24 @@ boards s c before stop j new_call stand new kept on rises is_call is_moment h b 
       opened = omega (arith, doors, same_open);
       leaves = omega (arith, more, persons, late, new_late);
       settled = omega (arith, old, same, settles);
-      known = λ k below e. elim (cases_Bool (eqb k j)) [ inl at ↦ or_left (eqb new_call.call k) (p.boarded k) (eq-eqb new_call.call k (is_call ∙ sym (eqb-true k j at))) | inr ne ↦ or_right (eqb new_call.call k) (p.boarded k) (h.known k below (was k e ne)) ];
-      boarded_at = λ k below e. elim (cases_Bool (eqb k j)) [ inl at ↦ (let same = eqb-true k j at in ap (λ (z : Bool). cond z p.opened (before.boarded_at k)) (ap (boards_at s (with_call_on stop j)) same ∙ on.present) ∙ sym is_moment ∙ sym (ap (λ (z : Bool). cond z new_call.moment (p.boarded_at k)) (eq-eqb new_call.call k (is_call ∙ sym same)))) | inr ne ↦ (let apart = eqb-false k j ne in ap (λ (z : Bool). cond z p.opened (before.boarded_at k)) (on.others k apart) ∙ sym (ap (λ (z : Bool). cond z new_call.moment (p.boarded_at k)) (ne_eqb new_call.call k (λ same. apart (sym same ∙ is_call))))) ];
+      known = λ k below e. elim (cases_Bool (eqb k j)) [
+        | inl at ↦ or_left (eqb new_call.call k) (p.boarded k) (eq-eqb new_call.call k (is_call ∙ sym (eqb-true k j at)))
+        | inr ne ↦ or_right (eqb new_call.call k) (p.boarded k) (h.known k below (was k e ne))
+      ];
+      boarded_at = λ k below e. elim (cases_Bool (eqb k j)) [
+        | inl at ↦ (let same = eqb-true k j at in
+            ap (λ (z : Bool). cond z p.opened (before.boarded_at k)) (ap (boards_at s (with_call_on stop j)) same ∙ on.present) ∙ sym is_moment
+            ∙ sym (ap (λ (z : Bool). cond z new_call.moment (p.boarded_at k)) (eq-eqb new_call.call k (is_call ∙ sym same))))
+        | inr ne ↦ (let apart = eqb-false k j ne in
+            ap (λ (z : Bool). cond z p.opened (before.boarded_at k)) (on.others k apart)
+            ∙ sym (ap (λ (z : Bool). cond z new_call.moment (p.boarded_at k)) (ne_eqb new_call.call k (λ same. apart (sym same ∙ is_call)))))
+      ];
     }
 
 -- the stand after the move
-pub board_stands : (s : Snapshot) (c : ℕ) (x y : Course) (j : ℕ) (new_call : Newest) (stand new : Stand) → IsStanding s c x → move_on s c x (Board j) ≡ Some y → new_call.call ≡ j → new_call.moment ≡ (reached s c x).opened → IsStand s c None (reached s c x) stand (reached s c x) → HasBoard s c stand new j → IsStand s c (Some new_call) (reached s c x) new (reached s c y)
+pub board_stands : (s : Snapshot) (c : ℕ) (x y : Course) (j : ℕ) (new_call : Newest) (stand new : Stand) → IsStanding s c x → move_on s c x (Board j) ≡ Some y
+    → new_call.call ≡ j → new_call.moment ≡ (reached s c x).opened → IsStand s c None (reached s c x) stand (reached s c x) → HasBoard s c stand new j
+    → IsStand s c (Some new_call) (reached s c x) new (reached s c y)
 board_stands s c x y j new_call stand new standing leads is_call is_moment h b =
     let at = board_leads_to s c x j y leads in
     let old : reached s c x ≡ make_stop s c x.before at.stop = ap (progress_after s c x.before) at.present in
@@ -152,16 +204,24 @@ board_stands s c x y j new_call stand new standing leads is_call is_moment h b =
     let on = boards_now s c x j y kept at in
     let here = subst (λ (p : Progress). IsStand s c None p stand p) old h in
     let there = boards s c x.before at.stop j new_call stand new kept on at.rises is_call (is_moment ∙ ap (λ (p : Progress). p.opened) old) here b in
-    subst (λ (p : Progress). IsStand s c (Some new_call) p new (reached s c y)) (sym old) (subst (λ (r : Progress). IsStand s c (Some new_call) (make_stop s c x.before at.stop) new r) (sym next) there)
+    subst (λ (p : Progress). IsStand s c (Some new_call) p new (reached s c y)) (sym old)
+    (subst (λ (r : Progress). IsStand s c (Some new_call) (make_stop s c x.before at.stop) new r) (sym next) there)
 
 -- ---- where the route begins
 
-pub starts_at : (s s' : Snapshot) (c c' : ℕ) (p : Progress) (leg : Bool) → s' ≡ s → c' ≡ c → has_leg s' c' p ≡ leg → route_start s c p ≡ cond leg p (halted s c p p.floor)
+pub starts_at : (s s' : Snapshot) (c c' : ℕ) (p : Progress) (leg : Bool) → s' ≡ s → c' ≡ c → has_leg s' c' p ≡ leg
+    → route_start s c p ≡ cond leg p (halted s c p p.floor)
 starts_at s s' c c' p leg same_s same_c is =
     let here : has_leg s c p ≡ leg = subst (λ (k : ℕ). has_leg s k p ≡ leg) same_c (subst (λ (t : Snapshot). has_leg t c' p ≡ leg) same_s is) in
     ap (λ (b : Bool). cond b p (halted s c p p.floor)) here
 
 -- nobody boards where it begins
-pub route_boarded : (s : Snapshot) (c : ℕ) (p : Progress) (price : ℕ → ℤ) → int_sum_where (call_count s) (route_start s c p).boarded price ≡ int_sum_where (call_count s) p.boarded price
+pub route_boarded : (s : Snapshot) (c : ℕ) (p : Progress) (price : ℕ → ℤ)
+    → int_sum_where (call_count s) (route_start s c p).boarded price ≡ int_sum_where (call_count s) p.boarded price
 route_boarded s c p price =
-    elim (cases_Bool (has_leg s c p)) [ inl e ↦ ap (λ (b : Bool). int_sum_where (call_count s) (cond b p (halted s c p p.floor)).boarded price) e | inr e ↦ ap (λ (b : Bool). int_sum_where (call_count s) (cond b p (halted s c p p.floor)).boarded price) e ∙ int_sum-same (call_count s) (λ j. cond ((halted s c p p.floor).boarded j) (price j) (pos 0)) (λ j. cond (p.boarded j) (price j) (pos 0)) (λ j lt. ap (λ (b : Bool). cond b (price j) (pos 0)) (boarded_on s c p p.floor j)) ]
+    elim (cases_Bool (has_leg s c p)) [
+      | inl e ↦ ap (λ (b : Bool). int_sum_where (call_count s) (cond b p (halted s c p p.floor)).boarded price) e
+      | inr e ↦ ap (λ (b : Bool). int_sum_where (call_count s) (cond b p (halted s c p p.floor)).boarded price) e
+          ∙ int_sum-same (call_count s) (λ j. cond ((halted s c p p.floor).boarded j) (price j) (pos 0)) (λ j. cond (p.boarded j) (price j) (pos 0))
+          (λ j lt. ap (λ (b : Bool). cond b (price j) (pos 0)) (boarded_on s c p p.floor j))
+    ]

@@ -18,7 +18,8 @@ added_from s c price required test p = int_sum_where (call_count s) test (λ j. 
 abbrev pub gathered : Snapshot → ℕ → (price : ℕ → ℤ) → (required along : ℕ → Bool) → (up : Bool) → Progress → List ℕ → (rest : ℕ → Bool) → ℤ
 gathered s c price required along up p [] rest = added_from s c price required rest p
 gathered s c price required along up p (f ∷ fs) rest =
-    added_from s c price required (boards_before s up p f along rest) p +ℤ gathered s c price required along up (halted s c p f) fs (λ j. rest j && not (along j && is_before up p.floor f (call_of s j).origin))
+    added_from s c price required (boards_before s up p f along rest) p +ℤ gathered s c price required along up (halted s c p f) fs
+    (λ j. rest j && not (along j && is_before up p.floor f (call_of s j).origin))
 
 -- no call adds less, and none more
 abbrev pub lowest : ℕ → ℤ

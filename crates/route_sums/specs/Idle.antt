@@ -20,8 +20,10 @@ boards_along s c along up p fs j = if along j then opens_at s c up p fs (call_of
 -- Each allowed call that has not boarded and is not in the set takes nothing off, as early as it can board.
 abbrev pub AreIdleBut : Snapshot → ℕ → (price : ℕ → ℤ) → (allowed required still : ℕ → Bool) → Progress → (waiting : ℕ) → Type 0
 AreIdleBut s c price allowed required still p waiting =
-    (j : ℕ) → j < call_count s → allowed j ≡ true → p.boarded j ≡ false → has waiting j ≡ false → pos 0 ≤ℤ part_if_boarded s c price required j (boards_first s c still p j)
+    (j : ℕ) → j < call_count s → allowed j ≡ true → p.boarded j ≡ false → has waiting j ≡ false
+    → pos 0 ≤ℤ part_if_boarded s c price required j (boards_first s c still p j)
 
 -- the same from where moves lead
 abbrev pub AreIdleAt : Aim → (waiting : ℕ) → Course → Type 0
-AreIdleAt a waiting x = AreIdleBut a.snapshot a.car a.price a.allowed a.required (may_still_board x) (route_start a.snapshot a.car (reached a.snapshot a.car x)) waiting
+AreIdleAt a waiting x =
+    AreIdleBut a.snapshot a.car a.price a.allowed a.required (may_still_board x) (route_start a.snapshot a.car (reached a.snapshot a.car x)) waiting

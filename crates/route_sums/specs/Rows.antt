@@ -1,5 +1,6 @@
 -- What calls add from each floor, as it grows with the moment at which a car leaves.
-use Rattle.std.specs.Prelude.{◌≡◌, ◌≤◌, ◌<◌, ℕ, ◌+◌, ◌-◌, ◌*◌, ◌^◌, ℤ, pos, neg_ℤ, ◌+ℤ◌, ◌-ℤ◌, ◌≤ℤ◌, int_lt, if◌then◌else◌, Bool, true, false, List, length, slice_index_or}
+use Rattle.std.specs.Prelude.{◌≡◌, ◌≤◌, ◌<◌, ℕ, ◌+◌, ◌-◌, ◌*◌, ◌^◌, ℤ, pos, neg_ℤ, ◌+ℤ◌, ◌-ℤ◌, ◌≤ℤ◌, int_lt, if◌then◌else◌, Bool, true, false, List, length}
+use Rattle.std.specs.Prelude.{slice_index_or}
 use Rattle.elevator_model.specs.Building.{floor_count}
 use Rattle.elevator_model.specs.Snapshot.{Snapshot, spec_of}
 use Rattle.elevator_model.specs.Travel.{time_between}
@@ -60,7 +61,9 @@ pub record BeginsApart (rates : List CallRate) (f j : ℕ) : Type 0 where
 -- the term of call j from floor f for car c, where the call has a row
 abbrev pub IsTermAt : Snapshot → (c : ℕ) → List CallRate → List RowTerm → (f j : ℕ) → Type 0
 IsTermAt s c rates terms f j =
-    (slice_index_or rates j no_rate).has_row ≡ true → IsTermOf (slice_index_or rates j no_rate) (time_between s.building.travel f (slice_index_or rates j no_rate).origin + (spec_of s c).opening) (slice_index_or terms (f * length rates + j) no_term)
+    (slice_index_or rates j no_rate).has_row ≡ true
+    → IsTermOf (slice_index_or rates j no_rate) (time_between s.building.travel f (slice_index_or rates j no_rate).origin + (spec_of s c).opening)
+    (slice_index_or terms (f * length rates + j) no_term)
 
 -- the terms are those of the calls at these rates, floor by floor
 pub record AreTerms (s : Snapshot) (c : ℕ) (rates : List CallRate) (terms : List RowTerm) : Type 0 where

@@ -46,4 +46,5 @@ pub record StandsFor (t : PartialTour) (newest : Option Newest) (stand : Stand) 
 -- the earliest moment at which the doors can be open at floor g, as the stand tells it
 abbrev pub soonest : Snapshot → ℕ → Stand → (g : ℕ) → ℕ
 soonest s c stand g =
-    if stand.place.begun && (g == stand.place.floor) then stand.opened else stand.leaves + time_between s.building.travel stand.place.floor g + (spec_of s c).opening
+    if stand.place.begun
+    && (g == stand.place.floor) then stand.opened else stand.leaves + time_between s.building.travel stand.place.floor g + (spec_of s c).opening

@@ -1,5 +1,6 @@
 -- How many partial tours a car can have.
-use Rattle.std.proofs.Common.{◌≡◌, ℕ, zero, suc, ◌+◌, ◌-◌, ◌*◌, ◌^◌, ◌<◌, ◌≤◌, ◌==◌, ltb, leb, Bool, true, false, cond, ◌&&◌, List, [], ◌∷◌, ◌++◌, length, map, sym, ap, subst, inl, inr, arith}
+use Rattle.std.proofs.Common.{◌≡◌, ℕ, zero, suc, ◌+◌, ◌-◌, ◌*◌, ◌^◌, ◌<◌, ◌≤◌, ◌==◌, ltb, leb, Bool, true, false, cond, ◌&&◌, List, [], ◌∷◌, ◌++◌, length, map}
+use Rattle.std.proofs.Common.{sym, ap, subst, inl, inr, arith}
 use Rattle.std.specs.Prelude.{Option, Some, None, is_some, filter, flat_map}
 use Rattle.std.specs.List.{range_with_len}
 use Rattle.std.proofs.lemmas.Bool.{cond_both, and_left, lt-leb}
@@ -66,18 +67,22 @@ abbrev lists_later : Snapshot → ℕ → (allowed : ℕ → Bool) → (keep : C
 lists_later s c allowed keep n moves x =
     flat_map (λ m. lists_at (lists_from s c allowed keep n (moves ++ m ∷ [])) (move_on s c x m)) (lawful_moves s c x allowed)
 
-length-lists_later : (s : Snapshot) (c : ℕ) (allowed : ℕ → Bool) (keep : Course → Bool) (n : ℕ) (moves : List Move) (x : Course) (k : ℕ) → ((ms : List Move) (y : Course) → length (lists_from s c allowed keep n ms y) ≤ k) → length (lists_later s c allowed keep n moves x) ≤ most_next s * k
+length-lists_later : (s : Snapshot) (c : ℕ) (allowed : ℕ → Bool) (keep : Course → Bool) (n : ℕ) (moves : List Move) (x : Course) (k : ℕ)
+    → ((ms : List Move) (y : Course) → length (lists_from s c allowed keep n ms y) ≤ k) → length (lists_later s c allowed keep n moves x) ≤ most_next s * k
 length-lists_later s c allowed keep n moves x k h =
-    let all = length-flat_map-le (λ m. lists_at (lists_from s c allowed keep n (moves ++ m ∷ [])) (move_on s c x m)) k (λ m. length-lists_at (lists_from s c allowed keep n (moves ++ m ∷ [])) k (move_on s c x m) (h (moves ++ m ∷ []))) (lawful_moves s c x allowed) in
+    let all = length-flat_map-le (λ m. lists_at (lists_from s c allowed keep n (moves ++ m ∷ [])) (move_on s c x m)) k
+    (λ m. length-lists_at (lists_from s c allowed keep n (moves ++ m ∷ [])) k (move_on s c x m) (h (moves ++ m ∷ []))) (lawful_moves s c x allowed) in
     let few = length-lawful_moves s c x allowed in
     let more = mul-le-mul_right k few in
     omega (arith, all, more)
 
-length-lists_from : (s : Snapshot) (c : ℕ) (allowed : ℕ → Bool) (keep : Course → Bool) (n : ℕ) (moves : List Move) (x : Course) → length (lists_from s c allowed keep n moves x) ≤ spread (most_next s) n
+length-lists_from : (s : Snapshot) (c : ℕ) (allowed : ℕ → Bool) (keep : Course → Bool) (n : ℕ) (moves : List Move) (x : Course)
+    → length (lists_from s c allowed keep n moves x) ≤ spread (most_next s) n
 length-lists_from s c allowed keep zero moves x = omega arith
 length-lists_from s c allowed keep (suc n) moves x =
     let later = length-lists_later s c allowed keep n moves x (spread (most_next s) n) (length-lists_from s c allowed keep n) in
-    cond_both (keep x) (moves ∷ lists_later s c allowed keep n moves x) [] (λ (l : List (List Move)). length l ≤ spread (most_next s) (suc n)) (λ e. omega (arith, later)) (λ e. omega arith)
+    cond_both (keep x) (moves ∷ lists_later s c allowed keep n moves x) [] (λ (l : List (List Move)). length l ≤ spread (most_next s) (suc n))
+    (λ e. omega (arith, later)) (λ e. omega arith)
 
 -- fewer than all lists of moves of that length
 spread-le : (b n : ℕ) → spread b (suc n) ≤ (b + 1) ^ n
@@ -104,7 +109,10 @@ most_aboard-at : (s : Snapshot) (n c : ℕ) → c < n → sum_where (length s.ab
 most_aboard-at s zero c h = absurd (omega arith)
 most_aboard-at s (suc n) c h =
     let le : c ≤ n = omega arith in
-    elim (eq-or-lt_of_le le) [ inl e ↦ subst (λ (i : ℕ). sum_where (length s.aboard) (λ k. (group_of s k).car == i) (λ _. 1) ≤ most_aboard s (suc n)) (sym e) (omega arith) | inr lt ↦ (let r = most_aboard-at s n c lt in omega (arith, r)) ]
+    elim (eq-or-lt_of_le le) [
+      | inl e ↦ subst (λ (i : ℕ). sum_where (length s.aboard) (λ k. (group_of s k).car == i) (λ _. 1) ≤ most_aboard s (suc n)) (sym e) (omega arith)
+      | inr lt ↦ (let r = most_aboard-at s n c lt in omega (arith, r))
+    ]
 
 call_not_aboard : (s : Snapshot) (c r : ℕ) → r < call_count s → is_aboard s c r ≡ false
 call_not_aboard s c r h = and_left _ _ (and_left (leb (call_count s) r) (ltb r (rider_count s)) (lt-leb (call_count s) r h))
@@ -112,7 +120,9 @@ call_not_aboard s c r h = and_left _ _ (and_left (leb (call_count s) r) (ltb r (
 group_aboard : (s : Snapshot) (c k : ℕ) → cond (is_aboard s c (call_count s + k)) 1 0 ≤ cond ((group_of s k).car == c) 1 0
 group_aboard s c k =
     let e : call_count s + k - call_count s ≡ k = omega arith in
-    subst (λ (i : ℕ). cond (leb (call_count s) (call_count s + k) && ltb (call_count s + k) (rider_count s) && ((group_of s i).car == c)) 1 0 ≤ cond ((group_of s k).car == c) 1 0) (sym e) (at_most (leb (call_count s) (call_count s + k) && ltb (call_count s + k) (rider_count s)) ((group_of s k).car == c))
+    subst (λ (i : ℕ). cond (leb (call_count s) (call_count s + k) && ltb (call_count s + k) (rider_count s) && ((group_of s i).car == c)) 1 0 ≤ cond
+    ((group_of s k).car == c) 1 0) (sym e)
+    (at_most (leb (call_count s) (call_count s + k) && ltb (call_count s + k) (rider_count s)) ((group_of s k).car == c))
   where
     at_most : (a b : Bool) → cond (a && b) 1 0 ≤ cond b 1 0
     at_most true b = omega arith
@@ -123,12 +133,14 @@ move_limit-le : (s : Snapshot) (c : ℕ) → c < car_count s → move_limit s c 
 move_limit-le s c h =
     let split = sum_below-split (call_count s) (length s.aboard) (λ r. cond (is_aboard s c r) 1 0) in
     let calls = sum_where-none (call_count s) (is_aboard s c) (λ _. 1) (λ k b. call_not_aboard s c k b) in
-    let groups = sum_below-le (length s.aboard) (λ k. cond (is_aboard s c (call_count s + k)) 1 0) (λ k. cond ((group_of s k).car == c) 1 0) (λ k b. group_aboard s c k) in
+    let groups = sum_below-le (length s.aboard) (λ k. cond (is_aboard s c (call_count s + k)) 1 0) (λ k. cond ((group_of s k).car == c) 1 0)
+    (λ k b. group_aboard s c k) in
     let most = most_aboard-at s (car_count s) c h in
     omega (arith, split, calls, groups, most)
 
 -- A car has fewer partial tours that pass any test than the sufficient limit, so fewer kept ones too.
-pub tested_lists-few : (s : Snapshot) (c : ℕ) (allowed : ℕ → Bool) (keep : Course → Bool) → c < car_count s → length (tested_lists s c allowed keep) < moves_enough s
+pub tested_lists-few : (s : Snapshot) (c : ℕ) (allowed : ℕ → Bool) (keep : Course → Bool) → c < car_count s
+    → length (tested_lists s c allowed keep) < moves_enough s
 tested_lists-few s c allowed keep h =
     let b = most_next s in
     let n = 3 * call_count s + sum_where (rider_count s) (is_aboard s c) (λ _. 1) in
@@ -140,7 +152,8 @@ tested_lists-few s c allowed keep h =
     let same : (b + 1) ^ move_limit s c ≡ (b + 1) ^ suc (suc n) = ap (λ (i : ℕ). (b + 1) ^ i) limit in
     let grown = pow-le-pow_right {n = b + 1} (omega arith) (move_limit-le s c h) in
     let base : b + 1 ≡ call_count s + floor_count s.building + 2 = omega arith in
-    let enough : (b + 1) ^ (3 * call_count s + most_aboard s (car_count s) + 2) ≡ moves_enough s = ap (λ (i : ℕ). i ^ (3 * call_count s + most_aboard s (car_count s) + 2)) base in
+    let enough : (b + 1) ^ (3 * call_count s + most_aboard s (car_count s) + 2) ≡ moves_enough s =
+    ap (λ (i : ℕ). i ^ (3 * call_count s + most_aboard s (car_count s) + 2)) base in
     omega (arith, all, spread_of, less, same, grown, enough)
 
 pub partial_tours-few : (s : Snapshot) (c : ℕ) (allowed : ℕ → Bool) → c < car_count s → length (partial_tours s c allowed) < moves_enough s

@@ -1,5 +1,6 @@
 -- Lists of partial tours: they stand in order, each passes the test, and lists of all with a property are one.
-use Rattle.std.proofs.Common.{◌≡◌, ℕ, zero, suc, ◌+◌, ◌<◌, ◌≤◌, Bool, true, false, ◌&&◌, List, [], ◌∷◌, ◌++◌, map, length, refl, sym, ap, ◌∙◌, subst, inl, inr, arith, append_assoc, append-nil, Option, Some, None}
+use Rattle.std.proofs.Common.{◌≡◌, ℕ, zero, suc, ◌+◌, ◌<◌, ◌≤◌, Bool, true, false, ◌&&◌, List, [], ◌∷◌, ◌++◌, map, length, refl, sym, ap, ◌∙◌, subst, inl, inr}
+use Rattle.std.proofs.Common.{arith, append_assoc, append-nil, Option, Some, None}
 use Rattle.std.specs.List.{flat_map, filter, range_with_len}
 use Rattle.std.specs.Option.{is_some}
 use Rattle.std.proofs.lemmas.Bool.{lt-ltb, ltb-true, cond_both, and_parts, both_ways, le-ltb, false≢true}
@@ -8,7 +9,8 @@ use Rattle.elevator_model.specs.declared.Move.TheVariants.{Board, Leave, End}
 use Rattle.elevator_model.specs.Building.{floor_count}
 use Rattle.elevator_model.specs.Snapshot.{Snapshot, call_count}
 use Rattle.elevator_model.specs.Partial.{Course, course_start, course_of, move_on, move_on_from, moves_on, all_moves, boards_allowed, lawful_moves}
-use Rattle.search_model.specs.Orders.{comes_before, IsBefore, Each, AreInOrder, IsAmongLists, ListsAll, AreAllowed, lists_at, lists_from, tested_lists, move_limit}
+use Rattle.search_model.specs.Orders.{comes_before, IsBefore, Each, AreInOrder, IsAmongLists, ListsAll, AreAllowed, lists_at, lists_from, tested_lists}
+use Rattle.search_model.specs.Orders.{move_limit}
 
 -- what some moves lead to
 abbrev pub lists_of : Snapshot → ℕ → (allowed : ℕ → Bool) → (keep : Course → Bool) → (n : ℕ) → List Move → Course → List Move → List (List Move)
@@ -55,7 +57,8 @@ later_filter t m (n ∷ ns) h = cond_both (t n) (n ∷ filter t ns) (filter t ns
 
 rise_filter : (t : Move → Bool) (ms : List Move) → MovesRise ms → MovesRise (filter t ms)
 rise_filter t [] h = tt
-rise_filter t (m ∷ ms) h = cond_both (t m) (m ∷ filter t ms) (filter t ms) MovesRise (λ e. (later_filter t m ms h.0, rise_filter t ms h.1)) (λ e. rise_filter t ms h.1)
+rise_filter t (m ∷ ms) h =
+    cond_both (t m) (m ∷ filter t ms) (filter t ms) MovesRise (λ e. (later_filter t m ms h.0, rise_filter t ms h.1)) (λ e. rise_filter t ms h.1)
 
 later_append : (m : Move) (a b : List Move) → AllLater m a → AllLater m b → AllLater m (a ++ b)
 later_append m [] b h k = k
@@ -75,19 +78,27 @@ board_leaves i a (suc n) = (refl, board_leaves i (a + 1) n)
 
 leaves_rise : (a n : ℕ) → MovesRise (map Leave (range_with_len a n) ++ End ∷ [])
 leaves_rise a zero = (tt, tt)
-leaves_rise a (suc n) = (later_append (Leave a) (map Leave (range_with_len (a + 1) n)) (End ∷ []) (leaves_later a (a + 1) n (omega arith)) (refl, tt), leaves_rise (a + 1) n)
+leaves_rise a (suc n) =
+    (later_append (Leave a) (map Leave (range_with_len (a + 1) n)) (End ∷ []) (leaves_later a (a + 1) n (omega arith)) (refl, tt), leaves_rise (a + 1) n)
 
 boards_rise : (a n b m : ℕ) → MovesRise (map Board (range_with_len a n) ++ (map Leave (range_with_len b m) ++ End ∷ []))
 boards_rise a zero b m = leaves_rise b m
-boards_rise a (suc n) b m =
-    (later_append (Board a) (map Board (range_with_len (a + 1) n)) (map Leave (range_with_len b m) ++ End ∷ []) (boards_later a (a + 1) n (omega arith)) (later_append (Board a) (map Leave (range_with_len b m)) (End ∷ []) (board_leaves a b m) (refl, tt)), boards_rise (a + 1) n b m)
+boards_rise a (suc n) b m = (
+  later_append (Board a) (map Board (range_with_len (a + 1) n)) (map Leave (range_with_len b m) ++ End ∷ []) (boards_later a (a + 1) n (omega arith))
+      (later_append (Board a) (map Leave (range_with_len b m)) (End ∷ []) (board_leaves a b m) (refl, tt)),
+  boards_rise (a + 1) n b m,
+)
 
 lawful_rise : (s : Snapshot) (c : ℕ) (x : Course) (allowed : ℕ → Bool) → MovesRise (lawful_moves s c x allowed)
 lawful_rise s c x allowed =
-    rise_filter _ (all_moves s) (subst MovesRise (sym (append_assoc (map Board (range_with_len 0 (call_count s))) (map Leave (range_with_len 0 (floor_count s.building))) (End ∷ []))) (boards_rise 0 (call_count s) 0 (floor_count s.building)))
+    rise_filter _ (all_moves s)
+    (subst MovesRise (sym (append_assoc (map Board (range_with_len 0 (call_count s))) (map Leave (range_with_len 0 (floor_count s.building))) (End ∷ [])))
+    (boards_rise 0 (call_count s) 0 (floor_count s.building)))
 
 -- what one more move leads to goes on from their moves
-begin_children : (s : Snapshot) (c : ℕ) (allowed : ℕ → Bool) (keep : Course → Bool) (n : ℕ) (moves : List Move) (x : Course) (m : Move) → ((ms : List Move) (y : Course) → Each (GoesOnFrom ms) (lists_from s c allowed keep n ms y)) → Each (GoesOnFrom (moves ++ m ∷ [])) (lists_at (lists_from s c allowed keep n (moves ++ m ∷ [])) (move_on s c x m))
+begin_children : (s : Snapshot) (c : ℕ) (allowed : ℕ → Bool) (keep : Course → Bool) (n : ℕ) (moves : List Move) (x : Course) (m : Move)
+    → ((ms : List Move) (y : Course) → Each (GoesOnFrom ms) (lists_from s c allowed keep n ms y))
+    → Each (GoesOnFrom (moves ++ m ∷ [])) (lists_at (lists_from s c allowed keep n (moves ++ m ∷ [])) (move_on s c x m))
 begin_children s c allowed keep n moves x m h = by_next (move_on s c x m)
   where
     by_next : (o : Option Course) → Each (GoesOnFrom (moves ++ m ∷ [])) (lists_at (lists_from s c allowed keep n (moves ++ m ∷ [])) o)
@@ -101,41 +112,66 @@ GoesOnBy ms m w = GoesOnFrom (ms ++ m ∷ []) w
 on_from_more : (ms : List Move) (m : Move) (w : List Move) → GoesOnBy ms m w → (later : List Move) × (w ≡ ms ++ m ∷ later)
 on_from_more ms m w h = (h.0, h.1 ∙ append_assoc ms (m ∷ []) h.0)
 
-first_from : (s : Snapshot) (c : ℕ) (allowed : ℕ → Bool) (keep : Course → Bool) (n : ℕ) (moves : List Move) (x : Course) (nexts : List Move) → ((ms : List Move) (y : Course) → Each (GoesOnFrom ms) (lists_from s c allowed keep n ms y)) → Each (IsBefore moves) (lists_of s c allowed keep n moves x nexts) × Each (GoesOnFrom moves) (lists_of s c allowed keep n moves x nexts)
+first_from : (s : Snapshot) (c : ℕ) (allowed : ℕ → Bool) (keep : Course → Bool) (n : ℕ) (moves : List Move) (x : Course) (nexts : List Move)
+    → ((ms : List Move) (y : Course) → Each (GoesOnFrom ms) (lists_from s c allowed keep n ms y))
+    → Each (IsBefore moves) (lists_of s c allowed keep n moves x nexts) × Each (GoesOnFrom moves) (lists_of s c allowed keep n moves x nexts)
 first_from s c allowed keep n moves x [] h = (tt, tt)
 first_from s c allowed keep n moves x (m ∷ nexts) h =
     let here = begin_children s c allowed keep n moves x m h in
-    let rest = first_from s c allowed keep n moves x nexts h in
-    (each_append (IsBefore moves) _ (lists_of s c allowed keep n moves x nexts) (each_less (GoesOnBy moves m) (IsBefore moves) _ (λ w on. let more = on_from_more moves m w on in subst (IsBefore moves) (sym more.1) (before_more moves m more.0)) here) rest.0, each_append (GoesOnFrom moves) _ (lists_of s c allowed keep n moves x nexts) (each_less (GoesOnBy moves m) (GoesOnFrom moves) _ (λ w on. let more = on_from_more moves m w on in (m ∷ more.0, more.1)) here) rest.1)
+    let rest = first_from s c allowed keep n moves x nexts h in (
+      each_append (IsBefore moves) _ (lists_of s c allowed keep n moves x nexts)
+          (each_less (GoesOnBy moves m) (IsBefore moves) _
+          (λ w on. let more = on_from_more moves m w on in subst (IsBefore moves) (sym more.1) (before_more moves m more.0)) here) rest.0,
+      each_append (GoesOnFrom moves) _ (lists_of s c allowed keep n moves x nexts)
+          (each_less (GoesOnBy moves m) (GoesOnFrom moves) _ (λ w on. let more = on_from_more moves m w on in (m ∷ more.0, more.1)) here) rest.1,
+    )
 
-pub lists_from-begins : (s : Snapshot) (c : ℕ) (allowed : ℕ → Bool) (keep : Course → Bool) (n : ℕ) (moves : List Move) (x : Course) → Each (GoesOnFrom moves) (lists_from s c allowed keep n moves x)
+pub lists_from-begins : (s : Snapshot) (c : ℕ) (allowed : ℕ → Bool) (keep : Course → Bool) (n : ℕ) (moves : List Move) (x : Course)
+    → Each (GoesOnFrom moves) (lists_from s c allowed keep n moves x)
 lists_from-begins s c allowed keep zero moves x = tt
 lists_from-begins s c allowed keep (suc n) moves x =
     let rest = first_from s c allowed keep n moves x (lawful_moves s c x allowed) (lists_from-begins s c allowed keep n) in
-    cond_both (keep x) (moves ∷ lists_of s c allowed keep n moves x (lawful_moves s c x allowed)) [] (Each (GoesOnFrom moves)) (λ e. (([], sym (append-nil moves)), rest.1)) (λ e. tt)
+    cond_both (keep x) (moves ∷ lists_of s c allowed keep n moves x (lawful_moves s c x allowed)) [] (Each (GoesOnFrom moves))
+    (λ e. (([], sym (append-nil moves)), rest.1)) (λ e. tt)
 
 -- what one move leads to comes before what later moves lead to
-apart_first : (s : Snapshot) (c : ℕ) (allowed : ℕ → Bool) (keep : Course → Bool) (n : ℕ) (moves : List Move) (x : Course) (m : Move) (nexts w : List Move) → AllLater m nexts → GoesOnBy moves m w → Each (IsBefore w) (lists_of s c allowed keep n moves x nexts)
+apart_first : (s : Snapshot) (c : ℕ) (allowed : ℕ → Bool) (keep : Course → Bool) (n : ℕ) (moves : List Move) (x : Course) (m : Move) (nexts w : List Move)
+    → AllLater m nexts → GoesOnBy moves m w → Each (IsBefore w) (lists_of s c allowed keep n moves x nexts)
 apart_first s c allowed keep n moves x m [] w h on = tt
 apart_first s c allowed keep n moves x m (v ∷ nexts) w h on =
     let here = begin_children s c allowed keep n moves x v (lists_from-begins s c allowed keep n) in
     let one = on_from_more moves m w on in
-    each_append (IsBefore w) _ (lists_of s c allowed keep n moves x nexts) (each_less (GoesOnBy moves v) (IsBefore w) _ (λ u on2. let two = on_from_more moves v u on2 in subst (λ (a : List Move). IsBefore a u) (sym one.1) (subst (IsBefore (moves ++ m ∷ one.0)) (sym two.1) (before_by moves m v one.0 two.0 h.0))) here) (apart_first s c allowed keep n moves x m nexts w h.1 on)
+    each_append (IsBefore w) _ (lists_of s c allowed keep n moves x nexts)
+    (each_less (GoesOnBy moves v) (IsBefore w) _
+    (λ u on2. let two = on_from_more moves v u on2 in
+    subst (λ (a : List Move). IsBefore a u) (sym one.1) (subst (IsBefore (moves ++ m ∷ one.0)) (sym two.1) (before_by moves m v one.0 two.0 h.0))) here)
+    (apart_first s c allowed keep n moves x m nexts w h.1 on)
 
-first_order : (s : Snapshot) (c : ℕ) (allowed : ℕ → Bool) (keep : Course → Bool) (n : ℕ) (moves : List Move) (x : Course) (nexts : List Move) → ((ms : List Move) (y : Course) → AreInOrder (lists_from s c allowed keep n ms y)) → MovesRise nexts → AreInOrder (lists_of s c allowed keep n moves x nexts)
+first_order : (s : Snapshot) (c : ℕ) (allowed : ℕ → Bool) (keep : Course → Bool) (n : ℕ) (moves : List Move) (x : Course) (nexts : List Move)
+    → ((ms : List Move) (y : Course) → AreInOrder (lists_from s c allowed keep n ms y)) → MovesRise nexts
+    → AreInOrder (lists_of s c allowed keep n moves x nexts)
 first_order s c allowed keep n moves x [] h rise = tt
 first_order s c allowed keep n moves x (m ∷ nexts) h rise =
-    order_append (lists_at (lists_from s c allowed keep n (moves ++ m ∷ [])) (move_on s c x m)) (lists_of s c allowed keep n moves x nexts) (by_next (move_on s c x m)) (first_order s c allowed keep n moves x nexts h rise.1) (each_less (GoesOnBy moves m) (λ w. Each (IsBefore w) (lists_of s c allowed keep n moves x nexts)) _ (λ w on. apart_first s c allowed keep n moves x m nexts w rise.0 on) (begin_children s c allowed keep n moves x m (lists_from-begins s c allowed keep n)))
+    order_append (lists_at (lists_from s c allowed keep n (moves ++ m ∷ [])) (move_on s c x m)) (lists_of s c allowed keep n moves x nexts)
+    (by_next (move_on s c x m)) (first_order s c allowed keep n moves x nexts h rise.1)
+    (each_less (GoesOnBy moves m) (λ w. Each (IsBefore w) (lists_of s c allowed keep n moves x nexts)) _
+    (λ w on. apart_first s c allowed keep n moves x m nexts w rise.0 on)
+    (begin_children s c allowed keep n moves x m (lists_from-begins s c allowed keep n)))
   where
     by_next : (o : Option Course) → AreInOrder (lists_at (lists_from s c allowed keep n (moves ++ m ∷ [])) o)
     by_next None = tt
     by_next (Some y) = h (moves ++ m ∷ []) y
 
 -- The lists stand in the order of move lists.
-pub lists_from-order : (s : Snapshot) (c : ℕ) (allowed : ℕ → Bool) (keep : Course → Bool) (n : ℕ) (moves : List Move) (x : Course) → AreInOrder (lists_from s c allowed keep n moves x)
+pub lists_from-order : (s : Snapshot) (c : ℕ) (allowed : ℕ → Bool) (keep : Course → Bool) (n : ℕ) (moves : List Move) (x : Course)
+    → AreInOrder (lists_from s c allowed keep n moves x)
 lists_from-order s c allowed keep zero moves x = tt
 lists_from-order s c allowed keep (suc n) moves x =
-    cond_both (keep x) (moves ∷ lists_of s c allowed keep n moves x (lawful_moves s c x allowed)) [] AreInOrder (λ e. ((first_from s c allowed keep n moves x (lawful_moves s c x allowed) (lists_from-begins s c allowed keep n)).0, first_order s c allowed keep n moves x (lawful_moves s c x allowed) (lists_from-order s c allowed keep n) (lawful_rise s c x allowed))) (λ e. tt)
+    cond_both (keep x) (moves ∷ lists_of s c allowed keep n moves x (lawful_moves s c x allowed)) [] AreInOrder
+    (λ e. (
+      (first_from s c allowed keep n moves x (lawful_moves s c x allowed) (lists_from-begins s c allowed keep n)).0,
+      first_order s c allowed keep n moves x (lawful_moves s c x allowed) (lists_from-order s c allowed keep n) (lawful_rise s c x allowed),
+    )) (λ e. tt)
 
 -- ---- one list
 
@@ -175,13 +211,16 @@ each_at P w (v ∷ lists) h (inl e) = subst P e h.0
 each_at P w (v ∷ lists) h (inr among) = each_at P w lists h.1 among
 
 -- Lists in order that have the same elements are one.
-pub one_list : (a b : List (List Move)) → AreInOrder a → AreInOrder b → ((w : List Move) → IsAmongLists w a → IsAmongLists w b) → ((w : List Move) → IsAmongLists w b → IsAmongLists w a) → a ≡ b
+pub one_list : (a b : List (List Move)) → AreInOrder a → AreInOrder b → ((w : List Move) → IsAmongLists w a → IsAmongLists w b)
+    → ((w : List Move) → IsAmongLists w b → IsAmongLists w a) → a ≡ b
 one_list [] [] ha hb to from = refl
 one_list [] (v ∷ b) ha hb to from = absurd (from v (inl refl))
 one_list (w ∷ a) [] ha hb to from = absurd (to w (inl refl))
 one_list (w ∷ a) (v ∷ b) ha hb to from =
     let same = heads (to w (inl refl)) (from v (inl refl)) in
-    let rest = one_list a b ha.1 hb.1 (λ u among. tail_of v b u (to u (inr among)) (λ e. not_before_itself w (subst (IsBefore w) (sym e ∙ sym same) (each_at (IsBefore w) u a ha.0 among)))) (λ u among. tail_of w a u (from u (inr among)) (λ e. not_before_itself v (subst (IsBefore v) (sym e ∙ same) (each_at (IsBefore v) u b hb.0 among)))) in
+    let rest = one_list a b ha.1 hb.1
+    (λ u among. tail_of v b u (to u (inr among)) (λ e. not_before_itself w (subst (IsBefore w) (sym e ∙ sym same) (each_at (IsBefore w) u a ha.0 among))))
+    (λ u among. tail_of w a u (from u (inr among)) (λ e. not_before_itself v (subst (IsBefore v) (sym e ∙ same) (each_at (IsBefore v) u b hb.0 among)))) in
     cc
   where
     heads : IsAmongLists w (v ∷ b) → IsAmongLists v (w ∷ a) → w ≡ v
@@ -210,25 +249,40 @@ allowed_more allowed (v ∷ ms) m h k = (h.0, allowed_more allowed ms m h.1 k)
 abbrev pub IsTested : Snapshot → ℕ → (allowed : ℕ → Bool) → (keep : Course → Bool) → List Move → Type 0
 IsTested s c allowed keep w = (z : Course) × (course_of s c w ≡ Some z) × (keep z ≡ true) × AreAllowed allowed w
 
-lawful_may : (s : Snapshot) (c : ℕ) (x : Course) (allowed : ℕ → Bool) (ms : List Move) → AreAllowed allowed (filter (λ m. boards_allowed allowed m && is_some (move_on s c x m)) ms)
+lawful_may : (s : Snapshot) (c : ℕ) (x : Course) (allowed : ℕ → Bool) (ms : List Move)
+    → AreAllowed allowed (filter (λ m. boards_allowed allowed m && is_some (move_on s c x m)) ms)
 lawful_may s c x allowed [] = tt
 lawful_may s c x allowed (m ∷ ms) =
     let rest = lawful_may s c x allowed ms in
-    cond_both (boards_allowed allowed m && is_some (move_on s c x m)) (m ∷ filter (λ m. boards_allowed allowed m && is_some (move_on s c x m)) ms) (filter (λ m. boards_allowed allowed m && is_some (move_on s c x m)) ms) (AreAllowed allowed) (λ e. ((and_parts (boards_allowed allowed m) _ e).0, rest)) (λ e. rest)
+    cond_both (boards_allowed allowed m && is_some (move_on s c x m)) (m ∷ filter (λ m. boards_allowed allowed m && is_some (move_on s c x m)) ms)
+    (filter (λ m. boards_allowed allowed m && is_some (move_on s c x m)) ms) (AreAllowed allowed)
+    (λ e. ((and_parts (boards_allowed allowed m) _ e).0, rest)) (λ e. rest)
 
-each_first : (s : Snapshot) (c : ℕ) (allowed : ℕ → Bool) (keep : Course → Bool) (n : ℕ) (moves : List Move) (x : Course) (nexts : List Move) → course_of s c moves ≡ Some x → AreAllowed allowed moves → AreAllowed allowed nexts → ((ms : List Move) (y : Course) → course_of s c ms ≡ Some y → AreAllowed allowed ms → Each (IsTested s c allowed keep) (lists_from s c allowed keep n ms y)) → Each (IsTested s c allowed keep) (lists_of s c allowed keep n moves x nexts)
+each_first : (s : Snapshot) (c : ℕ) (allowed : ℕ → Bool) (keep : Course → Bool) (n : ℕ) (moves : List Move) (x : Course) (nexts : List Move)
+    → course_of s c moves ≡ Some x → AreAllowed allowed moves → AreAllowed allowed nexts
+    → ((ms : List Move) (y : Course) → course_of s c ms ≡ Some y → AreAllowed allowed ms
+    → Each (IsTested s c allowed keep) (lists_from s c allowed keep n ms y)) → Each (IsTested s c allowed keep) (lists_of s c allowed keep n moves x nexts)
 each_first s c allowed keep n moves x [] leads may nexts_may h = tt
 each_first s c allowed keep n moves x (m ∷ nexts) leads may nexts_may h =
-    each_append (IsTested s c allowed keep) _ (lists_of s c allowed keep n moves x nexts) (by_next (move_on s c x m) refl) (each_first s c allowed keep n moves x nexts leads may nexts_may.1 h)
+    each_append (IsTested s c allowed keep) _ (lists_of s c allowed keep n moves x nexts) (by_next (move_on s c x m) refl)
+    (each_first s c allowed keep n moves x nexts leads may nexts_may.1 h)
   where
     by_next : (o : Option Course) → move_on s c x m ≡ o → Each (IsTested s c allowed keep) (lists_at (lists_from s c allowed keep n (moves ++ m ∷ [])) o)
     by_next None e = tt
-    by_next (Some y) e = h (moves ++ m ∷ []) y (course_more s c moves m ∙ ap (λ (o : Option Course). move_on_from s c o m) leads ∙ e) (allowed_more allowed moves m may nexts_may.0)
+    by_next (Some y) e =
+        h (moves ++ m ∷ []) y (course_more s c moves m ∙ ap (λ (o : Option Course). move_on_from s c o m) leads ∙ e)
+        (allowed_more allowed moves m may nexts_may.0)
 
-pub lists_from-each : (s : Snapshot) (c : ℕ) (allowed : ℕ → Bool) (keep : Course → Bool) (n : ℕ) (moves : List Move) (x : Course) → course_of s c moves ≡ Some x → AreAllowed allowed moves → Each (IsTested s c allowed keep) (lists_from s c allowed keep n moves x)
+pub lists_from-each : (s : Snapshot) (c : ℕ) (allowed : ℕ → Bool) (keep : Course → Bool) (n : ℕ) (moves : List Move) (x : Course)
+    → course_of s c moves ≡ Some x → AreAllowed allowed moves → Each (IsTested s c allowed keep) (lists_from s c allowed keep n moves x)
 lists_from-each s c allowed keep zero moves x leads may = tt
 lists_from-each s c allowed keep (suc n) moves x leads may =
-    cond_both (keep x) (moves ∷ lists_of s c allowed keep n moves x (lawful_moves s c x allowed)) [] (Each (IsTested s c allowed keep)) (λ e. ((x, leads, e, may), each_first s c allowed keep n moves x (lawful_moves s c x allowed) leads may (lawful_may s c x allowed (all_moves s)) (lists_from-each s c allowed keep n))) (λ e. tt)
+    cond_both (keep x) (moves ∷ lists_of s c allowed keep n moves x (lawful_moves s c x allowed)) [] (Each (IsTested s c allowed keep))
+    (λ e. (
+      (x, leads, e, may),
+      each_first s c allowed keep n moves x (lawful_moves s c x allowed) leads may (lawful_may s c x allowed (all_moves s))
+          (lists_from-each s c allowed keep n),
+    )) (λ e. tt)
 
 -- The partial tours that pass a test stand in order, and each passes it.
 pub tested_lists-order : (s : Snapshot) (c : ℕ) (allowed : ℕ → Bool) (keep : Course → Bool) → AreInOrder (tested_lists s c allowed keep)
@@ -239,7 +293,8 @@ tested_lists-each s c allowed keep = lists_from-each s c allowed keep (move_limi
 
 -- ---- fewer lists
 
-without : (w : List Move) (b : List (List Move)) → AreInOrder b → IsAmongLists w b → (rest : List (List Move)) × (length b ≡ length rest + 1) × AreInOrder rest × ((u : List Move) → IsAmongLists u b → (w ≡ u → ⊥) → IsAmongLists u rest) × ((P : List Move → Type 0) → Each P b → Each P rest)
+without : (w : List Move) (b : List (List Move)) → AreInOrder b → IsAmongLists w b → (rest : List (List Move)) × (length b ≡ length rest + 1) × AreInOrder rest
+    × ((u : List Move) → IsAmongLists u b → (w ≡ u → ⊥) → IsAmongLists u rest) × ((P : List Move → Type 0) → Each P b → Each P rest)
 without w [] hb among = absurd among
 without w (v ∷ b) hb (inl e) = (b, omega arith, hb.1, keep, λ P h. h.1)
   where
@@ -251,7 +306,8 @@ without w (v ∷ b) hb (inr among) =
     let size = r.1 in
     (v ∷ r.0, omega (arith, size), (r.4 (IsBefore v) hb.0, r.2), keep r.0 r.3, λ P h. (h.0, r.4 P h.1))
   where
-    keep : (rest : List (List Move)) → ((u : List Move) → IsAmongLists u b → (w ≡ u → ⊥) → IsAmongLists u rest) → (u : List Move) → IsAmongLists u (v ∷ b) → (w ≡ u → ⊥) → IsAmongLists u (v ∷ rest)
+    keep : (rest : List (List Move)) → ((u : List Move) → IsAmongLists u b → (w ≡ u → ⊥) → IsAmongLists u rest) → (u : List Move) → IsAmongLists u (v ∷ b)
+        → (w ≡ u → ⊥) → IsAmongLists u (v ∷ rest)
     keep rest h u (inl k) apart = inl k
     keep rest h u (inr k) apart = inr (h u k apart)
 
@@ -261,7 +317,8 @@ fewer_lists [] b ha hb to = omega arith
 fewer_lists (w ∷ a) b ha hb to =
     let r = without w b hb (to w (inl refl)) in
     let size = r.1 in
-    let le = fewer_lists a r.0 ha.1 r.2 (λ u among. r.3 u (to u (inr among)) (λ e. not_before_itself w (subst (IsBefore w) (sym e) (each_at (IsBefore w) u a ha.0 among)))) in
+    let le = fewer_lists a r.0 ha.1 r.2
+    (λ u among. r.3 u (to u (inr among)) (λ e. not_before_itself w (subst (IsBefore w) (sym e) (each_at (IsBefore w) u a ha.0 among)))) in
     omega (arith, size, le)
 
 -- Where fewer partial tours have the property, their list is not longer.
@@ -270,4 +327,5 @@ ListsAll-less P Q a b ha hb less = fewer_lists a b ha.order hb.order (λ u among
 
 -- Two lists of all are one.
 pub ListsAll-same : (P : List Move → Type 0) (a b : List (List Move)) → ListsAll P a → ListsAll P b → a ≡ b
-ListsAll-same P a b ha hb = one_list a b ha.order hb.order (λ u among. hb.all u (each_at P u a ha.each among)) (λ u among. ha.all u (each_at P u b hb.each among))
+ListsAll-same P a b ha hb =
+    one_list a b ha.order hb.order (λ u among. hb.all u (each_at P u a ha.each among)) (λ u among. ha.all u (each_at P u b hb.each among))

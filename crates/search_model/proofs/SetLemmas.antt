@@ -17,7 +17,10 @@ set_where-below zero t = omega arith
 set_where-below (suc n) t =
     let a = set_where-below n t in
     let double : 2 ^ suc n ≡ 2 * 2 ^ n = omega arith in
-    elim (cases_Bool (t n)) [ inl e ↦ (let one = cond-true (t n) (2 ^ n) 0 e in omega (arith, a, one, double)) | inr e ↦ (let none = cond-false (t n) (2 ^ n) 0 e in omega (arith, a, none, double)) ]
+    elim (cases_Bool (t n)) [
+      | inl e ↦ (let one = cond-true (t n) (2 ^ n) 0 e in omega (arith, a, one, double))
+      | inr e ↦ (let none = cond-false (t n) (2 ^ n) 0 e in omega (arith, a, none, double))
+    ]
 
 with_top : (n x k : ℕ) → x < 2 ^ n → k < suc n → (k ≡ n → ⊥) → has (x + 2 ^ n) k ≡ has x k
 with_top n x k small below ne =
@@ -35,7 +38,17 @@ pub has-set_where : (n : ℕ) (t : ℕ → Bool) (k : ℕ) → k < n → has (se
 has-set_where zero t k h = absurd (omega arith)
 has-set_where (suc n) t k h =
     let small = set_where-below n t in
-    elim (cases_Bool (t n)) [ inl e ↦ (let here = cond-true (t n) (2 ^ n) 0 e in ap (λ (x : ℕ). has (set_where n t + x) k) here ∙ elim (cases_eq k n) [ inl same ↦ subst (λ (x : ℕ). has (set_where n t + 2 ^ n) x ≡ t x) (sym same) (at_top n (set_where n t) small ∙ sym e) | inr ne ↦ with_top n (set_where n t) k small h ne ∙ has-set_where n t k (omega arith) ]) | inr e ↦ (let here = cond-false (t n) (2 ^ n) 0 e in let plain : set_where n t + 0 ≡ set_where n t = omega arith in ap (λ (x : ℕ). has (set_where n t + x) k) here ∙ ap (λ (x : ℕ). has x k) plain ∙ elim (cases_eq k n) [ inl same ↦ subst (λ (x : ℕ). has (set_where n t) x ≡ t x) (sym same) (has_none_above n (set_where n t) n small (omega arith) ∙ sym e) | inr ne ↦ has-set_where n t k (omega arith) ]) ]
+    elim (cases_Bool (t n)) [
+      | inl e ↦ (let here = cond-true (t n) (2 ^ n) 0 e in ap (λ (x : ℕ). has (set_where n t + x) k) here ∙ elim (cases_eq k n) [
+        | inl same ↦ subst (λ (x : ℕ). has (set_where n t + 2 ^ n) x ≡ t x) (sym same) (at_top n (set_where n t) small ∙ sym e)
+        | inr ne ↦ with_top n (set_where n t) k small h ne ∙ has-set_where n t k (omega arith)
+      ])
+      | inr e ↦ (let here = cond-false (t n) (2 ^ n) 0 e in let plain : set_where n t + 0 ≡ set_where n t = omega arith in
+          ap (λ (x : ℕ). has (set_where n t + x) k) here ∙ ap (λ (x : ℕ). has x k) plain ∙ elim (cases_eq k n) [
+            | inl same ↦ subst (λ (x : ℕ). has (set_where n t) x ≡ t x) (sym same) (has_none_above n (set_where n t) n small (omega arith) ∙ sym e)
+            | inr ne ↦ has-set_where n t k (omega arith)
+          ])
+    ]
 
 -- a car below 16 is in the rest exactly where it is in the set and not in the part
 pub has-rest_of : (set part k : ℕ) → k < 16 → has (rest_of set part) k ≡ (has set k && not (has part k))

@@ -44,12 +44,21 @@ int_sum-swap (suc n) m f =
 pub int_sum-none : (n : ℕ) (t : ℕ → Bool) (z : ℤ) → sum_where n t (λ _. 1) ≡ 0 → int_sum_where n t (λ _. z) ≡ pos 0
 int_sum-none zero t z h = refl
 int_sum-none (suc n) t z h =
-    elim (cases_Bool (t n)) [ inl e ↦ absurd (let one = ap {B = ℕ} (λ (b : Bool). cond b 1 0) e in omega (arith, one, h)) | inr e ↦ (let here = ap (λ (b : Bool). cond b z (pos 0)) e in let none = ap {B = ℕ} (λ (b : Bool). cond b 1 0) e in let less : sum_where n t (λ _. 1) ≡ 0 = omega (arith, none, h) in let rest = int_sum-none n t z less in omega (arith, ints, here, rest)) ]
+    elim (cases_Bool (t n)) [
+      | inl e ↦ absurd (let one = ap {B = ℕ} (λ (b : Bool). cond b 1 0) e in omega (arith, one, h))
+      | inr e ↦ (let here = ap (λ (b : Bool). cond b z (pos 0)) e in let none = ap {B = ℕ} (λ (b : Bool). cond b 1 0) e in
+          let less : sum_where n t (λ _. 1) ≡ 0 = omega (arith, none, h) in let rest = int_sum-none n t z less in omega (arith, ints, here, rest))
+    ]
 
 pub int_sum-once : (n : ℕ) (t : ℕ → Bool) (z : ℤ) → sum_where n t (λ _. 1) ≡ 1 → int_sum_where n t (λ _. z) ≡ z
 int_sum-once zero t z h = absurd (omega (arith, h))
 int_sum-once (suc n) t z h =
-    elim (cases_Bool (t n)) [ inl e ↦ (let here = ap (λ (b : Bool). cond b z (pos 0)) e in let one = ap {B = ℕ} (λ (b : Bool). cond b 1 0) e in let less : sum_where n t (λ _. 1) ≡ 0 = omega (arith, one, h) in let rest = int_sum-none n t z less in omega (arith, ints, here, rest)) | inr e ↦ (let here = ap (λ (b : Bool). cond b z (pos 0)) e in let none = ap {B = ℕ} (λ (b : Bool). cond b 1 0) e in let less : sum_where n t (λ _. 1) ≡ 1 = omega (arith, none, h) in let rest = int_sum-once n t z less in omega (arith, ints, here, rest)) ]
+    elim (cases_Bool (t n)) [
+      | inl e ↦ (let here = ap (λ (b : Bool). cond b z (pos 0)) e in let one = ap {B = ℕ} (λ (b : Bool). cond b 1 0) e in
+          let less : sum_where n t (λ _. 1) ≡ 0 = omega (arith, one, h) in let rest = int_sum-none n t z less in omega (arith, ints, here, rest))
+      | inr e ↦ (let here = ap (λ (b : Bool). cond b z (pos 0)) e in let none = ap {B = ℕ} (λ (b : Bool). cond b 1 0) e in
+          let less : sum_where n t (λ _. 1) ≡ 1 = omega (arith, none, h) in let rest = int_sum-once n t z less in omega (arith, ints, here, rest))
+    ]
 
 -- a cost of several parts in thousandths
 pub scaled-sum : (n : ℕ) (f : ℕ → ℕ) → scaled (sum_below n f) ≡ int_sum_below n (λ k. scaled (f k))
@@ -61,4 +70,11 @@ pub int_sum-at : (n key : ℕ) (z : ℤ) → key < n → int_sum_below n (λ k. 
 int_sum-at zero key z h = absurd (omega arith)
 int_sum-at (suc n) key z h =
     let le : key ≤ n = omega arith in
-    elim (eq-or-lt_of_le le) [ inl e ↦ (let below = int_sum-same n (λ k. cond (key == k) z (pos 0)) (λ _. pos 0) (λ k b. cond-false (key == k) z (pos 0) (ne_eqb key k (λ same. absurd (omega (arith, same, e, b))))) in let zero_below = int_sum-zero n in let here = cond-true (key == n) z (pos 0) (eq-eqb key n e) in omega (arith, ints, below, zero_below, here)) | inr lt ↦ (let below = int_sum-at n key z lt in let here = cond-false (key == n) z (pos 0) (ne_eqb key n (λ same. absurd (omega (arith, same, lt)))) in omega (arith, ints, below, here)) ]
+    elim (eq-or-lt_of_le le) [
+      | inl e ↦ (let below =
+          int_sum-same n (λ k. cond (key == k) z (pos 0)) (λ _. pos 0)
+          (λ k b. cond-false (key == k) z (pos 0) (ne_eqb key k (λ same. absurd (omega (arith, same, e, b))))) in let zero_below = int_sum-zero n in
+          let here = cond-true (key == n) z (pos 0) (eq-eqb key n e) in omega (arith, ints, below, zero_below, here))
+      | inr lt ↦ (let below = int_sum-at n key z lt in let here = cond-false (key == n) z (pos 0) (ne_eqb key n (λ same. absurd (omega (arith, same, lt)))) in
+          omega (arith, ints, below, here))
+    ]

@@ -33,7 +33,8 @@ waiting_term s price required p j =
 -- for each allowed call that has not boarded what it adds; without the prices of the calls that boarded.
 abbrev pub bound_after : Snapshot → ℕ → (price : ℕ → ℤ) → (allowed required : ℕ → Bool) → Progress → ℤ
 bound_after s c price allowed required p =
-    ((scaled (settled_cost s c p) +ℤ scaled (sum_where (rider_count s) p.carried (cost_if_straight s p))) -ℤ int_sum_where (call_count s) p.boarded price) +ℤ int_sum_where (call_count s) (λ j. allowed j && not (p.boarded j)) (waiting_term s price required p)
+    ((scaled (settled_cost s c p) +ℤ scaled (sum_where (rider_count s) p.carried (cost_if_straight s p))) -ℤ int_sum_where (call_count s) p.boarded price) +ℤ
+    int_sum_where (call_count s) (λ j. allowed j && not (p.boarded j)) (waiting_term s price required p)
 
 abbrev pub completion_bound : Snapshot → ℕ → (price : ℕ → ℤ) → (allowed required : ℕ → Bool) → Course → ℤ
 completion_bound s c price allowed required x = bound_after s c price allowed required (progress_after s c x.before x.present)
@@ -44,12 +45,16 @@ completion_bound s c price allowed required x = bound_after s c price allowed re
 -- allowed calls only.
 abbrev pub LowerLaw : Type 0
 LowerLaw =
-    (s : Snapshot) (c : ℕ) (price : ℕ → ℤ) (allowed required : ℕ → Bool) (moves : List Move) (x : Course) (tour : List Stop) → IsAccepted s → c < car_count s → course_of s c moves ≡ Some x → BeginsWith s tour moves → IsTourWithin s c allowed required tour → completion_bound s c price allowed required x ≤ℤ value_of s c price tour
+    (s : Snapshot) (c : ℕ) (price : ℕ → ℤ) (allowed required : ℕ → Bool) (moves : List Move) (x : Course) (tour : List Stop) → IsAccepted s → c < car_count s
+    → course_of s c moves ≡ Some x → BeginsWith s tour moves → IsTourWithin s c allowed required tour
+    → completion_bound s c price allowed required x ≤ℤ value_of s c price tour
 
 -- One move more, where boards are of allowed calls, makes it no smaller.
 abbrev pub GrowthLaw : Type 0
 GrowthLaw =
-    (s : Snapshot) (c : ℕ) (price : ℕ → ℤ) (allowed required : ℕ → Bool) (moves : List Move) (x y : Course) (m : Move) → IsAccepted s → c < car_count s → AreAllowed allowed moves → boards_allowed allowed m ≡ true → course_of s c moves ≡ Some x → move_on s c x m ≡ Some y → completion_bound s c price allowed required x ≤ℤ completion_bound s c price allowed required y
+    (s : Snapshot) (c : ℕ) (price : ℕ → ℤ) (allowed required : ℕ → Bool) (moves : List Move) (x y : Course) (m : Move) → IsAccepted s → c < car_count s
+    → AreAllowed allowed moves → boards_allowed allowed m ≡ true → course_of s c moves ≡ Some x → move_on s c x m ≡ Some y
+    → completion_bound s c price allowed required x ≤ℤ completion_bound s c price allowed required y
 
 abbrev pub positive_part : ℤ → ℤ
 positive_part z = if int_lt z (pos 0) then pos 0 else z
@@ -58,9 +63,14 @@ positive_part z = if int_lt z (pos 0) then pos 0 else z
 -- other allowed calls.
 abbrev pub LeastLaw : Type 0
 LeastLaw =
-    (s : Snapshot) (c : ℕ) (price : ℕ → ℤ) (allowed required : ℕ → Bool) (moves : List Move) (x : Course) → IsAccepted s → c < car_count s → AreAllowed allowed moves → course_of s c moves ≡ Some x → let p = progress_after s c x.before x.present in ((scaled (settled_of s c x) -ℤ int_sum_where (call_count s) p.boarded price) -ℤ int_sum_where (call_count s) (λ j. allowed j && not (p.boarded j)) (λ j. positive_part (price j))) ≤ℤ completion_bound s c price allowed required x
+    (s : Snapshot) (c : ℕ) (price : ℕ → ℤ) (allowed required : ℕ → Bool) (moves : List Move) (x : Course) → IsAccepted s → c < car_count s
+    → AreAllowed allowed moves → course_of s c moves ≡ Some x → let p = progress_after s c x.before x.present in
+    ((scaled (settled_of s c x) -ℤ int_sum_where (call_count s) p.boarded price) -ℤ int_sum_where (call_count s) (λ j. allowed j && not (p.boarded j))
+    (λ j. positive_part (price j))) ≤ℤ completion_bound s c price allowed required x
 
 -- Fewer allowed and more required calls, the required ones being allowed, make it no smaller.
 abbrev pub NarrowLaw : Type 0
 NarrowLaw =
-    (s : Snapshot) (c : ℕ) (price : ℕ → ℤ) (allowed required allowed' required' : ℕ → Bool) (x : Course) → ((j : ℕ) → allowed' j ≡ true → allowed j ≡ true) → ((j : ℕ) → required j ≡ true → required' j ≡ true) → ((j : ℕ) → required' j ≡ true → allowed' j ≡ true) → completion_bound s c price allowed required x ≤ℤ completion_bound s c price allowed' required' x
+    (s : Snapshot) (c : ℕ) (price : ℕ → ℤ) (allowed required allowed' required' : ℕ → Bool) (x : Course) → ((j : ℕ) → allowed' j ≡ true → allowed j ≡ true)
+    → ((j : ℕ) → required j ≡ true → required' j ≡ true) → ((j : ℕ) → required' j ≡ true → allowed' j ≡ true)
+    → completion_bound s c price allowed required x ≤ℤ completion_bound s c price allowed' required' x

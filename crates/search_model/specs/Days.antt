@@ -1,5 +1,6 @@
 -- The run of a day: rows come, each accepted one is answered by a plan, and the last plan is run to its end.
-use Rattle.std.specs.Prelude.{ℕ, ◌+◌, ◌-◌, ◌==◌, ◌&&◌, not, nat_le, nat_lt, List, [], ◌∷◌, ◌++◌, map, count_by, Bool, if◌then◌else◌, Option, Some, None, is_some, unwrap_or}
+use Rattle.std.specs.Prelude.{ℕ, ◌+◌, ◌-◌, ◌==◌, ◌&&◌, not, nat_le, nat_lt, List, [], ◌∷◌, ◌++◌, map, count_by, Bool, if◌then◌else◌, Option, Some, None}
+use Rattle.std.specs.Prelude.{is_some, unwrap_or}
 use Rattle.std.specs.List.{list_all, range_with_len}
 use Rattle.elevator_model.specs.declared.Stop.{Stop}
 use Rattle.elevator_model.specs.declared.Aboard.{Aboard}
@@ -58,7 +59,8 @@ pub record Row : Type 0 where
 -- the numbers of the row lie in their ranges, and the passengers go somewhere
 abbrev pub is_row : Building → Row → Bool
 is_row b row =
-    nat_le row.time 1000000000 && nat_lt row.origin (floor_count b) && nat_lt row.destination (floor_count b) && not (row.origin == row.destination) && nat_le 1 row.persons && nat_le row.persons 8
+    nat_le row.time 1000000000 && nat_lt row.origin (floor_count b) && nat_lt row.destination (floor_count b) && not (row.origin == row.destination)
+    && nat_le 1 row.persons && nat_le row.persons 8
 
 -- the call that row n brings
 abbrev pub call_of_row : (n : ℕ) → Row → Call
@@ -67,7 +69,8 @@ call_of_row n row = record { id = n; origin = row.origin; destination = row.dest
 -- why the snapshot cannot take a call
 abbrev pub fault_of_new_call : Snapshot → Call → Option RowFault
 fault_of_new_call s call =
-    if nat_le (most_calls s.building.version) (call_count s) then Some Full else (if any_below (car_count s) (λ c. can_take s.building c call) then None else Some NoCar)
+    if nat_le (most_calls s.building.version) (call_count s) then Some Full else
+    (if any_below (car_count s) (λ c. can_take s.building c call) then None else Some NoCar)
 
 abbrev pub fault_of_good_row : World → (n : ℕ) → Row → Option RowFault
 fault_of_good_row w n row =

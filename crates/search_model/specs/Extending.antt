@@ -7,7 +7,8 @@ use Rattle.elevator_model.specs.declared.Move.{Move}
 use Rattle.elevator_model.specs.declared.Rule.TheVariants.{UselessStop}
 use Rattle.call_sets.specs.Counting.{any_below, sum_where}
 use Rattle.elevator_model.specs.Snapshot.{Snapshot, IsAccepted, call_count, car_count, call_of, spec_of}
-use Rattle.elevator_model.specs.Tours.{Progress, make_stop, breaks, none_taken, boards_at, overtakes, is_later_in_queue, is_call_for, rider_count, destination_of, persons_where, persons_of}
+use Rattle.elevator_model.specs.Tours.{Progress, make_stop, breaks, none_taken, boards_at, overtakes, is_later_in_queue, is_call_for, rider_count}
+use Rattle.elevator_model.specs.Tours.{destination_of, persons_where, persons_of}
 use Rattle.elevator_model.specs.Partial.{Course, course_of}
 use Rattle.search_model.specs.Orders.{BeginsWith, AreAllowed}
 use Rattle.search_model.specs.Nodes.{IsTourWithin}
@@ -64,7 +65,8 @@ goes_along s p j = if nat_lt p.floor (destination_of s j) then not (any_under s 
 -- where it is after it
 abbrev pub gives_use : Snapshot → ℕ → (allowed required : ℕ → Bool) → (q p : Progress) → ℕ → Bool
 gives_use s c allowed required q p j =
-    allowed j && not (p.boarded j) && ((call_of s j).origin == p.floor) && not (overtakes s q j) && not (passes_some s required p j) && goes_along s p j && nat_le (persons_where s p.carried + persons_of s j) (spec_of s c).capacity
+    allowed j && not (p.boarded j) && ((call_of s j).origin == p.floor) && not (overtakes s q j) && not (passes_some s required p j) && goes_along s p j
+    && nat_le (persons_where s p.carried + persons_of s j) (spec_of s c).capacity
 
 abbrev pub is_one_way : Snapshot → Progress → Bool
 is_one_way s p = not (any_above s p && any_under s p)
@@ -106,4 +108,5 @@ pub record TestsExtendable (s : Snapshot) (c : ℕ) (allowed required : ℕ → 
   pub complete : IsExtendable s c allowed required moves → can_be_extended s c allowed required x ≡ true
 
 abbrev pub ExtendingLaw : Type 0
-ExtendingLaw = (s : Snapshot) (c : ℕ) (allowed required : ℕ → Bool) (moves : List Move) (x : Course) → IsAccepted s → c < car_count s → IsDemand s c allowed required → AreAllowed allowed moves → course_of s c moves ≡ Some x → TestsExtendable s c allowed required moves x
+ExtendingLaw = (s : Snapshot) (c : ℕ) (allowed required : ℕ → Bool) (moves : List Move) (x : Course) → IsAccepted s → c < car_count s
+    → IsDemand s c allowed required → AreAllowed allowed moves → course_of s c moves ≡ Some x → TestsExtendable s c allowed required moves x

@@ -21,4 +21,5 @@ kept_list s c price allowed required worth = tested_lists s c allowed (is_kept s
 
 -- It has exactly the kept partial tours, in their order.
 abbrev pub KeptLaw : Type 0
-KeptLaw = (s : Snapshot) (c : ℕ) (price : ℕ → ℤ) (allowed required : ℕ → Bool) (worth : ℤ) → IsAccepted s → c < car_count s → IsDemand s c allowed required → ListsAll (IsKept s c price allowed required worth) (kept_list s c price allowed required worth)
+KeptLaw = (s : Snapshot) (c : ℕ) (price : ℕ → ℤ) (allowed required : ℕ → Bool) (worth : ℤ) → IsAccepted s → c < car_count s → IsDemand s c allowed required
+    → ListsAll (IsKept s c price allowed required worth) (kept_list s c price allowed required worth)

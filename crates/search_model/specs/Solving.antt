@@ -1,6 +1,7 @@
 -- What a search answers: a plan, its cost, a bound, a tree that proves them, the turns at the root, and why
 -- the search ended.
-use Rattle.std.specs.Prelude.{◌≡◌, ℕ, ◌+◌, ◌*◌, ◌/◌, ◌^◌, ◌≤◌, ◌<◌, ◌⊎◌, min, max, ℤ, pos, negsuc, neg_ℤ, ◌+ℤ◌, ◌-ℤ◌, ◌*ℤ◌, ◌≤ℤ◌, ◌<ℤ◌, List, [], ◌∷◌, length, map, count_by, slice_index_or, All, Any, Bool, true, false, IsTrue, IfSome, unwrap_or, Option, Some, None}
+use Rattle.std.specs.Prelude.{◌≡◌, ℕ, ◌+◌, ◌*◌, ◌/◌, ◌^◌, ◌≤◌, ◌<◌, ◌⊎◌, min, max, ℤ, pos, negsuc, neg_ℤ, ◌+ℤ◌, ◌-ℤ◌, ◌*ℤ◌, ◌≤ℤ◌, ◌<ℤ◌, List, [], ◌∷◌, length}
+use Rattle.std.specs.Prelude.{map, count_by, slice_index_or, All, Any, Bool, true, false, IsTrue, IfSome, unwrap_or, Option, Some, None}
 use Rattle.std.specs.List.{list_any, range_with_len}
 use Rattle.std.specs.Int.{int_min}
 use Rattle.elevator_model.specs.declared.Stop.{Stop}
@@ -207,7 +208,8 @@ HasChoice s =
     (j : ℕ) × (j < call_count s) × (2 ≤ sum_where (car_count s) (λ c. is_possible s c (call_of s j)) (λ _. 1))
 
 -- What a search answers that starts with given prices and with a bound `least` of its own.
-pub record IsFound (start : List ℤ) (least : ℤ) (s : Snapshot) (rounds moves : ℕ) (plan : List (List Stop)) (cost bound : ℕ) (tree : List Twig) (turns : List Turn) (why : StopReason) : Type 0 where
+pub record IsFound (start : List ℤ) (least : ℤ) (s : Snapshot) (rounds moves : ℕ) (plan : List (List Stop)) (cost bound : ℕ) (tree : List Twig)
+    (turns : List Turn) (why : StopReason) : Type 0 where
   pub proves : Proves s plan cost bound tree
   pub best_bound : pos bound ≡ least_bound cost tree
   pub at_least : least ≤ℤ pos bound
@@ -218,7 +220,8 @@ pub record IsFound (start : List ℤ) (least : ℤ) (s : Snapshot) (rounds moves
   pub turn_bounds : All (λ (turn : Turn). rounded_up (sum_of_turn turn) ≤ℤ pos bound) turns
   pub many_turns : HasChoice s → IsTrue (list_any is_split tree) ⊎ (bound < cost) → length turns ≡ min rounds 20
   -- no plan made of the tours of the turns is cheaper
-  pub tours : 34 ^ car_count s ≤ moves → (other : List (List Stop)) → IsFeasiblePlan s other → ((c : ℕ) → c < car_count s → IsTourOfTurns turns c (tour_of other c)) → cost ≤ plan_cost_of s other
+  pub tours : 34 ^ car_count s ≤ moves → (other : List (List Stop)) → IsFeasiblePlan s other
+      → ((c : ℕ) → c < car_count s → IsTourOfTurns turns c (tour_of other c)) → cost ≤ plan_cost_of s other
   pub reason : IsReason s rounds moves cost bound tree why
 
 -- What a snapshot's solution answers: it starts with the least lone costs.

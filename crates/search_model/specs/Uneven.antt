@@ -36,7 +36,8 @@ uneven_building cars = record {
 }
 
 abbrev pub called : (id origin destination persons released : ℕ) → Call
-called id origin destination persons released = record { id = id; origin = origin; destination = destination; persons = persons; released = released; pin = None }
+called id origin destination persons released =
+    record { id = id; origin = origin; destination = destination; persons = persons; released = released; pin = None }
 
 -- the large car stands at floor 2 with three persons for floor 0, and the small one comes to floor 0
 abbrev pub uneven_pair : Snapshot

@@ -1,5 +1,6 @@
 -- What a checker says of a plan, its cost, a bound and a certificate's tree.
-use Rattle.std.specs.Prelude.{◌≡◌, All, IsTrue, ℕ, zero, suc, ◌+◌, ◌*◌, ◌^◌, ◌≤◌, ◌<◌, ◌==◌, ◌&&◌, not, nat_lt, ℤ, int_lt, List, [], ◌∷◌, length, take, Bool, if◌then◌else◌, Option, Some, None, max}
+use Rattle.std.specs.Prelude.{◌≡◌, All, IsTrue, ℕ, zero, suc, ◌+◌, ◌*◌, ◌^◌, ◌≤◌, ◌<◌, ◌==◌, ◌&&◌, not, nat_lt, ℤ, int_lt, List, [], ◌∷◌, length, take, Bool}
+use Rattle.std.specs.Prelude.{if◌then◌else◌, Option, Some, None, max}
 use Rattle.elevator_model.specs.declared.Stop.{Stop}
 use Rattle.elevator_model.specs.declared.Move.{Move}
 use Rattle.elevator_model.specs.declared.BadPlan.{BadPlan}
@@ -17,7 +18,8 @@ use Rattle.search_model.specs.declared.Verdict.{Verdict}
 use Rattle.search_model.specs.declared.Verdict.TheVariants.{Yes, No}
 use Rattle.search_model.specs.Nodes.{Node, set_of, is_part, allows, requires_of}
 use Rattle.search_model.specs.Prices.{value_of}
-use Rattle.search_model.specs.Certificates.{TreePlace, Placed, is_whole, placed_twigs, has_whole_lists, sum_of_leaf, sum_needed, price_in, worth_in, claim_in, Proves}
+use Rattle.search_model.specs.Certificates.{TreePlace, Placed, is_whole, placed_twigs, has_whole_lists, sum_of_leaf, sum_needed, price_in, worth_in, claim_in}
+use Rattle.search_model.specs.Certificates.{Proves}
 use Rattle.search_model.specs.Kept.{kept_list}
 
 -- the tour that the moves end, where its value is below the worth
@@ -52,7 +54,9 @@ reason_of_cars s k node leaf (suc n) = first_of (reason_of_cars s k node leaf n)
 
 abbrev pub reason_of_leaf : Snapshot → (bound k : ℕ) → Node → Leaf → Option Reason
 reason_of_leaf s bound k node leaf =
-    if not (has_whole_lists s leaf) then Some (Lists k) else (if int_lt (sum_of_leaf leaf) (sum_needed bound) then Some (Sum k (sum_needed bound) (sum_of_leaf leaf)) else reason_of_cars s k node leaf (car_count s))
+    if not (has_whole_lists s leaf) then Some (Lists k) else
+    (if int_lt (sum_of_leaf leaf) (sum_needed bound) then Some (Sum k (sum_needed bound) (sum_of_leaf leaf)) else reason_of_cars s k node leaf
+    (car_count s))
 
 -- the reason at the node that has the number k
 abbrev pub reason_of_twig : Snapshot → (bound k : ℕ) → TreePlace → Twig → Option Reason
@@ -95,7 +99,8 @@ pub record VerdictMeans (s : Snapshot) (plan : List (List Stop)) (cost bound : �
 -- The verdict is yes exactly where the tree proves the plan, its cost and the bound, and no kept list is
 -- longer than its claim.
 abbrev pub VerdictLaw : Type 0
-VerdictLaw = (s : Snapshot) (plan : List (List Stop)) (cost bound : ℕ) (tree : List Twig) → IsAccepted s → length plan ≡ car_count s → IsTrue (is_whole s tree) → VerdictMeans s plan cost bound tree
+VerdictLaw = (s : Snapshot) (plan : List (List Stop)) (cost bound : ℕ) (tree : List Twig) → IsAccepted s → length plan ≡ car_count s → IsTrue (is_whole s tree)
+    → VerdictMeans s plan cost bound tree
 
 -- ---- sufficient limits
 

@@ -57,16 +57,25 @@ pub record AtMoment (moment : ℕ) (s : Snapshot) (plan : List (List Stop)) (eve
 pub record AreAdvanced : Type 0 where
   pub before : AtMoment 2499 (uneven_then 2499 (Idle 2 5000) (Coming 0 2500) (thirty ∷ []) (five ∷ two ∷ nine ∷ [])) uneven_plan []
   -- at its arrival the small car has done its first stop
-  pub arrived : AtMoment 2500 (uneven_then 2500 (Idle 2 5000) (Idle 0 3800) (thirty ∷ []) (five ∷ two ∷ nine ∷ [])) ((stop 0 [] ∷ stop 1 (0 ∷ 1 ∷ []) ∷ stop 3 [] ∷ []) ∷ (stop 2 (2 ∷ []) ∷ stop 0 [] ∷ []) ∷ []) []
+  pub arrived : AtMoment 2500 (uneven_then 2500 (Idle 2 5000) (Idle 0 3800) (thirty ∷ []) (five ∷ two ∷ nine ∷ []))
+      ((stop 0 [] ∷ stop 1 (0 ∷ 1 ∷ []) ∷ stop 3 [] ∷ []) ∷ (stop 2 (2 ∷ []) ∷ stop 0 [] ∷ []) ∷ []) []
   pub leaves_now : (advanced uneven_world 3800).snapshot.states ≡ Idle 2 5000 ∷ Idle 0 3800 ∷ []
   pub moves : (advanced uneven_world 3801).snapshot.states ≡ Idle 2 5000 ∷ Moving 0 true 3800 ∷ []
-  pub delivers : AtMoment 12875 (uneven_then 12875 (Idle 0 17375) (Idle 2 13375) (record { id = 9; car = 1; destination = 0; persons = 1; boarded = 12475 } ∷ []) (five ∷ two ∷ [])) ((stop 1 (0 ∷ 1 ∷ []) ∷ stop 3 [] ∷ []) ∷ (stop 0 [] ∷ []) ∷ []) (Deliver 30 7 13975 ∷ Board 9 8 12475 ∷ [])
+  pub delivers : AtMoment 12875
+      (uneven_then 12875 (Idle 0 17375) (Idle 2 13375) (record { id = 9; car = 1; destination = 0; persons = 1; boarded = 12475 } ∷ []) (five ∷ two ∷ []))
+      ((stop 1 (0 ∷ 1 ∷ []) ∷ stop 3 [] ∷ []) ∷ (stop 0 [] ∷ []) ∷ []) (Deliver 30 7 13975 ∷ Board 9 8 12475 ∷ [])
   pub brakes : (advanced uneven_world 21125).snapshot.states ≡ Coming 1 21250 ∷ Coming 0 21250 ∷ []
   -- those who board at one stop come in the order of their ids
-  pub boards : AtMoment 24000 (uneven_then 24000 (Moving 1 true 23950) (Idle 0 24000) (record { id = 2; car = 0; destination = 3; persons = 1; boarded = 22350 } ∷ record { id = 5; car = 0; destination = 3; persons = 2; boarded = 22350 } ∷ []) []) ((stop 3 [] ∷ []) ∷ [] ∷ []) (Deliver 30 7 13975 ∷ Board 2 7 22350 ∷ Board 5 7 22350 ∷ Board 9 8 12475 ∷ Deliver 9 8 22050 ∷ [])
-  pub ends : last_events uneven_world ≡ Deliver 30 7 13975 ∷ Board 2 7 22350 ∷ Board 5 7 22350 ∷ Deliver 2 7 31592 ∷ Deliver 5 7 31592 ∷ Board 9 8 12475 ∷ Deliver 9 8 22050 ∷ []
+  pub boards : AtMoment 24000
+      (uneven_then 24000 (Moving 1 true 23950) (Idle 0 24000)
+      (record { id = 2; car = 0; destination = 3; persons = 1; boarded = 22350 } ∷ record { id = 5; car = 0; destination = 3; persons = 2; boarded = 22350 }
+      ∷ []) []) ((stop 3 [] ∷ []) ∷ [] ∷ []) (Deliver 30 7 13975 ∷ Board 2 7 22350 ∷ Board 5 7 22350 ∷ Board 9 8 12475 ∷ Deliver 9 8 22050 ∷ [])
+  pub ends : last_events uneven_world ≡ Deliver 30 7 13975 ∷ Board 2 7 22350 ∷ Board 5 7 22350 ∷ Deliver 2 7 31592 ∷ Deliver 5 7 31592 ∷ Board 9 8 12475
+      ∷ Deliver 9 8 22050 ∷ []
   -- in turn: the index of the call that waits falls
-  pub index_falls : (advanced (world uneven_pair ((stop 0 [] ∷ stop 1 (0 ∷ []) ∷ stop 3 [] ∷ stop 1 (1 ∷ []) ∷ stop 3 [] ∷ []) ∷ (stop 0 [] ∷ stop 2 (2 ∷ []) ∷ stop 0 [] ∷ []) ∷ [])) 24000).plan ≡ (stop 3 [] ∷ stop 1 (0 ∷ []) ∷ stop 3 [] ∷ []) ∷ [] ∷ []
+  pub index_falls : (advanced
+      (world uneven_pair ((stop 0 [] ∷ stop 1 (0 ∷ []) ∷ stop 3 [] ∷ stop 1 (1 ∷ []) ∷ stop 3 [] ∷ []) ∷ (stop 0 [] ∷ stop 2 (2 ∷ []) ∷ stop 0 [] ∷ []) ∷ []))
+      24000).plan ≡ (stop 3 [] ∷ stop 1 (0 ∷ []) ∷ stop 3 [] ∷ []) ∷ [] ∷ []
 
 -- ---- a car that moves
 
@@ -116,7 +125,8 @@ solved tour cost = record { plan = tour ∷ []; cost = cost; bound = cost }
 
 abbrev pub printed : ℕ → Stated
 printed n =
-    if n == 1 then solved (stop 0 (0 ∷ []) ∷ stop 1 [] ∷ []) 7500 else (if n == 2 then solved (stop 1 (0 ∷ []) ∷ stop 2 [] ∷ []) 10000 else solved (stop 1 (0 ∷ []) ∷ stop 2 [] ∷ stop 3 [] ∷ []) 25000)
+    if n == 1 then solved (stop 0 (0 ∷ []) ∷ stop 1 [] ∷ []) 7500 else
+    (if n == 2 then solved (stop 1 (0 ∷ []) ∷ stop 2 [] ∷ []) 10000 else solved (stop 1 (0 ∷ []) ∷ stop 2 [] ∷ stop 3 [] ∷ []) 25000)
 
 -- the second row comes at the moment of an arrival, the third during a dwell, the fourth before it, and the
 -- last one is no row
@@ -130,14 +140,16 @@ abbrev pub served : (call released boarded delivered : ℕ) → Served
 served call released boarded delivered = record { call = call; released = released; boarded = boarded; delivered = delivered }
 
 pub record IsDay : Type 0 where
-  pub log : the_day.log ≡ Accepted 1 [] (printed 1) ∷ Accepted 2 (Board 1 1 1000 ∷ Deliver 1 1 7500 ∷ []) (printed 2) ∷ Accepted 3 (Board 2 1 10000 ∷ []) (printed 3) ∷ Refused 4 BeforeNow ∷ Refused 5 NoRow ∷ []
+  pub log : the_day.log ≡ Accepted 1 [] (printed 1) ∷ Accepted 2 (Board 1 1 1000 ∷ Deliver 1 1 7500 ∷ []) (printed 2)
+      ∷ Accepted 3 (Board 2 1 10000 ∷ []) (printed 3) ∷ Refused 4 BeforeNow ∷ Refused 5 NoRow ∷ []
   pub last : last_events the_day.day.world ≡ Board 3 1 12500 ∷ Deliver 2 1 19000 ∷ Deliver 3 1 25500 ∷ []
   pub refused : the_day.day.refused ≡ 2
   pub unsolved : the_day.day.unsolved ≡ 0
   pub delivered : delivered_count the_day.day ≡ 3
   pub calls : served_of the_day.day ≡ served 1 0 1000 7500 ∷ served 2 6500 10000 19000 ∷ served 3 9500 12500 25500 ∷ []
   -- the world in which each plan was printed
-  pub second : (day_run opening printed (row 0 0 1 1 ∷ row 6500 1 2 1 ∷ [])).day.world.snapshot ≡ shown 1 6500 8 (Idle 1 9000) [] (call_from 2 1 2 1 6500 None ∷ [])
+  pub second : (day_run opening printed (row 0 0 1 1 ∷ row 6500 1 2 1 ∷ [])).day.world.snapshot
+      ≡ shown 1 6500 8 (Idle 1 9000) [] (call_from 2 1 2 1 6500 None ∷ [])
   pub third : the_day.day.world.snapshot ≡ shown 1 9500 8 (Idle 1 11500) (group 2 2 1 10000 ∷ []) (call_from 3 1 3 1 9500 None ∷ [])
   pub second_cost : PlanCosts (shown 1 6500 8 (Idle 1 9000) [] (call_from 2 1 2 1 6500 None ∷ [])) (printed 2).plan 10000
   pub third_cost : PlanCosts the_day.day.world.snapshot (printed 3).plan 25000
@@ -177,7 +189,16 @@ two_floors = record {
 
 -- a car that comes to the top after everything else, with n calls that wait for it
 abbrev pub waiting : (building_version n : ℕ) → World
-waiting building_version n = world (record { version = 1; building = building_of_cars building_version (car_named 1 8 15 ∷ []); moment = 0; states = Coming 3 90000000 ∷ []; aboard = []; calls = calls_to n }) ((stop 3 [] ∷ []) ∷ [])
+waiting building_version n =
+    world (record {
+      version = 1;
+      building = building_of_cars building_version (car_named 1 8 15 ∷ []);
+      moment = 0;
+      states = Coming 3 90000000 ∷ [];
+      aboard =
+          [];
+      calls = calls_to n;
+    }) ((stop 3 [] ∷ []) ∷ [])
 
 abbrev pub FaultOf : World → Option Row → RowFault → Type 0
 FaultOf w row fault = fault_of_row w 1 row ≡ Some fault

@@ -45,8 +45,10 @@ abbrev pub two_splits : List Twig
 two_splits = Split 0 1 ∷ bare ∷ Split 1 2 ∷ bare ∷ bare ∷ []
 
 pub record AreTrees : Type 0 where
-  pub nodes : map (λ (p : Placed). p.place.node) (placed_twigs up_and_down two_splits) ≡ (3 ∷ 3 ∷ 3 ∷ 3 ∷ []) ∷ (1 ∷ 3 ∷ 3 ∷ 3 ∷ []) ∷ (2 ∷ 3 ∷ 3 ∷ 3 ∷ []) ∷ (2 ∷ 2 ∷ 3 ∷ 3 ∷ []) ∷ (2 ∷ 1 ∷ 3 ∷ 3 ∷ []) ∷ []
-  pub above : map (λ (p : Placed). p.place.above) (placed_twigs up_and_down two_splits) ≡ (3 ∷ 3 ∷ 3 ∷ 3 ∷ []) ∷ (3 ∷ 3 ∷ 3 ∷ 3 ∷ []) ∷ (3 ∷ 3 ∷ 3 ∷ 3 ∷ []) ∷ (2 ∷ 3 ∷ 3 ∷ 3 ∷ []) ∷ (2 ∷ 3 ∷ 3 ∷ 3 ∷ []) ∷ []
+  pub nodes : map (λ (p : Placed). p.place.node) (placed_twigs up_and_down two_splits) ≡ (3 ∷ 3 ∷ 3 ∷ 3 ∷ []) ∷ (1 ∷ 3 ∷ 3 ∷ 3 ∷ []) ∷ (2 ∷ 3 ∷ 3 ∷ 3 ∷ [])
+      ∷ (2 ∷ 2 ∷ 3 ∷ 3 ∷ []) ∷ (2 ∷ 1 ∷ 3 ∷ 3 ∷ []) ∷ []
+  pub above : map (λ (p : Placed). p.place.above) (placed_twigs up_and_down two_splits) ≡ (3 ∷ 3 ∷ 3 ∷ 3 ∷ []) ∷ (3 ∷ 3 ∷ 3 ∷ 3 ∷ []) ∷ (3 ∷ 3 ∷ 3 ∷ 3 ∷ [])
+      ∷ (2 ∷ 3 ∷ 3 ∷ 3 ∷ []) ∷ (2 ∷ 3 ∷ 3 ∷ 3 ∷ []) ∷ []
   pub whole : is_whole up_and_down two_splits ≡ true
   pub one_leaf : is_whole up_and_down (bare ∷ []) ≡ true
   pub nothing : is_whole up_and_down [] ≡ false

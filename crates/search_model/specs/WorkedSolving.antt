@@ -71,8 +71,10 @@ pub record AreRootWorths : Type 0 where
   pub first : verdict_of up_and_down shared 61000 24000 (Tip (root_leaf (pos 6000000) (pos 0) (pos 0)) ∷ []) ≡ Yes
   pub not_more : verdict_of up_and_down shared 61000 24000 (Tip (root_leaf (pos 6000000) (pos 1) (pos 0)) ∷ []) ≡ No (Under 1 0 (pos 1) (pos 0) [])
   pub second : verdict_of up_and_down shared 61000 45500 (Tip (root_leaf (pos 12000000) (negsuc 2499999) (pos 0)) ∷ []) ≡ Yes
-  pub no_greater_bound : verdict_of up_and_down shared 61000 45501 (Tip (root_leaf (pos 12000000) (negsuc 2499999) (pos 0)) ∷ []) ≡ No (Sum 1 (pos 45500001) (pos 45500000))
-  pub no_greater_worth : verdict_of up_and_down shared 61000 45500 (Tip (root_leaf (pos 12000000) (negsuc 2499998) (pos 0)) ∷ []) ≡ No (Under 1 0 (negsuc 2499998) (negsuc 2499999) one_up)
+  pub no_greater_bound : verdict_of up_and_down shared 61000 45501 (Tip (root_leaf (pos 12000000) (negsuc 2499999) (pos 0)) ∷ [])
+      ≡ No (Sum 1 (pos 45500001) (pos 45500000))
+  pub no_greater_worth : verdict_of up_and_down shared 61000 45500 (Tip (root_leaf (pos 12000000) (negsuc 2499998) (pos 0)) ∷ [])
+      ≡ No (Under 1 0 (negsuc 2499998) (negsuc 2499999) one_up)
 
 pub record AreTreeBounds : Type 0 where
   pub leaf : bound_of_leaf (leaf_of (pos 7499001) 5) ≡ pos 7500

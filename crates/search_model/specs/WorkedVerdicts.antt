@@ -53,7 +53,8 @@ pub record AreVerdicts : Type 0 where
   pub not_delivered : SaysOf one_call (stop 0 (0 ∷ []) ∷ []) 2 Delivery
   pub of_no_use : SaysOf one_call (stop 0 [] ∷ []) 1 UselessStop
   pub no_price : Says 7500 7500 (one_leaf [] (worth_of 0 (pos 7499001) 16807 ∷ [])) (Lists 1)
-  pub whole_part : verdict_of one_call there 7500 7500 (Split 0 1 ∷ Tip (leaf_of (pos 7499001) 16807) ∷ Tip (leaf_of (pos 7499001) 16807) ∷ []) ≡ No (BadSplit 1)
+  pub whole_part : verdict_of one_call there 7500 7500 (Split 0 1 ∷ Tip (leaf_of (pos 7499001) 16807) ∷ Tip (leaf_of (pos 7499001) 16807) ∷ [])
+      ≡ No (BadSplit 1)
   pub turns : SaysOf two_ways (stop 1 (0 ∷ 1 ∷ []) ∷ stop 2 [] ∷ stop 0 [] ∷ []) 2 TurnWithPassengers
 
 -- claims and prices at their edges
@@ -96,7 +97,10 @@ pub record AreUnevenVerdicts : Type 0 where
   pub sum_of_second : SaysUneven 239601 (uneven_tree (worth_of 1 (pos 65750000) 6) (worth_of 1 (pos 0) 3)) (No (Sum 3 (pos 239600001) (pos 239600000)))
   pub claim_of_first : SaysUneven 239600 (uneven_tree (worth_of 1 (pos 65750000) 5) (worth_of 1 (pos 0) 3)) (No (Claim 2 1 5))
   pub claim_of_second : SaysUneven 239600 (uneven_tree (worth_of 1 (pos 65750000) 6) (worth_of 1 (pos 0) 2)) (No (Claim 3 1 2))
-  pub under_in_first : SaysUneven 239600 (uneven_tree (worth_of 1 (pos 65750001) 9) (worth_of 1 (pos 0) 3)) (No (Under 2 1 (pos 65750001) (pos 65750000) (stop 0 [] ∷ stop 2 (2 ∷ []) ∷ stop 0 [] ∷ [])))
+  pub under_in_first : SaysUneven 239600 (uneven_tree (worth_of 1 (pos 65750001) 9) (worth_of 1 (pos 0) 3))
+      (No (Under 2 1 (pos 65750001) (pos 65750000) (stop 0 [] ∷ stop 2 (2 ∷ []) ∷ stop 0 [] ∷ [])))
   pub claim_before_it : SaysUneven 239600 (uneven_tree (worth_of 1 (pos 65750001) 8) (worth_of 1 (pos 0) 3)) (No (Claim 2 1 8))
   -- the first car is named first
-  pub first_car : SaysUneven 239600 (Split 2 2 ∷ uneven_leaf (worth_of 0 (pos 81450001) 4) (worth_of 1 (pos 65750001) 9) ∷ uneven_leaf (worth_of 0 (pos 109600000) 3) (worth_of 1 (pos 0) 3) ∷ []) (No (Under 2 0 (pos 81450001) (pos 81450000) (stop 0 [] ∷ [])))
+  pub first_car : SaysUneven 239600
+      (Split 2 2 ∷ uneven_leaf (worth_of 0 (pos 81450001) 4) (worth_of 1 (pos 65750001) 9) ∷ uneven_leaf (worth_of 0 (pos 109600000) 3) (worth_of 1 (pos 0) 3)
+      ∷ []) (No (Under 2 0 (pos 81450001) (pos 81450000) (stop 0 [] ∷ [])))

@@ -17,15 +17,22 @@ same_bit x y p q e = grind (arith, nat_tests, e)
 -- a set of one car is the number that has its bit
 single_number : (set car : ℕ) → has set car ≡ true → ((k : ℕ) → k ≢ car → has set k ≡ false) → set ≡ 2 ^ car
 single_number set car own others =
-    same_from_bits set (2 ^ car) (λ k. same_bit (bit_at set k) (bit_at (2 ^ car) k) (bit_at-lt set k) (bit_at-lt (2 ^ car) k) (elim (cases_eq k car) [ inl e ↦ at_own k e | inr ne ↦ others k ne ∙ sym (ap (λ (x : ℕ). eqb x 1) (bit_at-pow_other car k ne)) ]))
+    same_from_bits set (2 ^ car) (λ k. same_bit (bit_at set k) (bit_at (2 ^ car) k) (bit_at-lt set k) (bit_at-lt (2 ^ car) k) (elim (cases_eq k car) [
+      | inl e ↦ at_own k e
+      | inr ne ↦ others k ne ∙ sym (ap (λ (x : ℕ). eqb x 1) (bit_at-pow_other car k ne))
+    ]))
   where
     at_own : (k : ℕ) → k ≡ car → has set k ≡ has (2 ^ car) k
     at_own k e = ap (has set) e ∙ own ∙ sym (ap (λ (x : ℕ). eqb x 1) (bit_at-pow_same car)) ∙ ap (has (2 ^ car)) (sym e)
 
 -- no car but this one is in the set
-pub alone : (set rest car k : ℕ) → has set car ≡ true → ((j : ℕ) → has rest j ≡ (has set j && not (eqb j car))) → ((j : ℕ) → has rest j ≡ false) → has set k ≡ true → set ≡ 2 ^ k
+pub alone : (set rest car k : ℕ) → has set car ≡ true → ((j : ℕ) → has rest j ≡ (has set j && not (eqb j car))) → ((j : ℕ) → has rest j ≡ false)
+    → has set k ≡ true → set ≡ 2 ^ k
 alone set rest car k own rest_is none member =
-    elim (cases_eq k car) [ inl e ↦ single_number set car own others ∙ ap (λ (x : ℕ). 2 ^ x) (sym e) | inr ne ↦ absurd (both_ways (has set k) (others k ne) member) ]
+    elim (cases_eq k car) [
+      | inl e ↦ single_number set car own others ∙ ap (λ (x : ℕ). 2 ^ x) (sym e)
+      | inr ne ↦ absurd (both_ways (has set k) (others k ne) member)
+    ]
   where
     others : (j : ℕ) → j ≢ car → has set j ≡ false
     others j ne = other (has set j) (eqb j car) (ne_eqb j car ne) (sym (rest_is j) ∙ none j)
@@ -36,7 +43,8 @@ alone set rest car k own rest_is none member =
         other true true e h = e
 
 -- the least car alone divides a set that has another car
-pub alone-is_part : (set rest none part car other : ℕ) → car < 16 → has set car ≡ true → ((j : ℕ) → has rest j ≡ (has set j && not (eqb j car))) → other < 16 → has rest other ≡ true → none ≡ 0 → ((j : ℕ) → has part j ≡ (has none j || eqb j car)) → is_part set part ≡ true
+pub alone-is_part : (set rest none part car other : ℕ) → car < 16 → has set car ≡ true → ((j : ℕ) → has rest j ≡ (has set j && not (eqb j car))) → other < 16
+    → has rest other ≡ true → none ≡ 0 → ((j : ℕ) → has part j ≡ (has none j || eqb j car)) → is_part set part ≡ true
 alone-is_part set rest none part car other lt own rest_is lt' more none_is part_is =
     both (any_below 16 (has part)) (any_below 16 (λ c. has set c && not (has part c))) (any_below 16 (λ c. has part c && not (has set c)))
     (any_below-at 16 (has part) car lt (part_at car ∙ eq-eqb car car refl))
@@ -70,7 +78,8 @@ alone-number none part car none_is part_is =
     part_at k = part_is k ∙ ap (λ (b : Bool). b || eqb k car) (ap (λ (x : ℕ). has x k) none_is ∙ has_zero k)
 
 -- in a node of the search each call then has one car left
-pub single-in_node : (s : Snapshot) (node : Node) → IsNodeOf s node → AreSingle (call_count s) node → (j : ℕ) → j < call_count s → (c : ℕ) × (set_of node j ≡ 2 ^ c)
+pub single-in_node : (s : Snapshot) (node : Node) → IsNodeOf s node → AreSingle (call_count s) node → (j : ℕ) → j < call_count s → (c : ℕ)
+    × (set_of node j ≡ 2 ^ c)
 single-in_node s node is_node single j lt =
     let some = any_below-true (car_count s) (has (set_of node j)) (is_node.some j lt) in
     (some.0, single j lt some.0 some.2)

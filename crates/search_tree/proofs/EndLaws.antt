@@ -39,7 +39,8 @@ min-first x y = omega (arith, ints, int_min_is x y)
 min-second : (x y : ℤ) → int_min x y ≤ℤ y
 min-second x y = omega (arith, ints, int_min_is x y)
 
-pub bound-of-leaves : (cost : ℕ) (P : TreePlace → Branch → Type 0) (places : List TreePlace) (tree : List Branch) → AllStand P places tree → AllStand (IsAbove (least_bound cost (map twig_of tree))) places tree
+pub bound-of-leaves : (cost : ℕ) (P : TreePlace → Branch → Type 0) (places : List TreePlace) (tree : List Branch) → AllStand P places tree
+    → AllStand (IsAbove (least_bound cost (map twig_of tree))) places tree
 bound-of-leaves cost P [] [] h = tt
 bound-of-leaves cost P [] (b ∷ tree) h = absurd h
 bound-of-leaves cost P (place ∷ places) [] h = absurd h
@@ -48,16 +49,24 @@ bound-of-leaves cost P (place ∷ places) (b ∷ tree) h = by_kind b.split refl 
     rest : ℤ
     rest = least_bound cost (map twig_of tree)
 
-    by_kind : (x : Option SplitAt) → b.split ≡ x → AllStand (IsAbove rest) (places_after place (twig_of b) places) tree → IfLeaf b.split (lesser_bound rest (twig_of b) ≤ℤ bound_of_sheet b.sheet) × AllStand (IsAbove (lesser_bound rest (twig_of b))) (places_after place (twig_of b) places) tree
+    by_kind : (x : Option SplitAt) → b.split ≡ x → AllStand (IsAbove rest) (places_after place (twig_of b) places) tree
+        → IfLeaf b.split (lesser_bound rest (twig_of b) ≤ℤ bound_of_sheet b.sheet)
+        × AllStand (IsAbove (lesser_bound rest (twig_of b))) (places_after place (twig_of b) places) tree
     by_kind None e later =
-        let is : lesser_bound rest (twig_of b) ≡ int_min (bound_of_leaf (leaf_of b.sheet)) rest = ap (λ (y : Option SplitAt). lesser_bound rest (twig_at y b.sheet)) e in
+        let is : lesser_bound rest (twig_of b) ≡ int_min (bound_of_leaf (leaf_of b.sheet)) rest =
+        ap (λ (y : Option SplitAt). lesser_bound rest (twig_at y b.sheet)) e in
         let same : bound_of_leaf (leaf_of b.sheet) ≡ bound_of_sheet b.sheet = ap rounded_up (sum_of_leaf-sheet 0 b.sheet) in
         let first = min-first (bound_of_leaf (leaf_of b.sheet)) rest in
-        let second = min-second (bound_of_leaf (leaf_of b.sheet)) rest in
-        (subst (λ (y : Option SplitAt). IfLeaf y (lesser_bound rest (twig_of b) ≤ℤ bound_of_sheet b.sheet)) (sym e) (omega (arith, ints, is, same, first)), stand-more (IsAbove rest) (IsAbove (lesser_bound rest (twig_of b))) (above-lower (lesser_bound rest (twig_of b)) rest (omega (arith, ints, is, second))) (places_after place (twig_of b) places) tree later)
+        let second = min-second (bound_of_leaf (leaf_of b.sheet)) rest in (
+          subst (λ (y : Option SplitAt). IfLeaf y (lesser_bound rest (twig_of b) ≤ℤ bound_of_sheet b.sheet)) (sym e) (omega (arith, ints, is, same, first)),
+          stand-more (IsAbove rest) (IsAbove (lesser_bound rest (twig_of b)))
+              (above-lower (lesser_bound rest (twig_of b)) rest (omega (arith, ints, is, second))) (places_after place (twig_of b) places) tree later,
+        )
     by_kind (Some at) e later =
-        let is : lesser_bound rest (twig_of b) ≡ rest = ap (λ (y : Option SplitAt). lesser_bound rest (twig_at y b.sheet)) e in
-        (subst (λ (y : Option SplitAt). IfLeaf y (lesser_bound rest (twig_of b) ≤ℤ bound_of_sheet b.sheet)) (sym e) tt, subst (λ (z : ℤ). AllStand (IsAbove z) (places_after place (twig_of b) places) tree) (sym is) later)
+        let is : lesser_bound rest (twig_of b) ≡ rest = ap (λ (y : Option SplitAt). lesser_bound rest (twig_at y b.sheet)) e in (
+          subst (λ (y : Option SplitAt). IfLeaf y (lesser_bound rest (twig_of b) ≤ℤ bound_of_sheet b.sheet)) (sym e) tt,
+          subst (λ (z : ℤ). AllStand (IsAbove z) (places_after place (twig_of b) places) tree) (sym is) later,
+        )
 
 -- a sum whose rounded units are at least the bound is enough
 enough : (bound : ℕ) (sum : ℤ) → pos bound ≤ℤ rounded_up sum → sum_needed bound ≤ℤ sum
@@ -72,22 +81,29 @@ enough bound sum le = by_test (int_lt sum (sum_needed bound)) refl
 -- ---- what the tree proves
 
 module _ (s : Snapshot) (most_tours : ℕ) where
-  leaf-sound : (bound : ℕ) (place : TreePlace) (b : Branch) → b.node ≡ place.node → IsLeafIn s most_tours b.node b → pos bound ≤ℤ bound_of_sheet b.sheet → IsSoundLeaf s bound place.node (leaf_of b.sheet)
+  leaf-sound : (bound : ℕ) (place : TreePlace) (b : Branch) → b.node ≡ place.node → IsLeafIn s most_tours b.node b → pos bound ≤ℤ bound_of_sheet b.sheet
+      → IsSoundLeaf s bound place.node (leaf_of b.sheet)
   leaf-sound bound place b e leaf le =
       record {
         whole = whole_lists-sheet 0 s b.sheet leaf.sheet.calls leaf.sheet.cars;
         enough = (let sum = sum_of_leaf-sheet 0 b.sheet in let big = enough bound (sum_of_sheet b.sheet) le in omega (arith, ints, sum, big));
-        worths = λ c lt. subst (λ (n : Node). IsWorth s n c (price_in (leaf_of b.sheet)) (worth_in (leaf_of b.sheet) c)) e (subst (λ (p : ℕ → ℤ). IsWorth s b.node c p (worth_in (leaf_of b.sheet) c)) (sym (price_in-sheet 0 b.sheet)) (subst (IsWorth s b.node c (price_at b.sheet.prices)) (sym (worth_in-sheet 0 b.sheet c)) (leaf.sheet.worths c lt)));
+        worths = λ c lt.
+            subst (λ (n : Node). IsWorth s n c (price_in (leaf_of b.sheet)) (worth_in (leaf_of b.sheet) c)) e
+            (subst (λ (p : ℕ → ℤ). IsWorth s b.node c p (worth_in (leaf_of b.sheet) c)) (sym (price_in-sheet 0 b.sheet))
+            (subst (IsWorth s b.node c (price_at b.sheet.prices)) (sym (worth_in-sheet 0 b.sheet c)) (leaf.sheet.worths c lt)));
       }
 
-  branch-sound : (bound : ℕ) (place : TreePlace) (b : Branch) → IsBranchAt s most_tours place b → IsAbove (pos bound) place b → IsSound s bound place (twig_of b)
+  branch-sound : (bound : ℕ) (place : TreePlace) (b : Branch) → IsBranchAt s most_tours place b → IsAbove (pos bound) place b
+      → IsSound s bound place (twig_of b)
   branch-sound bound place b is above = by_kind b.split is.kind above
     where
-      by_kind : (x : Option SplitAt) → IsKindIn s most_tours b.node b x → IfLeaf x (pos bound ≤ℤ bound_of_sheet b.sheet) → IsSound s bound place (twig_at x b.sheet)
+      by_kind : (x : Option SplitAt) → IsKindIn s most_tours b.node b x → IfLeaf x (pos bound ≤ℤ bound_of_sheet b.sheet)
+          → IsSound s bound place (twig_at x b.sheet)
       by_kind None leaf le = leaf-sound bound place b is.node leaf le
       by_kind (Some at) part le = subst (λ (n : Node). IsTrue (is_part (set_of n at.call) at.part)) is.node part
 
-  pub tree-proves : (plan : List (List Stop)) (cost bound : ℕ) (tree : List Branch) → IsFeasiblePlan s plan → plan_cost_of s plan ≡ cost → pos bound ≡ least_bound cost (map twig_of tree) → AllInTree (IsBranchAt s most_tours) s tree → Proves s plan cost bound (map twig_of tree)
+  pub tree-proves : (plan : List (List Stop)) (cost bound : ℕ) (tree : List Branch) → IsFeasiblePlan s plan → plan_cost_of s plan ≡ cost
+      → pos bound ≡ least_bound cost (map twig_of tree) → AllInTree (IsBranchAt s most_tours) s tree → Proves s plan cost bound (map twig_of tree)
   tree-proves plan cost bound tree feasible costs is h =
       let above = bound-of-leaves cost (IsBranchAt s most_tours) (root_place s ∷ []) tree h in
       let above' = subst (λ (z : ℤ). AllStand (IsAbove z) (root_place s ∷ []) tree) (sym is) above in
@@ -104,7 +120,11 @@ module _ (s : Snapshot) (most_tours : ℕ) where
   branch-priced place b h = by_kind b.split h
     where
       by_kind : (x : Option SplitAt) → IfLeaf x (AreLeastIn s most_tours place.above b.sheet) → IsPriced s most_tours place (twig_at x b.sheet)
-      by_kind None least = λ c lt. subst (λ (w : ℤ). ReachesLeast s place.above c (price_in (leaf_of b.sheet)) w ⊎ HasPartialTours s place.above c most_tours) (sym (worth_in-sheet 0 b.sheet c)) (subst (λ (p : ℕ → ℤ). ReachesLeast s place.above c p (worth_of_car b.sheet c) ⊎ HasPartialTours s place.above c most_tours) (sym (price_in-sheet 0 b.sheet)) (least c lt))
+      by_kind None least =
+          λ c lt. subst (λ (w : ℤ). ReachesLeast s place.above c (price_in (leaf_of b.sheet)) w ⊎ HasPartialTours s place.above c most_tours)
+          (sym (worth_in-sheet 0 b.sheet c))
+          (subst (λ (p : ℕ → ℤ). ReachesLeast s place.above c p (worth_of_car b.sheet c) ⊎ HasPartialTours s place.above c most_tours)
+          (sym (price_in-sheet 0 b.sheet)) (least c lt))
       by_kind (Some at) least = tt
 
   pub tree-priced : (tree : List Branch) → AllInTree (IsPricedAt s most_tours) s tree → IsPricedTree s most_tours (map twig_of tree)

@@ -1,5 +1,6 @@
 -- What a search's tree proves of its answer.
-use Rattle.std.proofs.Common.{◌≡◌, ℕ, zero, suc, ◌+◌, ◌*◌, ◌^◌, ◌<◌, ◌≤◌, Bool, true, false, not, ◌&&◌, cond, List, [], ◌∷◌, length, map, set, refl, sym, ap, ◌∙◌, subst, inl, inr, arith}
+use Rattle.std.proofs.Common.{◌≡◌, ℕ, zero, suc, ◌+◌, ◌*◌, ◌^◌, ◌<◌, ◌≤◌, Bool, true, false, not, ◌&&◌, cond, List, [], ◌∷◌, length, map, set, refl, sym, ap}
+use Rattle.std.proofs.Common.{◌∙◌, subst, inl, inr, arith}
 use Rattle.std.specs.Prelude.{min, ℤ, pos, negsuc, ◌+ℤ◌, ◌-ℤ◌, ◌≤ℤ◌, ◌<ℤ◌, int_lt, ◌⊎◌, All, Any, IsTrue, IfSome, Option, Some, None}
 use Rattle.std.specs.List.{list_any}
 use Rattle.std.specs.Int.{int_min}
@@ -26,8 +27,11 @@ use Rattle.elevator_model.specs.Plans.{IsFeasiblePlan, plan_cost_of, tour_of}
 use Rattle.search_model.specs.Sums.{int_sum_by, rounded_up}
 use Rattle.search_model.specs.Nodes.{Node, root_of, set_of, set_where, is_part, rest_of}
 use Rattle.search_model.specs.Prices.{price_at, IsWorth}
-use Rattle.search_model.specs.Certificates.{TreePlace, Placed, places_after, placed_from, is_filled, IsSound, Proves, root_place, worth_in, sum_needed, IsSoundLeaf}
-use Rattle.search_model.specs.Solving.{HasPartialTours, EndsThere, IsAtEnd, IsEndOf, IsOutOfRounds, IsOutOfMoves, least_bound, lesser_bound, bound_of_leaf, IsFound, IsReason, HasChoice, AreRootTurns, FollowTurn, IsRootTurn, IsPricing, IsTourOfTurns, is_split, no_turn, turn_of_car, sum_of_turn, prices_after}
+use Rattle.search_model.specs.Certificates.{TreePlace, Placed, places_after, placed_from, is_filled, IsSound, Proves, root_place, worth_in, sum_needed}
+use Rattle.search_model.specs.Certificates.{IsSoundLeaf}
+use Rattle.search_model.specs.Solving.{HasPartialTours, EndsThere, IsAtEnd, IsEndOf, IsOutOfRounds, IsOutOfMoves, least_bound, lesser_bound, bound_of_leaf}
+use Rattle.search_model.specs.Solving.{IsFound, IsReason, HasChoice, AreRootTurns, FollowTurn, IsRootTurn, IsPricing, IsTourOfTurns, is_split, no_turn}
+use Rattle.search_model.specs.Solving.{turn_of_car, sum_of_turn, prices_after}
 use Rattle.search_model.specs.Verdicts.{rounds_enough, moves_enough}
 use Rattle.call_state.proofs.PossibleLemmas.{most_cars-le}
 use Rattle.search_model.proofs.RoundLemmas.{rounded_up-least}
@@ -41,7 +45,8 @@ use Rattle.search_tree.specs.declared.branches.SplitAt.{SplitAt}
 use Rattle.search_tree.specs.declared.branches.Branch.{Branch}
 use Rattle.search_tree.specs.Sheets.{PriceSheet, worth_of_car, sum_of_sheet, turn_worth, sheet_of_turn, leaf_of}
 use Rattle.search_tree.specs.Branches.{AreSingle, twig_of, twig_at, at_place}
-use Rattle.search_tree.specs.Standing.{Holding, AllStand, AllInTree, IsSheetIn, IsSpentCar, IsKindIn, IsBranchAt, IfLeaf, IsPricedAt, IsAtLeast, bound_of_sheet, pricings_of}
+use Rattle.search_tree.specs.Standing.{Holding, AllStand, AllInTree, IsSheetIn, IsSpentCar, IsKindIn, IsBranchAt, IfLeaf, IsPricedAt, IsAtLeast, bound_of_sheet}
+use Rattle.search_tree.specs.Standing.{pricings_of}
 use Rattle.search_tree.proofs.SumLemmas.{turn_sum}
 use Rattle.search_tree.proofs.ChoiceLemmas.{single-in_node}
 use Rattle.search_tree.proofs.StandingLemmas.{stand-more, stand-both, stand-placed, stand-at}
@@ -71,16 +76,19 @@ sum-enough bound sum is = by_test (int_lt sum (sum_needed bound)) refl
 
 -- ---- the root
 
-root-sound : (s : Snapshot) (bound : ℕ) (sheet : PriceSheet) → IsSheetIn s (root_of s) sheet → rounded_up (sum_of_sheet sheet) ≡ pos bound → IsSoundLeaf s bound (root_of s) (leaf_of sheet)
+root-sound : (s : Snapshot) (bound : ℕ) (sheet : PriceSheet) → IsSheetIn s (root_of s) sheet → rounded_up (sum_of_sheet sheet) ≡ pos bound
+    → IsSoundLeaf s bound (root_of s) (leaf_of sheet)
 root-sound s bound sheet is rounds =
     record {
       whole = whole_lists-sheet 0 s sheet is.calls is.cars;
       enough = subst (λ (z : ℤ). sum_needed bound ≤ℤ z) (sym (sum_of_leaf-sheet 0 sheet)) (sum-enough bound (sum_of_sheet sheet) rounds);
-      worths = λ c lt. subst (λ (p : ℕ → ℤ). IsWorth s (root_of s) c p (worth_in (leaf_of sheet) c)) (sym (price_in-sheet 0 sheet)) (subst (IsWorth s (root_of s) c (price_at sheet.prices)) (sym (worth_in-sheet 0 sheet c)) (is.worths c lt));
+      worths = λ c lt. subst (λ (p : ℕ → ℤ). IsWorth s (root_of s) c p (worth_in (leaf_of sheet) c)) (sym (price_in-sheet 0 sheet))
+          (subst (IsWorth s (root_of s) c (price_at sheet.prices)) (sym (worth_in-sheet 0 sheet c)) (is.worths c lt));
     }
 
 -- Weak duality: no feasible plan costs less than the rounded sum of prices and worths of the root.
-pub root-bounds : (s : Snapshot) (sheet : PriceSheet) (plan : List (List Stop)) → IsSheetIn s (root_of s) sheet → IsFeasiblePlan s plan → bound_of_sheet sheet ≤ℤ pos (plan_cost_of s plan)
+pub root-bounds : (s : Snapshot) (sheet : PriceSheet) (plan : List (List Stop)) → IsSheetIn s (root_of s) sheet → IsFeasiblePlan s plan
+    → bound_of_sheet sheet ≤ℤ pos (plan_cost_of s plan)
 root-bounds s sheet plan is feasible = by_sign (rounded_up (sum_of_sheet sheet)) refl
   where
     by_sign : (z : ℤ) → rounded_up (sum_of_sheet sheet) ≡ z → z ≤ℤ pos (plan_cost_of s plan)
@@ -91,7 +99,8 @@ root-bounds s sheet plan is feasible = by_sign (rounded_up (sum_of_sheet sheet))
 
 -- ---- turns
 
-pricing-worth : (s : Snapshot) (most_tours c : ℕ) (price : ℕ → ℤ) (t : TurnOf) (spent : Bool) → IsPricing s most_tours c price t spent → IsWorth s (root_of s) c price t.priced.worth
+pricing-worth : (s : Snapshot) (most_tours c : ℕ) (price : ℕ → ℤ) (t : TurnOf) (spent : Bool) → IsPricing s most_tours c price t spent
+    → IsWorth s (root_of s) c price t.priced.worth
 pricing-worth s most_tours c price t true h = h.worth
 pricing-worth s most_tours c price t false h = h.worth
 
@@ -106,21 +115,25 @@ turn-sheet s most_tours given turn is =
     record {
       calls = is.calls;
       cars = length-map turn.cars turn_worth ∙ is.cars;
-      worths = λ c lt. subst (IsWorth s (root_of s) c (price_at turn.prices)) (sym (turn-worth turn c (subst (λ (n : ℕ). c < n) (sym is.cars) lt))) (pricing-worth s most_tours c (price_at turn.prices) (turn_of_car turn c) (turn_of_car turn c).priced.spent (is.pricings c lt));
+      worths = λ c lt. subst (IsWorth s (root_of s) c (price_at turn.prices)) (sym (turn-worth turn c (subst (λ (n : ℕ). c < n) (sym is.cars) lt)))
+          (pricing-worth s most_tours c (price_at turn.prices) (turn_of_car turn c) (turn_of_car turn c).priced.spent (is.pricings c lt));
     }
 
 turn-bound : (turn : Turn) → rounded_up (sum_of_turn turn) ≡ bound_of_sheet (sheet_of turn)
 turn-bound turn = ap (λ (z : ℤ). rounded_up (int_sum_by (λ (x : ℤ). x) turn.prices +ℤ z)) (sym (turn_sum turn.cars))
 
 -- no feasible plan costs less than a turn's rounded sum
-turn-costs : (s : Snapshot) (most_tours : ℕ) (given : List ℤ) (turn : Turn) (plan : List (List Stop)) → IsRootTurn s most_tours given turn → IsFeasiblePlan s plan → rounded_up (sum_of_turn turn) ≤ℤ pos (plan_cost_of s plan)
+turn-costs : (s : Snapshot) (most_tours : ℕ) (given : List ℤ) (turn : Turn) (plan : List (List Stop)) → IsRootTurn s most_tours given turn
+    → IsFeasiblePlan s plan → rounded_up (sum_of_turn turn) ≤ℤ pos (plan_cost_of s plan)
 turn-costs s most_tours given turn plan is feasible =
-    subst (λ (z : ℤ). z ≤ℤ pos (plan_cost_of s plan)) (sym (turn-bound turn)) (root-bounds s (sheet_of turn) plan (turn-sheet s most_tours given turn is) feasible)
+    subst (λ (z : ℤ). z ≤ℤ pos (plan_cost_of s plan)) (sym (turn-bound turn))
+    (root-bounds s (sheet_of turn) plan (turn-sheet s most_tours given turn is) feasible)
 
 -- ---- the least bound
 
 -- what is at most the cost and the bound of each leaf is at most the least bound
-pub least-of-leaves : (z : ℤ) (cost : ℕ) → z ≤ℤ pos cost → (places : List TreePlace) (tree : List Branch) → AllStand (IsAbove z) places tree → z ≤ℤ least_bound cost (map twig_of tree)
+pub least-of-leaves : (z : ℤ) (cost : ℕ) → z ≤ℤ pos cost → (places : List TreePlace) (tree : List Branch) → AllStand (IsAbove z) places tree
+    → z ≤ℤ least_bound cost (map twig_of tree)
 least-of-leaves z cost le [] [] h = le
 least-of-leaves z cost le [] (b ∷ tree) h = absurd h
 least-of-leaves z cost le (place ∷ places) [] h = absurd h
@@ -144,24 +157,31 @@ above-rounded sum place b h = by_kind b.split h
     by_kind (Some at) le = tt
 
 -- a sum that no leaf's is below, and that is not above the cost
-pub rounded-of-leaves : (s : Snapshot) (sum : ℤ) (cost : ℕ) (tree : List Branch) → rounded_up sum ≤ℤ pos cost → AllInTree (IsAtLeast sum) s tree → rounded_up sum ≤ℤ least_bound cost (map twig_of tree)
+pub rounded-of-leaves : (s : Snapshot) (sum : ℤ) (cost : ℕ) (tree : List Branch) → rounded_up sum ≤ℤ pos cost → AllInTree (IsAtLeast sum) s tree
+    → rounded_up sum ≤ℤ least_bound cost (map twig_of tree)
 rounded-of-leaves s sum cost tree le h =
-    least-of-leaves (rounded_up sum) cost le (root_place s ∷ []) tree (stand-more (IsAtLeast sum) (IsAbove (rounded_up sum)) (above-rounded sum) (root_place s ∷ []) tree h)
+    least-of-leaves (rounded_up sum) cost le (root_place s ∷ []) tree
+    (stand-more (IsAtLeast sum) (IsAbove (rounded_up sum)) (above-rounded sum) (root_place s ∷ []) tree h)
 
 -- the least bound is at least the rounded sum that the search starts with
-start-least : (s : Snapshot) (start : PriceSheet) (tree : List Branch) (plan : List (List Stop)) (cost : ℕ) → IsSheetIn s (root_of s) start → AllInTree (IsAtLeast (sum_of_sheet start)) s tree → IsFeasiblePlan s plan → plan_cost_of s plan ≡ cost → rounded_up (sum_of_sheet start) ≤ℤ least_bound cost (map twig_of tree)
+start-least : (s : Snapshot) (start : PriceSheet) (tree : List Branch) (plan : List (List Stop)) (cost : ℕ) → IsSheetIn s (root_of s) start
+    → AllInTree (IsAtLeast (sum_of_sheet start)) s tree → IsFeasiblePlan s plan → plan_cost_of s plan ≡ cost
+    → rounded_up (sum_of_sheet start) ≤ℤ least_bound cost (map twig_of tree)
 start-least s start tree plan cost sheet leaves feasible costs =
     rounded-of-leaves s (sum_of_sheet start) cost tree (subst (λ (n : ℕ). bound_of_sheet start ≤ℤ pos n) costs (root-bounds s start plan sheet feasible)) leaves
 
 -- ---- all turns
 
 -- what holds of each turn at the root and of what is known of it
-follow-all : (s : Snapshot) (most_tours : ℕ) (Q P : Turn → Type 0) → ((given : List ℤ) (turn : Turn) → IsRootTurn s most_tours given turn → Q turn → P turn) → (start : List ℤ) (i : ℕ) (turn : Turn) (turns : List Turn) → FollowTurn s most_tours start i turn turns → All Q turns → All P turns
+follow-all : (s : Snapshot) (most_tours : ℕ) (Q P : Turn → Type 0) → ((given : List ℤ) (turn : Turn) → IsRootTurn s most_tours given turn → Q turn → P turn)
+    → (start : List ℤ) (i : ℕ) (turn : Turn) (turns : List Turn) → FollowTurn s most_tours start i turn turns → All Q turns → All P turns
 follow-all s most_tours Q P f start i turn [] h q = All-nil P
 follow-all s most_tours Q P f start i turn (next ∷ turns) h q =
-    All-cons P next turns (f (prices_after s start i turn) next h.0 (All-head Q next turns q)) (follow-all s most_tours Q P f start (i + 1) next turns h.1 (All-tail Q next turns q))
+    All-cons P next turns (f (prices_after s start i turn) next h.0 (All-head Q next turns q))
+    (follow-all s most_tours Q P f start (i + 1) next turns h.1 (All-tail Q next turns q))
 
-turns-all : (s : Snapshot) (most_tours : ℕ) (Q P : Turn → Type 0) → ((given : List ℤ) (turn : Turn) → IsRootTurn s most_tours given turn → Q turn → P turn) → (start : List ℤ) (turns : List Turn) → AreRootTurns s most_tours start turns → All Q turns → All P turns
+turns-all : (s : Snapshot) (most_tours : ℕ) (Q P : Turn → Type 0) → ((given : List ℤ) (turn : Turn) → IsRootTurn s most_tours given turn → Q turn → P turn)
+    → (start : List ℤ) (turns : List Turn) → AreRootTurns s most_tours start turns → All Q turns → All P turns
 turns-all s most_tours Q P f start [] h q = All-nil P
 turns-all s most_tours Q P f start (turn ∷ turns) h q =
     All-cons P turn turns (f start turn h.0 (All-head Q turn turns q)) (follow-all s most_tours Q P f start 1 turn turns h.1 (All-tail Q turn turns q))
@@ -169,7 +189,9 @@ turns-all s most_tours Q P f start (turn ∷ turns) h q =
 -- ---- what was found
 
 -- The tree's least bound is not negative where the sum that the search starts with is not.
-pub bound_exists : (s : Snapshot) (start : PriceSheet) (tree : List Branch) (plan : List (List Stop)) (cost : ℕ) → IsSheetIn s (root_of s) start → pos 0 ≤ℤ sum_of_sheet start → AllInTree (IsAtLeast (sum_of_sheet start)) s tree → IsFeasiblePlan s plan → plan_cost_of s plan ≡ cost → pos 0 ≤ℤ least_bound cost (map twig_of tree)
+pub bound_exists : (s : Snapshot) (start : PriceSheet) (tree : List Branch) (plan : List (List Stop)) (cost : ℕ) → IsSheetIn s (root_of s) start
+    → pos 0 ≤ℤ sum_of_sheet start → AllInTree (IsAtLeast (sum_of_sheet start)) s tree → IsFeasiblePlan s plan → plan_cost_of s plan ≡ cost
+    → pos 0 ≤ℤ least_bound cost (map twig_of tree)
 bound_exists s start tree plan cost sheet natural leaves feasible costs =
     let low = rounded_up-natural (sum_of_sheet start) natural in
     let least = start-least s start tree plan cost sheet leaves feasible costs in
@@ -192,25 +214,33 @@ HasManyTurns s rounds cost bound tree turns = HasChoice s → IsTrue (list_any i
 -- with a limit that is enough no plan made of the tours of the turns is cheaper
 abbrev pub IsBestOfTurns : Snapshot → (most_tours cost : ℕ) → List Turn → Type 0
 IsBestOfTurns s most_tours cost turns =
-    34 ^ car_count s ≤ most_tours → (other : List (List Stop)) → IsFeasiblePlan s other → ((c : ℕ) → c < car_count s → IsTourOfTurns turns c (tour_of other c)) → cost ≤ plan_cost_of s other
+    34 ^ car_count s ≤ most_tours → (other : List (List Stop)) → IsFeasiblePlan s other → ((c : ℕ) → c < car_count s → IsTourOfTurns turns c (tour_of other c))
+    → cost ≤ plan_cost_of s other
 
 -- Its tree proves plan, cost and bound, and the bound is at least that of the start and of each turn.
-pub found : (s : Snapshot) (rounds most_tours : ℕ) (start : PriceSheet) (turns : List Turn) (tree : List Branch) (plan : List (List Stop)) (cost bound : ℕ) (why : StopReason) → IsTreeAtEnd s most_tours start turns tree → length tree ≤ 8 * rounds + 1 → IsFeasiblePlan s plan → plan_cost_of s plan ≡ cost → pos bound ≡ least_bound cost (map twig_of tree) → HasManyTurns s rounds cost bound (map twig_of tree) turns → IsBestOfTurns s most_tours cost turns → IsReason s rounds most_tours cost bound (map twig_of tree) why → IsFound start.prices (bound_of_sheet start) s rounds most_tours plan cost bound (map twig_of tree) turns why
+pub found : (s : Snapshot) (rounds most_tours : ℕ) (start : PriceSheet) (turns : List Turn) (tree : List Branch) (plan : List (List Stop)) (cost bound : ℕ)
+    (why : StopReason) → IsTreeAtEnd s most_tours start turns tree → length tree ≤ 8 * rounds + 1 → IsFeasiblePlan s plan → plan_cost_of s plan ≡ cost
+    → pos bound ≡ least_bound cost (map twig_of tree) → HasManyTurns s rounds cost bound (map twig_of tree) turns → IsBestOfTurns s most_tours cost turns
+    → IsReason s rounds most_tours cost bound (map twig_of tree) why
+    → IsFound start.prices (bound_of_sheet start) s rounds most_tours plan cost bound (map twig_of tree) turns why
 found s rounds most_tours start turns tree plan cost bound why stands twigs feasible costs bound_is many tours reason =
     record {
       proves = tree-proves s most_tours plan cost bound tree feasible costs bound_is stands.branches;
       best_bound = bound_is;
-      at_least = subst (λ (z : ℤ). bound_of_sheet start ≤ℤ z) (sym bound_is) (start-least s start tree plan cost stands.sheet stands.above_start feasible costs);
+      at_least = subst (λ (z : ℤ). bound_of_sheet start ≤ℤ z) (sym bound_is)
+          (start-least s start tree plan cost stands.sheet stands.above_start feasible costs);
       twigs = subst (λ (n : ℕ). n ≤ 8 * rounds + 1) (sym (length-map tree twig_of)) twigs;
       root_turns = stands.root_turns;
       few_turns = stands.few_turns;
-      turn_bounds = turns-all s most_tours (λ (turn : Turn). AllInTree (IsAtLeast (sum_of_turn turn)) s tree) (λ (turn : Turn). rounded_up (sum_of_turn turn) ≤ℤ pos bound) turn_bound start.prices turns stands.root_turns stands.above_turns;
+      turn_bounds = turns-all s most_tours (λ (turn : Turn). AllInTree (IsAtLeast (sum_of_turn turn)) s tree)
+          (λ (turn : Turn). rounded_up (sum_of_turn turn) ≤ℤ pos bound) turn_bound start.prices turns stands.root_turns stands.above_turns;
       many_turns = many;
       tours = tours;
       reason = reason;
     }
   where
-    turn_bound : (given : List ℤ) (turn : Turn) → IsRootTurn s most_tours given turn → AllInTree (IsAtLeast (sum_of_turn turn)) s tree → rounded_up (sum_of_turn turn) ≤ℤ pos bound
+    turn_bound : (given : List ℤ) (turn : Turn) → IsRootTurn s most_tours given turn → AllInTree (IsAtLeast (sum_of_turn turn)) s tree
+        → rounded_up (sum_of_turn turn) ≤ℤ pos bound
     turn_bound given turn is leaves =
         let below_cost = subst (λ (n : ℕ). rounded_up (sum_of_turn turn) ≤ℤ pos n) costs (turn-costs s most_tours given turn plan is feasible) in
         subst (λ (z : ℤ). rounded_up (sum_of_turn turn) ≤ℤ z) (sym bound_is) (rounded-of-leaves s (sum_of_turn turn) cost tree below_cost leaves)
@@ -218,7 +248,8 @@ found s rounds most_tours start turns tree plan cost bound why stands twigs feas
 -- ---- out of rounds
 
 -- no node had a part in more than 20 pricings
-pub pricings-few : (s : Snapshot) (most_tours : ℕ) (places : List TreePlace) (tree : List Branch) → AllStand (IsBranchAt s most_tours) places tree → pricings_of tree ≤ 20 * length tree
+pub pricings-few : (s : Snapshot) (most_tours : ℕ) (places : List TreePlace) (tree : List Branch) → AllStand (IsBranchAt s most_tours) places tree
+    → pricings_of tree ≤ 20 * length tree
 pricings-few s most_tours [] [] h = omega arith
 pricings-few s most_tours [] (b ∷ tree) h = absurd h
 pricings-few s most_tours (place ∷ places) [] h = absurd h
@@ -228,7 +259,9 @@ pricings-few s most_tours (place ∷ places) (b ∷ tree) h =
     omega (arith, few, rest, sum_by-cons (λ (a : Branch). a.rounds) b tree)
 
 -- A search that did as many rounds as it may.
-pub out_of_rounds : (s : Snapshot) (rounds most_tours cost bound done : ℕ) (tree : List Branch) → AllInTree (IsPricedAt s most_tours) s tree → AllInTree (IsBranchAt s most_tours) s tree → done ≤ pricings_of tree → done ≡ rounds → bound < cost → IsOutOfRounds s rounds most_tours cost bound done (map twig_of tree)
+pub out_of_rounds : (s : Snapshot) (rounds most_tours cost bound done : ℕ) (tree : List Branch) → AllInTree (IsPricedAt s most_tours) s tree
+    → AllInTree (IsBranchAt s most_tours) s tree → done ≤ pricings_of tree → done ≡ rounds → bound < cost
+    → IsOutOfRounds s rounds most_tours cost bound done (map twig_of tree)
 out_of_rounds s rounds most_tours cost bound done tree priced branches part limit below =
     record {
       below = below;
@@ -253,12 +286,14 @@ abbrev pub IsStuckAt : Snapshot → (cost : ℕ) → Holding
 IsStuckAt s cost place b = IfLeaf b.split (IsStuck s cost b)
 
 -- the car that a pricing of the leaf was spent on has too many partial tours at its place
-spent-there : (s : Snapshot) (most_tours : ℕ) (place : TreePlace) (b : Branch) (car : ℕ) → IsBranchAt s most_tours place b → b.split ≡ None → b.spent ≡ Some car → IsSpentCar s most_tours place.node car
+spent-there : (s : Snapshot) (most_tours : ℕ) (place : TreePlace) (b : Branch) (car : ℕ) → IsBranchAt s most_tours place b → b.split ≡ None
+    → b.spent ≡ Some car → IsSpentCar s most_tours place.node car
 spent-there s most_tours place b car is leaf e =
     let own = subst (IsKindIn s most_tours b.node b) leaf is.kind in
     subst (λ (n : Node). IsSpentCar s most_tours n car) is.node (subst (λ (x : Option ℕ). IfSome x (IsSpentCar s most_tours b.node)) e own.spent)
 
-stuck-ends : (s : Snapshot) (most_tours cost : ℕ) (place : TreePlace) (b : Branch) → IsBranchAt s most_tours place b → IsStuckAt s cost place b → EndsThere s cost most_tours place (twig_of b)
+stuck-ends : (s : Snapshot) (most_tours cost : ℕ) (place : TreePlace) (b : Branch) → IsBranchAt s most_tours place b → IsStuckAt s cost place b
+    → EndsThere s cost most_tours place (twig_of b)
 stuck-ends s most_tours cost place b is stuck = by_kind b.split refl stuck
   where
     at_end : b.split ≡ None → IsSpentEnd s b → IsAtEnd s place.node most_tours
@@ -276,7 +311,9 @@ stuck-ends s most_tours cost place b is stuck = by_kind b.split refl stuck
     by_kind (Some at) e stands = tt
 
 -- a node of the tree, as a twig at its place
-stand-some : (P : Holding) (Q : TreePlace → Twig → Type 0) (k : ℕ) (places : List TreePlace) (tree : List Branch) → k < length tree → ((place : TreePlace) → P place (at_place tree k) → Q place (twig_of (at_place tree k))) → AllStand P places tree → Any (λ (p : Placed). Q p.place p.twig) (placed_from places (map twig_of tree))
+stand-some : (P : Holding) (Q : TreePlace → Twig → Type 0) (k : ℕ) (places : List TreePlace) (tree : List Branch) → k < length tree
+    → ((place : TreePlace) → P place (at_place tree k) → Q place (twig_of (at_place tree k))) → AllStand P places tree
+    → Any (λ (p : Placed). Q p.place p.twig) (placed_from places (map twig_of tree))
 stand-some P Q k [] [] lt f h = absurd (omega (arith, lt))
 stand-some P Q k [] (b ∷ tree) lt f h = absurd h
 stand-some P Q k (place ∷ places) [] lt f h = absurd h
@@ -286,12 +323,17 @@ stand-some P Q (suc k) (place ∷ places) (b ∷ tree) lt f h =
     let in' = a.2 in
     (suc a.0, a.1, omega (arith, in'), a.3, a.4)
 
-is-end : (s : Snapshot) (most_tours cost car : ℕ) (place : TreePlace) (b : Branch) → b.split ≡ None → bound_of_sheet b.sheet <ℤ pos cost → b.spent ≡ Some car → IsBranchAt s most_tours place b → IsEndOf s cost car most_tours place (twig_of b)
+is-end : (s : Snapshot) (most_tours cost car : ℕ) (place : TreePlace) (b : Branch) → b.split ≡ None → bound_of_sheet b.sheet <ℤ pos cost → b.spent ≡ Some car
+    → IsBranchAt s most_tours place b → IsEndOf s cost car most_tours place (twig_of b)
 is-end s most_tours cost car place b leaf below spent is =
-    subst (λ (x : Option SplitAt). IsEndOf s cost car most_tours place (twig_at x b.sheet)) (sym leaf) (subst (λ (z : ℤ). z <ℤ pos cost) (sym (ap rounded_up (sum_of_leaf-sheet 0 b.sheet))) below, (spent-there s most_tours place b car is leaf spent).1)
+    subst (λ (x : Option SplitAt). IsEndOf s cost car most_tours place (twig_at x b.sheet)) (sym leaf)
+    (subst (λ (z : ℤ). z <ℤ pos cost) (sym (ap rounded_up (sum_of_leaf-sheet 0 b.sheet))) below, (spent-there s most_tours place b car is leaf spent).1)
 
 -- A search in whose tree no leaf is left that a round may take.
-pub out_of_moves : (s : Snapshot) (most_tours cost bound car : ℕ) (tree : List Branch) (k : ℕ) → AllInTree (IsStuckAt s cost) s tree → AllInTree (IsPricedAt s most_tours) s tree → AllInTree (IsBranchAt s most_tours) s tree → bound < cost → k < length tree → (at_place tree k).split ≡ None → bound_of_sheet (at_place tree k).sheet <ℤ pos cost → (at_place tree k).spent ≡ Some car → IsOutOfMoves s most_tours cost bound car most_tours (map twig_of tree)
+pub out_of_moves : (s : Snapshot) (most_tours cost bound car : ℕ) (tree : List Branch) (k : ℕ) → AllInTree (IsStuckAt s cost) s tree
+    → AllInTree (IsPricedAt s most_tours) s tree → AllInTree (IsBranchAt s most_tours) s tree → bound < cost → k < length tree → (at_place tree k).split ≡ None
+    → bound_of_sheet (at_place tree k).sheet <ℤ pos cost → (at_place tree k).spent ≡ Some car
+    → IsOutOfMoves s most_tours cost bound car most_tours (map twig_of tree)
 out_of_moves s most_tours cost bound car tree k stuck priced branches below lt leaf under spent =
     let Both : Holding = λ (place : TreePlace) (b : Branch). IsBranchAt s most_tours place b × IsStuckAt s cost place b in
     let both = stand-both (IsBranchAt s most_tours) (IsStuckAt s cost) Both (λ place b p q. (p, q)) (root_place s ∷ []) tree branches stuck in
@@ -302,7 +344,8 @@ out_of_moves s most_tours cost bound car tree k stuck priced branches below lt l
       priced = tree-priced s most_tours tree priced;
       ends = stand-placed Both (EndsThere s cost most_tours) (λ place b p. stuck-ends s most_tours cost place b p.0 p.1) (root_place s ∷ []) tree both;
       is_car = (spent-there s most_tours own.0 (at_place tree k) car own.1 leaf spent).0;
-      at_car = stand-some (IsBranchAt s most_tours) (IsEndOf s cost car most_tours) k (root_place s ∷ []) tree lt (λ place is. is-end s most_tours cost car place (at_place tree k) leaf under spent is) branches;
+      at_car = stand-some (IsBranchAt s most_tours) (IsEndOf s cost car most_tours) k (root_place s ∷ []) tree lt
+          (λ place is. is-end s most_tours cost car place (at_place tree k) leaf under spent is) branches;
     }
 
 -- a leaf of the tree whose bound is below the cost
@@ -323,14 +366,16 @@ least-below cost (b ∷ tree) lt = by_kind b.split refl lt (least-below cost tre
     rest : ℤ
     rest = least_bound cost (map twig_of tree)
 
-    by_test : b.split ≡ None → int_min (bound_of_leaf (leaf_of b.sheet)) rest <ℤ pos cost → (rest <ℤ pos cost → (k : ℕ) × IsBelowAt cost tree k) → (t : Bool) → int_lt rest (pos cost) ≡ t → (k : ℕ) × IsBelowAt cost (b ∷ tree) k
+    by_test : b.split ≡ None → int_min (bound_of_leaf (leaf_of b.sheet)) rest <ℤ pos cost → (rest <ℤ pos cost → (k : ℕ) × IsBelowAt cost tree k) → (t : Bool)
+        → int_lt rest (pos cost) ≡ t → (k : ℕ) × IsBelowAt cost (b ∷ tree) k
     by_test e under later true low = below-later cost b tree (later (omega (arith, ints, low)))
     by_test e under later false high =
         let same : bound_of_leaf (leaf_of b.sheet) ≡ bound_of_sheet b.sheet = ap rounded_up (sum_of_leaf-sheet 0 b.sheet) in
         let is = int_min_is (bound_of_leaf (leaf_of b.sheet)) rest in
         (0, record { in_tree = omega arith; leaf = e; below = omega (arith, ints, under, high, same, is) })
 
-    by_kind : (x : Option SplitAt) → b.split ≡ x → lesser_bound rest (twig_at x b.sheet) <ℤ pos cost → (rest <ℤ pos cost → (k : ℕ) × IsBelowAt cost tree k) → (k : ℕ) × IsBelowAt cost (b ∷ tree) k
+    by_kind : (x : Option SplitAt) → b.split ≡ x → lesser_bound rest (twig_at x b.sheet) <ℤ pos cost → (rest <ℤ pos cost → (k : ℕ) × IsBelowAt cost tree k)
+        → (k : ℕ) × IsBelowAt cost (b ∷ tree) k
     by_kind None e under later = by_test e under later (int_lt rest (pos cost)) refl
     by_kind (Some at) e under later = below-later cost b tree (later under)
 
@@ -358,7 +403,8 @@ factor-right a zero h = absurd (omega (arith, h))
 factor-right a (suc b) h = omega arith
 
 -- a set's cars are divided, and with them the ways
-weight-split : (n : ℕ) (node : Node) (j first second : ℕ) → j < length node → size n first + size n second ≡ size n (set_of node j) → weight n (set node j first) + weight n (set node j second) ≡ weight n node
+weight-split : (n : ℕ) (node : Node) (j first second : ℕ) → j < length node → size n first + size n second ≡ size n (set_of node j)
+    → weight n (set node j first) + weight n (set node j second) ≡ weight n node
 weight-split n [] j first second lt e = absurd (omega (arith, lt))
 weight-split n (x ∷ node) zero first second lt e =
     let all = ap (λ (k : ℕ). k * weight n node) e in
@@ -399,14 +445,18 @@ record Divides (n cars part : ℕ) : Type 0 where
 
 part-divides : (n cars part : ℕ) → n ≡ 16 → is_part cars part ≡ true → Divides n cars part
 part-divides n cars part is16 is =
-    let both = and_parts (any_below 16 (has part) && any_below 16 (λ c. has cars c && not (has part c))) (not (any_below 16 (λ c. has part c && not (has cars c)))) is in
+    let both = and_parts (any_below 16 (has part) && any_below 16 (λ c. has cars c && not (has part c)))
+    (not (any_below 16 (λ c. has part c && not (has cars c)))) is in
     let two = and_parts (any_below 16 (has part)) (any_below 16 (λ c. has cars c && not (has part c))) both.0 in
     let one = any_below-true 16 (has part) two.0 in
     let other = any_below-true 16 (λ c. has cars c && not (has part c)) two.1 in
     let low = one.1 in
     let low' = other.1 in
     record {
-      sum = sym (sum_below-add n (λ k. cond (has part k) 1 0) (λ k. cond (has (rest_of cars part) k) 1 0)) ∙ sum_below-same n (λ k. cond (has part k) 1 0 + cond (has (rest_of cars part) k) 1 0) (λ k. cond (has cars k) 1 0) (λ k lt. counted (has cars k) (has part k) (has (rest_of cars part) k) ((part-from cars part is).within k (omega (arith, lt, is16))) (has-rest_of cars part k (omega (arith, lt, is16))));
+      sum = sym (sum_below-add n (λ k. cond (has part k) 1 0) (λ k. cond (has (rest_of cars part) k) 1 0))
+          ∙ sum_below-same n (λ k. cond (has part k) 1 0 + cond (has (rest_of cars part) k) 1 0) (λ k. cond (has cars k) 1 0)
+          (λ k lt. counted (has cars k) (has part k) (has (rest_of cars part) k) ((part-from cars part is).within k (omega (arith, lt, is16)))
+          (has-rest_of cars part k (omega (arith, lt, is16))));
       first = size-some n part one.0 (omega (arith, low, is16)) one.2;
       second = size-some n (rest_of cars part) other.0 (omega (arith, low', is16)) (has-rest_of cars part other.0 other.1 ∙ other.2);
     }
@@ -421,7 +471,8 @@ weights n [] = 0
 weights n (place ∷ places) = weight n place.node + weights n places
 
 -- each way is left in one leaf, and a leaf has one at least
-twigs-weigh : (s : Snapshot) (bound n : ℕ) → n ≡ 16 → (places : List TreePlace) (twigs : List Twig) → is_filled places twigs ≡ true → AreFull n places → All (λ (p : Placed). IsSound s bound p.place p.twig) (placed_from places twigs) → length twigs + length places ≤ 2 * weights n places
+twigs-weigh : (s : Snapshot) (bound n : ℕ) → n ≡ 16 → (places : List TreePlace) (twigs : List Twig) → is_filled places twigs ≡ true → AreFull n places
+    → All (λ (p : Placed). IsSound s bound p.place p.twig) (placed_from places twigs) → length twigs + length places ≤ 2 * weights n places
 twigs-weigh s bound n is16 [] [] filled full sound = omega arith
 twigs-weigh s bound n is16 (place ∷ places) [] filled full sound = absurd (both_ways false refl filled)
 twigs-weigh s bound n is16 [] (twig ∷ twigs) filled full sound = absurd (both_ways false refl filled)
@@ -434,7 +485,8 @@ twigs-weigh s bound n is16 (place ∷ places) (Split j part ∷ twigs) filled fu
     let first = weight-some n place.node j part lt sizes.first full.0 in
     let second = weight-some n place.node j (rest_of (set_of place.node j) part) lt sizes.second full.0 in
     let all = weight-split n place.node j part (rest_of (set_of place.node j) part) lt sizes.sum in
-    let rest = twigs-weigh s bound n is16 (places_after place (Split j part) places) twigs filled (first, (second, full.1)) (All-tail P here (placed_from (places_after place (Split j part) places) twigs) sound) in
+    let rest = twigs-weigh s bound n is16 (places_after place (Split j part) places) twigs filled (first, (second, full.1))
+    (All-tail P here (placed_from (places_after place (Split j part) places) twigs) sound) in
     omega (arith, rest, all)
 twigs-weigh s bound n is16 (place ∷ places) (Tip leaf ∷ twigs) filled full sound =
     let P : Placed → Type 0 = λ (p : Placed). IsSound s bound p.place p.twig in
@@ -455,7 +507,11 @@ size-le n cars =
 -- a set of numbers below m
 size-most : (n m cars : ℕ) → cars < 2 ^ m → size n cars ≤ m
 size-most zero m cars lt = omega arith
-size-most (suc n) m cars lt = elim (cases_lt n m) [ inl low ↦ (let le = size-le (suc n) cars in omega (arith, low, le)) | inr past ↦ (let rest = size-most n m cars lt in let none = cond-false {A = ℕ} (has cars n) 1 0 (has_none_above m cars n lt past) in omega (arith, rest, none)) ]
+size-most (suc n) m cars lt = elim (cases_lt n m) [
+  | inl low ↦ (let le = size-le (suc n) cars in omega (arith, low, le))
+  | inr past ↦ (let rest = size-most n m cars lt in let none = cond-false {A = ℕ} (has cars n) 1 0 (has_none_above m cars n lt past) in
+      omega (arith, rest, none))
+]
 
 weight-most : (n m : ℕ) (f : Call → ℕ) → ((call : Call) → f call < 2 ^ m) → (calls : List Call) → weight n (map f calls) ≤ m ^ length calls
 weight-most n m f h [] = omega (arith, pow-zero m)
@@ -479,13 +535,15 @@ root-full s n is16 accepted =
         size-some n (set_of (root_of s) j) some.0 (omega (arith, high, most_cars-le s.building.version, below, is16)) some.2
 
 -- A whole tree whose splits divide sets has fewer twigs than twice the ways to give each call a car.
-pub twigs-few : (s : Snapshot) (plan : List (List Stop)) (cost bound : ℕ) (tree : List Twig) → IsAccepted s → Proves s plan cost bound tree → length tree + 1 ≤ 2 * car_count s ^ call_count s
+pub twigs-few : (s : Snapshot) (plan : List (List Stop)) (cost bound : ℕ) (tree : List Twig) → IsAccepted s → Proves s plan cost bound tree
+    → length tree + 1 ≤ 2 * car_count s ^ call_count s
 twigs-few s plan cost bound tree accepted proves = by_bound 16 refl
   where
     by_bound : (n : ℕ) → n ≡ 16 → length tree + 1 ≤ 2 * car_count s ^ call_count s
     by_bound n is16 =
         let all = twigs-weigh s bound n is16 (root_place s ∷ []) tree proves.whole (root-full s n is16 accepted, tt) proves.sound in
-        let most = weight-most n (car_count s) (λ (call : Call). set_where (car_count s) (λ c. is_possible s c call)) (λ call. set_where-below (car_count s) (λ c. is_possible s c call)) s.calls in
+        let most = weight-most n (car_count s) (λ (call : Call). set_where (car_count s) (λ c. is_possible s c call))
+        (λ call. set_where-below (car_count s) (λ c. is_possible s c call)) s.calls in
         omega (arith, all, most)
 
 -- ---- sufficient limits
@@ -495,7 +553,9 @@ abbrev pub HasFewTours : Snapshot → Type 0
 HasFewTours s = (node : Node) (c n : ℕ) → c < car_count s → HasPartialTours s node c n → n < moves_enough s
 
 -- With sufficient limits a search ends solved: its cost is its bound.
-pub enough_is_solved : (start : List ℤ) (least : ℤ) (s : Snapshot) (rounds most_tours : ℕ) (plan : List (List Stop)) (cost bound : ℕ) (tree : List Twig) (turns : List Turn) (why : StopReason) → IsAccepted s → HasFewTours s → rounds_enough s ≤ rounds → moves_enough s ≤ most_tours → IsFound start least s rounds most_tours plan cost bound tree turns why → (cost ≡ bound) × (why ≡ Solved)
+pub enough_is_solved : (start : List ℤ) (least : ℤ) (s : Snapshot) (rounds most_tours : ℕ) (plan : List (List Stop)) (cost bound : ℕ) (tree : List Twig)
+    (turns : List Turn) (why : StopReason) → IsAccepted s → HasFewTours s → rounds_enough s ≤ rounds → moves_enough s ≤ most_tours
+    → IsFound start least s rounds most_tours plan cost bound tree turns why → (cost ≡ bound) × (why ≡ Solved)
 enough_is_solved start least s rounds most_tours plan cost bound tree turns why accepted few_tours many_rounds many_moves is =
     by_reason why is.reason
   where

@@ -1,5 +1,6 @@
 -- What the leaf that a sheet states has for each call and car.
-use Rattle.std.proofs.Common.{◌≡◌, ℕ, zero, suc, ◌+◌, ◌<◌, ◌≤◌, ◌==◌, Bool, true, false, not, cond, List, [], ◌∷◌, length, map, get_or, refl, ap, ◌∙◌, inl, inr, arith}
+use Rattle.std.proofs.Common.{◌≡◌, ℕ, zero, suc, ◌+◌, ◌<◌, ◌≤◌, ◌==◌, Bool, true, false, not, cond, List, [], ◌∷◌, length, map, get_or, refl, ap, ◌∙◌, inl, inr}
+use Rattle.std.proofs.Common.{arith}
 use Rattle.std.specs.Prelude.{ℤ, pos, ◌+ℤ◌, nat_lt, count_by, sum_by}
 use Rattle.std.specs.List.{list_all}
 use Rattle.std.proofs.lemmas.Int.{ints}
@@ -27,7 +28,8 @@ worths_from-sum claim i (w ∷ worths) = ap (λ (z : ℤ). w +ℤ z) (worths_fro
 
 pub sum_of_leaf-sheet : (claim : ℕ) (sheet : PriceSheet) → sum_of_leaf (leaf_with claim sheet) ≡ sum_of_sheet sheet
 sum_of_leaf-sheet claim sheet =
-    ap (λ (z : ℤ). z +ℤ int_sum_by (λ (w : WorthOf). w.worth) (worths_from claim 0 sheet.worths)) (prices_from-sum 0 sheet.prices) ∙ ap (λ (z : ℤ). int_sum_by (λ (x : ℤ). x) sheet.prices +ℤ z) (worths_from-sum claim 0 sheet.worths)
+    ap (λ (z : ℤ). z +ℤ int_sum_by (λ (w : WorthOf). w.worth) (worths_from claim 0 sheet.worths)) (prices_from-sum 0 sheet.prices)
+    ∙ ap (λ (z : ℤ). int_sum_by (λ (x : ℤ). x) sheet.prices +ℤ z) (worths_from-sum claim 0 sheet.worths)
 
 -- ---- what is stated of one
 
@@ -51,14 +53,17 @@ stated_price j xs = int_sum_by (λ (p : PriceOf). cond (p.call == j) p.price (po
 price-before : (i j : ℕ) (prices : List ℤ) → j < i → stated_price j (prices_from i prices) ≡ pos 0
 price-before i j [] lt = refl
 price-before i j (x ∷ prices) lt =
-    ap (λ (b : Bool). cond b x (pos 0) +ℤ stated_price j (prices_from (i + 1) prices)) (neq i j (λ e. omega (arith, e, lt))) ∙ zero_plus (stated_price j (prices_from (i + 1) prices)) ∙ price-before (i + 1) j prices (omega (arith, lt))
+    ap (λ (b : Bool). cond b x (pos 0) +ℤ stated_price j (prices_from (i + 1) prices)) (neq i j (λ e. omega (arith, e, lt)))
+    ∙ zero_plus (stated_price j (prices_from (i + 1) prices)) ∙ price-before (i + 1) j prices (omega (arith, lt))
 
 price-at : (i k j : ℕ) (prices : List ℤ) → i + k ≡ j → stated_price j (prices_from i prices) ≡ get_or prices k (pos 0)
 price-at i k j [] e = refl
 price-at i zero j (x ∷ prices) e =
-    ap (λ (b : Bool). cond b x (pos 0) +ℤ stated_price j (prices_from (i + 1) prices)) (eq-eqb i j (omega (arith, e))) ∙ ap (λ (z : ℤ). x +ℤ z) (price-before (i + 1) j prices (omega (arith, e))) ∙ plus_zero x
+    ap (λ (b : Bool). cond b x (pos 0) +ℤ stated_price j (prices_from (i + 1) prices)) (eq-eqb i j (omega (arith, e)))
+    ∙ ap (λ (z : ℤ). x +ℤ z) (price-before (i + 1) j prices (omega (arith, e))) ∙ plus_zero x
 price-at i (suc k) j (x ∷ prices) e =
-    ap (λ (b : Bool). cond b x (pos 0) +ℤ stated_price j (prices_from (i + 1) prices)) (neq i j (λ same. omega (arith, e, same))) ∙ zero_plus (stated_price j (prices_from (i + 1) prices)) ∙ price-at (i + 1) k j prices (omega (arith, e))
+    ap (λ (b : Bool). cond b x (pos 0) +ℤ stated_price j (prices_from (i + 1) prices)) (neq i j (λ same. omega (arith, e, same)))
+    ∙ zero_plus (stated_price j (prices_from (i + 1) prices)) ∙ price-at (i + 1) k j prices (omega (arith, e))
 
 pub price_in-sheet : (claim : ℕ) (sheet : PriceSheet) → price_in (leaf_with claim sheet) ≡ price_at sheet.prices
 price_in-sheet claim sheet = λ i j. price-at 0 j j sheet.prices (omega arith) i
@@ -69,14 +74,17 @@ stated_worth c xs = int_sum_by (λ (w : WorthOf). cond (w.car == c) w.worth (pos
 worth-before : (claim i c : ℕ) (worths : List ℤ) → c < i → stated_worth c (worths_from claim i worths) ≡ pos 0
 worth-before claim i c [] lt = refl
 worth-before claim i c (w ∷ worths) lt =
-    ap (λ (b : Bool). cond b w (pos 0) +ℤ stated_worth c (worths_from claim (i + 1) worths)) (neq i c (λ e. omega (arith, e, lt))) ∙ zero_plus (stated_worth c (worths_from claim (i + 1) worths)) ∙ worth-before claim (i + 1) c worths (omega (arith, lt))
+    ap (λ (b : Bool). cond b w (pos 0) +ℤ stated_worth c (worths_from claim (i + 1) worths)) (neq i c (λ e. omega (arith, e, lt)))
+    ∙ zero_plus (stated_worth c (worths_from claim (i + 1) worths)) ∙ worth-before claim (i + 1) c worths (omega (arith, lt))
 
 worth-at : (claim i k c : ℕ) (worths : List ℤ) → i + k ≡ c → stated_worth c (worths_from claim i worths) ≡ get_or worths k (pos 0)
 worth-at claim i k c [] e = refl
 worth-at claim i zero c (w ∷ worths) e =
-    ap (λ (b : Bool). cond b w (pos 0) +ℤ stated_worth c (worths_from claim (i + 1) worths)) (eq-eqb i c (omega (arith, e))) ∙ ap (λ (z : ℤ). w +ℤ z) (worth-before claim (i + 1) c worths (omega (arith, e))) ∙ plus_zero w
+    ap (λ (b : Bool). cond b w (pos 0) +ℤ stated_worth c (worths_from claim (i + 1) worths)) (eq-eqb i c (omega (arith, e)))
+    ∙ ap (λ (z : ℤ). w +ℤ z) (worth-before claim (i + 1) c worths (omega (arith, e))) ∙ plus_zero w
 worth-at claim i (suc k) c (w ∷ worths) e =
-    ap (λ (b : Bool). cond b w (pos 0) +ℤ stated_worth c (worths_from claim (i + 1) worths)) (neq i c (λ same. omega (arith, e, same))) ∙ zero_plus (stated_worth c (worths_from claim (i + 1) worths)) ∙ worth-at claim (i + 1) k c worths (omega (arith, e))
+    ap (λ (b : Bool). cond b w (pos 0) +ℤ stated_worth c (worths_from claim (i + 1) worths)) (neq i c (λ same. omega (arith, e, same)))
+    ∙ zero_plus (stated_worth c (worths_from claim (i + 1) worths)) ∙ worth-at claim (i + 1) k c worths (omega (arith, e))
 
 pub worth_in-sheet : (claim : ℕ) (sheet : PriceSheet) (c : ℕ) → worth_in (leaf_with claim sheet) c ≡ worth_of_car sheet c
 worth_in-sheet claim sheet c = worth-at claim 0 c c sheet.worths (omega arith)
@@ -84,20 +92,27 @@ worth_in-sheet claim sheet c = worth-at claim 0 c c sheet.worths (omega arith)
 abbrev stated_claim : ℕ → List WorthOf → ℕ
 stated_claim c xs = sum_by (λ (w : WorthOf). cond (w.car == c) w.claim 0) xs
 
-claims-cons : (claim i c : ℕ) (w : ℤ) (worths : List ℤ) → stated_claim c (worths_from claim i (w ∷ worths)) ≡ cond (i == c) claim 0 + stated_claim c (worths_from claim (i + 1) worths)
-claims-cons claim i c w worths = sum_by-cons (λ (v : WorthOf). cond (v.car == c) v.claim 0) (record { car = i; worth = w; claim = claim }) (worths_from claim (i + 1) worths)
+claims-cons : (claim i c : ℕ) (w : ℤ) (worths : List ℤ)
+    → stated_claim c (worths_from claim i (w ∷ worths)) ≡ cond (i == c) claim 0 + stated_claim c (worths_from claim (i + 1) worths)
+claims-cons claim i c w worths =
+    sum_by-cons (λ (v : WorthOf). cond (v.car == c) v.claim 0) (record { car = i; worth = w; claim = claim }) (worths_from claim (i + 1) worths)
 
 claim-before : (claim i c : ℕ) (worths : List ℤ) → c < i → stated_claim c (worths_from claim i worths) ≡ 0
 claim-before claim i c [] lt = refl
 claim-before claim i c (w ∷ worths) lt =
-    claims-cons claim i c w worths ∙ ap (λ (b : Bool). cond b claim 0 + stated_claim c (worths_from claim (i + 1) worths)) (neq i c (λ e. omega (arith, e, lt))) ∙ (let none = claim-before claim (i + 1) c worths (omega (arith, lt)) in omega (arith, none))
+    claims-cons claim i c w worths
+    ∙ ap (λ (b : Bool). cond b claim 0 + stated_claim c (worths_from claim (i + 1) worths)) (neq i c (λ e. omega (arith, e, lt)))
+    ∙ (let none = claim-before claim (i + 1) c worths (omega (arith, lt)) in omega (arith, none))
 
 claim-at : (claim i k c : ℕ) (worths : List ℤ) → i + k ≡ c → k < length worths → stated_claim c (worths_from claim i worths) ≡ claim
 claim-at claim i k c [] e lt = absurd (omega (arith, lt))
 claim-at claim i zero c (w ∷ worths) e lt =
-    claims-cons claim i c w worths ∙ ap (λ (b : Bool). cond b claim 0 + stated_claim c (worths_from claim (i + 1) worths)) (eq-eqb i c (omega (arith, e))) ∙ (let none = claim-before claim (i + 1) c worths (omega (arith, e)) in omega (arith, none))
+    claims-cons claim i c w worths ∙ ap (λ (b : Bool). cond b claim 0 + stated_claim c (worths_from claim (i + 1) worths)) (eq-eqb i c (omega (arith, e)))
+    ∙ (let none = claim-before claim (i + 1) c worths (omega (arith, e)) in omega (arith, none))
 claim-at claim i (suc k) c (w ∷ worths) e lt =
-    claims-cons claim i c w worths ∙ ap (λ (b : Bool). cond b claim 0 + stated_claim c (worths_from claim (i + 1) worths)) (neq i c (λ same. omega (arith, e, same))) ∙ (let rest = claim-at claim (i + 1) k c worths (omega (arith, e)) (omega (arith, lt)) in omega (arith, rest))
+    claims-cons claim i c w worths
+    ∙ ap (λ (b : Bool). cond b claim 0 + stated_claim c (worths_from claim (i + 1) worths)) (neq i c (λ same. omega (arith, e, same)))
+    ∙ (let rest = claim-at claim (i + 1) k c worths (omega (arith, e)) (omega (arith, lt)) in omega (arith, rest))
 
 pub claim_in-sheet : (claim : ℕ) (sheet : PriceSheet) (c : ℕ) → c < length sheet.worths → claim_in (leaf_with claim sheet) c ≡ claim
 claim_in-sheet claim sheet c lt = claim-at claim 0 c c sheet.worths (omega arith) lt
@@ -119,7 +134,8 @@ cars-numbers claim i (w ∷ worths) = ap (λ (ks : List ℕ). i ∷ ks) (cars-nu
 
 all-below : (m i n : ℕ) → i + n ≤ m → list_all (λ k. nat_lt k m) (numbers i n) ≡ true
 all-below m i zero h = refl
-all-below m i (suc n) h = and_from (nat_lt i m) (list_all (λ k. nat_lt k m) (numbers (i + 1) n)) (lt-ltb i m (omega (arith, h))) (all-below m (i + 1) n (omega (arith, h)))
+all-below m i (suc n) h =
+    and_from (nat_lt i m) (list_all (λ k. nat_lt k m) (numbers (i + 1) n)) (lt-ltb i m (omega (arith, h))) (all-below m (i + 1) n (omega (arith, h)))
 
 counted-cons : (k i n : ℕ) → count_by (λ x. x == k) (numbers i (suc n)) ≡ cond (i == k) 1 0 + count_by (λ x. x == k) (numbers (i + 1) n)
 counted-cons k i n = sum_by-cons (λ (x : ℕ). cond (x == k) 1 0) i (numbers (i + 1) n)
@@ -127,7 +143,8 @@ counted-cons k i n = sum_by-cons (λ (x : ℕ). cond (x == k) 1 0) i (numbers (i
 count-before : (k i n : ℕ) → k < i → count_by (λ x. x == k) (numbers i n) ≡ 0
 count-before k i zero lt = refl
 count-before k i (suc n) lt =
-    counted-cons k i n ∙ ap {B = ℕ} (λ (b : Bool). cond b 1 0 + count_by (λ x. x == k) (numbers (i + 1) n)) (neq i k (λ e. omega (arith, e, lt))) ∙ (let none = count-before k (i + 1) n (omega (arith, lt)) in omega (arith, none))
+    counted-cons k i n ∙ ap {B = ℕ} (λ (b : Bool). cond b 1 0 + count_by (λ x. x == k) (numbers (i + 1) n)) (neq i k (λ e. omega (arith, e, lt)))
+    ∙ (let none = count-before k (i + 1) n (omega (arith, lt)) in omega (arith, none))
 
 count-within : (k i n : ℕ) → i ≤ k → k < i + n → count_by (λ x. x == k) (numbers i n) ≡ 1
 count-within k i zero le lt = absurd (omega (arith, le, lt))
@@ -145,8 +162,16 @@ count-within k i (suc n) le lt = by_case (i == k) refl (λ after. count-within k
 
 each-once : (n : ℕ) → are_each_once n (numbers 0 n) ≡ true
 each-once n =
-    and_from (list_all (λ k. nat_lt k n) (numbers 0 n)) (not (any_below n (λ k. not (count_by (λ x. x == k) (numbers 0 n) == 1)))) (all-below n 0 n (omega arith)) (not_from_false (any_below n (λ k. not (count_by (λ x. x == k) (numbers 0 n) == 1))) (any_below-none n (λ k. not (count_by (λ x. x == k) (numbers 0 n) == 1)) (λ k lt. ap (λ (x : ℕ). not (x == 1)) (count-within k 0 n (omega arith) (omega (arith, lt))))))
+    and_from (list_all (λ k. nat_lt k n) (numbers 0 n)) (not (any_below n (λ k. not (count_by (λ x. x == k) (numbers 0 n) == 1))))
+    (all-below n 0 n (omega arith))
+    (not_from_false (any_below n (λ k. not (count_by (λ x. x == k) (numbers 0 n) == 1)))
+    (any_below-none n (λ k. not (count_by (λ x. x == k) (numbers 0 n) == 1))
+    (λ k lt. ap (λ (x : ℕ). not (x == 1)) (count-within k 0 n (omega arith) (omega (arith, lt))))))
 
-pub whole_lists-sheet : (claim : ℕ) (s : Snapshot) (sheet : PriceSheet) → length sheet.prices ≡ call_count s → length sheet.worths ≡ car_count s → has_whole_lists s (leaf_with claim sheet) ≡ true
+pub whole_lists-sheet : (claim : ℕ) (s : Snapshot) (sheet : PriceSheet) → length sheet.prices ≡ call_count s → length sheet.worths ≡ car_count s
+    → has_whole_lists s (leaf_with claim sheet) ≡ true
 whole_lists-sheet claim s sheet calls cars =
-    and_from (are_each_once (call_count s) (map (λ (p : PriceOf). p.call) (prices_from 0 sheet.prices))) (are_each_once (car_count s) (map (λ (w : WorthOf). w.car) (worths_from claim 0 sheet.worths))) (ap (are_each_once (call_count s)) (calls-numbers 0 sheet.prices ∙ ap (numbers 0) calls) ∙ each-once (call_count s)) (ap (are_each_once (car_count s)) (cars-numbers claim 0 sheet.worths ∙ ap (numbers 0) cars) ∙ each-once (car_count s))
+    and_from (are_each_once (call_count s) (map (λ (p : PriceOf). p.call) (prices_from 0 sheet.prices)))
+    (are_each_once (car_count s) (map (λ (w : WorthOf). w.car) (worths_from claim 0 sheet.worths)))
+    (ap (are_each_once (call_count s)) (calls-numbers 0 sheet.prices ∙ ap (numbers 0) calls) ∙ each-once (call_count s))
+    (ap (are_each_once (car_count s)) (cars-numbers claim 0 sheet.worths ∙ ap (numbers 0) cars) ∙ each-once (car_count s))

@@ -1,5 +1,6 @@
 -- Sums of worths.
-use Rattle.std.proofs.Common.{◌≡◌, Bool, true, if◌then◌else◌, int_lt, ℕ, ◌+◌, ◌^◌, ◌<◌, ◌≤◌, List, [], ◌∷◌, ◌++◌, length, map, get_or, take, ℤ, neg_ℤ, ◌+ℤ◌, ◌≤ℤ◌, to_z, of_z, SFits, pos, negsuc, refl, ap, ◌∙◌, sym, subst, arith, take_all}
+use Rattle.std.proofs.Common.{◌≡◌, Bool, true, if◌then◌else◌, int_lt, ℕ, ◌+◌, ◌^◌, ◌<◌, ◌≤◌, List, [], ◌∷◌, ◌++◌, length, map, get_or, take, ℤ, neg_ℤ, ◌+ℤ◌}
+use Rattle.std.proofs.Common.{◌≤ℤ◌, to_z, of_z, SFits, pos, negsuc, refl, ap, ◌∙◌, sym, subst, arith, take_all}
 use Rattle.std.specs.Int.{w128}
 use lib.Signed.{mag}
 use Rattle.std.proofs.lemmas.Int.{ints, to_z-of_z}
@@ -18,7 +19,8 @@ int_sum_by-append f [] ys = omega (arith, ints)
 int_sum_by-append f (x ∷ xs) ys = omega (arith, ints, int_sum_by-append f xs ys)
 
 -- one more item, for a loop's step
-pub int_sum_by-more : {X : Type 0} (f : X → ℤ) (xs : List X) (i : ℕ) (d : X) → i < length xs → int_sum_by f (take (i + 1) xs) ≡ int_sum_by f (take i xs) +ℤ f (get_or xs i d)
+pub int_sum_by-more : {X : Type 0} (f : X → ℤ) (xs : List X) (i : ℕ) (d : X) → i < length xs
+    → int_sum_by f (take (i + 1) xs) ≡ int_sum_by f (take i xs) +ℤ f (get_or xs i d)
 int_sum_by-more f xs i d h =
     ap (int_sum_by f) (take_more xs i d h) ∙ omega (arith, ints, int_sum_by-append f (take i xs) (get_or xs i d ∷ []))
 
@@ -36,7 +38,8 @@ pub stored : (z : ℤ) → neg_ℤ (pos (10 ^ 30)) ≤ℤ z → z ≤ℤ pos (10
 stored z low high = to_z-of_z w128 z (fits_128 z low high)
 
 -- one more worth
-stored_more : (n : ℕ) (sum worth : ℤ) → n < 16 → IsWorthSum n sum → IsWorthSize worth → to_z w128 (of_z w128 (sum +ℤ to_z w128 (of_z w128 worth))) ≡ sum +ℤ worth
+stored_more : (n : ℕ) (sum worth : ℤ) → n < 16 → IsWorthSum n sum → IsWorthSize worth
+    → to_z w128 (of_z w128 (sum +ℤ to_z w128 (of_z w128 worth))) ≡ sum +ℤ worth
 stored_more n sum worth lt range size =
     let low = range.0 in
     let high = range.1 in
@@ -59,7 +62,8 @@ pub record SumsTo {X : Type 0} (f : X → ℤ) (xs : List X) (k : ℕ) (sum : �
   pub range : IsWorthSum k sum
 
 -- a loop's step, at the item that it reads
-pub sums_more : {X : Type 0} (f : X → ℤ) (xs : List X) (k : ℕ) (sum : ℤ) (x d : X) → k < length xs → length xs ≤ 16 → SumsTo f xs k sum → x ≡ get_or xs k d → IsWorthSize (f (get_or xs k d)) → SumsTo f xs (k + 1) (to_z w128 (of_z w128 (sum +ℤ to_z w128 (of_z w128 (f x)))))
+pub sums_more : {X : Type 0} (f : X → ℤ) (xs : List X) (k : ℕ) (sum : ℤ) (x d : X) → k < length xs → length xs ≤ 16 → SumsTo f xs k sum → x ≡ get_or xs k d
+    → IsWorthSize (f (get_or xs k d)) → SumsTo f xs (k + 1) (to_z w128 (of_z w128 (sum +ℤ to_z w128 (of_z w128 (f x)))))
 sums_more {X = X} f xs k sum x d h few so e size =
     let size_of_x : IsWorthSize (f x) = subst (λ (y : X). IsWorthSize (f y)) (sym e) size in
     let is = stored_more k sum (f x) (omega arith) so.range size_of_x in
@@ -80,7 +84,8 @@ sums_within f xs k sum so h =
 -- ---- sheets
 
 -- a sum of prices and one of worths, added up as they are stored
-stored_sum : (of_prices of_worths : ℤ) → IsPriceSum of_prices → IsWorthSum 16 of_worths → to_z w128 (of_z w128 (to_z w128 (of_z w128 of_prices) +ℤ to_z w128 (of_z w128 of_worths))) ≡ of_prices +ℤ of_worths
+stored_sum : (of_prices of_worths : ℤ) → IsPriceSum of_prices → IsWorthSum 16 of_worths
+    → to_z w128 (of_z w128 (to_z w128 (of_z w128 of_prices) +ℤ to_z w128 (of_z w128 of_worths))) ≡ of_prices +ℤ of_worths
 stored_sum p w p_range w_range =
     let low = p_range.0 in
     let high = p_range.1 in
@@ -92,11 +97,14 @@ stored_sum p w p_range w_range =
     ap (λ (z : ℤ). to_z w128 (of_z w128 (z +ℤ to_z w128 (of_z w128 w)))) one ∙ ap (λ (z : ℤ). to_z w128 (of_z w128 (p +ℤ z))) two ∙ both
 
 -- the sum of a sheet
-summed : (sheet : PriceSheet) (of_prices of_worths : ℤ) → of_prices ≡ price_sum sheet.prices → of_worths ≡ sum_of_worths sheet.worths → of_prices +ℤ of_worths ≡ sum_of_sheet sheet
+summed : (sheet : PriceSheet) (of_prices of_worths : ℤ) → of_prices ≡ price_sum sheet.prices → of_worths ≡ sum_of_worths sheet.worths
+    → of_prices +ℤ of_worths ≡ sum_of_sheet sheet
 summed sheet p w p_is w_is = ap (λ (z : ℤ). z +ℤ w) (p_is ∙ price_sum-by sheet.prices) ∙ ap (λ (z : ℤ). int_sum_by (λ (x : ℤ). x) sheet.prices +ℤ z) w_is
 
 -- what is added up again keeps the sum
-pub keeps_sum : (prices : List ℤ) (worths : List ℤ) (of_prices of_worths : ℤ) → IsSized (of_lists prices worths) → of_prices ≡ price_sum prices → IsPriceSum of_prices → of_worths ≡ sum_of_worths worths → IsWorthSum 16 of_worths → KeepsSum prices worths (to_z w128 (of_z w128 (to_z w128 (of_z w128 of_prices) +ℤ to_z w128 (of_z w128 of_worths))))
+pub keeps_sum : (prices : List ℤ) (worths : List ℤ) (of_prices of_worths : ℤ) → IsSized (of_lists prices worths) → of_prices ≡ price_sum prices
+    → IsPriceSum of_prices → of_worths ≡ sum_of_worths worths → IsWorthSum 16 of_worths
+    → KeepsSum prices worths (to_z w128 (of_z w128 (to_z w128 (of_z w128 of_prices) +ℤ to_z w128 (of_z w128 of_worths))))
 keeps_sum prices worths p w sized p_is p_range w_is w_range =
     let low = p_range.0 in
     let high = p_range.1 in
@@ -110,15 +118,20 @@ keeps_sum prices worths p w sized p_is p_range w_is w_range =
     }
 
 -- a sheet with a greater sum is the better one
-pub greater_is_better : (sheet other : PriceSheet) (sum of_prices of_worths : ℤ) → IsSmall sum → sum ≡ sum_of_sheet sheet → of_prices ≡ price_sum other.prices → IsPriceSum of_prices → of_worths ≡ sum_of_worths other.worths → IsWorthSum 16 of_worths → int_lt (to_z w128 (of_z w128 sum)) (to_z w128 (of_z w128 (to_z w128 (of_z w128 of_prices) +ℤ to_z w128 (of_z w128 of_worths)))) ≡ true → other ≡ better_of sheet other
+pub greater_is_better : (sheet other : PriceSheet) (sum of_prices of_worths : ℤ) → IsSmall sum → sum ≡ sum_of_sheet sheet → of_prices ≡ price_sum other.prices
+    → IsPriceSum of_prices → of_worths ≡ sum_of_worths other.worths → IsWorthSum 16 of_worths
+    → int_lt (to_z w128 (of_z w128 sum)) (to_z w128 (of_z w128 (to_z w128 (of_z w128 of_prices) +ℤ to_z w128 (of_z w128 of_worths)))) ≡ true
+    → other ≡ better_of sheet other
 greater_is_better sheet other sum p w small sum_is p_is p_range w_is w_range h =
     let own = stored sum small.0 small.1 ∙ sum_is in
     let others = stored_sum p w p_range w_range ∙ summed other p w p_is w_is in
-    let greater : int_lt (sum_of_sheet sheet) (sum_of_sheet other) ≡ true = sym (ap (λ (z : ℤ). int_lt z (sum_of_sheet other)) own) ∙ sym (ap (int_lt (to_z w128 (of_z w128 sum))) others) ∙ h in
+    let greater : int_lt (sum_of_sheet sheet) (sum_of_sheet other) ≡ true = sym (ap (λ (z : ℤ). int_lt z (sum_of_sheet other)) own)
+    ∙ sym (ap (int_lt (to_z w128 (of_z w128 sum))) others) ∙ h in
     sym (ap (λ (b : Bool). if b then other else sheet) greater)
 
 -- the kept sum once it is stored
-pub keeps_stored : (prices prices' : List ℤ) (worths worths' : List ℤ) (sum : ℤ) → prices ≡ prices' → worths ≡ worths' → KeepsSum prices worths sum → KeepsSum prices' worths' (to_z w128 (of_z w128 sum))
+pub keeps_stored : (prices prices' : List ℤ) (worths worths' : List ℤ) (sum : ℤ) → prices ≡ prices' → worths ≡ worths' → KeepsSum prices worths sum
+    → KeepsSum prices' worths' (to_z w128 (of_z w128 sum))
 keeps_stored prices prices' worths worths' sum e e' kept =
     let small = kept.small in
     let is = stored sum small.0 small.1 in
@@ -127,7 +140,8 @@ keeps_stored prices prices' worths worths' sum e e' kept =
     subst (KeepsSum prices' worths') (sym is) at_both
 
 -- a kept sum, rounded up
-pub rounds_sum : (sheet : PriceSheet) (sum units : ℤ) → IsSmall sum → sum ≡ sum_of_sheet sheet → RoundsUp (pos 1000) (to_z w128 (of_z w128 sum)) units → mag units < 2 ^ 127 → to_z w128 (of_z w128 units) ≡ rounded_up (sum_of_sheet sheet)
+pub rounds_sum : (sheet : PriceSheet) (sum units : ℤ) → IsSmall sum → sum ≡ sum_of_sheet sheet → RoundsUp (pos 1000) (to_z w128 (of_z w128 sum)) units
+    → mag units < 2 ^ 127 → to_z w128 (of_z w128 units) ≡ rounded_up (sum_of_sheet sheet)
 rounds_sum sheet sum units small is rounds fits =
     let low = small.0 in
     let high = small.1 in

@@ -1,5 +1,6 @@
 -- Nodes of a tree in preorder, and what pricings and splits make of them.
-use Rattle.std.specs.Prelude.{◌≡◌, ℕ, ◌+◌, ◌-◌, ◌^◌, ◌<◌, ◌==◌, min, ℤ, List, [], ◌∷◌, slice_index_or, slice_set, insert, true, false, if◌then◌else◌, Option, Some, None}
+use Rattle.std.specs.Prelude.{◌≡◌, ℕ, ◌+◌, ◌-◌, ◌^◌, ◌<◌, ◌==◌, min, ℤ, List, [], ◌∷◌, slice_index_or, slice_set, insert, true, false, if◌then◌else◌, Option}
+use Rattle.std.specs.Prelude.{Some, None}
 use Rattle.search_model.specs.declared.TurnOf.{TurnOf}
 use Rattle.search_model.specs.declared.Twig.{Twig}
 use Rattle.search_model.specs.declared.Twig.TheVariants.{Split, Leaf as Tip}
@@ -46,7 +47,8 @@ noted b prices cars =
     }
 
 abbrev pub split_at : Branch → (call part : ℕ) → Branch
-split_at b call part = record { node = b.node; sheet = b.sheet; split = Some (record { call = call; part = part }); depth = b.depth; rounds = b.rounds; spent = b.spent }
+split_at b call part = record
+    { node = b.node; sheet = b.sheet; split = Some (record { call = call; part = part }); depth = b.depth; rounds = b.rounds; spent = b.spent }
 
 -- how deep the parts of a split lie
 abbrev pub depth_below : Branch → ℕ

@@ -6,7 +6,8 @@ use Rattle.std.proofs.lemmas.Bool.{eq-eqb, eqb-true, ne_eqb, and_parts, and_from
 use Rattle.std.proofs.lemmas.Nat.Gcd.{le_of_dvd, dvd_of_mod-eq-zero, mod-eq-zero_of_dvd}
 use Rattle.search_model.specs.Reports.{common_up_to, mean_over, mean_under}
 
-step : (n a b g : ℕ) (t : Bool) → (eqb (a % suc n) 0 && eqb (b % suc n) 0) ≡ t → IsGcd a b g → 0 < g → g ≤ suc n → (g ≤ n → common_up_to n a b ≡ g) → cond t (suc n) (common_up_to n a b) ≡ g
+step : (n a b g : ℕ) (t : Bool) → (eqb (a % suc n) 0 && eqb (b % suc n) 0) ≡ t → IsGcd a b g → 0 < g → g ≤ suc n → (g ≤ n → common_up_to n a b ≡ g)
+    → cond t (suc n) (common_up_to n a b) ≡ g
 step n a b g true e is some le later =
     let both = and_parts (eqb (a % suc n) 0) (eqb (b % suc n) 0) e in
     let divides = is.2 (suc n) (dvd_of_mod-eq-zero (suc n) (eqb-true _ _ both.0)) (dvd_of_mod-eq-zero (suc n) (eqb-true _ _ both.1)) in

@@ -13,4 +13,5 @@ time_in_total Ride call = omega arith
 time_in_total Total call = omega arith
 
 pub sum_in_total : (span : Span) (calls : List Served) → sum (map (time_of span) calls) ≤ sum (map (time_of Total) calls)
-sum_in_total span calls = omega (arith, sum-map (time_of span) calls, sum-map (time_of Total) calls, sum_by-le-sum_by (time_of span) (time_of Total) calls (time_in_total span))
+sum_in_total span calls =
+    omega (arith, sum-map (time_of span) calls, sum-map (time_of Total) calls, sum_by-le-sum_by (time_of span) (time_of Total) calls (time_in_total span))

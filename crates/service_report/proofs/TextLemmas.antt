@@ -1,5 +1,6 @@
 -- Fields that are written as they are, and the lines of such fields.
-use Rattle.std.proofs.Common.{◌≡◌, ◌≢◌, ℕ, ◌+◌, ◌%◌, ◌<◌, ◌≤◌, ◌^◌, true, false, List, [], ◌∷◌, ◌++◌, Option, Some, None, Result, Ok, Err, refl, sym, ap, subst, ◌∙◌, arith, append_assoc, eqb}
+use Rattle.std.proofs.Common.{◌≡◌, ◌≢◌, ℕ, ◌+◌, ◌%◌, ◌<◌, ◌≤◌, ◌^◌, true, false, List, [], ◌∷◌, ◌++◌, Option, Some, None, Result, Ok, Err, refl, sym, ap, subst}
+use Rattle.std.proofs.Common.{◌∙◌, arith, append_assoc, eqb}
 use Rattle.std.specs.Prelude.{decimal}
 use Rattle.std.proofs.lemmas.Bool.{ne_eqb}
 use Rattle.std.proofs.lemmas.Fmt.{decimal_by_steps}
@@ -39,7 +40,8 @@ plain_decimal n small =
 pub plain_slash : (xs ys : List ℕ) → IsPlain xs → IsPlain ys → IsPlain (xs ++ 47 ∷ ys)
 plain_slash xs ys a b = plain-append xs (47 ∷ ys) a (plain-append (47 ∷ []) ys refl b)
 
-pub row_is : (measure wait ride total : List ℕ) → IsPlain measure → IsPlain wait → IsPlain ride → IsPlain total → row_text default_writer (measure ∷ wait ∷ ride ∷ total ∷ []) ≡ line_of measure wait ride total
+pub row_is : (measure wait ride total : List ℕ) → IsPlain measure → IsPlain wait → IsPlain ride → IsPlain total
+    → row_text default_writer (measure ∷ wait ∷ ride ∷ total ∷ []) ≡ line_of measure wait ride total
 unfolding is_blank fields_text
 row_is measure wait ride total a b c d = rw (a, b, c, d) (simp (append_assoc, append-nil))
 
@@ -48,7 +50,11 @@ appends_some None text row h = absurd h
 appends_some (Some all) text row h = ap Some h
 
 -- a record of four plain fields is a line
-pub line_written : {W : Type 0} (contents : W → Option (List ℕ)) (old new : Writer W) (text measure wait ride total : List ℕ) → IsPlain measure → IsPlain wait → IsPlain ride → IsPlain total → HasWritten contents old text → writer_setup new ≡ writer_setup old → fields_written new ≡ 0 → has_written new ≡ false → (fields_written old ≡ 0 → has_written old ≡ false → (writer_setup old).style ≢ style.NonNumeric → Appends (text_written contents old) (text_written contents new) (row_text (writer_setup old) (measure ∷ wait ∷ ride ∷ total ∷ []))) → HasWritten contents new (text ++ line_of measure wait ride total)
+pub line_written : {W : Type 0} (contents : W → Option (List ℕ)) (old new : Writer W) (text measure wait ride total : List ℕ) → IsPlain measure → IsPlain wait
+    → IsPlain ride → IsPlain total → HasWritten contents old text → writer_setup new ≡ writer_setup old → fields_written new ≡ 0 → has_written new ≡ false
+    → (fields_written old ≡ 0 → has_written old ≡ false → (writer_setup old).style ≢ style.NonNumeric
+    → Appends (text_written contents old) (text_written contents new) (row_text (writer_setup old) (measure ∷ wait ∷ ride ∷ total ∷ [])))
+    → HasWritten contents new (text ++ line_of measure wait ride total)
 line_written contents old new text measure wait ride total a b c d h setup fields clean bytes =
     let IsRead : WriterBuilder → Type 0 = λ cfg. cfg.style ≢ style.NonNumeric in
     let read : (writer_setup old).style ≢ style.NonNumeric = subst IsRead (sym h.setup) (λ e. cc e) in
@@ -60,12 +66,19 @@ line_written contents old new text measure wait ride total a b c d h setup field
       setup = setup ∙ h.setup;
       fields = fields;
       clean = clean;
-      text_is = appends_some (text_written contents new) text (line_of measure wait ride total) (subst Row row (subst From h.text_is (bytes h.fields h.clean read)));
+      text_is = appends_some (text_written contents new) text (line_of measure wait ride total)
+          (subst Row row (subst From h.text_is (bytes h.fields h.clean read)));
     }
 
 -- the same where the call that writes the record answers Ok
-pub line_answered : {T E W : Type 0} (r : Result T E) (contents : W → Option (List ℕ)) (old new : Writer W) (text measure wait ride total : List ℕ) → IsPlain measure → IsPlain wait → IsPlain ride → IsPlain total → HasWritten contents old text → true ≡ is_ok r → OnOk r (writer_setup new ≡ writer_setup old) → OnOk r (fields_written new ≡ 0) → OnOk r (has_written new ≡ false) → OnOk r (fields_written old ≡ 0 → has_written old ≡ false → (writer_setup old).style ≢ style.NonNumeric → Appends (text_written contents old) (text_written contents new) (row_text (writer_setup old) (measure ∷ wait ∷ ride ∷ total ∷ []))) → HasWritten contents new (text ++ line_of measure wait ride total)
-line_answered (Ok x) contents old new text measure wait ride total a b c d h ok setup fields clean bytes = line_written contents old new text measure wait ride total a b c d h setup fields clean bytes
+pub line_answered : {T E W : Type 0} (r : Result T E) (contents : W → Option (List ℕ)) (old new : Writer W) (text measure wait ride total : List ℕ)
+    → IsPlain measure → IsPlain wait → IsPlain ride → IsPlain total → HasWritten contents old text → true ≡ is_ok r
+    → OnOk r (writer_setup new ≡ writer_setup old) → OnOk r (fields_written new ≡ 0) → OnOk r (has_written new ≡ false)
+    → OnOk r (fields_written old ≡ 0 → has_written old ≡ false → (writer_setup old).style ≢ style.NonNumeric
+    → Appends (text_written contents old) (text_written contents new) (row_text (writer_setup old) (measure ∷ wait ∷ ride ∷ total ∷ [])))
+    → HasWritten contents new (text ++ line_of measure wait ride total)
+line_answered (Ok x) contents old new text measure wait ride total a b c d h ok setup fields clean bytes =
+    line_written contents old new text measure wait ride total a b c d h setup fields clean bytes
 line_answered (Err e) contents old new text measure wait ride total a b c d h ok setup fields clean bytes = cc ok
 
 pub plain_fraction : (over under : ℕ) → over < 2 ^ 64 → under < 2 ^ 64 → IsPlain (decimal over ++ 47 ∷ decimal under)

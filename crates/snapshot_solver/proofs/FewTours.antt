@@ -28,7 +28,8 @@ lawful-tested s c allowed w tour = by_course (course_of s c w) refl tour.lawful
 pub few_tours : (s : Snapshot) (node : Node) (c n : ℕ) → c < car_count s → HasPartialTours s node c n → n < moves_enough s
 few_tours s node c n lt many =
     let all = tested_all s c (allows node c) any_course (λ moves x y m may ok leads moved passes. refl) in
-    let le = fewer_lists many.lists (partial_tours s c (allows node c)) many.order all.order (λ u among. all.all u (lawful-tested s c (allows node c) u (each_among (IsPartialTour s c (allows node c)) u many.lists many.each among))) in
+    let le = fewer_lists many.lists (partial_tours s c (allows node c)) many.order all.order
+    (λ u among. all.all u (lawful-tested s c (allows node c) u (each_among (IsPartialTour s c (allows node c)) u many.lists many.each among))) in
     let few = partial_tours-few s c (allows node c) lt in
     let size = many.many in
     omega (arith, le, few, size)

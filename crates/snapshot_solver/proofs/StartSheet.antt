@@ -38,11 +38,13 @@ worth-at s c car = get_or-map-range_with_len (start_worth s) 0 (car_count s) c c
 
 root-worth : (s : Snapshot) (c : ℕ) → IsAccepted s → c < car_count s → IsWorth s (root_of s) c (price_at (start_prices s)) (start_worth s c)
 root-worth s c accepted car = λ tour within.
-    bound_is_lower s c (price_at (start_prices s)) (allows (root_of s) c) (requires_of (root_of s) c) [] (course_start s c) tour accepted car refl (moves_of s tour, refl) within
+    bound_is_lower s c (price_at (start_prices s)) (allows (root_of s) c) (requires_of (root_of s) c) [] (course_start s c) tour accepted car refl
+    (moves_of s tour, refl) within
 
 -- ---- kept lists
 
-none_from : (s : Snapshot) (c : ℕ) (allowed : ℕ → Bool) (keep : Course → Bool) (n : ℕ) (moves : List Move) (x : Course) → keep x ≡ false → lists_from s c allowed keep n moves x ≡ []
+none_from : (s : Snapshot) (c : ℕ) (allowed : ℕ → Bool) (keep : Course → Bool) (n : ℕ) (moves : List Move) (x : Course) → keep x ≡ false
+    → lists_from s c allowed keep n moves x ≡ []
 none_from s c allowed keep zero moves x e = refl
 none_from s c allowed keep (suc n) moves x e = cond-false (keep x) _ [] e
 
@@ -50,10 +52,12 @@ not_below : (z : ℤ) → int_lt z z ≡ false
 not_below z = grind (arith, ints)
 
 -- no partial tour is kept for the bound of the empty one
-none_kept : (s : Snapshot) (c : ℕ) (price : ℕ → ℤ) (allowed required : ℕ → Bool) → kept_list s c price allowed required (completion_bound s c price allowed required (course_start s c)) ≡ []
+none_kept : (s : Snapshot) (c : ℕ) (price : ℕ → ℤ) (allowed required : ℕ → Bool)
+    → kept_list s c price allowed required (completion_bound s c price allowed required (course_start s c)) ≡ []
 none_kept s c price allowed required =
     let worth = completion_bound s c price allowed required (course_start s c) in
-    none_from s c allowed (is_kept s c price allowed required worth) (move_limit s c + 1) [] (course_start s c) (and_right (can_be_extended s c allowed required (course_start s c)) (int_lt worth worth) (not_below worth))
+    none_from s c allowed (is_kept s c price allowed required worth) (move_limit s c + 1) [] (course_start s c)
+    (and_right (can_be_extended s c allowed required (course_start s c)) (int_lt worth worth) (not_below worth))
 
 -- ---- all
 
@@ -77,13 +81,17 @@ start-sum s accepted =
 
 -- ---- as the code has it
 
-pub sheet-in_root : (s : Snapshot) (sheet : PriceSheet) → IsAccepted s → sheet.prices ≡ start_prices s → sheet.worths ≡ start_worths s → IsSheetIn s (root_of s) sheet
+pub sheet-in_root : (s : Snapshot) (sheet : PriceSheet) → IsAccepted s → sheet.prices ≡ start_prices s → sheet.worths ≡ start_worths s
+    → IsSheetIn s (root_of s) sheet
 sheet-in_root s sheet accepted prices worths =
-    subst (λ (xs : List ℤ). IsSheetIn s (root_of s) (record { prices = xs; worths = sheet.worths })) (sym prices) (subst (λ (ws : List ℤ). IsSheetIn s (root_of s) (record { prices = start_prices s; worths = ws })) (sym worths) (start-in_root s accepted))
+    subst (λ (xs : List ℤ). IsSheetIn s (root_of s) (record { prices = xs; worths = sheet.worths })) (sym prices)
+    (subst (λ (ws : List ℤ). IsSheetIn s (root_of s) (record { prices = start_prices s; worths = ws })) (sym worths) (start-in_root s accepted))
 
-pub sheet-sum : (s : Snapshot) (sheet : PriceSheet) → IsAccepted s → sheet.prices ≡ start_prices s → sheet.worths ≡ start_worths s → sum_of_sheet sheet ≡ scaled (floor_of_bound s)
+pub sheet-sum : (s : Snapshot) (sheet : PriceSheet) → IsAccepted s → sheet.prices ≡ start_prices s → sheet.worths ≡ start_worths s
+    → sum_of_sheet sheet ≡ scaled (floor_of_bound s)
 sheet-sum s sheet accepted prices worths =
-    ap (λ (xs : List ℤ). sum_of_sheet (record { prices = xs; worths = sheet.worths })) prices ∙ ap (λ (ws : List ℤ). sum_of_sheet (record { prices = start_prices s; worths = ws })) worths ∙ start-sum s accepted
+    ap (λ (xs : List ℤ). sum_of_sheet (record { prices = xs; worths = sheet.worths })) prices
+    ∙ ap (λ (ws : List ℤ). sum_of_sheet (record { prices = start_prices s; worths = ws })) worths ∙ start-sum s accepted
 
 pub worths-sized : (s : Snapshot) (worths : List ℤ) → IsAccepted s → worths ≡ start_worths s → AreWorthSizes worths
 worths-sized s worths accepted e = subst AreWorthSizes (sym e) all
@@ -97,12 +105,14 @@ worths-sized s worths accepted e = subst AreWorthSizes (sym e) all
 -- ---- as a certificate states it
 
 -- each worth is stated with claim 1
-pub starts-leaf : (s : Snapshot) (sheet : PriceSheet) (leaf : Leaf) → sheet.prices ≡ start_prices s → sheet.worths ≡ start_worths s → IsSheetIn s (root_of s) sheet → sum_of_sheet sheet ≡ scaled (floor_of_bound s) → leaf ≡ leaf_with 1 sheet → IsSizedLeaf leaf → IsStartLeaf s leaf
+pub starts-leaf : (s : Snapshot) (sheet : PriceSheet) (leaf : Leaf) → sheet.prices ≡ start_prices s → sheet.worths ≡ start_worths s
+    → IsSheetIn s (root_of s) sheet → sum_of_sheet sheet ≡ scaled (floor_of_bound s) → leaf ≡ leaf_with 1 sheet → IsSizedLeaf leaf → IsStartLeaf s leaf
 starts-leaf s sheet leaf prices worths root sum is sized = subst (IsStartLeaf s) (sym is) (record {
   whole = whole_lists-sheet 1 s sheet root.calls root.cars;
   prices_are = λ j. ap (λ (price : ℕ → ℤ). price j) prices_stated;
   worths_are = worth_stated;
-  worths = λ c car. subst (λ (price : ℕ → ℤ). IsWorth s (root_of s) c price (worth_in (leaf_with 1 sheet) c)) (sym (price_in-sheet 1 sheet)) (subst (IsWorth s (root_of s) c (price_at sheet.prices)) (sym (worth_in-sheet 1 sheet c)) (root.worths c car));
+  worths = λ c car. subst (λ (price : ℕ → ℤ). IsWorth s (root_of s) c price (worth_in (leaf_with 1 sheet) c)) (sym (price_in-sheet 1 sheet))
+      (subst (IsWorth s (root_of s) c (price_at sheet.prices)) (sym (worth_in-sheet 1 sheet c)) (root.worths c car));
   claims = λ c car. claim_in-sheet 1 sheet c (let cars = root.cars in omega (arith, car, cars));
   kept = λ c car. (let none = ap length (none_here c car) in omega (arith, none));
   sum = sum_of_leaf-sheet 1 sheet ∙ sum;
@@ -117,4 +127,6 @@ starts-leaf s sheet leaf prices worths root sum is sized = subst (IsStartLeaf s)
 
     none_here : (c : ℕ) → c < car_count s → kept_at s (root_of s) (leaf_with 1 sheet) c ≡ []
     none_here c car =
-        ap (λ (price : ℕ → ℤ). kept_list s c price (allows (root_of s) c) (requires_of (root_of s) c) (worth_in (leaf_with 1 sheet) c)) prices_stated ∙ ap (kept_list s c (price_at (start_prices s)) (allows (root_of s) c) (requires_of (root_of s) c)) (worth_stated c car) ∙ none_kept s c (price_at (start_prices s)) (allows (root_of s) c) (requires_of (root_of s) c)
+        ap (λ (price : ℕ → ℤ). kept_list s c price (allows (root_of s) c) (requires_of (root_of s) c) (worth_in (leaf_with 1 sheet) c)) prices_stated
+        ∙ ap (kept_list s c (price_at (start_prices s)) (allows (root_of s) c) (requires_of (root_of s) c)) (worth_stated c car)
+        ∙ none_kept s c (price_at (start_prices s)) (allows (root_of s) c) (requires_of (root_of s) c)

@@ -22,11 +22,13 @@ sum-by_owner n (suc m) owner f within =
 pub int_sum_by-below : {X : Type 0} (g : X → ℤ) (f : ℕ → X) (n : ℕ) → int_sum_by g (map f (range_with_len 0 n)) ≡ int_sum_below n (λ k. g (f k))
 int_sum_by-below g f zero = refl
 int_sum_by-below g f (suc n) =
-    let more = ap (λ (m : ℕ). int_sum_by g (map f (range_with_len 0 m))) (sym (add-one n)) ∙ ap (int_sum_by g) (map-range_with_len_more f 0 n n (zero-add n)) ∙ int_sum_by-append g (map f (range_with_len 0 n)) (f n ∷ []) in
+    let more = ap (λ (m : ℕ). int_sum_by g (map f (range_with_len 0 m))) (sym (add-one n)) ∙ ap (int_sum_by g) (map-range_with_len_more f 0 n n (zero-add n))
+    ∙ int_sum_by-append g (map f (range_with_len 0 n)) (f n ∷ []) in
     let before = int_sum_by-below g f n in
     omega (arith, ints, more, before)
 
 -- a list of what f gives of the numbers below n, and one more
-pub made-more : {X : Type 0} (f : ℕ → X) (n : ℕ) (made : List X) (x : X) → made ≡ map f (range_with_len 0 n) → x ≡ f n → made ++ x ∷ [] ≡ map f (range_with_len 0 (n + 1))
+pub made-more : {X : Type 0} (f : ℕ → X) (n : ℕ) (made : List X) (x : X) → made ≡ map f (range_with_len 0 n) → x ≡ f n
+    → made ++ x ∷ [] ≡ map f (range_with_len 0 (n + 1))
 made-more f n made x before here =
     ap (λ xs. xs ++ x ∷ []) before ∙ ap (λ y. map f (range_with_len 0 n) ++ y ∷ []) here ∙ sym (map-range_with_len_more f 0 n n (zero-add n))

@@ -1,5 +1,6 @@
 -- Lists of the cars that lines name, and of items that were judged.
-use Rattle.std.proofs.Common.{◌≡◌, ◌≢◌, ℕ, ◌+◌, ◌<◌, ◌==◌, Bool, cond, List, [], ◌∷◌, ◌++◌, length, map, take, get_or, refl, sym, ap, ◌∙◌, subst, arith, Option, None, append_assoc, append-nil, inl, inr}
+use Rattle.std.proofs.Common.{◌≡◌, ◌≢◌, ℕ, ◌+◌, ◌<◌, ◌==◌, Bool, cond, List, [], ◌∷◌, ◌++◌, length, map, take, get_or, refl, sym, ap, ◌∙◌, subst, arith, Option}
+use Rattle.std.proofs.Common.{None, append_assoc, append-nil, inl, inr}
 use Rattle.std.specs.Prelude.{count_by, if◌then◌else◌}
 use Rattle.std.proofs.lemmas.Bool.{eq-eqb, cases_lt, cases_eq}
 use Rattle.std.proofs.lemmas.List.{length-map, length_push, get_or_push, get_or_append_left, take-append-le, take_at}
@@ -66,7 +67,8 @@ module _ {X : Type 0} (fault_of : List X → X → Option Fault) (d : X) where
             ∙ ap (λ (y : X). fault_of xs y) (get_or_push xs x d k last) ∙ here
       ]
 
-pub each-push : {X : Type 0} (P : X → Type 0) (d : X) (xs : List X) (x : X) → ((k : ℕ) → k < length xs → P (get_or xs k d)) → P x → (k : ℕ) → k < length (xs ++ x ∷ []) → P (get_or (xs ++ x ∷ []) k d)
+pub each-push : {X : Type 0} (P : X → Type 0) (d : X) (xs : List X) (x : X) → ((k : ℕ) → k < length xs → P (get_or xs k d)) → P x → (k : ℕ)
+    → k < length (xs ++ x ∷ []) → P (get_or (xs ++ x ∷ []) k d)
 each-push P d xs x each here k below =
     elim (cases_lt k (length xs)) [
       | inl before ↦ subst P (sym (get_or_append_left xs (x ∷ []) d k before)) (each k before)
@@ -75,14 +77,19 @@ each-push P d xs x each here k below =
 
 -- ---- one more line among the lines of cars, groups and calls
 
-pub line_of_car : (cars groups calls items : List Line) (words : Line) → items ≡ cars ++ groups ++ calls → length groups ≡ 0 → length calls ≡ 0 → items ++ words ∷ [] ≡ (cars ++ words ∷ []) ++ groups ++ calls
-line_of_car cars [] [] items words e none empty = ap (λ (ls : List Line). ls ++ words ∷ []) (e ∙ append-nil (cars ++ []) ∙ append-nil cars) ∙ sym (append-nil ((cars ++ words ∷ []) ++ []) ∙ append-nil (cars ++ words ∷ []))
+pub line_of_car : (cars groups calls items : List Line) (words : Line) → items ≡ cars ++ groups ++ calls → length groups ≡ 0 → length calls ≡ 0
+    → items ++ words ∷ [] ≡ (cars ++ words ∷ []) ++ groups ++ calls
+line_of_car cars [] [] items words e none empty = ap (λ (ls : List Line). ls ++ words ∷ []) (e ∙ append-nil (cars ++ []) ∙ append-nil cars)
+    ∙ sym (append-nil ((cars ++ words ∷ []) ++ []) ∙ append-nil (cars ++ words ∷ []))
 line_of_car cars [] (x ∷ calls) items words e none empty = absurd (omega (arith, empty))
 line_of_car cars (x ∷ groups) calls items words e none empty = absurd (omega (arith, none))
 
-pub line_of_group : (cars groups calls items : List Line) (words : Line) → items ≡ cars ++ groups ++ calls → length calls ≡ 0 → items ++ words ∷ [] ≡ cars ++ (groups ++ words ∷ []) ++ calls
-line_of_group cars groups [] items words e empty = ap (λ (ls : List Line). ls ++ words ∷ []) (e ∙ append-nil (cars ++ groups)) ∙ append_assoc cars groups (words ∷ []) ∙ sym (append-nil (cars ++ (groups ++ words ∷ [])))
+pub line_of_group : (cars groups calls items : List Line) (words : Line) → items ≡ cars ++ groups ++ calls → length calls ≡ 0
+    → items ++ words ∷ [] ≡ cars ++ (groups ++ words ∷ []) ++ calls
+line_of_group cars groups [] items words e empty = ap (λ (ls : List Line). ls ++ words ∷ []) (e ∙ append-nil (cars ++ groups))
+    ∙ append_assoc cars groups (words ∷ []) ∙ sym (append-nil (cars ++ (groups ++ words ∷ [])))
 line_of_group cars groups (x ∷ calls) items words e empty = absurd (omega (arith, empty))
 
-pub line_of_call : (cars groups calls items : List Line) (words : Line) → items ≡ cars ++ groups ++ calls → items ++ words ∷ [] ≡ cars ++ groups ++ (calls ++ words ∷ [])
+pub line_of_call : (cars groups calls items : List Line) (words : Line) → items ≡ cars ++ groups ++ calls
+    → items ++ words ∷ [] ≡ cars ++ groups ++ (calls ++ words ∷ [])
 line_of_call cars groups calls items words e = ap (λ (ls : List Line). ls ++ words ∷ []) e ∙ append_assoc (cars ++ groups) calls (words ∷ [])

@@ -20,7 +20,8 @@ use Rattle.snapshot_text.specs.declared.kinds.Form.{Form}
 use Rattle.snapshot_text.specs.declared.kinds.Form.TheVariants.{Unsaid, SaidIdle, SaidComing, SaidMoving}
 use Rattle.snapshot_text.specs.declared.kinds.LineWord.{LineWord}
 use Rattle.snapshot_text.specs.declared.kinds.LineWord.TheVariants.{Snapshot as SnapshotWord, Now, Car, Aboard as AboardWord, Call as CallWord, End}
-use Rattle.snapshot_text.specs.Words.{has_direction, form_of, car_named, state_said, car_said, call_at, group_in, group_of_words, group_said, pin_named, call_of_words, call_said}
+use Rattle.snapshot_text.specs.Words.{has_direction, form_of, car_named, state_said, car_said, call_at, group_in, group_of_words, group_said, pin_named}
+use Rattle.snapshot_text.specs.Words.{call_of_words, call_said}
 use Rattle.snapshot_text.specs.Drafts.{Draft, any_word, with_item, unless_faulty, ended, after_word, after_judged}
 
 -- ---- steps of a chain
@@ -43,15 +44,18 @@ unless_faulty-whole : (fault : Option Fault) (d next : Draft) → unless_faulty 
 unless_faulty-whole None d next e = cc
 unless_faulty-whole (Some fault) d next e = cc
 
-pub with_item-inv : {X : Type 0} (j : Judged X) (fault_of : X → Option Fault) (with_one : X → Draft) (next : Draft) → with_item j fault_of with_one ≡ goes_on next → (x : X) × (j ≡ Ok x) × (fault_of x ≡ None) × (with_one x ≡ next)
+pub with_item-inv : {X : Type 0} (j : Judged X) (fault_of : X → Option Fault) (with_one : X → Draft) (next : Draft)
+    → with_item j fault_of with_one ≡ goes_on next → (x : X) × (j ≡ Ok x) × (fault_of x ≡ None) × (with_one x ≡ next)
 with_item-inv (Ok x) fault_of with_one next e = let parts = unless_faulty-inv (fault_of x) (with_one x) next e in (x, refl, parts.0, parts.1)
 with_item-inv (Err code) fault_of with_one next e = absurd cc
 
-pub with_item-whole : {X : Type 0} (j : Judged X) (fault_of : X → Option Fault) (with_one : X → Draft) (next : Draft) → with_item j fault_of with_one ≡ is_whole next → ⊥
+pub with_item-whole : {X : Type 0} (j : Judged X) (fault_of : X → Option Fault) (with_one : X → Draft) (next : Draft)
+    → with_item j fault_of with_one ≡ is_whole next → ⊥
 with_item-whole (Ok x) fault_of with_one next e = unless_faulty-whole (fault_of x) (with_one x) next e
 with_item-whole (Err code) fault_of with_one next e = cc
 
-pub with_item-ok : {X : Type 0} (j : Judged X) (fault_of : X → Option Fault) (with_one : X → Draft) (x : X) → j ≡ Ok x → fault_of x ≡ None → with_item j fault_of with_one ≡ goes_on (with_one x)
+pub with_item-ok : {X : Type 0} (j : Judged X) (fault_of : X → Option Fault) (with_one : X → Draft) (x : X) → j ≡ Ok x → fault_of x ≡ None
+    → with_item j fault_of with_one ≡ goes_on (with_one x)
 with_item-ok j fault_of with_one x e clear = ap (λ judged. with_item judged fault_of with_one) e ∙ ap (λ fault. unless_faulty fault (with_one x)) clear
 
 pub ended-inv : (j : Judged AfterLine) (d next : Draft) → ended j d ≡ is_whole next → (turn : AfterLine) × (j ≡ Ok turn) × (d ≡ next)
@@ -62,11 +66,13 @@ pub ended-more : (j : Judged AfterLine) (d next : Draft) → ended j d ≡ goes_
 ended-more (Ok turn) d next e = cc
 ended-more (Err code) d next e = cc
 
-pub after_judged-inv : (j : Judged LineWord) (d next : Draft) (words : Line) → after_judged j d words ≡ goes_on next → (word : LineWord) × (j ≡ Ok word) × (after_word word d words ≡ goes_on next)
+pub after_judged-inv : (j : Judged LineWord) (d next : Draft) (words : Line) → after_judged j d words ≡ goes_on next → (word : LineWord) × (j ≡ Ok word)
+    × (after_word word d words ≡ goes_on next)
 after_judged-inv (Ok word) d next words e = (word, refl, e)
 after_judged-inv (Err code) d next words e = absurd cc
 
-pub after_judged-whole : (j : Judged LineWord) (d next : Draft) (words : Line) → after_judged j d words ≡ is_whole next → (word : LineWord) × (j ≡ Ok word) × (after_word word d words ≡ is_whole next)
+pub after_judged-whole : (j : Judged LineWord) (d next : Draft) (words : Line) → after_judged j d words ≡ is_whole next → (word : LineWord) × (j ≡ Ok word)
+    × (after_word word d words ≡ is_whole next)
 after_judged-whole (Ok word) d next words e = (word, refl, e)
 after_judged-whole (Err code) d next words e = absurd cc
 
@@ -131,7 +137,8 @@ MovesIn version SaidComing = Unit {0}
 MovesIn version SaidMoving = version ≡ 2
 
 form_cases : (few idle coming moving : Bool) (version : ℕ) (form : Form) → (moving ≡ true → version ≡ 2)
-    → (if few then Ok Unsaid else (if idle then Ok SaidIdle else (if coming then Ok SaidComing else (if moving then Ok SaidMoving else Err NoLineWord)))) ≡ Ok form → MovesIn version form
+    → (if few then Ok Unsaid else (if idle then Ok SaidIdle else (if coming then Ok SaidComing else (if moving then Ok SaidMoving else Err NoLineWord))))
+    ≡ Ok form → MovesIn version form
 form_cases true idle coming moving version form two e = let same : Unsaid ≡ form = cc in subst (MovesIn version) same tt
 form_cases false true coming moving version form two e = let same : SaidIdle ≡ form = cc in subst (MovesIn version) same tt
 form_cases false false true moving version form two e = let same : SaidComing ≡ form = cc in subst (MovesIn version) same tt
@@ -141,13 +148,15 @@ form_cases false false false false version form two e = absurd cc
 -- only version 2 says that a car moves
 form_of-moving : (version : ℕ) (words : Line) (form : Form) → form_of version words ≡ Ok form → MovesIn version form
 form_of-moving version words form e =
-    form_cases (nat_lt (length words) 3) (is_word words 2 (codes "idle")) (is_word words 2 (codes "coming")) ((version == 2) && (is_word words 2 (codes "moving") && has_direction words)) version form
+    form_cases (nat_lt (length words) 3) (is_word words 2 (codes "idle")) (is_word words 2 (codes "coming"))
+    ((version == 2) && (is_word words 2 (codes "moving") && has_direction words)) version form
     (λ is. eqb-true version 2 (and_parts (version == 2) (is_word words 2 (codes "moving") && has_direction words) is).0) e
 
 unmoving_said : (form : Form) (words : Line) (said : ℕ × CarState) → (form ≡ SaidMoving → ⊥) → state_said form words ≡ Ok said → IsUnmoving said.1
 unmoving_said Unsaid words said still e = absurd cc
 unmoving_said SaidIdle words said still e =
-    let a = then-inv (exactly words 5) (λ _. short words 1 >>= λ id. (short words 3 >>= λ floor. (number words 4 0 2000000000 >>= λ free. Ok (id, Idle floor free)))) said e in
+    let a = then-inv (exactly words 5)
+    (λ _. short words 1 >>= λ id. (short words 3 >>= λ floor. (number words 4 0 2000000000 >>= λ free. Ok (id, Idle floor free)))) said e in
     let b = then-inv (short words 1) (λ id. short words 3 >>= λ floor. (number words 4 0 2000000000 >>= λ free. Ok (id, Idle floor free))) said a.2 in
     let c = then-inv (short words 3) (λ floor. number words 4 0 2000000000 >>= λ free. Ok (b.0, Idle floor free)) said b.2 in
     let d = then-inv (number words 4 0 2000000000) (λ free. Ok (b.0, Idle c.0 free)) said c.2 in
@@ -155,7 +164,8 @@ unmoving_said SaidIdle words said still e =
     let same : state ≡ said = cc in
     subst (λ (s : ℕ × CarState). IsUnmoving s.1) {x = state} same tt
 unmoving_said SaidComing words said still e =
-    let a = then-inv (exactly words 5) (λ _. short words 1 >>= λ id. (short words 3 >>= λ floor. (number words 4 0 2000000000 >>= λ free. Ok (id, Coming floor free)))) said e in
+    let a = then-inv (exactly words 5)
+    (λ _. short words 1 >>= λ id. (short words 3 >>= λ floor. (number words 4 0 2000000000 >>= λ free. Ok (id, Coming floor free)))) said e in
     let b = then-inv (short words 1) (λ id. short words 3 >>= λ floor. (number words 4 0 2000000000 >>= λ free. Ok (id, Coming floor free))) said a.2 in
     let c = then-inv (short words 3) (λ floor. number words 4 0 2000000000 >>= λ free. Ok (b.0, Coming floor free)) said b.2 in
     let d = then-inv (number words 4 0 2000000000) (λ free. Ok (b.0, Coming c.0 free)) said c.2 in
@@ -171,9 +181,11 @@ not_two version SaidComing one moves is = cc
 not_two version SaidMoving one moves is = omega (arith, one, moves)
 
 -- version 1 says no moving car
-pub unmoving_in : (b : Building) (version : ℕ) (form : Form) (words : Line) (said : ℕ × CarState) → version ≡ 1 → form_of version words ≡ Ok form → car_said b form words ≡ Ok said → IsUnmoving said.1
+pub unmoving_in : (b : Building) (version : ℕ) (form : Form) (words : Line) (said : ℕ × CarState) → version ≡ 1 → form_of version words ≡ Ok form
+    → car_said b form words ≡ Ok said → IsUnmoving said.1
 unmoving_in b version form words said one is e =
     let first = then-inv (state_said form words) (λ s. car_named b s.0 >>= λ c. Ok (c, s.1)) said e in
     let second = then-inv (car_named b first.0.0) (λ c. Ok (c, first.0.1)) said first.2 in
     let same : (second.0, first.0.1) ≡ said = cc in
-    subst (λ (s : ℕ × CarState). IsUnmoving s.1) same (unmoving_said form words first.0 (not_two version form one (form_of-moving version words form is)) first.1)
+    subst (λ (s : ℕ × CarState). IsUnmoving s.1) same
+    (unmoving_said form words first.0 (not_two version form one (form_of-moving version words form is)) first.1)

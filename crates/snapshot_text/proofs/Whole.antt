@@ -1,5 +1,6 @@
 -- What lines that make a section say.
-use Rattle.std.proofs.Common.{◌≡◌, ◌≢◌, ℕ, ◌+◌, ◌<◌, ◌≤◌, ◌==◌, Bool, true, false, List, [], ◌∷◌, ◌++◌, length, map, get_or, set, refl, sym, ap, ◌∙◌, subst, arith, Option, None, Some, Ok, Err, append_assoc, append-nil, IfSome, add-zero, inl, inr}
+use Rattle.std.proofs.Common.{◌≡◌, ◌≢◌, ℕ, ◌+◌, ◌<◌, ◌≤◌, ◌==◌, Bool, true, false, List, [], ◌∷◌, ◌++◌, length, map, get_or, set, refl, sym, ap, ◌∙◌, subst}
+use Rattle.std.proofs.Common.{arith, Option, None, Some, Ok, Err, append_assoc, append-nil, IfSome, add-zero, inl, inr}
 use Rattle.std.specs.Prelude.{codes, if◌then◌else◌}
 use Rattle.std.specs.List.{list_all}
 use Rattle.std.proofs.lemmas.Bool.{eqb-true, ne_eqb, eq-eqb, false≢true, and_parts, cases_Bool}
@@ -29,10 +30,14 @@ use Rattle.snapshot_text.specs.declared.kinds.Due.TheVariants.{Version, Items}
 use Rattle.snapshot_text.specs.declared.kinds.LineWord.{LineWord}
 use Rattle.snapshot_text.specs.declared.kinds.LineWord.TheVariants.{Snapshot as SnapshotWord, Now, Car, Aboard as AboardWord, Call as CallWord, End}
 use Rattle.snapshot_text.specs.Words.{version_said, moment_said, form_of, car_said, group_said, call_said}
-use Rattle.snapshot_text.specs.Drafts.{Draft, blank, snapshot_read, any_word, line_word, has_car, has_all_cars, cars_in_order, groups_in_order, calls_in_order, outside_opening, with_all_cars, version_in, moment_in, car_in, group_in, call_in, end_in, fault_in_car, fault_in_group, fault_in_call, with_version, with_moment, with_car, with_group, with_call, after_word, after}
+use Rattle.snapshot_text.specs.Drafts.{Draft, blank, snapshot_read, any_word, line_word, has_car, has_all_cars, cars_in_order, groups_in_order, calls_in_order}
+use Rattle.snapshot_text.specs.Drafts.{outside_opening, with_all_cars, version_in, moment_in, car_in, group_in, call_in, end_in, fault_in_car, fault_in_group}
+use Rattle.snapshot_text.specs.Drafts.{fault_in_call, with_version, with_moment, with_car, with_group, with_call, after_word, after}
 use Rattle.snapshot_text.specs.Snapshots.{says_version, says_moment, says_car, says_group, says_call, StandsFor}
-use Rattle.snapshot_text.proofs.Steps.{outside-inv, all_cars-inv, with_item-inv, with_item-whole, ended-inv, ended-more, after_judged-inv, after_judged-whole, text_of, any_word-inv, car_said-below, group_said-below, call_said-below, unmoving_in}
-use Rattle.snapshot_text.proofs.Lists.{times_in, times-push, map-without, at_each, nil_of, said_long, AreClear, clear-push, each-push, line_of_car, line_of_group, line_of_call}
+use Rattle.snapshot_text.proofs.Steps.{outside-inv, all_cars-inv, with_item-inv, with_item-whole, ended-inv, ended-more, after_judged-inv, after_judged-whole}
+use Rattle.snapshot_text.proofs.Steps.{text_of, any_word-inv, car_said-below, group_said-below, call_said-below, unmoving_in}
+use Rattle.snapshot_text.proofs.Lists.{times_in, times-push, map-without, at_each, nil_of, said_long, AreClear, clear-push, each-push, line_of_car}
+use Rattle.snapshot_text.proofs.Lists.{line_of_group, line_of_call}
 
 -- the states, groups and calls that were read
 pub record Held : Type 0 where
@@ -47,7 +52,18 @@ fresh-clear false fault e = (refl, e)
 
 module _ (b : Building) (o : Bool) (v t : ℕ) where
   abbrev pub draft : Held → Draft
-  draft i = record { is_opening = o; building = b; due = Items; version = v; moment = t; states = i.states; stated = i.stated; aboard = i.aboard; calls = i.calls }
+  draft i = record {
+    is_opening = o;
+    building = b;
+    due = Items;
+    version = v;
+    moment = t;
+    states = i.states;
+    stated = i.stated;
+    aboard = i.aboard;
+    calls =
+        i.calls;
+  }
 
   -- what the lines of cars have said
   pub record CarsRead (cars : List Line) (states : List CarState) (stated : List Bool) : Type 0 where
@@ -79,7 +95,8 @@ module _ (b : Building) (o : Bool) (v t : ℕ) where
     pub calls : CallsRead call_lines i.aboard i.calls
     pub opening : o ≡ true → (length i.aboard ≡ 0) × (length i.calls ≡ 0)
 
-  cars-more : (cars : List Line) (states : List CarState) (stated : List Bool) (words : Line) (one : ℕ × CarState) → CarsRead cars states stated → says_car b v words ≡ Ok one → one.0 < length b.cars → get_or stated one.0 false ≡ false
+  cars-more : (cars : List Line) (states : List CarState) (stated : List Bool) (words : Line) (one : ℕ × CarState) → CarsRead cars states stated
+      → says_car b v words ≡ Ok one → one.0 < length b.cars → get_or stated one.0 false ≡ false
       → fault_of_state b t one.0 one.1 ≡ None → (v ≡ 1 → IsUnmoving one.1) → CarsRead (cars ++ words ∷ []) (set states one.0 one.1) (set stated one.0 true)
   cars-more cars states stated words one read says below fresh clear still =
       let c = one.0 in
@@ -99,12 +116,16 @@ module _ (b : Building) (o : Bool) (v t : ℕ) where
         states_long = length-set states c one.1 ∙ read.states_long;
         stated_long = length-set stated c true ∙ read.stated_long;
         said = map_push (says_car b v) cars words ∙ ap (λ (xs : List (Judged (ℕ × CarState))). xs ++ says_car b v words ∷ []) read.said
-            ∙ ap (λ (xs : List (Judged (ℕ × CarState))). xs ++ says_car b v words ∷ []) (map-without f g c read.places none (λ k differs. ap (λ (s : CarState). Ok (k, s)) (sym (other k differs))))
+            ∙ ap (λ (xs : List (Judged (ℕ × CarState))). xs ++ says_car b v words ∷ [])
+            (map-without f g c read.places none (λ k differs. ap (λ (s : CarState). Ok (k, s)) (sym (other k differs))))
             ∙ ap (λ (x : Judged (ℕ × CarState)). map g read.places ++ x ∷ []) (says ∙ ap (λ (s : CarState). Ok (c, s)) (sym here))
             ∙ sym (map_push g read.places c);
-        counted = λ k inside. times-push k read.places c ∙ at_each c (λ k. k < length b.cars → times_in k read.places + (if c == k then 1 else 0) ≡ (if get_or stated' k false then 1 else 0))
-            (λ _. ap (λ (n : ℕ). n + (if c == c then 1 else 0)) none ∙ ap (λ (is : Bool). 0 + (if is then 1 else 0)) (eq-eqb c c refl) ∙ ap (λ (is : Bool). if is then 1 else 0) (sym here_stated))
-            (λ k differs inside. ap (λ (is : Bool). times_in k read.places + (if is then 1 else 0)) (ne_eqb c k (λ same. differs (sym same))) ∙ add-zero (times_in k read.places) ∙ read.counted k inside ∙ ap (λ (is : Bool). if is then 1 else 0) (sym (other_stated k differs)))
+        counted = λ k inside. times-push k read.places c
+            ∙ at_each c (λ k. k < length b.cars → times_in k read.places + (if c == k then 1 else 0) ≡ (if get_or stated' k false then 1 else 0))
+            (λ _. ap (λ (n : ℕ). n + (if c == c then 1 else 0)) none ∙ ap (λ (is : Bool). 0 + (if is then 1 else 0)) (eq-eqb c c refl)
+            ∙ ap (λ (is : Bool). if is then 1 else 0) (sym here_stated))
+            (λ k differs inside. ap (λ (is : Bool). times_in k read.places + (if is then 1 else 0)) (ne_eqb c k (λ same. differs (sym same)))
+            ∙ add-zero (times_in k read.places) ∙ read.counted k inside ∙ ap (λ (is : Bool). if is then 1 else 0) (sym (other_stated k differs)))
             k inside;
         clear = at_each c (λ k. k < length b.cars → get_or stated' k false ≡ true → fault_of_state b t k (get_or states' k no_state) ≡ None)
             (λ _ _. ap (λ (s : CarState). fault_of_state b t c s) here ∙ clear)
@@ -121,7 +142,8 @@ module _ (b : Building) (o : Bool) (v t : ℕ) where
   empty_of : (n : ℕ) → (n == 0) ≡ true → n ≡ 0
   empty_of n e = eqb-true n 0 e
 
-  took_car : (lines : List Line) (i : Held) (next : Draft) (words : Line) → ItemsRead lines i → is_word words 0 (codes "car") ≡ true → after_word Car (draft i) words ≡ goes_on next → Reads (lines ++ words ∷ []) next
+  took_car : (lines : List Line) (i : Held) (next : Draft) (words : Line) → ItemsRead lines i → is_word words 0 (codes "car") ≡ true
+      → after_word Car (draft i) words ≡ goes_on next → Reads (lines ++ words ∷ []) next
   took_car lines i next words read is e =
       let inv = with_item-inv (car_in (draft i) words) (fault_in_car (draft i)) (with_car (draft i)) next e in
       let one = inv.0 in
@@ -130,7 +152,9 @@ module _ (b : Building) (o : Bool) (v t : ℕ) where
       let free = and_parts (length i.aboard == 0) (length i.calls == 0) (in_order-inv _ order.0 order.1) in
       let alone = empty_of (length i.aboard) free.0 in
       let uncalled = empty_of (length i.calls) free.1 in
-      let says : says_car b v words ≡ Ok one = then-ok (named (codes "car") words) (λ _. form_of v words >>= λ form. car_said b form words) tt one (named-ok words (text_of Car) is) (then-ok (form_of v words) (λ form. car_said b form words) form.0 one form.1 order.2) in
+      let says : says_car b v words ≡ Ok one =
+      then-ok (named (codes "car") words) (λ _. form_of v words >>= λ form. car_said b form words) tt one (named-ok words (text_of Car) is)
+      (then-ok (form_of v words) (λ form. car_said b form words) form.0 one form.1 order.2) in
       let fresh = fresh-clear (get_or i.stated one.0 false) (fault_of_state b t one.0 one.1) inv.2 in
       let below = car_said-below b form.0 words one order.2 in
       let old = read.groups in (
@@ -140,19 +164,24 @@ module _ (b : Building) (o : Bool) (v t : ℕ) where
           car_lines = read.car_lines ++ words ∷ [];
           group_lines = read.group_lines;
           call_lines = read.call_lines;
-          lines_are = line_of_car read.car_lines read.group_lines read.call_lines lines words read.lines_are (said_long (says_group b) Ok read.group_lines i.aboard old.said ∙ alone) (said_long (says_call b) Ok read.call_lines i.calls read.calls.said ∙ uncalled);
-          cars = cars-more read.car_lines i.states i.stated words one read.cars says below fresh.0 fresh.1 (λ first. unmoving_in b v form.0 words one first form.1 order.2);
+          lines_are = line_of_car read.car_lines read.group_lines read.call_lines lines words read.lines_are
+              (said_long (says_group b) Ok read.group_lines i.aboard old.said ∙ alone)
+              (said_long (says_call b) Ok read.call_lines i.calls read.calls.said ∙ uncalled);
+          cars = cars-more read.car_lines i.states i.stated words one read.cars says below fresh.0 fresh.1
+              (λ first. unmoving_in b v form.0 words one first form.1 order.2);
           groups = record { said = old.said; clear = λ k inside. absurd (omega (arith, alone, inside)); cars = old.cars };
           calls = read.calls;
           opening = read.opening;
         },
       )
 
-  took_group : (lines : List Line) (i : Held) (next : Draft) (words : Line) → ItemsRead lines i → is_word words 0 (codes "aboard") ≡ true → after_word AboardWord (draft i) words ≡ goes_on next → Reads (lines ++ words ∷ []) next
+  took_group : (lines : List Line) (i : Held) (next : Draft) (words : Line) → ItemsRead lines i → is_word words 0 (codes "aboard") ≡ true
+      → after_word AboardWord (draft i) words ≡ goes_on next → Reads (lines ++ words ∷ []) next
   took_group lines i next words read is e =
       let inv = with_item-inv (group_in (draft i) words) (fault_in_group (draft i)) (with_group (draft i)) next e in
       let one = inv.0 in
-      let order = then-inv (groups_in_order (draft i)) (λ _. outside_opening (draft i) >>= λ _. (group_said b words >>= λ group. (with_all_cars (draft i) >>= λ _. Ok group))) one inv.1 in
+      let order = then-inv (groups_in_order (draft i))
+      (λ _. outside_opening (draft i) >>= λ _. (group_said b words >>= λ group. (with_all_cars (draft i) >>= λ _. Ok group))) one inv.1 in
       let outside = then-inv (outside_opening (draft i)) (λ _. group_said b words >>= λ group. (with_all_cars (draft i) >>= λ _. Ok group)) one order.2 in
       let group = then-inv (group_said b words) (λ group. with_all_cars (draft i) >>= λ _. Ok group) one outside.2 in
       let all = then-inv (with_all_cars (draft i)) (λ _. Ok group.0) one group.2 in
@@ -161,7 +190,8 @@ module _ (b : Building) (o : Bool) (v t : ℕ) where
       let shut = outside-inv o outside.0 outside.1 in
       let free = and_parts (has_car (draft i)) (length i.calls == 0) (in_order-inv _ order.0 order.1) in
       let uncalled = empty_of (length i.calls) free.1 in
-      let says : says_group b words ≡ Ok one = then-ok (named (codes "aboard") words) (λ _. group_said b words) tt one (named-ok words (text_of AboardWord) is) said in
+      let says : says_group b words ≡ Ok one =
+      then-ok (named (codes "aboard") words) (λ _. group_said b words) tt one (named-ok words (text_of AboardWord) is) said in
       let below = group_said-below b words one said in
       let old = read.groups in (
         record { states = i.states; stated = i.stated; aboard = i.aboard ++ one ∷ []; calls = i.calls },
@@ -170,10 +200,12 @@ module _ (b : Building) (o : Bool) (v t : ℕ) where
           car_lines = read.car_lines;
           group_lines = read.group_lines ++ words ∷ [];
           call_lines = read.call_lines;
-          lines_are = line_of_group read.car_lines read.group_lines read.call_lines lines words read.lines_are (said_long (says_call b) Ok read.call_lines i.calls read.calls.said ∙ uncalled);
+          lines_are = line_of_group read.car_lines read.group_lines read.call_lines lines words read.lines_are
+              (said_long (says_call b) Ok read.call_lines i.calls read.calls.said ∙ uncalled);
           cars = read.cars;
           groups = record {
-            said = map_push (says_group b) read.group_lines words ∙ ap (λ (xs : List (Judged Aboard)). xs ++ says_group b words ∷ []) old.said ∙ ap (λ (x : Judged Aboard). map Ok i.aboard ++ x ∷ []) says ∙ sym (map_push Ok i.aboard one);
+            said = map_push (says_group b) read.group_lines words ∙ ap (λ (xs : List (Judged Aboard)). xs ++ says_group b words ∷ []) old.said
+                ∙ ap (λ (x : Judged Aboard). map Ok i.aboard ++ x ∷ []) says ∙ sym (map_push Ok i.aboard one);
             clear = clear-push (fault_of_group b t i.states) no_group i.aboard one old.clear inv.2;
             cars = each-push (λ (g : Aboard). g.car < length b.cars) no_group i.aboard one old.cars below;
           };
@@ -182,18 +214,21 @@ module _ (b : Building) (o : Bool) (v t : ℕ) where
         },
       )
 
-  took_call : (lines : List Line) (i : Held) (next : Draft) (words : Line) → ItemsRead lines i → is_word words 0 (codes "call") ≡ true → after_word CallWord (draft i) words ≡ goes_on next → Reads (lines ++ words ∷ []) next
+  took_call : (lines : List Line) (i : Held) (next : Draft) (words : Line) → ItemsRead lines i → is_word words 0 (codes "call") ≡ true
+      → after_word CallWord (draft i) words ≡ goes_on next → Reads (lines ++ words ∷ []) next
   took_call lines i next words read is e =
       let inv = with_item-inv (call_in (draft i) words) (fault_in_call (draft i)) (with_call (draft i)) next e in
       let one = inv.0 in
-      let order = then-inv (calls_in_order (draft i)) (λ _. outside_opening (draft i) >>= λ _. (call_said b words >>= λ call. (with_all_cars (draft i) >>= λ _. Ok call))) one inv.1 in
+      let order = then-inv (calls_in_order (draft i))
+      (λ _. outside_opening (draft i) >>= λ _. (call_said b words >>= λ call. (with_all_cars (draft i) >>= λ _. Ok call))) one inv.1 in
       let outside = then-inv (outside_opening (draft i)) (λ _. call_said b words >>= λ call. (with_all_cars (draft i) >>= λ _. Ok call)) one order.2 in
       let call = then-inv (call_said b words) (λ call. with_all_cars (draft i) >>= λ _. Ok call) one outside.2 in
       let all = then-inv (with_all_cars (draft i)) (λ _. Ok call.0) one call.2 in
       let same : call.0 ≡ one = cc in
       let said : call_said b words ≡ Ok one = call.1 ∙ ap Ok same in
       let shut = outside-inv o outside.0 outside.1 in
-      let says : says_call b words ≡ Ok one = then-ok (named (codes "call") words) (λ _. call_said b words) tt one (named-ok words (text_of CallWord) is) said in
+      let says : says_call b words ≡ Ok one =
+      then-ok (named (codes "call") words) (λ _. call_said b words) tt one (named-ok words (text_of CallWord) is) said in
       let below = call_said-below b words one said in
       let old = read.calls in (
         record { states = i.states; stated = i.stated; aboard = i.aboard; calls = i.calls ++ one ∷ [] },
@@ -206,7 +241,8 @@ module _ (b : Building) (o : Bool) (v t : ℕ) where
           cars = read.cars;
           groups = read.groups;
           calls = record {
-            said = map_push (says_call b) read.call_lines words ∙ ap (λ (xs : List (Judged Call)). xs ++ says_call b words ∷ []) old.said ∙ ap (λ (x : Judged Call). map Ok i.calls ++ x ∷ []) says ∙ sym (map_push Ok i.calls one);
+            said = map_push (says_call b) read.call_lines words ∙ ap (λ (xs : List (Judged Call)). xs ++ says_call b words ∷ []) old.said
+                ∙ ap (λ (x : Judged Call). map Ok i.calls ++ x ∷ []) says ∙ sym (map_push Ok i.calls one);
             clear = clear-push (fault_of_call b t i.aboard) no_call i.calls one old.clear inv.2;
             pins = each-push (λ (c : Call). IfSome c.pin (λ p. p < length b.cars)) no_call i.calls one old.pins below;
           };
@@ -214,7 +250,8 @@ module _ (b : Building) (o : Bool) (v t : ℕ) where
         },
       )
 
-  by_word : (word : LineWord) (lines : List Line) (i : Held) (next : Draft) (words : Line) → ItemsRead lines i → is_word words 0 (text_of word) ≡ true → after_word word (draft i) words ≡ goes_on next → Reads (lines ++ words ∷ []) next
+  by_word : (word : LineWord) (lines : List Line) (i : Held) (next : Draft) (words : Line) → ItemsRead lines i → is_word words 0 (text_of word) ≡ true
+      → after_word word (draft i) words ≡ goes_on next → Reads (lines ++ words ∷ []) next
   by_word SnapshotWord lines i next words read is e =
       let inv = with_item-inv (version_in (draft i) words) (λ version. None) (with_version (draft i)) next e in
       absurd (false≢true (in_order-inv false tt (then-inv (in_order false) (λ _. version_said words) inv.0 inv.1).1))
@@ -226,7 +263,8 @@ module _ (b : Building) (o : Bool) (v t : ℕ) where
   by_word CallWord lines i next words read is e = took_call lines i next words read is e
   by_word End lines i next words read is e = absurd (ended-more (end_in (draft i) words) (draft i) next e)
 
-  took_line : (lines : List Line) (i : Held) (next : Draft) (words : Line) → ItemsRead lines i → after (draft i) words ≡ goes_on next → Reads (lines ++ words ∷ []) next
+  took_line : (lines : List Line) (i : Held) (next : Draft) (words : Line) → ItemsRead lines i → after (draft i) words ≡ goes_on next
+      → Reads (lines ++ words ∷ []) next
   took_line lines i next words read e =
       let inv = after_judged-inv (any_word words) (draft i) next words e in
       by_word inv.0 lines i next words read (any_word-inv words inv.0 inv.1) inv.2
@@ -238,7 +276,8 @@ module _ (b : Building) (o : Bool) (v t : ℕ) where
       let rest = took_lines more (lines ++ words ∷ []) one.0 end one.2 (subst (λ (d : Draft). Goes after more d end) (sym one.1) goes.2) in
       (rest.0, rest.1, subst (λ (ls : List Line). ItemsRead ls rest.0) (append_assoc lines (words ∷ []) more) rest.2)
 
-  whole_by_word : (word : LineWord) (i : Held) (end : Draft) (words : Line) → is_word words 0 (text_of word) ≡ true → after_word word (draft i) words ≡ is_whole end → (draft i ≡ end) × (says_end words ≡ Ok tt) × (has_all_cars (draft i) ≡ true)
+  whole_by_word : (word : LineWord) (i : Held) (end : Draft) (words : Line) → is_word words 0 (text_of word) ≡ true
+      → after_word word (draft i) words ≡ is_whole end → (draft i ≡ end) × (says_end words ≡ Ok tt) × (has_all_cars (draft i) ≡ true)
   whole_by_word SnapshotWord i end words is e = absurd (with_item-whole (version_in (draft i) words) (λ version. None) (with_version (draft i)) end e)
   whole_by_word Now i end words is e = absurd (with_item-whole (moment_in (draft i) words) (λ moment. None) (with_moment (draft i)) end e)
   whole_by_word Car i end words is e = absurd (with_item-whole (car_in (draft i) words) (fault_in_car (draft i)) (with_car (draft i)) end e)
@@ -248,17 +287,24 @@ module _ (b : Building) (o : Bool) (v t : ℕ) where
       let inv = ended-inv (end_in (draft i) words) (draft i) end e in
       let order = then-inv (calls_in_order (draft i)) (λ _. exactly words 1 >>= λ _. (with_all_cars (draft i) >>= λ _. Ok Whole)) inv.0 inv.1 in
       let one = then-inv (exactly words 1) (λ _. with_all_cars (draft i) >>= λ _. Ok Whole) inv.0 order.2 in
-      let all = then-inv (with_all_cars (draft i)) (λ _. Ok Whole) inv.0 one.2 in
-      (inv.2, then-ok (named (codes "end") words) (λ _. exactly words 1) tt tt (named-ok words (text_of End) is) one.1, all_cars-inv (has_all_cars (draft i)) all.0 all.1)
+      let all = then-inv (with_all_cars (draft i)) (λ _. Ok Whole) inv.0 one.2 in (
+        inv.2,
+        then-ok (named (codes "end") words) (λ _. exactly words 1) tt tt (named-ok words (text_of End) is) one.1,
+        all_cars-inv (has_all_cars (draft i)) all.0 all.1,
+      )
 
-  made_whole : (i : Held) (end : Draft) (words : Line) → after (draft i) words ≡ is_whole end → (draft i ≡ end) × (says_end words ≡ Ok tt) × (has_all_cars (draft i) ≡ true)
+  made_whole : (i : Held) (end : Draft) (words : Line) → after (draft i) words ≡ is_whole end → (draft i ≡ end) × (says_end words ≡ Ok tt)
+      × (has_all_cars (draft i) ≡ true)
   made_whole i end words e =
       let inv = after_judged-whole (any_word words) (draft i) end words e in
       whole_by_word inv.0 i end words (any_word-inv words inv.0 inv.1) inv.2
 
   all_at : (stated : List Bool) (c : ℕ) → list_all (λ is. is) stated ≡ true → c < length stated → get_or stated c false ≡ true
   all_at stated c all below =
-      elim (cases_Bool (get_or stated c false)) [ inl is ↦ is | inr is ↦ absurd (false≢true (sym (list_all_at (λ (x : Bool). x) stated c false below is) ∙ all)) ]
+      elim (cases_Bool (get_or stated c false)) [
+        | inl is ↦ is
+        | inr is ↦ absurd (false≢true (sym (list_all_at (λ (x : Bool). x) stated c false below is) ∙ all))
+      ]
 
   -- ---- the first two lines
 
@@ -270,7 +316,8 @@ module _ (b : Building) (o : Bool) (v t : ℕ) where
       let states = map (λ (x : CarSpec). no_state) b.cars in
       let stated = map (λ (x : CarSpec). false) b.cars in
       let unstated : (c : ℕ) → c < length b.cars → get_or stated c false ≡ false = λ c below. get_or-map (λ (x : CarSpec). false) b.cars c no_car false below in
-      let unknown : (c : ℕ) → c < length b.cars → get_or states c no_state ≡ no_state = λ c below. get_or-map (λ (x : CarSpec). no_state) b.cars c no_car no_state below in
+      let unknown : (c : ℕ) → c < length b.cars
+      → get_or states c no_state ≡ no_state = λ c below. get_or-map (λ (x : CarSpec). no_state) b.cars c no_car no_state below in
       record {
         car_lines = [];
         group_lines = [];
@@ -295,7 +342,8 @@ only_word true word e = (refl, cc)
 only_word false word e = absurd cc
 
 module _ (b : Building) (o : Bool) where
-  first_line : (words : Line) (next : Draft) → after (blank b o) words ≡ goes_on next → (v : ℕ) × (with_version (blank b o) v ≡ next) × (says_version words ≡ Ok v)
+  first_line : (words : Line) (next : Draft) → after (blank b o) words ≡ goes_on next → (v : ℕ) × (with_version (blank b o) v ≡ next)
+      × (says_version words ≡ Ok v)
   first_line words next e =
       let d = blank b o in
       let inv = after_judged-inv (line_word Version words) d next words e in
@@ -320,7 +368,8 @@ module _ (b : Building) (o : Bool) where
     out_of_order : {A : Type 0} (f : Unit {0} → Judged A) (x : A) → (in_order false >>= f) ≡ Ok x → ⊥
     out_of_order f x e = false≢true (in_order-inv false tt (then-inv (in_order false) f x e).1)
 
-    second_by_word : (word : LineWord) (words : Line) (next : Draft) → is_word words 0 (text_of word) ≡ true → after_word word started words ≡ goes_on next → (t : ℕ) × (draft b o v t (nothing b o v t) ≡ next) × (says_moment words ≡ Ok t)
+    second_by_word : (word : LineWord) (words : Line) (next : Draft) → is_word words 0 (text_of word) ≡ true → after_word word started words ≡ goes_on next
+        → (t : ℕ) × (draft b o v t (nothing b o v t) ≡ next) × (says_moment words ≡ Ok t)
     second_by_word SnapshotWord words next is e =
         let inv = with_item-inv (version_in started words) (λ version. None) (with_version started) next e in
         absurd (out_of_order (λ _. version_said words) inv.0 inv.1)
@@ -340,7 +389,8 @@ module _ (b : Building) (o : Bool) where
         absurd (out_of_order (λ _. outside_opening started >>= λ _. (call_said b words >>= λ call. (with_all_cars started >>= λ _. Ok call))) inv.0 inv.1)
     second_by_word End words next is e = absurd (ended-more (end_in started words) started next e)
 
-    second_line : (words : Line) (next : Draft) → after started words ≡ goes_on next → (t : ℕ) × (draft b o v t (nothing b o v t) ≡ next) × (says_moment words ≡ Ok t)
+    second_line : (words : Line) (next : Draft) → after started words ≡ goes_on next → (t : ℕ) × (draft b o v t (nothing b o v t) ≡ next)
+        × (says_moment words ≡ Ok t)
     second_line words next e =
         let inv = after_judged-inv (any_word words) started next words e in
         second_by_word inv.0 words next (any_word-inv words inv.0 inv.1) inv.2
@@ -380,13 +430,15 @@ module _ (b : Building) (o : Bool) where
     pub accepted : IsAccepted (snapshot_read end)
     pub said : StandsFor b o lines (snapshot_read end)
 
-  held_sound : IsBuilding b → (v t : ℕ) (head moment last : Line) (items : List Line) (i : Held) → says_version head ≡ Ok v → says_moment moment ≡ Ok t → ItemsRead b o v t items i → says_end last ≡ Ok tt → has_all_cars (draft b o v t i) ≡ true
+  held_sound : IsBuilding b → (v t : ℕ) (head moment last : Line) (items : List Line) (i : Held) → says_version head ≡ Ok v → says_moment moment ≡ Ok t
+      → ItemsRead b o v t items i → says_end last ≡ Ok tt → has_all_cars (draft b o v t i) ≡ true
       → IsSound (head ∷ moment ∷ items ++ last ∷ []) (draft b o v t i)
   held_sound good v t head moment last items i version_says moment_says read end_says all =
       let s = snapshot_read (draft b o v t i) in
       let version = version_within head v version_says in
       let cars = read.cars in
-      let stated : (c : ℕ) → c < length b.cars → get_or i.stated c false ≡ true = λ c below. all_at b o v t i.stated c all (omega (arith, below, cars.stated_long)) in
+      let stated : (c : ℕ) → c < length b.cars
+      → get_or i.stated c false ≡ true = λ c below. all_at b o v t i.stated c all (omega (arith, below, cars.stated_long)) in
       let parts : AreSnapshotParts s = record {
         version_low = version.0;
         version_high = version.1;
@@ -427,7 +479,8 @@ module _ (b : Building) (o : Bool) where
         };
       }
 
-  sound_by : IsBuilding b → (front : List Line) (last : Line) (before end : Draft) → Goes after front (blank b o) before → after before last ≡ is_whole end → IsSound (front ++ last ∷ []) end
+  sound_by : IsBuilding b → (front : List Line) (last : Line) (before end : Draft) → Goes after front (blank b o) before → after before last ≡ is_whole end
+      → IsSound (front ++ last ∷ []) end
   sound_by good [] last before end goes whole = absurd (not_whole last end (subst (λ (d : Draft). after d last ≡ is_whole end) (sym goes) whole))
   sound_by good (head ∷ []) last before end goes whole =
       let first = first_line head goes.0 goes.1 in
@@ -444,4 +497,5 @@ module _ (b : Building) (o : Bool) where
       subst (IsSound (head ∷ moment ∷ items ++ last ∷ [])) ends.0 (held_sound good v t head moment last items read.0 first.2 second.2 read.2 ends.1 ends.2)
 
   pub sound : IsBuilding b → (lines : List Line) (end : Draft) → Makes after lines (blank b o) end → IsSound lines end
-  sound good lines end made = subst (λ (ls : List Line). IsSound ls end) (sym made.lines_are) (sound_by good made.front made.last made.before end made.goes made.whole)
+  sound good lines end made =
+      subst (λ (ls : List Line). IsSound ls end) (sym made.lines_are) (sound_by good made.front made.last made.before end made.goes made.whole)

@@ -1,5 +1,6 @@
 -- The lines of a snapshot's text stand for it.
-use Rattle.std.proofs.Common.{◌≡◌, ℕ, zero, suc, ◌+◌, ◌*◌, ◌^◌, ◌<◌, ◌≤◌, ◌&&◌, Bool, true, false, List, [], ◌∷◌, ◌++◌, length, map, get_or, refl, sym, ap, ◌∙◌, subst, arith, Option, None, Some, Result, Ok, Err, length-append, add-one, IfSome, lit<, inl, inr}
+use Rattle.std.proofs.Common.{◌≡◌, ℕ, zero, suc, ◌+◌, ◌*◌, ◌^◌, ◌<◌, ◌≤◌, ◌&&◌, Bool, true, false, List, [], ◌∷◌, ◌++◌, length, map, get_or, refl, sym, ap, ◌∙◌}
+use Rattle.std.proofs.Common.{subst, arith, Option, None, Some, Result, Ok, Err, length-append, add-one, IfSome, lit<, inl, inr}
 use Rattle.std.specs.Prelude.{codes, decimal, if◌then◌else◌, nat_le, nat_lt, IsTrue}
 use Rattle.std.specs.Str.{bytes_eq}
 use Rattle.std.specs.List.{flat_map, range_with_len, list_all, AllByRecursion}
@@ -30,9 +31,11 @@ use Rattle.snapshot_text.specs.declared.kinds.Form.{Form}
 use Rattle.snapshot_text.specs.declared.kinds.Form.TheVariants.{SaidIdle, SaidComing, SaidMoving}
 use Rattle.snapshot_text.specs.declared.said.CallWords.{CallWords}
 use Rattle.snapshot_text.specs.declared.said.GroupWords.{GroupWords}
-use Rattle.snapshot_text.specs.Words.{form_of, car_named, state_said, car_said, call_at, group_in, group_of_words, pin_said, pin_named, call_of_words, moving_said}
+use Rattle.snapshot_text.specs.Words.{form_of, car_named, state_said, car_said, call_at, group_in, group_of_words, pin_said, pin_named, call_of_words}
+use Rattle.snapshot_text.specs.Words.{moving_said}
 use Rattle.snapshot_text.specs.Snapshots.{says_car, says_group, says_call, StandsFor, ReadsLines}
-use Rattle.snapshot_text.specs.Texts.{head_words, moment_words, state_words, car_words, group_words, pin_word, call_words, end_words, car_lines, group_lines, call_lines, snapshot_lines, snapshot_text, HasText, behind, ReadsText}
+use Rattle.snapshot_text.specs.Texts.{head_words, moment_words, state_words, car_words, group_words, pin_word, call_words, end_words, car_lines, group_lines}
+use Rattle.snapshot_text.specs.Texts.{call_lines, snapshot_lines, snapshot_text, HasText, behind, ReadsText}
 use Rattle.snapshot_text.proofs.CarLemmas.{named_car}
 use Rattle.snapshot_text.proofs.Lists.{times_in, times-push}
 use Rattle.snapshot_text.proofs.Texts.{range_more, pin_is_car}
@@ -89,75 +92,142 @@ module _ (b : Building) (v id c : ℕ) (small : id < 2 ^ 32) (is : car_named b i
   number_said words k n high at low fits = written_number words k n 0 high (omega arith) at (omega arith) low
 
   car_at : (form : Form) (words : Line) (st : CarState) → state_said form words ≡ Ok (id, st) → car_said b form words ≡ Ok (c, st)
-  car_at form words st said = then-ok (state_said form words) (λ s. car_named b s.0 >>= λ k. Ok (k, s.1)) (id, st) (c, st) said (then-ok (car_named b id) (λ k. Ok (k, st)) c (c, st) is refl)
+  car_at form words st said =
+      then-ok (state_said form words) (λ s. car_named b s.0 >>= λ k. Ok (k, s.1)) (id, st) (c, st) said
+      (then-ok (car_named b id) (λ k. Ok (k, st)) c (c, st) is refl)
 
-  moving_at : (words : Line) (from left : ℕ) (up : Bool) → from < 64 → left ≤ 1000000000 → word_at words 1 ≡ decimal id → word_at words 3 ≡ decimal from → word_at words 5 ≡ decimal left → length words ≡ 6 → is_word words 4 (codes "up") ≡ up
+  moving_at : (words : Line) (from left : ℕ) (up : Bool) → from < 64 → left ≤ 1000000000 → word_at words 1 ≡ decimal id → word_at words 3 ≡ decimal from
+      → word_at words 5 ≡ decimal left → length words ≡ 6 → is_word words 4 (codes "up") ≡ up
       → moving_said words ≡ Ok (id, Moving from up left)
   moving_at words from left up low early first third fifth long turns =
       let six : exactly words 6 ≡ Ok tt = ap (λ n. (if nat_lt n 6 then Err Missing else Ok tt) >>= λ _. (if nat_lt 6 n then Err TooMany else Ok tt)) long in
-      then-ok (exactly words 6) (λ _. short words 1 >>= λ i. (short words 3 >>= λ f. (number words 5 0 1000000000 >>= λ l. Ok (i, Moving f (is_word words 4 (codes "up")) l)))) tt (id, Moving from up left) six
-      (then-ok (short words 1) (λ i. short words 3 >>= λ f. (number words 5 0 1000000000 >>= λ l. Ok (i, Moving f (is_word words 4 (codes "up")) l))) id (id, Moving from up left) (number_said words 1 id 4294967295 first (omega arith) (lit< tt))
-      (then-ok (short words 3) (λ f. number words 5 0 1000000000 >>= λ l. Ok (id, Moving f (is_word words 4 (codes "up")) l)) from (id, Moving from up left) (number_said words 3 from 4294967295 third (omega arith) (lit< tt))
-      (then-ok (number words 5 0 1000000000) (λ l. Ok (id, Moving from (is_word words 4 (codes "up")) l)) left (id, Moving from up left) (number_said words 5 left 1000000000 fifth early (lit< tt))
+      then-ok (exactly words 6)
+      (λ _. short words 1 >>= λ i. (short words 3 >>= λ f. (number words 5 0 1000000000 >>= λ l. Ok (i, Moving f (is_word words 4 (codes "up")) l)))) tt
+      (id, Moving from up left) six
+      (then-ok (short words 1) (λ i. short words 3 >>= λ f. (number words 5 0 1000000000 >>= λ l. Ok (i, Moving f (is_word words 4 (codes "up")) l))) id
+      (id, Moving from up left) (number_said words 1 id 4294967295 first (omega arith) (lit< tt))
+      (then-ok (short words 3) (λ f. number words 5 0 1000000000 >>= λ l. Ok (id, Moving f (is_word words 4 (codes "up")) l)) from (id, Moving from up left)
+      (number_said words 3 from 4294967295 third (omega arith) (lit< tt))
+      (then-ok (number words 5 0 1000000000) (λ l. Ok (id, Moving from (is_word words 4 (codes "up")) l)) left (id, Moving from up left)
+      (number_said words 5 left 1000000000 fifth early (lit< tt))
       (ap (λ (u : Bool). Ok (id, Moving from u left)) turns))))
 
   car_says : (st : CarState) → floor_of st < 64 → IsEarly st → IsTold v st → says_car b v (state_words id st) ≡ Ok (c, st)
   car_says (Idle floor free) low early told =
       let words = state_words id (Idle floor free) in
       car_at SaidIdle words (Idle floor free)
-      (then-ok (short words 1) (λ i. short words 3 >>= λ f. (number words 4 0 2000000000 >>= λ m. Ok (i, Idle f m))) id (id, Idle floor free) (number_said words 1 id 4294967295 refl (omega arith) (lit< tt))
-      (then-ok (short words 3) (λ f. number words 4 0 2000000000 >>= λ m. Ok (id, Idle f m)) floor (id, Idle floor free) (number_said words 3 floor 4294967295 refl (omega arith) (lit< tt))
-      (then-ok (number words 4 0 2000000000) (λ m. Ok (id, Idle floor m)) free (id, Idle floor free) (number_said words 4 free 2000000000 refl early (lit< tt)) refl)))
+      (then-ok (short words 1) (λ i. short words 3 >>= λ f. (number words 4 0 2000000000 >>= λ m. Ok (i, Idle f m))) id (id, Idle floor free)
+      (number_said words 1 id 4294967295 refl (omega arith) (lit< tt))
+      (then-ok (short words 3) (λ f. number words 4 0 2000000000 >>= λ m. Ok (id, Idle f m)) floor (id, Idle floor free)
+      (number_said words 3 floor 4294967295 refl (omega arith) (lit< tt))
+      (then-ok (number words 4 0 2000000000) (λ m. Ok (id, Idle floor m)) free (id, Idle floor free)
+      (number_said words 4 free 2000000000 refl early (lit< tt)) refl)))
   car_says (Coming floor arrives) low early told =
       let words = state_words id (Coming floor arrives) in
       car_at SaidComing words (Coming floor arrives)
-      (then-ok (short words 1) (λ i. short words 3 >>= λ f. (number words 4 0 2000000000 >>= λ m. Ok (i, Coming f m))) id (id, Coming floor arrives) (number_said words 1 id 4294967295 refl (omega arith) (lit< tt))
-      (then-ok (short words 3) (λ f. number words 4 0 2000000000 >>= λ m. Ok (id, Coming f m)) floor (id, Coming floor arrives) (number_said words 3 floor 4294967295 refl (omega arith) (lit< tt))
-      (then-ok (number words 4 0 2000000000) (λ m. Ok (id, Coming floor m)) arrives (id, Coming floor arrives) (number_said words 4 arrives 2000000000 refl early (lit< tt)) refl)))
+      (then-ok (short words 1) (λ i. short words 3 >>= λ f. (number words 4 0 2000000000 >>= λ m. Ok (i, Coming f m))) id (id, Coming floor arrives)
+      (number_said words 1 id 4294967295 refl (omega arith) (lit< tt))
+      (then-ok (short words 3) (λ f. number words 4 0 2000000000 >>= λ m. Ok (id, Coming f m)) floor (id, Coming floor arrives)
+      (number_said words 3 floor 4294967295 refl (omega arith) (lit< tt))
+      (then-ok (number words 4 0 2000000000) (λ m. Ok (id, Coming floor m)) arrives (id, Coming floor arrives)
+      (number_said words 4 arrives 2000000000 refl early (lit< tt)) refl)))
   car_says (Moving from true left) low early told =
       let words = state_words id (Moving from true left) in
       let form : form_of v words ≡ Ok SaidMoving = ap (λ (two : Bool). if two && true then Ok SaidMoving else Err NoLineWord) (eq-eqb v 2 told) in
-      then-ok (form_of v words) (λ f. car_said b f words) SaidMoving (c, Moving from true left) form (car_at SaidMoving words (Moving from true left) (moving_at words from left true low early refl refl refl refl refl))
+      then-ok (form_of v words) (λ f. car_said b f words) SaidMoving (c, Moving from true left) form
+      (car_at SaidMoving words (Moving from true left) (moving_at words from left true low early refl refl refl refl refl))
   car_says (Moving from false left) low early told =
       let words = state_words id (Moving from false left) in
       let form : form_of v words ≡ Ok SaidMoving = ap (λ (two : Bool). if two && true then Ok SaidMoving else Err NoLineWord) (eq-eqb v 2 told) in
-      then-ok (form_of v words) (λ f. car_said b f words) SaidMoving (c, Moving from false left) form (car_at SaidMoving words (Moving from false left) (moving_at words from left false low early refl refl refl refl refl))
+      then-ok (form_of v words) (λ f. car_said b f words) SaidMoving (c, Moving from false left) form
+      (car_at SaidMoving words (Moving from false left) (moving_at words from left false low early refl refl refl refl refl))
 
   car_good : (st : CarState) → floor_of st < 64 → IsEarly st → IsLineOfWords (state_words id st)
   car_good (Idle floor free) low early =
-      line_good (state_words id (Idle floor free)) (omega arith) (omega arith) (text_good (codes "car") refl refl refl, (number_good id (omega arith), (text_good (codes "idle") refl refl refl, (number_good floor (omega arith), (number_good free (omega arith), tt)))))
+      line_good (state_words id (Idle floor free)) (omega arith) (omega arith) (
+        text_good (codes "car") refl refl refl,
+        (number_good id (omega arith), (text_good (codes "idle") refl refl refl, (number_good floor (omega arith), (number_good free (omega arith), tt)))),
+      )
   car_good (Coming floor arrives) low early =
-      line_good (state_words id (Coming floor arrives)) (omega arith) (omega arith) (text_good (codes "car") refl refl refl, (number_good id (omega arith), (text_good (codes "coming") refl refl refl, (number_good floor (omega arith), (number_good arrives (omega arith), tt)))))
+      line_good (state_words id (Coming floor arrives)) (omega arith) (omega arith) (
+        text_good (codes "car") refl refl refl,
+        (
+          number_good id (omega arith),
+          (text_good (codes "coming") refl refl refl, (number_good floor (omega arith), (number_good arrives (omega arith), tt))),
+        ),
+      )
   car_good (Moving from true left) low early =
-      line_good (state_words id (Moving from true left)) (omega arith) (omega arith) (text_good (codes "car") refl refl refl, (number_good id (omega arith), (text_good (codes "moving") refl refl refl, (number_good from (omega arith), (text_good (codes "up") refl refl refl, (number_good left (omega arith), tt))))))
+      line_good (state_words id (Moving from true left)) (omega arith) (omega arith) (
+        text_good (codes "car") refl refl refl,
+        (
+          number_good id (omega arith),
+          (
+            text_good (codes "moving") refl refl refl,
+            (number_good from (omega arith), (text_good (codes "up") refl refl refl, (number_good left (omega arith), tt))),
+          ),
+        ),
+      )
   car_good (Moving from false left) low early =
-      line_good (state_words id (Moving from false left)) (omega arith) (omega arith) (text_good (codes "car") refl refl refl, (number_good id (omega arith), (text_good (codes "moving") refl refl refl, (number_good from (omega arith), (text_good (codes "down") refl refl refl, (number_good left (omega arith), tt))))))
+      line_good (state_words id (Moving from false left)) (omega arith) (omega arith) (
+        text_good (codes "car") refl refl refl,
+        (
+          number_good id (omega arith),
+          (
+            text_good (codes "moving") refl refl refl,
+            (number_good from (omega arith), (text_good (codes "down") refl refl refl, (number_good left (omega arith), tt))),
+          ),
+        ),
+      )
 
 -- ---- a line of a group
 
-group_says : (b : Building) (group : Aboard) (id : ℕ) → id ≡ (car_of b group.car).id → id < 2 ^ 32 → car_named b id ≡ Ok group.car → group.id < 2 ^ 32 → group.destination < 64 → group.persons ≤ 8 → group.boarded ≤ 2000000000
+group_says : (b : Building) (group : Aboard) (id : ℕ) → id ≡ (car_of b group.car).id → id < 2 ^ 32 → car_named b id ≡ Ok group.car → group.id < 2 ^ 32
+    → group.destination < 64 → group.persons ≤ 8 → group.boarded ≤ 2000000000
     → says_group b (codes "aboard" ∷ decimal id ∷ decimal group.id ∷ decimal group.destination ∷ decimal group.persons ∷ decimal group.boarded ∷ []) ≡ Ok group
 group_says b group id same small is own low few early =
     let words : Line = codes "aboard" ∷ decimal id ∷ decimal group.id ∷ decimal group.destination ∷ decimal group.persons ∷ decimal group.boarded ∷ [] in
     let group' : GroupWords = record { car_id = id; id = group.id; destination = group.destination; persons = group.persons; boarded = group.boarded } in
     let said : group_of_words words ≡ Ok group' =
-    then-ok (short words 1) (λ car. short words 2 >>= λ i. (short words 3 >>= λ destination. (short words 4 >>= λ persons. (number words 5 0 2000000000 >>= λ boarded. Ok (record { car_id = car; id = i; destination = destination; persons = persons; boarded = boarded })))))
+    then-ok (short words 1)
+    (λ car. short words 2 >>= λ i.
+    (short words 3 >>= λ destination.
+    (short words 4 >>= λ persons.
+    (number words 5 0 2000000000 >>= λ boarded. Ok (record { car_id = car; id = i; destination = destination; persons = persons; boarded = boarded })))))
     id group' (written_number words 1 id 0 4294967295 (omega arith) refl (omega arith) (omega arith))
-    (then-ok (short words 2) (λ i. short words 3 >>= λ destination. (short words 4 >>= λ persons. (number words 5 0 2000000000 >>= λ boarded. Ok (record { car_id = id; id = i; destination = destination; persons = persons; boarded = boarded }))))
+    (then-ok (short words 2)
+    (λ i. short words 3 >>= λ destination.
+    (short words 4 >>= λ persons.
+    (number words 5 0 2000000000 >>= λ boarded. Ok (record { car_id = id; id = i; destination = destination; persons = persons; boarded = boarded }))))
     group.id group' (written_number words 2 group.id 0 4294967295 (omega arith) refl (omega arith) (omega arith))
-    (then-ok (short words 3) (λ destination. short words 4 >>= λ persons. (number words 5 0 2000000000 >>= λ boarded. Ok (record { car_id = id; id = group.id; destination = destination; persons = persons; boarded = boarded })))
+    (then-ok (short words 3)
+    (λ destination. short words 4
+    >>= λ persons. (number words 5 0 2000000000
+    >>= λ boarded. Ok (record { car_id = id; id = group.id; destination = destination; persons = persons; boarded = boarded })))
     group.destination group' (written_number words 3 group.destination 0 4294967295 (omega arith) refl (omega arith) (omega arith))
-    (then-ok (short words 4) (λ persons. number words 5 0 2000000000 >>= λ boarded. Ok (record { car_id = id; id = group.id; destination = group.destination; persons = persons; boarded = boarded }))
+    (then-ok (short words 4)
+    (λ persons. number words 5 0 2000000000
+    >>= λ boarded. Ok (record { car_id = id; id = group.id; destination = group.destination; persons = persons; boarded = boarded }))
     group.persons group' (written_number words 4 group.persons 0 4294967295 (omega arith) refl (omega arith) (omega arith))
-    (then-ok (number words 5 0 2000000000) (λ boarded. Ok (record { car_id = id; id = group.id; destination = group.destination; persons = group.persons; boarded = boarded }))
+    (then-ok (number words 5 0 2000000000)
+    (λ boarded. Ok (record { car_id = id; id = group.id; destination = group.destination; persons = group.persons; boarded = boarded }))
     group.boarded group' (written_number words 5 group.boarded 0 2000000000 (omega arith) refl (omega arith) early) refl)))) in
-    then-ok (group_of_words words) (λ s. car_named b s.car_id >>= λ c. Ok (group_in s c)) group' group said (then-ok (car_named b id) (λ c. Ok (group_in group' c)) group.car group is refl)
+    then-ok (group_of_words words) (λ s. car_named b s.car_id >>= λ c. Ok (group_in s c)) group' group said
+    (then-ok (car_named b id) (λ c. Ok (group_in group' c)) group.car group is refl)
 
 group_good : (group : Aboard) (id : ℕ) → id < 2 ^ 32 → group.id < 2 ^ 32 → group.destination < 64 → group.persons ≤ 8 → group.boarded ≤ 2000000000
     → IsLineOfWords (codes "aboard" ∷ decimal id ∷ decimal group.id ∷ decimal group.destination ∷ decimal group.persons ∷ decimal group.boarded ∷ [])
 group_good group id small own low few early =
-    line_good (codes "aboard" ∷ decimal id ∷ decimal group.id ∷ decimal group.destination ∷ decimal group.persons ∷ decimal group.boarded ∷ []) (omega arith) (omega arith)
-    (text_good (codes "aboard") refl refl refl, (number_good id (omega arith), (number_good group.id (omega arith), (number_good group.destination (omega arith), (number_good group.persons (omega arith), (number_good group.boarded (omega arith), tt))))))
+    line_good (codes "aboard" ∷ decimal id ∷ decimal group.id ∷ decimal group.destination ∷ decimal group.persons ∷ decimal group.boarded ∷ []) (omega arith)
+    (omega arith) (
+      text_good (codes "aboard") refl refl refl,
+      (
+        number_good id (omega arith),
+        (
+          number_good group.id (omega arith),
+          (number_good group.destination (omega arith), (number_good group.persons (omega arith), (number_good group.boarded (omega arith), tt))),
+        ),
+      ),
+    )
 
 -- ---- a line of a call
 
@@ -167,7 +237,8 @@ not_any n small =
     elim (cases_Bool (bytes_eq (decimal n) (codes "any"))) [
       | inl is ↦
           let text : decimal n ≡ codes "any" = (bytes_eq-Decides (decimal n) (codes "any")).0 is in
-          let none : Err NoNumber ≡ Ok n = ap (λ (word : List ℕ). within 0 n (digits_number word)) (sym text) ∙ number_again n 0 n small (omega arith) (omega arith) in
+          let none : Err NoNumber ≡ Ok n = ap (λ (word : List ℕ). within 0 n (digits_number word)) (sym text)
+          ∙ number_again n 0 n small (omega arith) (omega arith) in
           absurd cc
       | inr is ↦ is
     ]
@@ -199,29 +270,87 @@ pin_good : (b : Building) (pin : Option ℕ) → HasPin b pin → IsGood (pin_wo
 pin_good b None told = text_good (codes "any") refl refl refl
 pin_good b (Some c) told = number_good (car_of b c).id (omega (arith, told.0))
 
-call_says : (b : Building) (call : Call) → HasPin b call.pin → call.id < 2 ^ 32 → call.origin < 64 → call.destination < 64 → call.persons ≤ 8 → call.released ≤ 1000000000 → says_call b (call_words b call) ≡ Ok call
+call_says : (b : Building) (call : Call) → HasPin b call.pin → call.id < 2 ^ 32 → call.origin < 64 → call.destination < 64 → call.persons ≤ 8
+    → call.released ≤ 1000000000 → says_call b (call_words b call) ≡ Ok call
 call_says b call told own low far few early =
     let words = call_words b call in
-    let call' : CallWords = record { id = call.id; origin = call.origin; destination = call.destination; persons = call.persons; released = call.released; pin_id = pin_id b call.pin } in
+    let call' : CallWords =
+    record {
+      id = call.id;
+      origin = call.origin;
+      destination = call.destination;
+      persons = call.persons;
+      released = call.released;
+      pin_id =
+          pin_id b call.pin;
+    } in
     let said : call_of_words words ≡ Ok call' =
-    then-ok (short words 1) (λ i. short words 2 >>= λ origin. (short words 3 >>= λ destination. (short words 4 >>= λ persons. (number words 5 0 1000000000 >>= λ released. (pin_said words >>= λ pin. Ok (record { id = i; origin = origin; destination = destination; persons = persons; released = released; pin_id = pin }))))))
+    then-ok (short words 1)
+    (λ i. short words 2 >>= λ origin.
+    (short words 3 >>= λ destination.
+    (short words 4 >>= λ persons.
+    (number words 5 0 1000000000
+    >>= λ released. (pin_said words
+    >>= λ pin. Ok (record { id = i; origin = origin; destination = destination; persons = persons; released = released; pin_id = pin }))))))
     call.id call' (written_number words 1 call.id 0 4294967295 (omega arith) refl (omega arith) (omega arith))
-    (then-ok (short words 2) (λ origin. short words 3 >>= λ destination. (short words 4 >>= λ persons. (number words 5 0 1000000000 >>= λ released. (pin_said words >>= λ pin. Ok (record { id = call.id; origin = origin; destination = destination; persons = persons; released = released; pin_id = pin })))))
+    (then-ok (short words 2)
+    (λ origin. short words 3
+    >>= λ destination. (short words 4
+    >>= λ persons. (number words 5 0 1000000000
+    >>= λ released. (pin_said words
+    >>= λ pin. Ok (record { id = call.id; origin = origin; destination = destination; persons = persons; released = released; pin_id = pin })))))
     call.origin call' (written_number words 2 call.origin 0 4294967295 (omega arith) refl (omega arith) (omega arith))
-    (then-ok (short words 3) (λ destination. short words 4 >>= λ persons. (number words 5 0 1000000000 >>= λ released. (pin_said words >>= λ pin. Ok (record { id = call.id; origin = call.origin; destination = destination; persons = persons; released = released; pin_id = pin }))))
+    (then-ok (short words 3)
+    (λ destination. short words 4
+    >>= λ persons. (number words 5 0 1000000000
+    >>= λ released. (pin_said words
+    >>= λ pin. Ok (record { id = call.id; origin = call.origin; destination = destination; persons = persons; released = released; pin_id = pin }))))
     call.destination call' (written_number words 3 call.destination 0 4294967295 (omega arith) refl (omega arith) (omega arith))
-    (then-ok (short words 4) (λ persons. number words 5 0 1000000000 >>= λ released. (pin_said words >>= λ pin. Ok (record { id = call.id; origin = call.origin; destination = call.destination; persons = persons; released = released; pin_id = pin })))
+    (then-ok (short words 4)
+    (λ persons. number words 5 0 1000000000
+    >>= λ released. (pin_said words
+    >>= λ pin. Ok (record { id = call.id; origin = call.origin; destination = call.destination; persons = persons; released = released; pin_id = pin })))
     call.persons call' (written_number words 4 call.persons 0 4294967295 (omega arith) refl (omega arith) (omega arith))
-    (then-ok (number words 5 0 1000000000) (λ released. pin_said words >>= λ pin. Ok (record { id = call.id; origin = call.origin; destination = call.destination; persons = call.persons; released = released; pin_id = pin }))
+    (then-ok (number words 5 0 1000000000)
+    (λ released. pin_said words
+    >>= λ pin. Ok (record {
+      id = call.id;
+      origin = call.origin;
+      destination = call.destination;
+      persons = call.persons;
+      released = released;
+      pin_id = pin;
+    }))
     call.released call' (written_number words 5 call.released 0 1000000000 (omega arith) refl (omega arith) early)
-    (then-ok (pin_said words) (λ pin. Ok (record { id = call.id; origin = call.origin; destination = call.destination; persons = call.persons; released = call.released; pin_id = pin }))
+    (then-ok (pin_said words)
+    (λ pin. Ok (record {
+      id = call.id;
+      origin = call.origin;
+      destination = call.destination;
+      persons = call.persons;
+      released = call.released;
+      pin_id = pin;
+    }))
     (pin_id b call.pin) call' (pin_reads b call.pin words told refl) refl))))) in
-    then-ok (call_of_words words) (λ s. pin_named b s.pin_id >>= λ pin. Ok (call_at s pin)) call' call said (then-ok (pin_named b (pin_id b call.pin)) (λ pin. Ok (call_at call' pin)) call.pin call (pin_known b call.pin told) refl)
+    then-ok (call_of_words words) (λ s. pin_named b s.pin_id >>= λ pin. Ok (call_at s pin)) call' call said
+    (then-ok (pin_named b (pin_id b call.pin)) (λ pin. Ok (call_at call' pin)) call.pin call (pin_known b call.pin told) refl)
 
-call_good : (b : Building) (call : Call) → HasPin b call.pin → call.id < 2 ^ 32 → call.origin < 64 → call.destination < 64 → call.persons ≤ 8 → call.released ≤ 1000000000 → IsLineOfWords (call_words b call)
+call_good : (b : Building) (call : Call) → HasPin b call.pin → call.id < 2 ^ 32 → call.origin < 64 → call.destination < 64 → call.persons ≤ 8
+    → call.released ≤ 1000000000 → IsLineOfWords (call_words b call)
 call_good b call told own low far few early =
-    line_good (call_words b call) (omega arith) (omega arith)
-    (text_good (codes "call") refl refl refl, (number_good call.id (omega arith), (number_good call.origin (omega arith), (number_good call.destination (omega arith), (number_good call.persons (omega arith), (number_good call.released (omega arith), (pin_good b call.pin told, tt)))))))
+    line_good (call_words b call) (omega arith) (omega arith) (
+      text_good (codes "call") refl refl refl,
+      (
+        number_good call.id (omega arith),
+        (
+          number_good call.origin (omega arith),
+          (
+            number_good call.destination (omega arith),
+            (number_good call.persons (omega arith), (number_good call.released (omega arith), (pin_good b call.pin told, tt))),
+          ),
+        ),
+      ),
+    )
 
 -- ---- lines of many items
 
@@ -229,15 +358,18 @@ times_past : (n c : ℕ) → n ≤ c → times_in c (range_with_len 0 n) ≡ 0
 times_past zero c past = refl
 times_past (suc n) c past =
     ap (λ (m : ℕ). times_in c (range_with_len 0 m)) (sym (add-one n)) ∙ ap (times_in c) (range_more n) ∙ times-push c (range_with_len 0 n) n
-    ∙ ap (λ (is : Bool). times_in c (range_with_len 0 n) + (if is then 1 else 0)) (ne_eqb n c (λ same. omega arith)) ∙ ap (λ (m : ℕ). m + 0) (times_past n c (omega arith))
+    ∙ ap (λ (is : Bool). times_in c (range_with_len 0 n) + (if is then 1 else 0)) (ne_eqb n c (λ same. omega arith))
+    ∙ ap (λ (m : ℕ). m + 0) (times_past n c (omega arith))
 
 times_once : (n c : ℕ) → c < n → times_in c (range_with_len 0 n) ≡ 1
 times_once zero c below = absurd (omega arith)
 times_once (suc n) c below =
     ap (λ (m : ℕ). times_in c (range_with_len 0 m)) (sym (add-one n)) ∙ ap (times_in c) (range_more n) ∙ times-push c (range_with_len 0 n) n
     ∙ elim (cases_eq n c) [
-      | inl same ↦ ap (λ (is : Bool). times_in c (range_with_len 0 n) + (if is then 1 else 0)) (eq-eqb n c same) ∙ ap (λ (m : ℕ). m + 1) (times_past n c (omega (arith, same)))
-      | inr differs ↦ ap (λ (is : Bool). times_in c (range_with_len 0 n) + (if is then 1 else 0)) (ne_eqb n c differs) ∙ ap (λ (m : ℕ). m + 0) (times_once n c (omega (arith, differs)))
+      | inl same ↦ ap (λ (is : Bool). times_in c (range_with_len 0 n) + (if is then 1 else 0)) (eq-eqb n c same)
+          ∙ ap (λ (m : ℕ). m + 1) (times_past n c (omega (arith, same)))
+      | inr differs ↦ ap (λ (is : Bool). times_in c (range_with_len 0 n) + (if is then 1 else 0)) (ne_eqb n c differs)
+          ∙ ap (λ (m : ℕ). m + 0) (times_once n c (omega (arith, differs)))
     ]
 
 range_map : {X : Type 0} (n : ℕ) (f g : ℕ → X) → ((c : ℕ) → c < n → f c ≡ g c) → map f (range_with_len 0 n) ≡ map g (range_with_len 0 n)
@@ -253,7 +385,8 @@ map_map {X} {Y} {Z} f g (x ∷ xs) = ap (λ (zs : List Z). f (g x) ∷ zs) (map_
 
 map_each : {X Z : Type 0} (f g : X → Z) (d : X) (xs : List X) → ((k : ℕ) → k < length xs → f (get_or xs k d) ≡ g (get_or xs k d)) → map f xs ≡ map g xs
 map_each f g d [] same = refl
-map_each {X} {Z} f g d (x ∷ xs) same = ap (λ (z : Z). z ∷ map f xs) (same 0 (omega arith)) ∙ ap (λ (zs : List Z). g x ∷ zs) (map_each f g d xs (λ k below. same (suc k) (omega arith)))
+map_each {X} {Z} f g d (x ∷ xs) same = ap (λ (z : Z). z ∷ map f xs) (same 0 (omega arith))
+    ∙ ap (λ (zs : List Z). g x ∷ zs) (map_each f g d xs (λ k below. same (suc k) (omega arith)))
 
 each_map : {X Y : Type 0} (P : Y → Type 0) (f : X → Y) (d : X) (xs : List X) → ((k : ℕ) → k < length xs → P (f (get_or xs k d))) → AllByRecursion P (map f xs)
 each_map P f d [] each = tt
@@ -262,8 +395,10 @@ each_map P f d (x ∷ xs) each = (each 0 (omega arith), each_map P f d xs (λ k 
 each_range : {Y : Type 0} (P : Y → Type 0) (f : ℕ → Y) (n : ℕ) → ((c : ℕ) → c < n → P (f c)) → AllByRecursion P (map f (range_with_len 0 n))
 each_range P f zero each = tt
 each_range {Y} P f (suc n) each =
-    let more : map f (range_with_len 0 n) ++ f n ∷ [] ≡ map f (range_with_len 0 (suc n)) = sym (ap (map f) (ap (range_with_len 0) (sym (add-one n)) ∙ range_more n) ∙ map_push f (range_with_len 0 n) n) in
-    subst (λ (ys : List Y). AllByRecursion P ys) more (each-append P (map f (range_with_len 0 n)) (f n ∷ []) (each_range P f n (λ c below. each c (omega arith))) (each n (omega arith), tt))
+    let more : map f (range_with_len 0 n) ++ f n ∷ [] ≡ map f (range_with_len 0 (suc n)) =
+    sym (ap (map f) (ap (range_with_len 0) (sym (add-one n)) ∙ range_more n) ∙ map_push f (range_with_len 0 n) n) in
+    subst (λ (ys : List Y). AllByRecursion P ys) more
+    (each-append P (map f (range_with_len 0 n)) (f n ∷ []) (each_range P f n (λ c below. each c (omega arith))) (each n (omega arith), tt))
 
 -- ---- the lines of a snapshot
 
@@ -305,7 +440,8 @@ module _ (s : Snapshot) (text : HasText s) where
     early = early_in s c st text.accepted.moment (text.accepted.placed c below).timely
 
     car_line_says : says_car b s.version (car_words s c) ≡ Ok (c, st)
-    car_line_says = car_says b s.version (spec_of s c).id c (text.car_ids c below) (car_is c below) st low early (told_in s.version st text.accepted.version_low text.accepted.version_high (λ one. text.accepted.unmoving one c below))
+    car_line_says = car_says b s.version (spec_of s c).id c (text.car_ids c below) (car_is c below) st low early
+        (told_in s.version st text.accepted.version_low text.accepted.version_high (λ one. text.accepted.unmoving one c below))
 
     car_line_good : IsLineOfWords (car_words s c)
     car_line_good = car_good b s.version (spec_of s c).id c (text.car_ids c below) (car_is c below) st low early
@@ -326,7 +462,8 @@ module _ (s : Snapshot) (text : HasText s) where
     group_line_says : says_group b (group_words b group) ≡ Ok group
     group_line_says =
         let own = text.accepted.groups k below in
-        group_says b group (car_of b group.car).id refl (text.car_ids group.car own.car) (car_is group.car own.car) (text.group_ids k below) group_low own.persons_high group_early
+        group_says b group (car_of b group.car).id refl (text.car_ids group.car own.car) (car_is group.car own.car)
+        (text.group_ids k below) group_low own.persons_high group_early
 
     group_line_good : IsLineOfWords (group_words b group)
     group_line_good =
@@ -367,10 +504,13 @@ module _ (s : Snapshot) (text : HasText s) where
     end = end_words;
     lines_are = refl;
     building = refl;
-    version_is_said = written_number (head_words s.version) 1 s.version 1 2 (omega (arith, text.accepted.version_high)) refl text.accepted.version_low text.accepted.version_high;
-    moment_is_said = written_number (moment_words s.moment) 1 s.moment 0 1000000000 (omega (arith, text.accepted.moment)) refl (omega arith) text.accepted.moment;
+    version_is_said = written_number (head_words s.version) 1 s.version 1 2
+        (omega (arith, text.accepted.version_high)) refl text.accepted.version_low text.accepted.version_high;
+    moment_is_said = written_number (moment_words s.moment) 1 s.moment 0 1000000000 (omega (arith, text.accepted.moment)) refl
+        (omega arith) text.accepted.moment;
     places = range_with_len 0 (car_count s);
-    states_are_said = map_map (says_car b s.version) (car_words s) (range_with_len 0 (car_count s)) ∙ range_map (car_count s) (λ c. says_car b s.version (car_words s c)) (λ c. Ok (c, state_of s c)) car_line_says;
+    states_are_said = map_map (says_car b s.version) (car_words s) (range_with_len 0 (car_count s))
+        ∙ range_map (car_count s) (λ c. says_car b s.version (car_words s c)) (λ c. Ok (c, state_of s c)) car_line_says;
     once = λ c below. times_once (car_count s) c below;
     groups_are_said = map_map (says_group b) (group_words b) s.aboard ∙ map_each (λ x. says_group b (group_words b x)) Ok no_group s.aboard group_line_says;
     calls_are_said = map_map (says_call b) (call_words b) s.calls ∙ map_each (λ x. says_call b (call_words b x)) Ok no_call s.calls call_line_says;
@@ -382,22 +522,37 @@ module _ (s : Snapshot) (text : HasText s) where
   pub text_good_lines : AllByRecursion IsLineOfWords (snapshot_lines s)
   unfolding snapshot_lines
   text_good_lines =
-      let head = line_good (head_words s.version) (omega arith) (omega arith) (text_good (codes "snapshot") refl refl refl, (number_good s.version (omega (arith, text.accepted.version_high)), tt)) in
-      let moment = line_good (moment_words s.moment) (omega arith) (omega arith) (text_good (codes "now") refl refl refl, (number_good s.moment (omega (arith, text.accepted.moment)), tt)) in
+      let head = line_good (head_words s.version) (omega arith) (omega arith)
+      (text_good (codes "snapshot") refl refl refl, (number_good s.version (omega (arith, text.accepted.version_high)), tt)) in
+      let moment = line_good (moment_words s.moment) (omega arith) (omega arith)
+      (text_good (codes "now") refl refl refl, (number_good s.moment (omega (arith, text.accepted.moment)), tt)) in
       let end = line_good end_words (omega arith) (omega arith) (text_good (codes "end") refl refl refl, tt) in
       let cars = each_range IsLineOfWords (car_words s) (car_count s) car_line_good in
       let groups = each_map IsLineOfWords (group_words b) no_group s.aboard group_line_good in
-      let calls = each_map IsLineOfWords (call_words b) no_call s.calls call_line_good in
-      (head, (moment, each-append IsLineOfWords (car_lines s ++ group_lines s ++ call_lines s) (end_words ∷ []) (each-append IsLineOfWords (car_lines s ++ group_lines s) (call_lines s) (each-append IsLineOfWords (car_lines s) (group_lines s) cars groups) calls) (end, tt)))
+      let calls = each_map IsLineOfWords (call_words b) no_call s.calls call_line_good in (
+        head,
+        (
+          moment,
+          each-append IsLineOfWords (car_lines s ++ group_lines s ++ call_lines s) (end_words ∷ [])
+              (each-append IsLineOfWords (car_lines s ++ group_lines s) (call_lines s)
+              (each-append IsLineOfWords (car_lines s) (group_lines s) cars groups) calls)
+              (end, tt),
+        ),
+      )
 
-  pub text_begins : (before : TextState) (tail : List ℕ) → before.bytes ≡ snapshot_text s ++ tail → length (snapshot_text s) ≤ before.limit → BeginsWith (snapshot_lines s) (reading before) (reading (behind before s tail))
+  pub text_begins : (before : TextState) (tail : List ℕ) → before.bytes ≡ snapshot_text s ++ tail → length (snapshot_text s) ≤ before.limit
+      → BeginsWith (snapshot_lines s) (reading before) (reading (behind before s tail))
   unfolding snapshot_text
   text_begins before tail same room =
-      subst (λ (bytes : List ℕ). BeginsWith (snapshot_lines s) (reading (record { line = before.line; limit = before.limit; bytes = bytes })) (reading (behind before s tail))) (sym same)
+      subst (λ (bytes : List ℕ).
+      BeginsWith (snapshot_lines s) (reading (record { line = before.line; limit = before.limit; bytes = bytes })) (reading (behind before s tail)))
+      (sym same)
       (lines_again (snapshot_lines s) before.line before.limit tail text_good_lines room)
 
 -- the text of a snapshot is read as that snapshot, where the lines that stand for one are
-pub reads_text : (before now : Option TextState) (b : Building) (answer : Result Snapshot TextFault) → ReadsLines before b false answer now → ReadsText before b answer now
+pub reads_text : (before now : Option TextState) (b : Building) (answer : Result Snapshot TextFault) → ReadsLines before b false answer now
+    → ReadsText before b answer now
 reads_text None now b answer reads s tail text same = tt
 reads_text (Some before) now b answer reads s tail text same = λ begins room.
-    reads (snapshot_lines s) s (reading (behind before s tail)) (subst (λ (x : Building). StandsFor x false (snapshot_lines s) s) same (text_stands s text)) (text_begins s text before tail begins room)
+    reads (snapshot_lines s) s (reading (behind before s tail)) (subst (λ (x : Building). StandsFor x false (snapshot_lines s) s) same (text_stands s text))
+    (text_begins s text before tail begins room)

@@ -75,7 +75,8 @@ whole_row : read_of false (head ∷ moment ∷ coming ∷ standing ∷ group ∷
       states = Idle 1 5000 ∷ Coming 2 7000 ∷ [];
       stated = true ∷ true ∷ [];
       aboard = record { id = 21; car = 1; destination = 0; persons = 2; boarded = 5900 } ∷ [];
-      calls = record { id = 22; origin = 0; destination = 3; persons = 1; released = 4999; pin = None } ∷ record { id = 23; origin = 2; destination = 0; persons = 2; released = 5000; pin = Some 1 } ∷ [];
+      calls = record { id = 22; origin = 0; destination = 3; persons = 1; released = 4999; pin = None }
+          ∷ record { id = 23; origin = 2; destination = 0; persons = 2; released = 5000; pin = Some 1 } ∷ [];
     })
     (finished 9)
 whole_row = refl
@@ -99,7 +100,9 @@ opening_row = refl
 twice_row : read_of false (head ∷ moment ∷ standing ∷ standing ∷ []) ≡ refused 4 (Item IdUsedBefore)
 twice_row = refl
 
-sides_row : read_of false (head ∷ moment ∷ coming ∷ standing ∷ (codes "aboard" ∷ codes "7" ∷ codes "8" ∷ codes "3" ∷ codes "1" ∷ codes "0" ∷ []) ∷ (codes "aboard" ∷ codes "7" ∷ codes "9" ∷ codes "0" ∷ codes "1" ∷ codes "0" ∷ []) ∷ []) ≡ refused 6 (Item WrongSide)
+sides_row : read_of false
+    (head ∷ moment ∷ coming ∷ standing ∷ (codes "aboard" ∷ codes "7" ∷ codes "8" ∷ codes "3" ∷ codes "1" ∷ codes "0" ∷ [])
+    ∷ (codes "aboard" ∷ codes "7" ∷ codes "9" ∷ codes "0" ∷ codes "1" ∷ codes "0" ∷ []) ∷ []) ≡ refused 6 (Item WrongSide)
 sides_row = refl
 
 -- 6001 ms after it left the lowest floor, the car can no longer stop at the highest

@@ -88,13 +88,15 @@ IsAnswered s rest (Err NoMemory) now = Unit {0}
 
 -- where the text begins with lines that stand for a snapshot, that one is read, whatever follows
 abbrev pub ReadsLines : Option TextState → Building → Bool → Result Snapshot TextFault → Option TextState → Type 0
-ReadsLines before b is_opening answer now = (lines : List Line) (s : Snapshot) (rest : Reading) → StandsFor b is_opening lines s → IfSome before (λ text. BeginsWith lines (reading text) rest → IsAnswered s rest answer now)
+ReadsLines before b is_opening answer now = (lines : List Line) (s : Snapshot) (rest : Reading) → StandsFor b is_opening lines s
+    → IfSome before (λ text. BeginsWith lines (reading text) rest → IsAnswered s rest answer now)
 
 -- wherever a snapshot in front ends, its last line is not whole among the bytes that were taken
 abbrev pub SnapshotEndsBehind : Option TextState → Building → Bool → Option (List ℕ) → Type 0
 SnapshotEndsBehind None b is_opening left = Unit {0}
 SnapshotEndsBehind (Some text) b is_opening left =
-    (lines : List Line) (s : Snapshot) (behind : TextState) → AreBetween text lines behind → StandsFor b is_opening lines s → LacksEnd (Some text) behind.line left
+    (lines : List Line) (s : Snapshot) (behind : TextState) → AreBetween text lines behind → StandsFor b is_opening lines s
+    → LacksEnd (Some text) behind.line left
 
 -- it fails with this fault, or for want of memory
 abbrev pub FailsAs : {A : Type 0} → Result A TextFault → TextFault → Type 0

@@ -1,5 +1,6 @@
 -- The canonical text of a snapshot: the lines that stand for it, with the cars in the building's order.
-use Rattle.std.specs.Prelude.{◌≡◌, ℕ, ◌+◌, ◌-◌, ◌^◌, ◌≤◌, ◌<◌, Bool, List, [], ◌∷◌, ◌++◌, length, map, decimal, codes, Option, None, Some, IfSome, Result, if◌then◌else◌}
+use Rattle.std.specs.Prelude.{◌≡◌, ℕ, ◌+◌, ◌-◌, ◌^◌, ◌≤◌, ◌<◌, Bool, List, [], ◌∷◌, ◌++◌, length, map, decimal, codes, Option, None, Some, IfSome, Result}
+use Rattle.std.specs.Prelude.{if◌then◌else◌}
 use Rattle.std.specs.List.{range_with_len}
 use Rattle.elevator_model.specs.declared.CarState.{CarState}
 use Rattle.elevator_model.specs.declared.CarState.TheVariants.{Idle, Coming, Moving}
@@ -34,7 +35,8 @@ abbrev pub car_words : Snapshot → ℕ → Line
 car_words s c = state_words (spec_of s c).id (state_of s c)
 
 abbrev pub group_words : Building → Aboard → Line
-group_words b group = codes "aboard" ∷ decimal (car_of b group.car).id ∷ decimal group.id ∷ decimal group.destination ∷ decimal group.persons ∷ decimal group.boarded ∷ []
+group_words b group = codes "aboard" ∷ decimal (car_of b group.car).id ∷ decimal group.id ∷ decimal group.destination ∷ decimal group.persons
+    ∷ decimal group.boarded ∷ []
 
 abbrev pub pin_word : Building → Option ℕ → List ℕ
 pin_word b None = codes "any"
@@ -45,7 +47,8 @@ abbrev pub call_front : Call → List ℕ
 call_front call = joined (codes "call" ∷ decimal call.id ∷ decimal call.origin ∷ decimal call.destination ∷ decimal call.persons ∷ decimal call.released ∷ [])
 
 abbrev pub call_words : Building → Call → Line
-call_words b call = codes "call" ∷ decimal call.id ∷ decimal call.origin ∷ decimal call.destination ∷ decimal call.persons ∷ decimal call.released ∷ pin_word b call.pin ∷ []
+call_words b call = codes "call" ∷ decimal call.id ∷ decimal call.origin ∷ decimal call.destination ∷ decimal call.persons ∷ decimal call.released
+    ∷ pin_word b call.pin ∷ []
 
 abbrev pub end_words : Line
 end_words = codes "end" ∷ []
@@ -83,4 +86,5 @@ behind text s tail = record { line = text.line + length (snapshot_lines s); limi
 -- where a text begins with that of a snapshot of the building, that one is read, whatever follows
 abbrev pub ReadsText : Option TextState → Building → Result Snapshot TextFault → Option TextState → Type 0
 ReadsText before b answer now = (s : Snapshot) (tail : List ℕ) → HasText s → s.building ≡ b
-    → IfSome before (λ text. text.bytes ≡ snapshot_text s ++ tail → length (snapshot_text s) ≤ text.limit → IsAnswered s (reading (behind text s tail)) answer now)
+    → IfSome before (λ text. text.bytes ≡ snapshot_text s ++ tail → length (snapshot_text s) ≤ text.limit
+    → IsAnswered s (reading (behind text s tail)) answer now)

@@ -50,7 +50,8 @@ coming_said words =
 -- `car ID moving FROM up LEFT` or `car ID moving FROM down LEFT`
 abbrev pub moving_said : Line → Judged (ℕ × CarState)
 moving_said words =
-    exactly words 6 >>= λ _. (short words 1 >>= λ id. (short words 3 >>= λ from. (number words 5 0 1000000000 >>= λ left. Ok (id, Moving from (is_word words 4 (codes "up")) left))))
+    exactly words 6 >>= λ _.
+    (short words 1 >>= λ id. (short words 3 >>= λ from. (number words 5 0 1000000000 >>= λ left. Ok (id, Moving from (is_word words 4 (codes "up")) left))))
 
 -- the id of a car, and where the car is
 abbrev pub state_said : Form → Line → Judged (ℕ × CarState)
@@ -70,7 +71,9 @@ car_said b form words = state_said form words >>= λ said. (car_named b said.0 >
 -- what a line says of a group
 abbrev pub group_of_words : Line → Judged GroupWords
 group_of_words words =
-    exactly words 6 >>= λ _. (short words 1 >>= λ car. (short words 2 >>= λ id. (short words 3 >>= λ destination. (short words 4 >>= λ persons. (number words 5 0 2000000000 >>= λ boarded.
+    exactly words 6 >>= λ _.
+    (short words 1 >>= λ car.
+    (short words 2 >>= λ id. (short words 3 >>= λ destination. (short words 4 >>= λ persons. (number words 5 0 2000000000 >>= λ boarded.
     Ok (record { car_id = car; id = id; destination = destination; persons = persons; boarded = boarded }))))))
 
 -- the group, with its car by index
@@ -93,7 +96,10 @@ pin_named b (Some id) = car_named b id >>= λ c. Ok (Some c)
 -- what a line says of a call
 abbrev pub call_of_words : Line → Judged CallWords
 call_of_words words =
-    exactly words 7 >>= λ _. (short words 1 >>= λ id. (short words 2 >>= λ origin. (short words 3 >>= λ destination. (short words 4 >>= λ persons. (number words 5 0 1000000000 >>= λ released. (pin_said words >>= λ pin.
+    exactly words 7 >>= λ _.
+    (short words 1 >>= λ id.
+    (short words 2 >>= λ origin.
+    (short words 3 >>= λ destination. (short words 4 >>= λ persons. (number words 5 0 1000000000 >>= λ released. (pin_said words >>= λ pin.
     Ok (record { id = id; origin = origin; destination = destination; persons = persons; released = released; pin_id = pin })))))))
 
 -- the call, with the car that it is pinned to by index

@@ -12,11 +12,13 @@ pub behind_none : (text : Option TextState) → StandsBehind text text
 behind_none None = tt
 behind_none (Some text) = ([], refl)
 
-between_more : (before : TextState) (lines : List Line) (now : TextState) (words : Line) (next : TextState) → AreBetween before lines now → IsNextLine now words next → AreBetween before (lines ++ words ∷ []) next
+between_more : (before : TextState) (lines : List Line) (now : TextState) (words : Line) (next : TextState) → AreBetween before lines now
+    → IsNextLine now words next → AreBetween before (lines ++ words ∷ []) next
 between_more before [] now words next here step = (next, subst (λ (t : TextState). IsNextLine t words next) (sym here) step, refl)
 between_more before (first ∷ lines) now words next steps step = (steps.0, steps.1, between_more steps.0 lines now words next steps.2 step)
 
-pub behind_more : (text here now : Option TextState) (words : Line) (line : ℕ) → StandsBehind text here → NextLine here (Ok true) words line now → StandsBehind text now
+pub behind_more : (text here now : Option TextState) (words : Line) (line : ℕ) → StandsBehind text here → NextLine here (Ok true) words line now
+    → StandsBehind text now
 behind_more None here now words line steps next = tt
 behind_more (Some before) None now words line steps next = absurd steps
 behind_more (Some before) (Some here) None words line steps next = absurd next
@@ -34,6 +36,7 @@ behind_went None now steps = tt
 behind_went (Some before) None steps = absurd steps
 behind_went (Some before) (Some now) steps = went_between before steps.0 now steps.1
 
-pub both_went : {A : Type 0} (before middle now : Option TextState) (answer : Result A TextFault) → StandsBehind before middle → OnOk answer (StandsBehind middle now) → OnOk answer (WentOn before now)
+pub both_went : {A : Type 0} (before middle now : Option TextState) (answer : Result A TextFault) → StandsBehind before middle
+    → OnOk answer (StandsBehind middle now) → OnOk answer (WentOn before now)
 both_went before middle now (Ok answer) first second = went_further before middle now (behind_went before middle first) (behind_went middle now second)
 both_went before middle now (Err fault) first second = tt

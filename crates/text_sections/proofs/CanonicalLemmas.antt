@@ -1,5 +1,6 @@
 -- Written lines are read as their words, and a section's lines as the section.
-use Rattle.std.proofs.Common.{◌≡◌, ◌≢◌, ℕ, zero, suc, ◌+◌, ◌-◌, ◌%◌, ◌^◌, ◌<◌, ◌≤◌, true, false, cond, List, [], ◌∷◌, ◌++◌, length, take, get_or, Option, None, Some, Result, Ok, Err, ap, refl, arith, ◌∙◌, sym, subst, append_assoc, append-nil, length-append}
+use Rattle.std.proofs.Common.{◌≡◌, ◌≢◌, ℕ, zero, suc, ◌+◌, ◌-◌, ◌%◌, ◌^◌, ◌<◌, ◌≤◌, true, false, cond, List, [], ◌∷◌, ◌++◌, length, take, get_or, Option, None}
+use Rattle.std.proofs.Common.{Some, Result, Ok, Err, ap, refl, arith, ◌∙◌, sym, subst, append_assoc, append-nil, length-append}
 use Rattle.std.specs.Prelude.{nat_le, nat_lt, ◌==◌, ◌&&◌, not, Bool, map, decimal, filter, All}
 use Rattle.std.specs.List.{flat_map, list_all, AllByRecursion}
 use Rattle.std.specs.Io.BufRead.{ends_with_byte, strip_last}
@@ -20,7 +21,8 @@ use Rattle.lift_text.specs.declared.faults.TextFault.{TextFault}
 use Rattle.lift_text.specs.declared.faults.TextFault.TheVariants.{Read, TooLong, Bad, NoMemory}
 use Rattle.text_sections.specs.Sections.{Line, Step, goes_on, is_whole, is_bad, accepted, continued, outcome, Did, ReadAs}
 use Rattle.text_sections.specs.declared.sections.AfterLine.TheVariants.{More, Whole}
-use Rattle.text_sections.specs.Canonical.{IsWordByte, IsWord, IsLineOfWords, joined, line_text, lines_text, BeginsWith, Goes, Makes, IsMade, ReadBack, ReadsWritten}
+use Rattle.text_sections.specs.Canonical.{IsWordByte, IsWord, IsLineOfWords, joined, line_text, lines_text, BeginsWith, Goes, Makes, IsMade, ReadBack}
+use Rattle.text_sections.specs.Canonical.{ReadsWritten}
 
 -- ---- bytes of a line
 
@@ -41,8 +43,10 @@ word_bytes-append (x ∷ xs) ys all more = (all.0, word_bytes-append xs ys all.1
 
 later_bytes : (words : Line) → AllByRecursion IsWord words → AllByRecursion IsLineByte (flat_map (λ later. 32 ∷ later) words)
 later_bytes [] all = tt
-later_bytes (word ∷ words) all =
-    ((omega arith, omega arith, λ same. absurd (omega arith)), line_bytes-append word (flat_map (λ later. 32 ∷ later) words) (line_bytes word all.0.bytes) (later_bytes words all.1))
+later_bytes (word ∷ words) all = (
+  (omega arith, omega arith, λ same. absurd (omega arith)),
+  line_bytes-append word (flat_map (λ later. 32 ∷ later) words) (line_bytes word all.0.bytes) (later_bytes words all.1),
+)
 
 joined_bytes : (words : Line) → AllByRecursion IsWord words → AllByRecursion IsLineByte (joined words)
 joined_bytes [] all = tt
@@ -86,7 +90,8 @@ content : (bs : List ℕ) → AllByRecursion IsLineByte bs → line_of (bs ++ 10
 content bs all =
     let size : length (bs ++ 10 ∷ []) ≡ length bs + 1 = length-append bs (10 ∷ []) in
     let all_of : take (length bs + 1) (bs ++ 10 ∷ []) ≡ bs ++ 10 ∷ [] = ap (λ n. take n (bs ++ 10 ∷ [])) (sym size) ∙ take-length (bs ++ 10 ∷ []) in
-    ap line_of (sym all_of) ∙ (begins_at bs [] (length bs) (no_line_feed bs all) (omega arith) (take-length bs ∙ sym (no_return bs all))).content ∙ take_at bs (10 ∷ []) (length bs) refl
+    ap line_of (sym all_of) ∙ (begins_at bs [] (length bs) (no_line_feed bs all) (omega arith) (take-length bs ∙ sym (no_return bs all))).content
+    ∙ take_at bs (10 ∷ []) (length bs) refl
 
 -- ---- words of a line
 
@@ -108,9 +113,11 @@ last_word word is =
     ap (filter (λ part. nat_lt 0 (length part))) (slice_split_none is_blank word (not_blank word is.bytes))
     ∙ ap (λ some. cond some (word ∷ []) []) (some_bytes word is.some)
 
-words_joined : (word : List ℕ) (words : Line) → IsWord word → AllByRecursion IsWord words → words_in (word ++ flat_map (λ later. 32 ∷ later) words) ≡ word ∷ words
+words_joined : (word : List ℕ) (words : Line) → IsWord word → AllByRecursion IsWord words
+    → words_in (word ++ flat_map (λ later. 32 ∷ later) words) ≡ word ∷ words
 words_joined word [] is all = ap words_in (append-nil word) ∙ last_word word is
-words_joined word (next ∷ words) is all = first_word word (next ++ flat_map (λ later. 32 ∷ later) words) is ∙ ap (λ ws. word ∷ ws) (words_joined next words all.0 all.1)
+words_joined word (next ∷ words) is all = first_word word (next ++ flat_map (λ later. 32 ∷ later) words) is
+    ∙ ap (λ ws. word ∷ ws) (words_joined next words all.0 all.1)
 
 words_in_joined : (words : Line) → AllByRecursion IsWord words → 0 < length words → words_in (joined words) ≡ words
 words_in_joined [] all some = absurd (omega arith)
@@ -126,7 +133,8 @@ module _ (words : Line) (is : IsLineOfWords words) (number limit : ℕ) (tail : 
       let all = joined_bytes words is.each in
       let after = reading_of (number + 1) (limit - length (line_text words)) (pieces_of tail) in
       let text : line_text words ++ tail ≡ bytes ++ 10 ∷ tail = append_assoc bytes (10 ∷ []) tail in
-      let pieces : pieces_of (line_text words ++ tail) ≡ line_text words ∷ pieces_of tail = ap pieces_of text ∙ pieces_of-append bytes tail (no_line_feed bytes all) in
+      let pieces : pieces_of (line_text words ++ tail) ≡ line_text words ∷ pieces_of tail = ap pieces_of text
+      ∙ pieces_of-append bytes tail (no_line_feed bytes all) in
       let fits : nat_lt limit (length (line_text words)) ≡ false = grind (arith, nat_tests) in
       let short = is.short in
       let not_over : nat_lt line_limit (length bytes) ≡ false = grind (arith, nat_tests) in
@@ -137,8 +145,11 @@ module _ (words : Line) (is : IsLineOfWords words) (number limit : ℕ) (tail : 
       ap (reading_of number limit) pieces
       ∙ ap (λ past. cond past (cut_short (number + 1) limit) (judged (number + 1) (line_of (line_text words)) after)) fits
       ∙ ap (λ text_of. judged (number + 1) text_of after) (content bytes all)
-      ∙ ap (λ over. cond over (bad_line (number + 1) OverLong) (cond (is_clean bytes) (cond (nat_lt 0 (length (words_of bytes))) (line_with (number + 1) (words_of bytes) after) after) (bad_line (number + 1) ForbiddenByte))) not_over
-      ∙ ap (λ e. cond e (cond (nat_lt 0 (length (words_of bytes))) (line_with (number + 1) (words_of bytes) after) after) (bad_line (number + 1) ForbiddenByte)) allowed
+      ∙ ap (λ over. cond over (bad_line (number + 1) OverLong)
+      (cond (is_clean bytes) (cond (nat_lt 0 (length (words_of bytes))) (line_with (number + 1) (words_of bytes) after) after)
+      (bad_line (number + 1) ForbiddenByte))) not_over
+      ∙ ap (λ e. cond e (cond (nat_lt 0 (length (words_of bytes))) (line_with (number + 1) (words_of bytes) after) after)
+      (bad_line (number + 1) ForbiddenByte)) allowed
       ∙ ap (λ ws. cond (nat_lt 0 (length ws)) (line_with (number + 1) ws after) after) found
       ∙ ap (λ e. cond e (line_with (number + 1) words after) after) some
 
@@ -157,7 +168,8 @@ lines_again (words ∷ lines) number limit tail all room =
     let later = lines_again lines (number + 1) (limit - length first) tail all.1 (omega arith) in
     let count : (number + 1) + length lines ≡ number + suc (length lines) = omega arith in
     let left : (limit - length first) - length rest ≡ limit - length (first ++ rest) = omega arith in
-    let end = ap (λ n. reading_of n ((limit - length first) - length rest) (pieces_of tail)) count ∙ ap (λ l. reading_of (number + suc (length lines)) l (pieces_of tail)) left in (
+    let end = ap (λ n. reading_of n ((limit - length first) - length rest) (pieces_of tail)) count
+    ∙ ap (λ l. reading_of (number + suc (length lines)) l (pieces_of tail)) left in (
       number + 1,
       reading (record { line = number + 1; limit = limit - length first; bytes = rest ++ tail }),
       ap (λ bytes. reading_of number limit (pieces_of bytes)) (append_assoc first rest tail) ∙ line_again words all.0 number limit (rest ++ tail) fits,
@@ -219,9 +231,11 @@ module _ {A : Type 0} (after : A → Line → Step A) where
   gone_more state middle new words gone did = (gone.0 ++ words ∷ [], goes-append gone.0 (words ∷ []) state middle new gone.1 (new, did, refl))
 
   pub made_whole : (state middle new : A) (words : Line) → Gone state middle → Did (after middle words) (Ok Whole) new → IsMade after state new
-  made_whole state middle new words gone did = (gone.0 ++ words ∷ [], record { front = gone.0; last = words; before = middle; lines_are = refl; goes = gone.1; whole = did })
+  made_whole state middle new words gone did =
+      (gone.0 ++ words ∷ [], record { front = gone.0; last = words; before = middle; lines_are = refl; goes = gone.1; whole = did })
 
-  pub made_front : (front : List Line) (last : Line) (state before end : A) (read rest : Reading) → BeginsWith (front ++ last ∷ []) read rest → Goes after front state before → after before last ≡ is_whole end
+  pub made_front : (front : List Line) (last : Line) (state before end : A) (read rest : Reading) → BeginsWith (front ++ last ∷ []) read rest
+      → Goes after front state before → after before last ≡ is_whole end
       → outcome after read state ≡ accepted end rest
   made_front [] last state before end read rest begins goes whole =
       ap (λ r. outcome after r state) begins.2
@@ -232,11 +246,13 @@ module _ {A : Type 0} (after : A → Line → Step A) where
       ∙ ap (λ s. continued s begins.0 begins.1 (outcome after begins.1)) goes.1
       ∙ made_front front last goes.0 before end begins.1 rest begins.3 goes.2 whole
 
-  pub made : (lines : List Line) (state end : A) (read rest : Reading) → BeginsWith lines read rest → Makes after lines state end → outcome after read state ≡ accepted end rest
+  pub made : (lines : List Line) (state end : A) (read rest : Reading) → BeginsWith lines read rest → Makes after lines state end
+      → outcome after read state ≡ accepted end rest
   made lines state end read rest begins makes =
       made_front makes.front makes.last state makes.before end read rest (subst (λ ls. BeginsWith ls read rest) makes.lines_are begins) makes.goes makes.whole
 
-  read_back : (text : TextState) (state end new : A) (rest : Reading) (answer : Result Unit TextFault) (now : Option TextState) → ReadAs after (Some text) state answer new now
+  read_back : (text : TextState) (state end new : A) (rest : Reading) (answer : Result Unit TextFault) (now : Option TextState)
+      → ReadAs after (Some text) state answer new now
       → outcome after (reading text) state ≡ accepted end rest → ReadBack end rest answer new now
   read_back text state end new rest (Ok done) None read is = absurd read
   read_back text state end new rest (Ok done) (Some behind) read is =
@@ -248,11 +264,13 @@ module _ {A : Type 0} (after : A → Line → Step A) where
   read_back text state end new rest (Err NoMemory) now read is = tt
 
   -- a section whose written lines stand in front is read again
-  pub reads_written : (before : Option TextState) (state new : A) (answer : Result Unit TextFault) (now : Option TextState) → ReadAs after before state answer new now → ReadsWritten after before state answer new now
+  pub reads_written : (before : Option TextState) (state new : A) (answer : Result Unit TextFault) (now : Option TextState)
+      → ReadAs after before state answer new now → ReadsWritten after before state answer new now
   reads_written None state new answer now read lines tail end all makes = tt
   reads_written (Some text) state new answer now read lines tail end all makes = λ begins room.
       (let rest = reading (record { line = text.line + length lines; limit = text.limit - length (lines_text lines); bytes = tail }) in
-      let front = subst (λ bytes. BeginsWith lines (reading (record { line = text.line; limit = text.limit; bytes = bytes })) rest) (sym begins) (lines_again lines text.line text.limit tail all room) in
+      let front = subst (λ bytes. BeginsWith lines (reading (record { line = text.line; limit = text.limit; bytes = bytes })) rest) (sym begins)
+      (lines_again lines text.line text.limit tail all room) in
       read_back text state end new rest answer now read (made lines state end (reading text) rest front makes))
 
 -- ---- what was accepted was made of lines that stand in front
@@ -261,20 +279,36 @@ module _ {A : Type 0} (step : A → Line → Step A) where
   abbrev pub Made : Reading → A → A → Reading → Type 0
   Made read state end rest = (lines : List Line) × BeginsWith lines read rest × Makes step lines state end
 
-  by_step : (one : Step A) (number : ℕ) (words : Line) (more : Reading) (state end : A) (rest : Reading) → step state words ≡ one → ((next : A) → outcome step more next ≡ accepted end rest → Made more next end rest)
+  by_step : (one : Step A) (number : ℕ) (words : Line) (more : Reading) (state end : A) (rest : Reading) → step state words ≡ one
+      → ((next : A) → outcome step more next ≡ accepted end rest → Made more next end rest)
       → continued one number more (outcome step more) ≡ accepted end rest → Made (line_with number words more) state end rest
   by_step (goes_on next) number words more state end rest is later e =
       let made_of = later next e in
-      let makes = made_of.2 in
-      (words ∷ made_of.0, (number, more, refl, made_of.1), record { front = words ∷ makes.front; last = makes.last; before = makes.before; lines_are = ap (λ (ls : List Line). words ∷ ls) makes.lines_are; goes = (next, is, makes.goes); whole = makes.whole })
+      let makes = made_of.2 in (
+        words ∷ made_of.0,
+        (number, more, refl, made_of.1),
+        record {
+          front = words ∷ makes.front;
+          last = makes.last;
+          before = makes.before;
+          lines_are =
+              ap (λ (ls : List Line). words ∷ ls) makes.lines_are;
+          goes = (next, is, makes.goes);
+          whole = makes.whole;
+        },
+      )
   by_step (is_whole next) number words more state end rest is later e =
       let same : next ≡ end = cc in
-      let left : more ≡ rest = cc in
-      (words ∷ [], (number, more, refl, left), record { front = []; last = words; before = state; lines_are = refl; goes = refl; whole = is ∙ ap is_whole same })
+      let left : more ≡ rest = cc in (
+        words ∷ [],
+        (number, more, refl, left),
+        record { front = []; last = words; before = state; lines_are = refl; goes = refl; whole = is ∙ ap is_whole same },
+      )
   by_step (is_bad code) number words more state end rest is later e = absurd cc
 
   pub accepted_made : (read : Reading) (state end : A) (rest : Reading) → outcome step read state ≡ accepted end rest → Made read state end rest
-  accepted_made (line_with number words more) state end rest e = by_step (step state words) number words more state end rest refl (λ next. accepted_made more next end rest) e
+  accepted_made (line_with number words more) state end rest e =
+      by_step (step state words) number words more state end rest refl (λ next. accepted_made more next end rest) e
   accepted_made (finished lines) state end rest e = absurd cc
   accepted_made (bad_line line code) state end rest e = absurd cc
   accepted_made past_limit state end rest e = absurd cc

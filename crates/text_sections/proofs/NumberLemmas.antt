@@ -1,5 +1,6 @@
 -- What is read of a number, with its code.
-use Rattle.std.proofs.Common.{◌≡◌, ℕ, ◌<◌, ◌≤◌, Bool, true, false, cond, List, length, rules, IfOk, Option, None, Some, Result, Ok, Err, ◌^◌, ap, refl, arith, ◌∙◌, sym, subst}
+use Rattle.std.proofs.Common.{◌≡◌, ℕ, ◌<◌, ◌≤◌, Bool, true, false, cond, List, length, rules, IfOk, Option, None, Some, Result, Ok, Err, ◌^◌, ap, refl, arith}
+use Rattle.std.proofs.Common.{◌∙◌, sym, subst}
 use mir.Syntax.{w128}
 use mir.Val.{SFits, to_z, of_z}
 use Rattle.std.proofs.lemmas.Int.{to_z-of_z}
@@ -22,7 +23,8 @@ pub judged_in_range : (low high : ℤ) (value : Option ℤ) → number_judged (i
 judged_in_range low high None = refl
 judged_in_range low high (Some value) = by_case (int_lt value low || int_lt high value) refl
   where
-    by_case : (outside : Bool) → (int_lt value low || int_lt high value) ≡ outside → number_judged (in_range low high (Some value)) ≡ signed_within low high (Some value)
+    by_case : (outside : Bool) → (int_lt value low || int_lt high value) ≡ outside
+        → number_judged (in_range low high (Some value)) ≡ signed_within low high (Some value)
     by_case true is = rw is refl
     by_case false is = rw is refl
 
@@ -31,7 +33,8 @@ abbrev pub as_signed : Judged ℕ → Judged ℤ
 as_signed (Ok n) = Ok (pos n)
 as_signed (Err code) = Err code
 
-pub signed_number : (low high : ℕ) (word : List ℕ) → signed_within (pos low) (pos high) (number_of (int_lt (pos low) (pos 0)) word) ≡ as_signed (within low high (digits_number word))
+pub signed_number : (low high : ℕ) (word : List ℕ)
+    → signed_within (pos low) (pos high) (number_of (int_lt (pos low) (pos 0)) word) ≡ as_signed (within low high (digits_number word))
 signed_number low high word = ap (λ b. signed_within (pos low) (pos high) (number_of b word)) (not_below low) ∙ by_case (digits_number word)
   where
     not_below : (n : ℕ) → nat_lt n 0 ≡ false
@@ -65,7 +68,8 @@ pub is_within : (low high : ℕ) (value : Option ℕ) → IfOk (within low high 
 is_within low high None = tt
 is_within low high (Some m) = by_test (nat_lt m low) (nat_lt high m) refl refl
   where
-    by_test : (below above : Bool) → nat_lt m low ≡ below → nat_lt high m ≡ above → IfOk (cond (below || above) (Err OutOfRange) (Ok m)) (λ n. (low ≤ n) × (n ≤ high))
+    by_test : (below above : Bool) → nat_lt m low ≡ below → nat_lt high m ≡ above
+        → IfOk (cond (below || above) (Err OutOfRange) (Ok m)) (λ n. (low ≤ n) × (n ≤ high))
     by_test true above b a = tt
     by_test false true b a = tt
     by_test false false b a = (grind (arith, nat_tests), grind (arith, nat_tests))
@@ -77,21 +81,25 @@ pub record IsNatural (low high : ℕ) (word : List ℕ) (value : ℤ) : Type 0 w
   pub not_above : natural ≤ high
   pub found : within low high (digits_number word) ≡ Ok natural
 
-pub natural_value : (low high : ℕ) (word : List ℕ) (value low' high' : ℤ) → low' ≡ pos low → high' ≡ pos high → Ok value ≡ signed_within low' high' (number_of (int_lt low' (pos 0)) word)
+pub natural_value : (low high : ℕ) (word : List ℕ) (value low' high' : ℤ) → low' ≡ pos low → high' ≡ pos high
+    → Ok value ≡ signed_within low' high' (number_of (int_lt low' (pos 0)) word)
     → IsNatural low high word value
 natural_value low high word value low' high' same_low same_high is =
     by_case (within low high (digits_number word)) refl
-    (is ∙ ap (λ z. signed_within z high' (number_of (int_lt z (pos 0)) word)) same_low ∙ ap (λ z. signed_within (pos low) z (number_of (int_lt (pos low) (pos 0)) word)) same_high ∙ signed_number low high word)
+    (is ∙ ap (λ z. signed_within z high' (number_of (int_lt z (pos 0)) word)) same_low
+    ∙ ap (λ z. signed_within (pos low) z (number_of (int_lt (pos low) (pos 0)) word)) same_high ∙ signed_number low high word)
   where
     by_case : (judged : Judged ℕ) → within low high (digits_number word) ≡ judged → Ok value ≡ as_signed judged → IsNatural low high word value
     by_case (Ok n) found same = record { natural = n; is = cc; not_above = within_high low high n (digits_number word) found; found = found }
     by_case (Err code) found same = absurd cc
 
-pub natural_error : (low high : ℕ) (word : List ℕ) (code : TextCode) (low' high' : ℤ) → low' ≡ pos low → high' ≡ pos high → Err code ≡ signed_within low' high' (number_of (int_lt low' (pos 0)) word)
+pub natural_error : (low high : ℕ) (word : List ℕ) (code : TextCode) (low' high' : ℤ) → low' ≡ pos low → high' ≡ pos high
+    → Err code ≡ signed_within low' high' (number_of (int_lt low' (pos 0)) word)
     → Err code ≡ within low high (digits_number word)
 natural_error low high word code low' high' same_low same_high is =
     by_case (within low high (digits_number word))
-    (is ∙ ap (λ z. signed_within z high' (number_of (int_lt z (pos 0)) word)) same_low ∙ ap (λ z. signed_within (pos low) z (number_of (int_lt (pos low) (pos 0)) word)) same_high ∙ signed_number low high word)
+    (is ∙ ap (λ z. signed_within z high' (number_of (int_lt z (pos 0)) word)) same_low
+    ∙ ap (λ z. signed_within (pos low) z (number_of (int_lt (pos low) (pos 0)) word)) same_high ∙ signed_number low high word)
   where
     by_case : (judged : Judged ℕ) → Err code ≡ as_signed judged → Err code ≡ judged
     by_case (Ok n) same = absurd cc

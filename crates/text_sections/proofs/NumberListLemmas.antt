@@ -1,5 +1,6 @@
 -- Several numbers of a line.
-use Rattle.std.proofs.Common.{◌≡◌, ℕ, ◌+◌, ◌<◌, ◌≤◌, List, [], ◌∷◌, ◌++◌, length, drop, get_or, Result, Ok, Err, ap, refl, arith, ◌∙◌, sym, subst, append_assoc, append-nil, drop-cons, add-one}
+use Rattle.std.proofs.Common.{◌≡◌, ℕ, ◌+◌, ◌<◌, ◌≤◌, List, [], ◌∷◌, ◌++◌, length, drop, get_or, Result, Ok, Err, ap, refl, arith, ◌∙◌, sym, subst, append_assoc}
+use Rattle.std.proofs.Common.{append-nil, drop-cons, add-one}
 use Rattle.std.specs.Prelude.{All}
 use Rattle.std.proofs.lemmas.List.{drop_all}
 use Rattle.lift_text.specs.Numbers.{digits_number}
@@ -40,7 +41,8 @@ next_number words k low high inside =
     ap (numbers_of low high) (drop-cons words k [] inside)
     ∙ ap (λ i. within low high (digits_number (get_or words k [])) >>= λ n. (numbers words i low high >>= λ ns. Ok (n ∷ ns))) (sym (add-one k))
 
-pub read_more : (words : List (List ℕ)) (from low high k n : ℕ) (old now new : List ℕ) → k < length words → ReadSome words from low high k old now → Ok n ≡ number words k low high → new ≡ now ++ n ∷ []
+pub read_more : (words : List (List ℕ)) (from low high k n : ℕ) (old now new : List ℕ) → k < length words → ReadSome words from low high k old now
+    → Ok n ≡ number words k low high → new ≡ now ++ n ∷ []
     → ReadSome words from low high (k + 1) old new
 read_more words from low high k n old now new inside so_far is pushed = record {
   front = so_far.front ++ n ∷ [];
@@ -50,7 +52,8 @@ read_more words from low high k n old now new inside so_far is pushed = record {
       ∙ front_append so_far.front n (numbers words (k + 1) low high);
 }
 
-pub read_bad : (words : List (List ℕ)) (from low high k : ℕ) (old now : List ℕ) (code : TextCode) → k < length words → ReadSome words from low high k old now → Err code ≡ number words k low high
+pub read_bad : (words : List (List ℕ)) (from low high k : ℕ) (old now : List ℕ) (code : TextCode) → k < length words → ReadSome words from low high k old now
+    → Err code ≡ number words k low high
     → numbers words from low high ≡ Err code
 read_bad words from low high k old now code inside so_far is =
     so_far.rest ∙ ap (with_front so_far.front) (next_number words k low high inside)
@@ -67,7 +70,8 @@ read_all words from low high k old now past so_far = (
   so_far.behind,
 )
 
-pub appends_bad : (judged : Judged (List ℕ)) (old new : List ℕ) (answer : Result Unit LineFault) (fault : LineFault) (code : TextCode) → answer ≡ Err fault → fault ≡ Bad code → judged ≡ Err code
+pub appends_bad : (judged : Judged (List ℕ)) (old new : List ℕ) (answer : Result Unit LineFault) (fault : LineFault) (code : TextCode) → answer ≡ Err fault
+    → fault ≡ Bad code → judged ≡ Err code
     → Appends judged old answer new
 appends_bad judged old new answer fault code failed is bad = subst (λ (a : Result Unit LineFault). Appends judged old a new) (sym (failed ∙ ap Err is)) bad
 
@@ -78,4 +82,5 @@ numbers_high (word ∷ words) low high items is =
     let first = then-inv (within low high (digits_number word)) (λ n. numbers_of low high words >>= λ ns. Ok (n ∷ ns)) items is in
     let later = then-inv (numbers_of low high words) (λ ns. Ok (first.0 ∷ ns)) items first.2 in
     let same : first.0 ∷ later.0 ≡ items = cc in
-    subst (All (λ n. n ≤ high)) same (all_more (λ n. n ≤ high) first.0 later.0 (within_high low high first.0 (digits_number word) first.1) (numbers_high words low high later.0 later.1))
+    subst (All (λ n. n ≤ high)) same
+    (all_more (λ n. n ≤ high) first.0 later.0 (within_high low high first.0 (digits_number word) first.1) (numbers_high words low high later.0 later.1))

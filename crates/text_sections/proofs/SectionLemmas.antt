@@ -32,7 +32,8 @@ module _ {A : Type 0} (after : A → Line → Step A) where
   leads_none None state = tt
   leads_none (Some text) state = refl
 
-  pub leads_more : (text here now : Option TextState) (state state' new : A) (words : Line) (line : ℕ) → Leads text state state' here → NextLine here (Ok true) words line now
+  pub leads_more : (text here now : Option TextState) (state state' new : A) (words : Line) (line : ℕ) → Leads text state state' here
+      → NextLine here (Ok true) words line now
       → Did (after state' words) (Ok More) new → Leads text state new now
   leads_more None here now state state' new words line leads next did = tt
   leads_more (Some text) None now state state' new words line leads next did = absurd leads
@@ -40,7 +41,8 @@ module _ {A : Type 0} (after : A → Line → Step A) where
   leads_more (Some text) (Some at) (Some behind) state state' new words line leads next did =
       leads ∙ ap (λ r. outcome after r state') next.0 ∙ ap (λ s. continued s line (reading behind) (outcome after (reading behind))) did
 
-  pub leads_whole : (text here now : Option TextState) (state state' new : A) (words : Line) (line : ℕ) → Leads text state state' here → NextLine here (Ok true) words line now
+  pub leads_whole : (text here now : Option TextState) (state state' new : A) (words : Line) (line : ℕ) → Leads text state state' here
+      → NextLine here (Ok true) words line now
       → Did (after state' words) (Ok Whole) new → ReadAs after text state (Ok tt) new now
   leads_whole None here now state state' new words line leads next did = tt
   leads_whole (Some text) None now state state' new words line leads next did = absurd leads
@@ -48,7 +50,8 @@ module _ {A : Type 0} (after : A → Line → Step A) where
   leads_whole (Some text) (Some at) (Some behind) state state' new words line leads next did =
       leads ∙ ap (λ r. outcome after r state') next.0 ∙ ap (λ s. continued s line (reading behind) (outcome after (reading behind))) did
 
-  pub leads_bad : (text here now : Option TextState) (state state' new : A) (words : Line) (line : ℕ) (code : TextCode) → Leads text state state' here → NextLine here (Ok true) words line now
+  pub leads_bad : (text here now : Option TextState) (state state' new : A) (words : Line) (line : ℕ) (code : TextCode) → Leads text state state' here
+      → NextLine here (Ok true) words line now
       → Did (after state' words) (Err (BadLine code)) new → ReadAs after text state (Err (Bad line code)) new now
   leads_bad None here now state state' new words line code leads next did = tt
   leads_bad (Some text) None now state state' new words line code leads next did = absurd leads
@@ -56,13 +59,15 @@ module _ {A : Type 0} (after : A → Line → Step A) where
   leads_bad (Some text) (Some at) (Some behind) state state' new words line code leads next did =
       leads ∙ ap (λ r. outcome after r state') next.0 ∙ ap (λ s. continued s line (reading behind) (outcome after (reading behind))) did
 
-  pub leads_cut : (text here now : Option TextState) (state state' new : A) (words : Line) (line : ℕ) → Leads text state state' here → NextLine here (Ok false) words line now
+  pub leads_cut : (text here now : Option TextState) (state state' new : A) (words : Line) (line : ℕ) → Leads text state state' here
+      → NextLine here (Ok false) words line now
       → ReadAs after text state (Err (Bad (line + 1) CutShort)) new now
   leads_cut None here now state state' new words line leads next = tt
   leads_cut (Some text) None now state state' new words line leads next = absurd leads
   leads_cut (Some text) (Some at) now state state' new words line leads next = leads ∙ ap (λ r. outcome after r state') next.0
 
-  pub leads_fault : (text here now : Option TextState) (state state' new : A) (words : Line) (line : ℕ) (fault : TextFault) → Leads text state state' here → NextLine here (Err fault) words line now
+  pub leads_fault : (text here now : Option TextState) (state state' new : A) (words : Line) (line : ℕ) (fault : TextFault) → Leads text state state' here
+      → NextLine here (Err fault) words line now
       → ReadAs after text state (Err fault) new now
   leads_fault None here now state state' new words line fault leads next = tt
   leads_fault (Some text) None now state state' new words line fault leads next = absurd leads
@@ -72,14 +77,16 @@ module _ {A : Type 0} (after : A → Line → Step A) where
   leads_fault (Some text) (Some at) now state state' new words line NoMemory leads next = absurd next
 
   -- no text has more lines
-  pub leads_nowhere : (text here : Option TextState) (state state' new : A) (now : Option TextState) → Leads text state state' here → Counted text 67108865 here → (IfSome here (λ at. at.line ≤ 67108864))
+  pub leads_nowhere : (text here : Option TextState) (state state' new : A) (now : Option TextState) → Leads text state state' here
+      → Counted text 67108865 here → (IfSome here (λ at. at.line ≤ 67108864))
       → ReadAs after text state (Err TooLong) new now
   leads_nowhere None here state state' new now leads many few = tt
   leads_nowhere (Some text) None state state' new now leads many few = absurd leads
   leads_nowhere (Some text) (Some at) state state' new now leads many few = absurd (omega (arith, many, few))
 
   -- after one more line, one more line is counted
-  pub counted_more : (text here now : Option TextState) (state state' : A) (words : Line) (line count : ℕ) → Leads text state state' here → Counted text count here → NextLine here (Ok true) words line now
+  pub counted_more : (text here now : Option TextState) (state state' : A) (words : Line) (line count : ℕ) → Leads text state state' here
+      → Counted text count here → NextLine here (Ok true) words line now
       → Counted text (count + 1) now
   counted_more None here now state state' words line count leads counted next = tt
   counted_more (Some text) None now state state' words line count leads counted next = absurd leads

@@ -28,7 +28,8 @@ in_order-inv false u e = absurd cc
 pub in_order-ok : (b : Bool) → b ≡ true → in_order b ≡ Ok tt
 in_order-ok b e = ap in_order e
 
-pub gives_bad : {X : Type 0} (judged : Judged X) (answer : Result X LineFault) (fault : LineFault) (code : TextCode) → answer ≡ Err fault → fault ≡ Bad code → judged ≡ Err code → Gives judged answer
+pub gives_bad : {X : Type 0} (judged : Judged X) (answer : Result X LineFault) (fault : LineFault) (code : TextCode) → answer ≡ Err fault → fault ≡ Bad code
+    → judged ≡ Err code → Gives judged answer
 gives_bad {X} judged answer fault code failed is bad = subst (λ (a : Result X LineFault). Gives judged a) (sym (failed ∙ ap Err is)) bad
 
 -- ---- the first word
@@ -41,9 +42,11 @@ pub named-ok : (words : Line) (name : List ℕ) → is_word words 0 name ≡ tru
 named-ok words name is = ap (λ (e : Bool). if e then Ok tt else Err NoLineWord) is
 
 -- one more word among those that a line may begin with
-pub picked : {K : Type 0} (text_of : K → List ℕ) (words : Line) (b : Bool) (this word : K) (rest : Judged K) → (b ≡ true → is_word words 0 (text_of this) ≡ true) → (rest ≡ Ok word → is_word words 0 (text_of word) ≡ true)
+pub picked : {K : Type 0} (text_of : K → List ℕ) (words : Line) (b : Bool) (this word : K) (rest : Judged K)
+    → (b ≡ true → is_word words 0 (text_of this) ≡ true) → (rest ≡ Ok word → is_word words 0 (text_of word) ≡ true)
     → (if b then Ok this else rest) ≡ Ok word → is_word words 0 (text_of word) ≡ true
-picked {K} text_of words true this word rest here later e = let same : this ≡ word = cc in subst (λ (k : K). is_word words 0 (text_of k) ≡ true) same (here refl)
+picked {K} text_of words true this word rest here later e = let same : this ≡ word = cc in
+    subst (λ (k : K). is_word words 0 (text_of k) ≡ true) same (here refl)
 picked text_of words false this word rest here later e = later e
 
 -- ---- items with ids
@@ -58,13 +61,15 @@ known-below p xs k e = below (position_or_len p xs) (length xs) k e
     below : (at count c : ℕ) → known (if nat_lt at count then Some at else None) ≡ Ok c → c < count
     below at count c same = cases (nat_lt at count) at count c (ltb-true at count) same
 
-pub known-at : {X : Type 0} (p : X → Bool) (xs : List X) (k : ℕ) (d : X) → k < length xs → ((j : ℕ) → j < k → p (get_or xs j d) ≡ false) → p (get_or xs k d) ≡ true → Ok k ≡ known (position p xs)
+pub known-at : {X : Type 0} (p : X → Bool) (xs : List X) (k : ℕ) (d : X) → k < length xs → ((j : ℕ) → j < k → p (get_or xs j d) ≡ false)
+    → p (get_or xs k d) ≡ true → Ok k ≡ known (position p xs)
 known-at p xs k d below before here =
     let first = position_or_len_is p xs k d (omega arith) before (λ _. here) in
     let within : ltb (position_or_len p xs) (length xs) ≡ true = lt-ltb _ _ (omega (arith, first, below)) in
     ap known (sym (ap (λ is. cond is (Some (position_or_len p xs)) None) within ∙ ap Some first))
 
-pub known-none : {X : Type 0} (p : X → Bool) (xs : List X) (d : X) → ((j : ℕ) → j < length xs → p (get_or xs j d) ≡ false) → Err UnknownId ≡ known (position p xs)
+pub known-none : {X : Type 0} (p : X → Bool) (xs : List X) (d : X) → ((j : ℕ) → j < length xs → p (get_or xs j d) ≡ false)
+    → Err UnknownId ≡ known (position p xs)
 known-none p xs d none =
     let last = position_or_len_is p xs (length xs) d (omega arith) none (λ past. absurd (omega arith)) in
     let past : ltb (position_or_len p xs) (length xs) ≡ false = le-ltb _ _ (omega (arith, last)) in

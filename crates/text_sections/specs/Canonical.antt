@@ -67,6 +67,7 @@ ReadBack end rest (Err NoMemory) new now = Unit {0}
 
 -- where a text begins with the written lines of a section, that section is read, whatever follows
 abbrev pub ReadsWritten : {A : Type 0} → (A → Line → Step A) → Option TextState → A → Result Unit TextFault → A → Option TextState → Type 0
-ReadsWritten {A} after before state answer new now = (lines : List Line) (tail : List ℕ) (end : A) → AllByRecursion IsLineOfWords lines → Makes after lines state end
+ReadsWritten {A} after before state answer new now = (lines : List Line) (tail : List ℕ) (end : A) → AllByRecursion IsLineOfWords lines
+    → Makes after lines state end
     → IfSome before (λ text. text.bytes ≡ lines_text lines ++ tail → length (lines_text lines) ≤ text.limit
     → ReadBack end (reading (record { line = text.line + length lines; limit = text.limit - length (lines_text lines); bytes = tail })) answer new now)

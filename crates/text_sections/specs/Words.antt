@@ -1,5 +1,6 @@
 -- What the words of a line say.
-use Rattle.std.specs.Prelude.{ℕ, ℤ, pos, Bool, ◌||◌, nat_lt, int_lt, List, [], length, slice_index_or, Option, None, Some, Result, Ok, Err, codes, if◌then◌else◌}
+use Rattle.std.specs.Prelude.{ℕ, ℤ, pos, Bool, ◌||◌, nat_lt, int_lt, List, [], length, slice_index_or, Option, None, Some, Result, Ok, Err, codes}
+use Rattle.std.specs.Prelude.{if◌then◌else◌}
 use Rattle.std.specs.Str.{bytes_eq}
 use Rattle.lift_text.specs.Numbers.{digits_number, number_of, code_of}
 use Rattle.lift_text.specs.declared.numbers.NumberFault.{NumberFault}

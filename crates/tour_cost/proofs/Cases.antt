@@ -35,7 +35,10 @@ plan_alone : IsFeasiblePlan together (boarding ∷ [])
 plan_alone = record {
   cars = refl;
   tours = λ c b. let only : c ≡ 0 = omega arith in subst (λ (x : ℕ). IsFeasible together x (tour_of (boarding ∷ []) x)) (sym only) boarding_feasible;
-  serves_once = λ j b. elim (cases_eq j 0) [ inl e ↦ subst (λ (x : ℕ). times_served (boarding ∷ []) x ≡ 1) (sym e) refl | inr ne ↦ (let other : j ≡ 1 = omega arith in subst (λ (x : ℕ). times_served (boarding ∷ []) x ≡ 1) (sym other) refl) ];
+  serves_once = λ j b. elim (cases_eq j 0) [
+    | inl e ↦ subst (λ (x : ℕ). times_served (boarding ∷ []) x ≡ 1) (sym e) refl
+    | inr ne ↦ (let other : j ≡ 1 = omega arith in subst (λ (x : ℕ). times_served (boarding ∷ []) x ≡ 1) (sym other) refl)
+  ];
 }
 
 pub plan_feasible : (s : Snapshot) (plan : List (List Stop)) → s ≡ together → plan ≡ boarding ∷ [] → IsFeasiblePlan s plan

@@ -12,7 +12,8 @@ use Rattle.tour_rules.proofs.Measure.{lawful_short}
 use Rattle.tour_rules.proofs.Sound.{AllFine}
 use Rattle.tour_rules.proofs.Stops.{groups_few}
 
-pub AllFine-feasible : (s : Snapshot) (c : ℕ) (p : Progress) (k : ℕ) (stops : List Stop) → first_broken_from s c none_taken p k stops ≡ None → AllFine s c p stops
+pub AllFine-feasible : (s : Snapshot) (c : ℕ) (p : Progress) (k : ℕ) (stops : List Stop) → first_broken_from s c none_taken p k stops ≡ None
+    → AllFine s c p stops
 AllFine-feasible s c p k [] h = tt
 AllFine-feasible s c p k (st ∷ stops) h =
     let parts = broken_or-none (broken_at s c none_taken p st) k (first_broken_from s c none_taken (make_stop s c p st) (k + 1) stops) h in

@@ -1,5 +1,6 @@
 -- Each entry of a timeline is that of its stop.
-use Rattle.std.proofs.Common.{◌≡◌, ℕ, zero, suc, ◌+◌, Bool, true, false, List, [], ◌∷◌, take, length, Option, Some, None, unwrap_or, slice_get, refl, sym, ap, ◌∙◌, arith, add-one}
+use Rattle.std.proofs.Common.{◌≡◌, ℕ, zero, suc, ◌+◌, Bool, true, false, List, [], ◌∷◌, take, length, Option, Some, None, unwrap_or, slice_get, refl, sym, ap}
+use Rattle.std.proofs.Common.{◌∙◌, arith, add-one}
 use Rattle.std.proofs.lemmas.Bool.{false≢true}
 use Rattle.elevator_model.specs.declared.Stop.{Stop}
 use Rattle.elevator_model.specs.declared.Times.{Times}
@@ -21,11 +22,14 @@ none≢some e = false≢true (ap is_there e)
     is_there None = false
     is_there (Some x) = true
 
-one_more : (s : Snapshot) (c : ℕ) (p : Progress) (stop : Stop) (stops : List Stop) (k : ℕ) → after_stops s c (make_stop s c p stop) (take (k + 1) stops) ≡ after_stops s c p (take (suc k + 1) (stop ∷ stops))
+one_more : (s : Snapshot) (c : ℕ) (p : Progress) (stop : Stop) (stops : List Stop) (k : ℕ)
+    → after_stops s c (make_stop s c p stop) (take (k + 1) stops) ≡ after_stops s c p (take (suc k + 1) (stop ∷ stops))
 one_more s c p stop stops k =
-    ap (λ (n : ℕ). after_stops s c (make_stop s c p stop) (take n stops)) (add-one k) ∙ ap (λ (n : ℕ). after_stops s c p (take n (stop ∷ stops))) (sym (add-one (suc k)))
+    ap (λ (n : ℕ). after_stops s c (make_stop s c p stop) (take n stops)) (add-one k)
+    ∙ ap (λ (n : ℕ). after_stops s c p (take n (stop ∷ stops))) (sym (add-one (suc k)))
 
-entry_from : (s : Snapshot) (c : ℕ) (p : Progress) (stops : List Stop) (k : ℕ) (stop : Stop) (entry : Times) → slice_get stops k ≡ Some stop → slice_get (times_from s c p stops) k ≡ Some entry → IsEntryFrom s c p stops k stop entry
+entry_from : (s : Snapshot) (c : ℕ) (p : Progress) (stops : List Stop) (k : ℕ) (stop : Stop) (entry : Times) → slice_get stops k ≡ Some stop
+    → slice_get (times_from s c p stops) k ≡ Some entry → IsEntryFrom s c p stops k stop entry
 entry_from s c p [] k stop entry h e = absurd (none≢some h)
 entry_from s c p (first ∷ stops) zero stop entry h e =
     let next = make_stop s c p first in
@@ -53,5 +57,6 @@ entry_count s c p (stop ∷ stops) = let rest = entry_count s c (make_stop s c p
 pub timeline_tells : (s : Snapshot) (c : ℕ) (tour : List Stop) → TellsEachStop s c tour (timeline_of s c tour)
 timeline_tells s c tour = record {
   count = entry_count s c (start_of s c) tour;
-  each = λ k stop entry h e. let here = entry_from s c (start_of s c) tour k stop entry h e in record { arrival = here.arrival; opened = here.opened; leaves = here.leaves };
+  each = λ k stop entry h e. let here = entry_from s c (start_of s c) tour k stop entry h e in
+      record { arrival = here.arrival; opened = here.opened; leaves = here.leaves };
 }

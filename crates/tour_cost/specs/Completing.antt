@@ -14,7 +14,8 @@ with_calls_of taken tour j = taken j || is_boarded_in tour j
 -- them.
 abbrev pub Completes : Snapshot → (taken : ℕ → Bool) → ℕ → List (List Stop) → Type 0
 Completes s taken c [] = (c ≡ car_count s) × ((j : ℕ) → j < call_count s → taken j ≡ true)
-Completes s taken c (tour ∷ rest) = IsFeasible s c tour × ((j : ℕ) → is_boarded_in tour j ≡ true → taken j ≡ false) × Completes s (with_calls_of taken tour) (c + 1) rest
+Completes s taken c (tour ∷ rest) = IsFeasible s c tour × ((j : ℕ) → is_boarded_in tour j ≡ true → taken j ≡ false)
+    × Completes s (with_calls_of taken tour) (c + 1) rest
 
 abbrev pub rest_cost : Snapshot → ℕ → List (List Stop) → ℕ
 rest_cost s c [] = 0

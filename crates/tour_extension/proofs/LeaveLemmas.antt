@@ -1,6 +1,7 @@
 -- No tour of a node goes on with a useless leave, and the sets tell which leaves are useless.
 use Rattle.std.proofs.Common.{◌≡◌, ℕ, ◌<◌, ◌^◌, ◌∷◌, [], List, Bool, true, false, not, ◌&&◌, ◌||◌, ◌⊎◌, inl, inr, eqb, ltb, refl, sym, ap, ◌∙◌, subst, Some}
-use Rattle.std.proofs.lemmas.Bool.{and_parts, and_from, and_left, and_right, both_ways, cases_Bool, cases_lt, eq-eqb, eqb-true, false≢true, false_from_ne_true, lt-ltb, ltb-true, not_from_false, or_cases, or_left}
+use Rattle.std.proofs.lemmas.Bool.{and_parts, and_from, and_left, and_right, both_ways, cases_Bool, cases_lt, eq-eqb, eqb-true, false≢true, false_from_ne_true}
+use Rattle.std.proofs.lemmas.Bool.{lt-ltb, ltb-true, not_from_false, or_cases, or_left}
 use Rattle.call_sets.specs.Counting.{has, any_below, is_among, members}
 use Rattle.call_sets.proofs.Bits.{has_none_above}
 use Rattle.call_sets.proofs.BelowTests.{any_below-at, any_below-none, any_below-same}
@@ -83,10 +84,14 @@ for_nobody s c x allowed g h =
     let first = and_parts (reached s c x).begun (not off) both.0 in
     record { begun = first.0; nobody_off = not_true off first.1; nobody_on = not_true on both.1 }
 
-nobody_shut : (s : Snapshot) (c : ℕ) (allowed required : ℕ → Bool) (x y : Course) (g : ℕ) → is_for_nobody s c x allowed g ≡ true → move_on s c x (Leave g) ≡ Some y → can_be_extended s c allowed required y ≡ false
+nobody_shut : (s : Snapshot) (c : ℕ) (allowed required : ℕ → Bool) (x y : Course) (g : ℕ) → is_for_nobody s c x allowed g ≡ true
+    → move_on s c x (Leave g) ≡ Some y → can_be_extended s c allowed required y ≡ false
 nobody_shut s c allowed required x y g empty moved =
     let led = leave_leads_to s c x g y moved in
-    subst (λ (z : Course). can_be_extended s c allowed required z ≡ false) (sym led.2) (last_fails (is_one_way s p) (none_left s required q p) (none_skipped s required p stop) (all_fit s c required p stop) (has_use s c allowed required q p stop) (use_is_false (breaks s c none_taken q stop UselessStop) (any_below (call_count s) (gives_use s c allowed required q p)) useless no_use))
+    subst (λ (z : Course). can_be_extended s c allowed required z ≡ false) (sym led.2)
+    (last_fails (is_one_way s p) (none_left s required q p) (none_skipped s required p stop) (all_fit s c required p stop)
+    (has_use s c allowed required q p stop)
+    (use_is_false (breaks s c none_taken q stop UselessStop) (any_below (call_count s) (gives_use s c allowed required q p)) useless no_use))
   where
     nobody : IsForNobody s c x allowed g
     nobody = for_nobody s c x allowed g empty
@@ -104,7 +109,9 @@ nobody_shut s c allowed required x y g empty moved =
     none_on = any_below-none (call_count s) (boards_at s stop) (λ k lt. no_boards s g k)
 
     useless : breaks s c none_taken q stop UselessStop ≡ true
-    useless = all_three (q.begun || is_idle (state_of s c)) (not (any_below (rider_count s) (gets_off s q g))) (not (any_below (call_count s) (boards_at s stop))) (or_left q.begun (is_idle (state_of s c)) nobody.begun) (not_from_false _ nobody.nobody_off) (not_from_false _ none_on)
+    useless = all_three (q.begun || is_idle (state_of s c)) (not (any_below (rider_count s) (gets_off s q g)))
+        (not (any_below (call_count s) (boards_at s stop))) (or_left q.begun (is_idle (state_of s c)) nobody.begun) (not_from_false _ nobody.nobody_off)
+        (not_from_false _ none_on)
 
     no_use : any_below (call_count s) (gives_use s c allowed required q p) ≡ false
     no_use = any_below-none (call_count s) (gives_use s c allowed required q p) (λ j lt. false_from_ne_true _ (λ e. board j lt e))
@@ -114,10 +121,13 @@ nobody_shut s c allowed required x y g empty moved =
             let f = four_of (allowed j) (not (p.boarded j)) (eqb (call_of s j).origin p.floor) (not (overtakes s q j)) _ _ _ e in
             let fresh = not_or (q.boarded j) (boards_at s stop j) f.waits in
             let starts = and_from (ltb j (call_count s)) (eqb (call_of s j).origin g) (lt-ltb j (call_count s) lt) f.here in
-            both_ways _ nobody.nobody_on (any_below-at (call_count s) (may_board_at s c x allowed g) j lt (all_four (allowed j) (starts_at s g j) (not (q.boarded j)) (not (overtakes s q j)) f.allowed starts fresh.0 f.kept))
+            both_ways _ nobody.nobody_on
+            (any_below-at (call_count s) (may_board_at s c x allowed g) j lt
+            (all_four (allowed j) (starts_at s g j) (not (q.boarded j)) (not (overtakes s q j)) f.allowed starts fresh.0 f.kept))
 
 -- No tour of the node goes on with a useless leave.
-pub useless_shut : (s : Snapshot) (c : ℕ) (allowed required : ℕ → Bool) (x y : Course) (m : Move) → move_on s c x m ≡ Some y → is_useless s c x allowed m ≡ true → can_be_extended s c allowed required y ≡ false
+pub useless_shut : (s : Snapshot) (c : ℕ) (allowed required : ℕ → Bool) (x y : Course) (m : Move) → move_on s c x m ≡ Some y
+    → is_useless s c x allowed m ≡ true → can_be_extended s c allowed required y ≡ false
 useless_shut s c allowed required x y (Board j) moved h = absurd (false≢true h)
 useless_shut s c allowed required x y (Leave g) moved h = nobody_shut s c allowed required x y g h moved
 useless_shut s c allowed required x y End moved h = absurd (false≢true h)
@@ -133,11 +143,16 @@ abbrev pub any_from : Snapshot → (set g : ℕ) → Bool
 any_from s set g = any_below (call_count s) (λ j. has set j && starts_at s g j)
 
 -- the test of a floor by sets is that by calls
-pub any_from_told : (s : Snapshot) (set starting both g : ℕ) (any : Bool) → ((j : ℕ) → has starting j ≡ starts_at s g j) → ((j : ℕ) → has both j ≡ (has set j && has starting j)) → TellsAny both any → any ≡ any_from s set g
+pub any_from_told : (s : Snapshot) (set starting both g : ℕ) (any : Bool) → ((j : ℕ) → has starting j ≡ starts_at s g j)
+    → ((j : ℕ) → has both j ≡ (has set j && has starting j)) → TellsAny both any → any ≡ any_from s set g
 any_from_told s set starting both g any start told tells =
-    tells (call_count s) (λ j e. ltb-true j (call_count s) (and_parts (ltb j (call_count s)) _ (sym (start j) ∙ (and_parts (has set j) (has starting j) (sym (told j) ∙ e)).1)).0) ∙ any_below-same (call_count s) (has both) (λ j. has set j && starts_at s g j) (λ j lt. told j ∙ ap (λ (b : Bool). has set j && b) (start j))
+    tells (call_count s)
+    (λ j e. ltb-true j (call_count s)
+    (and_parts (ltb j (call_count s)) _ (sym (start j) ∙ (and_parts (has set j) (has starting j) (sym (told j) ∙ e)).1)).0)
+    ∙ any_below-same (call_count s) (has both) (λ j. has set j && starts_at s g j) (λ j lt. told j ∙ ap (λ (b : Bool). has set j && b) (start j))
 
-board_shape : (call old late passed may here : Bool) → (may ≡ true → call ≡ true) → ((((((call && not old) && not late) && not passed) && may) && here) ≡ (((may && here) && not old) && not (late || passed)))
+board_shape : (call old late passed may here : Bool) → (may ≡ true → call ≡ true)
+    → ((((((call && not old) && not late) && not passed) && may) && here) ≡ (((may && here) && not old) && not (late || passed)))
 board_shape call old late passed false here h = ap (λ (b : Bool). b && here) (and_right (((call && not old) && not late) && not passed) false refl)
 board_shape false old late passed true here h = absurd (false≢true (h refl))
 board_shape true true late passed true true h = refl
@@ -149,7 +164,9 @@ board_shape true false false true true false h = refl
 board_shape true false false false true true h = refl
 board_shape true false false false true false h = refl
 
-board_told : (s : Snapshot) (c : ℕ) (allowed required : ℕ → Bool) (point : Point) (x : Course) (set g j : ℕ) → IsDemand s c allowed required → TracksCourse s c point x → x.ended ≡ false → AreWaitingLater point allowed set → j < call_count s → (has set j && starts_at s g j) ≡ may_board_at s c x allowed g j
+board_told : (s : Snapshot) (c : ℕ) (allowed required : ℕ → Bool) (point : Point) (x : Course) (set g j : ℕ) → IsDemand s c allowed required
+    → TracksCourse s c point x → x.ended ≡ false → AreWaitingLater point allowed set → j < call_count s
+    → (has set j && starts_at s g j) ≡ may_board_at s c x allowed g j
 board_told s c allowed required point x set g j demands tracks runs told lt =
     let goes = tracks.goes_on runs in
     let old = (reached s c x).boarded j in
@@ -161,12 +178,17 @@ board_told s c allowed required point x set g j demands tracks runs told lt =
     ap (λ (b : Bool). b && starts_at s g j) (told j) ∙ waits ∙ passed ∙ shape ∙ overtaken
 
 -- what the sets tell of a floor where the car has stopped before
-nobody_told : (s : Snapshot) (c : ℕ) (allowed required : ℕ → Bool) (point : Point) (x : Course) (set g : ℕ) → IsDemand s c allowed required → TracksCourse s c point x → x.ended ≡ false → point.place.begun ≡ true → AreWaitingLater point allowed set → (not (has point.bound_for g) && not (any_from s set g)) ≡ is_for_nobody s c x allowed g
+nobody_told : (s : Snapshot) (c : ℕ) (allowed required : ℕ → Bool) (point : Point) (x : Course) (set g : ℕ) → IsDemand s c allowed required
+    → TracksCourse s c point x → x.ended ≡ false → point.place.begun ≡ true → AreWaitingLater point allowed set
+    → (not (has point.bound_for g) && not (any_from s set g)) ≡ is_for_nobody s c x allowed g
 nobody_told s c allowed required point x set g demands tracks runs begun told =
     let off = any_goes_to s (reached s c x) g in
     let on = any_below (call_count s) (may_board_at s c x allowed g) in
     let started : (reached s c x).begun ≡ true = sym tracks.place.begun ∙ begun in
-    ap (λ (b : Bool). not b && not (any_from s set g)) (tracks.bound_for g) ∙ ap (λ (b : Bool). not off && not b) (any_below-same (call_count s) (λ j. has set j && starts_at s g j) (may_board_at s c x allowed g) (λ j lt. board_told s c allowed required point x set g j demands tracks runs told lt)) ∙ sym (ap (λ (b : Bool). b && not off && not on) started)
+    ap (λ (b : Bool). not b && not (any_from s set g)) (tracks.bound_for g)
+    ∙ ap (λ (b : Bool). not off && not b)
+    (any_below-same (call_count s) (λ j. has set j && starts_at s g j) (may_board_at s c x allowed g)
+    (λ j lt. board_told s c allowed required point x set g j demands tracks runs told lt)) ∙ sym (ap (λ (b : Bool). b && not off && not on) started)
 
 leave_shape : (may out any : Bool) → (may && not ((may && not out) && not any)) ≡ (may && not (not out && not any))
 leave_shape true out any = refl
@@ -176,7 +198,11 @@ no_leave : (may gone : Bool) → may ≡ false → (may && not gone) ≡ false
 no_leave may gone e = and_left may (not gone) e
 
 -- The leaves that are left out by the sets are the useless ones.
-pub useful_told : (s : Snapshot) (c : ℕ) (allowed required : ℕ → Bool) (point : Point) (x : Course) (waiting floors useless : ℕ) (old new : Followers) → IsDemand s c allowed required → TracksCourse s c point x → point.place.begun ≡ true → AreFollowers s c x allowed old → AreWaitingLater point allowed waiting → ((g : ℕ) → has floors g ≡ (has old.leaves g && not (has point.bound_for g))) → ((g : ℕ) → has useless g ≡ (has floors g && not (any_from s waiting g))) → new.boards ≡ old.boards → ((g : ℕ) → has new.leaves g ≡ (has old.leaves g && not (has useless g))) → new.ends ≡ old.ends → AreUseful s c x allowed new
+pub useful_told : (s : Snapshot) (c : ℕ) (allowed required : ℕ → Bool) (point : Point) (x : Course) (waiting floors useless : ℕ) (old new : Followers)
+    → IsDemand s c allowed required → TracksCourse s c point x → point.place.begun ≡ true → AreFollowers s c x allowed old
+    → AreWaitingLater point allowed waiting → ((g : ℕ) → has floors g ≡ (has old.leaves g && not (has point.bound_for g)))
+    → ((g : ℕ) → has useless g ≡ (has floors g && not (any_from s waiting g))) → new.boards ≡ old.boards
+    → ((g : ℕ) → has new.leaves g ≡ (has old.leaves g && not (has useless g))) → new.ends ≡ old.ends → AreUseful s c x allowed new
 useful_told s c allowed required point x waiting floors useless old new demands tracks begun are told floors_are useless_are boards leaves ends = record {
   boards = λ j. ap (λ (set : ℕ). has set j) boards ∙ are.boards j ∙ and_true (may_be_next s c x allowed (Board j));
   leaves = λ g. elim (cases_Bool x.ended) [ inl over ↦ ended g over | inr runs ↦ left_out g runs ];
@@ -189,22 +215,29 @@ useful_told s c allowed required point x waiting floors useless old new demands 
     by_sets g =
         let may = has old.leaves g in
         let none = not (any_from s waiting g) in
-        leaves g ∙ ap (λ (b : Bool). may && not b) (useless_are g ∙ ap (λ (b : Bool). b && none) (floors_are g)) ∙ leave_shape may (has point.bound_for g) (any_from s waiting g) ∙ ap (λ (b : Bool). b && not (not (has point.bound_for g) && none)) (are.leaves g)
+        leaves g ∙ ap (λ (b : Bool). may && not b) (useless_are g ∙ ap (λ (b : Bool). b && none) (floors_are g))
+        ∙ leave_shape may (has point.bound_for g) (any_from s waiting g) ∙ ap (λ (b : Bool). b && not (not (has point.bound_for g) && none)) (are.leaves g)
 
     left_out : (g : ℕ) → x.ended ≡ false → has new.leaves g ≡ (may_be_next s c x allowed (Leave g) && not (is_for_nobody s c x allowed g))
     left_out g runs =
-        by_sets g ∙ ap (λ (b : Bool). may_be_next s c x allowed (Leave g) && not b) (nobody_told s c allowed required point x waiting g demands tracks runs begun told)
+        by_sets g ∙ ap (λ (b : Bool). may_be_next s c x allowed (Leave g) && not b)
+        (nobody_told s c allowed required point x waiting g demands tracks runs begun told)
 
     ended : (g : ℕ) → x.ended ≡ true → has new.leaves g ≡ (may_be_next s c x allowed (Leave g) && not (is_for_nobody s c x allowed g))
     ended g over =
         let none = ended_board s c x (Leave g) over in
-        by_sets g ∙ no_leave (may_be_next s c x allowed (Leave g)) _ none ∙ sym (no_leave (may_be_next s c x allowed (Leave g)) (is_for_nobody s c x allowed g) none)
+        by_sets g ∙ no_leave (may_be_next s c x allowed (Leave g)) _ none
+        ∙ sym (no_leave (may_be_next s c x allowed (Leave g)) (is_for_nobody s c x allowed g) none)
 
 -- Before the first stop no leave is useless.
-pub useful_before : (s : Snapshot) (c : ℕ) (allowed : ℕ → Bool) (point : Point) (x : Course) (next : Followers) → TracksCourse s c point x → point.place.begun ≡ false → AreFollowers s c x allowed next → AreUseful s c x allowed next
+pub useful_before : (s : Snapshot) (c : ℕ) (allowed : ℕ → Bool) (point : Point) (x : Course) (next : Followers) → TracksCourse s c point x
+    → point.place.begun ≡ false → AreFollowers s c x allowed next → AreUseful s c x allowed next
 useful_before s c allowed point x next tracks begun are = record {
   boards = λ j. are.boards j ∙ and_true (may_be_next s c x allowed (Board j));
-  leaves = λ g. are.leaves g ∙ and_true (may_be_next s c x allowed (Leave g)) ∙ ap (λ (b : Bool). may_be_next s c x allowed (Leave g) && not (b && not (any_goes_to s (reached s c x) g) && not (any_below (call_count s) (may_board_at s c x allowed g)))) (sym (sym tracks.place.begun ∙ begun));
+  leaves = λ g. are.leaves g ∙ and_true (may_be_next s c x allowed (Leave g))
+      ∙ ap (λ (b : Bool). may_be_next s c x allowed (Leave g)
+      && not (b && not (any_goes_to s (reached s c x) g) && not (any_below (call_count s) (may_board_at s c x allowed g))))
+      (sym (sym tracks.place.begun ∙ begun));
   ends = are.ends ∙ and_true (may_be_next s c x allowed End);
   calls = λ j h. are.calls j (and_parts (may_be_next s c x allowed (Board j)) _ h).0;
   floors = λ g h. are.floors g (and_parts (may_be_next s c x allowed (Leave g)) _ h).0;
@@ -236,12 +269,21 @@ first_below floors rest one test left later before is =
     h.below.0
 
 -- the first floor that is left passes the test, and is dropped
-pub one_dropped : (floors rest new one : ℕ) (test : ℕ → Bool) (left later : List ℕ) → AreSifted floors rest test left → left ≡ one ∷ later → test one ≡ true → ((g : ℕ) → has new g ≡ (has rest g && not (eqb g one))) → AreSifted floors new test later
+pub one_dropped : (floors rest new one : ℕ) (test : ℕ → Bool) (left later : List ℕ) → AreSifted floors rest test left → left ≡ one ∷ later → test one ≡ true
+    → ((g : ℕ) → has new g ≡ (has rest g && not (eqb g one))) → AreSifted floors new test later
 one_dropped floors rest new one test left later before is passes told = record {
   below = h.below.1;
   within = λ g e. h.within g (on g e).0;
-  stays = λ g e f. told g ∙ and_from (has rest g) _ (h.stays g e f) (not_from_false _ (false_from_ne_true (eqb g one) (λ same. both_ways (test g) f (ap test (eqb-true g one same) ∙ passes))));
-  sifted = λ g e. elim (h.sifted g (on g e).0) [ inl k ↦ elim (or_cases (eqb one g) (is_among g later) k) [ inl same ↦ absurd (both_ways (not (eqb g one)) (ap not (eq-eqb g one (sym (eqb-true one g same)))) (on g e).1) | inr there ↦ inl there ] | inr f ↦ inr f ];
+  stays = λ g e f. told g
+      ∙ and_from (has rest g) _ (h.stays g e f)
+      (not_from_false _ (false_from_ne_true (eqb g one) (λ same. both_ways (test g) f (ap test (eqb-true g one same) ∙ passes))));
+  sifted = λ g e. elim (h.sifted g (on g e).0) [
+    | inl k ↦ elim (or_cases (eqb one g) (is_among g later) k) [
+      | inl same ↦ absurd (both_ways (not (eqb g one)) (ap not (eq-eqb g one (sym (eqb-true one g same)))) (on g e).1)
+      | inr there ↦ inl there
+    ]
+    | inr f ↦ inr f
+  ];
 }
   where
     h : AreSifted floors rest test (one ∷ later)
@@ -251,19 +293,24 @@ one_dropped floors rest new one test left later before is passes told = record {
     on g e = and_parts (has rest g) (not (eqb g one)) (sym (told g) ∙ e)
 
 -- it fails the test, and stays
-pub one_stays : (floors rest one : ℕ) (test : ℕ → Bool) (left later : List ℕ) → AreSifted floors rest test left → left ≡ one ∷ later → test one ≡ false → AreSifted floors rest test later
+pub one_stays : (floors rest one : ℕ) (test : ℕ → Bool) (left later : List ℕ) → AreSifted floors rest test left → left ≡ one ∷ later → test one ≡ false
+    → AreSifted floors rest test later
 one_stays floors rest one test left later before is fails = record {
   below = h.below.1;
   within = h.within;
   stays = h.stays;
-  sifted = λ g e. elim (h.sifted g e) [ inl k ↦ elim (or_cases (eqb one g) (is_among g later) k) [ inl same ↦ inr (ap test (sym (eqb-true one g same)) ∙ fails) | inr there ↦ inl there ] | inr f ↦ inr f ];
+  sifted = λ g e. elim (h.sifted g e) [
+    | inl k ↦ elim (or_cases (eqb one g) (is_among g later) k) [ inl same ↦ inr (ap test (sym (eqb-true one g same)) ∙ fails) | inr there ↦ inl there ]
+    | inr f ↦ inr f
+  ];
 }
   where
     h : AreSifted floors rest test (one ∷ later)
     h = subst (AreSifted floors rest test) is before
 
 -- none is left to look at
-pub all_dropped : (floors rest : ℕ) (test : ℕ → Bool) (left : List ℕ) → AreSifted floors rest test left → left ≡ [] → (g : ℕ) → has rest g ≡ (has floors g && not (test g))
+pub all_dropped : (floors rest : ℕ) (test : ℕ → Bool) (left : List ℕ) → AreSifted floors rest test left → left ≡ [] → (g : ℕ)
+    → has rest g ≡ (has floors g && not (test g))
 all_dropped floors rest test left before is g = same_bool (has rest g) _ to from
   where
     h : AreSifted floors rest test []

@@ -15,11 +15,20 @@ use Rattle.tour_extension.specs.Demands.{NodeLaw}
 
 root_possible : (s : Snapshot) (j c : ℕ) → has (set_of (root_of s) j) c ≡ true → is_call_for s c j ≡ true
 root_possible s j c h =
-    elim (cases_lt j (call_count s)) [ inl lt ↦ and_from (ltb j (call_count s)) _ (lt-ltb j (call_count s) lt) (of_set (sym (ap (λ (x : ℕ). has x c) (set_of-root s j lt)) ∙ h)) | inr past ↦ absurd (both_ways _ (ap (λ (x : ℕ). has x c) (get_or_past (root_of s) j 0 (subst (λ (n : ℕ). n ≤ j) (sym (length-root_of s)) past)) ∙ has_zero c) h) ]
+    elim (cases_lt j (call_count s)) [
+      | inl lt ↦ and_from (ltb j (call_count s)) _ (lt-ltb j (call_count s) lt) (of_set (sym (ap (λ (x : ℕ). has x c) (set_of-root s j lt)) ∙ h))
+      | inr past ↦ absurd
+          (both_ways _ (ap (λ (x : ℕ). has x c) (get_or_past (root_of s) j 0 (subst (λ (n : ℕ). n ≤ j) (sym (length-root_of s)) past)) ∙ has_zero c) h)
+    ]
   where
     of_set : has (set_where (car_count s) (λ d. is_possible s d (call_of s j))) c ≡ true → is_possible s c (call_of s j) ≡ true
     of_set e =
-        elim (cases_lt c (car_count s)) [ inl lt ↦ sym (has-set_where (car_count s) (λ d. is_possible s d (call_of s j)) c lt) ∙ e | inr past ↦ absurd (both_ways _ (has_none_above (car_count s) (set_where (car_count s) (λ d. is_possible s d (call_of s j))) c (set_where-below (car_count s) (λ d. is_possible s d (call_of s j))) past) e) ]
+        elim (cases_lt c (car_count s)) [
+          | inl lt ↦ sym (has-set_where (car_count s) (λ d. is_possible s d (call_of s j)) c lt) ∙ e
+          | inr past ↦ absurd
+              (both_ways _ (has_none_above (car_count s) (set_where (car_count s) (λ d. is_possible s d (call_of s j))) c
+              (set_where-below (car_count s) (λ d. is_possible s d (call_of s j))) past) e)
+        ]
 
 pub node_holds : NodeLaw
 node_holds s node c is = record {

@@ -9,7 +9,8 @@ use Rattle.partial_tours.specs.declared.points.Point.{Point}
 use Rattle.partial_tours.specs.Courses.{TracksCourse, GoesOn, Stands, reached, boards_of, is_passed, may_leave, any_goes_to}
 use Rattle.tour_extension.specs.Points.{IsAtStop, StandsFor}
 
-at_stop : (s : Snapshot) (c : ℕ) (point : Point) (x : Course) (stop : Stop) → TracksCourse s c point x → GoesOn s c point x → x.present ≡ Some stop → IsAtStop s c point x.before stop
+at_stop : (s : Snapshot) (c : ℕ) (point : Point) (x : Course) (stop : Stop) → TracksCourse s c point x → GoesOn s c point x → x.present ≡ Some stop
+    → IsAtStop s c point x.before stop
 at_stop s c point x stop tracks goes at =
     let here : reached s c x ≡ make_stop s c x.before stop = ap (progress_after s c x.before) at in
     record {

@@ -17,7 +17,8 @@ one_either true true v x h = omega arith
 one_either true false true x h = omega arith
 one_either true false false x h = absurd (false≢true (h refl))
 
-pub sum_either : (n : ℕ) (t u v : ℕ → Bool) (f : ℕ → ℕ) → ((k : ℕ) → k < n → t k ≡ true → (u k || v k) ≡ true) → sum_where n t f ≤ sum_where n u f + sum_where n v f
+pub sum_either : (n : ℕ) (t u v : ℕ → Bool) (f : ℕ → ℕ) → ((k : ℕ) → k < n → t k ≡ true → (u k || v k) ≡ true)
+    → sum_where n t f ≤ sum_where n u f + sum_where n v f
 sum_either zero t u v f h = omega arith
 sum_either (suc n) t u v f h =
     let a = sum_either n t u v f (λ k b. h k (omega arith)) in let b = one_either (t n) (u n) (v n) (f n) (h n (omega arith)) in omega arith
@@ -30,7 +31,8 @@ one_both false true v x h k n = absurd (false≢true (h refl))
 one_both false false true x h k n = absurd (false≢true (k refl))
 one_both true true true x h k n = absurd (n refl refl)
 
-pub sum_both : (n : ℕ) (t u v : ℕ → Bool) (f : ℕ → ℕ) → ((k : ℕ) → k < n → u k ≡ true → t k ≡ true) → ((k : ℕ) → k < n → v k ≡ true → t k ≡ true) → ((k : ℕ) → k < n → u k ≡ true → v k ≡ true → ⊥) → sum_where n u f + sum_where n v f ≤ sum_where n t f
+pub sum_both : (n : ℕ) (t u v : ℕ → Bool) (f : ℕ → ℕ) → ((k : ℕ) → k < n → u k ≡ true → t k ≡ true) → ((k : ℕ) → k < n → v k ≡ true → t k ≡ true)
+    → ((k : ℕ) → k < n → u k ≡ true → v k ≡ true → ⊥) → sum_where n u f + sum_where n v f ≤ sum_where n t f
 sum_both zero t u v f h k m = omega arith
 sum_both (suc n) t u v f h k m =
     let a = sum_both n t u v f (λ i b. h i (omega arith)) (λ i b. k i (omega arith)) (λ i b. m i (omega arith)) in
@@ -46,7 +48,8 @@ one_joined true false false x e n = absurd (true≢false e)
 one_joined false true false x e n = absurd (false≢true e)
 one_joined false false true x e n = absurd (false≢true e)
 
-pub sum_joined : (n : ℕ) (t u v : ℕ → Bool) (f : ℕ → ℕ) → ((k : ℕ) → k < n → t k ≡ (u k || v k)) → ((k : ℕ) → k < n → (u k && v k) ≡ false) → sum_where n t f ≡ sum_where n u f + sum_where n v f
+pub sum_joined : (n : ℕ) (t u v : ℕ → Bool) (f : ℕ → ℕ) → ((k : ℕ) → k < n → t k ≡ (u k || v k)) → ((k : ℕ) → k < n → (u k && v k) ≡ false)
+    → sum_where n t f ≡ sum_where n u f + sum_where n v f
 sum_joined zero t u v f h m = refl
 sum_joined (suc n) t u v f h m =
     let a = sum_joined n t u v f (λ k b. h k (omega arith)) (λ k b. m k (omega arith)) in

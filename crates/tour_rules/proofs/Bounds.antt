@@ -39,17 +39,26 @@ ride-le b boarded delivered built h =
 
 pub persons-le : (s : Snapshot) (r : ℕ) → IsAccepted s → r < rider_count s → persons_of s r ≤ 8
 persons-le s r a b =
-    elim (cases_Bool (ltb r (call_count s))) [ inl e ↦ (let same = ap (λ (x : Bool). cond x (call_of s r).persons (group_of s (r - call_count s)).persons) e in let high = (a.calls r (ltb-true r (call_count s) e)).persons_high in omega (arith, same, high)) | inr e ↦ (let same = ap (λ (x : Bool). cond x (call_of s r).persons (group_of s (r - call_count s)).persons) e in let above = ltb-false r (call_count s) e in let high = (a.groups (r - call_count s) (omega (arith, above))).persons_high in omega (arith, same, high)) ]
+    elim (cases_Bool (ltb r (call_count s))) [
+      | inl e ↦ (let same = ap (λ (x : Bool). cond x (call_of s r).persons (group_of s (r - call_count s)).persons) e in
+          let high = (a.calls r (ltb-true r (call_count s) e)).persons_high in omega (arith, same, high))
+      | inr e ↦ (let same = ap (λ (x : Bool). cond x (call_of s r).persons (group_of s (r - call_count s)).persons) e in
+          let above = ltb-false r (call_count s) e in let high = (a.groups (r - call_count s) (omega (arith, above))).persons_high in omega (arith, same, high))
+    ]
 
 wait_or_nothing : (t : Bool) (x most : ℕ) → x ≤ most → cond t x 0 ≤ most
 wait_or_nothing true x most h = h
 wait_or_nothing false x most h = omega arith
 
-pub rider-le : (s : Snapshot) (r boarded delivered : ℕ) → IsAccepted s → r < rider_count s → boarded ≤ 100000000000 → delivered ≤ 100000000000 → cost_of_rider s r boarded delivered ≤ 2400000000000000
+pub rider-le : (s : Snapshot) (r boarded delivered : ℕ) → IsAccepted s → r < rider_count s → boarded ≤ 100000000000 → delivered ≤ 100000000000
+    → cost_of_rider s r boarded delivered ≤ 2400000000000000
 rider-le s r boarded delivered a b hb hd =
-    let waits = wait_or_nothing (ltb r (call_count s)) (cost_of_wait s.building (boarded - (call_of s r).released)) 200000000000000 (cost_of_wait-le s.building (boarded - (call_of s r).released) a.building (omega arith)) in
+    let waits = wait_or_nothing (ltb r (call_count s)) (cost_of_wait s.building (boarded - (call_of s r).released)) 200000000000000
+    (cost_of_wait-le s.building (boarded - (call_of s r).released) a.building (omega arith)) in
     let rides = ride-le s.building boarded delivered a.building hd in
-    let each = shared (persons_of s r) (cond (ltb r (call_count s)) (cost_of_wait s.building (boarded - (call_of s r).released)) 0 + s.building.travel_weight * (delivered - boarded)) 300000000000000 (persons-le s r a b) (omega (arith, waits, rides)) in
+    let each = shared (persons_of s r)
+    (cond (ltb r (call_count s)) (cost_of_wait s.building (boarded - (call_of s r).released)) 0 + s.building.travel_weight * (delivered - boarded))
+    300000000000000 (persons-le s r a b) (omega (arith, waits, rides)) in
     omega (arith, each)
 
 -- those who may ride with the car: the calls, and its groups
@@ -58,8 +67,11 @@ may_ride s c r = ltb r (call_count s) || is_aboard s c r
 
 may_ride-count : (s : Snapshot) (c : ℕ) → IsAccepted s → c < car_count s → sum_where (rider_count s) (may_ride s c) (λ _. 1) ≤ 192
 may_ride-count s c a b =
-    let all = sum_riders s (may_ride s c) (λ _. 1) (λ _. true) (λ k. eqb (group_of s k).car c) (λ _. 1) (λ _. 1) (λ j d. or_left (ltb j (call_count s)) (is_aboard s c j) (is_call s j d)) (λ j d e. refl) (λ k d. ap (λ (x : Bool). x || is_aboard s c (call_count s + k)) (is_no_call s k) ∙ is_aboard-group s c k d) (λ k d. refl) in
-    let groups = sum_riders s (is_aboard s c) (λ _. 1) (λ _. false) (λ k. eqb (group_of s k).car c) (λ _. 1) (λ _. 1) (is_aboard-call s c) (λ j d e. refl) (is_aboard-group s c) (λ k d. refl) in
+    let all = sum_riders s (may_ride s c) (λ _. 1) (λ _. true) (λ k. eqb (group_of s k).car c) (λ _. 1) (λ _. 1)
+    (λ j d. or_left (ltb j (call_count s)) (is_aboard s c j) (is_call s j d)) (λ j d e. refl)
+    (λ k d. ap (λ (x : Bool). x || is_aboard s c (call_count s + k)) (is_no_call s k) ∙ is_aboard-group s c k d) (λ k d. refl) in
+    let groups = sum_riders s (is_aboard s c) (λ _. 1) (λ _. false) (λ k. eqb (group_of s k).car c) (λ _. 1) (λ _. 1) (is_aboard-call s c) (λ j d e. refl)
+    (is_aboard-group s c) (λ k d. refl) in
     let few_groups = groups_few s c a b in
     let few = count-le (call_count s) (λ _. true) in
     let calls = most_calls_few s a in
@@ -67,12 +79,17 @@ may_ride-count s c a b =
 
 pub settled-le : (s : Snapshot) (c : ℕ) (p : Progress) → IsAccepted s → c < car_count s → IsKept s c p → AreEarly s p → settled_cost s c p ≤ 460800000000000000
 settled-le s c p a b kept early =
-    let each = sum_where-times (rider_count s) (is_delivered s c p) (may_ride s c) (λ r. cost_of_rider s r (p.boarded_at r) (p.delivered_at r)) (λ _. 1) 2400000000000000 (λ r d e. rode r (and_parts (p.boarded r || is_aboard s c r) (not (p.carried r)) e).0) (λ r d e. let one = rider-le s r (p.boarded_at r) (p.delivered_at r) a d (early.boarded r d) (early.delivered r) in omega (arith, one)) in
+    let each = sum_where-times (rider_count s) (is_delivered s c p) (may_ride s c) (λ r. cost_of_rider s r (p.boarded_at r) (p.delivered_at r))
+    (λ _. 1) 2400000000000000 (λ r d e. rode r (and_parts (p.boarded r || is_aboard s c r) (not (p.carried r)) e).0)
+    (λ r d e. let one = rider-le s r (p.boarded_at r) (p.delivered_at r) a d (early.boarded r d) (early.delivered r) in omega (arith, one)) in
     let few = may_ride-count s c a b in
     omega (arith, each, few)
   where
     rode : (r : ℕ) → (p.boarded r || is_aboard s c r) ≡ true → may_ride s c r ≡ true
-    rode r h = elim (or_cases (p.boarded r) (is_aboard s c r) h) [ inl e ↦ or_left (ltb r (call_count s)) (is_aboard s c r) (lt-ltb r (call_count s) (kept.calls r e)) | inr e ↦ or_right (ltb r (call_count s)) (is_aboard s c r) e ]
+    rode r h = elim (or_cases (p.boarded r) (is_aboard s c r) h) [
+      | inl e ↦ or_left (ltb r (call_count s)) (is_aboard s c r) (lt-ltb r (call_count s) (kept.calls r e))
+      | inr e ↦ or_right (ltb r (call_count s)) (is_aboard s c r) e
+    ]
 
 -- ---- the moments of riders
 
@@ -88,11 +105,13 @@ group_boarded-le s k a b =
 
 pub AreEarly-start : (s : Snapshot) (c : ℕ) → IsAccepted s → AreEarly s (start_of s c)
 AreEarly-start s c a = record {
-  boarded = λ r b. cond_both (ltb r (call_count s)) 0 (group_of s (r - call_count s)).boarded (λ x. x ≤ 100000000000) (λ e. omega arith) (λ e. let above = ltb-false r (call_count s) e in group_boarded-le s (r - call_count s) a (omega (arith, above)));
+  boarded = λ r b. cond_both (ltb r (call_count s)) 0 (group_of s (r - call_count s)).boarded (λ x. x ≤ 100000000000) (λ e. omega arith)
+      (λ e. let above = ltb-false r (call_count s) e in group_boarded-le s (r - call_count s) a (omega (arith, above)));
   delivered = λ r. omega arith;
 }
 
-pub AreEarly-stop : (s : Snapshot) (c : ℕ) (p : Progress) (stop : Stop) → AreEarly s p → (make_stop s c p stop).opened ≤ 100000000000 → AreEarly s (make_stop s c p stop)
+pub AreEarly-stop : (s : Snapshot) (c : ℕ) (p : Progress) (stop : Stop) → AreEarly s p → (make_stop s c p stop).opened ≤ 100000000000
+    → AreEarly s (make_stop s c p stop)
 AreEarly-stop s c p stop early h = record {
   boarded = λ r b. either-le (boards_at s stop r) (make_stop s c p stop).opened (p.boarded_at r) 100000000000 h (early.boarded r b);
   delivered = λ r. either-le (gets_off s p stop.floor r) (make_stop s c p stop).opened (p.delivered_at r) 100000000000 h (early.delivered r);

@@ -1,6 +1,7 @@
 -- Moments stay small: each stop takes its time from what is left of a budget, which each stop still to come
 -- and each person still to get on or off has a share of.
-use Rattle.std.proofs.Common.{◌≡◌, ◌==◌, ℕ, zero, suc, ◌+◌, ◌*◌, ◌<◌, ◌≤◌, Bool, true, false, cond, not, ◌&&◌, ◌||◌, eqb, ltb, leb, length, count_by, refl, sym, arith, None}
+use Rattle.std.proofs.Common.{◌≡◌, ◌==◌, ℕ, zero, suc, ◌+◌, ◌*◌, ◌<◌, ◌≤◌, Bool, true, false, cond, not, ◌&&◌, ◌||◌, eqb, ltb, leb, length, count_by, refl, sym}
+use Rattle.std.proofs.Common.{arith, None}
 use Rattle.std.proofs.Math.Nat.{mul-le-mul_right}
 use Rattle.std.proofs.lemmas.Bool.{and_parts, and_left, false≢true, ltb-true, not_from_false, le-ltb}
 use Rattle.elevator_model.specs.declared.Stop.{Stop}
@@ -8,7 +9,8 @@ use Rattle.call_sets.specs.Counting.{sum_where, is_among}
 use Rattle.elevator_model.specs.Travel.{time_between}
 use Rattle.elevator_model.specs.Building.{floor_count}
 use Rattle.elevator_model.specs.Snapshot.{Snapshot, IsAccepted, call_count, car_count, call_of, group_of}
-use Rattle.elevator_model.specs.Tours.{Progress, rider_count, persons_of, persons_where, start_of, has_leg, arrival, make_stop, gets_off, stays_on, boards_at, breaks, broken_at, rules_of_stop, none_taken, destination_of, is_aboard}
+use Rattle.elevator_model.specs.Tours.{Progress, rider_count, persons_of, persons_where, start_of, has_leg, arrival, make_stop, gets_off, stays_on, boards_at}
+use Rattle.elevator_model.specs.Tours.{breaks, broken_at, rules_of_stop, none_taken, destination_of, is_aboard}
 use Rattle.tour_rules.specs.Measure.{stops_left}
 use Rattle.call_sets.proofs.BelowTests.{any_below-false}
 use Rattle.tour_rules.proofs.BoundedTests.{AllClear-from}
@@ -29,7 +31,8 @@ one_joined false true v x h k apart = absurd (false≢true (h refl))
 one_joined false false true x h k apart = absurd (false≢true (k refl))
 one_joined false false false x h k apart = omega arith
 
-joined : (n : ℕ) (t u v : ℕ → Bool) (f : ℕ → ℕ) → ((k : ℕ) → u k ≡ true → t k ≡ true) → ((k : ℕ) → v k ≡ true → t k ≡ true) → ((k : ℕ) → (u k && v k) ≡ false) → sum_where n u f + sum_where n v f ≤ sum_where n t f
+joined : (n : ℕ) (t u v : ℕ → Bool) (f : ℕ → ℕ) → ((k : ℕ) → u k ≡ true → t k ≡ true) → ((k : ℕ) → v k ≡ true → t k ≡ true) → ((k : ℕ) → (u k && v k) ≡ false)
+    → sum_where n u f + sum_where n v f ≤ sum_where n t f
 joined zero t u v f h k apart = omega arith
 joined (suc n) t u v f h k apart =
     let rest = joined n t u v f h k apart in
@@ -61,16 +64,26 @@ latest s p = p.leaves + 20120000 * stops_left s p + 60000 * persons_left s p
 -- the persons of the calls that board, who are among those that waited
 boarding_persons : (s : Snapshot) (st : Stop) → persons_where s (boards_at s st) ≡ sum_where (call_count s) (boards_at s st) (λ j. (call_of s j).persons)
 boarding_persons s st =
-    let all = sum_riders s (boards_at s st) (persons_of s) (boards_at s st) (λ k. false) (λ j. (call_of s j).persons) (λ k. (group_of s k).persons) (λ j lt. refl) (λ j lt h. persons_of-call s j lt) (λ k lt. and_left (ltb (call_count s + k) (call_count s)) (is_among (call_count s + k) st.boards) (le-ltb (call_count s + k) (call_count s) (omega arith))) (λ k lt. persons_of-group s k) in
+    let all = sum_riders s (boards_at s st) (persons_of s) (boards_at s st) (λ k. false) (λ j. (call_of s j).persons) (λ k. (group_of s k).persons)
+    (λ j lt. refl) (λ j lt h. persons_of-call s j lt)
+    (λ k lt. and_left (ltb (call_count s + k) (call_count s)) (is_among (call_count s + k) st.boards)
+    (le-ltb (call_count s + k) (call_count s) (omega arith))) (λ k lt. persons_of-group s k) in
     let none = sum_where-none (length s.aboard) (λ k. false) (λ k. (group_of s k).persons) (λ k lt. refl) in
     omega (arith, all, none)
 
-waited : (s : Snapshot) (c : ℕ) (p : Progress) (st : Stop) → broken_at s c none_taken p st ≡ None → persons_waiting s (make_stop s c p st) + persons_where s (boards_at s st) ≤ persons_waiting s p
+waited : (s : Snapshot) (c : ℕ) (p : Progress) (st : Stop) → broken_at s c none_taken p st ≡ None
+    → persons_waiting s (make_stop s c p st) + persons_where s (boards_at s st) ≤ persons_waiting s p
 waited s c p st ok =
     let clear = AllClear-from (breaks s c none_taken p st) rules_of_stop ok in
     let on = boarding_persons s st in
-    let fresh = λ (j : ℕ) (h : boards_at s st j ≡ true). not_from_false (p.boarded j) (fresh_board (boards_at s st j) (p.boarded j) (leb 2 (count_by (λ x. x == j) st.boards)) (any_below-false (call_count s) (λ k. boards_at s st k && ((p.boarded k || false) || leb 2 (count_by (λ x. x == k) st.boards))) j clear.1.1.1.1.1.1.1.1.0 (ltb-true j (call_count s) (and_parts (ltb j (call_count s)) (is_among j st.boards) h).0)) h) in
-    let parts = joined (call_count s) (λ j. not (p.boarded j)) (λ j. not (p.boarded j || boards_at s st j)) (boards_at s st) (λ j. (call_of s j).persons) (λ j h. waits_before (p.boarded j) (boards_at s st j) h) fresh (λ j. apart (p.boarded j) (boards_at s st j)) in
+    let fresh = λ (j : ℕ) (h : boards_at s st j ≡ true).
+    not_from_false (p.boarded j)
+    (fresh_board (boards_at s st j) (p.boarded j) (leb 2 (count_by (λ x. x == j) st.boards))
+    (any_below-false (call_count s)
+    (λ k. boards_at s st k && ((p.boarded k || false) || leb 2 (count_by (λ x. x == k) st.boards))) j clear.1.1.1.1.1.1.1.1.0
+    (ltb-true j (call_count s) (and_parts (ltb j (call_count s)) (is_among j st.boards) h).0)) h) in
+    let parts = joined (call_count s) (λ j. not (p.boarded j)) (λ j. not (p.boarded j || boards_at s st j)) (boards_at s st) (λ j. (call_of s j).persons)
+    (λ j h. waits_before (p.boarded j) (boards_at s st j) h) fresh (λ j. apart (p.boarded j) (boards_at s st j)) in
     omega (arith, on, parts)
   where
     fresh_board : (b p d : Bool) → (b && ((p || false) || d)) ≡ false → b ≡ true → p ≡ false
@@ -88,10 +101,12 @@ waited s c p st ok =
     apart false false = refl
 
 -- who is carried got on here or stays on, and who was carried stays on or gets off
-carried_on : (s : Snapshot) (c : ℕ) (p : Progress) (st : Stop) → persons_where s (make_stop s c p st).carried + persons_where s (gets_off s p st.floor) ≤ persons_where s p.carried + persons_where s (boards_at s st)
+carried_on : (s : Snapshot) (c : ℕ) (p : Progress) (st : Stop)
+    → persons_where s (make_stop s c p st).carried + persons_where s (gets_off s p st.floor) ≤ persons_where s p.carried + persons_where s (boards_at s st)
 carried_on s c p st =
     let after = split (rider_count s) (stays_on s p st.floor) (boards_at s st) (persons_of s) in
-    let before = joined (rider_count s) p.carried (stays_on s p st.floor) (gets_off s p st.floor) (persons_of s) (λ r h. (and_parts (p.carried r) _ h).0) (λ r h. (and_parts (p.carried r) _ h).0) (λ r. excludes (p.carried r) (eqb (destination_of s r) st.floor)) in
+    let before = joined (rider_count s) p.carried (stays_on s p st.floor) (gets_off s p st.floor) (persons_of s) (λ r h. (and_parts (p.carried r) _ h).0)
+    (λ r h. (and_parts (p.carried r) _ h).0) (λ r. excludes (p.carried r) (eqb (destination_of s r) st.floor)) in
     omega (arith, after, before)
   where
     excludes : (a b : Bool) → ((a && not b) && (a && b)) ≡ false
@@ -99,7 +114,8 @@ carried_on s c p st =
     excludes true false = refl
     excludes false b = refl
 
-pub arrival-le : (s : Snapshot) (c : ℕ) (p : Progress) (g : ℕ) → IsAccepted s → p.floor < floor_count s.building → g < floor_count s.building → arrival s c p g ≤ p.leaves + 20000000
+pub arrival-le : (s : Snapshot) (c : ℕ) (p : Progress) (g : ℕ) → IsAccepted s → p.floor < floor_count s.building → g < floor_count s.building
+    → arrival s c p g ≤ p.leaves + 20000000
 arrival-le s c p g a from to =
     let floors = a.building.travel_floors in
     let short = a.building.travel.bounded p.floor g (omega (arith, floors, from)) (omega (arith, floors, to)) in
@@ -109,7 +125,8 @@ arrival-le s c p g a from to =
     either true leaves time short = omega (arith, short)
     either false leaves time short = omega arith
 
-pub latest_falls : (s : Snapshot) (c : ℕ) (p : Progress) (st : Stop) → IsAccepted s → c < car_count s → p.floor < floor_count s.building → broken_at s c none_taken p st ≡ None → latest s (make_stop s c p st) ≤ latest s p
+pub latest_falls : (s : Snapshot) (c : ℕ) (p : Progress) (st : Stop) → IsAccepted s → c < car_count s → p.floor < floor_count s.building
+    → broken_at s c none_taken p st ≡ None → latest s (make_stop s c p st) ≤ latest s p
 latest_falls s c p st a lt from ok =
     let spec = a.building.cars c lt in
     let arrives = arrival-le s c p st.floor a from (fine_floor s c none_taken p st ok) in
@@ -125,9 +142,11 @@ pub latest_start : (s : Snapshot) (c : ℕ) → IsAccepted s → c < car_count s
 latest_start s c a lt early =
     let stops = stops_few s c a lt in
     let calls = most_calls_few s a in
-    let waits = sum_where-times (call_count s) (λ j. true) (λ j. true) (λ j. (call_of s j).persons) (λ _. 1) 8 (λ j below h. h) (λ j below h. let high = (a.calls j below).persons_high in omega (arith, high)) in
+    let waits = sum_where-times (call_count s) (λ j. true) (λ j. true) (λ j. (call_of s j).persons) (λ _. 1) 8 (λ j below h. h)
+    (λ j below h. let high = (a.calls j below).persons_high in omega (arith, high)) in
     let every = count-le (call_count s) (λ j. true) in
-    let rides = sum_riders s (is_aboard s c) (persons_of s) (λ j. false) (λ k. eqb (group_of s k).car c) (λ j. (call_of s j).persons) (λ k. (group_of s k).persons) (is_aboard-call s c) (λ j below h. persons_of-call s j below) (is_aboard-group s c) (λ k below. persons_of-group s k) in
+    let rides = sum_riders s (is_aboard s c) (persons_of s) (λ j. false) (λ k. eqb (group_of s k).car c) (λ j. (call_of s j).persons)
+    (λ k. (group_of s k).persons) (is_aboard-call s c) (λ j below h. persons_of-call s j below) (is_aboard-group s c) (λ k below. persons_of-group s k) in
     let none = sum_where-none (call_count s) (λ j. false) (λ j. (call_of s j).persons) (λ j below. refl) in
     let aboard = aboard-le s c a lt in
     omega (arith, stops, calls, waits, every, rides, none, aboard, early)

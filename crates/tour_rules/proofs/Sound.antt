@@ -6,7 +6,8 @@ use Rattle.elevator_model.specs.declared.Stop.{Stop}
 use Rattle.elevator_model.specs.declared.Move.{Move}
 use Rattle.elevator_model.specs.declared.Move.TheVariants.{Board, Leave, End}
 use Rattle.elevator_model.specs.Snapshot.{Snapshot}
-use Rattle.elevator_model.specs.Tours.{Progress, broken_at, broken_at_end, broken_or, first_broken_from, IsFeasible, none_taken, make_stop, after_stops, start_of}
+use Rattle.elevator_model.specs.Tours.{Progress, broken_at, broken_at_end, broken_or, first_broken_from, IsFeasible, none_taken, make_stop, after_stops}
+use Rattle.elevator_model.specs.Tours.{start_of}
 use Rattle.elevator_model.specs.Partial.{Course, course_start, course_if, may_be_left, go_on, board_on, end_on, move_on, moves_on, course_of}
 use Rattle.tour_rules.proofs.BoundedTests.{none-from}
 
@@ -15,18 +16,22 @@ abbrev pub AllFine : Snapshot → ℕ → Progress → List Stop → Type 0
 AllFine s c p [] = Unit {0}
 AllFine s c p (st ∷ stops) = (broken_at s c none_taken p st ≡ None) × AllFine s c (make_stop s c p st) stops
 
-pub AllFine-push : (s : Snapshot) (c : ℕ) (p : Progress) (stops : List Stop) (st : Stop) → AllFine s c p stops → broken_at s c none_taken (after_stops s c p stops) st ≡ None → AllFine s c p (stops ++ st ∷ [])
+pub AllFine-push : (s : Snapshot) (c : ℕ) (p : Progress) (stops : List Stop) (st : Stop) → AllFine s c p stops
+    → broken_at s c none_taken (after_stops s c p stops) st ≡ None → AllFine s c p (stops ++ st ∷ [])
 AllFine-push s c p [] st fine ok = (ok, tt)
 AllFine-push s c p (x ∷ stops) st fine ok = (fine.0, AllFine-push s c (make_stop s c p x) stops st fine.1 ok)
 
-pub after_stops-push : (s : Snapshot) (c : ℕ) (p : Progress) (stops : List Stop) (st : Stop) → after_stops s c p (stops ++ st ∷ []) ≡ make_stop s c (after_stops s c p stops) st
+pub after_stops-push : (s : Snapshot) (c : ℕ) (p : Progress) (stops : List Stop) (st : Stop)
+    → after_stops s c p (stops ++ st ∷ []) ≡ make_stop s c (after_stops s c p stops) st
 after_stops-push s c p [] st = refl
 after_stops-push s c p (x ∷ stops) st = after_stops-push s c (make_stop s c p x) stops st
 
-pub first_broken-fine : (s : Snapshot) (c : ℕ) (p : Progress) (k : ℕ) (stops : List Stop) → AllFine s c p stops → broken_at_end s c (after_stops s c p stops) ≡ None → first_broken_from s c none_taken p k stops ≡ None
+pub first_broken-fine : (s : Snapshot) (c : ℕ) (p : Progress) (k : ℕ) (stops : List Stop) → AllFine s c p stops
+    → broken_at_end s c (after_stops s c p stops) ≡ None → first_broken_from s c none_taken p k stops ≡ None
 first_broken-fine s c p k [] fine ok = ap (λ (o : Option Rule). broken_or o k None) ok
 first_broken-fine s c p k (st ∷ stops) fine ok =
-    ap (λ (o : Option Rule). broken_or o k (first_broken_from s c none_taken (make_stop s c p st) (k + 1) stops)) fine.0 ∙ first_broken-fine s c (make_stop s c p st) (k + 1) stops fine.1 ok
+    ap (λ (o : Option Rule). broken_or o k (first_broken_from s c none_taken (make_stop s c p st) (k + 1) stops)) fine.0
+    ∙ first_broken-fine s c (make_stop s c p st) (k + 1) stops fine.1 ok
 
 -- what holds wherever lawful moves lead
 pub record IsSound (s : Snapshot) (c : ℕ) (x : Course) : Type 0 where
@@ -45,10 +50,13 @@ pub cond-some : (b : Bool) (o : Option Course) (y : Course) → cond b None o �
 cond-some true o y h = absurd (cc)
 cond-some false o y h = (refl, h)
 
-sound_left : (s : Snapshot) (c : ℕ) (x : Course) (p : Stop) → IsSound s c x → may_be_left s c x.before p ≡ true → (present : Option Stop) (ended : Bool) → (ended ≡ true → broken_at_end s c (make_stop s c x.before p) ≡ None) → IsSound s c (record { left = x.left ++ p ∷ []; before = make_stop s c x.before p; present = present; ended = ended })
+sound_left : (s : Snapshot) (c : ℕ) (x : Course) (p : Stop) → IsSound s c x → may_be_left s c x.before p ≡ true → (present : Option Stop) (ended : Bool)
+    → (ended ≡ true → broken_at_end s c (make_stop s c x.before p) ≡ None)
+    → IsSound s c (record { left = x.left ++ p ∷ []; before = make_stop s c x.before p; present = present; ended = ended })
 sound_left s c x p sound ok present ended over = record {
   before = ap (λ (q : Progress). make_stop s c q p) sound.before ∙ sym (after_stops-push s c (start_of s c) x.left p);
-  fine = AllFine-push s c (start_of s c) x.left p sound.fine (subst (λ (q : Progress). broken_at s c none_taken q p ≡ None) sound.before (none-from (broken_at s c none_taken x.before p) ok));
+  fine = AllFine-push s c (start_of s c) x.left p sound.fine
+      (subst (λ (q : Progress). broken_at s c none_taken q p ≡ None) sound.before (none-from (broken_at s c none_taken x.before p) ok));
   over = over;
 }
 
@@ -61,7 +69,8 @@ sound_go s c x (Some p) g y sound h =
     let ok = and_parts (may_be_left s c x.before p) _ parts.0 in
     subst (IsSound s c) parts.1 (sound_left s c x p sound ok.0 (Some (record { floor = g; boards = [] })) false (λ e. absurd (false≢true e)))
 
-sound_board : (s : Snapshot) (c : ℕ) (x : Course) (present : Option Stop) (j : ℕ) (y : Course) → IsSound s c x → board_on s c x present j ≡ Some y → IsSound s c y
+sound_board : (s : Snapshot) (c : ℕ) (x : Course) (present : Option Stop) (j : ℕ) (y : Course) → IsSound s c x → board_on s c x present j ≡ Some y
+    → IsSound s c y
 sound_board s c x None j y sound h = absurd (cc)
 sound_board s c x (Some p) j y sound h =
     let parts = course_if-some _ _ y h in

@@ -36,13 +36,30 @@ twice_part a b p t x y h k e =
     and_from b ((p || t) || y) (h parts.0)
     (elim (or_cases (p || t) x parts.1) [ inl l ↦ or_left (p || t) y l | inr r ↦ or_right (p || t) y (k r) ])
 
-pub stands_part : (s : Snapshot) (c : ℕ) (taken : ℕ → Bool) (p : Progress) (g : ℕ) (few more : List ℕ) → ArePart few more → AllClear (breaks s c taken p (at g more)) rules_but_useless → AllClear (breaks s c taken p (at g few)) rules_but_useless
+pub stands_part : (s : Snapshot) (c : ℕ) (taken : ℕ → Bool) (p : Progress) (g : ℕ) (few more : List ℕ) → ArePart few more
+    → AllClear (breaks s c taken p (at g more)) rules_but_useless → AllClear (breaks s c taken p (at g few)) rules_but_useless
 stands_part s c taken p g few more part h =
     let boards = boards_part s g few more part in
     let few_at = boards_at s (at g few) in
     let more_at = boards_at s (at g more) in
-    let queue = any_below-less (call_count s) (λ j. few_at j && overtakes s p j) (λ j. more_at j && overtakes s p j) (λ j. and_both (few_at j) (more_at j) (overtakes s p j) (boards j)) h.1.1.1.1.0 in
+    let queue = any_below-less (call_count s) (λ j. few_at j && overtakes s p j) (λ j. more_at j && overtakes s p j)
+    (λ j. and_both (few_at j) (more_at j) (overtakes s p j) (boards j)) h.1.1.1.1.0 in
     let car = list_any-none (λ j. not (is_call_for s c j)) few (λ j e. list_any-false (λ j. not (is_call_for s c j)) more j h.1.1.1.1.1.0 (part.among j e)) in
-    let twice = any_below-less (call_count s) (λ j. few_at j && ((p.boarded j || taken j) || leb 2 (count_by (λ x. x == j) few))) (λ j. more_at j && ((p.boarded j || taken j) || leb 2 (count_by (λ x. x == j) more))) (λ j. twice_part (few_at j) (more_at j) (p.boarded j) (taken j) (leb 2 (count_by (λ x. x == j) few)) (leb 2 (count_by (λ x. x == j) more)) (boards j) (part.twice j)) h.1.1.1.1.1.1.1.0 in
-    let place = any_below-less (call_count s) (λ j. few_at j && not (eqb (call_of s j).origin g)) (λ j. more_at j && not (eqb (call_of s j).origin g)) (λ j. and_both (few_at j) (more_at j) (not (eqb (call_of s j).origin g)) (boards j)) h.1.1.1.1.1.1.1.1.0 in
-    (h.0, (h.1.0, (h.1.1.0, (capacity_part (spec_of s c).capacity _ _ (let le = sum_where-less (rider_count s) few_at more_at (persons_of s) boards in omega arith) h.1.1.1.0, (queue, (car, (h.1.1.1.1.1.1.0, (twice, (place, tt)))))))))
+    let twice = any_below-less (call_count s) (λ j. few_at j && ((p.boarded j || taken j) || leb 2 (count_by (λ x. x == j) few)))
+    (λ j. more_at j && ((p.boarded j || taken j) || leb 2 (count_by (λ x. x == j) more)))
+    (λ j. twice_part (few_at j) (more_at j) (p.boarded j) (taken j) (leb 2 (count_by (λ x. x == j) few)) (leb 2 (count_by (λ x. x == j) more)) (boards j)
+    (part.twice j)) h.1.1.1.1.1.1.1.0 in
+    let place = any_below-less (call_count s) (λ j. few_at j && not (eqb (call_of s j).origin g)) (λ j. more_at j && not (eqb (call_of s j).origin g))
+    (λ j. and_both (few_at j) (more_at j) (not (eqb (call_of s j).origin g)) (boards j)) h.1.1.1.1.1.1.1.1.0 in (
+      h.0,
+      (
+        h.1.0,
+        (
+          h.1.1.0,
+          (
+            capacity_part (spec_of s c).capacity _ _ (let le = sum_where-less (rider_count s) few_at more_at (persons_of s) boards in omega arith) h.1.1.1.0,
+            (queue, (car, (h.1.1.1.1.1.1.0, (twice, (place, tt))))),
+          ),
+        ),
+      ),
+    )

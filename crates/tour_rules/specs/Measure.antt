@@ -30,7 +30,9 @@ spare idle begun (Some p) = if begun || idle then 0 else 1
 -- rider carried before it.
 abbrev pub moves_left : Snapshot → ℕ → Course → ℕ
 moves_left s c x =
-    if x.ended then 0 else (3 * count_below (call_count s) (λ j. not (x.before.boarded j) && not (boards_here s x.present j)) + 2 * count_below (call_count s) (boards_here s x.present) + count_below (rider_count s) x.before.carried + spare (is_idle (state_of s c)) x.before.begun x.present)
+    if x.ended then 0 else
+    (3 * count_below (call_count s) (λ j. not (x.before.boarded j) && not (boards_here s x.present j)) + 2 * count_below (call_count s)
+    (boards_here s x.present) + count_below (rider_count s) x.before.carried + spare (is_idle (state_of s c)) x.before.begun x.present)
 
 -- Two for each call that has not boarded and one for each rider carried bound the stops that may come.
 abbrev pub stops_left : Snapshot → Progress → ℕ

@@ -16,7 +16,8 @@ use Rattle.call_state.proofs.PossibleLemmas.{most_cars-le}
 use Rattle.what_if.specs.declared.extras.Extra.{Extra}
 use Rattle.what_if.specs.declared.extras.Extra.TheVariants.{None as NoExtra, Exact, Between}
 use Rattle.what_if.specs.declared.extras.Searched.{Searched}
-use Rattle.what_if.specs.WhatIf.{AreClosed, AreEnough, CanTakeAsked, IsExtraCost, IsExtraOf, IsLeastCost, IsOneOpen, IsSearched, has_extra, high_of, is_settled, low_of, takes_asked, with_pin, without_last}
+use Rattle.what_if.specs.WhatIf.{AreClosed, AreEnough, CanTakeAsked, IsExtraCost, IsExtraOf, IsLeastCost, IsOneOpen, IsSearched, has_extra, high_of, is_settled}
+use Rattle.what_if.specs.WhatIf.{low_of, takes_asked, with_pin, without_last}
 use Rattle.what_if.specs.Ends.{Tells}
 
 never : (b : Bool) → b ≡ false → b ≡ true → ⊥
@@ -64,7 +65,8 @@ least-closed s rounds moves x h same =
     }
 
 -- the extra cost of two searches that were solved
-extra-closed : (s : Snapshot) (rounds moves : ℕ) (before after : Searched) (c : ℕ) (extra : ℤ) → IsSearched (without_last s) rounds moves before → IsSearched (with_pin s c) rounds moves after → AreClosed before after → extra ≡ pos after.cost -ℤ pos before.cost → IsExtraCost s c extra
+extra-closed : (s : Snapshot) (rounds moves : ℕ) (before after : Searched) (c : ℕ) (extra : ℤ) → IsSearched (without_last s) rounds moves before
+    → IsSearched (with_pin s c) rounds moves after → AreClosed before after → extra ≡ pos after.cost -ℤ pos before.cost → IsExtraCost s c extra
 extra-closed s rounds moves before after c extra one other closed is =
     record {
       before = before.cost;
@@ -83,7 +85,9 @@ extra-same s c one other x y =
     let f = y.is in
     omega (arith, ints, first, second, e, f)
 
-extra-between : (s : Snapshot) (rounds moves : ℕ) (before after : Searched) (c : ℕ) (extra : ℤ) → IsSearched (without_last s) rounds moves before → IsSearched (with_pin s c) rounds moves after → IsExtraCost s c extra → ((pos after.bound -ℤ pos before.cost) ≤ℤ extra) × (extra ≤ℤ (pos after.cost -ℤ pos before.bound))
+extra-between : (s : Snapshot) (rounds moves : ℕ) (before after : Searched) (c : ℕ) (extra : ℤ) → IsSearched (without_last s) rounds moves before
+    → IsSearched (with_pin s c) rounds moves after → IsExtraCost s c extra → ((pos after.bound -ℤ pos before.cost) ≤ℤ extra)
+    × (extra ≤ℤ (pos after.cost -ℤ pos before.bound))
 extra-between s rounds moves before after c extra one other is =
     let first = least-within (without_last s) rounds moves before is.before one is.least_before in
     let second = least-within (with_pin s c) rounds moves after is.after other is.least_after in
@@ -95,11 +99,14 @@ extra-between s rounds moves before after c extra one other is =
     (omega (arith, ints, low, high, from, to, e), omega (arith, ints, low, high, from, to, e))
 
 -- one open search leaves room between the ends
-apart-if-open : (before after : Searched) → before.bound ≤ before.cost → after.bound ≤ after.cost → IsOneOpen before after → (pos after.bound -ℤ pos before.cost) <ℤ (pos after.cost -ℤ pos before.bound)
+apart-if-open : (before after : Searched) → before.bound ≤ before.cost → after.bound ≤ after.cost → IsOneOpen before after
+    → (pos after.bound -ℤ pos before.cost) <ℤ (pos after.cost -ℤ pos before.bound)
 apart-if-open before after first second (inl below) = omega (arith, ints, first, second, below)
 apart-if-open before after first second (inr below) = omega (arith, ints, first, second, below)
 
-pub extra-told : (s : Snapshot) (rounds moves : ℕ) (before after : Searched) (c : ℕ) (x : Extra) → takes_asked s c ≡ true → IsSearched (without_last s) rounds moves before → IsSearched (with_pin s c) rounds moves after → Tells before after x → IsExtraOf s rounds moves before c x
+pub extra-told : (s : Snapshot) (rounds moves : ℕ) (before after : Searched) (c : ℕ) (x : Extra) → takes_asked s c ≡ true
+    → IsSearched (without_last s) rounds moves before → IsSearched (with_pin s c) rounds moves after → Tells before after x
+    → IsExtraOf s rounds moves before c x
 extra-told s rounds moves before after c NoExtra takes one other told = absurd told
 extra-told s rounds moves before after c (Exact extra) takes one other told =
     let exact = extra-closed s rounds moves before after c extra one other told.0 told.1 in
@@ -112,13 +119,19 @@ extra-told s rounds moves before after c (Between low high) takes one other told
     one_open = told.one_open;
     low_is = told.low_is;
     high_is = told.high_is;
-    apart = (let room = apart-if-open before after (bound-below (without_last s) rounds moves before one) (bound-below (with_pin s c) rounds moves after other) told.one_open in let low = told.low_is in let high = told.high_is in omega (arith, ints, room, low, high));
-    holds = λ extra is. (let ends = extra-between s rounds moves before after c extra one other is in let from = ends.0 in let to = ends.1 in let low = told.low_is in let high = told.high_is in (omega (arith, ints, from, low), omega (arith, ints, to, high)));
+    apart = (let room =
+        apart-if-open before after (bound-below (without_last s) rounds moves before one)
+        (bound-below (with_pin s c) rounds moves after other) told.one_open in let low = told.low_is in let high = told.high_is in
+        omega (arith, ints, room, low, high));
+    holds = λ extra is.
+        (let ends = extra-between s rounds moves before after c extra one other is in let from = ends.0 in let to = ends.1 in let low = told.low_is in
+        let high = told.high_is in (omega (arith, ints, from, low), omega (arith, ints, to, high)));
   },
 )
 
 -- each extra cost of a car lies between the ends of what is said of it
-pub extra-within : (s : Snapshot) (rounds moves : ℕ) (before : Searched) (c : ℕ) (x : Extra) (extra : ℤ) → takes_asked s c ≡ true → IsExtraOf s rounds moves before c x → IsExtraCost s c extra → (low_of x ≤ℤ extra) × (extra ≤ℤ high_of x)
+pub extra-within : (s : Snapshot) (rounds moves : ℕ) (before : Searched) (c : ℕ) (x : Extra) (extra : ℤ) → takes_asked s c ≡ true
+    → IsExtraOf s rounds moves before c x → IsExtraCost s c extra → (low_of x ≤ℤ extra) × (extra ≤ℤ high_of x)
 extra-within s rounds moves before c NoExtra extra takes of is = absurd (never (takes_asked s c) of takes)
 extra-within s rounds moves before c (Exact exact) extra takes of is =
     let same = of.1.only extra is in
@@ -132,13 +145,15 @@ takes-has s rounds moves before c (Exact extra) of = of.0
 takes-has s rounds moves before c (Between low high) of = of.0
 
 -- what is settled is an extra cost
-pub settled-is : (s : Snapshot) (rounds moves : ℕ) (before : Searched) (c : ℕ) (x : Extra) → takes_asked s c ≡ true → is_settled x ≡ true → IsExtraOf s rounds moves before c x → IsExtraCost s c (low_of x) × (low_of x ≡ high_of x)
+pub settled-is : (s : Snapshot) (rounds moves : ℕ) (before : Searched) (c : ℕ) (x : Extra) → takes_asked s c ≡ true → is_settled x ≡ true
+    → IsExtraOf s rounds moves before c x → IsExtraCost s c (low_of x) × (low_of x ≡ high_of x)
 settled-is s rounds moves before c NoExtra takes settled of = absurd (never (takes_asked s c) of takes)
 settled-is s rounds moves before c (Exact extra) takes settled of = (of.1.extra_cost, refl)
 settled-is s rounds moves before c (Between low high) takes settled of = absurd cc
 
 -- with limits that are enough nothing is open
-pub enough-settled : (s : Snapshot) (rounds moves : ℕ) (before : Searched) (c : ℕ) (x : Extra) → c < car_count s → AreEnough s rounds moves → IsSearched (without_last s) rounds moves before → IsExtraOf s rounds moves before c x → is_settled x ≡ true
+pub enough-settled : (s : Snapshot) (rounds moves : ℕ) (before : Searched) (c : ℕ) (x : Extra) → c < car_count s → AreEnough s rounds moves
+    → IsSearched (without_last s) rounds moves before → IsExtraOf s rounds moves before c x → is_settled x ≡ true
 enough-settled s rounds moves before c NoExtra car enough one of = refl
 enough-settled s rounds moves before c (Exact extra) car enough one of = refl
 enough-settled s rounds moves before c (Between low high) car enough one of =
@@ -152,7 +167,9 @@ enough-settled s rounds moves before c (Between low high) car enough one of =
     none before after first second (inr below) = absurd (omega (arith, second, below))
 
 -- what a search answers, as far as it is asked for here
-pub searched-is : (s : Snapshot) (rounds moves : ℕ) (plan : List (List Stop)) (cost bound : ℕ) (tree : List Twig) (turns : List Turn) (why : StopReason) → IsAccepted s → IsSolveAnswer s rounds moves plan cost bound tree turns why → (rounds_enough s ≤ rounds → moves_enough s ≤ moves → why ≡ Solved) → IsSearched s rounds moves (record { cost = cost; bound = bound })
+pub searched-is : (s : Snapshot) (rounds moves : ℕ) (plan : List (List Stop)) (cost bound : ℕ) (tree : List Twig) (turns : List Turn) (why : StopReason)
+    → IsAccepted s → IsSolveAnswer s rounds moves plan cost bound tree turns why → (rounds_enough s ≤ rounds → moves_enough s ≤ moves → why ≡ Solved)
+    → IsSearched s rounds moves (record { cost = cost; bound = bound })
 searched-is s rounds moves plan cost bound tree turns why accepted answer enough =
     let high = accepted.building.cars_high in
     let most = most_cars-le s.building.version in

@@ -15,7 +15,8 @@ pub extras-none : (s : Snapshot) (rounds moves : ℕ) (before : Searched) → Ar
 extras-none s rounds moves before = record { count = refl; each = λ c below. absurd (omega (arith, below)); ranged = λ c below. absurd (omega (arith, below)) }
 
 -- what holds of each car so far, and of the next one
-one-more : (P : ℕ → Extra → Type 0) (n : ℕ) (extras : List Extra) (x : Extra) → length extras ≡ n → ((c : ℕ) → c < n → P c (extra_at extras c)) → P n x → (c : ℕ) → c < n + 1 → P c (extra_at (extras ++ x ∷ []) c)
+one-more : (P : ℕ → Extra → Type 0) (n : ℕ) (extras : List Extra) (x : Extra) → length extras ≡ n → ((c : ℕ) → c < n → P c (extra_at extras c)) → P n x
+    → (c : ℕ) → c < n + 1 → P c (extra_at (extras ++ x ∷ []) c)
 one-more P n extras x count each here c below =
     let le : c ≤ n = omega (arith, below) in
     elim (eq-or-lt_of_le le) [
@@ -23,7 +24,9 @@ one-more P n extras x count each here c below =
       | inr lt ↦ subst (P c) (sym (get_or_append_left extras (x ∷ []) no_extra c (omega (arith, lt, count)))) (each c lt)
     ]
 
-pub extras-more : (s : Snapshot) (rounds moves : ℕ) (before : Searched) (n : ℕ) (extras : List Extra) (x : Extra) → AreExtrasBelow s rounds moves before n extras → IsExtraOf s rounds moves before n x → IsRanged x → AreExtrasBelow s rounds moves before (n + 1) (extras ++ x ∷ [])
+pub extras-more : (s : Snapshot) (rounds moves : ℕ) (before : Searched) (n : ℕ) (extras : List Extra) (x : Extra)
+    → AreExtrasBelow s rounds moves before n extras → IsExtraOf s rounds moves before n x → IsRanged x
+    → AreExtrasBelow s rounds moves before (n + 1) (extras ++ x ∷ [])
 extras-more s rounds moves before n extras x are of ranged =
     record {
       count = length-append extras (x ∷ []) ∙ ap (λ (k : ℕ). k + 1) are.count;
@@ -31,23 +34,31 @@ extras-more s rounds moves before n extras x are of ranged =
       ranged = one-more (λ c y. IsRanged y) n extras x are.count are.ranged ranged;
     }
 
-pub all-ranged : (s : Snapshot) (rounds moves : ℕ) (before : Searched) (n : ℕ) (extras : List Extra) → AreExtrasBelow s rounds moves before n extras → (c : ℕ) → IsRanged (extra_at extras c)
+pub all-ranged : (s : Snapshot) (rounds moves : ℕ) (before : Searched) (n : ℕ) (extras : List Extra) → AreExtrasBelow s rounds moves before n extras → (c : ℕ)
+    → IsRanged (extra_at extras c)
 all-ranged s rounds moves before n extras are c =
     let count = are.count in
     elim (cases_lt c n) [ inl below ↦ are.ranged c below | inr past ↦ subst IsRanged (sym (get_or_past extras c no_extra (omega (arith, past, count)))) none ]
   where
     none : IsRanged no_extra
-    none = record { low = record { low = omega (arith, ints); high = omega (arith, ints) }; high = record { low = omega (arith, ints); high = omega (arith, ints) } }
+    none = record {
+      low = record { low = omega (arith, ints); high = omega (arith, ints) };
+      high =
+          record { low = omega (arith, ints); high = omega (arith, ints) };
+    }
 
-pub extras-of : (s : Snapshot) (rounds moves : ℕ) (before : Searched) (extras : List Extra) → IsSearched (without_last s) rounds moves before → AreExtrasBelow s rounds moves before (car_count s) extras → AreExtras s rounds moves extras
+pub extras-of : (s : Snapshot) (rounds moves : ℕ) (before : Searched) (extras : List Extra) → IsSearched (without_last s) rounds moves before
+    → AreExtrasBelow s rounds moves before (car_count s) extras → AreExtras s rounds moves extras
 extras-of s rounds moves before extras searched are = record { before = before; searched = searched; count = are.count; each = are.each }
 
-pub nearest-has : (s : Snapshot) (rounds moves : ℕ) (before : Searched) (extras : List Extra) (c : ℕ) → AreExtrasBelow s rounds moves before (car_count s) extras → IsNearest s c → has_extra (extra_at extras c) ≡ true
+pub nearest-has : (s : Snapshot) (rounds moves : ℕ) (before : Searched) (extras : List Extra) (c : ℕ)
+    → AreExtrasBelow s rounds moves before (car_count s) extras → IsNearest s c → has_extra (extra_at extras c) ≡ true
 nearest-has s rounds moves before extras c are nearest =
     let takes = nearest.takes in
     sym (takes-has s rounds moves before c (extra_at extras c) (are.each c takes.is_car)) ∙ takes.possible
 
-pub all-settled : (s : Snapshot) (rounds moves : ℕ) (before : Searched) (extras : List Extra) → IsSearched (without_last s) rounds moves before → AreExtrasBelow s rounds moves before (car_count s) extras → AreEnough s rounds moves → AreSettled extras
+pub all-settled : (s : Snapshot) (rounds moves : ℕ) (before : Searched) (extras : List Extra) → IsSearched (without_last s) rounds moves before
+    → AreExtrasBelow s rounds moves before (car_count s) extras → AreEnough s rounds moves → AreSettled extras
 all-settled s rounds moves before extras searched are enough c below =
     let count = are.count in
     let car : c < car_count s = omega (arith, below, count) in

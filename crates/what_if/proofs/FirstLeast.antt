@@ -27,7 +27,8 @@ int-not-less : (a b : ℤ) → int_lt a b ≡ false → b ≤ℤ a
 int-not-less a b h = grind (arith, ints)
 
 -- the number n is taken
-pub first-taken : (test : ℕ → Bool) (key : ℕ → ℤ) (n : ℕ) (best : Option ℕ) → (test n && is_less key n best) ≡ true → IsFirstLeast test key n best → IsFirstLeast test key (n + 1) (Some n)
+pub first-taken : (test : ℕ → Bool) (key : ℕ → ℤ) (n : ℕ) (best : Option ℕ) → (test n && is_less key n best) ≡ true → IsFirstLeast test key n best
+    → IsFirstLeast test key (n + 1) (Some n)
 first-taken test key n None h none =
     record {
       below = omega arith;
@@ -41,12 +42,14 @@ first-taken test key n (Some b) h best =
     record {
       below = omega arith;
       passes = parts.0;
-      least = last-or n (λ c. test c ≡ true → key n ≤ℤ key c) (λ c low passes. (let le = best.least c low passes in omega (arith, ints, le, less))) (λ passes. omega (arith, ints));
+      least = last-or n (λ c. test c ≡ true → key n ≤ℤ key c) (λ c low passes. (let le = best.least c low passes in omega (arith, ints, le, less)))
+          (λ passes. omega (arith, ints));
       first = λ c low passes. (let le = best.least c low passes in omega (arith, ints, le, less));
     }
 
 -- it is not
-pub first-kept : (test : ℕ → Bool) (key : ℕ → ℤ) (n : ℕ) (best : Option ℕ) → (test n && is_less key n best) ≡ false → IsFirstLeast test key n best → IsFirstLeast test key (n + 1) best
+pub first-kept : (test : ℕ → Bool) (key : ℕ → ℤ) (n : ℕ) (best : Option ℕ) → (test n && is_less key n best) ≡ false → IsFirstLeast test key n best
+    → IsFirstLeast test key (n + 1) best
 first-kept test key n None h none = last-or n (λ c. test c ≡ false) none (alone (test n) h)
   where
     alone : (a : Bool) → (a && true) ≡ false → a ≡ false
@@ -56,7 +59,8 @@ first-kept test key n (Some b) h best =
     record {
       below = (let below = best.below in omega (arith, below));
       passes = best.passes;
-      least = last-or n (λ c. test c ≡ true → key b ≤ℤ key c) best.least (λ passes. int-not-less (key n) (key b) (other (test n) (int_lt (key n) (key b)) passes h));
+      least = last-or n (λ c. test c ≡ true → key b ≤ℤ key c) best.least
+          (λ passes. int-not-less (key n) (key b) (other (test n) (int_lt (key n) (key b)) passes h));
       first = best.first;
     }
   where

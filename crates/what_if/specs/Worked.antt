@@ -26,7 +26,8 @@ uneven_moving = record {
 
 pub record AreUnevenRows : Type 0 where
   pub without : (without_last uneven_pair).calls ≡ called 5 1 3 2 900 ∷ called 2 1 3 1 950 ∷ []
-  pub pinned : (with_pin uneven_pair 1).calls ≡ called 5 1 3 2 900 ∷ called 2 1 3 1 950 ∷ record { id = 9; origin = 2; destination = 0; persons = 1; released = 400; pin = Some 1 } ∷ []
+  pub pinned : (with_pin uneven_pair 1).calls ≡ called 5 1 3 2 900 ∷ called 2 1 3 1 950
+      ∷ record { id = 9; origin = 2; destination = 0; persons = 1; released = 400; pin = Some 1 } ∷ []
   pub same_cars : (with_pin uneven_pair 1).states ≡ Idle 2 5000 ∷ Coming 0 2500 ∷ []
   -- the large car stands where the call begins, the small one comes to the lowest floor
   pub near : distance uneven_pair 0 ≡ 0

@@ -40,12 +40,14 @@ module _ {A : Type 0} where
   jobs_of-append (x ∷ xs) ys = ap (λ (l : List ℕ). x.job ∷ l) (jobs_of-append xs ys)
 
   -- one more number that was drawn, and its job done
-  pub jobs_of_push : (done now : List (Done A)) (old drawn : List ℕ) (d : Done A) (n : ℕ) → now ≡ done ++ d ∷ [] → drawn ≡ old ++ n ∷ [] → d.job ≡ n → jobs_of done ≡ old → jobs_of now ≡ drawn
+  pub jobs_of_push : (done now : List (Done A)) (old drawn : List ℕ) (d : Done A) (n : ℕ) → now ≡ done ++ d ∷ [] → drawn ≡ old ++ n ∷ [] → d.job ≡ n
+      → jobs_of done ≡ old → jobs_of now ≡ drawn
   jobs_of_push done now old drawn d n more drew same was =
       ap jobs_of more ∙ jobs_of-append done (d ∷ []) ∙ (λ i. was i ++ same i ∷ []) ∙ sym drew
 
   -- the last number drawn is past the count
-  pub works_end : (is_right : ℕ → A → Type 0) (count n : ℕ) (old drawn : List ℕ) (done : List (Done A)) → drawn ≡ old ++ n ∷ [] → count ≤ n → jobs_of done ≡ old → All (λ (d : Done A). (d.job < count) × is_right d.job d.answer) done → Works is_right count drawn done
+  pub works_end : (is_right : ℕ → A → Type 0) (count n : ℕ) (old drawn : List ℕ) (done : List (Done A)) → drawn ≡ old ++ n ∷ [] → count ≤ n
+      → jobs_of done ≡ old → All (λ (d : Done A). (d.job < count) × is_right d.job d.answer) done → Works is_right count drawn done
   works_end is_right count n old drawn done drew past was right = record {
     each = λ k h. omega (arith, ap (times k) was, ap (times k) drew, sum_by_push (λ y. cond (eqb y k) 1 0) old n, missed k count n h past);
     right = right;
@@ -53,14 +55,23 @@ module _ {A : Type 0} where
   }
 
   -- two have worked
-  works_append : (is_right : ℕ → A → Type 0) (count : ℕ) (xs ys : List ℕ) (done rest : List (Done A)) → Works is_right count xs done → Works is_right count ys rest → Works is_right count (xs ++ ys) (done ++ rest)
+  works_append : (is_right : ℕ → A → Type 0) (count : ℕ) (xs ys : List ℕ) (done rest : List (Done A)) → Works is_right count xs done
+      → Works is_right count ys rest → Works is_right count (xs ++ ys) (done ++ rest)
   works_append is_right count xs ys done rest first second = record {
-    each = λ k h. omega (arith, ap (times k) (jobs_of-append done rest), sum_by-append (λ y. cond (eqb y k) 1 0) (jobs_of done) (jobs_of rest), sum_by-append (λ y. cond (eqb y k) 1 0) xs ys, first.each k h, second.each k h);
+    each = λ k h. omega (
+      arith,
+      ap (times k) (jobs_of-append done rest),
+      sum_by-append (λ y. cond (eqb y k) 1 0) (jobs_of done) (jobs_of rest),
+      sum_by-append (λ y. cond (eqb y k) 1 0) xs ys,
+      first.each k h,
+      second.each k h,
+    );
     right = All-append (λ (d : Done A). (d.job < count) × is_right d.job d.answer) done rest first.right second.right;
     all = any_append (λ y. count ≤ y) xs ys first.all;
   }
 
-  pub works_both : (is_right : ℕ → A → Type 0) (count : ℕ) (xs ys drawn : List ℕ) (done rest all : List (Done A)) → drawn ≡ xs ++ ys → all ≡ done ++ rest → Works is_right count xs done → Works is_right count ys rest → Works is_right count drawn all
+  pub works_both : (is_right : ℕ → A → Type 0) (count : ℕ) (xs ys drawn : List ℕ) (done rest all : List (Done A)) → drawn ≡ xs ++ ys → all ≡ done ++ rest
+      → Works is_right count xs done → Works is_right count ys rest → Works is_right count drawn all
   works_both is_right count xs ys drawn done rest all drew did first second =
       let Both : List ℕ × List (Done A) → Type 0 = λ p. Works is_right count p.0 p.1 in
       let same : (xs ++ ys, done ++ rest) ≡ (drawn, all) = λ i. (sym drew i, sym did i) in

@@ -1,6 +1,7 @@
 -- Answers that are put into the places of their jobs.
 use Rattle.std.specs.Prelude.{Option, Some, None, IsSome, slice_get, option_map}
-use Rattle.std.proofs.Common.{◌≡◌, ◌≢◌, ℕ, suc, ◌+◌, ◌<◌, true, false, cond, eqb, List, [], ◌∷◌, ◌++◌, length, map, get_or, set, replicate, sym, refl, ap, ◌∙◌, subst, arith, length-set, length-append}
+use Rattle.std.proofs.Common.{◌≡◌, ◌≢◌, ℕ, suc, ◌+◌, ◌<◌, true, false, cond, eqb, List, [], ◌∷◌, ◌++◌, length, map, get_or, set, replicate, sym, refl, ap, ◌∙◌}
+use Rattle.std.proofs.Common.{subst, arith, length-set, length-append}
 use Rattle.std.specs.List.{All, Contains, filter_map}
 use Rattle.std.specs.Option.{is_some}
 use Rattle.std.proofs.Math.ListN.{get_or-append}
@@ -32,7 +33,8 @@ module _ {A : Type 0} where
     pub each : (k : ℕ) → 0 < times k (jobs_of all) → 0 < times k (jobs_of left) + filled k places
     pub from : start ≡ replicate (length start) None → (k : ℕ) (a : A) → get_or places k None ≡ Some a → Contains all (record { job = k; answer = a })
 
-  module _ (start places : List (Option A)) (all old left : List (Done A)) (d : Done A) (popped : old ≡ left ++ d ∷ []) (placing : Placing start all places old) where
+  module _ (start places : List (Option A)) (all old left : List (Done A)) (d : Done A) (popped : old ≡ left ++ d ∷ [])
+      (placing : Placing start all places old) where
     after : List (Option A)
     after = set places d.job (Some d.answer)
 
@@ -57,7 +59,8 @@ module _ {A : Type 0} where
 
     filled_same : (k : ℕ) → k ≡ d.job → ◌≡◌ {A = ℕ} (filled k after) 1
     unfolding after
-    filled_same k same = ap (λ n. filled n after) same ∙ ap (λ (o : Option A). let n : ℕ = cond (is_some o) 1 0 in n) (get_or-set_same places d.job (Some d.answer) None in_range)
+    filled_same k same = ap (λ n. filled n after) same
+        ∙ ap (λ (o : Option A). let n : ℕ = cond (is_some o) 1 0 in n) (get_or-set_same places d.job (Some d.answer) None in_range)
 
     filled_other : (k : ℕ) → k ≢ d.job → filled k after ≡ filled k places
     unfolding after
@@ -67,10 +70,12 @@ module _ {A : Type 0} where
     each_after k some_time (yes same) = omega (arith, filled_same k same)
     each_after k some_time (no other) = omega (arith, placing.each k some_time, count_old k, other_job d.job k other, filled_other k other)
 
-    from_after : start ≡ replicate (length start) None → (k : ℕ) (a : A) → get_or after k None ≡ Some a → Dec (k ≡ d.job) → Contains all (record { job = k; answer = a })
+    from_after : start ≡ replicate (length start) None → (k : ℕ) (a : A) → get_or after k None ≡ Some a → Dec (k ≡ d.job)
+        → Contains all (record { job = k; answer = a })
     unfolding after
     from_after empty k a at (yes same) =
-        let e : ◌≡◌ {A = Option A} (Some d.answer) (Some a) = sym (get_or-set_same places d.job (Some d.answer) None in_range) ∙ ap (λ n. get_or after n None) (sym same) ∙ at in
+        let e : ◌≡◌ {A = Option A} (Some d.answer) (Some a) = sym (get_or-set_same places d.job (Some d.answer) None in_range)
+        ∙ ap (λ n. get_or after n None) (sym same) ∙ at in
         let answer : d.answer ≡ a = cc e in
         let is : ◌≡◌ {A = Done A} d (record { job = k; answer = a }) = λ i. record { job = sym same i; answer = answer i } in
         let In : Done A → Type 0 = λ e. Contains all e in
@@ -102,7 +107,8 @@ module _ {A : Type 0} where
       subst In same (get_or_from_slice_get (map Some ys) k (Some a) None (slice_get-map Some ys k ∙ ap (option_map Some) at))
 
   -- where each place has an answer, the answers taken out are as many, and stand at the same numbers
-  module _ (places : List (Option A)) (answers : List A) (each : (k : ℕ) → k < length places → IsSome (get_or places k None)) (taken : answers ≡ filter_map (λ (x : Option A). x) places) where
+  module _ (places : List (Option A)) (answers : List A) (each : (k : ℕ) → k < length places → IsSome (get_or places k None))
+      (taken : answers ≡ filter_map (λ (x : Option A). x) places) where
     same : map Some answers ≡ places
     same = ap (map Some) taken ∙ all_there places each
 

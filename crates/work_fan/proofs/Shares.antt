@@ -36,7 +36,8 @@ module _ {A : Type 0} (f : A → ℕ) where
       omega (arith, sum_by-cons f x xs, idle 0 x refl here, sum_none g xs (λ j u at. idle (suc j) u at) rest)
 
 -- where f is 0 wherever g is, and one element has the whole sum of g, it has the whole sum of f
-pub sum_alone : {A : Type 0} (f g : A → ℕ) (xs : List A) (i : ℕ) (v : A) → ((j : ℕ) (u : A) → get_elem? xs j ≡ some u → g u ≡ 0 → f u ≡ 0) → get_elem? xs i ≡ some v → sum_by g xs ≡ g v → sum_by f xs ≡ f v
+pub sum_alone : {A : Type 0} (f g : A → ℕ) (xs : List A) (i : ℕ) (v : A) → ((j : ℕ) (u : A) → get_elem? xs j ≡ some u → g u ≡ 0 → f u ≡ 0)
+    → get_elem? xs i ≡ some v → sum_by g xs ≡ g v → sum_by f xs ≡ f v
 sum_alone f g [] i v idle at whole = absurd (some-ne-none v (sym at))
 sum_alone f g (x ∷ xs) zero v idle at whole =
     let split = sum_by-cons g x xs in
@@ -67,7 +68,12 @@ all_from_times P (x ∷ xs) each =
 pub past-none : (count : ℕ) (xs : List ℕ) → All (λ n. n < count) xs → past count xs ≡ 0
 past-none count [] below = refl
 past-none count (x ∷ xs) below =
-    omega (arith, sum_by-cons (λ y. cond (leb count y) 1 0) x xs, miss count x (All-head (λ n. n < count) x xs below), past-none count xs (All-tail (λ n. n < count) x xs below))
+    omega (
+      arith,
+      sum_by-cons (λ y. cond (leb count y) 1 0) x xs,
+      miss count x (All-head (λ n. n < count) x xs below),
+      past-none count xs (All-tail (λ n. n < count) x xs below),
+    )
 
 -- some number of the list is counted in it
 pub times_from_any : (P : ℕ → Type 0) (xs : List ℕ) → Any P xs → (k : ℕ) × P k × (0 < times k xs)

@@ -1,5 +1,6 @@
 -- Each step keeps the rule of the word, and tells its seat what it says.
-use Rattle.std.proofs.Common.{◌≡◌, ◌≢◌, ℕ, ◌+◌, ◌-◌, ◌%◌, ◌^◌, ◌<◌, ◌≤◌, Bool, true, false, cond, eqb, leb, List, [], ◌∷◌, ◌++◌, length, set, slice_index, sum_by, sym, refl, ap, ◌∙◌, subst, ⊎_elim, arith, length-append, length-set}
+use Rattle.std.proofs.Common.{◌≡◌, ◌≢◌, ℕ, ◌+◌, ◌-◌, ◌%◌, ◌^◌, ◌<◌, ◌≤◌, Bool, true, false, cond, eqb, leb, List, [], ◌∷◌, ◌++◌, length, set, slice_index}
+use Rattle.std.proofs.Common.{sum_by, sym, refl, ap, ◌∙◌, subst, ⊎_elim, arith, length-append, length-set}
 use Rattle.std.specs.List.{All, Any}
 use Rattle.std.proofs.lemmas.List.Sums.{sum_by-append, sum_by_push}
 use Rattle.std.proofs.lemmas.Bool.Decides.{nat_tests}
@@ -86,7 +87,8 @@ module _ {S : Type 0} (limits : LineSizes) where
         omega (arith, seen_below k, times_below_more k word, at_most_one k (word + 1), sum_by_push (λ y. cond (eqb y k) 1 0) v.drawn word)
 
   -- the rule after a draw
-  kept_by_draw : (s : State S Share) → IsKept limits s → (id : ℕ) (v : Share) → get_elem? s.views id ≡ some v → All (λ n. n < limits.count) v.drawn → 0 < v.allowance → (ws : List ℕ) → length ws ≡ 1 → slice_index ws 0 ≡ slice_index s.words 0 + 1
+  kept_by_draw : (s : State S Share) → IsKept limits s → (id : ℕ) (v : Share) → get_elem? s.views id ≡ some v → All (λ n. n < limits.count) v.drawn
+      → 0 < v.allowance → (ws : List ℕ) → length ws ≡ 1 → slice_index ws 0 ≡ slice_index s.words 0 + 1
       → IsKept limits record { words = ws; homes = s.homes; views = set s.views id (share (v.drawn ++ slice_index s.words 0 ∷ []) v.allowance) }
   kept_by_draw s kept id v at goes_on may ws one next =
       let word = slice_index s.words 0 in
@@ -97,11 +99,25 @@ module _ {S : Type 0} (limits : LineSizes) where
       record {
         small = kept.small;
         one_word = one;
-        once = λ x. omega (arith, sum_set (λ (u : Share). times x u.drawn) s.views id v w at, kept.once x, sum_by_push (λ y. cond (eqb y x) 1 0) v.drawn word, times_below_more x word, ap (times_below x) next);
+        once = λ x. omega (
+          arith,
+          sum_set (λ (u : Share). times x u.drawn) s.views id v w at,
+          kept.once x,
+          sum_by_push (λ y. cond (eqb y x) 1 0) v.drawn word,
+          times_below_more x word,
+          ap (times_below x) next,
+        );
         allowances = omega (arith, sum_set (λ (u : Share). u.allowance) s.views id v w at, kept.allowances);
         fitting = fitting_set limits.count s.views id w kept.fitting (omega (arith, none, one_past, at_most), λ no. absurd (omega arith));
         draws = omega (arith, sum_set (λ (u : Share). length u.drawn) s.views id v w at, kept.draws, length-append v.drawn (word ∷ []), next);
-        past_draws = omega (arith, sum_set (λ (u : Share). past limits.count u.drawn) s.views id v w at, kept.past_draws, one_past, past_more limits.count word, ap (λ n. n - limits.count) next);
+        past_draws = omega (
+          arith,
+          sum_set (λ (u : Share). past limits.count u.drawn) s.views id v w at,
+          kept.past_draws,
+          one_past,
+          past_more limits.count word,
+          ap (λ n. n - limits.count) next,
+        );
       }
 
   module _ (slots id : ℕ) (me : Me S Share) (step : Step S) where
@@ -123,10 +139,12 @@ module _ {S : Type 0} (limits : LineSizes) where
     pub looks : Allows (IsKept limits) slots id me 0 (λ n. n) (Looks step me)
     looks s kept homes at small =
         let Keeps : List ℕ × List Share → Type 0 = λ p. IsKept limits record { words = p.0; homes = s.homes; views = p.1 } in
-        let same : (set s.words 0 (slice_index s.words 0), set s.views id me.0) ≡ (s.words, s.views) = λ i. (word_same s.words kept.one_word i, set_again s.views id me.0 at i) in
+        let same : (set s.words 0 (slice_index s.words 0), set s.views id me.0) ≡ (s.words, s.views) =
+        λ i. (word_same s.words kept.one_word i, set_again s.views id me.0 at i) in
         (me.0, keeps, tt, subst Keeps (sym same) kept, (refl, seen_once s kept id me.0 at))
 
-  pub cuts : (id : ℕ) (v : Share) (part : ℕ) → v.drawn ≡ [] → part ≤ v.allowance → Splits {S = S} (IsKept limits) id v (share v.drawn (v.allowance - part)) (share [] part)
+  pub cuts : (id : ℕ) (v : Share) (part : ℕ) → v.drawn ≡ [] → part ≤ v.allowance
+      → Splits {S = S} (IsKept limits) id v (share v.drawn (v.allowance - part)) (share [] part)
   cuts id v part none within s kept at =
       let left = share v.drawn (v.allowance - part) in
       let right = share [] part in
@@ -135,14 +153,23 @@ module _ {S : Type 0} (limits : LineSizes) where
       record {
         small = kept.small;
         one_word = kept.one_word;
-        once = λ x. omega (arith, sum_by_push (λ (u : Share). times x u.drawn) cut right, sum_set (λ (u : Share). times x u.drawn) s.views id v left at, kept.once x);
-        allowances = omega (arith, sum_by_push (λ (u : Share). u.allowance) cut right, sum_set (λ (u : Share). u.allowance) s.views id v left at, kept.allowances);
-        fitting = fitting_push limits.count cut right (fitting_set limits.count s.views id left kept.fitting (omega (arith, nothing), λ no. none)) (omega arith, λ no. refl);
+        once = λ x. omega
+            (arith, sum_by_push (λ (u : Share). times x u.drawn) cut right, sum_set (λ (u : Share). times x u.drawn) s.views id v left at, kept.once x);
+        allowances = omega
+            (arith, sum_by_push (λ (u : Share). u.allowance) cut right, sum_set (λ (u : Share). u.allowance) s.views id v left at, kept.allowances);
+        fitting = fitting_push limits.count cut right (fitting_set limits.count s.views id left kept.fitting (omega (arith, nothing), λ no. none))
+            (omega arith, λ no. refl);
         draws = omega (arith, sum_by_push (λ (u : Share). length u.drawn) cut right, sum_set (λ (u : Share). length u.drawn) s.views id v left at, kept.draws);
-        past_draws = omega (arith, sum_by_push (λ (u : Share). past limits.count u.drawn) cut right, sum_set (λ (u : Share). past limits.count u.drawn) s.views id v left at, kept.past_draws);
+        past_draws = omega (
+          arith,
+          sum_by_push (λ (u : Share). past limits.count u.drawn) cut right,
+          sum_set (λ (u : Share). past limits.count u.drawn) s.views id v left at,
+          kept.past_draws,
+        );
       }
 
-  pub merges : (id : ℕ) (v : Share) (other : ℕ) (w : Share) → Joins {S = S} (IsKept limits) id v other w (share (v.drawn ++ w.drawn) (v.allowance + w.allowance)) (share [] 0)
+  pub merges : (id : ℕ) (v : Share) (other : ℕ) (w : Share)
+      → Joins {S = S} (IsKept limits) id v other w (share (v.drawn ++ w.drawn) (v.allowance + w.allowance)) (share [] 0)
   merges id v other w s kept at apart at' =
       let both = share (v.drawn ++ w.drawn) (v.allowance + w.allowance) in
       let spent = share [] 0 in
@@ -151,23 +178,52 @@ module _ {S : Type 0} (limits : LineSizes) where
       record {
         small = kept.small;
         one_word = kept.one_word;
-        once = λ x. omega (arith, sum_set (λ (u : Share). times x u.drawn) grown other w spent at', sum_set (λ (u : Share). times x u.drawn) s.views id v both at, sum_by-append (λ y. cond (eqb y x) 1 0) v.drawn w.drawn, kept.once x);
-        allowances = omega (arith, sum_set (λ (u : Share). u.allowance) grown other w spent at', sum_set (λ (u : Share). u.allowance) s.views id v both at, kept.allowances);
-        fitting = fitting_set limits.count grown other spent (fitting_set limits.count s.views id both kept.fitting (both_fit limits.count v w (kept.fitting id v at) (kept.fitting other w was))) (omega arith, λ no. refl);
-        draws = omega (arith, sum_set (λ (u : Share). length u.drawn) grown other w spent at', sum_set (λ (u : Share). length u.drawn) s.views id v both at, length-append v.drawn w.drawn, kept.draws);
-        past_draws = omega (arith, sum_set (λ (u : Share). past limits.count u.drawn) grown other w spent at', sum_set (λ (u : Share). past limits.count u.drawn) s.views id v both at, sum_by-append (λ y. cond (leb limits.count y) 1 0) v.drawn w.drawn, kept.past_draws);
+        once = λ x. omega (
+          arith,
+          sum_set (λ (u : Share). times x u.drawn) grown other w spent at',
+          sum_set (λ (u : Share). times x u.drawn) s.views id v both at,
+          sum_by-append (λ y. cond (eqb y x) 1 0) v.drawn w.drawn,
+          kept.once x,
+        );
+        allowances = omega
+            (arith, sum_set (λ (u : Share). u.allowance) grown other w spent at', sum_set (λ (u : Share). u.allowance) s.views id v both at, kept.allowances);
+        fitting = fitting_set limits.count grown other spent
+            (fitting_set limits.count s.views id both kept.fitting (both_fit limits.count v w (kept.fitting id v at) (kept.fitting other w was)))
+            (omega arith, λ no. refl);
+        draws = omega (
+          arith,
+          sum_set (λ (u : Share). length u.drawn) grown other w spent at',
+          sum_set (λ (u : Share). length u.drawn) s.views id v both at,
+          length-append v.drawn w.drawn,
+          kept.draws,
+        );
+        past_draws = omega (
+          arith,
+          sum_set (λ (u : Share). past limits.count u.drawn) grown other w spent at',
+          sum_set (λ (u : Share). past limits.count u.drawn) s.views id v both at,
+          sum_by-append (λ y. cond (leb limits.count y) 1 0) v.drawn w.drawn,
+          kept.past_draws,
+        );
       }
 
   -- the seat that stands for all workers has drawn each number below the word
-  pub ends : (id : ℕ) (v : Share) (ws : List ℕ) (xs : List S) (result : ℕ) → v.allowance ≡ limits.workers → Final (Seen (IsKept limits) id v) ws xs → get_elem? ws 0 ≡ some result → EachBelow result v.drawn × (result ≡ length v.drawn)
+  pub ends : (id : ℕ) (v : Share) (ws : List ℕ) (xs : List S) (result : ℕ) → v.allowance ≡ limits.workers → Final (Seen (IsKept limits) id v) ws xs
+      → get_elem? ws 0 ≡ some result → EachBelow result v.drawn × (result ≡ length v.drawn)
   ends id v ws xs result whole last read =
       let s = last.0 in
       let kept = last.1.0 in
       let at = last.1.1 in
       let word : slice_index s.words 0 ≡ result = ap (λ (l : List ℕ). slice_index l 0) last.2 ∙ word_read ws result read in
       let all : sum_by (λ (u : Share). u.allowance) s.views ≡ v.allowance = kept.allowances ∙ sym whole in (
-        λ x. sym (sum_alone (λ (u : Share). times x u.drawn) (λ (u : Share). u.allowance) s.views id v (λ j u there no. ap (times x) ((kept.fitting j u there).1 no)) at all) ∙ kept.once x ∙ ap (times_below x) word,
-        omega (arith, sum_alone (λ (u : Share). length u.drawn) (λ (u : Share). u.allowance) s.views id v (λ j u there no. ap length ((kept.fitting j u there).1 no)) at all, kept.draws, word),
+        λ x. sym (sum_alone (λ (u : Share). times x u.drawn) (λ (u : Share). u.allowance) s.views id v
+            (λ j u there no. ap (times x) ((kept.fitting j u there).1 no)) at all) ∙ kept.once x ∙ ap (times_below x) word,
+        omega (
+          arith,
+          sum_alone (λ (u : Share). length u.drawn) (λ (u : Share). u.allowance) s.views id v
+              (λ j u there no. ap length ((kept.fitting j u there).1 no)) at all,
+          kept.draws,
+          word,
+        ),
       )
 
 -- where some number drawn is at or past the count, each number below the count was drawn once

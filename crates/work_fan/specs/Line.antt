@@ -17,11 +17,13 @@ pub record SeatView : Type 0 where
 
 abbrev pub line_code : Coded LineView
 line_code =
-    code_by (TableId × (ℕ × ℕ)) (coded× table_id_coded (coded× coded_ℕ coded_ℕ)) (λ l. (l.name, (l.count, l.workers))) (λ p. record { name = p.0; count = p.1.0; workers = p.1.1 }) (λ _. refl)
+    code_by (TableId × (ℕ × ℕ)) (coded× table_id_coded (coded× coded_ℕ coded_ℕ)) (λ l. (l.name, (l.count, l.workers)))
+    (λ p. record { name = p.0; count = p.1.0; workers = p.1.1 }) (λ _. refl)
 
 abbrev pub seat_code : Coded SeatView
 seat_code =
-    code_by (TableId × (List ℕ × ℕ)) (coded× table_id_coded (coded× (coded_list coded_ℕ) coded_ℕ)) (λ s. (s.line, (s.drawn, s.allowance))) (λ p. record { line = p.0; drawn = p.1.0; allowance = p.1.1 }) (λ _. refl)
+    code_by (TableId × (List ℕ × ℕ)) (coded× table_id_coded (coded× (coded_list coded_ℕ) coded_ℕ)) (λ s. (s.line, (s.drawn, s.allowance)))
+    (λ p. record { line = p.0; drawn = p.1.0; allowance = p.1.1 }) (λ _. refl)
 
 -- how often a number stands in a list
 abbrev pub times : ℕ → List ℕ → ℕ

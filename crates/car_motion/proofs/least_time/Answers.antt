@@ -23,6 +23,7 @@ returns-else-accel-mm-clause-least c =
 
 pub returns-else-accel-mm-clause-bounded : goal.returns-else-accel-mm-clause-bounded
 returns-else-accel-mm-clause-bounded c =
-    IsLeastTime-le c.args.speed c.args.accel c.args.mm c.div_ceil-else-accel-mm.result c.requires.speed_low c.requires.speed_high c.requires.accel_low c.requires.distance
+    IsLeastTime-le c.args.speed c.args.accel c.args.mm c.div_ceil-else-accel-mm.result c.requires.speed_low c.requires.speed_high c.requires.accel_low
+    c.requires.distance
     (let positive : 100 * 100 ≤ c.args.accel * c.args.speed = mul-le-mul c.requires.accel_low c.requires.speed_low in
     rw c.div_ceil-else-accel-mm.ensures (least-long c.args.speed c.args.accel c.args.mm (omega (arith, positive)) c.if-accel-mm.false))

@@ -10,4 +10,5 @@ returns-in-Some c =
     let size = tours.ok.0 in
     let some = c.in-Some.ensures.variant.0 refl in
     let last : vec_len tours - 1 + 1 ≡ length tours.items = omega (arith, size, some) in
-    ok_then c.push.result c.push.ensures.ok (set_last tours.items c.args.stop (vec_len tours - 1) c.in-Some.tour.now c.push.new.self last c.in-Some.ensures.value)
+    ok_then c.push.result c.push.ensures.ok
+    (set_last tours.items c.args.stop (vec_len tours - 1) c.in-Some.tour.now c.push.new.self last c.in-Some.ensures.value)

@@ -16,8 +16,12 @@ use Rattle.answer_text.proofs.reading.read.Goals as goal
 pub returns-in-Ok-clause-answer : goal.returns-in-Ok-clause-answer
 returns-in-Ok-clause-answer g c = λ none.
     (let left = g.S.Source.left in
-    let end = c.read_section.new.section in
-    (end, sym c.into_stated.ensures, subst (λ (start : Draft). ReadAs after (text left c.args.lines.now) start (Ok tt) end (text left c.read_section.new.lines)) c.new-draft.ensures (c.in-Ok.ensures.outcome none)))
+    let end = c.read_section.new.section in (
+      end,
+      sym c.into_stated.ensures,
+      subst (λ (start : Draft). ReadAs after (text left c.args.lines.now) start (Ok tt) end (text left c.read_section.new.lines)) c.new-draft.ensures
+          (c.in-Ok.ensures.outcome none),
+    ))
 
 pub returns-in-Ok-clause-said : goal.returns-in-Ok-clause-said
 returns-in-Ok-clause-said g c = λ none.
@@ -37,7 +41,8 @@ returns-in-Ok-clause-lines g c = λ none lines stated rest says.
     let now = text left c.read_section.new.lines in
     let end = c.read_section.new.section in
     let read = subst (λ (start : Draft). ReadAs after before start (Ok tt) end now) c.new-draft.ensures (c.in-Ok.ensures.outcome none) in
-    subst (λ (found : Stated). IfSome before (λ before_text. BeginsWith lines (reading before_text) rest → (found ≡ stated) × IsSomeAnd now (λ behind. reading behind ≡ rest)))
+    subst (λ (found : Stated).
+    IfSome before (λ before_text. BeginsWith lines (reading before_text) rest → (found ≡ stated) × IsSomeAnd now (λ behind. reading behind ≡ rest)))
     (sym c.into_stated.ensures) (answer_ok c.args.snapshot.now lines stated rest says before now end read))
 
 pub returns-in-Ok-clause-within : goal.returns-in-Ok-clause-within

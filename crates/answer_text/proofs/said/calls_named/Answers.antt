@@ -14,4 +14,5 @@ returns-in_err-call c =
 
 pub loop-id-preserved : goal.loop-id-preserved
 loop-id-preserved c =
-    named_more c.args.snapshot.now c.args.ids.now c.loop-id.boards c.push.new.self c.loop-id.id-index c.in_ok-call.call c.loop-id-test.true c.loop-id.invariant c.in_ok-call.ensures c.in_ok-push.ensures.ok
+    named_more c.args.snapshot.now c.args.ids.now c.loop-id.boards c.push.new.self c.loop-id.id-index c.in_ok-call.call c.loop-id-test.true c.loop-id.invariant
+    c.in_ok-call.ensures c.in_ok-push.ensures.ok

@@ -17,8 +17,10 @@ loop-j-init c =
     let left = ap (λ it. it.left) c.into_iter-j-iterator.ensures.into_iter_gives ∙ c.iter-j-items.ensures in
     record {
       text = ap (λ (set : ℕ). out ++ flat_map words (members 128 set)) left
-          ∙ ap (λ (xs : List ℕ). out ++ xs) (members_written s boards c.of_list.result c.of_list.ensures c.requires (calls_few s c.calls-calls.ensures.accepted));
-      calls = subst (λ (set : ℕ). AllByRecursion (λ j. j < call_count s) (members 128 set)) (sym left) (members_calls s boards c.of_list.result c.of_list.ensures c.requires);
+          ∙ ap (λ (xs : List ℕ). out ++ xs)
+          (members_written s boards c.of_list.result c.of_list.ensures c.requires (calls_few s c.calls-calls.ensures.accepted));
+      calls = subst (λ (set : ℕ). AllByRecursion (λ j. j < call_count s) (members 128 set)) (sym left)
+          (members_calls s boards c.of_list.result c.of_list.ensures c.requires);
     }
 
 pub bounds-calls-j : goal.bounds-calls-j
@@ -34,6 +36,9 @@ loop-j-preserved c =
     let all = subst (AllByRecursion (λ j. j < call_count s)) c.in-Some.ensures.steps c.loop-j.invariant.calls in
     record {
       text = next_written s c.args.boards.now c.loop-j.out.items c.put_board.new.out.items _ _ _ c.in-Some.j c.loop-j.invariant.text c.in-Some.ensures.steps
-          (c.in_ok-put_board.ensures ∙ ap (λ (calls : List Call). c.loop-j.out.items ++ flat_map (λ x. word (slice_index_or calls c.in-Some.j no_call).id) (filter (λ x. x == c.in-Some.j) c.args.boards.now)) c.calls-calls.ensures.value);
+          (c.in_ok-put_board.ensures
+          ∙ ap (λ (calls : List Call). c.loop-j.out.items
+          ++ flat_map (λ x. word (slice_index_or calls c.in-Some.j no_call).id) (filter (λ x. x == c.in-Some.j) c.args.boards.now))
+          c.calls-calls.ensures.value);
       calls = all.1;
     }

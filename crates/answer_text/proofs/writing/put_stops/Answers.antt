@@ -12,5 +12,6 @@ returns c =
     let s = c.args.snapshot.now in
     let stops = c.args.stops.now in
     let old = c.args.out.now.items in
-    c.loop-stop.invariant ∙ ap (λ (xs : List Stop). old ++ flat_map (λ x. line_text (stop_words s x)) xs) (take_all c.loop-stop.stop-index stops c.loop-stop-test.false)
+    c.loop-stop.invariant
+    ∙ ap (λ (xs : List Stop). old ++ flat_map (λ x. line_text (stop_words s x)) xs) (take_all c.loop-stop.stop-index stops c.loop-stop-test.false)
     ∙ ap (λ (xs : List ℕ). old ++ xs) (stops_are s stops)

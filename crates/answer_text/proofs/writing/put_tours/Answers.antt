@@ -27,5 +27,7 @@ loop-c-preserved c =
     let inside : k < length c.cars.result.now = omega (arith, c.loop-c-test.true, tours_long, c.requires.tours, cars_long) in
     let own : c.from.result ≡ (spec_of s k).id =
     c.from.ensures ∙ ap (λ (x : CarSpec). x.id) (get_or_default c.cars.result.now k car no_car inside ∙ ap (λ (xs : List CarSpec). get_or xs k no_car) cars) in
-    let one = wrote_tour s plan k c.from.result c.stops.result.now out c.put_line.new.out.items c.put_stops.new.out.items own (c.stops.ensures ∙ there) c.in_ok-put_line.ensures.ok c.in_ok-put_stops.ensures in
-    wrote_one (λ c'. lines_text (tour_lines s plan c')) c.args.out.now.items out c.put_stops.new.out.items (lines_text (tour_lines s plan k)) k c.loop-c.invariant one refl
+    let one = wrote_tour s plan k c.from.result c.stops.result.now out c.put_line.new.out.items c.put_stops.new.out.items own
+    (c.stops.ensures ∙ there) c.in_ok-put_line.ensures.ok c.in_ok-put_stops.ensures in
+    wrote_one (λ c'. lines_text (tour_lines s plan c')) c.args.out.now.items out c.put_stops.new.out.items
+    (lines_text (tour_lines s plan k)) k c.loop-c.invariant one refl

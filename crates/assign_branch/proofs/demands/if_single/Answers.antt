@@ -15,4 +15,5 @@ returns-then-bits-car c k lt =
 pub returns-else-bits-car : goal.returns-else-bits-car
 returns-else-bits-car c k lt =
     let member = c.in-Some.ensures.member in
-    none-single c.args.set k c.empty-else-bits-car.result c.empty-else-bits-car.ensures (other-no_single c.args.set c.in-Some.car k member.0 (λ e. c.if-bits-car.false (c.bits.ensures ∙ e ∙ sym (single_number c.in-Some.car member.1))))
+    none-single c.args.set k c.empty-else-bits-car.result c.empty-else-bits-car.ensures
+    (other-no_single c.args.set c.in-Some.car k member.0 (λ e. c.if-bits-car.false (c.bits.ensures ∙ e ∙ sym (single_number c.in-Some.car member.1))))

@@ -13,7 +13,8 @@ sets_are c =
 pub loop-call-preserved : goal.loop-call-preserved
 loop-call-preserved c =
     let within : c.loop-call.call < call_count c.args.snapshot.now = let same = ap length c.calls-calls.ensures.value in omega arith in
-    rw c.in_ok-push.ensures.items (root-next c.args.snapshot.now c.loop-call.sets.items c.loop-call.call c.possible.result within c.possible.ensures.cars c.loop-call.invariant)
+    rw c.in_ok-push.ensures.items
+    (root-next c.args.snapshot.now c.loop-call.sets.items c.loop-call.call c.possible.result within c.possible.ensures.cars c.loop-call.invariant)
 
 pub of_sets-requires-clause-cars : goal.of_sets-requires-clause-cars
 of_sets-requires-clause-cars c j =
@@ -21,7 +22,8 @@ of_sets-requires-clause-cars c j =
 
 pub returns-clause-root : goal.returns-clause-root
 returns-clause-root c =
-    c.of_sets.ensures ∙ root-all c.args.snapshot.now c.loop-call.sets.items c.loop-call.call (let same = ap length c.calls-calls.ensures.value in omega arith) c.loop-call.invariant
+    c.of_sets.ensures ∙ root-all c.args.snapshot.now c.loop-call.sets.items c.loop-call.call
+    (let same = ap length c.calls-calls.ensures.value in omega arith) c.loop-call.invariant
 
 pub returns-clause-node : goal.returns-clause-node
 returns-clause-node c =

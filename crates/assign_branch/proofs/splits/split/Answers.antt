@@ -12,7 +12,8 @@ of_split c =
     record {
       part_is = subst (λ (x : ℕ). is_part x c.args.part ≡ true) whole (sym c.is_part.ensures ∙ tested);
       first_is = c.give.ensures ∙ ap (λ (n : List ℕ). set n c.args.call c.args.part) c.copy_from.ensures;
-      second_is = c.give-2.ensures ∙ ap (λ (n : List ℕ). set n c.args.call c.rest.result) c.copy_from-2.ensures ∙ ap (λ (x : ℕ). set c.args.from.now c.args.call x) (rest ∙ ap (λ (x : ℕ). rest_of x c.args.part) whole);
+      second_is = c.give-2.ensures ∙ ap (λ (n : List ℕ). set n c.args.call c.rest.result) c.copy_from-2.ensures
+          ∙ ap (λ (x : ℕ). set c.args.from.now c.args.call x) (rest ∙ ap (λ (x : ℕ). rest_of x c.args.part) whole);
     }
 
 pub returns-clause-plans : goal.returns-clause-plans
@@ -25,5 +26,8 @@ returns-clause-nodes c =
 
 pub returns-clause-calls : goal.returns-clause-calls
 returns-clause-calls c =
-    let of = of_split c in
-    (ap length of.first_is ∙ length-set c.args.from.now c.args.call c.args.part, ap length of.second_is ∙ length-set c.args.from.now c.args.call (rest_of (set_of c.args.from.now c.args.call) c.args.part))
+    let of = of_split c in (
+      ap length of.first_is ∙ length-set c.args.from.now c.args.call c.args.part,
+      ap length of.second_is
+          ∙ length-set c.args.from.now c.args.call (rest_of (set_of c.args.from.now c.args.call) c.args.part),
+    )

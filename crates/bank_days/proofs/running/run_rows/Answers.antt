@@ -17,7 +17,9 @@ loop-row-preserved g c =
     let before = c.loop-row.invariant in
     let did = c.in_ok-run_row.ensures in
     record {
-      so_far = row-appended (g.P.Planner.right c.args.planner.now) c.args.day.now c.loop-row.day c.run_row.new.day c.args.rows.now c.loop-row.row-index c.row-item.result c.args.log.now.items c.loop-row.log.items c.run_row.new.log.items c.in_ok-run_row.field-0 c.loop-row-test.true c.row-item.is before.so_far did.done;
+      so_far = row-appended
+          (g.P.Planner.right c.args.planner.now) c.args.day.now c.loop-row.day c.run_row.new.day c.args.rows.now c.loop-row.row-index c.row-item.result
+          c.args.log.now.items c.loop-row.log.items c.run_row.new.log.items c.in_ok-run_row.field-0 c.loop-row-test.true c.row-item.is before.so_far did.done;
       numbered = omega (arith, before.numbered, did.number);
       lost_none = did.none_lost;
     }
@@ -25,4 +27,6 @@ loop-row-preserved g c =
 pub returns-clause-done : goal.returns-clause-done
 returns-clause-done g c =
     let past = c.loop-row-test.false in
-    subst (λ (rows : List BankRow). AreRowsAppended (g.P.Planner.right c.args.planner.now) c.args.day.now rows c.loop-row.day c.args.log.now.items c.loop-row.log.items) (take_all c.loop-row.row-index c.args.rows.now (omega (arith, past))) c.loop-row.invariant.so_far
+    subst (λ (rows : List BankRow).
+    AreRowsAppended (g.P.Planner.right c.args.planner.now) c.args.day.now rows c.loop-row.day c.args.log.now.items c.loop-row.log.items)
+    (take_all c.loop-row.row-index c.args.rows.now (omega (arith, past))) c.loop-row.invariant.so_far

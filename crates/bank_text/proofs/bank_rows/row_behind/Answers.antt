@@ -10,7 +10,8 @@ returns-then-len-ne5 c = other_count (fields_of c.args.fields.now) (search rules
 
 pub returns-in-Some : goal.returns-in-Some
 returns-in-Some c =
-    row_made (fields_of c.args.fields.now) (texts_of c.in-Some.digits) c.row_of_digits.result (search rules) (ap (option_map texts_of) (sym c.in-Some.is) ∙ c.digits_behind.ensures) c.row_of_digits.ensures
+    row_made (fields_of c.args.fields.now) (texts_of c.in-Some.digits) c.row_of_digits.result (search rules)
+    (ap (option_map texts_of) (sym c.in-Some.is) ∙ c.digits_behind.ensures) c.row_of_digits.ensures
 
 pub returns-in-None : goal.returns-in-None
 returns-in-None c = no_digits (fields_of c.args.fields.now) (search rules) (ap (option_map texts_of) (sym c.in-None.is) ∙ c.digits_behind.ensures)

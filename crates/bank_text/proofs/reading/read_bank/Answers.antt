@@ -19,7 +19,8 @@ pub returns-in-Ok-clause-takes : goal.returns-in-Ok-clause-takes
 returns-in-Ok-clause-takes g c =
     let left = g.S.Source.left in
     let head = opened (record { id = c.args.id; opening = c.in-Ok.opening }) in
-    bank_answered (text left c.args.lines.now) (text left c.read_bank_opening.new.lines) c.args.id c.args.banks.now.items c.put_bank.new.banks.items c.in-Ok.opening c.in-Ok.ensures.takes
+    bank_answered (text left c.args.lines.now)
+    (text left c.read_bank_opening.new.lines) c.args.id c.args.banks.now.items c.put_bank.new.banks.items c.in-Ok.opening c.in-Ok.ensures.takes
     (c.put_bank.ensures ∙ ap (λ (banks : List Bank). views_of banks ++ head ∷ []) c.reserve.ensures.items)
 
 pub returns-in-Err-clause-takes : goal.returns-in-Err-clause-takes

@@ -52,7 +52,8 @@ pub returns-in-Ok-false-clause-heads : goal.returns-in-Ok-false-clause-heads
 returns-in-Ok-false-clause-heads g c =
     let left = g.S.Source.left in
     let did = rw c.in-Ok-false.field-0-test at c.in-Ok-false.ensures in
-    heads_read (text left c.args.lines.now) (text left c.banks.lines) (text left c.read_next.new.lines) c.banks.banks.items c.read_next.new.banks.items c.banks.invariant.so_far did.next.0 did.next.1
+    heads_read (text left c.args.lines.now) (text left c.banks.lines)
+    (text left c.read_next.new.lines) c.banks.banks.items c.read_next.new.banks.items c.banks.invariant.so_far did.next.0 did.next.1
 
 pub returns-in-Ok-false-clause-few : goal.returns-in-Ok-false-clause-few
 returns-in-Ok-false-clause-few g c =
@@ -67,18 +68,21 @@ returns-in-Err-clause-refused g c =
 pub returns-in-Err-clause-shows : goal.returns-in-Err-clause-shows
 returns-in-Err-clause-shows g c =
     let left = g.S.Source.left in
-    bank_fault_behind (text left c.args.lines.now) (text left c.banks.lines) c.in-Err.fault (left c.read_next.new.lines.source.now) c.banks.invariant.went c.in-Err.ensures.shows
+    bank_fault_behind (text left c.args.lines.now) (text left c.banks.lines) c.in-Err.fault
+    (left c.read_next.new.lines.source.now) c.banks.invariant.went c.in-Err.ensures.shows
 
 pub returns-in-Ok-false-clause-takes : goal.returns-in-Ok-false-clause-takes
 returns-in-Ok-false-clause-takes g c =
     let left = g.S.Source.left in
     let did = rw c.in-Ok-false.field-0-test at c.in-Ok-false.ensures in
-    heads_taken (text left c.args.lines.now) (text left c.banks.lines) (text left c.read_next.new.lines) c.banks.banks.items c.read_next.new.banks.items c.banks.invariant.leads did.next.0 did.takes
+    heads_taken (text left c.args.lines.now) (text left c.banks.lines)
+    (text left c.read_next.new.lines) c.banks.banks.items c.read_next.new.banks.items c.banks.invariant.leads did.next.0 did.takes
 
 pub returns-in-Err-clause-takes : goal.returns-in-Err-clause-takes
 returns-in-Err-clause-takes g c =
     let left = g.S.Source.left in
-    heads_not_taken (text left c.args.lines.now) (text left c.banks.lines) (text left c.read_next.new.lines) c.banks.banks.items c.read_next.new.banks.items c.in-Err.fault c.banks.invariant.leads c.in-Err.ensures.takes
+    heads_not_taken (text left c.args.lines.now) (text left c.banks.lines)
+    (text left c.read_next.new.lines) c.banks.banks.items c.read_next.new.banks.items c.in-Err.fault c.banks.invariant.leads c.in-Err.ensures.takes
 
 pub returns-clause-takes : goal.returns-clause-takes
 returns-clause-takes g c =

@@ -18,9 +18,12 @@ returns-in-Some-clause-next g c =
     let named = c.read_head.new.lines in
     let some = some_banks banks c.is_empty.result (c.is_empty.ensures ∙ ap (λ (bs : List Bank). nat_eq (length bs) 0) c.as_slice-others.ensures.value) in
     let said = rw c.in-Ok-Bank.field-0-is at c.in-Ok-Bank.ensures in
-    let number = subst (λ (n : ℕ). IfSome (text left named) (λ (t : TextState). t.line ≡ n)) (sym c.line.ensures.value) (number_of named.page (left named.source.now)) in
-    let refused = subst (λ (bs : List Bank). IsRefusal (ids_of bs) c.in-Ok-Bank.id c.line.result (Some c.in-Some.fault)) c.as_slice-others.ensures.value c.in-Some.ensures in
-    bank_refused (text left c.args.lines.now) (text left named) (not c.is_empty.result) (ids_of banks) c.in-Ok-Bank.id c.line.result c.in-Some.fault some said.said number refused
+    let number = subst (λ (n : ℕ). IfSome (text left named) (λ (t : TextState). t.line ≡ n)) (sym c.line.ensures.value)
+    (number_of named.page (left named.source.now)) in
+    let refused = subst
+    (λ (bs : List Bank). IsRefusal (ids_of bs) c.in-Ok-Bank.id c.line.result (Some c.in-Some.fault)) c.as_slice-others.ensures.value c.in-Some.ensures in
+    bank_refused (text left c.args.lines.now) (text left named) (not c.is_empty.result)
+    (ids_of banks) c.in-Ok-Bank.id c.line.result c.in-Some.fault some said.said number refused
 
 pub returns-in-Ok-clause-next : goal.returns-in-Ok-clause-next
 returns-in-Ok-clause-next g c =
@@ -29,8 +32,10 @@ returns-in-Ok-clause-next g c =
     let named = c.read_head.new.lines in
     let some = some_banks banks c.is_empty.result (c.is_empty.ensures ∙ ap (λ (bs : List Bank). nat_eq (length bs) 0) c.as_slice-others.ensures.value) in
     let said = rw c.in-Ok-Bank.field-0-is at c.in-Ok-Bank.ensures in
-    let new_bank = subst (λ (bs : List Bank). IsRefusal (ids_of bs) c.in-Ok-Bank.id c.line.result None) c.as_slice-others.ensures.value (subst (IsRefusal (ids_of c.as_slice-others.result.now) c.in-Ok-Bank.id c.line.result) c.in_default.is c.refusal.ensures) in
-    bank_taken (text left c.args.lines.now) (text left named) (text left c.read_bank.new.lines) (not c.is_empty.result) c.in-Ok-Bank.id c.line.result banks c.read_bank.new.banks.items some said.said new_bank c.in-Ok.ensures.put
+    let new_bank = subst (λ (bs : List Bank). IsRefusal (ids_of bs) c.in-Ok-Bank.id c.line.result None) c.as_slice-others.ensures.value
+    (subst (IsRefusal (ids_of c.as_slice-others.result.now) c.in-Ok-Bank.id c.line.result) c.in_default.is c.refusal.ensures) in
+    bank_taken (text left c.args.lines.now) (text left named) (text left c.read_bank.new.lines)
+    (not c.is_empty.result) c.in-Ok-Bank.id c.line.result banks c.read_bank.new.banks.items some said.said new_bank c.in-Ok.ensures.put
 
 pub returns-in-Ok-clause-went : goal.returns-in-Ok-clause-went
 returns-in-Ok-clause-went g c =
@@ -44,13 +49,16 @@ returns-in-Err-read_bank-clause-next g c =
     let named = c.read_head.new.lines in
     let some = some_banks banks c.is_empty.result (c.is_empty.ensures ∙ ap (λ (bs : List Bank). nat_eq (length bs) 0) c.as_slice-others.ensures.value) in
     let said = rw c.in-Ok-Bank.field-0-is at c.in-Ok-Bank.ensures in
-    let new_bank = subst (λ (bs : List Bank). IsRefusal (ids_of bs) c.in-Ok-Bank.id c.line.result None) c.as_slice-others.ensures.value (subst (IsRefusal (ids_of c.as_slice-others.result.now) c.in-Ok-Bank.id c.line.result) c.in_default.is c.refusal.ensures) in
-    late_refused (text left c.args.lines.now) (text left named) (not c.is_empty.result) (ids_of banks) c.in-Ok-Bank.id c.line.result c.in-Err-read_bank.fault some said.said new_bank c.in-Err-read_bank.ensures.refused
+    let new_bank = subst (λ (bs : List Bank). IsRefusal (ids_of bs) c.in-Ok-Bank.id c.line.result None) c.as_slice-others.ensures.value
+    (subst (IsRefusal (ids_of c.as_slice-others.result.now) c.in-Ok-Bank.id c.line.result) c.in_default.is c.refusal.ensures) in
+    late_refused (text left c.args.lines.now) (text left named) (not c.is_empty.result)
+    (ids_of banks) c.in-Ok-Bank.id c.line.result c.in-Err-read_bank.fault some said.said new_bank c.in-Err-read_bank.ensures.refused
 
 pub returns-in-Err-read_bank-clause-shows : goal.returns-in-Err-read_bank-clause-shows
 returns-in-Err-read_bank-clause-shows g c =
     let left = g.S.Source.left in
-    fault_behind (text left c.args.lines.now) (text left c.read_head.new.lines) c.in-Err-read_bank.fault (left c.read_bank.new.lines.source.now) c.in-Ok-Bank.ensures.went c.in-Err-read_bank.ensures.shows
+    fault_behind (text left c.args.lines.now) (text left c.read_head.new.lines) c.in-Err-read_bank.fault
+    (left c.read_bank.new.lines.source.now) c.in-Ok-Bank.ensures.went c.in-Err-read_bank.ensures.shows
 
 pub returns-in-Ok-Rows-clause-takes : goal.returns-in-Ok-Rows-clause-takes
 returns-in-Ok-Rows-clause-takes g c =
@@ -75,8 +83,10 @@ returns-in-Some-clause-takes g c =
     let named = text left c.read_head.new.lines in
     let said = rw c.in-Ok-Bank.field-0-is at c.in-Ok-Bank.ensures in
     let some = some_banks banks c.is_empty.result (c.is_empty.ensures ∙ ap (λ (bs : List Bank). nat_eq (length bs) 0) c.as_slice-others.ensures.value) in
-    let refused = subst (λ (bs : List Bank). IsRefusal (ids_of bs) c.in-Ok-Bank.id c.line.result (Some c.in-Some.fault)) c.as_slice-others.ensures.value c.in-Some.ensures in
-    takes_no_bank (text left c.args.lines.now) named named (not c.is_empty.result) c.in-Ok-Bank.id c.line.result banks banks c.in-Some.fault some said.said refused
+    let refused = subst
+    (λ (bs : List Bank). IsRefusal (ids_of bs) c.in-Ok-Bank.id c.line.result (Some c.in-Some.fault)) c.as_slice-others.ensures.value c.in-Some.ensures in
+    takes_no_bank (text left c.args.lines.now) named named
+    (not c.is_empty.result) c.in-Ok-Bank.id c.line.result banks banks c.in-Some.fault some said.said refused
 
 pub returns-in-Ok-clause-takes : goal.returns-in-Ok-clause-takes
 returns-in-Ok-clause-takes g c =
@@ -84,7 +94,8 @@ returns-in-Ok-clause-takes g c =
     let banks = c.args.banks.now.items in
     let said = rw c.in-Ok-Bank.field-0-is at c.in-Ok-Bank.ensures in
     let some = some_banks banks c.is_empty.result (c.is_empty.ensures ∙ ap (λ (bs : List Bank). nat_eq (length bs) 0) c.as_slice-others.ensures.value) in
-    takes_bank (text left c.args.lines.now) (text left c.read_head.new.lines) (text left c.read_bank.new.lines) (not c.is_empty.result) c.in-Ok-Bank.id banks c.read_bank.new.banks.items (Ok tt) some said.said c.in-Ok.ensures.takes
+    takes_bank (text left c.args.lines.now) (text left c.read_head.new.lines) (text left c.read_bank.new.lines)
+    (not c.is_empty.result) c.in-Ok-Bank.id banks c.read_bank.new.banks.items (Ok tt) some said.said c.in-Ok.ensures.takes
 
 pub returns-in-Err-read_bank-clause-takes : goal.returns-in-Err-read_bank-clause-takes
 returns-in-Err-read_bank-clause-takes g c =
@@ -92,4 +103,5 @@ returns-in-Err-read_bank-clause-takes g c =
     let banks = c.args.banks.now.items in
     let said = rw c.in-Ok-Bank.field-0-is at c.in-Ok-Bank.ensures in
     let some = some_banks banks c.is_empty.result (c.is_empty.ensures ∙ ap (λ (bs : List Bank). nat_eq (length bs) 0) c.as_slice-others.ensures.value) in
-    takes_bank (text left c.args.lines.now) (text left c.read_head.new.lines) (text left c.read_bank.new.lines) (not c.is_empty.result) c.in-Ok-Bank.id banks c.read_bank.new.banks.items (Err c.in-Err-read_bank.fault) some said.said c.in-Err-read_bank.ensures.takes
+    takes_bank (text left c.args.lines.now) (text left c.read_head.new.lines) (text left c.read_bank.new.lines)
+    (not c.is_empty.result) c.in-Ok-Bank.id banks c.read_bank.new.banks.items (Err c.in-Err-read_bank.fault) some said.said c.in-Err-read_bank.ensures.takes

@@ -43,7 +43,8 @@ lines-preserved g c =
       same_source = did.same_source ∙ before.same_source;
       no_failure = did.ok;
       went = went_further from at (text left new.lines) before.went did.went;
-      so_far = line_so_far from at (text left new.lines) c.args.banks.now c.lines.banks new.banks c.lines.strays (c.lines.strays + c.from-strays.result) c.lines.counter c.in-Ok-Line.is_stray before.so_far did.taken (ap (λ (n : ℕ). c.lines.strays + n) one);
+      so_far = line_so_far from at (text left new.lines) c.args.banks.now c.lines.banks new.banks c.lines.strays
+          (c.lines.strays + c.from-strays.result) c.lines.counter c.in-Ok-Line.is_stray before.so_far did.taken (ap (λ (n : ℕ). c.lines.strays + n) one);
       few = omega (arith, before.few, one, most);
       numbered = omega (arith, did.number, before.numbered);
       counted = omega (arith, before.counted, did.counted);
@@ -54,7 +55,8 @@ returns-in-Ok-End-clause-rows g c =
     let left = g.S.Source.left in
     let before = c.lines.invariant in
     let did = rw c.in-Ok-End.field-0-is at c.in-Ok-End.ensures in
-    rows_end (text left c.args.lines.now) (text left c.lines.lines) c.args.banks.now c.lines.banks c.take_next.new.banks c.lines.strays c.lines.counter before.so_far did.taken before.went
+    rows_end (text left c.args.lines.now)
+    (text left c.lines.lines) c.args.banks.now c.lines.banks c.take_next.new.banks c.lines.strays c.lines.counter before.so_far did.taken before.went
 
 pub returns-in-Ok-End-clause-added : goal.returns-in-Ok-End-clause-added
 returns-in-Ok-End-clause-added g c =
@@ -62,7 +64,9 @@ returns-in-Ok-End-clause-added g c =
     let before = c.lines.invariant in
     let test = c.lines-test.true in
     let did = rw c.in-Ok-End.field-0-is at c.in-Ok-End.ensures in
-    rows_added (text left c.args.lines.now) (text left c.lines.lines) c.args.banks.now c.lines.banks c.take_next.new.banks c.lines.strays c.lines.counter 67108864 before.so_far did.taken.0 (omega (arith, test))
+    rows_added (text left c.args.lines.now)
+    (text left c.lines.lines) c.args.banks.now c.lines.banks c.take_next.new.banks c.lines.strays c.lines.counter 67108864 before.so_far did.taken.0
+    (omega (arith, test))
 
 pub returns-in-Err-clause-refused : goal.returns-in-Err-clause-refused
 returns-in-Err-clause-refused g c =
@@ -72,4 +76,5 @@ returns-in-Err-clause-refused g c =
 pub returns-in-Err-clause-shows : goal.returns-in-Err-clause-shows
 returns-in-Err-clause-shows g c =
     let left = g.S.Source.left in
-    fault_behind (text left c.args.lines.now) (text left c.lines.lines) c.in-Err.fault (left c.take_next.new.lines.source.now) c.lines.invariant.went c.in-Err.ensures.shows
+    fault_behind (text left c.args.lines.now) (text left c.lines.lines) c.in-Err.fault
+    (left c.take_next.new.lines.source.now) c.lines.invariant.went c.in-Err.ensures.shows

@@ -11,7 +11,8 @@ use Rattle.building_text.proofs.LawLemmas.{made_whole, read_answer, refused_answ
 use Rattle.building_text.proofs.reading.read_lines.Goals as goal
 
 pub finish-requires : goal.finish-requires
-finish-requires g c = made_whole c.read_section.new.section (subst (λ (d : Draft). IsMade after d c.read_section.new.section) c.new-draft.ensures c.in-Ok.ensures.made)
+finish-requires g c = made_whole c.read_section.new.section
+    (subst (λ (d : Draft). IsMade after d c.read_section.new.section) c.new-draft.ensures c.in-Ok.ensures.made)
 
 pub returns-in-Ok-clause-building : goal.returns-in-Ok-clause-building
 returns-in-Ok-clause-building g c = λ none.
@@ -19,7 +20,8 @@ returns-in-Ok-clause-building g c = λ none.
     let before = text left c.args.lines.now in
     let now = text left c.read_section.new.lines in
     let d = c.read_section.new.section in
-    read_answer c.finish.result before now d (subst (λ (start : Draft). ReadAs after before start (Ok tt) d now) c.new-draft.ensures (c.in-Ok.ensures.outcome none)) c.finish.ensures.stands)
+    read_answer c.finish.result before now d
+    (subst (λ (start : Draft). ReadAs after before start (Ok tt) d now) c.new-draft.ensures (c.in-Ok.ensures.outcome none)) c.finish.ensures.stands)
 
 pub returns-in-Ok-clause-refused : goal.returns-in-Ok-clause-refused
 returns-in-Ok-clause-refused g c = λ none.
@@ -43,4 +45,6 @@ returns-in-Err-clause-unfinished g c = λ none is.
     (let left = g.S.Source.left in
     let before = text left c.args.lines.now in
     let behind = left c.read_section.new.lines.source.now in
-    ends_behind before behind (subst (λ (start : Draft). EndsBehind after before start behind) c.new-draft.ensures (c.in-Err.ensures.unfinished none (ap Err (same_error (Err c.in-Err.fault) c.in-Err.fault Read refl is)))))
+    ends_behind before behind
+    (subst (λ (start : Draft). EndsBehind after before start behind) c.new-draft.ensures
+    (c.in-Err.ensures.unfinished none (ap Err (same_error (Err c.in-Err.fault) c.in-Err.fault Read refl is)))))

@@ -10,5 +10,7 @@ use Rattle.building_text.proofs.writing.put_cars.Goals as goal
 pub returns : goal.returns
 returns c =
     let cars = c.args.cars.now in
-    c.loop-car.invariant ∙ ap (λ cs. c.args.out.now.items ++ flat_map (λ (x : CarSpec). line_text (car_line c.args.floors x)) cs) (take_all c.loop-car.car-index cars (omega arith))
+    c.loop-car.invariant
+    ∙ ap (λ cs. c.args.out.now.items ++ flat_map (λ (x : CarSpec). line_text (car_line c.args.floors x)) cs)
+    (take_all c.loop-car.car-index cars (omega arith))
     ∙ ap (λ text. c.args.out.now.items ++ text) (sym (lines_map (car_line c.args.floors) cars))

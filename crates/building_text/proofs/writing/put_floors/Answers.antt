@@ -9,7 +9,10 @@ pub loop-floor-preserved : goal.loop-floor-preserved
 loop-floor-preserved c =
     elim c.if-contains.branch [
       | then-contains+in_ok-put_word w ↦
-          rw w.out-is (wrote_passed (has c.args.set) word c.args.out.now.items c.loop-floor.out.items w.put_word.new.out.items c.loop-floor.floor c.loop-floor.invariant w.in_ok-put_word.ensures.ok (sym c.contains.ensures ∙ w.if-contains.true))
+          rw w.out-is (wrote_passed
+          (has c.args.set) word c.args.out.now.items c.loop-floor.out.items w.put_word.new.out.items c.loop-floor.floor c.loop-floor.invariant
+          w.in_ok-put_word.ensures.ok (sym c.contains.ensures ∙ w.if-contains.true))
       | else-contains w ↦
-          rw w.out-is (c.loop-floor.invariant ∙ text_of_failed (has c.args.set) word c.args.out.now.items c.loop-floor.floor (sym c.contains.ensures ∙ w.if-contains.false))
+          rw w.out-is (c.loop-floor.invariant
+          ∙ text_of_failed (has c.args.set) word c.args.out.now.items c.loop-floor.floor (sym c.contains.ensures ∙ w.if-contains.false))
     ]

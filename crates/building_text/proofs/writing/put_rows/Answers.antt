@@ -8,7 +8,8 @@ use Rattle.building_text.proofs.writing.put_rows.Goals as goal
 pub loop-floor-preserved : goal.loop-floor-preserved
 loop-floor-preserved c =
     let t = c.args.travel.now in
-    wrote_one (λ f. line_text (row_line t.floors t f)) c.args.out.now.items c.loop-floor.out.items c.put_row.new.out.items (line_text (row_line t.floors t c.loop-floor.floor)) c.loop-floor.floor c.loop-floor.invariant c.in_ok-put_row.ensures refl
+    wrote_one (λ f. line_text (row_line t.floors t f)) c.args.out.now.items c.loop-floor.out.items c.put_row.new.out.items
+    (line_text (row_line t.floors t c.loop-floor.floor)) c.loop-floor.floor c.loop-floor.invariant c.in_ok-put_row.ensures refl
 
 pub returns : goal.returns
 returns c =

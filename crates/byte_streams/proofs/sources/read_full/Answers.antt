@@ -9,6 +9,7 @@ loop-filled-preserved g c =
     record {
       within = search rules;
       given = given_more _ _ _ _ _ c.loop-filled.invariant.given c.in_ok-count.ensures.given
-          ∙ ap (λ bytes. prepend_known bytes (g.S.Source.left c.read.new.self)) (sym (take-overwritten c.loop-filled.filled count c.loop-filled.into c.read.new.into _ (omega arith) c.in_ok-count.ensures.bound));
+          ∙ ap (λ bytes. prepend_known bytes (g.S.Source.left c.read.new.self))
+          (sym (take-overwritten c.loop-filled.filled count c.loop-filled.into c.read.new.into _ (omega arith) c.in_ok-count.ensures.bound));
       counted = omega arith;
     }

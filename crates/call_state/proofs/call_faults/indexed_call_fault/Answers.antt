@@ -11,7 +11,8 @@ returns-then-contains c =
     let calls = any_indexed (λ (x : Call). x.id) c.args.before.now c.args.calls.now c.args.item.now.id c.requires.calls in
     elim c.then-contains.branch [
       | then-contains-via-then-contains w ↦ rw (sym groups ∙ sym c.contains.ensures ∙ w.if-contains.true)
-      | then-contains-via-else-contains+then-contains-2 w ↦ rw (sym groups ∙ sym c.contains.ensures ∙ w.if-contains.false, sym calls ∙ sym w.contains-else-contains.ensures ∙ w.if-contains-2.true)
+      | then-contains-via-else-contains+then-contains-2 w ↦
+          rw (sym groups ∙ sym c.contains.ensures ∙ w.if-contains.false, sym calls ∙ sym w.contains-else-contains.ensures ∙ w.if-contains-2.true)
     ]
 
 pub fault_of_new-requires-clause-new : goal.fault_of_new-requires-clause-new

@@ -6,7 +6,8 @@ use Rattle.car_layout.proofs.scans.calls_for.Goals as goal
 
 pub loop-j-preserved : goal.loop-j-preserved
 loop-j-preserved c =
-    scan_more c.loop-j.set c.with_if-set.result c.loop-j.j c.may_take.result (is_call_for c.args.snapshot.now c.args.car) c.loop-j.invariant c.with_if-set.ensures c.may_take.ensures.value
+    scan_more c.loop-j.set c.with_if-set.result c.loop-j.j c.may_take.result
+    (is_call_for c.args.snapshot.now c.args.car) c.loop-j.invariant c.with_if-set.ensures c.may_take.ensures.value
 
 pub returns : goal.returns
 returns c = λ j.

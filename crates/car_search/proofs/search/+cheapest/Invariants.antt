@@ -12,7 +12,8 @@ invariant-loop-place g l = record {
   least : l.least ≡ to_beat l.beat l.best;
   selection : IfSome l.best (IsSelection g.C.CallCounts.times g.C.CallCounts.whole (has l.demand.all) (g.C.CallCounts.times l.taken) l.car l.cars l.beat);
   lower : l.least ≤ l.beat;
-  cheapest : 0 < l.left → NoneOfFirstBeats g.C.CallCounts.times g.C.CallCounts.whole (has l.demand.all) (g.C.CallCounts.times l.taken) l.first l.later l.place l.least;
+  cheapest : 0 < l.left
+      → NoneOfFirstBeats g.C.CallCounts.times g.C.CallCounts.whole (has l.demand.all) (g.C.CallCounts.times l.taken) l.first l.later l.place l.least;
   tries : l.initial.left ≤ l.left + l.place * pick_count l.later;
   fewer : l.left ≤ l.initial.left;
 }

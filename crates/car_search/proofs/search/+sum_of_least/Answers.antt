@@ -17,7 +17,8 @@ returns-in-Some-clause-low g t c =
     let high = high_all 0 c.in-Some.first.now (omega arith) in
     let rest_low = c.sum_of_least.ensures.low in
     let rest_high = c.sum_of_least.ensures.high in
-    let is = sum_is c.in-Some.first.now.least c.sum_of_least.result (record { low = omega (arith, ints, low); high = omega (arith, ints, high) }) (record { low = omega (arith, ints, rest_low, few, long); high = omega (arith, ints, rest_high, few, long) }) in
+    let is = sum_is c.in-Some.first.now.least c.sum_of_least.result (record { low = omega (arith, ints, low); high = omega (arith, ints, high) })
+    (record { low = omega (arith, ints, rest_low, few, long); high = omega (arith, ints, rest_high, few, long) }) in
     omega (arith, ints, is, low, rest_low, long)
 
 pub returns-in-Some-clause-high : goal.returns-in-Some-clause-high
@@ -30,7 +31,8 @@ returns-in-Some-clause-high g t c =
     let high = high_all 0 c.in-Some.first.now (omega arith) in
     let rest_low = c.sum_of_least.ensures.low in
     let rest_high = c.sum_of_least.ensures.high in
-    let is = sum_is c.in-Some.first.now.least c.sum_of_least.result (record { low = omega (arith, ints, low); high = omega (arith, ints, high) }) (record { low = omega (arith, ints, rest_low, few, long); high = omega (arith, ints, rest_high, few, long) }) in
+    let is = sum_is c.in-Some.first.now.least c.sum_of_least.result (record { low = omega (arith, ints, low); high = omega (arith, ints, high) })
+    (record { low = omega (arith, ints, rest_low, few, long); high = omega (arith, ints, rest_high, few, long) }) in
     omega (arith, ints, is, high, rest_high, long)
 
 pub returns-in-Some-clause-sum : goal.returns-in-Some-clause-sum
@@ -43,7 +45,8 @@ returns-in-Some-clause-sum g t c =
     let high = high_all 0 c.in-Some.first.now (omega arith) in
     let rest_low = c.sum_of_least.ensures.low in
     let rest_high = c.sum_of_least.ensures.high in
-    let is = sum_is c.in-Some.first.now.least c.sum_of_least.result (record { low = omega (arith, ints, low); high = omega (arith, ints, high) }) (record { low = omega (arith, ints, rest_low, few, long); high = omega (arith, ints, rest_high, few, long) }) in
+    let is = sum_is c.in-Some.first.now.least c.sum_of_least.result (record { low = omega (arith, ints, low); high = omega (arith, ints, high) })
+    (record { low = omega (arith, ints, rest_low, few, long); high = omega (arith, ints, rest_high, few, long) }) in
     is ∙ ap (λ (z : ℤ). c.in-Some.first.now.least +ℤ z) c.sum_of_least.ensures.sum ∙ ap least_sum (sym c.in-Some.ensures.cases.0)
 
 pub sum_of_least-requires : goal.sum_of_least-requires
@@ -51,8 +54,16 @@ sum_of_least-requires g t c κs within_lifetimes =
     let few = c.requires.few in
     let long = c.in-Some.ensures.cases.1 in
     let low_all = subst (All (λ (x : CarChoice g.row.T.Denot g.row.C.Denot). neg_ℤ (pos (4 * 10 ^ 26)) ≤ℤ x.least)) c.in-Some.ensures.cases.0 c.requires.low in
-    let high_all = subst (All (λ (x : CarChoice g.row.T.Denot g.row.C.Denot). x.least ≤ℤ pos (4 * 10 ^ 26))) c.in-Some.ensures.cases.0 c.requires.high in
-    (omega (arith, long, c.decreases), (search rules, (search rules, (omega (arith, long, few), (λ k d lt. low_all (suc k) d (omega (arith, lt)), λ k d lt. high_all (suc k) d (omega (arith, lt)))))))
+    let high_all = subst (All (λ (x : CarChoice g.row.T.Denot g.row.C.Denot). x.least ≤ℤ pos (4 * 10 ^ 26))) c.in-Some.ensures.cases.0 c.requires.high in (
+      omega (arith, long, c.decreases),
+      (
+        search rules,
+        (
+          search rules,
+          (omega (arith, long, few), (λ k d lt. low_all (suc k) d (omega (arith, lt)), λ k d lt. high_all (suc k) d (omega (arith, lt)))),
+        ),
+      ),
+    )
 
 pub overflow_add-result : goal.overflow_add-result
 overflow_add-result g t c =

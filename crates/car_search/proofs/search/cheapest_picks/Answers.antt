@@ -11,11 +11,13 @@ use Rattle.car_search.proofs.NumberLemmas.{same_function, positive}
 use Rattle.car_search.proofs.search.cheapest_picks.Goals as goal
 
 -- what holds of the set of all calls and of what is taken at first
-moved : {C : Type 0} (P : (ℕ → Bool) → (ℕ → ℕ) → Type 0) (times : C → ℕ → ℕ) (none : C) (set all : ℕ) → set ≡ all → ((j : ℕ) → times none j ≡ 0) → P (has set) (times none) → P (has all) no_times
+moved : {C : Type 0} (P : (ℕ → Bool) → (ℕ → ℕ) → Type 0) (times : C → ℕ → ℕ) (none : C) (set all : ℕ) → set ≡ all → ((j : ℕ) → times none j ≡ 0)
+    → P (has set) (times none) → P (has all) no_times
 moved P times none set all same empty held =
     subst (P (has all)) (same_function (times none) no_times empty) (subst (λ (calls : ℕ → Bool). P calls (times none)) (ap has same) held)
 
-back : {C : Type 0} (P : (ℕ → Bool) → (ℕ → ℕ) → Type 0) (times : C → ℕ → ℕ) (none : C) (set all : ℕ) → set ≡ all → ((j : ℕ) → times none j ≡ 0) → P (has all) no_times → P (has set) (times none)
+back : {C : Type 0} (P : (ℕ → Bool) → (ℕ → ℕ) → Type 0) (times : C → ℕ → ℕ) (none : C) (set all : ℕ) → set ≡ all → ((j : ℕ) → times none j ≡ 0)
+    → P (has all) no_times → P (has set) (times none)
 back P times none set all same empty held =
     subst (λ (calls : ℕ → Bool). P calls (times none)) (ap has (sym same)) (subst (P (has all)) (sym (same_function (times none) no_times empty)) held)
 
@@ -24,7 +26,9 @@ cheapest-picked-requires-clause-bound g c =
     let times = g.C.CallCounts.times in
     let whole = g.C.CallCounts.whole in
     let same : to_z w128 (of_z w128 c.args.bound) ≡ c.args.bound = to_z-of_z w128 c.args.bound c.ranges.bound in
-    subst (IsBound times whole (has c.new-demand.result.all) (times c.none.result) c.args.cars.now) (sym same) (back (λ calls taken. IsBound times whole calls taken c.args.cars.now c.args.bound) times c.none.result c.new-demand.result.all c.args.all c.new-demand.ensures.all c.none.ensures c.requires.bound)
+    subst (IsBound times whole (has c.new-demand.result.all) (times c.none.result) c.args.cars.now) (sym same)
+    (back (λ calls taken. IsBound times whole calls taken c.args.cars.now c.args.bound) times c.none.result c.new-demand.result.all c.args.all
+    c.new-demand.ensures.all c.none.ensures c.requires.bound)
 
 pub cheapest-picked-requires-clause-range : goal.cheapest-picked-requires-clause-range
 cheapest-picked-requires-clause-range g c =
@@ -38,13 +42,15 @@ pub returns-clause-selection : goal.returns-clause-selection
 returns-clause-selection g c =
     let times = g.C.CallCounts.times in
     let whole = g.C.CallCounts.whole in
-    moved (λ calls taken. IfSome c.cheapest-picked.result (IsSelection times whole calls taken 0 c.args.cars.now c.args.beat)) times c.none.result c.new-demand.result.all c.args.all c.new-demand.ensures.all c.none.ensures c.cheapest-picked.ensures.selection
+    moved (λ calls taken. IfSome c.cheapest-picked.result (IsSelection times whole calls taken 0 c.args.cars.now c.args.beat)) times c.none.result
+    c.new-demand.result.all c.args.all c.new-demand.ensures.all c.none.ensures c.cheapest-picked.ensures.selection
 
 pub returns-clause-cheapest : goal.returns-clause-cheapest
 returns-clause-cheapest g c = λ h.
     (let times = g.C.CallCounts.times in
     let whole = g.C.CallCounts.whole in
-    moved (λ calls taken. NoneBeats times whole calls taken c.args.cars.now (to_beat c.args.beat c.cheapest-picked.result)) times c.none.result c.new-demand.result.all c.args.all c.new-demand.ensures.all c.none.ensures (c.cheapest-picked.ensures.cheapest (positive c.cheapest-picked.new.left h)))
+    moved (λ calls taken. NoneBeats times whole calls taken c.args.cars.now (to_beat c.args.beat c.cheapest-picked.result)) times c.none.result
+    c.new-demand.result.all c.args.all c.new-demand.ensures.all c.none.ensures (c.cheapest-picked.ensures.cheapest (positive c.cheapest-picked.new.left h)))
 
 pub returns-clause-spent : goal.returns-clause-spent
 returns-clause-spent g c = λ h.

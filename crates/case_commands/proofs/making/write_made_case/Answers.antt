@@ -8,4 +8,5 @@ pub returns-in-Ok-clause-ends : goal.returns-in-Ok-clause-ends
 returns-in-Ok-clause-ends g c = λ left faults.
     (let old = streams left (g.K.Sink.taken c.args.sink.now) faults (g.K.Sink.faults c.args.sink.now) in
     let new = streams left (g.K.Sink.taken c.put.new.sink) faults (g.K.Sink.faults c.put.new.sink) in
-    ends_put (MakeDue c.args.sizes) old new c.in-Ok.text.items Done c.put.result c.in-Ok.ensures (λ wrote. wrote) (rw c.as_slice.ensures.value at c.put.ensures.put))
+    ends_put (MakeDue c.args.sizes) old new c.in-Ok.text.items Done c.put.result c.in-Ok.ensures (λ wrote. wrote)
+    (rw c.as_slice.ensures.value at c.put.ensures.put))

@@ -19,16 +19,22 @@ pub returns-clause-solution : goal.returns-clause-solution
 returns-clause-solution g c =
     let f = c.in_ok-found.found in
     let claimed = c.in_ok-claimed.claimed in
-    is_solution c.args.options c.args.snapshot.now f.stated f.tree.twigs f.turns f.why c.calls.ensures.accepted c.in_ok-found.ensures.answer claimed.bound claimed.tree.twigs c.in_ok-claimed.ensures.printed c.of-ending.result c.status.result c.in_ok-text.text.items c.of-ending.ensures c.status.ensures c.in_ok-text.ensures
+    is_solution c.args.options c.args.snapshot.now f.stated f.tree.twigs f.turns f.why c.calls.ensures.accepted c.in_ok-found.ensures.answer claimed.bound
+    claimed.tree.twigs c.in_ok-claimed.ensures.printed c.of-ending.result c.status.result c.in_ok-text.text.items c.of-ending.ensures c.status.ensures
+    c.in_ok-text.ensures
 
 pub returns-clause-enough : goal.returns-clause-enough
 returns-clause-enough g c enough =
     let f = c.in_ok-found.found in
     let claimed = c.in_ok-claimed.claimed in
-    done_where_enough c.args.options c.args.snapshot.now f.stated f.tree.twigs f.turns f.why c.in_ok-found.ensures.answer claimed.bound claimed.tree.twigs c.in_ok-claimed.ensures.printed c.of-ending.result c.status.result c.of-ending.ensures c.status.ensures (c.in_ok-found.ensures.enough enough.rounds enough.moves) enough
+    done_where_enough c.args.options c.args.snapshot.now f.stated f.tree.twigs f.turns f.why c.in_ok-found.ensures.answer claimed.bound claimed.tree.twigs
+    c.in_ok-claimed.ensures.printed c.of-ending.result c.status.result c.of-ending.ensures c.status.ensures
+    (c.in_ok-found.ensures.enough enough.rounds enough.moves) enough
 
 pub returns-clause-checks : goal.returns-clause-checks
 returns-clause-checks g c input case can =
     let f = c.in_ok-found.found in
     let claimed = c.in_ok-claimed.claimed in
-    said_yes_as c.args.options c.args.snapshot.now c.calls.ensures.accepted f.stated f.tree.twigs f.turns f.why c.in_ok-found.ensures.answer claimed.bound claimed.tree.twigs c.in_ok-claimed.ensures.printed c.in_ok-claimed.ensures.sized c.in_ok-claimed.ensures.short input c.in_ok-text.text.items case can (f.stated.cost == claimed.bound) c.of-ending.result c.of-ending.ensures c.in_ok-text.ensures
+    said_yes_as c.args.options c.args.snapshot.now c.calls.ensures.accepted f.stated f.tree.twigs f.turns f.why c.in_ok-found.ensures.answer claimed.bound
+    claimed.tree.twigs c.in_ok-claimed.ensures.printed c.in_ok-claimed.ensures.sized c.in_ok-claimed.ensures.short input c.in_ok-text.text.items case can
+    (f.stated.cost == claimed.bound) c.of-ending.result c.of-ending.ensures c.in_ok-text.ensures

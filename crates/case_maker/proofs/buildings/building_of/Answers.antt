@@ -27,6 +27,7 @@ faultless-requires c =
     let specs = c.in_ok-cars_of.field-0.items in
     let travel = c.in_ok-travel.travel in
     let floors : travel.floors ≡ length (heights c.args.floors) = c.in_ok-travel.ensures.floors ∙ ap length (c.deref.ensures.value ∙ c.in_ok-heights.ensures) in
-    let good = IsBuilding-case travel c.args.floors c.args.cars c.requires.floors_low c.requires.floors_high c.requires.cars_low c.requires.cars_high floors (subst IsTravelSquare c.travel.view_is c.travel.invariant) in
+    let good = IsBuilding-case travel c.args.floors c.args.cars c.requires.floors_low c.requires.floors_high c.requires.cars_low c.requires.cars_high floors
+    (subst IsTravelSquare c.travel.view_is c.travel.invariant) in
     let same = building_with-case made specs travel c.args.floors c.args.cars c.in_ok-heights.ensures c.in_ok-cars_of.ensures in
     refused-memory (IsBuilding (building_with made specs travel)) c.build.result (subst IsBuilding (sym same) good) c.build.ensures.refused

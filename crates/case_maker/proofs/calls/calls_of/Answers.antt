@@ -10,7 +10,8 @@ loop-call-preserved c =
     record {
       calls =
           rw c.in_ok-push.ensures.items
-          (made-push (case_call start c.args.floors 0) c.loop-call.call c.loop-call.made.items c.call_of.result c.loop-call.invariant.calls (case_call-next start c.args.floors c.loop-call.call state c.call_of.result c.loop-call.invariant.drawn c.call_of.ensures.call));
+          (made-push (case_call start c.args.floors 0) c.loop-call.call c.loop-call.made.items c.call_of.result c.loop-call.invariant.calls
+          (case_call-next start c.args.floors c.loop-call.call state c.call_of.result c.loop-call.invariant.drawn c.call_of.ensures.call));
       drawn = drawn-four start c.loop-call.call state c.call_of.new.draws.state c.loop-call.invariant.drawn c.call_of.ensures.drawn;
     }
 

@@ -10,6 +10,7 @@ loop-car-preserved c =
     record {
       states =
           rw c.in_ok-push.ensures.items
-          (made-push (case_state start c.args.floors) c.loop-car._car c.loop-car.states.items (Idle c.pick.result 600000) c.loop-car.invariant.states (case_state-next start c.args.floors c.loop-car._car state c.pick.result c.loop-car.invariant.drawn c.pick.ensures.drawn));
+          (made-push (case_state start c.args.floors) c.loop-car._car c.loop-car.states.items (Idle c.pick.result 600000) c.loop-car.invariant.states
+          (case_state-next start c.args.floors c.loop-car._car state c.pick.result c.loop-car.invariant.drawn c.pick.ensures.drawn));
       drawn = drawn-next start c.loop-car._car state c.pick.new.self.state c.loop-car.invariant.drawn c.pick.ensures.state;
     }

@@ -6,7 +6,8 @@ use Rattle.case_text.proofs.CaseLemmas.{takes_alone, takes_none_alone, takes_lat
 use Rattle.case_text.specs.declared.ask_faults.AskFault.TheVariants.{NothingAsked}
 use Rattle.case_text.specs.AskedCases.{IsRefusedAsked}
 use Rattle.case_text.proofs.AskedCallLemmas.{not_asked}
-use Rattle.case_text.proofs.AskedLemmas.{read_asked, refused_within, nothing_asked, refused_behind, read_failed, no_read_failed, rose_before, takes_read, takes_refused, takes_none}
+use Rattle.case_text.proofs.AskedLemmas.{read_asked, refused_within, nothing_asked, refused_behind, read_failed, no_read_failed, rose_before, takes_read}
+use Rattle.case_text.proofs.AskedLemmas.{takes_refused, takes_none}
 use Rattle.case_text.proofs.asked_reading.read_asked_case.Goals as goal
 
 -- the case could not be read
@@ -31,7 +32,8 @@ returns-then-not-has_asked_call-clause-refused g c =
     let before = text left c.args.lines.now in
     let now = c.read_up_to_end.new.lines in
     let none = not_asked c.in-Ok.snapshot c.has_asked_call.result c.has_asked_call.ensures c.if-not-has_asked_call.true in
-    subst (λ (n : ℕ). IsRefusedAsked before (NothingAsked n)) (sym c.line.ensures.value) (nothing_asked before (text left now) c.in-Ok.snapshot (line now) c.in-Ok.ensures.case none)
+    subst (λ (n : ℕ). IsRefusedAsked before (NothingAsked n)) (sym c.line.ensures.value)
+    (nothing_asked before (text left now) c.in-Ok.snapshot (line now) c.in-Ok.ensures.case none)
 
 pub returns-then-not-has_asked_call-clause-takes : goal.returns-then-not-has_asked_call-clause-takes
 returns-then-not-has_asked_call-clause-takes g c =
@@ -65,14 +67,16 @@ returns-in-Err-read_end-clause-refused g c =
     let left = g.S.Source.left in
     let now = c.read_up_to_end.new.lines in
     let asked = c.has_asked_call.ensures.0 c.if-not-has_asked_call.false in
-    refused_behind (text left c.args.lines.now) (text left now) c.in-Ok.snapshot (line now) c.in-Err-read_end.fault c.in-Ok.ensures.case asked c.in-Err-read_end.ensures.refused
+    refused_behind (text left c.args.lines.now) (text left now) c.in-Ok.snapshot
+    (line now) c.in-Err-read_end.fault c.in-Ok.ensures.case asked c.in-Err-read_end.ensures.refused
 
 pub returns-in-Err-read_end-clause-takes : goal.returns-in-Err-read_end-clause-takes
 returns-in-Err-read_end-clause-takes g c =
     let left = g.S.Source.left in
     let before = text left c.args.lines.now in
     let now = text left c.read_up_to_end.new.lines in
-    takes_refused before c.in-Err-read_end.fault (takes_late before now c.in-Ok.snapshot c.in-Err-read_end.fault c.in-Ok.ensures.takes c.in-Err-read_end.ensures.refused)
+    takes_refused before c.in-Err-read_end.fault
+    (takes_late before now c.in-Ok.snapshot c.in-Err-read_end.fault c.in-Ok.ensures.takes c.in-Err-read_end.ensures.refused)
 
 pub returns-in-Err-read_end-clause-read : goal.returns-in-Err-read_end-clause-read
 returns-in-Err-read_end-clause-read g c = λ is.
@@ -90,4 +94,5 @@ returns-then-not-has_asked_call-clause-shows g c =
 pub returns-in-Err-read_end-clause-shows : goal.returns-in-Err-read_end-clause-shows
 returns-in-Err-read_end-clause-shows g c =
     let left = g.S.Source.left in
-    fault_behind (text left c.args.lines.now) (text left c.read_up_to_end.new.lines) c.in-Err-read_end.fault (left c.read_end.new.lines.source.now) c.in-Ok.ensures.went c.in-Err-read_end.ensures.shows
+    fault_behind (text left c.args.lines.now) (text left c.read_up_to_end.new.lines) c.in-Err-read_end.fault
+    (left c.read_end.new.lines.source.now) c.in-Ok.ensures.went c.in-Err-read_end.ensures.shows

@@ -7,22 +7,26 @@ use Rattle.case_text.proofs.case_reading.read_case.Goals as goal
 pub returns-in-Ok-clause-case : goal.returns-in-Ok-clause-case
 returns-in-Ok-clause-case g c =
     let left = g.S.Source.left in
-    case_read (text left c.args.lines.now) (text left c.read_building.new.lines) (text left c.read_snapshot.new.lines) c.in-Ok.building c.read_snapshot.result (c.in-Ok.ensures.only c.requires) (c.read_snapshot.ensures.said c.in-Ok.ensures.ok)
+    case_read (text left c.args.lines.now) (text left c.read_building.new.lines) (text left c.read_snapshot.new.lines) c.in-Ok.building c.read_snapshot.result
+    (c.in-Ok.ensures.only c.requires) (c.read_snapshot.ensures.said c.in-Ok.ensures.ok)
 
 pub returns-in-Ok-clause-takes : goal.returns-in-Ok-clause-takes
 returns-in-Ok-clause-takes g c =
     let left = g.S.Source.left in
-    takes_both (text left c.args.lines.now) (text left c.read_building.new.lines) (text left c.read_snapshot.new.lines) c.in-Ok.building c.read_snapshot.result (c.in-Ok.ensures.each c.requires) (c.read_snapshot.ensures.lines c.in-Ok.ensures.ok)
+    takes_both (text left c.args.lines.now) (text left c.read_building.new.lines) (text left c.read_snapshot.new.lines) c.in-Ok.building c.read_snapshot.result
+    (c.in-Ok.ensures.each c.requires) (c.read_snapshot.ensures.lines c.in-Ok.ensures.ok)
 
 pub returns-in-Err-clause-takes : goal.returns-in-Err-clause-takes
 returns-in-Err-clause-takes g c =
     let left = g.S.Source.left in
-    takes_none (text left c.args.lines.now) (text left c.read_building.new.lines) (text left c.read_building.new.lines) c.in-Err.fault (c.in-Err.ensures.each c.requires)
+    takes_none (text left c.args.lines.now) (text left c.read_building.new.lines) (text left c.read_building.new.lines) c.in-Err.fault
+    (c.in-Err.ensures.each c.requires)
 
 pub returns-in-Ok-clause-went : goal.returns-in-Ok-clause-went
 returns-in-Ok-clause-went g c =
     let left = g.S.Source.left in
-    both_went (text left c.args.lines.now) (text left c.read_building.new.lines) (text left c.read_snapshot.new.lines) c.read_snapshot.result (c.in-Ok.ensures.behind c.requires) (c.read_snapshot.ensures.behind c.in-Ok.ensures.ok)
+    both_went (text left c.args.lines.now) (text left c.read_building.new.lines) (text left c.read_snapshot.new.lines) c.read_snapshot.result
+    (c.in-Ok.ensures.behind c.requires) (c.read_snapshot.ensures.behind c.in-Ok.ensures.ok)
 
 pub returns-in-Ok-clause-shows : goal.returns-in-Ok-clause-shows
 returns-in-Ok-clause-shows g c =
@@ -30,4 +34,5 @@ returns-in-Ok-clause-shows g c =
     let before = text left c.args.lines.now in
     let between = text left c.read_building.new.lines in
     let now = c.read_snapshot.new.lines in
-    shows_behind before between c.read_snapshot.result (line now) (left now.source.now) (behind_went before between (c.in-Ok.ensures.behind c.requires)) (c.read_snapshot.ensures.shows c.in-Ok.ensures.ok)
+    shows_behind before between c.read_snapshot.result (line now) (left now.source.now) (behind_went before between (c.in-Ok.ensures.behind c.requires))
+    (c.read_snapshot.ensures.shows c.in-Ok.ensures.ok)

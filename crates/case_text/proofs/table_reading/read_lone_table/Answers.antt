@@ -26,14 +26,17 @@ returns-in-Err-clause-takes g c =
 pub returns-in-Err-read_end-clause-refused : goal.returns-in-Err-read_end-clause-refused
 returns-in-Err-read_end-clause-refused g c =
     let left = g.S.Source.left in
-    refused_behind (text left c.args.lines.now) (text left c.read_table.new.lines) c.in-Ok.table c.in-Err-read_end.fault c.in-Ok.ensures.table c.in-Err-read_end.ensures.refused
+    refused_behind (text left c.args.lines.now)
+    (text left c.read_table.new.lines) c.in-Ok.table c.in-Err-read_end.fault c.in-Ok.ensures.table c.in-Err-read_end.ensures.refused
 
 pub returns-in-Err-read_end-clause-takes : goal.returns-in-Err-read_end-clause-takes
 returns-in-Err-read_end-clause-takes g c =
     let left = g.S.Source.left in
-    takes_late (text left c.args.lines.now) (text left c.read_table.new.lines) c.in-Ok.table c.in-Err-read_end.fault c.in-Ok.ensures.takes c.in-Err-read_end.ensures.refused
+    takes_late (text left c.args.lines.now)
+    (text left c.read_table.new.lines) c.in-Ok.table c.in-Err-read_end.fault c.in-Ok.ensures.takes c.in-Err-read_end.ensures.refused
 
 pub returns-in-Err-read_end-clause-shows : goal.returns-in-Err-read_end-clause-shows
 returns-in-Err-read_end-clause-shows g c =
     let left = g.S.Source.left in
-    fault_behind (text left c.args.lines.now) (text left c.read_table.new.lines) c.in-Err-read_end.fault (left c.read_end.new.lines.source.now) c.in-Ok.ensures.went c.in-Err-read_end.ensures.shows
+    fault_behind (text left c.args.lines.now) (text left c.read_table.new.lines) c.in-Err-read_end.fault
+    (left c.read_end.new.lines.source.now) c.in-Ok.ensures.went c.in-Err-read_end.ensures.shows

@@ -10,7 +10,8 @@ use Rattle.case_text.proofs.TableAnswerLemmas.{whole_of, read_table, refused_tab
 use Rattle.case_text.proofs.table_reading.read_table.Goals as goal
 
 pub finish-requires : goal.finish-requires
-finish-requires g c = whole_of c.read_section.new.section (subst (λ (d : Draft). IsMade after d c.read_section.new.section) c.new-draft.ensures c.in-Ok.ensures.made)
+finish-requires g c = whole_of c.read_section.new.section
+    (subst (λ (d : Draft). IsMade after d c.read_section.new.section) c.new-draft.ensures c.in-Ok.ensures.made)
 
 pub returns-in-Ok-clause-table : goal.returns-in-Ok-clause-table
 returns-in-Ok-clause-table g c =

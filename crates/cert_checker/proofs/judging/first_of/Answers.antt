@@ -16,4 +16,6 @@ loop-answer-preserved c =
     let left = c.pop.new.self.items in
     let answer = c.in-Some.answer in
     let first = c.loop-answer.first in
-    ap (first_of (first_some left)) (c.or-first.ensures ∙ or_is answer first) ∙ sym (first_assoc (first_some left) answer first) ∙ ap (λ (o : Option Reason). first_of o first) (sym (some_push left answer)) ∙ ap (λ (l : List (Option Reason)). first_of (first_some l) first) (sym c.in-Some.ensures.items) ∙ c.loop-answer.invariant
+    ap (first_of (first_some left)) (c.or-first.ensures ∙ or_is answer first) ∙ sym (first_assoc (first_some left) answer first)
+    ∙ ap (λ (o : Option Reason). first_of o first) (sym (some_push left answer))
+    ∙ ap (λ (l : List (Option Reason)). first_of (first_some l) first) (sym c.in-Some.ensures.items) ∙ c.loop-answer.invariant

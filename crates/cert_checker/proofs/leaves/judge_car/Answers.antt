@@ -23,4 +23,8 @@ returns-clause-reason c =
     let count = c.count-count.result in
     let tour = found_tour c.count-count.new.self in
     let worth : to_z w128 (of_z w128 stake.worth) ≡ stake.worth = search rules in
-    ok_map c.reason_of_count.result (λ (reason : Option Reason). reason ≡ reason_of_count k car stake count tour) (λ (reason : Option Reason). (leaf : Leaf) → Holds leaf c.args.desk.now → reason ≡ reason_of_car s k node leaf car) (λ reason is leaf holds. is ∙ car_reason s k node leaf car stake tour count (c.stake-stake.ensures.worth leaf holds) (c.stake-stake.ensures.claim leaf holds) (subst (λ (w : ℤ). IsCounted s node leaf car w stake.claim tour count) worth (c.count-count.ensures.counted leaf holds))) c.reason_of_count.ensures
+    ok_map c.reason_of_count.result (λ (reason : Option Reason). reason ≡ reason_of_count k car stake count tour)
+    (λ (reason : Option Reason). (leaf : Leaf) → Holds leaf c.args.desk.now → reason ≡ reason_of_car s k node leaf car)
+    (λ reason is leaf holds. is
+    ∙ car_reason s k node leaf car stake tour count (c.stake-stake.ensures.worth leaf holds) (c.stake-stake.ensures.claim leaf holds)
+    (subst (λ (w : ℤ). IsCounted s node leaf car w stake.claim tour count) worth (c.count-count.ensures.counted leaf holds))) c.reason_of_count.ensures

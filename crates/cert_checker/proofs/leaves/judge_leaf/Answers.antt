@@ -16,7 +16,8 @@ returns-then-got-need-clause-reason c =
     let got = to_z w128 (of_z w128 c.sum_of_leaf-got.result) in
     let need_is : need ≡ c.sum_needed-need.result = search rules in
     let got_is : got ≡ c.sum_of_leaf-got.result = search rules in
-    leaf_sum s c.args.bound c.args.number c.args.node.now leaf need got whole (need_is ∙ c.sum_needed-need.ensures) (got_is ∙ c.sum_of_leaf-got.ensures) c.if-got-need.true
+    leaf_sum s c.args.bound c.args.number c.args.node.now leaf need got whole (need_is ∙ c.sum_needed-need.ensures)
+    (got_is ∙ c.sum_of_leaf-got.ensures) c.if-got-need.true
 
 ok_map : {A E : Type 0} (r : Result A E) (P Q : A → Type 0) → ((x : A) → P x → Q x) → IfOk r P → IfOk r Q
 ok_map (Ok x) P Q on h = on x h
@@ -35,5 +36,8 @@ returns-clause-reason c =
     let got_is : got ≡ c.sum_of_leaf-got.result = search rules in
     let later = c.lay_out.new.self.snapshot.now in
     let same : later ≡ s = c.lay_out.ensures.snapshot in
-    let all = leaf_cars s c.args.bound number node leaf need got whole (need_is ∙ c.sum_needed-need.ensures) (got_is ∙ c.sum_of_leaf-got.ensures) c.if-got-need.false in
-    ok_map c.judge_cars.result (λ (reason : Option Reason). reason ≡ reason_of_cars later number node leaf (car_count later)) (λ (reason : Option Reason). reason ≡ reason_of_leaf s c.args.bound number node leaf) (λ reason is. is ∙ ap (λ (v : Snapshot). reason_of_cars v number node leaf (car_count v)) same ∙ all) c.judge_cars.ensures.reason
+    let all = leaf_cars s c.args.bound number node leaf need got whole (need_is ∙ c.sum_needed-need.ensures)
+    (got_is ∙ c.sum_of_leaf-got.ensures) c.if-got-need.false in
+    ok_map c.judge_cars.result (λ (reason : Option Reason). reason ≡ reason_of_cars later number node leaf (car_count later))
+    (λ (reason : Option Reason). reason ≡ reason_of_leaf s c.args.bound number node leaf)
+    (λ reason is. is ∙ ap (λ (v : Snapshot). reason_of_cars v number node leaf (car_count v)) same ∙ all) c.judge_cars.ensures.reason

@@ -26,7 +26,8 @@ loop-tally-preserved g c =
     let step = 4 * length c.args.desks.now in
     let is : some ≡ take step (drop n tasks) = search rules in
     let answer : c.in_ok-count_some.field-0 ≡ true = search rules in
-    let next : HasTakenAll s (map leaf_at some) now c.count_some.new.tally = subst (HasTaken s (map leaf_at some) now c.count_some.new.tally) answer c.in_ok-count_some.ensures.taken in
+    let next : HasTakenAll s (map leaf_at some) now c.count_some.new.tally =
+    subst (HasTaken s (map leaf_at some) now c.count_some.new.tally) answer c.in_ok-count_some.ensures.taken in
     let taken = group_taken s tasks some c.args.tally.now now n step is c.loop-tally.invariant.taken c.count_some.new.tally c.requires.none next in
     record {
       desks = c.in_ok-count_some.ensures.desks;

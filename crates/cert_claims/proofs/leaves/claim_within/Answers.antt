@@ -18,5 +18,10 @@ returns-in-Longer c = record {
       let same = c.stake-worth.ensures.worth leaf holds in
       let stored : to_z w128 (of_z w128 worth) ≡ worth = search rules in
       let counted = subst (λ (w : ℤ). IsCounted s node leaf c.args.car w limit tour c.count.result) stored (c.count.ensures.counted leaf holds) in
-      elim c.in-Longer.is [ inl longer ↦ longer_claim s node leaf c.args.car limit c.calls-calls.ensures.accepted c.requires.car c.requires.node worths worth tour same (subst (IsCounted s node leaf c.args.car worth limit tour) longer counted) | inr under ↦ under_claim s node leaf c.args.car limit c.calls-calls.ensures.accepted c.requires.car c.requires.node worths worth tour under.0 same (subst (IsCounted s node leaf c.args.car worth limit tour) under.1 counted) ];
+      elim c.in-Longer.is [
+        | inl longer ↦ longer_claim s node leaf c.args.car limit c.calls-calls.ensures.accepted c.requires.car c.requires.node worths worth tour same
+            (subst (IsCounted s node leaf c.args.car worth limit tour) longer counted)
+        | inr under ↦ under_claim s node leaf c.args.car limit c.calls-calls.ensures.accepted c.requires.car c.requires.node worths worth tour under.0 same
+            (subst (IsCounted s node leaf c.args.car worth limit tour) under.1 counted)
+      ];
 }

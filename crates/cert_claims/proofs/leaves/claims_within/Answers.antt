@@ -20,17 +20,20 @@ returns-in_err-claim-clause-within c =
     let s = c.args.desk.now.snapshot.now in
     let node = c.args.node.now in
     let leaf = c.args.leaf.now in
-    let here = claim_here s c.loop-car.desk.snapshot.now node leaf c.loop-car.left c.loop-car.car c.claim_within.result c.loop-car.invariant.snapshot (c.claim_within.ensures.claim leaf c.loop-car.invariant.holds) c.requires.leaf.worths in
+    let here = claim_here s c.loop-car.desk.snapshot.now node leaf c.loop-car.left c.loop-car.car c.claim_within.result c.loop-car.invariant.snapshot
+    (c.claim_within.ensures.claim leaf c.loop-car.invariant.holds) c.requires.leaf.worths in
     let over = subst (IsClaimWithin s c.loop-car.left (leaf_of node leaf) c.loop-car.car) c.in_err-claim.was here in
     let lt : c.loop-car.car < car_count s = search rules in
-    subst (AreClaimsWithin s c.args.spare (leaf_of node leaf)) (sym c.from_residual.ensures) (past s (leaf_of node leaf) c.loop-car.car c.loop-car.left c.args.spare lt c.loop-car.invariant.left_is over)
+    subst (AreClaimsWithin s c.args.spare (leaf_of node leaf)) (sym c.from_residual.ensures)
+    (past s (leaf_of node leaf) c.loop-car.car c.loop-car.left c.args.spare lt c.loop-car.invariant.left_is over)
 
 pub overflow_sub-left : goal.overflow_sub-left
 overflow_sub-left c =
     let s = c.args.desk.now.snapshot.now in
     let node = c.args.node.now in
     let leaf = c.args.leaf.now in
-    let here = claim_here s c.loop-car.desk.snapshot.now node leaf c.loop-car.left c.loop-car.car c.claim_within.result c.loop-car.invariant.snapshot (c.claim_within.ensures.claim leaf c.loop-car.invariant.holds) c.requires.leaf.worths in
+    let here = claim_here s c.loop-car.desk.snapshot.now node leaf c.loop-car.left c.loop-car.car c.claim_within.result c.loop-car.invariant.snapshot
+    (c.claim_within.ensures.claim leaf c.loop-car.invariant.holds) c.requires.leaf.worths in
     let within = subst (IsClaimWithin s c.loop-car.left (leaf_of node leaf) c.loop-car.car) c.in_ok-claim.was here in
     let due = within.0 in
     omega (arith, due)
@@ -40,7 +43,8 @@ overflow_sub-left-in-loop-car c =
     let s = c.args.desk.now.snapshot.now in
     let node = c.args.node.now in
     let leaf = c.args.leaf.now in
-    let here = claim_here s c.loop-car.desk.snapshot.now node leaf c.loop-car.left c.loop-car.car c.claim_within.result c.loop-car.invariant.snapshot (c.claim_within.ensures.claim leaf c.loop-car.invariant.holds) c.requires.leaf.worths in
+    let here = claim_here s c.loop-car.desk.snapshot.now node leaf c.loop-car.left c.loop-car.car c.claim_within.result c.loop-car.invariant.snapshot
+    (c.claim_within.ensures.claim leaf c.loop-car.invariant.holds) c.requires.leaf.worths in
     let within = subst (IsClaimWithin s c.loop-car.left (leaf_of node leaf) c.loop-car.car) c.in_ok-claim.was here in
     let few = within.1 in
     omega (arith, few)
@@ -52,7 +56,8 @@ loop-car-preserved c =
     let leaf = c.args.leaf.now in
     let at = leaf_of node leaf in
     let inv = c.loop-car.invariant in
-    let here = claim_here s c.loop-car.desk.snapshot.now node leaf c.loop-car.left c.loop-car.car c.claim_within.result inv.snapshot (c.claim_within.ensures.claim leaf inv.holds) c.requires.leaf.worths in
+    let here = claim_here s c.loop-car.desk.snapshot.now node leaf c.loop-car.left c.loop-car.car c.claim_within.result inv.snapshot
+    (c.claim_within.ensures.claim leaf inv.holds) c.requires.leaf.worths in
     let within = subst (IsClaimWithin s c.loop-car.left at c.loop-car.car) c.in_ok-claim.was here in
     let lt : c.loop-car.car < car_count s = search rules in
     let few = cars_few s c.calls-calls.ensures.accepted in

@@ -24,6 +24,7 @@ returns g c =
     let is : map leaf_at tasks ≡ leaves_from (root_of s ∷ []) tree = search rules in
     let count : c.saturating_mul-worths.result ≡ min (length tasks * car_count s) (2 ^ 64 - 1) = search rules in
     let less : c.saturating_sub.result ≡ c.args.limit - c.saturating_mul-worths.result = search rules in
-    let spare = spare_is s c.calls-calls.ensures.accepted tree c.requires.proved tasks c.args.limit c.saturating_mul-worths.result c.saturating_sub.result is count c.requires.limit less in
+    let spare = spare_is s c.calls-calls.ensures.accepted tree c.requires.proved tasks c.args.limit c.saturating_mul-worths.result c.saturating_sub.result is
+    count c.requires.limit less in
     let same : map leaf_at c.as_slice-2.result.now ≡ leaves_from (root_of s ∷ []) tree = search rules in
     rw (sym spare, sym same) c.claims_of_all.ensures

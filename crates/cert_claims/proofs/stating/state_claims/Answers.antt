@@ -12,7 +12,8 @@ pub returns-in_ok-write_claims-in-Some : goal.returns-in_ok-write_claims-in-Some
 returns-in_ok-write_claims-in-Some g c =
     let within = rw c.in-Some.is at c.in_ok-all.ensures in
     let is = rw c.as_slice.ensures.value at c.in_ok-write_claims-in-Some.ensures in
-    whole_claimed c.args.snapshot.now c.args.stated.now c.args.tree.twigs c.args.resort c.args.limit c.requires.proves c.in-Some.all.items _ within.0 within.1 is refl refl
+    whole_claimed c.args.snapshot.now c.args.stated.now c.args.tree.twigs c.args.resort c.args.limit c.requires.proves c.in-Some.all.items _ within.0 within.1
+    is refl refl
 
 on_ok : {A E : Type 0} (r : Result A E) (P Q : A → Type 0) → ((x : A) → P x → Q x) → IfOk r P → IfOk r Q
 on_ok (Ok x) P Q on h = on x h
@@ -26,4 +27,5 @@ cut-requires-clause-tree g c =
 pub returns-in-None : goal.returns-in-None
 returns-in-None g c =
     let over = rw c.in-None.is at c.in_ok-all.ensures in
-    on_ok c.cut.result _ _ (λ new is. cut_claimed c.args.snapshot.now c.args.stated.now c.args.tree.twigs c.args.resort c.args.limit c.requires.proves new over is) c.cut.ensures
+    on_ok c.cut.result _ _
+    (λ new is. cut_claimed c.args.snapshot.now c.args.stated.now c.args.tree.twigs c.args.resort c.args.limit c.requires.proves new over is) c.cut.ensures

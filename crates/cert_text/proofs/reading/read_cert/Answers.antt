@@ -16,7 +16,8 @@ returns-clause-refused g c = λ none.
 pub returns-clause-lines : goal.returns-clause-lines
 returns-clause-lines g c = λ none.
     (let left = g.S.Source.left in
-    lines_of c.args.snapshot.now (text left c.args.lines.now) (text left c.read.new.lines) c.read.result (c.read.ensures.said none) (c.read.ensures.refused none))
+    lines_of c.args.snapshot.now (text left c.args.lines.now) (text left c.read.new.lines) c.read.result (c.read.ensures.said none)
+    (c.read.ensures.refused none))
 
 pub returns-clause-written : goal.returns-clause-written
 returns-clause-written g c = λ none.

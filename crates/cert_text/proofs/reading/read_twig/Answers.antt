@@ -8,26 +8,30 @@ returns-in_err-twig-clause-adds g c =
     let left = g.S.Source.left in
     let same = err_from_is_err_and c.from_residual.result c.from_residual.ensures.1 in
     rw (same.1, same.2)
-    (adds_fault c.args.snapshot.now c.args.reader.now c.next.new.self c.args.tree.now c.args.tree.now c.in_err-twig.field-0.0 (text left c.args.lines.now) (text left c.next.new.lines) (c.in_err-twig.ensures.twig c.requires.whole))
+    (adds_fault c.args.snapshot.now c.args.reader.now c.next.new.self c.args.tree.now c.args.tree.now c.in_err-twig.field-0.0 (text left c.args.lines.now)
+    (text left c.next.new.lines) (c.in_err-twig.ensures.twig c.requires.whole))
 
 pub returns-in_err-push-in-Some-clause-adds : goal.returns-in_err-push-in-Some-clause-adds
 returns-in_err-push-in-Some-clause-adds g c =
     let left = g.S.Source.left in
     let same = err_from_is_err_and c.from_residual-in_err-push-in-Some.result c.from_residual-in_err-push-in-Some.ensures.1 in
     rw same.1
-    (adds_memory c.args.snapshot.now c.args.reader.now c.next.new.self c.args.tree.now c.push.new.self same.0 (text left c.args.lines.now) (text left c.next.new.lines) same.2)
+    (adds_memory c.args.snapshot.now c.args.reader.now c.next.new.self c.args.tree.now c.push.new.self same.0 (text left c.args.lines.now)
+    (text left c.next.new.lines) same.2)
 
 pub returns-in_ok-push-in-Some-clause-adds : goal.returns-in_ok-push-in-Some-clause-adds
 returns-in_ok-push-in-Some-clause-adds g c =
     let left = g.S.Source.left in
     let told = rw c.in-Some.is at c.in_ok-twig.ensures in
-    adds_twig c.args.snapshot.now c.args.reader.now c.next.new.self c.args.tree.now c.push.new.self c.in-Some.twig (text left c.args.lines.now) (text left c.next.new.lines) (told.twig c.requires.whole) c.in_ok-push-in-Some.ensures.ok
+    adds_twig c.args.snapshot.now c.args.reader.now c.next.new.self c.args.tree.now c.push.new.self c.in-Some.twig (text left c.args.lines.now)
+    (text left c.next.new.lines) (told.twig c.requires.whole) c.in_ok-push-in-Some.ensures.ok
 
 pub returns-in-None-clause-adds : goal.returns-in-None-clause-adds
 returns-in-None-clause-adds g c =
     let left = g.S.Source.left in
     let told = rw c.in-None.is at c.in_ok-twig.ensures in
-    adds_none c.args.snapshot.now c.args.reader.now c.next.new.self c.args.tree.now (text left c.args.lines.now) (text left c.next.new.lines) (told.twig c.requires.whole)
+    adds_none c.args.snapshot.now c.args.reader.now c.next.new.self c.args.tree.now (text left c.args.lines.now) (text left c.next.new.lines)
+    (told.twig c.requires.whole)
 
 pub returns-in_err-twig-clause-shows : goal.returns-in_err-twig-clause-shows
 returns-in_err-twig-clause-shows g c =

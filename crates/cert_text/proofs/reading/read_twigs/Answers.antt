@@ -42,7 +42,8 @@ returns-in_err-is_whole-clause-tells g c =
     let left = g.S.Source.left in
     let same = err_from_is_err_and c.from_residual.result c.from_residual.ensures.1 in
     rw (same.1, same.2)
-    (tells_fault c.args.snapshot.now c.args.reader.now c.loop.reader c.read_twig.new.reader c.args.tree.now c.loop.tree c.read_twig.new.tree c.in_err-is_whole.field-0.0
+    (tells_fault c.args.snapshot.now c.args.reader.now c.loop.reader c.read_twig.new.reader c.args.tree.now c.loop.tree c.read_twig.new.tree
+    c.in_err-is_whole.field-0.0
     (text left c.args.lines.now) (text left c.loop.lines) (text left c.read_twig.new.lines) c.loop.invariant.gone c.in_err-is_whole.ensures.adds)
 
 pub returns-clause-tells : goal.returns-clause-tells
@@ -60,4 +61,5 @@ returns-in_err-is_whole-clause-shows g c =
     let now = c.read_twig.new.lines in
     let same = err_from_is_err_and c.from_residual.result c.from_residual.ensures.1 in
     rw (same.1, same.2)
-    (fault_behind (text left c.args.lines.now) (text left c.loop.lines) c.in_err-is_whole.field-0.0 (left now.source.now) c.loop.invariant.went c.in_err-is_whole.ensures.shows)
+    (fault_behind (text left c.args.lines.now) (text left c.loop.lines) c.in_err-is_whole.field-0.0
+    (left now.source.now) c.loop.invariant.went c.in_err-is_whole.ensures.shows)

@@ -12,5 +12,6 @@ returns c =
     let s = c.args.snapshot.now in
     let items = c.args.prices.now in
     let old = c.args.out.now.items in
-    c.loop-price.invariant ∙ ap (λ (xs : List PriceOf). old ++ flat_map (λ x. line_text (price_words s x)) xs) (take_all c.loop-price.price-index items c.loop-price-test.false)
+    c.loop-price.invariant
+    ∙ ap (λ (xs : List PriceOf). old ++ flat_map (λ x. line_text (price_words s x)) xs) (take_all c.loop-price.price-index items c.loop-price-test.false)
     ∙ ap (λ (xs : List ℕ). old ++ xs) (prices_are s items)

@@ -12,5 +12,6 @@ returns c =
     let s = c.args.snapshot.now in
     let items = c.args.worths.now in
     let old = c.args.out.now.items in
-    c.loop-worth.invariant ∙ ap (λ (xs : List WorthOf). old ++ flat_map (λ x. line_text (worth_words s x)) xs) (take_all c.loop-worth.worth-index items c.loop-worth-test.false)
+    c.loop-worth.invariant
+    ∙ ap (λ (xs : List WorthOf). old ++ flat_map (λ x. line_text (worth_words s x)) xs) (take_all c.loop-worth.worth-index items c.loop-worth-test.false)
     ∙ ap (λ (xs : List ℕ). old ++ xs) (worths_are s items)

@@ -16,22 +16,29 @@ pub returns-clause-certified : goal.returns-clause-certified
 returns-clause-certified g c =
     let s = c.args.snapshot.now in
     let tree = c.args.tree.twigs in
-    on_ok c.state_claims.result _ _ (λ claimed is. certified s c.calls-calls.ensures.accepted c.args.stated.now tree c.in_ok-resort.resort c.args.claims claimed is) c.state_claims.ensures
+    on_ok c.state_claims.result _ _
+    (λ claimed is. certified s c.calls-calls.ensures.accepted c.args.stated.now tree c.in_ok-resort.resort c.args.claims claimed is) c.state_claims.ensures
 
 pub returns-clause-sized : goal.returns-clause-sized
 returns-clause-sized g c =
     let s = c.args.snapshot.now in
     let tree = c.args.tree.twigs in
-    on_ok c.state_claims.result _ _ (λ claimed is. claimed_sized s c.calls-calls.ensures.accepted c.args.stated.now tree c.in_ok-resort.resort c.args.claims claimed is c.requires.sized c.in_ok-resort.ensures.sized c.requires.proves.whole) c.state_claims.ensures
+    on_ok c.state_claims.result _ _
+    (λ claimed is. claimed_sized s c.calls-calls.ensures.accepted c.args.stated.now tree c.in_ok-resort.resort c.args.claims claimed is c.requires.sized
+    c.in_ok-resort.ensures.sized c.requires.proves.whole) c.state_claims.ensures
 
 pub returns-clause-known : goal.returns-clause-known
 returns-clause-known g c =
     let s = c.args.snapshot.now in
     let tree = c.args.tree.twigs in
-    on_ok c.state_claims.result _ _ (λ claimed is. claimed_known s c.calls-calls.ensures.accepted c.args.stated.now tree c.in_ok-resort.resort c.args.claims claimed is c.requires.sized c.in_ok-resort.ensures.sized c.requires.proves.whole) c.state_claims.ensures
+    on_ok c.state_claims.result _ _
+    (λ claimed is. claimed_known s c.calls-calls.ensures.accepted c.args.stated.now tree c.in_ok-resort.resort c.args.claims claimed is c.requires.sized
+    c.in_ok-resort.ensures.sized c.requires.proves.whole) c.state_claims.ensures
 
 pub returns-clause-short : goal.returns-clause-short
 returns-clause-short g c =
     let s = c.args.snapshot.now in
     let tree = c.args.tree.twigs in
-    on_ok c.state_claims.result _ _ (λ claimed is. claimed_short s c.calls-calls.ensures.accepted c.args.stated.now tree c.in_ok-resort.resort c.args.claims claimed is c.requires.sized c.in_ok-resort.ensures.sized c.requires.proves.whole) c.state_claims.ensures
+    on_ok c.state_claims.result _ _
+    (λ claimed is. claimed_short s c.calls-calls.ensures.accepted c.args.stated.now tree c.in_ok-resort.resort c.args.claims claimed is c.requires.sized
+    c.in_ok-resort.ensures.sized c.requires.proves.whole) c.state_claims.ensures

@@ -7,7 +7,8 @@ use Rattle.check_text.proofs.reading.judge.Goals as goal
 pub returns-in-Err-clause-refused : goal.returns-in-Err-clause-refused
 returns-in-Err-clause-refused g c =
     let left = g.S.Source.left in
-    answer_refused c.args.snapshot.now (text left c.args.lines.now) (text left c.read_answer.new.lines) c.in-Err.fault (c.in-Err.ensures.refused c.requires.whole)
+    answer_refused c.args.snapshot.now (text left c.args.lines.now) (text left c.read_answer.new.lines) c.in-Err.fault
+    (c.in-Err.ensures.refused c.requires.whole)
 
 pub returns-in-Err-clause-takes : goal.returns-in-Err-clause-takes
 returns-in-Err-clause-takes g c =
@@ -26,27 +27,32 @@ returns-in-Ok-judge_tree-clause-judged g c =
       bound = refl;
       whole = is.whole;
       verdict_is = is.verdict_is;
-      read = certified_alone c.args.snapshot.now (text left c.args.lines.now) (text left c.read_answer.new.lines) c.in-Ok.stated is.tree (c.in-Ok.ensures.said c.requires.whole) is.read;
+      read = certified_alone c.args.snapshot.now (text left c.args.lines.now) (text left c.read_answer.new.lines) c.in-Ok.stated is.tree
+          (c.in-Ok.ensures.said c.requires.whole) is.read;
     }
 
 pub returns-in-Ok-judge_tree-clause-takes : goal.returns-in-Ok-judge_tree-clause-takes
 returns-in-Ok-judge_tree-clause-takes g c =
     let left = g.S.Source.left in
     let answer = c.in-Ok.stated in
-    certified_taken c.args.snapshot.now answer (text left c.args.lines.now) (text left c.read_answer.new.lines) (record { cost = answer.cost; bound = answer.bound; verdict = c.in-Ok-judge_tree.verdict })
+    certified_taken c.args.snapshot.now answer (text left c.args.lines.now) (text left c.read_answer.new.lines)
+    (record { cost = answer.cost; bound = answer.bound; verdict = c.in-Ok-judge_tree.verdict })
     (c.in-Ok.ensures.lines c.requires.whole) refl refl c.in-Ok-judge_tree.ensures.takes
 
 pub returns-clause-refused : goal.returns-clause-refused
 returns-clause-refused g c =
     let left = g.S.Source.left in
-    behind_answer c.args.snapshot.now (text left c.args.lines.now) (text left c.read_answer.new.lines) c.in-Ok.stated c.in-Err-judge_tree.fault (c.in-Ok.ensures.said c.requires.whole) c.in-Err-judge_tree.ensures.refused
+    behind_answer c.args.snapshot.now (text left c.args.lines.now) (text left c.read_answer.new.lines) c.in-Ok.stated c.in-Err-judge_tree.fault
+    (c.in-Ok.ensures.said c.requires.whole) c.in-Err-judge_tree.ensures.refused
 
 pub returns-clause-takes : goal.returns-clause-takes
 returns-clause-takes g c =
     let left = g.S.Source.left in
-    behind_taken c.args.snapshot.now c.in-Ok.stated (text left c.args.lines.now) (text left c.read_answer.new.lines) c.in-Err-judge_tree.fault (c.in-Ok.ensures.lines c.requires.whole) c.in-Err-judge_tree.ensures.takes
+    behind_taken c.args.snapshot.now c.in-Ok.stated (text left c.args.lines.now) (text left c.read_answer.new.lines) c.in-Err-judge_tree.fault
+    (c.in-Ok.ensures.lines c.requires.whole) c.in-Err-judge_tree.ensures.takes
 
 pub returns-clause-shows : goal.returns-clause-shows
 returns-clause-shows g c =
     let left = g.S.Source.left in
-    fault_behind (text left c.args.lines.now) (text left c.read_answer.new.lines) c.in-Err-judge_tree.fault (left c.judge_tree.new.lines.source.now) (c.in-Ok.ensures.went c.requires.whole) c.in-Err-judge_tree.ensures.shows
+    fault_behind (text left c.args.lines.now) (text left c.read_answer.new.lines) c.in-Err-judge_tree.fault (left c.judge_tree.new.lines.source.now)
+    (c.in-Ok.ensures.went c.requires.whole) c.in-Err-judge_tree.ensures.shows

@@ -19,19 +19,22 @@ pub returns-in-Ok-read_end-clause-takes : goal.returns-in-Ok-read_end-clause-tak
 returns-in-Ok-read_end-clause-takes g c =
     let left = g.S.Source.left in
     let is = c.in-Ok.ensures.verdict in
-    tree_taken c.args.snapshot.now c.args.stated.now (text left c.args.lines.now) (text left c.read_verdict.new.lines) is.tree c.in-Ok.verdict is.said is.verdict_is
+    tree_taken c.args.snapshot.now c.args.stated.now (text left c.args.lines.now)
+    (text left c.read_verdict.new.lines) is.tree c.in-Ok.verdict is.said is.verdict_is
 
 pub returns-in-Err-read_end-clause-refused : goal.returns-in-Err-read_end-clause-refused
 returns-in-Err-read_end-clause-refused g c =
     let left = g.S.Source.left in
     let is = c.in-Ok.ensures.verdict in
-    tree_late c.args.snapshot.now (text left c.args.lines.now) (text left c.read_verdict.new.lines) is.tree c.in-Err-read_end.fault is.said c.in-Err-read_end.ensures.refused
+    tree_late c.args.snapshot.now (text left c.args.lines.now)
+    (text left c.read_verdict.new.lines) is.tree c.in-Err-read_end.fault is.said c.in-Err-read_end.ensures.refused
 
 pub returns-in-Err-read_end-clause-takes : goal.returns-in-Err-read_end-clause-takes
 returns-in-Err-read_end-clause-takes g c =
     let left = g.S.Source.left in
     let is = c.in-Ok.ensures.verdict in
-    tree_not_late c.args.snapshot.now c.args.stated.now (text left c.args.lines.now) (text left c.read_verdict.new.lines) is.tree c.in-Err-read_end.fault is.said c.in-Err-read_end.ensures.refused
+    tree_not_late c.args.snapshot.now c.args.stated.now (text left c.args.lines.now)
+    (text left c.read_verdict.new.lines) is.tree c.in-Err-read_end.fault is.said c.in-Err-read_end.ensures.refused
 
 pub returns-in-Err-clause-refused : goal.returns-in-Err-clause-refused
 returns-in-Err-clause-refused g c =
@@ -46,4 +49,5 @@ returns-in-Err-clause-takes g c =
 pub returns-in-Err-read_end-clause-shows : goal.returns-in-Err-read_end-clause-shows
 returns-in-Err-read_end-clause-shows g c =
     let left = g.S.Source.left in
-    fault_behind (text left c.args.lines.now) (text left c.read_verdict.new.lines) c.in-Err-read_end.fault (left c.read_end.new.lines.source.now) c.in-Ok.ensures.went c.in-Err-read_end.ensures.shows
+    fault_behind (text left c.args.lines.now) (text left c.read_verdict.new.lines) c.in-Err-read_end.fault
+    (left c.read_end.new.lines.source.now) c.in-Ok.ensures.went c.in-Err-read_end.ensures.shows

@@ -9,7 +9,8 @@ use Rattle.check_text.proofs.reading.read_certified.Goals as goal
 pub returns-in-Err-clause-refused : goal.returns-in-Err-clause-refused
 returns-in-Err-clause-refused g c =
     let left = g.S.Source.left in
-    answer_in_pair c.args.snapshot.now (text left c.args.lines.now) (text left c.read_answer.new.lines) c.in-Err.fault (c.in-Err.ensures.refused c.requires.whole)
+    answer_in_pair c.args.snapshot.now (text left c.args.lines.now) (text left c.read_answer.new.lines) c.in-Err.fault
+    (c.in-Err.ensures.refused c.requires.whole)
 
 pub returns-in-Ok-read_verdict-clause-certified : goal.returns-in-Ok-read_verdict-clause-certified
 returns-in-Ok-read_verdict-clause-certified g c =
@@ -20,7 +21,8 @@ returns-in-Ok-read_verdict-clause-certified g c =
       cars = c.in-Ok.ensures.within.fits.tours;
       whole = is.whole;
       verdict_is = is.verdict_is;
-      read = pair_in_front c.args.snapshot.now (text left c.args.lines.now) (text left c.read_answer.new.lines) (text left c.read_verdict.new.lines) c.in-Ok.stated is.tree (c.in-Ok.ensures.said c.requires.whole) is.said;
+      read = pair_in_front c.args.snapshot.now (text left c.args.lines.now) (text left c.read_answer.new.lines)
+          (text left c.read_verdict.new.lines) c.in-Ok.stated is.tree (c.in-Ok.ensures.said c.requires.whole) is.said;
     }
 
 pub returns-in-Ok-read_verdict-clause-told : goal.returns-in-Ok-read_verdict-clause-told
@@ -33,14 +35,17 @@ returns-in-Ok-read_verdict-clause-told g c =
 pub returns-in-Ok-read_verdict-clause-went : goal.returns-in-Ok-read_verdict-clause-went
 returns-in-Ok-read_verdict-clause-went g c =
     let left = g.S.Source.left in
-    went_further (text left c.args.lines.now) (text left c.read_answer.new.lines) (text left c.read_verdict.new.lines) (c.in-Ok.ensures.went c.requires.whole) c.in-Ok-read_verdict.ensures.went
+    went_further (text left c.args.lines.now) (text left c.read_answer.new.lines) (text left c.read_verdict.new.lines)
+    (c.in-Ok.ensures.went c.requires.whole) c.in-Ok-read_verdict.ensures.went
 
 pub returns-in-Err-read_verdict-clause-refused : goal.returns-in-Err-read_verdict-clause-refused
 returns-in-Err-read_verdict-clause-refused g c =
     let left = g.S.Source.left in
-    tree_in_pair c.args.snapshot.now (text left c.args.lines.now) (text left c.read_answer.new.lines) c.in-Ok.stated c.in-Err-read_verdict.fault (c.in-Ok.ensures.said c.requires.whole) c.in-Err-read_verdict.ensures.refused
+    tree_in_pair c.args.snapshot.now (text left c.args.lines.now) (text left c.read_answer.new.lines) c.in-Ok.stated c.in-Err-read_verdict.fault
+    (c.in-Ok.ensures.said c.requires.whole) c.in-Err-read_verdict.ensures.refused
 
 pub returns-in-Err-read_verdict-clause-shows : goal.returns-in-Err-read_verdict-clause-shows
 returns-in-Err-read_verdict-clause-shows g c =
     let left = g.S.Source.left in
-    fault_behind (text left c.args.lines.now) (text left c.read_answer.new.lines) c.in-Err-read_verdict.fault (left c.read_verdict.new.lines.source.now) (c.in-Ok.ensures.went c.requires.whole) c.in-Err-read_verdict.ensures.shows
+    fault_behind (text left c.args.lines.now) (text left c.read_answer.new.lines) c.in-Err-read_verdict.fault (left c.read_verdict.new.lines.source.now)
+    (c.in-Ok.ensures.went c.requires.whole) c.in-Err-read_verdict.ensures.shows

@@ -19,7 +19,8 @@ returns-in-Err-clause-takes g c =
 pub returns-in-Ok-judge-clause-checked : goal.returns-in-Ok-judge-clause-checked
 returns-in-Ok-judge-clause-checked g c =
     let left = g.S.Source.left in
-    checked_by c.in-Ok.snapshot (text left c.args.lines.now) (text left c.read_case.new.lines) c.in-Ok-judge.judged c.in-Ok.ensures.accepted c.in-Ok.ensures.case c.in-Ok-judge.ensures.judged
+    checked_by c.in-Ok.snapshot (text left c.args.lines.now)
+    (text left c.read_case.new.lines) c.in-Ok-judge.judged c.in-Ok.ensures.accepted c.in-Ok.ensures.case c.in-Ok-judge.ensures.judged
 
 pub returns-in-Ok-judge-clause-told : goal.returns-in-Ok-judge-clause-told
 returns-in-Ok-judge-clause-told g c =
@@ -30,19 +31,23 @@ returns-in-Ok-judge-clause-told g c =
 pub returns-in-Ok-judge-clause-takes : goal.returns-in-Ok-judge-clause-takes
 returns-in-Ok-judge-clause-takes g c =
     let left = g.S.Source.left in
-    check_taken c.in-Ok.snapshot (text left c.args.lines.now) (text left c.read_case.new.lines) c.in-Ok-judge.judged c.in-Ok.ensures.takes c.in-Ok-judge.ensures.takes
+    check_taken c.in-Ok.snapshot (text left c.args.lines.now)
+    (text left c.read_case.new.lines) c.in-Ok-judge.judged c.in-Ok.ensures.takes c.in-Ok-judge.ensures.takes
 
 pub returns-in-Err-judge-clause-refused : goal.returns-in-Err-judge-clause-refused
 returns-in-Err-judge-clause-refused g c =
     let left = g.S.Source.left in
-    behind_case (text left c.args.lines.now) (text left c.read_case.new.lines) c.in-Ok.snapshot c.in-Err-judge.fault c.in-Ok.ensures.case c.in-Err-judge.ensures.refused
+    behind_case (text left c.args.lines.now)
+    (text left c.read_case.new.lines) c.in-Ok.snapshot c.in-Err-judge.fault c.in-Ok.ensures.case c.in-Err-judge.ensures.refused
 
 pub returns-in-Err-judge-clause-takes : goal.returns-in-Err-judge-clause-takes
 returns-in-Err-judge-clause-takes g c =
     let left = g.S.Source.left in
-    behind_case_taken c.in-Ok.snapshot (text left c.args.lines.now) (text left c.read_case.new.lines) c.in-Err-judge.fault c.in-Ok.ensures.takes c.in-Err-judge.ensures.takes
+    behind_case_taken c.in-Ok.snapshot (text left c.args.lines.now)
+    (text left c.read_case.new.lines) c.in-Err-judge.fault c.in-Ok.ensures.takes c.in-Err-judge.ensures.takes
 
 pub returns-in-Err-judge-clause-shows : goal.returns-in-Err-judge-clause-shows
 returns-in-Err-judge-clause-shows g c =
     let left = g.S.Source.left in
-    fault_behind (text left c.args.lines.now) (text left c.read_case.new.lines) c.in-Err-judge.fault (left c.judge.new.lines.source.now) c.in-Ok.ensures.went c.in-Err-judge.ensures.shows
+    fault_behind (text left c.args.lines.now) (text left c.read_case.new.lines) c.in-Err-judge.fault
+    (left c.judge.new.lines.source.now) c.in-Ok.ensures.went c.in-Err-judge.ensures.shows

@@ -52,13 +52,15 @@ returns-in_err-is_whole-clause-reads g c =
     let left = g.S.Source.left in
     let same = err_from_is_err_and c.from_residual.result c.from_residual.ensures.1 in
     rw (same.1, same.2)
-    (piece_broken c.args.snapshot.now c.args.reader.now c.loop-count.reader c.read_twig.new.reader c.loop-count.piece c.read_twig.new.piece c.in_err-is_whole.field-0.0
+    (piece_broken c.args.snapshot.now c.args.reader.now c.loop-count.reader c.read_twig.new.reader c.loop-count.piece c.read_twig.new.piece
+    c.in_err-is_whole.field-0.0
     (text left c.args.lines.now) (text left c.loop-count.lines) (text left c.read_twig.new.lines) c.loop-count.invariant.gone c.in_err-is_whole.ensures.reads)
 
 pub returns-clause-reads : goal.returns-clause-reads
 returns-clause-reads g c =
     let left = g.S.Source.left in
-    piece_full c.args.snapshot.now c.args.reader.now c.loop-count.reader c.loop-count.piece (text left c.args.lines.now) (text left c.loop-count.lines) c.loop-count.invariant.gone
+    piece_full c.args.snapshot.now c.args.reader.now c.loop-count.reader c.loop-count.piece (text left c.args.lines.now)
+    (text left c.loop-count.lines) c.loop-count.invariant.gone
 
 pub returns-then-is_whole-clause-went : goal.returns-then-is_whole-clause-went
 returns-then-is_whole-clause-went g c =
@@ -72,4 +74,5 @@ returns-in_err-is_whole-clause-shows g c =
     let now = c.read_twig.new.lines in
     let same = err_from_is_err_and c.from_residual.result c.from_residual.ensures.1 in
     rw (same.1, same.2)
-    (fault_behind (text left c.args.lines.now) (text left c.loop-count.lines) c.in_err-is_whole.field-0.0 (left now.source.now) c.loop-count.invariant.went c.in_err-is_whole.ensures.shows)
+    (fault_behind (text left c.args.lines.now) (text left c.loop-count.lines) c.in_err-is_whole.field-0.0
+    (left now.source.now) c.loop-count.invariant.went c.in_err-is_whole.ensures.shows)

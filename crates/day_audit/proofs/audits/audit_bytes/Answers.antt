@@ -8,10 +8,13 @@ pub returns-then-is_long-clause-audit : goal.returns-then-is_long-clause-audit
 returns-then-is_long-clause-audit g c =
     let answer = c.audit_text-answer.result in
     let text_is = c.in-Ok.ensures.text ∙ ap (λ (bytes : List ℕ). Some (whole_text bytes)) c.new-held.ensures in
-    subst (IsAudit c.args.input.items) (sym c.if_long.ensures) (long_audited c.args.input.items answer (omega (arith, c.if-is_long.true, c.len-is_long.ensures)) (subst (λ (t : Option TextState). IsTextAudited t answer) text_is c.audit_text-answer.ensures.audited))
+    subst (IsAudit c.args.input.items) (sym c.if_long.ensures)
+    (long_audited c.args.input.items answer (omega (arith, c.if-is_long.true, c.len-is_long.ensures))
+    (subst (λ (t : Option TextState). IsTextAudited t answer) text_is c.audit_text-answer.ensures.audited))
 
 pub returns-clause-audit : goal.returns-clause-audit
 returns-clause-audit g c =
     let answer = c.audit_text-answer.result in
     let text_is = c.in-Ok.ensures.text ∙ ap (λ (bytes : List ℕ). Some (whole_text bytes)) c.new-held.ensures in
-    short_audited c.args.input.items answer (omega (arith, c.if-is_long.false, c.len-is_long.ensures)) (subst (λ (t : Option TextState). IsTextAudited t answer) text_is c.audit_text-answer.ensures.audited)
+    short_audited c.args.input.items answer (omega (arith, c.if-is_long.false, c.len-is_long.ensures))
+    (subst (λ (t : Option TextState). IsTextAudited t answer) text_is c.audit_text-answer.ensures.audited)

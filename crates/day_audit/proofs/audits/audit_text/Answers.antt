@@ -10,10 +10,13 @@ audit_day-requires-clause-opening g c = opening_empty c.in-Ok.opening c.in-Ok.en
 pub returns-in-Ok-clause-audited : goal.returns-in-Ok-clause-audited
 returns-in-Ok-clause-audited g c =
     let left = g.S.Source.left in
-    day_audited c.in-Ok.opening (text left c.args.lines.now) (text left c.read_day_opening.new.lines) c.audit_day.result c.in-Ok.ensures.accepted c.in-Ok.ensures.empty c.in-Ok.ensures.opening c.audit_day.ensures.audited
+    day_audited c.in-Ok.opening (text left c.args.lines.now)
+    (text left c.read_day_opening.new.lines) c.audit_day.result c.in-Ok.ensures.accepted c.in-Ok.ensures.empty c.in-Ok.ensures.opening
+    c.audit_day.ensures.audited
 
 pub returns-in-Err-clause-audited : goal.returns-in-Err-clause-audited
-returns-in-Err-clause-audited g c = opening_refused (text g.S.Source.left c.args.lines.now) c.in-Err.fault c.bad_text.result c.bad_text.ensures c.in-Err.ensures.refused
+returns-in-Err-clause-audited g c =
+    opening_refused (text g.S.Source.left c.args.lines.now) c.in-Err.fault c.bad_text.result c.bad_text.ensures c.in-Err.ensures.refused
 
 pub returns-in-Err-clause-read : goal.returns-in-Err-clause-read
 returns-in-Err-clause-read g c = λ unread. c.in-Err.ensures.read (ap Err (unread_is c.in-Err.fault c.bad_text.result c.bad_text.ensures unread))

@@ -12,7 +12,8 @@ returns-in-Ok-clause-takes g c =
     let before = text left c.args.lines.now in
     let here = text left c.take_line.new.lines in
     let first = subst (λ (n : ℕ). TakesLines (accepted_words n ∷ []) before (Ok tt) here) c.from.ensures c.in-Ok.ensures.takes in
-    takes_further (accepted_words c.args.number ∷ []) (event_lines c.args.events.now) before here (text left c.take_events.new.lines) c.take_events.result first c.take_events.ensures.takes
+    takes_further (accepted_words c.args.number ∷ []) (event_lines c.args.events.now) before here
+    (text left c.take_events.new.lines) c.take_events.result first c.take_events.ensures.takes
 
 pub returns-in-Err-clause-takes : goal.returns-in-Err-clause-takes
 returns-in-Err-clause-takes g c =

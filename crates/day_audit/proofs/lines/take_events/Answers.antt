@@ -13,14 +13,17 @@ loop-event-preserved g c =
     record {
       counted = omega (arith, iv.counted, c.in-Ok.ensures.counted);
       whole = c.in-Ok.ensures.ok;
-      taken = events_more c.args.events.now c.loop-event.event-index _ (text left c.args.lines.now) (text left c.loop-event.lines) (text left c.take_event.new.lines) (Ok tt) c.loop-event-test.true iv.taken c.in-Ok.ensures.takes;
+      taken = events_more c.args.events.now c.loop-event.event-index _ (text left c.args.lines.now) (text left c.loop-event.lines)
+          (text left c.take_event.new.lines) (Ok tt) c.loop-event-test.true iv.taken c.in-Ok.ensures.takes;
     }
 
 pub returns-in-Err-clause-takes : goal.returns-in-Err-clause-takes
 returns-in-Err-clause-takes g c =
     let left = g.S.Source.left in
     let iv = c.loop-event.invariant in
-    events_short c.args.events.now _ (text left c.args.lines.now) (text left c.take_event.new.lines) c.in-Err.finding (events_more c.args.events.now c.loop-event.event-index _ (text left c.args.lines.now) (text left c.loop-event.lines) (text left c.take_event.new.lines) _ c.loop-event-test.true iv.taken c.in-Err.ensures.takes)
+    events_short c.args.events.now _ (text left c.args.lines.now) (text left c.take_event.new.lines) c.in-Err.finding
+    (events_more c.args.events.now c.loop-event.event-index _ (text left c.args.lines.now) (text left c.loop-event.lines)
+    (text left c.take_event.new.lines) _ c.loop-event-test.true iv.taken c.in-Err.ensures.takes)
 
 pub returns-clause-takes : goal.returns-clause-takes
 returns-clause-takes g c =

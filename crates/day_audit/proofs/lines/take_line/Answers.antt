@@ -13,7 +13,8 @@ returns-in-Ok-true-clause-takes g c =
     let new = c.next_line.new.self in
     let due = due_words c.args.due.now in
     let read = rw c.in-Ok-true.field-0-test at c.in-Ok-true.ensures in
-    subst (λ (answer : Result Unit Finding). TakesLines (due ∷ []) (text left c.args.lines.now) answer (text left new)) (sym (c.said_at.ensures.said ∙ ap (said_at c.says.result) c.line.ensures.value))
+    subst (λ (answer : Result Unit Finding). TakesLines (due ∷ []) (text left c.args.lines.now) answer (text left new))
+    (sym (c.said_at.ensures.said ∙ ap (said_at c.says.result) c.line.ensures.value))
     (line_said (text left c.args.lines.now) (text left new) (words new) due (line new) c.says.result (read.next c.requires.whole) c.says.ensures)
 
 pub returns-in-Ok-false-clause-takes : goal.returns-in-Ok-false-clause-takes
@@ -29,4 +30,5 @@ pub returns-in-Err-clause-takes : goal.returns-in-Err-clause-takes
 returns-in-Err-clause-takes g c =
     let left = g.S.Source.left in
     let new = c.next_line.new.self in
-    line_unread (text left c.args.lines.now) (text left new) (words new) (due_words c.args.due.now) (line new) c.in-Err.fault c.finding_of.result (c.in-Err.ensures.next c.requires.whole) c.finding_of.ensures.found
+    line_unread (text left c.args.lines.now) (text left new) (words new) (due_words c.args.due.now) (line new) c.in-Err.fault c.finding_of.result
+    (c.in-Err.ensures.next c.requires.whole) c.finding_of.ensures.found

@@ -24,4 +24,5 @@ pub returns-in-Err-clause-takes : goal.returns-in-Err-clause-takes
 returns-in-Err-clause-takes g c =
     let left = g.S.Source.left in
     let new = c.next_line.new.self in
-    unread_left (text left c.args.lines.now) (text left new) (words new) (line new) c.in-Err.fault c.finding_of.result (c.in-Err.ensures.next c.requires.whole) c.finding_of.ensures.found
+    unread_left (text left c.args.lines.now) (text left new) (words new) (line new) c.in-Err.fault c.finding_of.result
+    (c.in-Err.ensures.next c.requires.whole) c.finding_of.ensures.found

@@ -13,9 +13,11 @@ take_last-requires-clause-day g c =
 pub returns-in-Ok-clause-audited : goal.returns-in-Ok-clause-audited
 returns-in-Ok-clause-audited g c = λ day at.
     (let left = g.S.Source.left in
-    joined day (map said_of c.args.rows.now) (text left c.args.lines.now) (text left c.take_rows.new.lines) c.take_rows.new.progress c.take_last.result (c.in-Ok.ensures.taken day at) c.take_last.ensures.taken)
+    joined day (map said_of c.args.rows.now) (text left c.args.lines.now) (text left c.take_rows.new.lines) c.take_rows.new.progress c.take_last.result
+    (c.in-Ok.ensures.taken day at) c.take_last.ensures.taken)
 
 pub returns-in-Err-clause-audited : goal.returns-in-Err-clause-audited
 returns-in-Err-clause-audited g c = λ day at.
     (let left = g.S.Source.left in
-    joined_short day (map said_of c.args.rows.now) (text left c.args.lines.now) (text left c.take_rows.new.lines) c.take_rows.new.progress c.in-Err.finding (c.in-Err.ensures.taken day at))
+    joined_short day (map said_of c.args.rows.now) (text left c.args.lines.now) (text left c.take_rows.new.lines) c.take_rows.new.progress c.in-Err.finding
+    (c.in-Err.ensures.taken day at))

@@ -14,4 +14,5 @@ returns-in-None-clause-taken g c = λ day at.
     let before = text left c.args.lines.now in
     let now = text left c.refuse_next.new.lines in
     subst (λ (row : Option GoodRow). IsRowTaken day (said_of row) before c.refuse_next.result c.refuse_next.new.progress now) (sym c.in-None.is)
-    (refused_taken day None NoRow refl c.args.progress.now c.refuse_next.new.progress before now c.refuse_next.result c.requires.number at c.refuse_next.ensures.takes c.refuse_next.ensures.progress))
+    (refused_taken day None NoRow refl c.args.progress.now c.refuse_next.new.progress before now c.refuse_next.result c.requires.number at
+    c.refuse_next.ensures.takes c.refuse_next.ensures.progress))

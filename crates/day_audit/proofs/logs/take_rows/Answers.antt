@@ -34,16 +34,22 @@ loop-row-preserved g c =
       whole = c.in-Ok.ensures.ok;
       numbered = let more = row_numbered here said row.0 c.loop-row.progress new so_far.1 row.1 in omega (arith, more, iv.numbered);
       same_building = row_building here said row.0 c.loop-row.progress new so_far.1 row.1 ∙ iv.same_building;
-      taken = λ day at. rows_more day c.args.rows.now i None (text left c.args.lines.now) (text left c.loop-row.lines) (text left c.take_row.new.lines) c.loop-row.progress c.take_row.new.progress (Ok tt) c.loop-row-test.true (iv.taken day at) c.in-Ok.ensures.taken;
+      taken = λ day at.
+          rows_more day c.args.rows.now i None (text left c.args.lines.now) (text left c.loop-row.lines)
+          (text left c.take_row.new.lines) c.loop-row.progress c.take_row.new.progress (Ok tt) c.loop-row-test.true (iv.taken day at) c.in-Ok.ensures.taken;
     }
 
 pub returns-in-Err-clause-taken : goal.returns-in-Err-clause-taken
 returns-in-Err-clause-taken g c = λ day at.
     (let left = g.S.Source.left in
     let iv = c.loop-row.invariant in
-    rows_short day c.args.rows.now (c.loop-row.row-index + 1) (text left c.args.lines.now) (text left c.take_row.new.lines) c.take_row.new.progress c.take_row.new.progress c.in-Err.finding
-    (rows_more day c.args.rows.now c.loop-row.row-index None (text left c.args.lines.now) (text left c.loop-row.lines) (text left c.take_row.new.lines) c.loop-row.progress c.take_row.new.progress (Err c.in-Err.finding) c.loop-row-test.true (iv.taken day at) c.in-Err.ensures.taken))
+    rows_short day c.args.rows.now (c.loop-row.row-index + 1) (text left c.args.lines.now)
+    (text left c.take_row.new.lines) c.take_row.new.progress c.take_row.new.progress c.in-Err.finding
+    (rows_more day c.args.rows.now c.loop-row.row-index None (text left c.args.lines.now) (text left c.loop-row.lines)
+    (text left c.take_row.new.lines) c.loop-row.progress c.take_row.new.progress (Err c.in-Err.finding) c.loop-row-test.true
+    (iv.taken day at) c.in-Err.ensures.taken))
 
 pub returns-clause-taken : goal.returns-clause-taken
 returns-clause-taken g c = λ day at.
-    rows_all day c.args.rows.now c.loop-row.row-index (text g.S.Source.left c.args.lines.now) (text g.S.Source.left c.loop-row.lines) c.loop-row.progress (omega arith) (c.loop-row.invariant.taken day at)
+    rows_all day c.args.rows.now c.loop-row.row-index (text g.S.Source.left c.args.lines.now) (text g.S.Source.left c.loop-row.lines) c.loop-row.progress
+    (omega arith) (c.loop-row.invariant.taken day at)

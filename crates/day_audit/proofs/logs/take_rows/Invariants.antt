@@ -11,5 +11,6 @@ invariant-loop-row g l = record {
   numbered : next_number l.progress ≡ next_number l.fn.progress + l.row-index;
   counted : g.S.Source.faults l.fn.lines.source.now ≤ g.S.Source.faults l.lines.source.now;
   same_building : l.progress.world.snapshot.building ≡ l.fn.progress.world.snapshot.building;
-  taken : (day : Day) → IsDayOf l.fn.progress day → AreRowsTaken day (map said_of (take l.row-index l.rows)) (text g.S.Source.left l.fn.lines) (Ok tt) l.progress (text g.S.Source.left l.lines);
+  taken : (day : Day) → IsDayOf l.fn.progress day
+      → AreRowsTaken day (map said_of (take l.row-index l.rows)) (text g.S.Source.left l.fn.lines) (Ok tt) l.progress (text g.S.Source.left l.lines);
 }

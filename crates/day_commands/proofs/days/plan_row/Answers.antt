@@ -9,4 +9,7 @@ plan_within-requires g c = record { claims = c.most_claims.ensures.within c.requ
 pub returns : goal.returns
 returns g c =
     let asked = c.args.options.search in
-    subst (λ (claims : Option ℕ). IfOk c.plan_within.result (λ planned. IsSolvedRow asked.limits.rounds asked.limits.most_tours claims c.args.snapshot.now planned.stated planned.proof.items)) c.most_claims.ensures.value c.plan_within.ensures
+    subst (λ (claims : Option ℕ).
+    IfOk c.plan_within.result
+    (λ planned. IsSolvedRow asked.limits.rounds asked.limits.most_tours claims c.args.snapshot.now planned.stated planned.proof.items))
+    c.most_claims.ensures.value c.plan_within.ensures

@@ -11,6 +11,11 @@ returns-clause-answered g c =
     let left = g.S.Source.left in
     let taken = g.K.Sink.taken in
     let ran = c.run_day_text-ended.ensures.answered in
-    let wide = answered-wider _ (SolvedBy c.args.options) (text left c.in-Ok.lines) (left c.run_day_text-ended.new.lines.source.now) (taken c.args.sink.now) (taken c.run_day_text-ended.new.sink) c.run_day_text-ended.result (λ s stated proof right. still-solved c.args.options.search.limits.rounds c.args.options.search.limits.most_tours (most_claims c.args.options) right.1.shown.now s right.0.stated stated right.0.proof.items proof (let met = right.1.says.met in search (met)) right.1.shows right.2 right.3) ran in
+    let wide = answered-wider _ (SolvedBy c.args.options) (text left c.in-Ok.lines) (left c.run_day_text-ended.new.lines.source.now) (taken c.args.sink.now)
+    (taken c.run_day_text-ended.new.sink) c.run_day_text-ended.result
+    (λ s stated proof right.
+    still-solved c.args.options.search.limits.rounds c.args.options.search.limits.most_tours
+    (most_claims c.args.options) right.1.shown.now s right.0.stated stated right.0.proof.items proof
+    (let met = right.1.says.met in search (met)) right.1.shows right.2 right.3) ran in
     let told = rw c.in-Ok.ensures.text at wide in
     search (rules, told)

@@ -14,7 +14,10 @@ returns-in_default g c =
     let found = c.in_ok-found.found in
     let s = c.args.snapshot.now in
     let limits = c.args.limits in
-    subst (λ (claims : Option ℕ). IsSolvedRow limits.rounds limits.most_tours claims s found.stated c.new.result.items) (sym (none-there c.args.claims c.in_default.not-Some)) (solved-row limits.rounds limits.most_tours s c.now-moment.ensures.accepted found.stated found.tree.twigs found.turns found.why c.in_ok-found.ensures.answer c.in_ok-found.ensures.enough c.new.result.items c.new.ensures.items)
+    subst (λ (claims : Option ℕ). IsSolvedRow limits.rounds limits.most_tours claims s found.stated c.new.result.items)
+    (sym (none-there c.args.claims c.in_default.not-Some))
+    (solved-row limits.rounds limits.most_tours s c.now-moment.ensures.accepted found.stated found.tree.twigs found.turns found.why
+    c.in_ok-found.ensures.answer c.in_ok-found.ensures.enough c.new.result.items c.new.ensures.items)
 
 pub with_certificate-requires-clause-tours : goal.with_certificate-requires-clause-tours
 with_certificate-requires-clause-tours g c = feasible_fits c.args.snapshot.now c.in_ok-found.found.stated.plan c.in_ok-found.ensures.answer.proves.feasible
@@ -24,4 +27,9 @@ returns g c =
     let found = c.in_ok-found.found in
     let s = c.args.snapshot.now in
     let limits = c.args.limits in
-    on_three c.with_certificate.result _ _ _ _ (λ planned plan cost written. subst (λ (claims : Option ℕ). IsSolvedRow limits.rounds limits.most_tours claims s planned.stated planned.proof.items) (sym c.in-Some.is) (certified-row-as limits.rounds limits.most_tours s c.now-moment.ensures.accepted found.stated found.tree.twigs found.turns found.why c.in_ok-found.ensures.answer c.in_ok-found.ensures.enough c.in-Some.most planned.stated planned.proof.items plan cost written)) c.with_certificate.ensures.plan c.with_certificate.ensures.cost c.with_certificate.ensures.written
+    on_three c.with_certificate.result _ _ _ _
+    (λ planned plan cost written.
+    subst (λ (claims : Option ℕ). IsSolvedRow limits.rounds limits.most_tours claims s planned.stated planned.proof.items) (sym c.in-Some.is)
+    (certified-row-as limits.rounds limits.most_tours s c.now-moment.ensures.accepted found.stated found.tree.twigs found.turns found.why
+    c.in_ok-found.ensures.answer c.in_ok-found.ensures.enough c.in-Some.most planned.stated planned.proof.items plan cost written))
+    c.with_certificate.ensures.plan c.with_certificate.ensures.cost c.with_certificate.ensures.written

@@ -8,7 +8,8 @@ returns-in-Some c =
     let calls = c.args.calls.now in
     let event = c.args.event.now in
     let found = c.in-Some.ensures.found in
-    noted-set calls event c.in-Some.place c.with.result found.0 (only-place calls (id_of_event event) c.in-Some.place c.requires (found.0, found.1 ∙ c.id_of_event.ensures)) c.with.ensures
+    noted-set calls event c.in-Some.place c.with.result found.0
+    (only-place calls (id_of_event event) c.in-Some.place c.requires (found.0, found.1 ∙ c.id_of_event.ensures)) c.with.ensures
 
 pub returns-in_default : goal.returns-in_default
 returns-in_default c =

@@ -12,5 +12,8 @@ loop-event-preserved c =
     let iv = c.loop-event.invariant in
     let calls = day_calls c.args.calls.now in
     let events = c.args.events.now in
-    let i = c.loop-event.event-index in
-    (c.note.ensures ∙ ap (map (noted_in _)) iv.0 ∙ sym (noted-more calls (take i events) _) ∙ ap (calls_after calls) (sym (take_more events i _ c.loop-event-test.true)), subst IdsRise (sym c.note.ensures) (rise-noted (_ ∷ []) (day_calls c.loop-event.calls) iv.1))
+    let i = c.loop-event.event-index in (
+      c.note.ensures ∙ ap (map (noted_in _)) iv.0 ∙ sym (noted-more calls (take i events) _)
+          ∙ ap (calls_after calls) (sym (take_more events i _ c.loop-event-test.true)),
+      subst IdsRise (sym c.note.ensures) (rise-noted (_ ∷ []) (day_calls c.loop-event.calls) iv.1),
+    )

@@ -11,7 +11,8 @@ returns-in-Ok-Line-clause-next g c =
     let read = rw c.in-Ok-Line.field-0-is at c.in-Ok-Line.ensures in
     let new = c.raw_line.new.self in
     let did = c.do_line.ensures in
-    line-answered (right_by (FnReturnsAt g.F.Fn c.args.plan.now)) c.args.day.now c.do_line.new.day c.do_line.new.out.items (text left c.args.lines.now) (text left new) c.raw.result.now (raw new) (left new.source.now)
+    line-answered (right_by (FnReturnsAt g.F.Fn c.args.plan.now)) c.args.day.now c.do_line.new.day c.do_line.new.out.items (text left c.args.lines.now)
+    (text left new) c.raw.result.now (raw new) (left new.source.now)
     c.do_line.result _ c.next_after.result refl c.raw.ensures c.next_after.ensures (read.next c.requires.unfailed) did.done did.as_before
 
 pub returns-in-Ok-Long-clause-next : goal.returns-in-Ok-Long-clause-next
@@ -20,7 +21,8 @@ returns-in-Ok-Long-clause-next g c =
     let read = rw c.in-Ok-Long.field-0-is at c.in-Ok-Long.ensures in
     let new = c.raw_line.new.self in
     let did = c.do_long_line.ensures in
-    long-line-answered (right_by (FnReturnsAt g.F.Fn c.args.plan.now)) c.args.day.now c.do_long_line.new.day c.do_long_line.new.out.items (text left c.args.lines.now) (text left new) (raw new) (left new.source.now)
+    long-line-answered (right_by (FnReturnsAt g.F.Fn c.args.plan.now)) c.args.day.now c.do_long_line.new.day c.do_long_line.new.out.items
+    (text left c.args.lines.now) (text left new) (raw new) (left new.source.now)
     c.do_long_line.result _ c.next_after-in-Ok-Long.result refl c.next_after-in-Ok-Long.ensures (read.next c.requires.unfailed) did.day did.log did.as_before
 
 pub returns-in-Err-clause-next : goal.returns-in-Err-clause-next
@@ -28,5 +30,6 @@ returns-in-Err-clause-next g c =
     let left = g.S.Source.left in
     let read = c.raw_line in
     let took = read.ensures.taken in
-    fault-answered (right_by (FnReturnsAt g.F.Fn c.args.plan.now)) c.args.day.now c.args.out.now.items c.args.lines.now.page (left c.args.lines.now.source.now) (left read.new.self.source.now) (text left read.new.self) (raw read.new.self) c.in-Err.fault took.0
+    fault-answered (right_by (FnReturnsAt g.F.Fn c.args.plan.now)) c.args.day.now c.args.out.now.items c.args.lines.now.page (left c.args.lines.now.source.now)
+    (left read.new.self.source.now) (text left read.new.self) (raw read.new.self) c.in-Err.fault took.0
     read.result c.fault_of.result c.in-Err.is c.fault_of.ensures (read.ensures.next c.requires.unfailed) took.1.given (took.3 c.requires.unfailed)

@@ -11,7 +11,8 @@ returns-in-Ok-End-clause-ran g c =
     let taken = g.K.Sink.taken in
     let did = rw c.in-Ok-End.field-0-is at c.in-Ok-End.ensures in
     let new = c.write_next.new in
-    ran-end (right_by (FnReturnsAt g.F.Fn c.args.plan.now)) c.args.day.now c.lines.day new.day (text left c.args.lines.now) (text left c.lines.lines) (text left new.lines) (has_ended c.lines.lines) (left new.lines.source.now)
+    ran-end (right_by (FnReturnsAt g.F.Fn c.args.plan.now)) c.args.day.now c.lines.day new.day (text left c.args.lines.now) (text left c.lines.lines)
+    (text left new.lines) (has_ended c.lines.lines) (left new.lines.source.now)
     (taken c.args.sink.now) (taken c.lines.sink) (taken new.sink) c.lines.invariant.so_far did.next
 
 pub returns-in-Err-clause-ran : goal.returns-in-Err-clause-ran
@@ -20,7 +21,8 @@ returns-in-Err-clause-ran g c =
     let taken = g.K.Sink.taken in
     let did = c.in-Err.ensures in
     let new = c.write_next.new in
-    ran-fault (right_by (FnReturnsAt g.F.Fn c.args.plan.now)) c.args.day.now c.lines.day new.day c.in-Err.fault (text left c.args.lines.now) (text left c.lines.lines) (text left new.lines) (has_ended c.lines.lines) (has_ended new.lines) (left new.lines.source.now)
+    ran-fault (right_by (FnReturnsAt g.F.Fn c.args.plan.now)) c.args.day.now c.lines.day new.day c.in-Err.fault (text left c.args.lines.now)
+    (text left c.lines.lines) (text left new.lines) (has_ended c.lines.lines) (has_ended new.lines) (left new.lines.source.now)
     (taken c.args.sink.now) (taken c.lines.sink) (taken new.sink) c.lines.invariant.so_far did.stays_ended did.not_ended did.next
 
 pub lines-preserved : goal.lines-preserved
@@ -35,7 +37,8 @@ lines-preserved g c =
       unfailed = did.unfailed;
       numbered = did.number refl;
       lost_none = did.none_lost;
-      so_far = line-so-far (right_by (FnReturnsAt g.F.Fn c.args.plan.now)) c.args.day.now c.lines.day new.day did.next.0 (text left c.args.lines.now) (text left c.lines.lines) (text left new.lines) (has_ended c.lines.lines) (has_ended new.lines)
+      so_far = line-so-far (right_by (FnReturnsAt g.F.Fn c.args.plan.now)) c.args.day.now c.lines.day new.day did.next.0 (text left c.args.lines.now)
+          (text left c.lines.lines) (text left new.lines) (has_ended c.lines.lines) (has_ended new.lines)
           (taken c.args.sink.now) (taken c.lines.sink) (taken new.sink) before.so_far did.next.1 did.stays_ended (did.line_feed refl) did.next.2;
       counted_lines = omega (arith, did.line refl, before.counted_lines);
       counted = omega (arith, before.counted, did.counted);

@@ -15,7 +15,8 @@ invariant-lines g l = record {
   unfailed : failure l.lines ≡ None;
   numbered : row_number l.day ≤ line l.lines + 1;
   lost_none : IsTrue (loses_none l.day);
-  so_far : SoFar (right_by (FnReturnsAt g.F.Fn l.fn.plan)) l.initial.day l.day (text g.S.Source.left l.initial.lines) (text g.S.Source.left l.lines) (has_ended l.lines) (g.K.Sink.taken l.initial.sink) (g.K.Sink.taken l.sink);
+  so_far : SoFar (right_by (FnReturnsAt g.F.Fn l.fn.plan)) l.initial.day l.day (text g.S.Source.left l.initial.lines) (text g.S.Source.left l.lines)
+      (has_ended l.lines) (g.K.Sink.taken l.initial.sink) (g.K.Sink.taken l.sink);
   counted_lines : line l.lines ≡ line l.initial.lines + l.counter;
   counted : g.S.Source.faults l.initial.lines.source.now ≤ g.S.Source.faults l.lines.source.now;
   counted_in_sink : g.K.Sink.faults l.initial.sink ≤ g.K.Sink.faults l.sink;

@@ -29,13 +29,16 @@ pub returns-in-Err-run_day-clause-ends : goal.returns-in-Err-run_day-clause-ends
 returns-in-Err-run_day-clause-ends g c =
     let left = g.S.Source.left in
     let taken = g.K.Sink.taken in
-    rows-end (right_by (FnReturnsAt g.F.Fn c.args.plan.now)) c.in-Ok.opening c.in-Err-run_day.fault (text left c.args.lines.now) (text left c.read_day_opening.new.lines) (left c.run_day.new.lines.source.now) (taken c.args.sink.now) (taken c.run_day.new.sink) c.in-Ok.ensures.takes c.in-Err-run_day.ensures.ran
+    rows-end (right_by (FnReturnsAt g.F.Fn c.args.plan.now)) c.in-Ok.opening c.in-Err-run_day.fault (text left c.args.lines.now)
+    (text left c.read_day_opening.new.lines) (left c.run_day.new.lines.source.now) (taken c.args.sink.now)
+    (taken c.run_day.new.sink) c.in-Ok.ensures.takes c.in-Err-run_day.ensures.ran
 
 pub returns-in-Err-run_day-clause-read : goal.returns-in-Err-run_day-clause-read
 returns-in-Err-run_day-clause-read g c = λ e. rose-before _ _ _ c.in-Ok.ensures.counted (c.in-Err-run_day.ensures.read (ap Err e))
 
 pub returns-in-Err-clause-ends : goal.returns-in-Err-clause-ends
-returns-in-Err-clause-ends g c = opening-taken c.in-Err.fault (text g.S.Source.left c.args.lines.now) (text g.S.Source.left c.read_day_opening.new.lines) c.in-Err.ensures.takes
+returns-in-Err-clause-ends g c =
+    opening-taken c.in-Err.fault (text g.S.Source.left c.args.lines.now) (text g.S.Source.left c.read_day_opening.new.lines) c.in-Err.ensures.takes
 
 pub returns-in-Err-clause-answered : goal.returns-in-Err-clause-answered
 returns-in-Err-clause-answered g c = (refl, c.in-Err.ensures.refused, c.in-Err.ensures.shows, λ e. c.in-Err.ensures.unopened (ap Err e))

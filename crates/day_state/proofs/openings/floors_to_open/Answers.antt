@@ -12,12 +12,15 @@ loop-floor-preserved c =
     let s = c.args.snapshot.now in
     let test : ℕ → Bool = is_open s.building c.args.car s.moment c.args.state in
     let floor = c.loop-floor.floor in
-    let open_is = c.is_open.ensures ∙ ap (λ (b : Building). is_open b c.args.car c.now.result c.args.state floor) c.building-in-loop-floor.ensures.value ∙ ap (λ (t : ℕ). is_open s.building c.args.car t c.args.state floor) c.now.ensures.value in
+    let open_is = c.is_open.ensures ∙ ap (λ (b : Building). is_open b c.args.car c.now.result c.args.state floor) c.building-in-loop-floor.ensures.value
+    ∙ ap (λ (t : ℕ). is_open s.building c.args.car t c.args.state floor) c.now.ensures.value in
     elim c.if-is_open.branch [
       | then-is_open w ↦ (
           let far : w.abs_diff.result ≡ difference c.args.from floor = omega (arith, w.abs_diff.ensures) in
           let opens : test floor ≡ true = sym open_is ∙ w.if-is_open.true in
-          w.least-is ∙ ap Some (w.lesser.ensures ∙ ap (λ (o : Option ℕ). lesser_of o w.abs_diff.result) c.loop-floor.invariant ∙ ap (lesser_of (least_where floor test (difference c.args.from))) far) ∙ sym (least-with floor test (difference c.args.from) opens))
+          w.least-is ∙ ap Some
+          (w.lesser.ensures ∙ ap (λ (o : Option ℕ). lesser_of o w.abs_diff.result) c.loop-floor.invariant
+          ∙ ap (lesser_of (least_where floor test (difference c.args.from))) far) ∙ sym (least-with floor test (difference c.args.from) opens))
       | else-is_open w ↦ (
           let closed : test floor ≡ false = sym open_is ∙ w.if-is_open.false in
           w.least-is ∙ c.loop-floor.invariant ∙ sym (least-without floor test (difference c.args.from) closed))

@@ -16,7 +16,8 @@ loop-car-preserved c =
     let tour : ℕ → List Stop = λ d. opening_tour s d (state_of s d) in
     let car = c.loop-car.car in
     let e : 0 + car ≡ car = omega arith in
-    c.in_ok-push.ensures.ok ∙ ap (λ (xs : List (List Stop)). xs ++ c.in_ok-opening_tour.field-0 ∷ []) c.loop-car.invariant ∙ ap (λ (x : List Stop). map tour (range_with_len 0 car) ++ x ∷ []) c.in_ok-opening_tour.ensures ∙ sym (map-range_with_len_more tour 0 car car e)
+    c.in_ok-push.ensures.ok ∙ ap (λ (xs : List (List Stop)). xs ++ c.in_ok-opening_tour.field-0 ∷ []) c.loop-car.invariant
+    ∙ ap (λ (x : List Stop). map tour (range_with_len 0 car) ++ x ∷ []) c.in_ok-opening_tour.ensures ∙ sym (map-range_with_len_more tour 0 car car e)
 
 pub returns-clause-feasible : goal.returns-clause-feasible
 returns-clause-feasible c =
@@ -24,4 +25,5 @@ returns-clause-feasible c =
     let tour : ℕ → List Stop = λ d. opening_tour s d (state_of s d) in
     let cars = ap (λ (xs : List CarSpec). length xs) c.cars.ensures.value ∙ ap (λ (b : Building). length b.cars) c.building.ensures.value in
     let all : c.loop-car.car ≡ car_count s = omega (arith, cars, c.loop-car-test.false, c.loop-car.auto.car-end) in
-    subst (IsFeasiblePlan s) (sym (c.loop-car.invariant ∙ ap (λ (n : ℕ). map tour (range_with_len 0 n)) all)) (opening-feasible s c.building.ensures.accepted c.requires)
+    subst (IsFeasiblePlan s) (sym (c.loop-car.invariant ∙ ap (λ (n : ℕ). map tour (range_with_len 0 n)) all))
+    (opening-feasible s c.building.ensures.accepted c.requires)

@@ -17,4 +17,6 @@ overflow_cast-car c =
 pub loop-car-preserved : goal.loop-car-preserved
 loop-car-preserved c = λ w t same r.
     let s = c.args.snapshot.now in
-    groups-more s w t c.args.reached.now c.loop-car.car c.index-reached-car.result (map (group_of s) (filter (rides_on w t) (range_with_len 0 (length s.aboard)))) c.loop-car.groups.items c.add_new_groups.new.groups.items same r c.loop-car-test.true c.index-reached-car.is c.in_ok-add_new_groups.ensures (c.loop-car.invariant w t same r)
+    groups-more s w t c.args.reached.now c.loop-car.car c.index-reached-car.result
+    (map (group_of s) (filter (rides_on w t) (range_with_len 0 (length s.aboard)))) c.loop-car.groups.items c.add_new_groups.new.groups.items same r
+    c.loop-car-test.true c.index-reached-car.is c.in_ok-add_new_groups.ensures (c.loop-car.invariant w t same r)

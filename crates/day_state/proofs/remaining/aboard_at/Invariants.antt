@@ -8,4 +8,6 @@ use Rattle.day_state.proofs.remaining.aboard_at.Given as goal
 
 abbrev pub invariant-loop-car : goal.invariant-loop-car
 invariant-loop-car l =
-    (w : World) (t : ℕ) → w.snapshot ≡ l.snapshot → AreReached w t l.reached → l.groups.items ≡ map (group_of l.snapshot) (filter (rides_on w t) (range_with_len 0 (length l.snapshot.aboard))) ++ flat_map (new_groups w t) (range_with_len 0 l.car)
+    (w : World) (t : ℕ) → w.snapshot ≡ l.snapshot → AreReached w t l.reached
+    → l.groups.items ≡ map (group_of l.snapshot) (filter (rides_on w t) (range_with_len 0 (length l.snapshot.aboard)))
+    ++ flat_map (new_groups w t) (range_with_len 0 l.car)

@@ -29,7 +29,9 @@ loop-rider-preserved c = λ p riders r.
       | then-rider-calls+in_ok-push w ↦ (
           let call = lt-ltb rider (call_count s) (omega (arith, same, count, w.if-rider-calls.true)) in
           let group = w.group_from.ensures p riders r ∙ ap made same in
-          ap (λ x. x.items) w.groups-is ∙ w.in_ok-push.ensures.items ∙ ap (λ (xs : List Aboard). xs ++ w.group_from.result ∷ []) so_far ∙ ap (λ (x : Aboard). (first ++ earlier) ++ x ∷ []) group ∙ append_assoc first earlier (made rider ∷ []) ∙ ap (λ (xs : List Aboard). first ++ xs) (sym (kept-with made is_call all i 0 below call)))
+          ap (λ x. x.items) w.groups-is ∙ w.in_ok-push.ensures.items ∙ ap (λ (xs : List Aboard). xs ++ w.group_from.result ∷ []) so_far
+          ∙ ap (λ (x : Aboard). (first ++ earlier) ++ x ∷ []) group ∙ append_assoc first earlier (made rider ∷ [])
+          ∙ ap (λ (xs : List Aboard). first ++ xs) (sym (kept-with made is_call all i 0 below call)))
       | else-rider-calls w ↦ (
           let group = le-ltb rider (call_count s) (omega (arith, same, count, w.if-rider-calls.false)) in
           ap (λ x. x.items) w.groups-is ∙ so_far ∙ ap (λ (xs : List Aboard). first ++ xs) (sym (kept-without made is_call all i 0 below group)))
@@ -41,4 +43,5 @@ returns c = λ p riders r.
     let i = c.loop-rider.rider-index in
     let all = c.args.ride.now.riders.items in
     let over = take_all i all (let long = ap length c.deref-rider-items.ensures.value in omega (arith, long, c.loop-rider-test.false)) in
-    c.loop-rider.invariant p riders r ∙ ap (λ (xs : List ℕ). c.args.groups.now.items ++ map (group_from s c.args.car p) (filter (λ x. ltb x (call_count s)) xs)) (over ∙ r.aboard)
+    c.loop-rider.invariant p riders r
+    ∙ ap (λ (xs : List ℕ). c.args.groups.now.items ++ map (group_from s c.args.car p) (filter (λ x. ltb x (call_count s)) xs)) (over ∙ r.aboard)

@@ -9,4 +9,6 @@ use Rattle.day_state.proofs.remaining.add_new_groups.Given as goal
 
 abbrev pub invariant-loop-rider : goal.invariant-loop-rider
 invariant-loop-rider l =
-    (p : Progress) (riders : List ℕ) → Rides l.snapshot l.car l.ride p riders → l.groups.items ≡ l.fn.groups.items ++ map (group_from l.snapshot l.car p) (filter (λ r. ltb r (call_count l.snapshot)) (take l.rider-index l.ride.riders.items))
+    (p : Progress) (riders : List ℕ) → Rides l.snapshot l.car l.ride p riders
+    → l.groups.items ≡ l.fn.groups.items
+    ++ map (group_from l.snapshot l.car p) (filter (λ r. ltb r (call_count l.snapshot)) (take l.rider-index l.ride.riders.items))

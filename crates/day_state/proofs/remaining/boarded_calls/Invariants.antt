@@ -6,4 +6,5 @@ use Rattle.day_state.specs.Reaching.{has_boarded}
 use Rattle.day_state.proofs.remaining.boarded_calls.Given as goal
 
 abbrev pub invariant-loop-one : goal.invariant-loop-one
-invariant-loop-one l = (j : ℕ) → (has l.boarded j || list_any (λ one. has_boarded one j) (drop l.one-index l.reached)) ≡ list_any (λ one. has_boarded one j) l.reached
+invariant-loop-one l = (j : ℕ)
+    → (has l.boarded j || list_any (λ one. has_boarded one j) (drop l.one-index l.reached)) ≡ list_any (λ one. has_boarded one j) l.reached

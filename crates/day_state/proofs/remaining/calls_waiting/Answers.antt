@@ -12,6 +12,9 @@ loop-j-preserved c =
     let j = c.loop-j.j in
     let boarded = sym c.contains.ensures in
     elim c.if-not-contains.branch [
-      | then-not-contains+in_ok-push w ↦ ap (λ x. x.items) w.waiting-is ∙ w.in_ok-push.ensures.items ∙ ap (λ (xs : List Call). xs ++ call_in calls j ∷ []) c.loop-j.invariant ∙ sym (chosen-with (call_in calls) (λ k. not (has c.args.boarded k)) j (ap not (boarded ∙ w.if-not-contains.true)))
-      | else-not-contains w ↦ ap (λ x. x.items) w.waiting-is ∙ c.loop-j.invariant ∙ sym (chosen-without (call_in calls) (λ k. not (has c.args.boarded k)) j (ap not (boarded ∙ w.if-not-contains.false)))
+      | then-not-contains+in_ok-push w ↦ ap (λ x. x.items) w.waiting-is ∙ w.in_ok-push.ensures.items
+          ∙ ap (λ (xs : List Call). xs ++ call_in calls j ∷ []) c.loop-j.invariant
+          ∙ sym (chosen-with (call_in calls) (λ k. not (has c.args.boarded k)) j (ap not (boarded ∙ w.if-not-contains.true)))
+      | else-not-contains w ↦ ap (λ x. x.items) w.waiting-is ∙ c.loop-j.invariant
+          ∙ sym (chosen-without (call_in calls) (λ k. not (has c.args.boarded k)) j (ap not (boarded ∙ w.if-not-contains.false)))
     ]

@@ -8,4 +8,5 @@ use Rattle.day_state.proofs.remaining.groups_staying.Given as goal
 
 abbrev pub invariant-loop-group : goal.invariant-loop-group
 invariant-loop-group l =
-    (w : World) (t : ℕ) → w.snapshot ≡ l.snapshot → AreReached w t l.reached → l.groups.items ≡ map (group_of l.snapshot) (filter (rides_on w t) (range_with_len 0 l.group-index))
+    (w : World) (t : ℕ) → w.snapshot ≡ l.snapshot → AreReached w t l.reached
+    → l.groups.items ≡ map (group_of l.snapshot) (filter (rides_on w t) (range_with_len 0 l.group-index))

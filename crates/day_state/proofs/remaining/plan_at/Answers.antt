@@ -16,11 +16,15 @@ loop-car-preserved c = λ t reached.
     let count = c.requires.count in
     let cars = c.requires.feasible.cars in
     let below : car < length w.plan = omega (arith, count, cars, c.loop-car-test.true) in
-    let left = left-is w t car one c.index-tours-car.result c.stops_left-left.result.now r (tour-is w.plan c.tours-tours.result.now car c.index-tours-car.result tours below c.index-tours-car.is) c.stops_left-left.ensures in
+    let left = left-is w t car one c.index-tours-car.result c.stops_left-left.result.now r
+    (tour-is w.plan c.tours-tours.result.now car c.index-tours-car.result tours below c.index-tours-car.is) c.stops_left-left.ensures in
     let calls : length c.calls-calls.result.now ≡ call_count w.snapshot = ap length c.calls-calls.ensures.value ∙ ap call_count c.snapshot.ensures.value in
     let indexes = c.in_ok-indexes.indexes.items in
-    let tour = c.in_ok-tour_then.ensures ∙ ap (λ (xs : List ℕ). map (renamed_stop (λ j. get_or xs j 0)) c.stops_left-left.result.now) c.as_slice.ensures.value in
-    let here = tour-left w t c.args.reached.now c.boarded_calls.result car indexes c.stops_left-left.result.now c.in_ok-tour_then.field-0 c.requires.feasible reached c.boarded_calls.ensures (λ j lt. c.in_ok-indexes.ensures.each j (omega (arith, lt, calls))) (omega (arith, count, c.loop-car-test.true)) left tour in
+    let tour = c.in_ok-tour_then.ensures
+    ∙ ap (λ (xs : List ℕ). map (renamed_stop (λ j. get_or xs j 0)) c.stops_left-left.result.now) c.as_slice.ensures.value in
+    let here = tour-left w t c.args.reached.now c.boarded_calls.result car indexes c.stops_left-left.result.now c.in_ok-tour_then.field-0 c.requires.feasible
+    reached c.boarded_calls.ensures (λ j lt. c.in_ok-indexes.ensures.each j (omega (arith, lt, calls)))
+    (omega (arith, count, c.loop-car-test.true)) left tour in
     tours-more w t car c.loop-car.plan c.push.new.self c.in_ok-tour_then.field-0 c.in_ok-push.ensures.ok (c.loop-car.invariant t reached) here
 
 pub returns-clause-plan : goal.returns-clause-plan

@@ -14,13 +14,16 @@ stops_left-left-requires c =
     let car = c.loop-car.car in
     let r = car-reached w c.args.t c.args.reached.now car c.index-reached-car.result c.requires.reached c.loop-car-test.true c.index-reached-car.is in
     let tours = c.tours-tours.ensures ∙ c.plan.ensures in
-    let below : car < length w.plan = (let count = c.requires.reached.count in let cars = c.requires.feasible.cars in omega (arith, count, cars, c.loop-car-test.true)) in
-    subst (λ (x : List Stop). c.index-reached-car.result.done ≤ length x) (sym (tour-is w.plan c.tours-tours.result.now car c.index-tours-car.result tours below c.index-tours-car.is)) r.within
+    let below : car < length w.plan =
+    (let count = c.requires.reached.count in let cars = c.requires.feasible.cars in omega (arith, count, cars, c.loop-car-test.true)) in
+    subst (λ (x : List Stop). c.index-reached-car.result.done ≤ length x)
+    (sym (tour-is w.plan c.tours-tours.result.now car c.index-tours-car.result tours below c.index-tours-car.is)) r.within
 
 pub state_then-requires-clause-from : goal.state_then-requires-clause-from
 state_then-requires-clause-from c =
     let w = c.args.world.now in
-    let r = car-reached w c.args.t c.args.reached.now c.loop-car.car c.index-reached-car.result c.requires.reached c.loop-car-test.true c.index-reached-car.is in
+    let r = car-reached w c.args.t c.args.reached.now c.loop-car.car c.index-reached-car.result c.requires.reached c.loop-car-test.true
+    c.index-reached-car.is in
     subst (λ (x : Snapshot). c.index-reached-car.result.ride.walker.place.floor < floor_count x.building) (sym c.snapshot.ensures.value) r.floor
 
 -- the stops that the code cuts off
@@ -30,17 +33,22 @@ left_there c =
     let car = c.loop-car.car in
     let r = car-reached w c.args.t c.args.reached.now car c.index-reached-car.result c.requires.reached c.loop-car-test.true c.index-reached-car.is in
     let tours = c.tours-tours.ensures ∙ c.plan.ensures in
-    let below : car < length w.plan = (let count = c.requires.reached.count in let cars = c.requires.feasible.cars in omega (arith, count, cars, c.loop-car-test.true)) in
-    left-is w c.args.t car c.index-reached-car.result c.index-tours-car.result c.stops_left-left.result.now r (tour-is w.plan c.tours-tours.result.now car c.index-tours-car.result tours below c.index-tours-car.is) c.stops_left-left.ensures
+    let below : car < length w.plan =
+    (let count = c.requires.reached.count in let cars = c.requires.feasible.cars in omega (arith, count, cars, c.loop-car-test.true)) in
+    left-is w c.args.t car c.index-reached-car.result c.index-tours-car.result c.stops_left-left.result.now r
+    (tour-is w.plan c.tours-tours.result.now car c.index-tours-car.result tours below c.index-tours-car.is) c.stops_left-left.ensures
 
 pub state_then-requires-clause-to : goal.state_then-requires-clause-to
 state_then-requires-clause-to c =
     let w = c.args.world.now in
     let below : c.loop-car.car < car_count w.snapshot = (let count = c.requires.reached.count in omega (arith, count, c.loop-car-test.true)) in
-    subst (λ (x : Snapshot). AreFloorsOf x c.stops_left-left.result.now) (sym c.snapshot.ensures.value) (subst (AreFloorsOf w.snapshot) (sym (left_there c)) (left-floors w c.args.t c.loop-car.car c.requires.feasible below))
+    subst (λ (x : Snapshot). AreFloorsOf x c.stops_left-left.result.now) (sym c.snapshot.ensures.value)
+    (subst (AreFloorsOf w.snapshot) (sym (left_there c)) (left-floors w c.args.t c.loop-car.car c.requires.feasible below))
 
 pub state_then-requires-clause-early : goal.state_then-requires-clause-early
-state_then-requires-clause-early c = (car-reached c.args.world.now c.args.t c.args.reached.now c.loop-car.car c.index-reached-car.result c.requires.reached c.loop-car-test.true c.index-reached-car.is).early
+state_then-requires-clause-early c =
+    (car-reached c.args.world.now c.args.t c.args.reached.now c.loop-car.car c.index-reached-car.result c.requires.reached c.loop-car-test.true
+    c.index-reached-car.is).early
 
 pub loop-car-preserved : goal.loop-car-preserved
 loop-car-preserved c =
@@ -51,8 +59,11 @@ loop-car-preserved c =
     let r = car-reached w t c.args.reached.now car one c.requires.reached c.loop-car-test.true c.index-reached-car.is in
     let p = progress_at w t car in
     let tours = c.tours-tours.ensures ∙ c.plan.ensures in
-    let below : car < length w.plan = (let count = c.requires.reached.count in let cars = c.requires.feasible.cars in omega (arith, count, cars, c.loop-car-test.true)) in
-    let left = left-is w t car one c.index-tours-car.result c.stops_left-left.result.now r (tour-is w.plan c.tours-tours.result.now car c.index-tours-car.result tours below c.index-tours-car.is) c.stops_left-left.ensures in
+    let below : car < length w.plan =
+    (let count = c.requires.reached.count in let cars = c.requires.feasible.cars in omega (arith, count, cars, c.loop-car-test.true)) in
+    let left = left-is w t car one c.index-tours-car.result c.stops_left-left.result.now r
+    (tour-is w.plan c.tours-tours.result.now car c.index-tours-car.result tours below c.index-tours-car.is) c.stops_left-left.ensures in
     let walks = subst (λ (x : Snapshot). Walks x car one.ride.walker p) (sym c.snapshot.ensures.value) r.ride.walks in
-    let state = c.state_then.ensures p walks ∙ ap (λ (x : Snapshot). state_then x car t p c.stops_left-left.result.now) c.snapshot.ensures.value ∙ ap (state_then w.snapshot car t p) left in
+    let state = c.state_then.ensures p walks ∙ ap (λ (x : Snapshot). state_then x car t p c.stops_left-left.result.now) c.snapshot.ensures.value
+    ∙ ap (state_then w.snapshot car t p) left in
     states-more w t car c.loop-car.states.items c.push.new.self.items c.state_then.result c.in_ok-push.ensures.items c.loop-car.invariant state

@@ -11,7 +11,8 @@ plan_at-requires-clause-within c = λ car one e. (c.requires.reached.each car on
 
 pub of_accepted-requires : goal.of_accepted-requires
 of_accepted-requires c =
-    subst IsAccepted (sym c.in_ok-parts.ensures) (advance_law c.args.world.now c.args.t c.plan_at.ensures.accepted c.requires.feasible c.requires.later c.requires.early).accepted
+    subst IsAccepted (sym c.in_ok-parts.ensures)
+    (advance_law c.args.world.now c.args.t c.plan_at.ensures.accepted c.requires.feasible c.requires.later c.requires.early).accepted
 
 pub returns-clause-feasible : goal.returns-clause-feasible
 returns-clause-feasible c =
@@ -21,4 +22,5 @@ returns-clause-feasible c =
     let snapshot = c.in_ok-snapshot.ensures ∙ c.in_ok-parts.ensures in
     let plan = c.in_ok-plan.ensures.plan c.args.t c.requires.reached in
     let is : c.of_parts.result ≡ later = c.of_parts.ensures ∙ ap (λ (s : Snapshot). made s c.in_ok-plan.plan) snapshot ∙ ap (made later.snapshot) plan in
-    subst (λ (x : World). IsFeasiblePlan x.snapshot x.plan) (sym is) (advance_law w c.args.t c.plan_at.ensures.accepted c.requires.feasible c.requires.later c.requires.early).feasible
+    subst (λ (x : World). IsFeasiblePlan x.snapshot x.plan) (sym is)
+    (advance_law w c.args.t c.plan_at.ensures.accepted c.requires.feasible c.requires.later c.requires.early).feasible

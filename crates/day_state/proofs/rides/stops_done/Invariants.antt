@@ -8,5 +8,6 @@ use Rattle.day_state.proofs.rides.stops_done.Given as goal
 abbrev pub invariant-loop-done : goal.invariant-loop-done
 invariant-loop-done l = record {
   walked : IsWalked l.snapshot l.car l.tour l.done l.walker;
-  done : take l.done l.tour ++ done_from l.snapshot l.car l.t (progress l.snapshot l.car l.tour l.done) (drop l.done l.tour) ≡ done_from l.snapshot l.car l.t (start_of l.snapshot l.car) l.tour;
+  done : take l.done l.tour ++ done_from l.snapshot l.car l.t (progress l.snapshot l.car l.tour l.done) (drop l.done l.tour)
+      ≡ done_from l.snapshot l.car l.t (start_of l.snapshot l.car) l.tour;
 }

@@ -13,7 +13,9 @@ returns-then-is_idle c = λ p walks.
     let left = c.args.left.now in
     c.state_standing.ensures p walks ∙ sym (elim c.if-walker.branch [
       | then-walker w ↦ then-begun s car c.args.t p left (sym walks.place.begun ∙ w.if-walker.true)
-      | else-walker w ↦ then-idle s car c.args.t p left (sym walks.place.begun ∙ w.if-walker.false) (ap is_idle (sym c.car-state.ensures.value) ∙ sym w.is_idle.ensures ∙ sym w.value-is ∙ c.if-is_idle.true)
+      | else-walker w ↦
+          then-idle s car c.args.t p left (sym walks.place.begun ∙ w.if-walker.false)
+          (ap is_idle (sym c.car-state.ensures.value) ∙ sym w.is_idle.ensures ∙ sym w.value-is ∙ c.if-is_idle.true)
     ])
 
 pub returns-then-is_moving : goal.returns-then-is_moving
@@ -26,7 +28,8 @@ returns-then-is_moving c = λ p walks.
       | then-walker w ↦ cc
       | else-walker w ↦ w.if-walker.false
     ] in
-    c.state_moving.ensures p walks ∙ ap (λ (x : CarState). state_moving s car c.args.t p x left) state ∙ sym (then-moving s car c.args.t p left begun (ap is_moving (sym state) ∙ sym c.is_moving.ensures ∙ c.if-is_moving.true))
+    c.state_moving.ensures p walks ∙ ap (λ (x : CarState). state_moving s car c.args.t p x left) state
+    ∙ sym (then-moving s car c.args.t p left begun (ap is_moving (sym state) ∙ sym c.is_moving.ensures ∙ c.if-is_moving.true))
 
 pub returns-else-is_moving : goal.returns-else-is_moving
 returns-else-is_moving c = λ p walks.
@@ -37,5 +40,7 @@ returns-else-is_moving c = λ p walks.
     let moving = ap is_moving (sym state) ∙ sym c.is_moving.ensures ∙ c.if-is_moving.false in
     state ∙ sym (elim c.if-walker.branch [
       | then-walker w ↦ cc
-      | else-walker w ↦ then-coming s car c.args.t p left (sym walks.place.begun ∙ w.if-walker.false) (ap is_idle (sym state) ∙ sym w.is_idle.ensures ∙ sym w.value-is ∙ c.if-is_idle.false) moving
+      | else-walker w ↦
+          then-coming s car c.args.t p left (sym walks.place.begun ∙ w.if-walker.false)
+          (ap is_idle (sym state) ∙ sym w.is_idle.ensures ∙ sym w.value-is ∙ c.if-is_idle.false) moving
     ])

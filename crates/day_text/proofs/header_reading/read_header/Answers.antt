@@ -33,7 +33,8 @@ pub returns-in_err-is_found-clause-header : goal.returns-in_err-is_found-clause-
 returns-in_err-is_found-clause-header g c =
     let left = g.S.Source.left in
     let same : c.from_residual.result ≡ Err c.in_err-is_found.field-0.0 = search rules in
-    let fault = leads_fault c.args.header (text left c.args.lines.now) (text left c.lines.lines) (text left c.read_line.new.lines) c.in_err-is_found.field-0.0 c.lines.invariant.leads c.in_err-is_found.ensures.line in
+    let fault = leads_fault c.args.header (text left c.args.lines.now) (text left c.lines.lines)
+    (text left c.read_line.new.lines) c.in_err-is_found.field-0.0 c.lines.invariant.leads c.in_err-is_found.ensures.line in
     subst (λ answer. IsHeaderRead c.args.header (text left c.args.lines.now) answer (text left c.read_line.new.lines)) (sym same) fault
 
 pub returns-clause-header : goal.returns-clause-header
@@ -49,7 +50,8 @@ returns-in_err-is_found-clause-shows g c =
     let before = text left c.args.lines.now in
     let now = c.read_line.new.lines in
     let same : c.from_residual.result ≡ Err c.in_err-is_found.field-0.0 = search rules in
-    let shows = fault_behind before (text left c.lines.lines) c.in_err-is_found.field-0.0 (left now.source.now) c.lines.invariant.went c.in_err-is_found.ensures.shows in
+    let shows = fault_behind before (text left c.lines.lines) c.in_err-is_found.field-0.0
+    (left now.source.now) c.lines.invariant.went c.in_err-is_found.ensures.shows in
     subst (λ answer. IfErr answer (λ fault. FaultShows before fault (left now.source.now))) (sym same) shows
 
 pub returns-clause-shows : goal.returns-clause-shows
@@ -66,4 +68,5 @@ returns-in_err-is_found-clause-unfinished g c =
     let here = c.lines.lines in
     let same : c.from_residual.result ≡ Err c.in_err-is_found.field-0.0 = search rules in
     λ is. (let fault : c.in_err-is_found.field-0.0 ≡ Read = same_error c.from_residual.result c.in_err-is_found.field-0.0 Read same is in
-    header_ends c.args.header (text left c.args.lines.now) (text left here) (line here) (left c.read_line.new.lines.source.now) before.leads before.went (number_of here.page (left here.source.now)) (c.in_err-is_found.ensures.lacks (ap Err fault)))
+    header_ends c.args.header (text left c.args.lines.now) (text left here) (line here) (left c.read_line.new.lines.source.now) before.leads before.went
+    (number_of here.page (left here.source.now)) (c.in_err-is_found.ensures.lacks (ap Err fault)))

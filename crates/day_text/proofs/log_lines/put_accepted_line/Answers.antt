@@ -9,4 +9,5 @@ returns c =
     let old = c.args.out.now.items in
     let first = c.put_words.new.out.items in
     let new = c.extend_from_slice.new.self.items in
-    extended_then c.extend_from_slice.result first (codes " accepted\n") new c.extend_from_slice.ensures.items (λ e. wrote_accepted c.args.number old first new (c.in_ok-put_words.ensures.ok ∙ ap (λ (n : ℕ). old ++ words (codes "row") (n ∷ [])) c.from.ensures) e)
+    extended_then c.extend_from_slice.result first (codes " accepted\n") new c.extend_from_slice.ensures.items
+    (λ e. wrote_accepted c.args.number old first new (c.in_ok-put_words.ensures.ok ∙ ap (λ (n : ℕ). old ++ words (codes "row") (n ∷ [])) c.from.ensures) e)

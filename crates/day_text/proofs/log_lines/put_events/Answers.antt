@@ -11,9 +11,11 @@ pub returns : goal.returns
 returns c =
     let events = c.args.events.now in
     let old = c.args.out.now.items in
-    c.loop-event.invariant ∙ ap (λ (xs : List Event). old ++ flat_map (λ x. line_text (event_words x)) xs) (take_all c.loop-event.event-index events c.loop-event-test.false)
+    c.loop-event.invariant
+    ∙ ap (λ (xs : List Event). old ++ flat_map (λ x. line_text (event_words x)) xs) (take_all c.loop-event.event-index events c.loop-event-test.false)
     ∙ ap (λ (xs : List ℕ). old ++ xs) (events_are events)
 
 pub loop-event-preserved : goal.loop-event-preserved
 loop-event-preserved c =
-    event_more c.args.events.now c.loop-event.event-index _ c.args.out.now.items c.loop-event.out.items c.put_event.new.out.items c.loop-event-test.true c.loop-event.invariant c.in_ok-put_event.ensures
+    event_more c.args.events.now c.loop-event.event-index _ c.args.out.now.items c.loop-event.out.items c.put_event.new.out.items c.loop-event-test.true
+    c.loop-event.invariant c.in_ok-put_event.ensures

@@ -19,7 +19,8 @@ returns-in-Err-read_opening-clause-refused g c =
     let left = g.S.Source.left in
     let first = c.in-Ok.ensures in
     let second = c.in-Err-read_opening.ensures in
-    opening_refused (text left c.args.lines.now) (text left c.read_building.new.lines) (text left c.read_opening.new.lines) c.in-Ok.building c.in-Err-read_opening.fault (first.only c.requires) (first.behind c.requires)
+    opening_refused (text left c.args.lines.now) (text left c.read_building.new.lines)
+    (text left c.read_opening.new.lines) c.in-Ok.building c.in-Err-read_opening.fault (first.only c.requires) (first.behind c.requires)
     (second.refused first.ok)
 
 pub returns-in-Err-read_opening-clause-takes : goal.returns-in-Err-read_opening-clause-takes
@@ -28,14 +29,16 @@ returns-in-Err-read_opening-clause-takes g c =
     let between = text left c.read_opening.new.lines in
     let first = c.in-Ok.ensures in
     let second = c.in-Err-read_opening.ensures in
-    takes_no_snapshot (text left c.args.lines.now) (text left c.read_building.new.lines) between between c.in-Ok.building c.in-Err-read_opening.fault (first.each c.requires) (first.behind c.requires) (second.lines first.ok)
+    takes_no_snapshot (text left c.args.lines.now) (text left c.read_building.new.lines) between between c.in-Ok.building c.in-Err-read_opening.fault
+    (first.each c.requires) (first.behind c.requires) (second.lines first.ok)
 
 pub returns-in-Ok-read_header-clause-opening : goal.returns-in-Ok-read_header-clause-opening
 returns-in-Ok-read_header-clause-opening g c =
     let left = g.S.Source.left in
     let first = c.in-Ok.ensures in
     let second = c.in-Ok-read_opening.ensures in
-    opening_read (text left c.args.lines.now) (text left c.read_building.new.lines) (text left c.read_opening.new.lines) (text left c.read_header.new.lines) c.in-Ok.building c.in-Ok-read_opening.snapshot
+    opening_read (text left c.args.lines.now) (text left c.read_building.new.lines) (text left c.read_opening.new.lines)
+    (text left c.read_header.new.lines) c.in-Ok.building c.in-Ok-read_opening.snapshot
     (first.only c.requires) (first.behind c.requires) (second.said first.ok) (second.behind first.ok) c.in-Ok-read_header.ensures.header
 
 pub returns-in-Ok-read_header-clause-takes : goal.returns-in-Ok-read_header-clause-takes
@@ -43,24 +46,30 @@ returns-in-Ok-read_header-clause-takes g c =
     let left = g.S.Source.left in
     let first = c.in-Ok.ensures in
     let second = c.in-Ok-read_opening.ensures in
-    takes_snapshot (text left c.args.lines.now) (text left c.read_building.new.lines) (text left c.read_opening.new.lines) (text left c.read_header.new.lines) c.in-Ok.building c.in-Ok-read_opening.snapshot
-    (Ok c.in-Ok-read_header.field-0) (first.each c.requires) (first.behind c.requires) (second.lines first.ok) (second.behind first.ok) c.in-Ok-read_header.ensures.header
+    takes_snapshot (text left c.args.lines.now) (text left c.read_building.new.lines) (text left c.read_opening.new.lines)
+    (text left c.read_header.new.lines) c.in-Ok.building c.in-Ok-read_opening.snapshot
+    (Ok c.in-Ok-read_header.field-0) (first.each c.requires) (first.behind c.requires) (second.lines first.ok)
+    (second.behind first.ok) c.in-Ok-read_header.ensures.header
 
 pub returns-in-Err-read_header-clause-refused : goal.returns-in-Err-read_header-clause-refused
 returns-in-Err-read_header-clause-refused g c =
     let left = g.S.Source.left in
     let first = c.in-Ok.ensures in
     let second = c.in-Ok-read_opening.ensures in
-    header_refused (text left c.args.lines.now) (text left c.read_building.new.lines) (text left c.read_opening.new.lines) (text left c.read_header.new.lines) c.in-Ok.building c.in-Ok-read_opening.snapshot
-    c.in-Err-read_header.fault (first.only c.requires) (first.behind c.requires) (second.said first.ok) (second.behind first.ok) c.in-Err-read_header.ensures.header
+    header_refused (text left c.args.lines.now) (text left c.read_building.new.lines) (text left c.read_opening.new.lines)
+    (text left c.read_header.new.lines) c.in-Ok.building c.in-Ok-read_opening.snapshot
+    c.in-Err-read_header.fault (first.only c.requires) (first.behind c.requires) (second.said first.ok)
+    (second.behind first.ok) c.in-Err-read_header.ensures.header
 
 pub returns-in-Err-read_header-clause-takes : goal.returns-in-Err-read_header-clause-takes
 returns-in-Err-read_header-clause-takes g c =
     let left = g.S.Source.left in
     let first = c.in-Ok.ensures in
     let second = c.in-Ok-read_opening.ensures in
-    takes_snapshot (text left c.args.lines.now) (text left c.read_building.new.lines) (text left c.read_opening.new.lines) (text left c.read_header.new.lines) c.in-Ok.building c.in-Ok-read_opening.snapshot
-    (Err c.in-Err-read_header.fault) (first.each c.requires) (first.behind c.requires) (second.lines first.ok) (second.behind first.ok) c.in-Err-read_header.ensures.header
+    takes_snapshot (text left c.args.lines.now) (text left c.read_building.new.lines) (text left c.read_opening.new.lines)
+    (text left c.read_header.new.lines) c.in-Ok.building c.in-Ok-read_opening.snapshot
+    (Err c.in-Err-read_header.fault) (first.each c.requires) (first.behind c.requires) (second.lines first.ok)
+    (second.behind first.ok) c.in-Err-read_header.ensures.header
 
 pub returns-in-Err-read_opening-clause-shows : goal.returns-in-Err-read_opening-clause-shows
 returns-in-Err-read_opening-clause-shows g c =
@@ -68,7 +77,8 @@ returns-in-Err-read_opening-clause-shows g c =
     let before = text left c.args.lines.now in
     let middle = text left c.read_building.new.lines in
     let first = c.in-Ok.ensures in
-    fault_behind before middle c.in-Err-read_opening.fault (left c.read_opening.new.lines.source.now) (behind_went before middle (first.behind c.requires)) (c.in-Err-read_opening.ensures.shows first.ok)
+    fault_behind before middle c.in-Err-read_opening.fault (left c.read_opening.new.lines.source.now) (behind_went before middle (first.behind c.requires))
+    (c.in-Err-read_opening.ensures.shows first.ok)
 
 pub returns-in-Err-read_header-clause-shows : goal.returns-in-Err-read_header-clause-shows
 returns-in-Err-read_header-clause-shows g c =
@@ -84,13 +94,15 @@ returns-in-Err-read_header-clause-shows g c =
 pub returns-in-Err-clause-unopened : goal.returns-in-Err-clause-unopened
 returns-in-Err-clause-unopened g c = λ is.
     (let left = g.S.Source.left in
-    no_building (text left c.args.lines.now) (left c.read_building.new.lines.source.now) (c.in-Err.ensures.unfinished c.requires (ap Err (same_error (Err c.in-Err.fault) c.in-Err.fault Read refl is))))
+    no_building (text left c.args.lines.now) (left c.read_building.new.lines.source.now)
+    (c.in-Err.ensures.unfinished c.requires (ap Err (same_error (Err c.in-Err.fault) c.in-Err.fault Read refl is))))
 
 pub returns-in-Err-read_opening-clause-unopened : goal.returns-in-Err-read_opening-clause-unopened
 returns-in-Err-read_opening-clause-unopened g c = λ is.
     (let left = g.S.Source.left in
     let first = c.in-Ok.ensures in
-    no_snapshot (text left c.args.lines.now) (text left c.read_building.new.lines) c.in-Ok.building (left c.read_opening.new.lines.source.now) (first.each c.requires) (first.behind c.requires)
+    no_snapshot (text left c.args.lines.now) (text left c.read_building.new.lines) c.in-Ok.building (left c.read_opening.new.lines.source.now)
+    (first.each c.requires) (first.behind c.requires)
     (c.in-Err-read_opening.ensures.unfinished first.ok (ap Err (same_error (Err c.in-Err-read_opening.fault) c.in-Err-read_opening.fault Read refl is))))
 
 pub returns-in-Err-read_header-clause-unopened : goal.returns-in-Err-read_header-clause-unopened
@@ -98,5 +110,7 @@ returns-in-Err-read_header-clause-unopened g c = λ is.
     (let left = g.S.Source.left in
     let first = c.in-Ok.ensures in
     let second = c.in-Ok-read_opening.ensures in
-    no_header (text left c.args.lines.now) (text left c.read_building.new.lines) (text left c.read_opening.new.lines) c.in-Ok.building c.in-Ok-read_opening.snapshot (left c.read_header.new.lines.source.now)
-    (first.each c.requires) (first.behind c.requires) (second.lines first.ok) (second.behind first.ok) (c.in-Err-read_header.ensures.unfinished (ap Err (same_error (Err c.in-Err-read_header.fault) c.in-Err-read_header.fault Read refl is))))
+    no_header (text left c.args.lines.now) (text left c.read_building.new.lines)
+    (text left c.read_opening.new.lines) c.in-Ok.building c.in-Ok-read_opening.snapshot (left c.read_header.new.lines.source.now)
+    (first.each c.requires) (first.behind c.requires) (second.lines first.ok) (second.behind first.ok)
+    (c.in-Err-read_header.ensures.unfinished (ap Err (same_error (Err c.in-Err-read_header.fault) c.in-Err-read_header.fault Read refl is))))

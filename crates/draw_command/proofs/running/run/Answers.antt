@@ -8,7 +8,8 @@ returns-in-Ok-clause-ends g c =
     let left = g.S.Source.left in
     let old = streams (left c.args.source.now) (g.K.Sink.taken c.args.sink.now) (g.S.Source.faults c.args.source.now) (g.K.Sink.faults c.args.sink.now) in
     let new = streams (left c.draw.new.source) (g.K.Sink.taken c.draw.new.sink) (g.S.Source.faults c.draw.new.source) (g.K.Sink.faults c.draw.new.sink) in
-    ends_asked (map string_bytes c.args.words.now) (left c.args.source.now) (left c.draw.new.source) old new c.draw.result c.in-Ok.request c.in-Ok.ensures.taken c.draw.ensures.ends
+    ends_asked (map string_bytes c.args.words.now) (left c.args.source.now)
+    (left c.draw.new.source) old new c.draw.result c.in-Ok.request c.in-Ok.ensures.taken c.draw.ensures.ends
 
 pub returns-in-Err-NotTaken-clause-ends : goal.returns-in-Err-NotTaken-clause-ends
 returns-in-Err-NotTaken-clause-ends g c =

@@ -12,4 +12,5 @@ options_given-requires-clause-plain c = subst IsPlain (sym c.in-Ok.ensures) (pla
 
 pub returns-in-Ok-clause-refused : goal.returns-in-Ok-clause-refused
 returns-in-Ok-clause-refused c =
-    subst (λ (a : App). IfErr c.options_given.result (λ fault. fault ≡ NotTaken → (rows : List Row) → AreGiven a (map string_bytes c.args.words.now) rows → ⊥)) c.in-Ok.ensures c.options_given.ensures.refused
+    subst (λ (a : App). IfErr c.options_given.result (λ fault. fault ≡ NotTaken → (rows : List Row) → AreGiven a (map string_bytes c.args.words.now) rows → ⊥))
+    c.in-Ok.ensures c.options_given.ensures.refused

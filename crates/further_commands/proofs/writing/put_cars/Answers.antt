@@ -10,7 +10,8 @@ loop-car-init c = no_lines c.args.snapshot.now c.args.extras.now c.args.out.now.
 
 pub loop-car-preserved : goal.loop-car-preserved
 loop-car-preserved c =
-    more_lines c.args.snapshot.now c.args.extras.now c.loop-car.car c.args.out.now.items c.loop-car.out.items c.put_car.new.out.items c.loop-car.invariant (rw c.extra_at.ensures at c.in_ok-put_car.ensures)
+    more_lines c.args.snapshot.now c.args.extras.now c.loop-car.car c.args.out.now.items c.loop-car.out.items c.put_car.new.out.items c.loop-car.invariant
+    (rw c.extra_at.ensures at c.in_ok-put_car.ensures)
 
 pub returns : goal.returns
 returns c =

@@ -11,7 +11,8 @@ returns-in-Ok-answer_of-clause-ends g c =
     let rounds = c.args.limits.rounds in
     let moves = c.args.limits.most_tours in
     let old = streams (left c.args.source.now) (g.K.Sink.taken c.args.sink.now) (g.S.Source.faults c.args.source.now) (g.K.Sink.faults c.args.sink.now) in
-    let new = streams (left c.read_input.new.source) (g.K.Sink.taken c.put.new.sink) (g.S.Source.faults c.read_input.new.source) (g.K.Sink.faults c.put.new.sink) in
+    let new = streams (left c.read_input.new.source) (g.K.Sink.taken c.put.new.sink) (g.S.Source.faults c.read_input.new.source)
+    (g.K.Sink.faults c.put.new.sink) in
     let answer = c.in-Ok-answer_of.answer in
     let due : LogsAreDue rounds moves (left c.args.source.now) (left c.read_input.new.source) answer.status answer.text.items = record {
       banks = c.in-Ok.banks;
@@ -19,7 +20,8 @@ returns-in-Ok-answer_of-clause-ends g c =
       ended = c.in-Ok.ensures.ended;
       told = c.in-Ok-answer_of.ensures;
     } in
-    ends_told rounds moves (left c.args.source.now) (left c.read_input.new.source) old new answer.text.items answer.status c.put.result due (rw c.as_slice.ensures.value at c.put.ensures.put)
+    ends_told rounds moves (left c.args.source.now) (left c.read_input.new.source) old new answer.text.items answer.status c.put.result due
+    (rw c.as_slice.ensures.value at c.put.ensures.put)
 
 pub returns-in-Ok-answer_of-clause-answers : goal.returns-in-Ok-answer_of-clause-answers
 returns-in-Ok-answer_of-clause-answers g c = λ input views strays given is reads writes.
@@ -34,13 +36,17 @@ pub returns-clause-ends : goal.returns-clause-ends
 returns-clause-ends g c =
     let left = g.S.Source.left in
     let old = streams (left c.args.source.now) (g.K.Sink.taken c.args.sink.now) (g.S.Source.faults c.args.source.now) (g.K.Sink.faults c.args.sink.now) in
-    let new = streams (left c.read_input.new.source) (g.K.Sink.taken c.put_bank_fault.new.sink) (g.S.Source.faults c.read_input.new.source) (g.K.Sink.faults c.put_bank_fault.new.sink) in
-    ends_refused c.args.limits.rounds c.args.limits.most_tours (left c.args.source.now) (left c.read_input.new.source) c.in-Err.fault old new c.put_bank_fault.result c.in-Err.ensures.refused c.in-Err.ensures.shows (λ e. c.in-Err.ensures.read (ap Err e)) c.put_bank_fault.ensures
+    let new = streams (left c.read_input.new.source) (g.K.Sink.taken c.put_bank_fault.new.sink) (g.S.Source.faults c.read_input.new.source)
+    (g.K.Sink.faults c.put_bank_fault.new.sink) in
+    ends_refused c.args.limits.rounds c.args.limits.most_tours (left c.args.source.now)
+    (left c.read_input.new.source) c.in-Err.fault old new c.put_bank_fault.result c.in-Err.ensures.refused c.in-Err.ensures.shows
+    (λ e. c.in-Err.ensures.read (ap Err e)) c.put_bank_fault.ensures
 
 pub returns-clause-answers : goal.returns-clause-answers
 returns-clause-answers g c = λ input views strays given is reads writes.
     inr (inr (banks_memory views strays c.in-Err.fault c.put_bank_fault.result _ _ _ _ c.put_bank_fault.ensures
-    (takes_text (g.S.Source.left c.args.source.now) input views strays (Err c.in-Err.fault) given is c.in-Err.ensures.takes) (λ e. reads (c.in-Err.ensures.read (ap Err e)))))
+    (takes_text (g.S.Source.left c.args.source.now) input views strays (Err c.in-Err.fault) given is c.in-Err.ensures.takes)
+    (λ e. reads (c.in-Err.ensures.read (ap Err e)))))
 
 pub returns-clause-refuses : goal.returns-clause-refuses
 returns-clause-refuses g c = λ input given none reads writes.

@@ -9,5 +9,6 @@ pub loop-place-preserved : goal.loop-place-preserved
 loop-place-preserved c =
     let within = c.loop-place-test.true in
     let same = c.requires in
-    more_parts c.args.banks.now c.args.logs.now c.loop-place.place c.index-banks-place.result c.index-logs-place.result c.args.out.now.items c.loop-place.out.items c.put_bank.new.out.items
+    more_parts c.args.banks.now c.args.logs.now c.loop-place.place c.index-banks-place.result c.index-logs-place.result c.args.out.now.items
+    c.loop-place.out.items c.put_bank.new.out.items
     (omega (arith, within)) (omega (arith, within, same)) c.index-banks-place.is c.index-logs-place.is c.loop-place.invariant c.in_ok-put_bank.ensures

@@ -18,5 +18,9 @@ returns c =
     let low = c.requires.low in
     let under = c.requires.least_first in
     record {
-      value = ap (made c.args.pair c.args.first c.args.second) (excess_is c.args.first.reduced c.args.second.reduced c.args.least (record { low = omega (arith, ints, first_low); high = omega (arith, ints, first_high) }) (record { low = omega (arith, ints, second_low); high = omega (arith, ints, second_high) }) (record { low = omega (arith, ints, low); high = omega (arith, ints, under, first_high) }));
+      value = ap (made c.args.pair c.args.first c.args.second)
+          (excess_is c.args.first.reduced c.args.second.reduced c.args.least
+          (record { low = omega (arith, ints, first_low); high = omega (arith, ints, first_high) })
+          (record { low = omega (arith, ints, second_low); high = omega (arith, ints, second_high) })
+          (record { low = omega (arith, ints, low); high = omega (arith, ints, under, first_high) }));
     }

@@ -8,7 +8,9 @@ sorted-requires c = c.in_ok-choice.ensures.priced.small
 pub returns-clause-candidates : goal.returns-clause-candidates
 returns-clause-candidates c =
     let pool = c.args.pool.now in
-    candidates-sorted pool.snapshot c.args.car (list_of pool.tours c.args.car) c.in_ok-choice.choice.candidates.items c.sorted.result.candidates.items c.sorted.ensures.same c.in_ok-choice.ensures.candidates
+    candidates-sorted pool.snapshot c.args.car
+    (list_of pool.tours c.args.car) c.in_ok-choice.choice.candidates.items c.sorted.result.candidates.items c.sorted.ensures.same
+    c.in_ok-choice.ensures.candidates
 
 pub returns-clause-priced : goal.returns-clause-priced
 returns-clause-priced c =

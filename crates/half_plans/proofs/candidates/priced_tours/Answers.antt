@@ -16,9 +16,11 @@ overflow_cast-car c =
     let car = c.requires.car in
     omega (arith, few, car)
 
-pushed : (P : ℕ → PricedTour → Type 0) (xs : List PricedTour) (y : PricedTour) (n : ℕ) → length xs ≡ n → P n y → ((k : ℕ) (d : PricedTour) → k < n → P k (get_or xs k d)) → (k : ℕ) (d : PricedTour) → k < n + 1 → P k (get_or (xs ++ y ∷ []) k d)
+pushed : (P : ℕ → PricedTour → Type 0) (xs : List PricedTour) (y : PricedTour) (n : ℕ) → length xs ≡ n → P n y
+    → ((k : ℕ) (d : PricedTour) → k < n → P k (get_or xs k d)) → (k : ℕ) (d : PricedTour) → k < n + 1 → P k (get_or (xs ++ y ∷ []) k d)
 pushed P xs y n long last each k d lt =
-    last_or_before k n lt (λ e. subst (λ (i : ℕ). P i (get_or (xs ++ y ∷ []) i d)) (sym e) (subst (P n) (sym (get_or_push xs y d n long)) last)) (λ less. subst (P k) (sym (get_or_append_left xs (y ∷ []) d k (omega (arith, less, long)))) (each k d less))
+    last_or_before k n lt (λ e. subst (λ (i : ℕ). P i (get_or (xs ++ y ∷ []) i d)) (sym e) (subst (P n) (sym (get_or_push xs y d n long)) last))
+    (λ less. subst (P k) (sym (get_or_append_left xs (y ∷ []) d k (omega (arith, less, long)))) (each k d less))
 
 pub loop-place-preserved : goal.loop-place-preserved
 loop-place-preserved c =
@@ -33,9 +35,13 @@ loop-place-preserved c =
     let y = c.new.result in
     let counted = c.loop-place.invariant.counted in
     let is = c.in_ok-push.ensures.items in
-    let tour : tour_at tours n ≡ column.tour = ap (λ (l : List (List Stop)). tour_at l n) (sym c.columns-columns.ensures.tours) ∙ get_or-map (λ (x : Column). x.tour) columns n column [] c.loop-place-test.true ∙ ap (λ (x : Column). x.tour) (sym c.index-columns-place.is) in
-    let here : IsPricedTour s car prices (tour_at tours n) y = subst (λ (t : List Stop). IsPricedTour s car prices t y) (sym tour) (subst (λ (r : Snapshot). IsPricedTour r car prices column.tour y) c.snapshot-snapshot.ensures.value c.new.ensures) in
+    let tour : tour_at tours n ≡ column.tour = ap (λ (l : List (List Stop)). tour_at l n) (sym c.columns-columns.ensures.tours)
+    ∙ get_or-map (λ (x : Column). x.tour) columns n column [] c.loop-place-test.true ∙ ap (λ (x : Column). x.tour) (sym c.index-columns-place.is) in
+    let here : IsPricedTour s car prices (tour_at tours n) y =
+    subst (λ (t : List Stop). IsPricedTour s car prices t y) (sym tour)
+    (subst (λ (r : Snapshot). IsPricedTour r car prices column.tour y) c.snapshot-snapshot.ensures.value c.new.ensures) in
     record {
       counted = (let long = ap length is in let whole = length-append xs (y ∷ []) in omega (arith, long, whole, counted));
-      each = subst (λ (l : List PricedTour). (k : ℕ) (d : PricedTour) → k < n + 1 → IsPricedTour s car prices (tour_at tours k) (get_or l k d)) (sym is) (pushed (λ k x. IsPricedTour s car prices (tour_at tours k) x) xs y n counted here c.loop-place.invariant.each);
+      each = subst (λ (l : List PricedTour). (k : ℕ) (d : PricedTour) → k < n + 1 → IsPricedTour s car prices (tour_at tours k) (get_or l k d)) (sym is)
+          (pushed (λ k x. IsPricedTour s car prices (tour_at tours k) x) xs y n counted here c.loop-place.invariant.each);
     }

@@ -8,5 +8,6 @@ use Rattle.half_plans.proofs.candidates.priced_tours.Given as goal
 abbrev pub invariant-loop-place : goal.invariant-loop-place
 invariant-loop-place l = record {
   counted : length l.tours.items ≡ l.place;
-  each : (k : ℕ) (d : PricedTour) → k < l.place → IsPricedTour l.pool.snapshot l.car l.prices (tour_at (list_of l.pool.tours l.car) k) (get_or l.tours.items k d);
+  each : (k : ℕ) (d : PricedTour) → k < l.place
+      → IsPricedTour l.pool.snapshot l.car l.prices (tour_at (list_of l.pool.tours l.car) k) (get_or l.tours.items k d);
 }

@@ -16,7 +16,9 @@ loop-first-preserved c =
     let pair : Pair = record { first = c.loop-first.first; second = c.args.second } in
     let is = c.in_ok-push.ensures.items in
     let counted = c.loop-first.invariant.counted in
-    let one = is_made least tours pair c.index-tours-first.result c.index-tours-second.result y (record { ordered = omega (arith, c.loop-first-test.true); within = c.requires.second }) c.index-tours-first.is c.index-tours-second.is c.candidate.ensures.value in
+    let one = is_made least tours pair c.index-tours-first.result c.index-tours-second.result y
+    (record { ordered = omega (arith, c.loop-first-test.true); within = c.requires.second }) c.index-tours-first.is c.index-tours-second.is
+    c.candidate.ensures.value in
     let place = ap (λ (x : PairCandidate). place_of x.item) c.candidate.ensures.value ∙ sym counted in
     record {
       made = subst (AreMade least tours) (sym is) (made_more least tours xs y c.loop-first.invariant.made one place);

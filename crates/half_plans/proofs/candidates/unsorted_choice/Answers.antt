@@ -23,18 +23,25 @@ near c =
     let same = near_is c.least_reduced_cost-least.result (modest c) in
     record {
       each = λ k d lt. (c.in_ok-tours.ensures.each k d lt).near;
-      above = λ k d lt. subst (λ (z : ℤ). z ≤ℤ (get_or c.in_ok-tours.tours.items k d).reduced) (sym same) (subst (λ (l : List PricedTour). (i : ℕ) (e : PricedTour) → i < length l → c.least_reduced_cost-least.result ≤ℤ (get_or l i e).reduced) c.as_slice.ensures.value c.least_reduced_cost-least.ensures.least k d lt);
+      above = λ k d lt.
+          subst (λ (z : ℤ). z ≤ℤ (get_or c.in_ok-tours.tours.items k d).reduced) (sym same)
+          (subst (λ (l : List PricedTour). (i : ℕ) (e : PricedTour) → i < length l → c.least_reduced_cost-least.result ≤ℤ (get_or l i e).reduced)
+          c.as_slice.ensures.value c.least_reduced_cost-least.ensures.least k d lt);
       low = omega (arith, ints, same, low);
       high = omega (arith, ints, same, high);
     }
 
-made : (c : goal.After-drop-tours-2) → AreMade (to_z w128 (of_z w128 c.least_reduced_cost-least.result)) c.in_ok-tours.tours.items c.in_ok-candidates.candidates.items
+made : (c : goal.After-drop-tours-2)
+    → AreMade (to_z w128 (of_z w128 c.least_reduced_cost-least.result)) c.in_ok-tours.tours.items c.in_ok-candidates.candidates.items
 made c =
-    subst (λ (l : List PricedTour). AreMade (to_z w128 (of_z w128 c.least_reduced_cost-least.result)) l c.in_ok-candidates.candidates.items) c.as_slice-2.ensures.value c.in_ok-candidates.ensures.made
+    subst (λ (l : List PricedTour). AreMade (to_z w128 (of_z w128 c.least_reduced_cost-least.result)) l c.in_ok-candidates.candidates.items)
+    c.as_slice-2.ensures.value c.in_ok-candidates.ensures.made
 
 pub returns-clause-candidates : goal.returns-clause-candidates
 returns-clause-candidates c =
-    made-candidates c.args.pool.now.snapshot c.args.car c.args.prices.now (list_of c.args.pool.now.tours c.args.car) c.in_ok-tours.tours.items (to_z w128 (of_z w128 c.least_reduced_cost-least.result)) c.in_ok-tours.ensures (near c) c.in_ok-candidates.candidates.items (made c) (c.in_ok-candidates.ensures.counted ∙ ap (λ (l : List PricedTour). pair_count (length l)) c.as_slice-2.ensures.value)
+    made-candidates c.args.pool.now.snapshot c.args.car c.args.prices.now (list_of c.args.pool.now.tours c.args.car) c.in_ok-tours.tours.items
+    (to_z w128 (of_z w128 c.least_reduced_cost-least.result)) c.in_ok-tours.ensures (near c) c.in_ok-candidates.candidates.items (made c)
+    (c.in_ok-candidates.ensures.counted ∙ ap (λ (l : List PricedTour). pair_count (length l)) c.as_slice-2.ensures.value)
 
 pub returns-clause-priced : goal.returns-clause-priced
 returns-clause-priced c =
@@ -42,4 +49,6 @@ returns-clause-priced c =
     let l = to_z w128 (of_z w128 r) in
     let same : l ≡ r = near_is r (modest c) in
     let x : CarPairs = record { candidates = c.in_ok-candidates.candidates; least = to_z w128 (of_z w128 (l +ℤ l)) } in
-    made-priced c.args.pool.now.snapshot c.args.car c.args.prices.now (list_of c.args.pool.now.tours c.args.car) c.in_ok-tours.tours.items l c.in_ok-tours.ensures (near c) x (made c) (sum_is r r (modest c) (modest c) ∙ ap (λ (z : ℤ). z +ℤ r) (sym same) ∙ ap (λ (z : ℤ). l +ℤ z) (sym same))
+    made-priced c.args.pool.now.snapshot c.args.car c.args.prices.now
+    (list_of c.args.pool.now.tours c.args.car) c.in_ok-tours.tours.items l c.in_ok-tours.ensures (near c) x (made c)
+    (sum_is r r (modest c) (modest c) ∙ ap (λ (z : ℤ). z +ℤ r) (sym same) ∙ ap (λ (z : ℤ). l +ℤ z) (sym same))

@@ -14,5 +14,6 @@ loop-worker-preserved c =
     let before = c.loop-worker.invariant.count in
     record {
       count = omega (arith, count, more, before);
-      own = subst (All (λ (d : Desk). d.snapshot.now ≡ c.args.snapshot.now)) (sym items) (All-push (λ (d : Desk). d.snapshot.now ≡ c.args.snapshot.now) desks desk c.loop-worker.invariant.own c.in_ok-new.ensures);
+      own = subst (All (λ (d : Desk). d.snapshot.now ≡ c.args.snapshot.now)) (sym items)
+          (All-push (λ (d : Desk). d.snapshot.now ≡ c.args.snapshot.now) desks desk c.loop-worker.invariant.own c.in_ok-new.ensures);
     }

@@ -12,7 +12,10 @@ loop-entry-preserved c =
     let value = c.value-sum.ensures.value in
     let low = range.0 in
     let high = range.1 in
-    sums_more (λ (p : PriceOf). p.price) c.args.entries.now (10 ^ 24) c.loop-entry.entry-index _ c.value-sum.result c.entry-item.result lt (omega arith) (omega (arith, lt, few)) (omega (arith, lt, few)) (value ∙ ap (λ (p : PriceOf). p.price) c.entry-item.is) (omega (arith, ints, low, value)) (omega (arith, ints, high, value)) c.loop-entry.invariant
+    sums_more (λ (p : PriceOf). p.price) c.args.entries.now (10 ^ 24) c.loop-entry.entry-index _ c.value-sum.result c.entry-item.result lt (omega arith)
+    (omega (arith, lt, few)) (omega (arith, lt, few)) (value ∙ ap (λ (p : PriceOf). p.price) c.entry-item.is) (omega (arith, ints, low, value))
+    (omega (arith, ints, high, value)) c.loop-entry.invariant
 
 pub returns-clause-sum : goal.returns-clause-sum
-returns-clause-sum c = sums_to_all (λ (p : PriceOf). p.price) c.args.entries.now (10 ^ 24) c.loop-entry.entry-index _ c.loop-entry.invariant c.loop-entry-test.false
+returns-clause-sum c = sums_to_all (λ (p : PriceOf). p.price) c.args.entries.now
+    (10 ^ 24) c.loop-entry.entry-index _ c.loop-entry.invariant c.loop-entry-test.false

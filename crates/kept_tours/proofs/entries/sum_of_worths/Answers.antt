@@ -13,7 +13,9 @@ loop-entry-preserved c =
     let size = All-get_or HasWorthSize c.args.entries.now c.loop-entry.entry-index d lt c.requires.sizes in
     let low = size.0 in
     let high = size.1 in
-    sums_more (λ (w : WorthOf). w.worth) c.args.entries.now (10 ^ 27) c.loop-entry.entry-index _ _ d lt (omega arith) (omega (arith, lt, few)) (omega (arith, lt, few)) refl low high c.loop-entry.invariant
+    sums_more (λ (w : WorthOf). w.worth) c.args.entries.now (10 ^ 27) c.loop-entry.entry-index _ _ d lt (omega arith) (omega (arith, lt, few))
+    (omega (arith, lt, few)) refl low high c.loop-entry.invariant
 
 pub returns-clause-sum : goal.returns-clause-sum
-returns-clause-sum c = sums_to_all (λ (w : WorthOf). w.worth) c.args.entries.now (10 ^ 27) c.loop-entry.entry-index _ c.loop-entry.invariant c.loop-entry-test.false
+returns-clause-sum c = sums_to_all (λ (w : WorthOf). w.worth) c.args.entries.now
+    (10 ^ 27) c.loop-entry.entry-index _ c.loop-entry.invariant c.loop-entry-test.false

@@ -27,10 +27,12 @@ loop-entry-preserved c =
     let size = c.loop-entry.invariant.size in
     let lt = bounds-prices-entry c in
     let at : e.call ≡ key (get_or entries i e) = ap key c.entry-item.is in
-    let price : e.price ≡ price_among entries e.call = ap (λ (p : PriceOf). p.price) c.entry-item.is ∙ sym (sum_once key (λ (p : PriceOf). p.price) e.call entries i e c.loop-entry-test.true (sym at) (each.once e.call (omega (arith, lt, size)))) in
+    let price : e.price ≡ price_among entries e.call = ap (λ (p : PriceOf). p.price) c.entry-item.is
+    ∙ sym (sum_once key (λ (p : PriceOf). p.price) e.call entries i e c.loop-entry-test.true (sym at) (each.once e.call (omega (arith, lt, size)))) in
     record {
       size = length-set c.loop-entry.prices e.call e.price ∙ size;
-      written = write_more key (λ (j : ℕ) (z : ℤ). z ≡ price_among entries j) entries c.loop-entry.prices (pos 0) e.price i e.call e at lt c.loop-entry-test.true price c.loop-entry.invariant.written;
+      written = write_more key (λ (j : ℕ) (z : ℤ). z ≡ price_among entries j) entries c.loop-entry.prices
+          (pos 0) e.price i e.call e at lt c.loop-entry-test.true price c.loop-entry.invariant.written;
     }
 
 pub returns : goal.returns
@@ -39,4 +41,9 @@ returns c j =
     let n = length c.args.prices.now in
     let each = once-from n (map key entries) c.requires in
     let size = c.loop-entry.invariant.size in
-    elim (cases_lt j n) [ inl lt ↦ written_all key (λ (j : ℕ) (z : ℤ). z ≡ price_among entries j) entries c.loop-entry.prices (pos 0) n c.loop-entry.entry-index j c.requires c.loop-entry-test.false c.loop-entry.invariant.written lt (record { call = 0; price = pos 0 }) | inr past ↦ get_or_past c.loop-entry.prices j (pos 0) (omega (arith, past, size)) ∙ sym (sum_past key (λ (p : PriceOf). p.price) n j entries each.below past) ]
+    elim (cases_lt j n) [
+      | inl lt ↦ written_all key (λ (j : ℕ) (z : ℤ). z ≡ price_among entries j) entries c.loop-entry.prices
+          (pos 0) n c.loop-entry.entry-index j c.requires c.loop-entry-test.false c.loop-entry.invariant.written lt (record { call = 0; price = pos 0 })
+      | inr past ↦ get_or_past c.loop-entry.prices j (pos 0) (omega (arith, past, size))
+          ∙ sym (sum_past key (λ (p : PriceOf). p.price) n j entries each.below past)
+    ]

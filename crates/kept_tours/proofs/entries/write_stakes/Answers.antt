@@ -40,7 +40,8 @@ loop-entry-preserved c =
     let stake : Stake = record { worth = to_z w128 (of_z w128 e.worth); claim = e.claim } in
     record {
       size = length-set c.loop-entry.stakes e.car stake ∙ size;
-      written = write_more key (IsStake entries) entries c.loop-entry.stakes no_stake stake i e.car no_entry refl lt c.loop-entry-test.true (worth, claim) c.loop-entry.invariant.written;
+      written = write_more key (IsStake entries) entries c.loop-entry.stakes no_stake stake i e.car no_entry refl lt c.loop-entry-test.true
+          (worth, claim) c.loop-entry.invariant.written;
     }
 
 pub returns-clause-worths : goal.returns-clause-worths
@@ -49,7 +50,13 @@ returns-clause-worths c j =
     let n = length c.args.stakes.now in
     let each = once-from n (map key entries) c.requires in
     let size = c.loop-entry.invariant.size in
-    elim (cases_lt j n) [ inl lt ↦ (written_all key (IsStake entries) entries c.loop-entry.stakes no_stake n c.loop-entry.entry-index j c.requires c.loop-entry-test.false c.loop-entry.invariant.written lt no_entry).0 | inr past ↦ ap (λ (stake : Stake). stake.worth) (get_or_past c.loop-entry.stakes j no_stake (omega (arith, past, size))) ∙ sym (sum_past key (λ (w : WorthOf). w.worth) n j entries each.below past) ]
+    elim (cases_lt j n) [
+      | inl lt ↦ (written_all key
+          (IsStake entries) entries c.loop-entry.stakes no_stake n c.loop-entry.entry-index j c.requires c.loop-entry-test.false c.loop-entry.invariant.written
+          lt no_entry).0
+      | inr past ↦ ap (λ (stake : Stake). stake.worth) (get_or_past c.loop-entry.stakes j no_stake (omega (arith, past, size)))
+          ∙ sym (sum_past key (λ (w : WorthOf). w.worth) n j entries each.below past)
+    ]
 
 pub returns-clause-claims : goal.returns-clause-claims
 returns-clause-claims c j =
@@ -57,4 +64,10 @@ returns-clause-claims c j =
     let n = length c.args.stakes.now in
     let each = once-from n (map key entries) c.requires in
     let size = c.loop-entry.invariant.size in
-    elim (cases_lt j n) [ inl lt ↦ (written_all key (IsStake entries) entries c.loop-entry.stakes no_stake n c.loop-entry.entry-index j c.requires c.loop-entry-test.false c.loop-entry.invariant.written lt no_entry).1 | inr past ↦ ap (λ (stake : Stake). stake.claim) (get_or_past c.loop-entry.stakes j no_stake (omega (arith, past, size))) ∙ sym (claims_past key (λ (w : WorthOf). w.claim) n j entries each.below past) ]
+    elim (cases_lt j n) [
+      | inl lt ↦ (written_all key
+          (IsStake entries) entries c.loop-entry.stakes no_stake n c.loop-entry.entry-index j c.requires c.loop-entry-test.false c.loop-entry.invariant.written
+          lt no_entry).1
+      | inr past ↦ ap (λ (stake : Stake). stake.claim) (get_or_past c.loop-entry.stakes j no_stake (omega (arith, past, size)))
+          ∙ sym (claims_past key (λ (w : WorthOf). w.claim) n j entries each.below past)
+    ]

@@ -9,5 +9,6 @@ use Rattle.kept_tours.proofs.entries.write_stakes.Given as goal
 abbrev pub invariant-loop-entry : goal.invariant-loop-entry
 invariant-loop-entry l = record {
   size : length l.stakes ≡ length l.initial.stakes;
-  written : Written (λ (w : WorthOf). w.car) (λ (c : ℕ) (stake : Stake). (stake.worth ≡ worth_among l.entries c) × (stake.claim ≡ claim_among l.entries c)) l.entries l.stakes no_stake l.entry-index;
+  written : Written (λ (w : WorthOf). w.car)
+      (λ (c : ℕ) (stake : Stake). (stake.worth ≡ worth_among l.entries c) × (stake.claim ≡ claim_among l.entries c)) l.entries l.stakes no_stake l.entry-index;
 }

@@ -10,4 +10,5 @@ pub returns-in-Leave : goal.returns-in-Leave
 returns-in-Leave g c = λ high x y departs moved.
     let a = g.B.CompletionBound.aim c.args.bound.now in
     let there = subst (λ (m : Move). move_on a.snapshot a.car x m ≡ Some y) c.in-Leave.is moved in
-    subst (λ (z : ℤ). z ≤ℤ g.B.CompletionBound.bound c.args.bound.now y) (to_z-of_z w128 c.args.worth c.ranges.worth) (c.leaves_in_vain.ensures high x y c.in-Leave.field-0 departs there)
+    subst (λ (z : ℤ). z ≤ℤ g.B.CompletionBound.bound c.args.bound.now y) (to_z-of_z w128 c.args.worth c.ranges.worth)
+    (c.leaves_in_vain.ensures high x y c.in-Leave.field-0 departs there)

@@ -12,4 +12,6 @@ returns g c = λ x leads.
     let bound = g.B.CompletionBound.bound c.args.bound.now in
     let t = c.args.prefix.now in
     let whole = to_z-of_z w128 c.args.worth c.ranges.worth in
-    left_below a departs c.leaves_in_vain-no_leaves.result t c.args.demand.now bound c.args.worth x c.followers_left.result (walking_at a c.args.demand.now t c.requires.walking) leads (standing departs c.args.demand.now t x c.requires.departs leads) (λ told. subst (LeavesInVain a departs bound) whole (c.leaves_in_vain-no_leaves.ensures told)) (c.followers_left.ensures x leads)
+    left_below a departs c.leaves_in_vain-no_leaves.result t c.args.demand.now bound c.args.worth x c.followers_left.result
+    (walking_at a c.args.demand.now t c.requires.walking) leads (standing departs c.args.demand.now t x c.requires.departs leads)
+    (λ told. subst (LeavesInVain a departs bound) whole (c.leaves_in_vain-no_leaves.ensures told)) (c.followers_left.ensures x leads)

@@ -16,11 +16,15 @@ use Rattle.kept_tours.proofs.kept_steps.step_below.Goals as goal
 
 pub sums_after-sums-requires-clause-leads : goal.sums_after-sums-requires-clause-leads
 sums_after-sums-requires-clause-leads g c =
-    next_move (g.B.CompletionBound.aim c.args.bound.now) (g.B.CompletionBound.stands c.args.bound.now c.args.sums.now) c.args.demand.now c.args.prefix.now c.args.next c.requires.walking c.requires.stands c.requires.next
+    next_move (g.B.CompletionBound.aim c.args.bound.now)
+    (g.B.CompletionBound.stands c.args.bound.now c.args.sums.now) c.args.demand.now c.args.prefix.now c.args.next c.requires.walking c.requires.stands
+    c.requires.next
 
 pub sums_after-sums-requires-clause-departs : goal.sums_after-sums-requires-clause-departs
 sums_after-sums-requires-clause-departs g c =
-    next_move (g.B.CompletionBound.aim c.args.bound.now) (g.B.CompletionBound.departs c.args.bound.now c.args.departure.now) c.args.demand.now c.args.prefix.now c.args.next c.requires.walking c.requires.departs c.requires.next
+    next_move (g.B.CompletionBound.aim c.args.bound.now)
+    (g.B.CompletionBound.departs c.args.bound.now c.args.departure.now) c.args.demand.now c.args.prefix.now c.args.next c.requires.walking
+    c.requires.departs c.requires.next
 
 pub returns-then-departs_in_vain-clause-none : goal.returns-then-departs_in_vain-clause-none
 returns-then-departs_in_vain-clause-none g c = λ _. (
@@ -31,10 +35,13 @@ returns-then-departs_in_vain-clause-none g c = λ _. (
       let o = c.requires.departs in
       let aims = walking_at a c.args.demand.now t c.requires.walking in
       let moved = moved_on t c.args.next o.at x o.leads leads in
-      let there = subst (λ (s : Snapshot). move_on s a.car o.at c.args.next ≡ Some x) (sym aims.snapshot) (subst (λ (v : ℕ). move_on t.snapshot v o.at c.args.next ≡ Some x) (sym aims.car) moved) in
+      let there = subst (λ (s : Snapshot). move_on s a.car o.at c.args.next ≡ Some x) (sym aims.snapshot)
+      (subst (λ (v : ℕ). move_on t.snapshot v o.at c.args.next ≡ Some x) (sym aims.car) moved) in
       let whole = to_z-of_z w128 c.args.worth c.ranges.worth in
-      let high = subst (λ (z : ℤ). z ≤ℤ g.B.CompletionBound.bound c.args.bound.now x) whole (c.departs_in_vain.ensures c.if-departs_in_vain.true o.at x o.stands_there there) in
-      and_right (goes_on (with_move t c.args.next) c.args.demand.now x) (int_lt (g.B.CompletionBound.bound c.args.bound.now x) c.args.worth) (not_below (g.B.CompletionBound.bound c.args.bound.now x) c.args.worth high),
+      let high = subst (λ (z : ℤ). z ≤ℤ g.B.CompletionBound.bound c.args.bound.now x) whole
+      (c.departs_in_vain.ensures c.if-departs_in_vain.true o.at x o.stands_there there) in
+      and_right (goes_on (with_move t c.args.next) c.args.demand.now x) (int_lt (g.B.CompletionBound.bound c.args.bound.now x) c.args.worth)
+      (not_below (g.B.CompletionBound.bound c.args.bound.now x) c.args.worth high),
 )
 
 pub returns-then-value-worth-clause-none : goal.returns-then-value-worth-clause-none
@@ -44,16 +51,28 @@ returns-then-value-worth-clause-none g c = λ _. (
       let value = c.value.ensures.value x (c.sums_after-sums.ensures x leads) in
       let same : to_z w128 (of_z w128 c.value.result) ≡ c.value.result = search rules in
       let whole = to_z-of_z w128 c.args.worth c.ranges.worth in
-      let high = subst (λ (z : ℤ). c.args.worth ≤ℤ z) (same ∙ value) (subst (λ (z : ℤ). z ≤ℤ to_z w128 (of_z w128 c.value.result)) whole (le_z_yes (T_from_true _ c.if-value-worth.true))) in
-      and_right (goes_on (with_move c.args.prefix.now c.args.next) c.args.demand.now x) (int_lt (g.B.CompletionBound.bound c.args.bound.now x) c.args.worth) (not_below (g.B.CompletionBound.bound c.args.bound.now x) c.args.worth high),
+      let high = subst (λ (z : ℤ). c.args.worth ≤ℤ z) (same ∙ value)
+      (subst (λ (z : ℤ). z ≤ℤ to_z w128 (of_z w128 c.value.result)) whole (le_z_yes (T_from_true _ c.if-value-worth.true))) in
+      and_right (goes_on (with_move c.args.prefix.now c.args.next) c.args.demand.now x) (int_lt (g.B.CompletionBound.bound c.args.bound.now x) c.args.worth)
+      (not_below (g.B.CompletionBound.bound c.args.bound.now x) c.args.worth high),
 )
 
 pub returns-then-can_be_extended-clause-made : goal.returns-then-can_be_extended-clause-made
 returns-then-can_be_extended-clause-made g c =
     let to = with_move c.args.prefix.now c.args.next in
     let led = is_some_has (course to) c.requires.next.lawful in
-    let there = subst (λ (t : PartialTour). course t ≡ Some led.0) (sym c.push.ensures) led.1 in
-    (c.push.ensures, subst (λ (t : PartialTour). IsWalking (g.B.CompletionBound.aim c.args.bound.now) c.args.demand.now t) (sym c.push.ensures) (walking_on (g.B.CompletionBound.aim c.args.bound.now) c.args.demand.now c.args.prefix.now c.args.next c.requires.walking c.requires.next.may), record { at = led.0; leads = there; stands_there = c.sums_after-sums.ensures led.0 led.1; extends = sym (c.can_be_extended.ensures.test led.0 there) ∙ c.if-can_be_extended.true })
+    let there = subst (λ (t : PartialTour). course t ≡ Some led.0) (sym c.push.ensures) led.1 in (
+      c.push.ensures,
+      subst (λ (t : PartialTour). IsWalking (g.B.CompletionBound.aim c.args.bound.now) c.args.demand.now t) (sym c.push.ensures)
+          (walking_on (g.B.CompletionBound.aim c.args.bound.now) c.args.demand.now c.args.prefix.now c.args.next c.requires.walking c.requires.next.may),
+      record {
+        at = led.0;
+        leads = there;
+        stands_there = c.sums_after-sums.ensures led.0 led.1;
+        extends = sym (c.can_be_extended.ensures.test led.0 there)
+            ∙ c.if-can_be_extended.true;
+      },
+    )
 
 pub returns-clause-none : goal.returns-clause-none
 returns-clause-none g c = λ _. (
@@ -61,5 +80,7 @@ returns-clause-none g c = λ _. (
   λ x leads.
       let to = with_move c.args.prefix.now c.args.next in
       let there = subst (λ (t : PartialTour). course t ≡ Some x) (sym c.push.ensures) leads in
-      and_left (goes_on to c.args.demand.now x) (int_lt (g.B.CompletionBound.bound c.args.bound.now x) c.args.worth) (subst (λ (t : PartialTour). goes_on t c.args.demand.now x ≡ false) c.push.ensures (sym (c.can_be_extended.ensures.test x there) ∙ c.if-can_be_extended.false)),
+      and_left (goes_on to c.args.demand.now x) (int_lt (g.B.CompletionBound.bound c.args.bound.now x) c.args.worth)
+      (subst (λ (t : PartialTour). goes_on t c.args.demand.now x ≡ false) c.push.ensures
+      (sym (c.can_be_extended.ensures.test x there) ∙ c.if-can_be_extended.false)),
 )

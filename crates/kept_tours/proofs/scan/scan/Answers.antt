@@ -11,7 +11,8 @@ start-sums-requires-clause-for_it g c = aims_first (g.B.CompletionBound.aim c.ar
 
 pub visit-requires-clause-walking : goal.visit-requires-clause-walking
 visit-requires-clause-walking g c =
-    walking_first (g.B.CompletionBound.aim c.args.bound.now) c.args.demand.now c.args.prefix.now c.requires.accepted c.requires.car c.requires.empty c.requires.aim c.requires.demands
+    walking_first (g.B.CompletionBound.aim c.args.bound.now) c.args.demand.now c.args.prefix.now c.requires.accepted c.requires.car c.requires.empty
+    c.requires.aim c.requires.demands
 
 pub visit-requires-clause-stands : goal.visit-requires-clause-stands
 visit-requires-clause-stands g c =
@@ -22,5 +23,6 @@ returns-clause-scanned g c =
     let a = g.B.CompletionBound.aim c.args.bound.now in
     let bound = g.B.CompletionBound.bound c.args.bound.now in
     let worth : to_z w128 (of_z w128 c.args.worth) ≡ c.args.worth = search rules in
-    let visited = subst (λ (w : ℤ). Visited c.args.prefix.now c.args.demand.now a.price bound w c.args.limit c.visit.new.prefix c.visit.result) worth c.visit.ensures.visited in
+    let visited = subst
+    (λ (w : ℤ). Visited c.args.prefix.now c.args.demand.now a.price bound w c.args.limit c.visit.new.prefix c.visit.result) worth c.visit.ensures.visited in
     scanned c.args.prefix.now c.args.demand.now a.price bound c.args.worth c.args.limit c.visit.new.prefix c.visit.result c.requires.empty visited

@@ -28,7 +28,8 @@ returns-in-Ok-Solve-clause-ends g c = λ none.
     let old = streams before (g.K.Sink.taken c.args.sink.now) (g.S.Source.faults c.args.source.now) (g.K.Sink.faults c.args.sink.now) in
     let new = streams after (g.K.Sink.taken c.solve.new.sink) (g.S.Source.faults c.solve.new.source) (g.K.Sink.faults c.solve.new.sink) in
     let taken = subst (AreTaken words) c.in-Ok-Solve.field-0-is c.in-Ok-Solve.ensures.taken in
-    ends_more (SolveDue c.in-Ok-Solve.options before after) (RunDue words before after) old new c.solve.result (solve_due words before after c.in-Ok-Solve.options taken) c.solve.ensures.ends)
+    ends_more (SolveDue c.in-Ok-Solve.options before after) (RunDue words before after) old new c.solve.result
+    (solve_due words before after c.in-Ok-Solve.options taken) c.solve.ensures.ends)
 
 pub returns-in-Ok-Check-clause-ends : goal.returns-in-Ok-Check-clause-ends
 returns-in-Ok-Check-clause-ends g c = λ none.
@@ -39,7 +40,8 @@ returns-in-Ok-Check-clause-ends g c = λ none.
     let old = streams before (g.K.Sink.taken c.args.sink.now) (g.S.Source.faults c.args.source.now) (g.K.Sink.faults c.args.sink.now) in
     let new = streams after (g.K.Sink.taken c.check.new.sink) (g.S.Source.faults c.check.new.source) (g.K.Sink.faults c.check.new.sink) in
     let taken = subst (AreTaken words) c.in-Ok-Check.field-0-is c.in-Ok-Check.ensures.taken in
-    ends_more (CheckDue before after) (RunDue words before after) old new c.check.result (check_due words before after c.in-Ok-Check.options taken) c.check.ensures.ends)
+    ends_more (CheckDue before after) (RunDue words before after) old new c.check.result
+    (check_due words before after c.in-Ok-Check.options taken) c.check.ensures.ends)
 
 pub returns-in-Ok-Check-clause-checks : goal.returns-in-Ok-Check-clause-checks
 returns-in-Ok-Check-clause-checks g c = λ options taken. c.check.ensures.checks
@@ -63,7 +65,8 @@ returns-in-Ok-Make-clause-ends g c = λ none.
     let old = streams before (g.K.Sink.taken c.args.sink.now) faults (g.K.Sink.faults c.args.sink.now) in
     let new = streams before (g.K.Sink.taken c.write_made_case.new.sink) faults (g.K.Sink.faults c.write_made_case.new.sink) in
     let taken = subst (AreTaken words) c.in-Ok-Make.field-0-is c.in-Ok-Make.ensures.taken in
-    ends_more (MakeDue c.in-Ok-Make.sizes) (RunDue words before before) old new c.write_made_case.result (make_due words before c.in-Ok-Make.sizes taken) (c.write_made_case.ensures.ends before faults))
+    ends_more (MakeDue c.in-Ok-Make.sizes) (RunDue words before before) old new c.write_made_case.result (make_due words before c.in-Ok-Make.sizes taken)
+    (c.write_made_case.ensures.ends before faults))
 
 pub returns-in-Err-NotTaken-clause-ends : goal.returns-in-Err-NotTaken-clause-ends
 returns-in-Err-NotTaken-clause-ends g c = λ none.
@@ -105,7 +108,8 @@ returns-in-Ok-Run-clause-ends g c = λ none.
     let old = streams before (g.K.Sink.taken c.args.sink.now) faults (g.K.Sink.faults c.args.sink.now) in
     let new = streams before (g.K.Sink.taken c.write_solved_case.new.sink) faults (g.K.Sink.faults c.write_solved_case.new.sink) in
     let taken = subst (AreTaken words) c.in-Ok-Run.field-0-is c.in-Ok-Run.ensures.taken in
-    ends_more (SolvedCaseDue c.in-Ok-Run.options) (RunDue words before before) old new c.write_solved_case.result (solved_case_due words before c.in-Ok-Run.options taken) (c.write_solved_case.ensures.ends before faults))
+    ends_more (SolvedCaseDue c.in-Ok-Run.options) (RunDue words before before) old new c.write_solved_case.result
+    (solved_case_due words before c.in-Ok-Run.options taken) (c.write_solved_case.ensures.ends before faults))
 
 pub returns-in-Ok-Run-clause-runs : goal.returns-in-Ok-Run-clause-runs
 returns-in-Ok-Run-clause-runs g c options taken writes =
@@ -133,8 +137,10 @@ pub returns-in-Ok-Day-clause-days : goal.returns-in-Ok-Day-clause-days
 returns-in-Ok-Day-clause-days g c options taken =
     let same : Day options ≡ Day c.in-Ok-Day.options = c.in-Ok-Day.ensures.one (Day options) taken ∙ c.in-Ok-Day.field-0-is in
     let is : options ≡ c.in-Ok-Day.options = cc same in
-    let old = streams (g.S.Source.left c.args.source.now) (g.K.Sink.taken c.args.sink.now) (g.S.Source.faults c.args.source.now) (g.K.Sink.faults c.args.sink.now) in
-    let new = streams (g.S.Source.left c.day.new.source) (g.K.Sink.taken c.day.new.sink) (g.S.Source.faults c.day.new.source) (g.K.Sink.faults c.day.new.sink) in
+    let old = streams (g.S.Source.left c.args.source.now) (g.K.Sink.taken c.args.sink.now) (g.S.Source.faults c.args.source.now)
+    (g.K.Sink.faults c.args.sink.now) in
+    let new = streams (g.S.Source.left c.day.new.source) (g.K.Sink.taken c.day.new.sink) (g.S.Source.faults c.day.new.source)
+    (g.K.Sink.faults c.day.new.sink) in
     subst (λ (o : DayOptions). RunsDay o old new c.day.result) (sym is) c.day.ensures
 
 pub report-requires : goal.report-requires
@@ -148,8 +154,10 @@ pub returns-in-Ok-Report-clause-reports : goal.returns-in-Ok-Report-clause-repor
 returns-in-Ok-Report-clause-reports g c options taken =
     let same : Report options ≡ Report c.in-Ok-Report.options = c.in-Ok-Report.ensures.one (Report options) taken ∙ c.in-Ok-Report.field-0-is in
     let is : options ≡ c.in-Ok-Report.options = cc same in
-    let old = streams (g.S.Source.left c.args.source.now) (g.K.Sink.taken c.args.sink.now) (g.S.Source.faults c.args.source.now) (g.K.Sink.faults c.args.sink.now) in
-    let new = streams (g.S.Source.left c.report.new.source) (g.K.Sink.taken c.report.new.sink) (g.S.Source.faults c.report.new.source) (g.K.Sink.faults c.report.new.sink) in
+    let old = streams (g.S.Source.left c.args.source.now) (g.K.Sink.taken c.args.sink.now) (g.S.Source.faults c.args.source.now)
+    (g.K.Sink.faults c.args.sink.now) in
+    let new = streams (g.S.Source.left c.report.new.source) (g.K.Sink.taken c.report.new.sink) (g.S.Source.faults c.report.new.source)
+    (g.K.Sink.faults c.report.new.sink) in
     let plain = subst (λ (o : DayOptions). ReportsDay o old new c.report.result) c.without_certificates.ensures c.report.ensures in
     subst (λ (o : SearchOptions). ReportsDay (without_certificates o) old new c.report.result) (sym is) plain
 
@@ -164,16 +172,20 @@ returns-in-Ok-Table-clause-tables g c taken =
 
 pub returns-in-Ok-WhatIf-clause-ends : goal.returns-in-Ok-WhatIf-clause-ends
 returns-in-Ok-WhatIf-clause-ends g c = λ none.
-    absurd (none.no_what_if c.in-Ok-WhatIf.options (subst (AreTaken (map string_bytes c.args.words.now)) c.in-Ok-WhatIf.field-0-is c.in-Ok-WhatIf.ensures.taken))
+    absurd (none.no_what_if c.in-Ok-WhatIf.options
+    (subst (AreTaken (map string_bytes c.args.words.now)) c.in-Ok-WhatIf.field-0-is c.in-Ok-WhatIf.ensures.taken))
 
 pub returns-in-Ok-WhatIf-clause-what_if : goal.returns-in-Ok-WhatIf-clause-what_if
 returns-in-Ok-WhatIf-clause-what_if g c options taken =
     let same : WhatIf options ≡ WhatIf c.in-Ok-WhatIf.options = c.in-Ok-WhatIf.ensures.one (WhatIf options) taken ∙ c.in-Ok-WhatIf.field-0-is in
     let is : options ≡ c.in-Ok-WhatIf.options = cc same in
-    let old = streams (g.S.Source.left c.args.source.now) (g.K.Sink.taken c.args.sink.now) (g.S.Source.faults c.args.source.now) (g.K.Sink.faults c.args.sink.now) in
-    let new = streams (g.S.Source.left c.whatif.new.source) (g.K.Sink.taken c.whatif.new.sink) (g.S.Source.faults c.whatif.new.source) (g.K.Sink.faults c.whatif.new.sink) in
+    let old = streams (g.S.Source.left c.args.source.now) (g.K.Sink.taken c.args.sink.now) (g.S.Source.faults c.args.source.now)
+    (g.K.Sink.faults c.args.sink.now) in
+    let new = streams (g.S.Source.left c.whatif.new.source) (g.K.Sink.taken c.whatif.new.sink) (g.S.Source.faults c.whatif.new.source)
+    (g.K.Sink.faults c.whatif.new.sink) in
     let ensures = c.whatif.ensures in
-    subst (λ (o : SearchOptions). RunsWhatIf o old new c.whatif.result) (sym is) (record { ends = ensures.ends; answers = ensures.answers; refuses = ensures.refuses })
+    subst (λ (o : SearchOptions). RunsWhatIf o old new c.whatif.result) (sym is)
+    (record { ends = ensures.ends; answers = ensures.answers; refuses = ensures.refuses })
 
 pub returns-in-Err-NotTaken-clause-what_if : goal.returns-in-Err-NotTaken-clause-what_if
 returns-in-Err-NotTaken-clause-what_if g c = λ options taken.
@@ -187,10 +199,13 @@ pub returns-in-Ok-Banks-clause-banks : goal.returns-in-Ok-Banks-clause-banks
 returns-in-Ok-Banks-clause-banks g c options taken =
     let same : Banks options ≡ Banks c.in-Ok-Banks.options = c.in-Ok-Banks.ensures.one (Banks options) taken ∙ c.in-Ok-Banks.field-0-is in
     let is : options ≡ c.in-Ok-Banks.options = cc same in
-    let old = streams (g.S.Source.left c.args.source.now) (g.K.Sink.taken c.args.sink.now) (g.S.Source.faults c.args.source.now) (g.K.Sink.faults c.args.sink.now) in
-    let new = streams (g.S.Source.left c.banks.new.source) (g.K.Sink.taken c.banks.new.sink) (g.S.Source.faults c.banks.new.source) (g.K.Sink.faults c.banks.new.sink) in
+    let old = streams (g.S.Source.left c.args.source.now) (g.K.Sink.taken c.args.sink.now) (g.S.Source.faults c.args.source.now)
+    (g.K.Sink.faults c.args.sink.now) in
+    let new = streams (g.S.Source.left c.banks.new.source) (g.K.Sink.taken c.banks.new.sink) (g.S.Source.faults c.banks.new.source)
+    (g.K.Sink.faults c.banks.new.sink) in
     let ensures = c.banks.ensures in
-    subst (λ (o : SearchOptions). RunsBanks o old new c.banks.result) (sym is) (record { ends = ensures.ends; answers = ensures.answers; refuses = ensures.refuses })
+    subst (λ (o : SearchOptions). RunsBanks o old new c.banks.result) (sym is)
+    (record { ends = ensures.ends; answers = ensures.answers; refuses = ensures.refuses })
 
 pub returns-in-Err-NotTaken-clause-banks : goal.returns-in-Err-NotTaken-clause-banks
 returns-in-Err-NotTaken-clause-banks g c = λ options taken.
@@ -208,10 +223,13 @@ pub returns-in-Ok-Root-clause-at_root : goal.returns-in-Ok-Root-clause-at_root
 returns-in-Ok-Root-clause-at_root g c options taken =
     let same : Root options ≡ Root c.in-Ok-Root.options = c.in-Ok-Root.ensures.one (Root options) taken ∙ c.in-Ok-Root.field-0-is in
     let is : options ≡ c.in-Ok-Root.options = cc same in
-    let old = streams (g.S.Source.left c.args.source.now) (g.K.Sink.taken c.args.sink.now) (g.S.Source.faults c.args.source.now) (g.K.Sink.faults c.args.sink.now) in
-    let new = streams (g.S.Source.left c.root.new.source) (g.K.Sink.taken c.root.new.sink) (g.S.Source.faults c.root.new.source) (g.K.Sink.faults c.root.new.sink) in
+    let old = streams (g.S.Source.left c.args.source.now) (g.K.Sink.taken c.args.sink.now) (g.S.Source.faults c.args.source.now)
+    (g.K.Sink.faults c.args.sink.now) in
+    let new = streams (g.S.Source.left c.root.new.source) (g.K.Sink.taken c.root.new.sink) (g.S.Source.faults c.root.new.source)
+    (g.K.Sink.faults c.root.new.sink) in
     let ensures = c.root.ensures in
-    subst (λ (o : RootOptions). RunsRoot o old new c.root.result) (sym is) (record { ends = ensures.ends; answers = ensures.answers; refuses = ensures.refuses })
+    subst (λ (o : RootOptions). RunsRoot o old new c.root.result) (sym is)
+    (record { ends = ensures.ends; answers = ensures.answers; refuses = ensures.refuses })
 
 pub returns-in-Err-NotTaken-clause-at_root : goal.returns-in-Err-NotTaken-clause-at_root
 returns-in-Err-NotTaken-clause-at_root g c = λ options taken.

@@ -11,8 +11,10 @@ loop-i-preserved c =
       | then-is_blank w ↦ rw (w.start-is, w.spans-is) (record {
         reached = omega arith;
         no_blank = λ k low high. absurd (omega arith);
-        words = words_more text c.loop-i.spans.items w.end_word.new.spans.items c.loop-i.start c.loop-i.i before.reached c.loop-i-test.true before.no_blank (sym w.if-is_blank.ensures) w.end_word.ensures.items before.words;
-        inside = within_more _ c.loop-i.spans.items w.end_word.new.spans.items c.loop-i.start c.loop-i.i before.reached (omega arith) w.end_word.ensures.items before.inside;
+        words = words_more text c.loop-i.spans.items w.end_word.new.spans.items c.loop-i.start c.loop-i.i before.reached c.loop-i-test.true before.no_blank
+            (sym w.if-is_blank.ensures) w.end_word.ensures.items before.words;
+        inside = within_more _ c.loop-i.spans.items w.end_word.new.spans.items c.loop-i.start c.loop-i.i before.reached
+            (omega arith) w.end_word.ensures.items before.inside;
         room = omega (arith, w.end_word.ensures.len);
         capacity = omega (arith, w.end_word.ensures.capacity);
       })
@@ -29,4 +31,5 @@ loop-i-preserved c =
 pub returns-clause-words : goal.returns-clause-words
 returns-clause-words c =
     let before = c.loop-i.invariant in
-    words_all c.args.text.now c.loop-i.spans.items c.end_word-2.new.spans.items c.loop-i.start (omega arith) (λ k low high. before.no_blank k low (omega arith)) c.end_word-2.ensures.items before.words
+    words_all c.args.text.now c.loop-i.spans.items c.end_word-2.new.spans.items c.loop-i.start (omega arith)
+    (λ k low high. before.no_blank k low (omega arith)) c.end_word-2.ensures.items before.words

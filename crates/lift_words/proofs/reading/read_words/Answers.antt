@@ -6,7 +6,8 @@ use Rattle.lift_words.proofs.reading.read_words.Goals as goal
 
 pub returns-in-Some-asked-clause-taken : goal.returns-in-Some-asked-clause-taken
 returns-in-Some-asked-clause-taken c =
-    taken (map string_bytes c.args.words.now) c.in-Some.command c.in-Some.ensures.known (rows_of (found_of c.in_ok-matches.matches)) c.in-Some-asked.request c.in_ok-matches.ensures.given c.in-Some-asked.ensures.asked
+    taken (map string_bytes c.args.words.now) c.in-Some.command c.in-Some.ensures.known
+    (rows_of (found_of c.in_ok-matches.matches)) c.in-Some-asked.request c.in_ok-matches.ensures.given c.in-Some-asked.ensures.asked
 
 pub returns-in-Some-asked-clause-one : goal.returns-in-Some-asked-clause-one
 returns-in-Some-asked-clause-one c = λ other t.
@@ -17,9 +18,11 @@ returns-in-Some-asked-clause-one c = λ other t.
 
 pub returns-clause-refused : goal.returns-clause-refused
 returns-clause-refused c = λ _.
-    refused_by_rows (map string_bytes c.args.words.now) c.in-Some.command c.in-Some.ensures.known (rows_of (found_of c.in_ok-matches.matches)) c.in_ok-matches.ensures.given c.in-None.ensures.asked
+    refused_by_rows (map string_bytes c.args.words.now) c.in-Some.command c.in-Some.ensures.known
+    (rows_of (found_of c.in_ok-matches.matches)) c.in_ok-matches.ensures.given c.in-None.ensures.asked
 
 pub returns-in_err-matches-clause-refused : goal.returns-in_err-matches-clause-refused
 returns-in_err-matches-clause-refused c =
     let same = err_from_is_err_and c.from_residual.result c.from_residual.ensures.1 in
-    rw (same.1, same.2) (λ e. refused_by_options (map string_bytes c.args.words.now) c.in-Some.command c.in-Some.ensures.known (c.in_err-matches.ensures.refused e))
+    rw (same.1, same.2)
+    (λ e. refused_by_options (map string_bytes c.args.words.now) c.in-Some.command c.in-Some.ensures.known (c.in_err-matches.ensures.refused e))

@@ -28,7 +28,8 @@ lines-preserved g c =
     record {
       same_source = did.same_source ∙ before.same_source;
       no_failure = did.ok;
-      so_far = more_so_far c.args.building.now (text left c.args.lines.now) (text left c.lines.lines) (text left new.lines) c.lines.rows.items new.rows.items before.so_far did.taken;
+      so_far = more_so_far c.args.building.now (text left c.args.lines.now) (text left c.lines.lines)
+          (text left new.lines) c.lines.rows.items new.rows.items before.so_far did.taken;
       good = did.grows.good before.good;
       few = omega (arith, before.few, did.grows.few);
       numbered = omega (arith, did.line, before.numbered);
@@ -40,7 +41,8 @@ returns-in-Ok-Log-clause-rows g c =
     let left = g.S.Source.left in
     let new = c.take_next.new in
     let did = rw c.in-Ok-Log.field-0-is at c.in-Ok-Log.ensures in
-    log_found c.args.building.now (text left c.args.lines.now) (text left c.lines.lines) (text left new.lines) c.lines.rows.items new.rows.items c.lines.invariant.so_far did.taken
+    log_found c.args.building.now (text left c.args.lines.now) (text left c.lines.lines)
+    (text left new.lines) c.lines.rows.items new.rows.items c.lines.invariant.so_far did.taken
 
 pub returns-in-Ok-Log-clause-good : goal.returns-in-Ok-Log-clause-good
 returns-in-Ok-Log-clause-good g c =
@@ -56,4 +58,5 @@ pub returns-in-Err-clause-told : goal.returns-in-Err-clause-told
 returns-in-Err-clause-told g c =
     let left = g.S.Source.left in
     let new = c.take_next.new in
-    no_log_found c.args.building.now (text left c.args.lines.now) (text left c.lines.lines) (text left new.lines) c.lines.rows.items new.rows.items c.in-Err.fault c.lines.invariant.so_far c.in-Err.ensures.taken
+    no_log_found c.args.building.now (text left c.args.lines.now) (text left c.lines.lines)
+    (text left new.lines) c.lines.rows.items new.rows.items c.in-Err.fault c.lines.invariant.so_far c.in-Err.ensures.taken

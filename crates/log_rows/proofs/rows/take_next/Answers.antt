@@ -21,11 +21,13 @@ returns-in-Ok-Long-clause-taken g c =
     let left = g.S.Source.left in
     let read = rw c.in-Ok-Long.field-0-is at c.in-Ok-Long.ensures in
     let new = c.raw_line.new.self in
-    long_taken c.args.building.now c.args.rows.now.items c.add_long_row.new.rows.items (text left c.args.lines.now) (text left new) (raw new) c.add_long_row.result c.after_added.result (read.next c.requires.whole) c.after_added.ensures c.add_long_row.ensures
+    long_taken c.args.building.now c.args.rows.now.items c.add_long_row.new.rows.items (text left c.args.lines.now) (text left new)
+    (raw new) c.add_long_row.result c.after_added.result (read.next c.requires.whole) c.after_added.ensures c.add_long_row.ensures
 
 pub returns-in-Ok-Long-clause-grows : goal.returns-in-Ok-Long-clause-grows
 returns-in-Ok-Long-clause-grows g c =
-    long_grows_after c.args.building.now c.args.rows.now.items c.add_long_row.new.rows.items c.add_long_row.result c.after_added.result c.after_added.ensures c.add_long_row.ensures
+    long_grows_after c.args.building.now c.args.rows.now.items c.add_long_row.new.rows.items c.add_long_row.result c.after_added.result c.after_added.ensures
+    c.add_long_row.ensures
 
 pub returns-in-Ok-End-clause-taken : goal.returns-in-Ok-End-clause-taken
 returns-in-Ok-End-clause-taken g c =
@@ -34,7 +36,8 @@ returns-in-Ok-End-clause-taken g c =
     let old = c.args.lines.now in
     let new = c.raw_line.new.self in
     let rows = c.args.rows.now.items in
-    end_taken c.args.building.now rows rows (text left old) (text left new) (raw new) (line old) _ (read.next c.requires.whole) (number_of old.page (left old.source.now)) (omega (arith, c.line.ensures.value, read.line))
+    end_taken c.args.building.now rows rows (text left old) (text left new) (raw new) (line old) _ (read.next c.requires.whole)
+    (number_of old.page (left old.source.now)) (omega (arith, c.line.ensures.value, read.line))
 
 pub returns-in-Err-clause-taken : goal.returns-in-Err-clause-taken
 returns-in-Err-clause-taken g c =

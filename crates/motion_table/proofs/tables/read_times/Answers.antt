@@ -10,5 +10,6 @@ returns-in-Ok-clause-table g c = λ none.
     let read = c.in-Ok.ensures.outcome none in (
       c.read_section.new.section,
       sym c.into_times.ensures,
-      subst (λ (start : TableState). ReadAs after (text left c.args.lines.now) start (Ok tt) c.read_section.new.section (text left c.read_section.new.lines)) c.new-rows.ensures read,
+      subst (λ (start : TableState). ReadAs after (text left c.args.lines.now) start (Ok tt) c.read_section.new.section (text left c.read_section.new.lines))
+          c.new-rows.ensures read,
     ))

@@ -18,6 +18,9 @@ returns-else-branch-eq0-clause-wanted c s calls some =
     let cost = to_z-of_z w128 c.from.result g ∙ c.from.ensures in
     record {
       leaf = search rules;
-      below = below_cost (to_z w128 (of_z w128 c.from.result)) (bound_of_sheet c.args.branch.now.sheet) c.args.cost cost (subst (λ (z : ℤ). int_le (to_z w128 (of_z w128 c.from.result)) z ≡ false) bound c.if-bound-from.false);
-      open_yet = λ was single. choice_many c.args.calls c.args.branch.now.node c.first_choice.result c.first_choice.ensures.call c.first_choice.ensures.part (search rules) (subst (λ (n : ℕ). AreSingle n c.args.branch.now.node) calls single);
+      below = below_cost (to_z w128 (of_z w128 c.from.result)) (bound_of_sheet c.args.branch.now.sheet) c.args.cost cost
+          (subst (λ (z : ℤ). int_le (to_z w128 (of_z w128 c.from.result)) z ≡ false) bound c.if-bound-from.false);
+      open_yet = λ was single.
+          choice_many c.args.calls c.args.branch.now.node c.first_choice.result c.first_choice.ensures.call c.first_choice.ensures.part (search rules)
+          (subst (λ (n : ℕ). AreSingle n c.args.branch.now.node) calls single);
     }

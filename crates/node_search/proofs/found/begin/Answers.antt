@@ -24,4 +24,5 @@ returns g c start turned is_open =
     let grown = subst (λ (old : List Branch). IsSplit 0 old new ⊎ IsKeptRoot c.len-calls.result c.len.result old new) same c.in_ok-split_where_due.ensures in
     let at_calls = subst (λ (n : ℕ). IsSplit 0 c.args.root.tree.branches new ⊎ IsKeptRoot n c.len.result c.args.root.tree.branches new) calls grown in
     let at_turns = subst (λ (n : ℕ). IsSplit 0 c.args.root.tree.branches new ⊎ IsKeptRoot (call_count s) n c.args.root.tree.branches new) turns at_calls in
-    begun_is s c.args.limits.rounds c.args.limits.most_tours start c.args.root turned c.requires.accepted (cars-le s c.requires.accepted) is_open _ refl (search rules) at_turns
+    begun_is s c.args.limits.rounds c.args.limits.most_tours start c.args.root turned c.requires.accepted (cars-le s c.requires.accepted) is_open _ refl
+    (search rules) at_turns

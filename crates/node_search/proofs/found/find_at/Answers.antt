@@ -9,7 +9,10 @@ use Rattle.node_search.proofs.found.find_at.Goals as goal
 pub returns-clause-found : goal.returns-clause-found
 returns-clause-found g c =
     let sheet = c.args.sheet in
-    if_ok c.end.result _ _ (λ f h. subst (λ (x : Snapshot). IsFound sheet.prices (bound_of_sheet sheet) x c.args.limits.rounds c.args.limits.most_tours f.stated.plan f.stated.cost f.stated.bound f.tree.twigs f.turns f.why) c.requires.snapshot (h sheet (c.in_ok-begun.ensures sheet c.in_ok-root.ensures.turned))) c.end.ensures.found
+    if_ok c.end.result _ _
+    (λ f h. subst (λ (x : Snapshot).
+    IsFound sheet.prices (bound_of_sheet sheet) x c.args.limits.rounds c.args.limits.most_tours f.stated.plan f.stated.cost f.stated.bound f.tree.twigs
+    f.turns f.why) c.requires.snapshot (h sheet (c.in_ok-begun.ensures sheet c.in_ok-root.ensures.turned))) c.end.ensures.found
 
 pub close-requires-clause-turned : goal.close-requires-clause-turned
 close-requires-clause-turned g c κs within = (c.args.sheet, c.requires.sum, c.in_ok-root.ensures.turned)
@@ -23,12 +26,17 @@ end-requires-clause-ended g c κs within = (c.args.sheet, c.requires.sum, c.in_o
 pub returns-then-not-is_open-clause-found : goal.returns-then-not-is_open-clause-found
 returns-then-not-is_open-clause-found g c =
     let sheet = c.args.sheet in
-    if_ok c.close.result _ _ (λ f h. subst (λ (x : Snapshot). IsFound sheet.prices (bound_of_sheet sheet) x c.args.limits.rounds c.args.limits.most_tours f.stated.plan f.stated.cost f.stated.bound f.tree.twigs f.turns f.why) c.requires.snapshot (h sheet c.in_ok-root.ensures.turned)) c.close.ensures.found
+    if_ok c.close.result _ _
+    (λ f h. subst (λ (x : Snapshot).
+    IsFound sheet.prices (bound_of_sheet sheet) x c.args.limits.rounds c.args.limits.most_tours f.stated.plan f.stated.cost f.stated.bound f.tree.twigs
+    f.turns f.why) c.requires.snapshot (h sheet c.in_ok-root.ensures.turned)) c.close.ensures.found
 
 pub returns-clause-why : goal.returns-clause-why
 returns-clause-why g c =
     let sheet = c.args.sheet in
-    if_ok c.end.result _ _ (λ f h. inr (subst (λ (x : Snapshot). HasLastState x c.args.limits.rounds c.args.limits.most_tours sheet f) c.requires.snapshot (h sheet (c.in_ok-begun.ensures sheet c.in_ok-root.ensures.turned)))) c.end.ensures.why
+    if_ok c.end.result _ _
+    (λ f h. inr (subst (λ (x : Snapshot). HasLastState x c.args.limits.rounds c.args.limits.most_tours sheet f) c.requires.snapshot
+    (h sheet (c.in_ok-begun.ensures sheet c.in_ok-root.ensures.turned)))) c.end.ensures.why
 
 pub returns-then-not-is_open-clause-why : goal.returns-then-not-is_open-clause-why
 returns-then-not-is_open-clause-why g c = if_ok c.close.result _ _ (λ f h. inl h) c.close.ensures.why

@@ -13,5 +13,6 @@ pub returns : goal.returns
 returns c = record {
   taken = tt;
   rows = tt;
-  refused = λ _. not_taken (app_of c.args.command) (map string_bytes c.args.words.now) _ (λ memory. c.in_default.not-OutOfMemory (c.kind.ensures ∙ memory)) c.in-Err.ensures.passes;
+  refused = λ _. not_taken (app_of c.args.command) (map string_bytes c.args.words.now) _
+      (λ memory. c.in_default.not-OutOfMemory (c.kind.ensures ∙ memory)) c.in-Err.ensures.passes;
 }

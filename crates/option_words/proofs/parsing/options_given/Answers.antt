@@ -5,10 +5,15 @@ use Rattle.option_words.proofs.ParseLemmas.{found_given, refused_given, unclear_
 use Rattle.option_words.proofs.parsing.options_given.Goals as goal
 
 pub returns-then-are_unclear-clause-refused : goal.returns-then-are_unclear-clause-refused
-returns-then-are_unclear-clause-refused c = λ _. unclear_given string_bytes c.args.words.now (app_of c.args.command) (c.are_unclear.ensures.0 c.if-are_unclear.true)
+returns-then-are_unclear-clause-refused c =
+    λ _. unclear_given string_bytes c.args.words.now (app_of c.args.command) (c.are_unclear.ensures.0 c.if-are_unclear.true)
 
 pub returns-clause-given : goal.returns-clause-given
-returns-clause-given c = found_given string_bytes c.args.words.now (app_of c.args.command) (λ m. rows_of (found_of m)) c.matches_in.result c.are_unclear.result c.if-are_unclear.false c.are_unclear.ensures.1 c.matches_in.ensures.taken c.matches_in.ensures.rows
+returns-clause-given c =
+    found_given string_bytes c.args.words.now (app_of c.args.command)
+    (λ m. rows_of (found_of m)) c.matches_in.result c.are_unclear.result c.if-are_unclear.false c.are_unclear.ensures.1 c.matches_in.ensures.taken
+    c.matches_in.ensures.rows
 
 pub returns-clause-refused : goal.returns-clause-refused
-returns-clause-refused c = refused_given string_bytes c.args.words.now (app_of c.args.command) (λ m. rows_of (found_of m)) c.matches_in.result NotTaken c.matches_in.ensures.refused
+returns-clause-refused c =
+    refused_given string_bytes c.args.words.now (app_of c.args.command) (λ m. rows_of (found_of m)) c.matches_in.result NotTaken c.matches_in.ensures.refused

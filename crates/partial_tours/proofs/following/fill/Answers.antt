@@ -38,7 +38,14 @@ returns-then-ends_next-clause-items c = λ x t.
     let next = may_be_next s car x (has c.args.allowed) in
     let calls = most_calls_few s c.snapshot-accepted.ensures.accepted in
     let floors = c.snapshot-accepted.ensures.accepted.building.floors_high in
-    c.push_reserved.ensures.items ∙ all_in next (map Board (range_with_len 0 (call_count s))) (map Leave (range_with_len 0 (floor_count s.building))) true c.clear.new.self.items c.push_boards.new.out.items c.push_leaves.new.out.items (map Board (members 128 c.boards_next.result)) (map Leave (members 64 c.leaves_next.result)) c.clear.ensures.items c.push_boards.ensures.items (moves_in next Board 128 c.boards_next.result (call_count s) calls (c.boards_next.ensures x t) (board_below s car x (has c.args.allowed))) c.push_leaves.ensures.items (moves_in next Leave 64 c.leaves_next.result (floor_count s.building) floors (c.leaves_next.ensures x t) (leave_below s car x)) (sym c.if-ends_next.true ∙ c.ends_next.ensures x t)
+    c.push_reserved.ensures.items
+    ∙ all_in next (map Board (range_with_len 0 (call_count s)))
+    (map Leave (range_with_len 0 (floor_count s.building))) true c.clear.new.self.items c.push_boards.new.out.items c.push_leaves.new.out.items
+    (map Board (members 128 c.boards_next.result)) (map Leave (members 64 c.leaves_next.result)) c.clear.ensures.items c.push_boards.ensures.items
+    (moves_in next Board 128 c.boards_next.result (call_count s) calls (c.boards_next.ensures x t) (board_below s car x (has c.args.allowed)))
+    c.push_leaves.ensures.items
+    (moves_in next Leave 64 c.leaves_next.result (floor_count s.building) floors (c.leaves_next.ensures x t) (leave_below s car x))
+    (sym c.if-ends_next.true ∙ c.ends_next.ensures x t)
 
 pub returns-else-ends_next-clause-items : goal.returns-else-ends_next-clause-items
 returns-else-ends_next-clause-items c = λ x t.
@@ -47,7 +54,14 @@ returns-else-ends_next-clause-items c = λ x t.
     let next = may_be_next s car x (has c.args.allowed) in
     let calls = most_calls_few s c.snapshot-accepted.ensures.accepted in
     let floors = c.snapshot-accepted.ensures.accepted.building.floors_high in
-    sym (no_more c.push_leaves.new.out.items) ∙ all_in next (map Board (range_with_len 0 (call_count s))) (map Leave (range_with_len 0 (floor_count s.building))) false c.clear.new.self.items c.push_boards.new.out.items c.push_leaves.new.out.items (map Board (members 128 c.boards_next.result)) (map Leave (members 64 c.leaves_next.result)) c.clear.ensures.items c.push_boards.ensures.items (moves_in next Board 128 c.boards_next.result (call_count s) calls (c.boards_next.ensures x t) (board_below s car x (has c.args.allowed))) c.push_leaves.ensures.items (moves_in next Leave 64 c.leaves_next.result (floor_count s.building) floors (c.leaves_next.ensures x t) (leave_below s car x)) (sym c.if-ends_next.false ∙ c.ends_next.ensures x t)
+    sym (no_more c.push_leaves.new.out.items)
+    ∙ all_in next (map Board (range_with_len 0 (call_count s)))
+    (map Leave (range_with_len 0 (floor_count s.building))) false c.clear.new.self.items c.push_boards.new.out.items c.push_leaves.new.out.items
+    (map Board (members 128 c.boards_next.result)) (map Leave (members 64 c.leaves_next.result)) c.clear.ensures.items c.push_boards.ensures.items
+    (moves_in next Board 128 c.boards_next.result (call_count s) calls (c.boards_next.ensures x t) (board_below s car x (has c.args.allowed)))
+    c.push_leaves.ensures.items
+    (moves_in next Leave 64 c.leaves_next.result (floor_count s.building) floors (c.leaves_next.ensures x t) (leave_below s car x))
+    (sym c.if-ends_next.false ∙ c.ends_next.ensures x t)
   where
     no_more : (xs : List Move) → xs ++ [] ≡ xs
     no_more [] = refl

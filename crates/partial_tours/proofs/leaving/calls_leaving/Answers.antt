@@ -41,8 +41,11 @@ overflow_add-leaving c =
 pub overflow_add-leaving-in-loop-j : goal.overflow_add-leaving-in-loop-j
 overflow_add-leaving-in-loop-j c =
     let s = c.args.snapshot.now in
-    let step = sum_step (λ j. cost_of_call s j (get_or c.args.moments.now j 0) c.args.opened) c.loop-j.leaving.cost _ c.in-Some.j _ _ c.loop-j.invariant.cost c.in-Some.ensures.steps in
-    let small = calls_cost_small s c.args.calls (λ j. cost_of_call s j (get_or c.args.moments.now j 0) c.args.opened) c.calls-all.ensures.accepted (λ j lt. call_small s j (get_or c.args.moments.now j 0) c.args.opened c.calls-all.ensures.accepted lt (c.requires.low j) c.requires.early) in
+    let step = sum_step
+    (λ j. cost_of_call s j (get_or c.args.moments.now j 0) c.args.opened) c.loop-j.leaving.cost _ c.in-Some.j _ _ c.loop-j.invariant.cost
+    c.in-Some.ensures.steps in
+    let small = calls_cost_small s c.args.calls (λ j. cost_of_call s j (get_or c.args.moments.now j 0) c.args.opened) c.calls-all.ensures.accepted
+    (λ j lt. call_small s j (get_or c.args.moments.now j 0) c.args.opened c.calls-all.ensures.accepted lt (c.requires.low j) c.requires.early) in
     let cost = c.cost_of_call.ensures.bounded in
     let so_far = c.loop-j.invariant.cost in
     omega (arith, small, cost, so_far)
@@ -56,6 +59,7 @@ returns-clause-few c =
 pub returns-clause-small : goal.returns-clause-small
 returns-clause-small c =
     let s = c.args.snapshot.now in
-    let small = calls_cost_small s c.args.calls (λ j. cost_of_call s j (get_or c.args.moments.now j 0) c.args.opened) c.calls-all.ensures.accepted (λ j lt. call_small s j (get_or c.args.moments.now j 0) c.args.opened c.calls-all.ensures.accepted lt (c.requires.low j) c.requires.early) in
+    let small = calls_cost_small s c.args.calls (λ j. cost_of_call s j (get_or c.args.moments.now j 0) c.args.opened) c.calls-all.ensures.accepted
+    (λ j lt. call_small s j (get_or c.args.moments.now j 0) c.args.opened c.calls-all.ensures.accepted lt (c.requires.low j) c.requires.early) in
     let so_far = c.loop-j.invariant.cost in
     omega (arith, small, so_far)

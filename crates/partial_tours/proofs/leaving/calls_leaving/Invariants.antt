@@ -9,6 +9,8 @@ use Rattle.partial_tours.proofs.leaving.calls_leaving.Given as goal
 abbrev pub invariant-loop-j : goal.invariant-loop-j
 invariant-loop-j l = record {
   below : AreBelow (call_count l.snapshot) (members 128 l.j-iterator.left);
-  persons : l.leaving.persons + sum_by (λ j. (call_of l.snapshot j).persons) (members 128 l.j-iterator.left) ≡ sum_where (call_count l.snapshot) (has l.fn.calls) (λ j. (call_of l.snapshot j).persons);
-  cost : l.leaving.cost + sum_by (λ j. cost_of_call l.snapshot j (get_or l.moments j 0) l.opened) (members 128 l.j-iterator.left) ≡ sum_where (call_count l.snapshot) (has l.fn.calls) (λ j. cost_of_call l.snapshot j (get_or l.moments j 0) l.opened);
+  persons : l.leaving.persons + sum_by (λ j. (call_of l.snapshot j).persons) (members 128 l.j-iterator.left)
+      ≡ sum_where (call_count l.snapshot) (has l.fn.calls) (λ j. (call_of l.snapshot j).persons);
+  cost : l.leaving.cost + sum_by (λ j. cost_of_call l.snapshot j (get_or l.moments j 0) l.opened) (members 128 l.j-iterator.left)
+      ≡ sum_where (call_count l.snapshot) (has l.fn.calls) (λ j. cost_of_call l.snapshot j (get_or l.moments j 0) l.opened);
 }

@@ -14,9 +14,11 @@ calls_leaving-calls-requires-clause-within c = λ j h.
     let s = c.args.layout.now.snapshot in
     let off = sym (c.intersection-off.ensures j) ∙ h in
     let ends = and_parts (has c.args.place.now.carried j) (has c.ending.result j) off in
-    subst (λ (t : Snapshot). j < call_count t) (sym c.snapshot.ensures.value) (ltb-true j (call_count s) (and_parts (ltb j (call_count s)) _ (sym (c.ending.ensures j) ∙ ends.1)).0)
+    subst (λ (t : Snapshot). j < call_count t) (sym c.snapshot.ensures.value)
+    (ltb-true j (call_count s) (and_parts (ltb j (call_count s)) _ (sym (c.ending.ensures j) ∙ ends.1)).0)
 
-ends_here : (s : Snapshot) (g ending j : ℕ) → has ending j ≡ (ltb j (call_count s) && ((call_of s j).destination == g)) → j < call_count s → has ending j ≡ eqb (call_of s j).destination g
+ends_here : (s : Snapshot) (g ending j : ℕ) → has ending j ≡ (ltb j (call_count s) && ((call_of s j).destination == g)) → j < call_count s
+    → has ending j ≡ eqb (call_of s j).destination g
 ends_here s g ending j e lt = e ∙ ap (λ (b : Bool). b && ((call_of s j).destination == g)) (lt-ltb j (call_count s) lt)
 
 pub returns-clause-persons : goal.returns-clause-persons
@@ -24,8 +26,11 @@ returns-clause-persons c = λ p t.
     let s = c.args.layout.now.snapshot in
     let place = c.args.place.now in
     let off = c.intersection-off.result in
-    let calls = c.calls_leaving-calls.ensures.persons ∙ ap (λ (u : Snapshot). sum_where (call_count u) (has off) (λ j. (call_of u j).persons)) c.snapshot.ensures.value in
-    let all = persons_off s c.args.layout.now.car p c.args.floor place.carried place.visited off (riders_carried s c.args.layout.now.car place p t) (AreOff-both s c.args.floor place.carried c.ending.result off c.intersection-off.ensures (λ j lt. ends_here s c.args.floor c.ending.result j (c.ending.ensures j) lt)) in
+    let calls = c.calls_leaving-calls.ensures.persons
+    ∙ ap (λ (u : Snapshot). sum_where (call_count u) (has off) (λ j. (call_of u j).persons)) c.snapshot.ensures.value in
+    let all = persons_off s c.args.layout.now.car p c.args.floor place.carried place.visited off (riders_carried s c.args.layout.now.car place p t)
+    (AreOff-both s c.args.floor place.carried c.ending.result off c.intersection-off.ensures
+    (λ j lt. ends_here s c.args.floor c.ending.result j (c.ending.ensures j) lt)) in
     let groups = c.groups_leaving-groups.ensures.persons in
     omega (arith, calls, all, groups)
 
@@ -36,8 +41,13 @@ returns-clause-cost c = λ p t kept boarded.
     let place = c.args.place.now in
     let off = c.intersection-off.result in
     let cost = λ (j : ℕ). cost_of_call s j (get_or c.args.moments.now j 0) c.args.opened in
-    let calls = c.calls_leaving-calls.ensures.cost ∙ ap (λ (u : Snapshot). sum_where (call_count u) (has off) (λ j. cost_of_call u j (get_or c.args.moments.now j 0) c.args.opened)) c.snapshot.ensures.value in
-    let same = sum_where-same (call_count s) (has off) (is_call_off s place.carried c.args.floor) cost cost (λ j lt. c.intersection-off.ensures j ∙ ap (λ (b : Bool). has place.carried j && b) (ends_here s c.args.floor c.ending.result j (c.ending.ensures j) lt)) (λ j lt h. refl) in
-    let all = leaving_cost-parts s car p c.args.floor c.args.opened place.carried place.visited c.args.moments.now (riders_carried s car place p t) kept boarded in
+    let calls = c.calls_leaving-calls.ensures.cost
+    ∙ ap (λ (u : Snapshot). sum_where (call_count u) (has off) (λ j. cost_of_call u j (get_or c.args.moments.now j 0) c.args.opened))
+    c.snapshot.ensures.value in
+    let same = sum_where-same (call_count s) (has off) (is_call_off s place.carried c.args.floor) cost cost
+    (λ j lt. c.intersection-off.ensures j
+    ∙ ap (λ (b : Bool). has place.carried j && b) (ends_here s c.args.floor c.ending.result j (c.ending.ensures j) lt)) (λ j lt h. refl) in
+    let all = leaving_cost-parts s car p c.args.floor c.args.opened place.carried place.visited c.args.moments.now
+    (riders_carried s car place p t) kept boarded in
     let groups = c.groups_leaving-groups.ensures.cost in
     omega (arith, calls, same, all, groups)

@@ -10,4 +10,6 @@ returns-in_ok-push-in-Board-2 c =
     let boards = c.in_ok-push-in-Board.ensures.ok in
     let front = c.pop.new.self.items in
     let stop = c.in-Some.stop in
-    c.in_ok-push-in-Board-2.ensures.items ∙ ap (λ (b : List ℕ). front ++ record { floor = stop.floor; boards = b } ∷ []) boards ∙ sym (with_board_made-push front stop c.in-Board.call) ∙ ap (λ (xs : List Stop). with_board_made xs c.in-Board.call) (sym old) ∙ ap (with_move_made c.args.stops.now.items) (sym c.in-Board.is)
+    c.in_ok-push-in-Board-2.ensures.items ∙ ap (λ (b : List ℕ). front ++ record { floor = stop.floor; boards = b } ∷ []) boards
+    ∙ sym (with_board_made-push front stop c.in-Board.call) ∙ ap (λ (xs : List Stop). with_board_made xs c.in-Board.call) (sym old)
+    ∙ ap (with_move_made c.args.stops.now.items) (sym c.in-Board.is)

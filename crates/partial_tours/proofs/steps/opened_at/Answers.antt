@@ -7,6 +7,8 @@ pub returns-clause-value : goal.returns-clause-value
 returns-clause-value c = λ p t leaves.
     let s = c.snapshot-snapshot.result.now in
     let car = c.args.layout.now.car in
-    let arrives = c.arrival.ensures.value p t.begun t.floor leaves ∙ ap (λ (n : ℕ). arrival s n p c.args.floor) c.car-car.ensures.value ∙ ap (λ (u : Snapshot). arrival u car p c.args.floor) c.snapshot-snapshot.ensures.value in
-    let opening = c.opening_of.ensures.value ∙ ap (λ (n : ℕ). (spec_of s n).opening) c.car-car.ensures.value ∙ ap (λ (u : Snapshot). (spec_of u car).opening) c.snapshot-snapshot.ensures.value in
+    let arrives = c.arrival.ensures.value p t.begun t.floor leaves ∙ ap (λ (n : ℕ). arrival s n p c.args.floor) c.car-car.ensures.value
+    ∙ ap (λ (u : Snapshot). arrival u car p c.args.floor) c.snapshot-snapshot.ensures.value in
+    let opening = c.opening_of.ensures.value ∙ ap (λ (n : ℕ). (spec_of s n).opening) c.car-car.ensures.value
+    ∙ ap (λ (u : Snapshot). (spec_of u car).opening) c.snapshot-snapshot.ensures.value in
     omega (arith, arrives, opening)

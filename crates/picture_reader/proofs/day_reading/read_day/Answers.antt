@@ -13,8 +13,10 @@ returns-in-Ok-clause-day g c =
     let before = text left c.args.lines.now in
     let mid = text left c.read_rows.new.lines in
     let rows = c.in-Ok.rows.items in
-    day_answered c.args.opening.now rows before mid c.read_whole_log.result (subst (λ (b : Building). AreRowsGiven b rows before mid) c.building.ensures.value c.in-Ok.ensures.rows)
-    (subst (λ (taken : List (Option GoodRow)). IsLogAnswered c.args.opening.now taken mid c.read_whole_log.result) c.as_slice.ensures.value c.read_whole_log.ensures.log)
+    day_answered c.args.opening.now rows before mid c.read_whole_log.result
+    (subst (λ (b : Building). AreRowsGiven b rows before mid) c.building.ensures.value c.in-Ok.ensures.rows)
+    (subst (λ (taken : List (Option GoodRow)). IsLogAnswered c.args.opening.now taken mid c.read_whole_log.result) c.as_slice.ensures.value
+    c.read_whole_log.ensures.log)
 
 pub returns-in-Err-clause-day : goal.returns-in-Err-clause-day
 returns-in-Err-clause-day g c = rows_refused c.args.opening.now (text g.S.Source.left c.args.lines.now) c.in-Err.fault c.in-Err.ensures.told

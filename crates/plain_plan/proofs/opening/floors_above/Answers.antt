@@ -15,4 +15,5 @@ loop-other-preserved c =
     let other = c.loop-other.other in
     let same = ap length c.heights.ensures.value ∙ ap (λ (b : Building). length b.heights) c.building.ensures.value in
     let below = c.loop-other-test.true in
-    ap (λ (l : List ℕ). l ++ rising test (other + 1) (top - (other + 1))) c.in_ok-add_destination.ensures ∙ rising_step test other top c.loop-other.floors.items (omega (arith, same, below)) ∙ c.loop-other.invariant
+    ap (λ (l : List ℕ). l ++ rising test (other + 1) (top - (other + 1))) c.in_ok-add_destination.ensures
+    ∙ rising_step test other top c.loop-other.floors.items (omega (arith, same, below)) ∙ c.loop-other.invariant

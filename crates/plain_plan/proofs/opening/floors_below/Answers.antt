@@ -7,4 +7,5 @@ pub loop-other-preserved : goal.loop-other-preserved
 loop-other-preserved c =
     let test = is_destination c.args.snapshot.now c.args.car in
     let other = c.loop-other.other in
-    ap (λ (l : List ℕ). l ++ falling test (other - 1)) c.in_ok-add_destination.ensures ∙ falling_step test other c.loop-other.floors.items c.loop-other-test.true ∙ c.loop-other.invariant
+    ap (λ (l : List ℕ). l ++ falling test (other - 1)) c.in_ok-add_destination.ensures
+    ∙ falling_step test other c.loop-other.floors.items c.loop-other-test.true ∙ c.loop-other.invariant

@@ -13,14 +13,20 @@ loop-floor-preserved c =
     let test = is_open s.building c.args.car s.moment (Moving c.args.from c.args.up c.args.left) in
     let n = c.loop-floor.floor in
     let state = Moving c.args.from c.args.up c.args.left in
-    let tested = c.is_open.ensures ∙ ap (λ (b : Building). is_open b c.args.car c.now.result state n) c.building-in-loop-floor.ensures.value ∙ ap (λ (t : ℕ). is_open s.building c.args.car t state n) c.now.ensures.value in
+    let tested = c.is_open.ensures ∙ ap (λ (b : Building). is_open b c.args.car c.now.result state n) c.building-in-loop-floor.ensures.value
+    ∙ ap (λ (t : ℕ). is_open s.building c.args.car t state n) c.now.ensures.value in
     elim c.if-is_open.branch [
-      | then-is_open w ↦ subst (IsFound test (n + 1)) (ap (λ (k : ℕ). Some k) (sym w.nearer.ensures) ∙ sym w.nearest-is) (found_nearer test c.args.up n c.loop-floor.nearest c.loop-floor.invariant (sym tested ∙ w.if-is_open.true))
-      | else-is_open w ↦ subst (IsFound test (n + 1)) (sym w.nearest-is) (found_before test n c.loop-floor.nearest c.loop-floor.invariant (sym tested ∙ w.if-is_open.false))
+      | then-is_open w ↦
+          subst (IsFound test (n + 1)) (ap (λ (k : ℕ). Some k) (sym w.nearer.ensures) ∙ sym w.nearest-is)
+          (found_nearer test c.args.up n c.loop-floor.nearest c.loop-floor.invariant (sym tested ∙ w.if-is_open.true))
+      | else-is_open w ↦
+          subst (IsFound test (n + 1)) (sym w.nearest-is) (found_before test n c.loop-floor.nearest c.loop-floor.invariant (sym tested ∙ w.if-is_open.false))
     ]
 
 pub unreachable-requires : goal.unreachable-requires
 unreachable-requires c =
     let s = c.args.snapshot.now in
     let counted : c.loop-floor.floor ≡ length c.heights.result.now = omega arith in
-    found_none (is_open s.building c.args.car s.moment (Moving c.args.from c.args.up c.args.left)) c.loop-floor.floor (floor_count s.building) c.loop-floor.nearest c.loop-floor.invariant c.in-None.is (counted ∙ ap length c.heights.ensures.value ∙ ap (λ (b : Building). length b.heights) c.building.ensures.value) c.requires.some
+    found_none (is_open s.building c.args.car s.moment (Moving c.args.from c.args.up c.args.left)) c.loop-floor.floor
+    (floor_count s.building) c.loop-floor.nearest c.loop-floor.invariant c.in-None.is
+    (counted ∙ ap length c.heights.ensures.value ∙ ap (λ (b : Building). length b.heights) c.building.ensures.value) c.requires.some

@@ -30,6 +30,15 @@ returns-after-is_empty c =
     let floors = c.in_ok-floors-in-Moving.floors in
     let count : length floors.items ≡ vec_len floors = omega (arith, floors.ok.0) in
     elim c.if-is_empty.branch [
-      | then-is_empty+in_ok-push-in-Moving w ↦ (let o = w.nearest_open.result in let none = eqb-true (vec_len floors) 0 (sym c.is_empty.ensures ∙ w.if-is_empty.true) in let items = ap (λ (v : Vec ℕ Global). v.items) w.floors-is ∙ w.in_ok-push-in-Moving.ensures.items ∙ else_added floors.items (floors_aboard s car from) o c.in_ok-floors-in-Moving.ensures (count ∙ none) in subst (IsOpening s car) (sym items) (opens_moving s car from c.in-Moving.up c.in-Moving.left o ok c.requires state w.nearest_open.ensures))
-      | else-is_empty w ↦ (let some = eqb-false (vec_len floors) 0 (sym c.is_empty.ensures ∙ w.if-is_empty.false) in let found = open_somewhere s car from c.in-Moving.up c.in-Moving.left ok c.requires state in let items = ap (λ (v : Vec ℕ Global). v.items) w.floors-is ∙ else_kept floors.items (floors_aboard s car from) (found.0 ∷ []) c.in_ok-floors-in-Moving.ensures (λ none. some (sym count ∙ none)) in subst (IsOpening s car) (sym items) (opens_moving s car from c.in-Moving.up c.in-Moving.left found.0 ok c.requires state found.1))
+      | then-is_empty+in_ok-push-in-Moving w ↦
+          (let o = w.nearest_open.result in let none = eqb-true (vec_len floors) 0 (sym c.is_empty.ensures ∙ w.if-is_empty.true) in
+          let items = ap (λ (v : Vec ℕ Global). v.items) w.floors-is ∙ w.in_ok-push-in-Moving.ensures.items
+          ∙ else_added floors.items (floors_aboard s car from) o c.in_ok-floors-in-Moving.ensures (count ∙ none) in
+          subst (IsOpening s car) (sym items) (opens_moving s car from c.in-Moving.up c.in-Moving.left o ok c.requires state w.nearest_open.ensures))
+      | else-is_empty w ↦
+          (let some = eqb-false (vec_len floors) 0 (sym c.is_empty.ensures ∙ w.if-is_empty.false) in
+          let found = open_somewhere s car from c.in-Moving.up c.in-Moving.left ok c.requires state in
+          let items = ap (λ (v : Vec ℕ Global). v.items) w.floors-is
+          ∙ else_kept floors.items (floors_aboard s car from) (found.0 ∷ []) c.in_ok-floors-in-Moving.ensures (λ none. some (sym count ∙ none)) in
+          subst (IsOpening s car) (sym items) (opens_moving s car from c.in-Moving.up c.in-Moving.left found.0 ok c.requires state found.1))
     ]

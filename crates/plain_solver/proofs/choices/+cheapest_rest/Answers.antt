@@ -30,7 +30,8 @@ loop-place-preserved t c =
     let long = c.in-Some.ensures.cases.1 in
     let within : place < length tours = omega (arith, c.loop-place-test.true, c.len-place-end.ensures) in
     let counted = are.counted in
-    let next : c.index-next.result.now ≡ sums_at sums place = get_or_read sums place c.index-next.result.now (omega (arith, within, counted)) c.index-next.ensures no_sums in
+    let next : c.index-next.result.now ≡ sums_at sums place =
+    get_or_read sums place c.index-next.result.now (omega (arith, within, counted)) c.index-next.ensures no_sums in
     let iv = c.loop-place.invariant in
     elim c.if-are_apart.branch [
       | then-are_apart+in_ok-rest+in_ok-best w ↦ (
@@ -38,8 +39,10 @@ loop-place-preserved t c =
           let cost = c.index-next.result.now.cost in
           let rest = w.in_ok-rest.rest in
           let at : tour ≡ tour_at tours place = get_or_read tours place tour within w.index.ensures [] in
-          let apart = λ (j : ℕ) (below : j < 128) (h : has (sums_at sums place).calls j ≡ true). c.are_apart.ensures.0 w.if-are_apart.true j below (ap (λ x. has x.calls j) next ∙ h) in
-          let free = subst (λ (u : List Stop). (j : ℕ) → is_boarded_in u j ≡ true → taken j ≡ false) (sym at) (choice_free s car tours sums place taken are within apart) in
+          let apart = λ (j : ℕ) (below : j < 128) (h : has (sums_at sums place).calls j ≡ true).
+          c.are_apart.ensures.0 w.if-are_apart.true j below (ap (λ x. has x.calls j) next ∙ h) in
+          let free = subst (λ (u : List Stop). (j : ℕ) → is_boarded_in u j ≡ true → taken j ≡ false) (sym at)
+          (choice_free s car tours sums place taken are within apart) in
           let feasible = subst (IsFeasible s car) (sym at) (are.all.feasible place within) in
           let costs : cost ≡ cost_of s car tour = ap (λ x. x.cost) next ∙ are.cost place within ∙ ap (cost_of s car) (sym at) in
           let joined = λ (j : ℕ). w.union-with_next.ensures j ∙ ap (λ x. has c.args.taken j || has x.calls j) next in
@@ -47,14 +50,18 @@ loop-place-preserved t c =
           let cheapest = subst (λ (held : ℕ → Bool). IsCheapest s held (car + 1) rest) set w.in_ok-rest.ensures.cheapest in
           let up = taken_up s taken car tours place tour cost best rest at feasible free costs iv.cheapest cheapest in
           let low = subst (λ (n : ℕ). n ≤ 1000000000000000000) (ap (λ x. x.cost) (sym next)) (are.small place within) in
-          let less = better_small (length c.in-Some.later.now) best tour cost rest (subst (λ (n : ℕ). IsSmallCost n best) (sym long) iv.small) low w.in_ok-rest.ensures.small in
+          let less = better_small (length c.in-Some.later.now) best tour cost rest
+          (subst (λ (n : ℕ). IsSmallCost n best) (sym long) iv.small) low w.in_ok-rest.ensures.small in
           let is = w.best-is ∙ w.in_ok-best.ensures in
           record {
             cheapest = subst (IsCheapestOf s taken car tours (place + 1)) (sym is) up;
             small = subst (IsSmallCost (length c.args.choices.now)) (sym is) (subst (λ (n : ℕ). IsSmallCost n (better_of best tour cost rest)) long less);
           })
       | else-are_apart w ↦ (
-          let out = skipped s taken car tours place best iv.cheapest (λ rest done. both_ways c.are_apart.result w.if-are_apart.false (c.are_apart.ensures.1 (λ j below h. choice_apart s car tours sums place taken are within done.1 j below (ap (λ x. has x.calls j) (sym next) ∙ h)))) in
+          let out = skipped s taken car tours place best iv.cheapest
+          (λ rest done. both_ways c.are_apart.result w.if-are_apart.false
+          (c.are_apart.ensures.1 (λ j below h.
+          choice_apart s car tours sums place taken are within done.1 j below (ap (λ x. has x.calls j) (sym next) ∙ h)))) in
           record {
             cheapest = subst (IsCheapestOf s taken car tours (place + 1)) (sym w.best-is) out;
             small = subst (IsSmallCost (length c.args.choices.now)) (sym w.best-is) iv.small;
@@ -68,4 +75,5 @@ returns-clause-cheapest t c =
     let tours = c.in-Some.first.now.tours.items in
     let from = subst (AreChoicesFrom s car) c.in-Some.ensures.cases.0 c.requires.choices in
     let all : c.loop-place.place ≡ length tours = omega (arith, c.loop-place-test.false, c.len-place-end.ensures, c.loop-place.auto.place-end) in
-    all_tried s (has c.args.taken) car tours c.loop-place.best from.0 from.1.all (subst (λ (n : ℕ). IsCheapestOf s (has c.args.taken) car tours n c.loop-place.best) all c.loop-place.invariant.cheapest)
+    all_tried s (has c.args.taken) car tours c.loop-place.best from.0 from.1.all
+    (subst (λ (n : ℕ). IsCheapestOf s (has c.args.taken) car tours n c.loop-place.best) all c.loop-place.invariant.cheapest)

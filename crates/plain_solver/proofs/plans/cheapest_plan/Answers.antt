@@ -13,13 +13,16 @@ pub unreachable-requires : goal.unreachable-requires
 unreachable-requires c =
     let s = c.args.snapshot.now in
     let plan = plan_exists s c.in_ok-choices.ensures.accepted in
-    let cheapest = subst (λ (o : Option Chosen). IsCheapest s none_taken 0 o) c.in_default.is (subst (λ (held : ℕ → Bool). IsCheapest s held 0 c.in_ok-cheapest.cheapest) (ap has c.empty.ensures ∙ none_is_empty) c.in_ok-cheapest.ensures.cheapest) in
+    let cheapest = subst (λ (o : Option Chosen). IsCheapest s none_taken 0 o) c.in_default.is
+    (subst (λ (held : ℕ → Bool). IsCheapest s held 0 c.in_ok-cheapest.cheapest)
+    (ap has c.empty.ensures ∙ none_is_empty) c.in_ok-cheapest.ensures.cheapest) in
     cheapest plan.0 (complete_where_plan s plan.0 plan.1)
 
 least : (c : goal.After-drop-choices-2) → IsLeast c.args.snapshot.now none_taken 0 c.in-Some.cheapest
 least c =
     let s = c.args.snapshot.now in
-    subst (λ (o : Option Chosen). IsCheapest s none_taken 0 o) c.in-Some.is (subst (λ (held : ℕ → Bool). IsCheapest s held 0 c.in_ok-cheapest.cheapest) (ap has c.empty.ensures ∙ none_is_empty) c.in_ok-cheapest.ensures.cheapest)
+    subst (λ (o : Option Chosen). IsCheapest s none_taken 0 o) c.in-Some.is
+    (subst (λ (held : ℕ → Bool). IsCheapest s held 0 c.in_ok-cheapest.cheapest) (ap has c.empty.ensures ∙ none_is_empty) c.in_ok-cheapest.ensures.cheapest)
 
 pub returns-clause-optimal : goal.returns-clause-optimal
 returns-clause-optimal c =

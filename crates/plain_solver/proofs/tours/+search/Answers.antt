@@ -13,7 +13,8 @@ pub add_tours-loop-next-init : goal.add_tours-loop-next-init
 add_tours-loop-next-init t c =
     let p = c.args.prefix.now in
     let led = c.has_ended.ensures in
-    let are = c.first_move-next.ensures.value led.0 led.1 ∙ ap (λ (set : ℕ). first_of (lawful_moves p.snapshot p.car led.0 (has set))) c.from_bits-allowed.ensures in
+    let are = c.first_move-next.ensures.value led.0 led.1
+    ∙ ap (λ (set : ℕ). first_of (lawful_moves p.snapshot p.car led.0 (has set))) c.from_bits-allowed.ensures in
     record { same = refl; walks = walks_first p led.0 c.first_move-next.result c.args.found.now.items led.1 are }
 
 pub add_tours-add_tours_after-requires : goal.add_tours-add_tours_after-requires
@@ -29,9 +30,12 @@ add_tours-add_tours_after-requires t c =
     (omega (arith, here), (few, subst (λ (q : PartialTour). IsLawful q.snapshot q.car (q.moves ++ step ∷ [])) (sym same) lawful))
 
 -- the next move, told of the partial tour at which the loop began
-next_is : (p q : PartialTour) (x : Course) (m : Move) (next : Option Move) (set : ℕ) → q ≡ p → course p ≡ Some x → ((y : Course) → course q ≡ Some y → next ≡ next_after m (lawful_moves q.snapshot q.car y (has set))) → set ≡ 2 ^ 128 - 1 → next ≡ next_after m (lawful_moves p.snapshot p.car x (has (2 ^ 128 - 1)))
+next_is : (p q : PartialTour) (x : Course) (m : Move) (next : Option Move) (set : ℕ) → q ≡ p → course p ≡ Some x
+    → ((y : Course) → course q ≡ Some y → next ≡ next_after m (lawful_moves q.snapshot q.car y (has set))) → set ≡ 2 ^ 128 - 1
+    → next ≡ next_after m (lawful_moves p.snapshot p.car x (has (2 ^ 128 - 1)))
 next_is p q x m next set back leads value all =
-    value x (ap course back ∙ leads) ∙ ap (λ (r : PartialTour). next_after m (lawful_moves r.snapshot r.car x (has set))) back ∙ ap (λ (n : ℕ). next_after m (lawful_moves p.snapshot p.car x (has n))) all
+    value x (ap course back ∙ leads) ∙ ap (λ (r : PartialTour). next_after m (lawful_moves r.snapshot r.car x (has set))) back
+    ∙ ap (λ (n : ℕ). next_after m (lawful_moves p.snapshot p.car x (has n))) all
 
 pub add_tours-loop-next-smaller : goal.add_tours-loop-next-smaller
 add_tours-loop-next-smaller t c =
@@ -43,8 +47,10 @@ add_tours-loop-next-smaller t c =
     let back = more.prefix ∙ same in
     let walks = subst (λ (o : Option Move). Walks p o c.args.found.now.items c.loop-next.found.items) c.in-Some.is c.loop-next.invariant.walks in
     let added = subst (λ (q : PartialTour). AddsTours (with_move q step) c.loop-next.found.items c.add_tours_after.new.found.items) same more.found in
-    let are = next_is p c.add_tours_after.new.prefix led.0 step c.move_after-next.result c.from_bits-allowed.result back led.1 c.move_after-next.ensures.value c.from_bits-allowed.ensures in
-    let falls = (walks_on p led.0 step c.move_after-next.result c.args.found.now.items c.loop-next.found.items c.add_tours_after.new.found.items led.1 walks added are).1 in
+    let are = next_is p c.add_tours_after.new.prefix led.0 step c.move_after-next.result c.from_bits-allowed.result back led.1 c.move_after-next.ensures.value
+    c.from_bits-allowed.ensures in
+    let falls = (walks_on p led.0 step c.move_after-next.result c.args.found.now.items c.loop-next.found.items c.add_tours_after.new.found.items led.1 walks
+    added are).1 in
     let here = ap (λ (o : Option Move). from_next o (followers p)) c.in-Some.is in
     omega (arith, falls, here)
 
@@ -58,10 +64,12 @@ add_tours-loop-next-preserved t c =
     let back = more.prefix ∙ same in
     let walks = subst (λ (o : Option Move). Walks p o c.args.found.now.items c.loop-next.found.items) c.in-Some.is c.loop-next.invariant.walks in
     let added = subst (λ (q : PartialTour). AddsTours (with_move q step) c.loop-next.found.items c.add_tours_after.new.found.items) same more.found in
-    let are = next_is p c.add_tours_after.new.prefix led.0 step c.move_after-next.result c.from_bits-allowed.result back led.1 c.move_after-next.ensures.value c.from_bits-allowed.ensures in
+    let are = next_is p c.add_tours_after.new.prefix led.0 step c.move_after-next.result c.from_bits-allowed.result back led.1 c.move_after-next.ensures.value
+    c.from_bits-allowed.ensures in
     record {
       same = back;
-      walks = (walks_on p led.0 step c.move_after-next.result c.args.found.now.items c.loop-next.found.items c.add_tours_after.new.found.items led.1 walks added are).0;
+      walks = (walks_on p led.0 step c.move_after-next.result c.args.found.now.items c.loop-next.found.items c.add_tours_after.new.found.items led.1 walks
+          added are).0;
     }
 
 no_move : (o : Option Move) → ((m : Move) → o ≡ Some m → ⊥) → o ≡ None

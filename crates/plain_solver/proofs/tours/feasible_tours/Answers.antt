@@ -12,4 +12,5 @@ add_tours-requires c =
 
 pub returns : goal.returns
 returns c =
-    all_tours c.in_ok-prefix.prefix c.args.snapshot.now c.args.car c.new-found.result.items c.add_tours.new.found.items c.in_ok-prefix.ensures c.new-found.ensures.items c.in_ok-add_tours.ensures.found
+    all_tours c.in_ok-prefix.prefix c.args.snapshot.now c.args.car c.new-found.result.items c.add_tours.new.found.items c.in_ok-prefix.ensures
+    c.new-found.ensures.items c.in_ok-add_tours.ensures.found

@@ -16,7 +16,8 @@ loop-call-preserved c =
     let step = to_z w128 (of_z w128 c.args.step) in
     let change : ℕ → ℤ = λ (j : ℕ). step *ℤ (pos 1 -ℤ pos (slice_index c.args.counts.now j)) in
     let within : n < length prices = omega (arith, c.loop-call-test.true, c.loop-call.auto.prices) in
-    let price : c.index-prices-call.result ≡ price_at old n = get_or_read prices n c.index-prices-call.result within c.index-prices-call.is (pos 0) ∙ iv.others n (omega arith) in
+    let price : c.index-prices-call.result ≡ price_at old n = get_or_read prices n c.index-prices-call.result within c.index-prices-call.is (pos 0)
+    ∙ iv.others n (omega arith) in
     record {
       moved = moved_more prices old change n c.moved.result within iv.moved (c.moved.ensures ∙ ap (λ (z : ℤ). cut (z +ℤ change n)) price);
       others = λ j le. get_or-set_other prices n j c.moved.result (pos 0) (λ same. absurd (omega (arith, same, le))) ∙ iv.others j (omega (arith, le));

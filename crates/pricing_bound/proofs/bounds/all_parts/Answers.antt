@@ -18,6 +18,7 @@ returns-clause-value c = λ x e.
     let settled = c.settled.ensures.value x e in
     let groups = c.groups_part.ensures.sum x e in
     let count = c.requires.prices ∙ ap call_count c.requires.same in
-    let calls = c.calls_part.ensures.sum x e ∙ ap (λ (n : ℕ). int_sum_below n (call_part t.snapshot price (has c.args.allowed) (has c.args.required) p)) count in
+    let calls = c.calls_part.ensures.sum x e
+    ∙ ap (λ (n : ℕ). int_sum_below n (call_part t.snapshot price (has c.args.allowed) (has c.args.required) p)) count in
     let whole = parts_together t.snapshot t.car price (has c.args.allowed) (has c.args.required) p in
     omega (arith, ints, settled, groups, calls, whole)

@@ -12,7 +12,9 @@ use Rattle.pricing_bound.proofs.bounds.calls_part.Given as goal
 
 abbrev pub invariant-loop-call : goal.invariant-loop-call
 invariant-loop-call l = record {
-  sum : (x : Course) → course l.prefix ≡ Some x → l.sum ≡ int_sum_below l.call (call_part l.prefix.snapshot (price_at l.prices) (has l.allowed) (has l.required) (reached l.prefix.snapshot l.prefix.car x));
+  sum : (x : Course) → course l.prefix ≡ Some x
+      → l.sum ≡ int_sum_below l.call
+      (call_part l.prefix.snapshot (price_at l.prices) (has l.allowed) (has l.required) (reached l.prefix.snapshot l.prefix.car x));
   low : neg_ℤ (pos (2 * 10 ^ 24 * l.call)) ≤ℤ l.sum;
   high : l.sum ≤ℤ pos (2 * 10 ^ 24 * l.call);
 }

@@ -16,7 +16,8 @@ loop-group-preserved c =
     let t = c.args.prefix.now in
     let group = c.loop-group.group in
     record {
-      sum = λ x e. let here = c.group_part-sum.ensures.part x e in let more = int_sum-more group (group_part t.snapshot (reached t.snapshot t.car x)) in let so_far = c.loop-group.invariant.sum x e in omega (arith, ints, so_far, here, more);
+      sum = λ x e. let here = c.group_part-sum.ensures.part x e in let more = int_sum-more group (group_part t.snapshot (reached t.snapshot t.car x)) in
+          let so_far = c.loop-group.invariant.sum x e in omega (arith, ints, so_far, here, more);
       low = omega (arith, ints);
       high = omega (arith, ints);
     }

@@ -30,7 +30,12 @@ returns-clause-cost c = λ x e.
     let t = c.args.prefix.now in
     let p = standing_at (reached t.snapshot t.car x) c.args.floor c.args.opened in
     let j = c.args.call in
-    c.cost_from.ensures.value ∙ ap (λ (m : ℕ). cost_of_rider c.args.rates.now.snapshot j m (c.args.opened + time_between c.args.rates.now.snapshot.building.travel c.args.floor (destination_of c.args.rates.now.snapshot j))) (c.boarded_at.ensures.value x e) ∙ ap (λ (s : Snapshot). cost_of_rider s j (p.boarded_at j) (c.args.opened + time_between s.building.travel c.args.floor (destination_of s j))) c.requires.same
+    c.cost_from.ensures.value
+    ∙ ap (λ (m : ℕ). cost_of_rider c.args.rates.now.snapshot j m
+    (c.args.opened + time_between c.args.rates.now.snapshot.building.travel c.args.floor (destination_of c.args.rates.now.snapshot j)))
+    (c.boarded_at.ensures.value x e)
+    ∙ ap (λ (s : Snapshot). cost_of_rider s j (p.boarded_at j) (c.args.opened + time_between s.building.travel c.args.floor (destination_of s j)))
+    c.requires.same
 
 pub returns-clause-bounded : goal.returns-clause-bounded
 returns-clause-bounded c = c.cost_from.ensures.bounded

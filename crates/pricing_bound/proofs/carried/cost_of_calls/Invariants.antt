@@ -16,7 +16,10 @@ abbrev pub invariant-loop-call : goal.invariant-loop-call
 invariant-loop-call l = record {
   below : AreBelow (call_count l.rates.snapshot) (members 128 l.call-iterator.left);
   within : AllPass (has l.fn.calls) (members 128 l.call-iterator.left);
-  cost : (x : Course) → course l.prefix ≡ Some x → l.cost + sum_by (cost_if_straight l.prefix.snapshot (standing_at (reached l.prefix.snapshot l.prefix.car x) l.floor l.opened)) (members 128 l.call-iterator.left) ≡ cost_of_call_rides l.prefix.snapshot (standing_at (reached l.prefix.snapshot l.prefix.car x) l.floor l.opened) l.fn.calls;
+  cost : (x : Course) → course l.prefix ≡ Some x
+      → l.cost + sum_by (cost_if_straight l.prefix.snapshot (standing_at (reached l.prefix.snapshot l.prefix.car x) l.floor l.opened))
+      (members 128 l.call-iterator.left)
+      ≡ cost_of_call_rides l.prefix.snapshot (standing_at (reached l.prefix.snapshot l.prefix.car x) l.floor l.opened) l.fn.calls;
   few : length (members 128 l.call-iterator.left) ≤ 128;
   small : l.cost ≤ 2400000000000000 * (128 - length (members 128 l.call-iterator.left));
 }

@@ -12,4 +12,5 @@ overflow_sub-result c =
     let arrival = c.arrival_from.ensures.value in
     let persons = c.persons_to.ensures.value ∙ ap (λ (l : LaidOut). persons_to l.snapshot.aboard l.car g) c.layout-layout.ensures in
     let moments = c.moments_to.ensures ∙ ap (λ (l : LaidOut). moments_to l.snapshot.aboard l.car g) c.layout-layout.ensures in
-    ridden_fits t.snapshot t.car g c.persons_to.result c.moments_to.result c.arrival_from.result (subst IsAccepted c.requires.same c.requires.accepted) persons moments (omega (arith, late, arrival))
+    ridden_fits t.snapshot t.car g c.persons_to.result c.moments_to.result c.arrival_from.result
+    (subst IsAccepted c.requires.same c.requires.accepted) persons moments (omega (arith, late, arrival))

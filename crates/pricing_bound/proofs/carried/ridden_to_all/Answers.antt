@@ -19,27 +19,36 @@ loop-to-init c =
     let few = members_few 64 c.into_iter-to-iterator.result.left in
     record {
       below = subst (λ (set : ℕ). AreBelow floors (members 64 set)) (sym left) (members_below 64 c.args.floors floors c.requires.within);
-      ridden = λ x e. let f = ridden_to t.snapshot t.car (standing_at (reached t.snapshot t.car x) c.args.floor c.args.opened) in let same = ap (λ (s : Snapshot). floor_count s.building) c.requires.same in let all = members_sum 64 c.args.floors (floor_count t.snapshot.building) f (omega (arith, high, same)) (λ k h. let near = c.requires.within k h in omega (arith, near, same)) in let moved = ap (λ (set : ℕ). sum_by f (members 64 set)) left in omega (arith, all, moved);
+      ridden = λ x e. let f = ridden_to t.snapshot t.car (standing_at (reached t.snapshot t.car x) c.args.floor c.args.opened) in
+          let same = ap (λ (s : Snapshot). floor_count s.building) c.requires.same in
+          let all = members_sum 64 c.args.floors (floor_count t.snapshot.building) f (omega (arith, high, same))
+          (λ k h. let near = c.requires.within k h in omega (arith, near, same)) in let moved = ap (λ (set : ℕ). sum_by f (members 64 set)) left in
+          omega (arith, all, moved);
       few = few;
       small = omega arith;
     }
 
 pub ridden_to-ridden-requires-clause-to : goal.ridden_to-ridden-requires-clause-to
-ridden_to-ridden-requires-clause-to c = below_first (floor_count c.args.snapshot.now.building) c.in-Some.to _ _ c.loop-to.invariant.below c.in-Some.ensures.steps
+ridden_to-ridden-requires-clause-to c =
+    below_first (floor_count c.args.snapshot.now.building) c.in-Some.to _ _ c.loop-to.invariant.below c.in-Some.ensures.steps
 
 pub overflow_add-ridden : goal.overflow_add-ridden
 overflow_add-ridden c =
-    let taken = one_taken _ _ c.in-Some.to 64 6400000000000 c.loop-to.ridden c.ridden_to-ridden.result c.loop-to.invariant.few c.in-Some.ensures.steps c.loop-to.invariant.small c.ridden_to-ridden.ensures.small in
+    let taken = one_taken _ _ c.in-Some.to 64 6400000000000 c.loop-to.ridden c.ridden_to-ridden.result c.loop-to.invariant.few c.in-Some.ensures.steps
+    c.loop-to.invariant.small c.ridden_to-ridden.ensures.small in
     let few = taken.1 in
     omega (arith, few)
 
 pub loop-to-preserved : goal.loop-to-preserved
 loop-to-preserved c =
     let t = c.args.prefix.now in
-    let taken = one_taken _ _ c.in-Some.to 64 6400000000000 c.loop-to.ridden c.ridden_to-ridden.result c.loop-to.invariant.few c.in-Some.ensures.steps c.loop-to.invariant.small c.ridden_to-ridden.ensures.small in
+    let taken = one_taken _ _ c.in-Some.to 64 6400000000000 c.loop-to.ridden c.ridden_to-ridden.result c.loop-to.invariant.few c.in-Some.ensures.steps
+    c.loop-to.invariant.small c.ridden_to-ridden.ensures.small in
     record {
       below = below_rest (floor_count c.args.snapshot.now.building) c.in-Some.to _ _ c.loop-to.invariant.below c.in-Some.ensures.steps;
-      ridden = λ x e. let f = ridden_to t.snapshot t.car (standing_at (reached t.snapshot t.car x) c.args.floor c.args.opened) in let step = sum_step f c.loop-to.ridden _ c.in-Some.to _ _ (c.loop-to.invariant.ridden x e) c.in-Some.ensures.steps in let here = c.ridden_to-ridden.ensures.ridden x e in omega (arith, step, here);
+      ridden = λ x e. let f = ridden_to t.snapshot t.car (standing_at (reached t.snapshot t.car x) c.args.floor c.args.opened) in
+          let step = sum_step f c.loop-to.ridden _ c.in-Some.to _ _ (c.loop-to.invariant.ridden x e) c.in-Some.ensures.steps in
+          let here = c.ridden_to-ridden.ensures.ridden x e in omega (arith, step, here);
       few = taken.0;
       small = taken.1;
     }

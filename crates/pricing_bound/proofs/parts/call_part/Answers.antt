@@ -16,7 +16,8 @@ returns-then-contains-clause-part c = λ x e.
     let call = subst (λ (s : Snapshot). j < call_count s) c.requires.same c.requires.call in
     let here = sym (c.boarded.ensures x e j call) ∙ sym c.contains.ensures ∙ c.if-contains.true in
     let part = c.boarded_part.ensures.part x e in
-    let whole = boarded_part (p.carried j) (p.boarded j) (has c.args.allowed j) (scaled (cost_if_straight t.snapshot p j)) c.args.price (waiting_term t.snapshot (λ _. c.args.price) (has c.args.required) p j) here in
+    let whole = boarded_part (p.carried j) (p.boarded j) (has c.args.allowed j) (scaled (cost_if_straight t.snapshot p j)) c.args.price
+    (waiting_term t.snapshot (λ _. c.args.price) (has c.args.required) p j) here in
     omega (arith, ints, part, whole)
 
 pub returns-then-contains-2-clause-part : goal.returns-then-contains-2-clause-part
@@ -29,8 +30,10 @@ returns-then-contains-2-clause-part c = λ x e.
     let call = subst (λ (s : Snapshot). j < call_count s) c.requires.same c.requires.call in
     let here = sym (c.boarded.ensures x e j call) ∙ sym c.contains.ensures ∙ c.if-contains.false in
     let may = sym c.contains-else-contains.ensures ∙ c.if-contains-2.true in
-    let part = c.waiting_part.ensures.part x e ∙ ap (λ (r : Bool). waiting_term t.snapshot (λ _. c.args.price) (λ _. r) p j) c.contains-then-contains-2.ensures in
-    let whole = waiting_part (p.carried j) (p.boarded j) (has c.args.allowed j) (scaled (cost_if_straight t.snapshot p j)) c.args.price (waiting_term t.snapshot (λ _. c.args.price) (has c.args.required) p j) (not_carried t.snapshot t.car p j (placed_at t x a b e) call here) here may in
+    let part = c.waiting_part.ensures.part x e
+    ∙ ap (λ (r : Bool). waiting_term t.snapshot (λ _. c.args.price) (λ _. r) p j) c.contains-then-contains-2.ensures in
+    let whole = waiting_part (p.carried j) (p.boarded j) (has c.args.allowed j) (scaled (cost_if_straight t.snapshot p j)) c.args.price
+    (waiting_term t.snapshot (λ _. c.args.price) (has c.args.required) p j) (not_carried t.snapshot t.car p j (placed_at t x a b e) call here) here may in
     omega (arith, ints, part, whole)
 
 pub returns-else-contains-2-clause-part : goal.returns-else-contains-2-clause-part
@@ -43,4 +46,5 @@ returns-else-contains-2-clause-part c = λ x e.
     let call = subst (λ (s : Snapshot). j < call_count s) c.requires.same c.requires.call in
     let here = sym (c.boarded.ensures x e j call) ∙ sym c.contains.ensures ∙ c.if-contains.false in
     let may = sym c.contains-else-contains.ensures ∙ c.if-contains-2.false in
-    sym (no_part (p.carried j) (p.boarded j) (has c.args.allowed j) (scaled (cost_if_straight t.snapshot p j)) c.args.price (waiting_term t.snapshot (λ _. c.args.price) (has c.args.required) p j) (not_carried t.snapshot t.car p j (placed_at t x a b e) call here) here may)
+    sym (no_part (p.carried j) (p.boarded j) (has c.args.allowed j) (scaled (cost_if_straight t.snapshot p j)) c.args.price
+    (waiting_term t.snapshot (λ _. c.args.price) (has c.args.required) p j) (not_carried t.snapshot t.car p j (placed_at t x a b e) call here) here may)

@@ -9,6 +9,8 @@ loop-to-preserved c =
     let last = c.loop-to-test.true in
     let floors = c.floors-floors.ensures.value in
     elim c.if-to-from.branch [
-      | then-to-from w ↦ nearer t c.args.from c.loop-to.to c.loop-to.nearest w.time.result c.if-to-from.nearest c.loop-to.invariant (omega (arith, last, floors)) w.if-to-from.true w.time.ensures.value (w.nearest-is ∙ w.min-nearest.ensures)
+      | then-to-from w ↦
+          nearer t c.args.from c.loop-to.to c.loop-to.nearest w.time.result c.if-to-from.nearest c.loop-to.invariant
+          (omega (arith, last, floors)) w.if-to-from.true w.time.ensures.value (w.nearest-is ∙ w.min-nearest.ensures)
       | else-to-from w ↦ nearer_itself t c.args.from c.loop-to.to c.loop-to.nearest c.if-to-from.nearest c.loop-to.invariant w.if-to-from.false w.nearest-is
     ]

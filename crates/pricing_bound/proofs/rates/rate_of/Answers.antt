@@ -21,4 +21,6 @@ returns-clause-rate c = λ s j same_building same_call lt.
     let over = product_small call.persons c.patience_weight.result 8 1000 persons (omega (arith, late, late_small)) in
     let rides = product_small call.persons c.travel_weight.result 8 1000 persons (omega (arith, travel, travel_small)) in
     let ride = product_small (call.persons * c.travel_weight.result) c.time-time.result 8000 20000000 (omega (arith, rides)) c.time-time.ensures.bounded in
-    rate_is s j b call _ c.time-time.result same_building same_call lt time refl (ap (λ (x : ℕ). call.released + x) c.patience.ensures.value) (ap (λ (x : ℕ). call.persons * x) wait) (ap (λ (x : ℕ). call.persons * x) late) (ap (λ (x : ℕ). call.persons * x) travel) refl (omega (arith, each)) (omega (arith, over)) (omega (arith, rides)) refl (omega (arith, ride)) c.requires.released refl refl
+    rate_is s j b call _ c.time-time.result same_building same_call lt time refl (ap (λ (x : ℕ). call.released + x) c.patience.ensures.value)
+    (ap (λ (x : ℕ). call.persons * x) wait) (ap (λ (x : ℕ). call.persons * x) late) (ap (λ (x : ℕ). call.persons * x) travel) refl (omega (arith, each))
+    (omega (arith, over)) (omega (arith, rides)) refl (omega (arith, ride)) c.requires.released refl refl

@@ -21,6 +21,9 @@ loop-j-preserved c =
     let price : IsPrice c.value.result = subst IsPrice (sym c.value.ensures.value) c.value.ensures.range in
     record {
       size = size_set rates _ (length c.args.prices.now) j _ size refl;
-      prices = prices_set rates _ c.args.prices.now j _ c.loop-j.invariant.prices (omega (arith, lt, size)) lt (subst (λ (z : ℤ). z ≡ get_or c.args.prices.now j z) (sym c.at_price.ensures.price) (stored_is c.value.result c.args.prices.now j c.index-prices-j.result price c.value.ensures.value c.index-prices-j.is lt)) refl;
-      rates = λ s h. rates_set s rates _ j _ (c.loop-j.invariant.rates s h) (omega (arith, lt, size)) refl (let all = c.loop-j.invariant.rates s h in let here = all.size in c.at_price.ensures.rate s j (all.each j _ (omega (arith, lt, size, here))));
+      prices = prices_set rates _ c.args.prices.now j _ c.loop-j.invariant.prices (omega (arith, lt, size)) lt
+          (subst (λ (z : ℤ). z ≡ get_or c.args.prices.now j z) (sym c.at_price.ensures.price)
+          (stored_is c.value.result c.args.prices.now j c.index-prices-j.result price c.value.ensures.value c.index-prices-j.is lt)) refl;
+      rates = λ s h. rates_set s rates _ j _ (c.loop-j.invariant.rates s h) (omega (arith, lt, size)) refl
+          (let all = c.loop-j.invariant.rates s h in let here = all.size in c.at_price.ensures.rate s j (all.each j _ (omega (arith, lt, size, here))));
     }

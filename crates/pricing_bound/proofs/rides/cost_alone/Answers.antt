@@ -14,7 +14,8 @@ time-ride-requires-clause-from_floor c =
     let floors = ap (λ (b : Building). b.travel.floors) c.building.ensures.value in
     let travel = ap (λ (t : Square). t.floors) c.travel.ensures.value in
     let all = a.building.travel_floors in
-    subst (λ (calls : List Call). (get_or calls c.args.call no_call).origin < c.travel.result.now.floors) (sym c.calls.ensures.value) (let below = call.origin in omega (arith, below, floors, travel, all))
+    subst (λ (calls : List Call). (get_or calls c.args.call no_call).origin < c.travel.result.now.floors) (sym c.calls.ensures.value)
+    (let below = call.origin in omega (arith, below, floors, travel, all))
 
 pub time-ride-requires-clause-to_floor : goal.time-ride-requires-clause-to_floor
 time-ride-requires-clause-to_floor c =
@@ -23,7 +24,8 @@ time-ride-requires-clause-to_floor c =
     let floors = ap (λ (b : Building). b.travel.floors) c.building.ensures.value in
     let travel = ap (λ (t : Square). t.floors) c.travel.ensures.value in
     let all = a.building.travel_floors in
-    subst (λ (calls : List Call). (get_or calls c.args.call no_call).destination < c.travel.result.now.floors) (sym c.calls.ensures.value) (let below = call.destination in omega (arith, below, floors, travel, all))
+    subst (λ (calls : List Call). (get_or calls c.args.call no_call).destination < c.travel.result.now.floors) (sym c.calls.ensures.value)
+    (let below = call.destination in omega (arith, below, floors, travel, all))
 
 pub cost_of_call-requires-clause-persons : goal.cost_of_call-requires-clause-persons
 cost_of_call-requires-clause-persons c =
@@ -48,9 +50,12 @@ returns-clause-cost c = λ x e.
     let calls = c.calls.ensures.value ∙ ap (λ (s : Snapshot). s.calls) c.requires.same in
     let travel = c.travel.ensures.value ∙ ap (λ (b : Building). b.travel) (c.building.ensures.value ∙ ap (λ (s : Snapshot). s.building) c.requires.same) in
     let opened = c.opened-boarded.ensures.value x e in
-    let ride = c.time-ride.ensures.value ∙ ap (λ (t : Square). time_between t rider.origin rider.destination) travel ∙ ap (λ (calls : List Call). time_between s.building.travel (get_or calls j no_call).origin (get_or calls j no_call).destination) calls in
+    let ride = c.time-ride.ensures.value ∙ ap (λ (t : Square). time_between t rider.origin rider.destination) travel
+    ∙ ap (λ (calls : List Call). time_between s.building.travel (get_or calls j no_call).origin (get_or calls j no_call).destination) calls in
     let delivered = ap (λ (n : ℕ). n + c.time-ride.result) opened ∙ ap (λ (n : ℕ). p.opened + n) ride in
-    call_found s c.building-2.result.now c.calls.result.now j c.opened-boarded.result (c.opened-boarded.result + c.time-ride.result) p.opened (p.opened + time_between s.building.travel (call_of s j).origin (call_of s j).destination) c.cost_of_call.result building calls lt opened delivered c.cost_of_call.ensures.cost
+    call_found s c.building-2.result.now c.calls.result.now j c.opened-boarded.result (c.opened-boarded.result + c.time-ride.result) p.opened
+    (p.opened + time_between s.building.travel (call_of s j).origin (call_of s j).destination) c.cost_of_call.result building calls lt opened delivered
+    c.cost_of_call.ensures.cost
 
 pub returns-clause-bounded : goal.returns-clause-bounded
 returns-clause-bounded c = c.cost_of_call.ensures.bounded

@@ -15,7 +15,8 @@ straight_arrival-delivered-requires-clause-same c = c.requires.same
 pub straight_arrival-delivered-requires-clause-to : goal.straight_arrival-delivered-requires-clause-to
 straight_arrival-delivered-requires-clause-to c =
     let call = c.calls.ensures.accepted.calls c.args.call c.requires.call in
-    subst (λ (calls : List Call). (get_or calls c.args.call no_call).destination < floor_count c.args.snapshot.now.building) (sym c.calls.ensures.value) call.destination
+    subst (λ (calls : List Call). (get_or calls c.args.call no_call).destination < floor_count c.args.snapshot.now.building)
+    (sym c.calls.ensures.value) call.destination
 
 pub boarded_at-requires-clause-call : goal.boarded_at-requires-clause-call
 boarded_at-requires-clause-call c = subst (λ (s : Snapshot). c.args.call < call_count s) c.requires.same c.requires.call
@@ -45,7 +46,9 @@ returns-clause-cost c = λ x e.
     let calls = c.calls.ensures.value ∙ ap (λ (s : Snapshot). s.calls) c.requires.same in
     let to = ap (λ (calls : List Call). (get_or calls j no_call).destination) calls ∙ sym (destination_of-call s j lt) in
     let delivered = c.straight_arrival-delivered.ensures.value x e ∙ ap (λ (to : ℕ). p.opened + time_between s.building.travel p.floor to) to in
-    call_found s c.building.result.now c.calls.result.now j c.boarded_at.result c.straight_arrival-delivered.result (p.boarded_at j) (p.opened + time_between s.building.travel p.floor (destination_of s j)) c.cost_of_call.result building calls lt (c.boarded_at.ensures.value x e) delivered c.cost_of_call.ensures.cost
+    call_found s c.building.result.now c.calls.result.now j c.boarded_at.result c.straight_arrival-delivered.result (p.boarded_at j)
+    (p.opened + time_between s.building.travel p.floor (destination_of s j)) c.cost_of_call.result building calls lt
+    (c.boarded_at.ensures.value x e) delivered c.cost_of_call.ensures.cost
 
 pub returns-clause-bounded : goal.returns-clause-bounded
 returns-clause-bounded c = c.cost_of_call.ensures.bounded

@@ -12,4 +12,6 @@ returns-clause-cost c = λ x e.
     let b = subst (λ (s : Snapshot). t.car < car_count s) c.requires.same c.requires.car in
     let building = c.building.ensures.value ∙ ap (λ (s : Snapshot). s.building) c.requires.same in
     let groups = c.aboard.ensures.value ∙ ap (λ (s : Snapshot). s.aboard) c.requires.same in
-    group_found t.snapshot c.building.result.now c.aboard.result.now c.args.group p.opened p.floor c.straight_arrival-delivered.result c.cost_of_group.result building groups (c.straight_arrival-delivered.ensures.value x e) c.cost_of_group.ensures.cost ∙ sym (group_straight t.snapshot t.car p c.args.group (placed_at t x a b e))
+    group_found t.snapshot c.building.result.now c.aboard.result.now c.args.group p.opened p.floor c.straight_arrival-delivered.result c.cost_of_group.result
+    building groups (c.straight_arrival-delivered.ensures.value x e) c.cost_of_group.ensures.cost
+    ∙ sym (group_straight t.snapshot t.car p c.args.group (placed_at t x a b e))

@@ -22,7 +22,9 @@ invariant_of-round g c =
         few_tasks = c.requires.few;
         few_cars = search rules;
         cars_are = c.requires.cars;
-        each = λ i task at. subst (IsTaskOf (g.P.Pricer.snapshot c.args.pricer.now)) (get_or_from_slice_get c.args.tasks.now i task task at) (c.requires.tasks i task (slice_get_within c.args.tasks.now i task at));
+        each = λ i task at.
+            subst (IsTaskOf (g.P.Pricer.snapshot c.args.pricer.now)) (get_or_from_slice_get c.args.tasks.now i task task at)
+            (c.requires.tasks i task (slice_get_within c.args.tasks.now i task at));
         low = c.requires.limit.0;
         high = c.requires.limit.1;
         drawn = order_long count order is;
@@ -37,9 +39,14 @@ returns-clause-answers g c =
     let cars = c.args.cars in
     let order = c.deref.result.now in
     let drawn = c.in_ok-drawn.drawn.items in
-    let same : length drawn ≡ length order = c.in_ok-drawn.ensures.count ∙ sym (order_long (length tasks * cars) order (order_is (length tasks * cars) c.in_ok-order.order.items order c.deref.ensures.value c.in_ok-order.ensures.order)) in
+    let same : length drawn ≡ length order = c.in_ok-drawn.ensures.count
+    ∙ sym (order_long (length tasks * cars) order
+    (order_is (length tasks * cars) c.in_ok-order.order.items order c.deref.ensures.value c.in_ok-order.ensures.order)) in
     let kept : c.deref-3.result.now ≡ order = c.deref-3.ensures.value ∙ sym c.deref.ensures.value in
     let Counted : Vec TurnOf Global → Type 0 = λ v. length v.items ≡ length tasks * cars in
     let From : List ℕ → Vec TurnOf Global → Type 0 = λ o v. (p : ℕ) (a : TurnOf) → slice_get v.items p ≡ Some a → Contains (zip o drawn) (p, a) in
     let Goal : Vec TurnOf Global → Type 0 = λ v. AreAnswersOf s c.args.most_tours tasks cars v.items in
-    ok_both c.in_places.result Counted (From c.deref-3.result.now) Goal (λ v count from. answers_of s c.args.most_tours tasks cars v.items count (λ p a at. answer_at s c.args.most_tours tasks cars order drawn same c.in_ok-drawn.ensures.right p a (subst (λ (o : List ℕ). From o v) kept from p a at))) c.in_places.ensures.count c.in_places.ensures.from
+    ok_both c.in_places.result Counted (From c.deref-3.result.now) Goal
+    (λ v count from. answers_of s c.args.most_tours tasks cars v.items count
+    (λ p a at. answer_at s c.args.most_tours tasks cars order drawn same c.in_ok-drawn.ensures.right p a
+    (subst (λ (o : List ℕ). From o v) kept from p a at))) c.in_places.ensures.count c.in_places.ensures.from

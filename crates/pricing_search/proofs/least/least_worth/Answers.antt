@@ -17,7 +17,9 @@ returns-clause-bound g c =
 pub returns-clause-lower : goal.returns-clause-lower
 returns-clause-lower g c =
     let a = g.B.CompletionBound.aim c.args.bound.now in
-    empty_lower a c.args.prefix.now (g.B.CompletionBound.bound c.args.bound.now) (to_z w128 (of_z w128 c.value.result)) c.requires.accepted c.requires.car c.requires.for_it (g.met.B.CompletionBound.lower c.args.bound.now) (returns-clause-bound g c)
+    empty_lower a c.args.prefix.now (g.B.CompletionBound.bound c.args.bound.now)
+    (to_z w128 (of_z w128 c.value.result)) c.requires.accepted c.requires.car c.requires.for_it (g.met.B.CompletionBound.lower c.args.bound.now)
+    (returns-clause-bound g c)
 
 pub returns-clause-size : goal.returns-clause-size
 returns-clause-size g c =

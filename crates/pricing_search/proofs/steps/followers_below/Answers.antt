@@ -11,4 +11,6 @@ returns g c = λ x leads.
     let departs = g.B.TourBound.departs c.args.bound.now c.args.departure.now in
     let t = c.args.prefix.now in
     let whole = to_z-of_z w128 c.args.worth c.ranges.worth in
-    left_worth a departs c.leaves_in_vain-no_leaves.result t c.args.demand.now c.args.worth x c.followers_left.result c.requires.walking leads (standing departs c.args.demand.now t x c.requires.departs leads) (λ told. subst (LeavesInVain a departs) whole (c.leaves_in_vain-no_leaves.ensures told)) (c.followers_left.ensures x leads)
+    left_worth a departs c.leaves_in_vain-no_leaves.result t c.args.demand.now c.args.worth x c.followers_left.result c.requires.walking leads
+    (standing departs c.args.demand.now t x c.requires.departs leads)
+    (λ told. subst (LeavesInVain a departs) whole (c.leaves_in_vain-no_leaves.ensures told)) (c.followers_left.ensures x leads)

@@ -12,4 +12,5 @@ returns g c = λ high x y floor departs moved.
     let least : to_z w128 (of_z w128 c.least_value.result) ≡ c.least_value.result = search rules in
     let worth = to_z-of_z w128 c.args.worth c.ranges.worth in
     let le : to_z w128 (of_z w128 c.args.worth) ≤ℤ to_z w128 (of_z w128 c.least_value.result) = le_z_yes (T_from_true _ high) in
-    lesser_undercuts (g.B.TourBound.aim c.args.bound.now) c.least_value.result c.args.worth y (omega (arith, ints, worth, least, le)) (c.least_value.ensures x y floor departs moved)
+    lesser_undercuts (g.B.TourBound.aim c.args.bound.now) c.least_value.result c.args.worth y (omega (arith, ints, worth, least, le))
+    (c.least_value.ensures x y floor departs moved)

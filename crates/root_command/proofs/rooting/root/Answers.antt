@@ -10,7 +10,8 @@ pub returns-in-Ok-answer_of-clause-ends : goal.returns-in-Ok-answer_of-clause-en
 returns-in-Ok-answer_of-clause-ends g c =
     let left = g.S.Source.left in
     let old = streams (left c.args.source.now) (g.K.Sink.taken c.args.sink.now) (g.S.Source.faults c.args.source.now) (g.K.Sink.faults c.args.sink.now) in
-    let new = streams (left c.read_input.new.source) (g.K.Sink.taken c.put.new.sink) (g.S.Source.faults c.read_input.new.source) (g.K.Sink.faults c.put.new.sink) in
+    let new = streams (left c.read_input.new.source) (g.K.Sink.taken c.put.new.sink) (g.S.Source.faults c.read_input.new.source)
+    (g.K.Sink.faults c.put.new.sink) in
     let answer = c.in-Ok-answer_of.answer in
     let due : RootAnswerIsDue c.args.rounds c.args.most_tours (left c.args.source.now) (left c.read_input.new.source) answer.status answer.text.items = record {
       snapshot = c.in-Ok.snapshot;
@@ -19,11 +20,13 @@ returns-in-Ok-answer_of-clause-ends g c =
       ended = c.in-Ok.ensures.ended;
       told = c.in-Ok-answer_of.ensures;
     } in
-    ends_told c.args.rounds c.args.most_tours (left c.args.source.now) (left c.read_input.new.source) old new answer.text.items answer.status c.put.result due (rw c.as_slice.ensures.value at c.put.ensures.put)
+    ends_told c.args.rounds c.args.most_tours (left c.args.source.now) (left c.read_input.new.source) old new answer.text.items answer.status c.put.result due
+    (rw c.as_slice.ensures.value at c.put.ensures.put)
 
 pub returns-in-Ok-answer_of-clause-answers : goal.returns-in-Ok-answer_of-clause-answers
 returns-in-Ok-answer_of-clause-answers g c = λ input s given is reads writes.
-    is_answered c.in-Ok.snapshot c.args.rounds c.args.most_tours c.in-Ok-answer_of.answer.text.items c.in-Ok-answer_of.answer.status c.put.result c.in-Ok-answer_of.ensures (put_whole _ c.in-Ok-answer_of.answer.status c.put.result _ _ _ _ c.put.ensures.put writes)
+    is_answered c.in-Ok.snapshot c.args.rounds c.args.most_tours c.in-Ok-answer_of.answer.text.items c.in-Ok-answer_of.answer.status c.put.result
+    c.in-Ok-answer_of.ensures (put_whole _ c.in-Ok-answer_of.answer.status c.put.result _ _ _ _ c.put.ensures.put writes)
 
 pub returns-in-Ok-answer_of-clause-refuses : goal.returns-in-Ok-answer_of-clause-refuses
 returns-in-Ok-answer_of-clause-refuses g c = λ input given none reads writes.
@@ -33,14 +36,18 @@ pub returns-clause-ends : goal.returns-clause-ends
 returns-clause-ends g c =
     let left = g.S.Source.left in
     let old = streams (left c.args.source.now) (g.K.Sink.taken c.args.sink.now) (g.S.Source.faults c.args.source.now) (g.K.Sink.faults c.args.sink.now) in
-    let new = streams (left c.read_input.new.source) (g.K.Sink.taken c.put_fault.new.sink) (g.S.Source.faults c.read_input.new.source) (g.K.Sink.faults c.put_fault.new.sink) in
+    let new = streams (left c.read_input.new.source) (g.K.Sink.taken c.put_fault.new.sink) (g.S.Source.faults c.read_input.new.source)
+    (g.K.Sink.faults c.put_fault.new.sink) in
     ends_fault (RootDue c.args.rounds c.args.most_tours (left c.args.source.now) (left c.read_input.new.source)) c.in-Err.fault old new c.put_fault.result
-    (λ text is_line. refusal_due (left c.args.source.now) (left c.read_input.new.source) c.in-Err.fault text is_line c.in-Err.ensures.refused c.in-Err.ensures.shows) (λ e. c.in-Err.ensures.read (ap Err e)) c.put_fault.ensures
+    (λ text is_line. refusal_due (left c.args.source.now)
+    (left c.read_input.new.source) c.in-Err.fault text is_line c.in-Err.ensures.refused c.in-Err.ensures.shows)
+    (λ e. c.in-Err.ensures.read (ap Err e)) c.put_fault.ensures
 
 pub returns-clause-answers : goal.returns-clause-answers
 returns-clause-answers g c = λ input s given is reads writes.
     inr (inr (fault_memory (λ fault. Tells fault ⊥) (λ number code told. told) (λ told. told) c.in-Err.fault c.put_fault.result _ _ _ _ c.put_fault.ensures
-    (takes_text (g.S.Source.left c.args.source.now) input s (Err c.in-Err.fault) given is c.in-Err.ensures.takes) (λ e. reads (c.in-Err.ensures.read (ap Err e)))))
+    (takes_text (g.S.Source.left c.args.source.now) input s (Err c.in-Err.fault) given is c.in-Err.ensures.takes)
+    (λ e. reads (c.in-Err.ensures.read (ap Err e)))))
 
 pub returns-clause-refuses : goal.returns-clause-refuses
 returns-clause-refuses g c = λ input given none reads writes.

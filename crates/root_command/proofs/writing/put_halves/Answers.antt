@@ -16,6 +16,7 @@ returns c =
     let s = c.args.snapshot.now in
     let a = c.args.answer.now in
     let first = c.put_line.new.out.items in
-    three_parts c.args.out.now.items (line (codes "mixture") (a.cost ∷ 2 ∷ [])) (flat_map (share_text s) a.shares) (line (codes "end") []) first c.put_shares.new.out.items c.put_line-2.new.out.items c.in_ok-put_line.ensures.ok
+    three_parts c.args.out.now.items (line (codes "mixture") (a.cost ∷ 2 ∷ [])) (flat_map (share_text s) a.shares)
+    (line (codes "end") []) first c.put_shares.new.out.items c.put_line-2.new.out.items c.in_ok-put_line.ensures.ok
     (c.in_ok-put_shares.ensures ∙ ap (λ (xs : List Share). first ++ flat_map (share_text s) xs) c.as_slice-shares.ensures)
     c.in_ok-put_line-2.ensures.ok

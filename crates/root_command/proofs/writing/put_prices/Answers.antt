@@ -12,7 +12,8 @@ loop-call-init c = no_prices c.args.snapshot.now c.args.prices.now c.args.out.no
 pub loop-call-preserved : goal.loop-call-preserved
 loop-call-preserved c =
     let at = c.index-prices-call.is ∙ get_or_default c.args.prices.now c.loop-call.call c.index-prices-call.result (pos 0) c.loop-call-test.true in
-    more_prices c.args.snapshot.now c.args.prices.now c.loop-call.call c.index-prices-call.result c.args.out.now.items c.loop-call.out.items c.put_price.new.out.items at c.loop-call.invariant c.in_ok-put_price.ensures
+    more_prices c.args.snapshot.now c.args.prices.now c.loop-call.call c.index-prices-call.result c.args.out.now.items c.loop-call.out.items
+    c.put_price.new.out.items at c.loop-call.invariant c.in_ok-put_price.ensures
 
 pub returns : goal.returns
 returns c =

@@ -22,7 +22,8 @@ returns c =
     let second = c.put_signed.new.out.items in
     let third = c.put_prices.new.out.items in
     let bound : to_z w128 (of_z w128 a.bound) ≡ a.bound = search rules in
-    four_parts old (line (codes "root") (1 ∷ [])) (signed_line (codes "bound") [] a.bound) (price_lines s a.sheet.prices (call_count s)) (worth_lines s a.sheet.worths (car_count s)) first second third c.put_worths.new.out.items c.in_ok-put_line.ensures.ok
+    four_parts old (line (codes "root") (1 ∷ [])) (signed_line (codes "bound") [] a.bound) (price_lines s a.sheet.prices (call_count s))
+    (worth_lines s a.sheet.worths (car_count s)) first second third c.put_worths.new.out.items c.in_ok-put_line.ensures.ok
     (c.in_ok-put_signed.ensures ∙ ap (λ (z : ℤ). first ++ signed_line (codes "bound") [] z) bound)
     (c.in_ok-put_prices.ensures ∙ ap (λ (ps : List ℤ). second ++ price_lines s ps (call_count s)) c.prices-prices.ensures.prices)
     (c.in_ok-put_worths.ensures ∙ ap (λ (ws : List ℤ). third ++ worth_lines s ws (car_count s)) c.worths-worths.ensures.worths)

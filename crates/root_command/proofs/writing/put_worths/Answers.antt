@@ -11,8 +11,10 @@ loop-car-init c = no_worths c.args.snapshot.now c.args.worths.now c.args.out.now
 
 pub loop-car-preserved : goal.loop-car-preserved
 loop-car-preserved c =
-    let at : to_z w128 (of_z w128 (slice_index_or c.args.worths.now c.loop-car.car (pos 0))) ≡ slice_index_or c.args.worths.now c.loop-car.car (pos 0) = search rules in
-    more_worths c.args.snapshot.now c.args.worths.now c.loop-car.car _ c.args.out.now.items c.loop-car.out.items c.put_worth.new.out.items at c.loop-car.invariant c.in_ok-put_worth.ensures
+    let at : to_z w128 (of_z w128 (slice_index_or c.args.worths.now c.loop-car.car (pos 0))) ≡ slice_index_or c.args.worths.now c.loop-car.car (pos 0) =
+    search rules in
+    more_worths c.args.snapshot.now c.args.worths.now c.loop-car.car _ c.args.out.now.items c.loop-car.out.items c.put_worth.new.out.items at
+    c.loop-car.invariant c.in_ok-put_worth.ensures
 
 pub returns : goal.returns
 returns c =

@@ -7,4 +7,5 @@ pub returns : goal.returns
 returns c =
     let s = c.args.snapshot.now in
     let a = c.args.answer.now in
-    three_parts [] (sheet_text s a) (halves_text s a) (reason_line s a.why) c.put_sheet.new.out.items c.put_halves.new.out.items c.put_reason.new.out.items (c.in_ok-put_sheet.ensures ∙ ap (λ (xs : List ℕ). xs ++ sheet_text s a) c.new-text.ensures.items) c.in_ok-put_halves.ensures c.in_ok-put_reason.ensures
+    three_parts [] (sheet_text s a) (halves_text s a) (reason_line s a.why) c.put_sheet.new.out.items c.put_halves.new.out.items c.put_reason.new.out.items
+    (c.in_ok-put_sheet.ensures ∙ ap (λ (xs : List ℕ). xs ++ sheet_text s a) c.new-text.ensures.items) c.in_ok-put_halves.ensures c.in_ok-put_reason.ensures

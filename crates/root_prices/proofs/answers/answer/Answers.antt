@@ -13,7 +13,9 @@ pub spent_car-car-requires : goal.spent_car-car-requires
 spent_car-car-requires c =
     let x = c.args.series in
     let is = c.requires.series.1 in
-    subst (All HasFewCars) (sym c.deref.ensures.value) (few_cars x.pool.snapshot c.args.most_tours c.requires.series.0.prices x.turns.items (cars-le x.pool.snapshot c.snapshot-snapshot.ensures.pool.accepted) is.root_turns)
+    subst (All HasFewCars) (sym c.deref.ensures.value)
+    (few_cars x.pool.snapshot c.args.most_tours c.requires.series.0.prices x.turns.items
+    (cars-le x.pool.snapshot c.snapshot-snapshot.ensures.pool.accepted) is.root_turns)
 
 pub returns : goal.returns
 returns c first is =
@@ -25,5 +27,10 @@ returns c first is =
     let why = c.reason_of.result in
     let turns : c.from_vec.result ≡ x.turns.items = search rules in
     let found = subst (λ (ts : List Turn). MatchOption car (All IsNoneSpent ts) (λ k. Any (IsSpentCar k) ts)) c.deref.ensures.value c.spent_car-car.ensures in
-    let answer = root_answer c.args.most_tours first x halves.shares halves.cost car halves.is_spent bound why c.snapshot-snapshot.ensures.pool is c.mixture_laws.ensures.mixtures c.mixture_laws.ensures.halves (stored ∙ c.bound-bound.ensures) found c.in_ok-shares.ensures.shares c.in_ok-shares.ensures.at_most c.in_ok-shares.ensures.cheapest c.in_ok-shares.ensures.spent c.reason_of.ensures in
-    subst (λ (ts : List Turn). IsRootAnswer x.pool.snapshot x.start.now first (length x.turns.items) c.args.most_tours (record { sheet = x.sheet; bound = bound; turns = ts; shares = halves.shares; cost = halves.cost; why = why })) (sym turns) answer
+    let answer = root_answer c.args.most_tours first x halves.shares halves.cost car halves.is_spent bound why c.snapshot-snapshot.ensures.pool is
+    c.mixture_laws.ensures.mixtures c.mixture_laws.ensures.halves
+    (stored ∙ c.bound-bound.ensures) found c.in_ok-shares.ensures.shares c.in_ok-shares.ensures.at_most c.in_ok-shares.ensures.cheapest
+    c.in_ok-shares.ensures.spent c.reason_of.ensures in
+    subst (λ (ts : List Turn).
+    IsRootAnswer x.pool.snapshot x.start.now first (length x.turns.items) c.args.most_tours
+    (record { sheet = x.sheet; bound = bound; turns = ts; shares = halves.shares; cost = halves.cost; why = why })) (sym turns) answer

@@ -8,7 +8,9 @@ use Rattle.root_prices.proofs.halves.doubled.Goals as goal
 
 pub loop-car-preserved : goal.loop-car-preserved
 loop-car-preserved c =
-    let at : c.in_ok-tour.tour ≡ tour_of c.args.plan.now c.loop-car.car = c.in_ok-tour.ensures ∙ c.index-tours-car.is ∙ get_or_default c.tours-tours.result.now c.loop-car.car c.index-tours-car.result [] c.loop-car-test.true ∙ ap (λ (ts : List (List Stop)). get_or ts c.loop-car.car []) c.tours-tours.ensures in
+    let at : c.in_ok-tour.tour ≡ tour_of c.args.plan.now c.loop-car.car = c.in_ok-tour.ensures ∙ c.index-tours-car.is
+    ∙ get_or_default c.tours-tours.result.now c.loop-car.car c.index-tours-car.result [] c.loop-car-test.true
+    ∙ ap (λ (ts : List (List Stop)). get_or ts c.loop-car.car []) c.tours-tours.ensures in
     doubled_more c.args.plan.now c.loop-car.car c.loop-car.shares c.push.new.self c.in_ok-tour.tour c.loop-car.invariant at c.in_ok-push.ensures.ok
 
 pub returns : goal.returns

@@ -13,4 +13,6 @@ returns-in_default-clause-shares c =
     let plan = c.args.start.now in
     let lists = c.args.pool.now.tours in
     let cost = c.plan_cost-most.ensures.cost ∙ ap (λ (x : Snapshot). plan_cost_of x plan) c.snapshot.ensures.value in
-    subst (λ (xs : List Share). ArePairShares s lists xs (2 * c.plan_cost-most.result)) (sym c.in_ok-doubled.ensures) (subst (λ (n : ℕ). ArePairShares s lists (doubled_below plan (length plan)) (2 * n)) (sym cost) (doubled_shares s plan lists c.requires.start c.requires.pooled))
+    subst (λ (xs : List Share). ArePairShares s lists xs (2 * c.plan_cost-most.result)) (sym c.in_ok-doubled.ensures)
+    (subst (λ (n : ℕ). ArePairShares s lists (doubled_below plan (length plan)) (2 * n)) (sym cost)
+    (doubled_shares s plan lists c.requires.start c.requires.pooled))

@@ -14,9 +14,13 @@ pub loop-car-preserved : goal.loop-car-preserved
 loop-car-preserved c =
     let k = c.loop-car.car in
     let plan = c.args.plan.now in
-    let below : k < car_count c.args.snapshot.now = (let all = ap length c.tours-tours.ensures in let cars = c.requires.plan.cars in let lt = c.loop-car-test.true in omega (arith, all, cars, lt)) in
-    let is : c.in_ok-tour.tour ≡ tour_of plan k = c.in_ok-tour.ensures ∙ c.index-tours-car.is ∙ get_or_default c.tours-tours.result.now c.loop-car.car c.index-tours-car.result [] c.loop-car-test.true ∙ ap (λ (ts : List (List Stop)). get_or ts c.loop-car.car []) c.tours-tours.ensures in
-    subst (λ (p : TourPool). IsFilledTo c.args.snapshot.now plan p (k + 1)) (sym c.put.ensures) (filled_more c.args.snapshot.now plan c.loop-car.pool k c.in_ok-tour.tour below is c.loop-car.invariant)
+    let below : k < car_count c.args.snapshot.now =
+    (let all = ap length c.tours-tours.ensures in let cars = c.requires.plan.cars in let lt = c.loop-car-test.true in omega (arith, all, cars, lt)) in
+    let is : c.in_ok-tour.tour ≡ tour_of plan k = c.in_ok-tour.ensures ∙ c.index-tours-car.is
+    ∙ get_or_default c.tours-tours.result.now c.loop-car.car c.index-tours-car.result [] c.loop-car-test.true
+    ∙ ap (λ (ts : List (List Stop)). get_or ts c.loop-car.car []) c.tours-tours.ensures in
+    subst (λ (p : TourPool). IsFilledTo c.args.snapshot.now plan p (k + 1)) (sym c.put.ensures)
+    (filled_more c.args.snapshot.now plan c.loop-car.pool k c.in_ok-tour.tour below is c.loop-car.invariant)
 
 pub returns : goal.returns
 returns c =

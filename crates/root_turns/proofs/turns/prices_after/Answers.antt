@@ -13,7 +13,9 @@ pub boards_counts-requires-clause-tours : goal.boards_counts-requires-clause-tou
 boards_counts-requires-clause-tours c = c.requires.tours
 
 pub adjust-requires-clause-low : goal.adjust-requires-clause-low
-adjust-requires-clause-low c = let same : to_z w128 (of_z w128 c.args.step) ≡ c.args.step = to_z-of_z w128 c.args.step c.ranges.step in subst (λ (z : ℤ). pos 0 ≤ℤ z) (sym same) c.requires.low
+adjust-requires-clause-low c = let same : to_z w128 (of_z w128 c.args.step) ≡ c.args.step = to_z-of_z w128 c.args.step c.ranges.step in
+    subst (λ (z : ℤ). pos 0 ≤ℤ z) (sym same) c.requires.low
 
 pub adjust-requires-clause-high : goal.adjust-requires-clause-high
-adjust-requires-clause-high c = let same : to_z w128 (of_z w128 c.args.step) ≡ c.args.step = to_z-of_z w128 c.args.step c.ranges.step in subst (λ (z : ℤ). z ≤ℤ pos (10 ^ 24)) (sym same) c.requires.high
+adjust-requires-clause-high c = let same : to_z w128 (of_z w128 c.args.step) ≡ c.args.step = to_z-of_z w128 c.args.step c.ranges.step in
+    subst (λ (z : ℤ). z ≤ℤ pos (10 ^ 24)) (sym same) c.requires.high

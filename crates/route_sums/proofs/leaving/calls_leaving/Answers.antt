@@ -33,14 +33,17 @@ loop-j-init c =
       below = subst (λ (set : ℕ). AreBelow n (members 128 set)) (sym left) (members_below 128 c.args.calls n c.requires.within);
       within = subst (λ (set : ℕ). AllPass (has c.args.calls) (members 128 set)) (sym left) (members_pass 128 c.args.calls);
       persons = omega (arith, persons, moved);
-      cost = λ x e. let f = λ (j : ℕ). cost_of_call s j (boarding_moment c.args.newest (reached t.snapshot t.car x) j) c.args.opened in let all = members_sum 128 c.args.calls n f few c.requires.within in let also = ap (λ (set : ℕ). sum_by f (members 128 set)) left in omega (arith, all, also);
+      cost = λ x e. let f = λ (j : ℕ). cost_of_call s j (boarding_moment c.args.newest (reached t.snapshot t.car x) j) c.args.opened in
+          let all = members_sum 128 c.args.calls n f few c.requires.within in let also = ap (λ (set : ℕ). sum_by f (members 128 set)) left in
+          omega (arith, all, also);
       few = members_few 128 c.into_iter-j-iterator.result.left;
       small = omega arith;
     }
 
 pub boarded_at-boarded-requires-clause-call : goal.boarded_at-boarded-requires-clause-call
 boarded_at-boarded-requires-clause-call c =
-    subst (λ (s : Snapshot). c.in-Some.j < call_count s) c.requires.same (below_first (call_count c.args.snapshot.now) c.in-Some.j _ _ c.loop-j.invariant.below c.in-Some.ensures.steps)
+    subst (λ (s : Snapshot). c.in-Some.j < call_count s) c.requires.same
+    (below_first (call_count c.args.snapshot.now) c.in-Some.j _ _ c.loop-j.invariant.below c.in-Some.ensures.steps)
 
 pub boarded_at-boarded-requires-clause-known : goal.boarded_at-boarded-requires-clause-known
 boarded_at-boarded-requires-clause-known c =
@@ -57,7 +60,8 @@ overflow_add-leaving c =
 
 pub overflow_add-leaving-in-loop-j : goal.overflow_add-leaving-in-loop-j
 overflow_add-leaving-in-loop-j c =
-    let taken = one_taken _ _ c.in-Some.j 128 2400000000000000 c.loop-j.leaving.cost c.cost_of_call.result c.loop-j.invariant.few c.in-Some.ensures.steps c.loop-j.invariant.small c.cost_of_call.ensures.bounded in
+    let taken = one_taken _ _ c.in-Some.j 128 2400000000000000 c.loop-j.leaving.cost c.cost_of_call.result c.loop-j.invariant.few c.in-Some.ensures.steps
+    c.loop-j.invariant.small c.cost_of_call.ensures.bounded in
     let few = taken.1 in
     omega (arith, few)
 
@@ -72,14 +76,20 @@ loop-j-preserved c =
     let s = c.args.snapshot.now in
     let t = c.args.prefix.now in
     let j = c.in-Some.j in
-    let taken = one_taken _ _ j 128 2400000000000000 c.loop-j.leaving.cost c.cost_of_call.result c.loop-j.invariant.few c.in-Some.ensures.steps c.loop-j.invariant.small c.cost_of_call.ensures.bounded in
+    let taken = one_taken _ _ j 128 2400000000000000 c.loop-j.leaving.cost c.cost_of_call.result c.loop-j.invariant.few c.in-Some.ensures.steps
+    c.loop-j.invariant.small c.cost_of_call.ensures.bounded in
     let step = sum_step (λ j. (call_of s j).persons) c.loop-j.leaving.persons _ j _ _ c.loop-j.invariant.persons c.in-Some.ensures.steps in
     let same = ap (λ (calls : List Call). (call_in calls j).persons) c.calls-all.ensures.value in
     record {
       below = below_rest (call_count s) j _ _ c.loop-j.invariant.below c.in-Some.ensures.steps;
       within = (passes_first (has c.args.calls) _ _ j c.loop-j.invariant.within c.in-Some.ensures.steps).1;
       persons = omega (arith, step, same);
-      cost = λ x e. let f = λ (j : ℕ). cost_of_call s j (boarding_moment c.args.newest (reached t.snapshot t.car x) j) c.args.opened in let more = sum_step f c.loop-j.leaving.cost _ j _ _ (c.loop-j.invariant.cost x e) c.in-Some.ensures.steps in let here : c.cost_of_call.result ≡ f j = c.cost_of_call.ensures.cost ∙ ap (λ (b : Building). call_cost b (call_in c.calls-all.result.now j) c.boarded_at-boarded.result c.args.opened) c.building-building.ensures.value ∙ ap (λ (calls : List Call). call_cost s.building (call_in calls j) c.boarded_at-boarded.result c.args.opened) c.calls-all.ensures.value ∙ ap (λ (m : ℕ). cost_of_call s j m c.args.opened) (c.boarded_at-boarded.ensures.value x e) in omega (arith, more, here);
+      cost = λ x e. let f = λ (j : ℕ). cost_of_call s j (boarding_moment c.args.newest (reached t.snapshot t.car x) j) c.args.opened in
+          let more = sum_step f c.loop-j.leaving.cost _ j _ _ (c.loop-j.invariant.cost x e) c.in-Some.ensures.steps in
+          let here : c.cost_of_call.result ≡ f j = c.cost_of_call.ensures.cost
+          ∙ ap (λ (b : Building). call_cost b (call_in c.calls-all.result.now j) c.boarded_at-boarded.result c.args.opened) c.building-building.ensures.value
+          ∙ ap (λ (calls : List Call). call_cost s.building (call_in calls j) c.boarded_at-boarded.result c.args.opened) c.calls-all.ensures.value
+          ∙ ap (λ (m : ℕ). cost_of_call s j m c.args.opened) (c.boarded_at-boarded.ensures.value x e) in omega (arith, more, here);
       few = taken.0;
       small = taken.1;
     }

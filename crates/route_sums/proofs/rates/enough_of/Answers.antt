@@ -14,5 +14,7 @@ pub returns : goal.returns
 returns c = λ k early le.
     let term = to_z w128 (of_z w128 (to_z w128 (of_z w128 c.scaled.result) -ℤ to_z w128 (of_z w128 c.args.price))) in
     let small = c.requires.ride in
-    let is = term_stored c.scaled.result c.args.price c.args.ride c.scaled.ensures (omega (arith, small)) c.requires.price in
-    (c.if-is_required.false, enough_at c.args.wait c.args.released c.args.ride k c.depth_of.result c.args.price term (some c.args.wait c.if-wait-eq0.false) c.depth_of.ensures is le)
+    let is = term_stored c.scaled.result c.args.price c.args.ride c.scaled.ensures (omega (arith, small)) c.requires.price in (
+      c.if-is_required.false,
+      enough_at c.args.wait c.args.released c.args.ride k c.depth_of.result c.args.price term (some c.args.wait c.if-wait-eq0.false) c.depth_of.ensures is le,
+    )

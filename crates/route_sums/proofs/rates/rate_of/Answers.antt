@@ -33,5 +33,10 @@ returns c =
     let free = subst (λ (call : Call). call.released ≤ s.moment) (sym of_call) (c.calls.ensures.accepted.calls j c.requires.call).released in
     let moment = c.calls.ensures.accepted.moment in
     let has_row = λ (e : c.has_row.result ≡ true). subst (HasRow c.args.is_required) stored (c.has_row.ensures e) in
-    let enough = subst (λ (z : ℤ). (k : ℕ) → k ≤ 99100000000 → c.enough_of.result ≤ k → (c.args.is_required ≡ false) × (pos 0 ≤ℤ (scaled (rider.persons * c.wait_weight.result * (k - rider.released) + rider.persons * c.travel_weight.result * time) -ℤ z))) stored c.enough_of.ensures in
-    rate_is s c.args.car j b rider _ c.args.price c.args.is_required time c.building-building.ensures.value of_call c.requires.call c.least_ride.ensures.value refl refl (ap (λ (x : ℕ). rider.released + x) c.patience.ensures.value) (ap (λ (x : ℕ). rider.persons * x) wait) (ap (λ (x : ℕ). rider.persons * x) over) (ap (λ (x : ℕ). rider.persons * x * time) travel) (omega (arith, waits)) (omega (arith, overs)) (omega (arith, ride)) stored refl (omega (arith, free, moment)) has_row enough
+    let enough = subst (λ (z : ℤ). (k : ℕ) → k ≤ 99100000000 → c.enough_of.result ≤ k → (c.args.is_required ≡ false)
+    × (pos 0 ≤ℤ (scaled (rider.persons * c.wait_weight.result * (k - rider.released) + rider.persons * c.travel_weight.result * time) -ℤ z))) stored
+    c.enough_of.ensures in
+    rate_is s c.args.car j b rider _ c.args.price c.args.is_required time c.building-building.ensures.value of_call c.requires.call c.least_ride.ensures.value
+    refl refl (ap (λ (x : ℕ). rider.released + x) c.patience.ensures.value) (ap (λ (x : ℕ). rider.persons * x) wait)
+    (ap (λ (x : ℕ). rider.persons * x) over) (ap (λ (x : ℕ). rider.persons * x * time) travel) (omega (arith, waits)) (omega (arith, overs))
+    (omega (arith, ride)) stored refl (omega (arith, free, moment)) has_row enough

@@ -17,5 +17,7 @@ loop-j-preserved c =
     let lt = c.loop-j-test.true in
     let size = c.requires.prices in
     let price = stored_price c.price_of.result c.price_of.ensures.range ∙ c.price_of.ensures.value in
-    let here = subst (λ (b : Bool). IsCallRate s c.args.car j (to_z w128 (of_z w128 c.price_of.result)) b c.rate_of.result) c.contains.ensures c.rate_of.ensures in
-    one_set s c.args.car prices (has c.args.required) j c.loop-j.rates _ c.rate_of.result c.loop-j.invariant (omega (arith, lt, size)) (subst (λ (z : ℤ). IsCallRate s c.args.car j z (has c.args.required j) c.rate_of.result) price here) refl
+    let here = subst (λ (b : Bool). IsCallRate s c.args.car j (to_z w128 (of_z w128 c.price_of.result)) b c.rate_of.result) c.contains.ensures
+    c.rate_of.ensures in
+    one_set s c.args.car prices (has c.args.required) j c.loop-j.rates _ c.rate_of.result c.loop-j.invariant (omega (arith, lt, size))
+    (subst (λ (z : ℤ). IsCallRate s c.args.car j z (has c.args.required j) c.rate_of.result) price here) refl

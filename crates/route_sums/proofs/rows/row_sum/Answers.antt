@@ -11,8 +11,10 @@ loop-call-init c =
     let row = c.args.row.now in
     let left = ap (λ it. it.left) c.into_iter-call-iterator.ensures.into_iter_gives ∙ c.iter-call-items.ensures in
     record {
-      added = none_in_row c.args.calls c.into_iter-call-iterator.result.left (length row) (row_part row c.args.leaves) _ c.requires.few c.requires.within left refl;
-      waiting = none_filtered (length row) c.args.calls c.into_iter-call-iterator.result.left (λ j. int_lt (row_at (get_or row j no_term) c.args.leaves) (pos 0)) c.requires.few c.requires.within left;
+      added = none_in_row c.args.calls c.into_iter-call-iterator.result.left (length row)
+          (row_part row c.args.leaves) _ c.requires.few c.requires.within left refl;
+      waiting = none_filtered (length row) c.args.calls c.into_iter-call-iterator.result.left
+          (λ j. int_lt (row_at (get_or row j no_term) c.args.leaves) (pos 0)) c.requires.few c.requires.within left;
     }
 
 pub loop-call-preserved : goal.loop-call-preserved
@@ -26,8 +28,10 @@ loop-call-preserved c =
     let size = counted_size (row_at (get_or row j no_term) c.args.leaves) (omega (arith, ints, least, is)) in
     let stored = stored_64 c.at.result (omega (arith, ints, least)) (omega (arith, ints, most)) ∙ is in
     record {
-      added = one_in_row c.args.calls (length row) j (row_part row c.args.leaves) _ _ _ _ c.loop-call.invariant.added c.in-Some.ensures.steps (counted_stored _ _ _ c.at.result least most is c.with-sum.ensures.added) size.0 size.1;
-      waiting = one_filtered (length row) c.args.calls j _ _ test _ _ _ c.loop-call.invariant.waiting c.in-Some.ensures.steps (ap (λ (z : ℤ). not (int_lt z (pos 0))) stored) c.with-sum.ensures.waiting;
+      added = one_in_row c.args.calls (length row) j (row_part row c.args.leaves) _ _ _ _ c.loop-call.invariant.added c.in-Some.ensures.steps
+          (counted_stored _ _ _ c.at.result least most is c.with-sum.ensures.added) size.0 size.1;
+      waiting = one_filtered (length row) c.args.calls j _ _ test _ _ _ c.loop-call.invariant.waiting c.in-Some.ensures.steps
+          (ap (λ (z : ℤ). not (int_lt z (pos 0))) stored) c.with-sum.ensures.waiting;
     }
 
 pub returns-clause-low : goal.returns-clause-low

@@ -10,5 +10,6 @@ use Rattle.route_sums.proofs.rows.row_sum.Given as goal
 abbrev pub invariant-loop-call : goal.invariant-loop-call
 invariant-loop-call l = record {
   added : IsRowSum l.fn.calls (length l.row) (row_part l.row l.leaves) (members 128 l.call-iterator.left) l.sum.added;
-  waiting : IsFiltered (length l.row) l.fn.calls (λ j. int_lt (row_at (slice_index_or l.row j no_term) l.leaves) (pos 0)) (members 128 l.call-iterator.left) l.sum.waiting;
+  waiting : IsFiltered (length l.row) l.fn.calls (λ j. int_lt (row_at (slice_index_or l.row j no_term) l.leaves) (pos 0))
+      (members 128 l.call-iterator.left) l.sum.waiting;
 }

@@ -16,8 +16,11 @@ loop-place-preserved c =
     let size = c.loop-place.auto.terms in
     let travel : c.travel-travel.result.now ≡ s.building.travel = c.travel-travel.ensures.value ∙ ap (λ (b : Building). b.travel) c.building.ensures.value in
     let time = c.time-way.ensures.value ∙ ap (λ (t : Square). time_between t (n / length rates) rate.origin) travel in
-    let way : c.time-way.result + c.opening_of-opening.result ≡ time_between s.building.travel (n / length rates) rate.origin + (spec_of s c.args.car).opening = ap (λ (k : ℕ). k + c.opening_of-opening.result) time ∙ ap (λ (k : ℕ). time_between s.building.travel (n / length rates) rate.origin + k) c.opening_of-opening.ensures.value in
-    one_put s c.args.car rates n c.loop-place.terms _ c.term_or_none.result c.loop-place.invariant (omega (arith, lt, size)) (λ has. subst (λ (k : ℕ). IsTermOf rate k c.term_or_none.result) way (c.term_or_none.ensures has)) refl
+    let way : c.time-way.result + c.opening_of-opening.result
+    ≡ time_between s.building.travel (n / length rates) rate.origin + (spec_of s c.args.car).opening = ap (λ (k : ℕ). k + c.opening_of-opening.result) time
+    ∙ ap (λ (k : ℕ). time_between s.building.travel (n / length rates) rate.origin + k) c.opening_of-opening.ensures.value in
+    one_put s c.args.car rates n c.loop-place.terms _ c.term_or_none.result c.loop-place.invariant (omega (arith, lt, size))
+    (λ has. subst (λ (k : ℕ). IsTermOf rate k c.term_or_none.result) way (c.term_or_none.ensures has)) refl
 
 pub returns : goal.returns
 returns c =

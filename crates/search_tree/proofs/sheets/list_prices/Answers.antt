@@ -19,7 +19,8 @@ loop-call-preserved c =
     let k = c.loop-call.call in
     let prices = c.args.prices.now in
     let listed : PriceOf = record { call = k; price = c.index-prices-call.result } in (
-      ap (λ (list : List PriceOf). list ++ prices_from (k + 1) (drop (k + 1) prices)) c.in_ok-push.ensures.ok ∙ priced_more c.loop-call.list prices k c.index-prices-call.result _ c.loop-call-test.true c.index-prices-call.is c.loop-call.invariant.0,
+      ap (λ (list : List PriceOf). list ++ prices_from (k + 1) (drop (k + 1) prices)) c.in_ok-push.ensures.ok
+          ∙ priced_more c.loop-call.list prices k c.index-prices-call.result _ c.loop-call-test.true c.index-prices-call.is c.loop-call.invariant.0,
       subst (All InRange) (sym c.in_ok-push.ensures.ok) (All-push InRange c.loop-call.list listed c.loop-call.invariant.1 c.value.ensures.range),
     )
 

@@ -6,4 +6,5 @@ use Rattle.search_tree.specs.Sheets.{worths_from}
 use Rattle.search_tree.proofs.sheets.list_worths.Given as goal
 
 abbrev pub invariant-loop-car : goal.invariant-loop-car
-invariant-loop-car l = (l.list ++ worths_from l.claim l.car (drop l.car l.worths) ≡ worths_from l.claim 0 l.worths) × All (λ (w : WorthOf). IsWorthSize w.worth) l.list
+invariant-loop-car l = (l.list ++ worths_from l.claim l.car (drop l.car l.worths) ≡ worths_from l.claim 0 l.worths)
+    × All (λ (w : WorthOf). IsWorthSize w.worth) l.list

@@ -25,8 +25,10 @@ loop-car-preserved c =
     let other : to_z w128 (of_z w128 turn.priced.worth) ≡ turn.priced.worth = search rules in
     let first = own ∙ c.loop-car.invariant.rest k (omega arith) in
     let second = other ∙ ap turn_worth turn_is in
-    let greater = c.max.ensures.value ∙ ap (λ (z : ℤ). int_max z (to_z w128 (of_z w128 turn.priced.worth))) first ∙ ap (int_max (get_or worths k (pos 0))) second in
-    written_more (raised worths cars) worths c.loop-car.worths k (to_z w128 (of_z w128 c.max.result)) (omega arith) c.loop-car.invariant (stored ∙ greater ∙ sym (raised_at worths cars k in_worths in_cars))
+    let greater = c.max.ensures.value ∙ ap (λ (z : ℤ). int_max z (to_z w128 (of_z w128 turn.priced.worth))) first
+    ∙ ap (int_max (get_or worths k (pos 0))) second in
+    written_more (raised worths cars) worths c.loop-car.worths k (to_z w128 (of_z w128 c.max.result)) (omega arith) c.loop-car.invariant
+    (stored ∙ greater ∙ sym (raised_at worths cars k in_worths in_cars))
 
 pub returns : goal.returns
 returns c = written_all (raised c.args.worths.now c.args.cars.now) c.args.worths.now c.loop-car.worths c.loop-car.car (omega arith) c.loop-car.invariant

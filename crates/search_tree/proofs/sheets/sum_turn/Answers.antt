@@ -9,7 +9,8 @@ pub loop-car-preserved : goal.loop-car-preserved
 loop-car-preserved c =
     let d = c.index-cars-car.result in
     let x = get_or c.args.cars.now c.loop-car.car d in
-    sums_more (λ (t : TurnOf). t.priced.worth) c.args.cars.now c.loop-car.car _ x no_turn (omega arith) (omega arith) c.loop-car.invariant (get_or_default c.args.cars.now c.loop-car.car d no_turn (omega arith)) (c.requires.sizes c.loop-car.car (omega arith))
+    sums_more (λ (t : TurnOf). t.priced.worth) c.args.cars.now c.loop-car.car _ x no_turn (omega arith) (omega arith) c.loop-car.invariant
+    (get_or_default c.args.cars.now c.loop-car.car d no_turn (omega arith)) (c.requires.sizes c.loop-car.car (omega arith))
 
 pub returns : goal.returns
 returns c = record {

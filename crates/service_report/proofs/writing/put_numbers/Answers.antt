@@ -11,4 +11,11 @@ put_line-requires c = record {
 }
 
 pub returns : goal.returns
-returns c = rw (c.as_slice.ensures.value, c.in_ok-wait_text.ensures, c.as_slice-2.ensures.value, c.in_ok-ride_text.ensures, c.as_slice-3.ensures.value, c.in_ok-total_text.ensures) at c.put_line.ensures
+returns c = rw (
+  c.as_slice.ensures.value,
+  c.in_ok-wait_text.ensures,
+  c.as_slice-2.ensures.value,
+  c.in_ok-ride_text.ensures,
+  c.as_slice-3.ensures.value,
+  c.in_ok-total_text.ensures,
+) at c.put_line.ensures

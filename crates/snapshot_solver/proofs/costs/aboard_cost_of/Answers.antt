@@ -23,7 +23,8 @@ overflow_add-cost c =
     omega (arith, few, same, so_far, more)
 
 -- the group's car, as the code finds it
-car-here : (s : Snapshot) (groups : List Aboard) (k car : ℕ) (r : Bool) → groups ≡ s.aboard → ((get_or groups k no_group).car == car) ≡ r → ((group_of s k).car == car) ≡ r
+car-here : (s : Snapshot) (groups : List Aboard) (k car : ℕ) (r : Bool) → groups ≡ s.aboard → ((get_or groups k no_group).car == car) ≡ r
+    → ((group_of s k).car == car) ≡ r
 car-here s groups k car r same e = cc
 
 pub loop-group-preserved : goal.loop-group-preserved
@@ -34,8 +35,15 @@ loop-group-preserved c =
     let so_far = c.loop-group.invariant.cost_is in
     let bounded = c.loop-group.invariant.bounded in
     elim c.if-groups-group.branch [
-      | then-groups-group w ↦ (let more = sum_where-take n mine (straight_cost s) (car-here s c.aboard-groups.result.now n c.args.car true c.aboard-groups.ensures.value (eq-eqb _ c.args.car w.if-groups-group.true)) in let cost = w.straight_cost_of-cost.ensures.cost in let most = w.straight_cost_of-cost.ensures.bounded in record { cost_is = omega (arith, more, so_far, cost, w.cost-is); bounded = omega (arith, bounded, most, w.cost-is) })
-      | else-groups-group w ↦ (let more = sum_where-skip n mine (straight_cost s) (car-here s c.aboard-groups.result.now n c.args.car false c.aboard-groups.ensures.value (ne_eqb _ c.args.car w.if-groups-group.false)) in record { cost_is = omega (arith, more, so_far, w.cost-is); bounded = omega (arith, bounded, w.cost-is) })
+      | then-groups-group w ↦
+          (let more = sum_where-take n mine (straight_cost s)
+          (car-here s c.aboard-groups.result.now n c.args.car true c.aboard-groups.ensures.value (eq-eqb _ c.args.car w.if-groups-group.true)) in
+          let cost = w.straight_cost_of-cost.ensures.cost in let most = w.straight_cost_of-cost.ensures.bounded in
+          record { cost_is = omega (arith, more, so_far, cost, w.cost-is); bounded = omega (arith, bounded, most, w.cost-is) })
+      | else-groups-group w ↦
+          (let more = sum_where-skip n mine (straight_cost s)
+          (car-here s c.aboard-groups.result.now n c.args.car false c.aboard-groups.ensures.value (ne_eqb _ c.args.car w.if-groups-group.false)) in
+          record { cost_is = omega (arith, more, so_far, w.cost-is); bounded = omega (arith, bounded, w.cost-is) })
     ]
 
 pub returns-clause-bounded : goal.returns-clause-bounded

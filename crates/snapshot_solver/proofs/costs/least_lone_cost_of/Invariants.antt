@@ -8,6 +8,7 @@ use Rattle.snapshot_solver.proofs.costs.least_lone_cost_of.Given as goal
 
 abbrev pub invariant-loop-car : goal.invariant-loop-car
 invariant-loop-car l = record {
-  least_is : l.least ≡ least_where l.car (λ c. is_possible l.snapshot c (call_of l.snapshot l.call)) (λ c. cost_if_alone l.snapshot l.call (moment_of (state_of l.snapshot c)));
+  least_is : l.least ≡ least_where l.car (λ c. is_possible l.snapshot c (call_of l.snapshot l.call))
+      (λ c. cost_if_alone l.snapshot l.call (moment_of (state_of l.snapshot c)));
   bounded : unwrap_or l.least 0 ≤ 2400000000000000;
 }

@@ -15,11 +15,19 @@ returns-clause-answer g c =
     let s = c.args.snapshot.now in
     let sheet = c.in_ok-sheet.sheet in
     let bound : rounded_up (sum_of_sheet sheet) ≡ pos (floor_of_bound s) = ap rounded_up c.in_ok-sheet.ensures.sum ∙ rounded_scaled (floor_of_bound s) in
-    let Answer : List ℤ → ℤ → Found → Type 0 = λ prices z f. IsFound prices z s c.args.limits.rounds c.args.limits.most_tours f.stated.plan f.stated.cost f.stated.bound f.tree.twigs f.turns f.why in
-    if_ok (Answer sheet.prices (rounded_up (sum_of_sheet sheet))) (Answer (start_prices s) (pos (floor_of_bound s))) (λ f h. subst (λ (z : ℤ). Answer (start_prices s) z f) bound (subst (λ (ps : List ℤ). Answer ps (rounded_up (sum_of_sheet sheet)) f) c.in_ok-sheet.ensures.prices h)) c.find_plan.result c.find_plan.ensures.found
+    let Answer : List ℤ → ℤ → Found
+    → Type 0 = λ prices z f.
+    IsFound prices z s c.args.limits.rounds c.args.limits.most_tours f.stated.plan f.stated.cost f.stated.bound f.tree.twigs f.turns f.why in
+    if_ok (Answer sheet.prices (rounded_up (sum_of_sheet sheet))) (Answer (start_prices s) (pos (floor_of_bound s)))
+    (λ f h. subst (λ (z : ℤ). Answer (start_prices s) z f) bound
+    (subst (λ (ps : List ℤ). Answer ps (rounded_up (sum_of_sheet sheet)) f) c.in_ok-sheet.ensures.prices h)) c.find_plan.result c.find_plan.ensures.found
 
 pub returns-clause-enough : goal.returns-clause-enough
 returns-clause-enough g c rounds moves =
     let s = c.args.snapshot.now in
-    let Answer : Found → Type 0 = λ f. IsSolveAnswer s c.args.limits.rounds c.args.limits.most_tours f.stated.plan f.stated.cost f.stated.bound f.tree.twigs f.turns f.why in
-    if_ok Answer (λ f. f.why ≡ Solved) (λ f h. (enough_is_solved (start_prices s) (pos (floor_of_bound s)) s c.args.limits.rounds c.args.limits.most_tours f.stated.plan f.stated.cost f.stated.bound f.tree.twigs f.turns f.why c.calls.ensures.accepted (few_tours s) rounds moves h).1) c.find_plan.result (returns-clause-answer g c)
+    let Answer : Found → Type 0 =
+    λ f. IsSolveAnswer s c.args.limits.rounds c.args.limits.most_tours f.stated.plan f.stated.cost f.stated.bound f.tree.twigs f.turns f.why in
+    if_ok Answer (λ f. f.why ≡ Solved)
+    (λ f h. (enough_is_solved (start_prices s)
+    (pos (floor_of_bound s)) s c.args.limits.rounds c.args.limits.most_tours f.stated.plan f.stated.cost f.stated.bound f.tree.twigs f.turns f.why
+    c.calls.ensures.accepted (few_tours s) rounds moves h).1) c.find_plan.result (returns-clause-answer g c)

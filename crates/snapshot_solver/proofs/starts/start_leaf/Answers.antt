@@ -10,4 +10,6 @@ pub returns : goal.returns
 returns c =
     let s = c.args.snapshot.now in
     let start = c.in_ok-sheet.ensures in
-    if_both (λ (leaf : Leaf). leaf ≡ leaf_with 1 c.in_ok-sheet.sheet) IsSizedLeaf (IsStartLeaf s) (λ leaf is sized. starts-leaf s c.in_ok-sheet.sheet leaf start.prices start.worths start.root start.sum is sized) c.to_leaf.result c.to_leaf.ensures.leaf c.to_leaf.ensures.sized
+    if_both (λ (leaf : Leaf). leaf ≡ leaf_with 1 c.in_ok-sheet.sheet) IsSizedLeaf (IsStartLeaf s)
+    (λ leaf is sized. starts-leaf s c.in_ok-sheet.sheet leaf start.prices start.worths start.root start.sum is sized) c.to_leaf.result
+    c.to_leaf.ensures.leaf c.to_leaf.ensures.sized

@@ -30,8 +30,12 @@ new-requires-clause-sizes c = worths-sized c.args.snapshot.now c.in_ok-worths.wo
 
 pub returns-clause-sum : goal.returns-clause-sum
 returns-clause-sum c =
-    sheet-sum c.args.snapshot.now c.new.result c.calls-calls.ensures.accepted (ap (λ (sheet : PriceSheet). sheet.prices) c.new.ensures ∙ c.in_ok-prices.ensures) (ap (λ (sheet : PriceSheet). sheet.worths) c.new.ensures ∙ c.in_ok-worths.ensures)
+    sheet-sum c.args.snapshot.now c.new.result c.calls-calls.ensures.accepted
+    (ap (λ (sheet : PriceSheet). sheet.prices) c.new.ensures ∙ c.in_ok-prices.ensures)
+    (ap (λ (sheet : PriceSheet). sheet.worths) c.new.ensures ∙ c.in_ok-worths.ensures)
 
 pub returns-clause-root : goal.returns-clause-root
 returns-clause-root c =
-    sheet-in_root c.args.snapshot.now c.new.result c.calls-calls.ensures.accepted (ap (λ (sheet : PriceSheet). sheet.prices) c.new.ensures ∙ c.in_ok-prices.ensures) (ap (λ (sheet : PriceSheet). sheet.worths) c.new.ensures ∙ c.in_ok-worths.ensures)
+    sheet-in_root c.args.snapshot.now c.new.result c.calls-calls.ensures.accepted
+    (ap (λ (sheet : PriceSheet). sheet.prices) c.new.ensures ∙ c.in_ok-prices.ensures)
+    (ap (λ (sheet : PriceSheet). sheet.worths) c.new.ensures ∙ c.in_ok-worths.ensures)

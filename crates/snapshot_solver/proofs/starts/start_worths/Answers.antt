@@ -9,4 +9,5 @@ loop-car-preserved c =
     let worth = c.start_worth.result in
     let stored : to_z w128 (of_z w128 worth) ≡ worth = search rules in
     rw c.in_ok-push.ensures.items
-    (made-more (start_worth c.args.snapshot.now) c.loop-car.car c.loop-car.worths.items (to_z w128 (of_z w128 worth)) c.loop-car.invariant (stored ∙ c.start_worth.ensures))
+    (made-more (start_worth c.args.snapshot.now) c.loop-car.car c.loop-car.worths.items (to_z w128 (of_z w128 worth)) c.loop-car.invariant
+    (stored ∙ c.start_worth.ensures))

@@ -29,8 +29,11 @@ pub returns-in-Ok-into_snapshot-clause-snapshot : goal.returns-in-Ok-into_snapsh
 returns-in-Ok-into_snapshot-clause-snapshot g c = λ none.
     (let left = g.S.Source.left in
     let end = c.read_section.new.section in
-    let read = c.in-Ok-read_section.ensures.outcome none in
-    (end, sym c.in-Ok-into_snapshot.ensures.value, subst (λ (start : Draft). ReadAs after (text left c.args.lines.now) start (Ok tt) end (text left c.read_section.new.lines)) c.in-Ok.ensures.value read))
+    let read = c.in-Ok-read_section.ensures.outcome none in (
+      end,
+      sym c.in-Ok-into_snapshot.ensures.value,
+      subst (λ (start : Draft). ReadAs after (text left c.args.lines.now) start (Ok tt) end (text left c.read_section.new.lines)) c.in-Ok.ensures.value read,
+    ))
 
 pub returns-in-Ok-into_snapshot-clause-said : goal.returns-in-Ok-into_snapshot-clause-said
 returns-in-Ok-into_snapshot-clause-said g c = λ none.
@@ -51,7 +54,8 @@ returns-in-Ok-into_snapshot-clause-lines g c = λ none lines s rest says.
     let now = text left c.read_section.new.lines in
     let end = c.read_section.new.section in
     let read = subst (λ (start : Draft). ReadAs after before start (Ok tt) end now) c.in-Ok.ensures.value (c.in-Ok-read_section.ensures.outcome none) in
-    subst (λ (found : Snapshot). IfSome before (λ before_text. BeginsWith lines (reading before_text) rest → (found ≡ s) × IsSomeAnd now (λ behind. reading behind ≡ rest)))
+    subst (λ (found : Snapshot).
+    IfSome before (λ before_text. BeginsWith lines (reading before_text) rest → (found ≡ s) × IsSomeAnd now (λ behind. reading behind ≡ rest)))
     (sym c.in-Ok-into_snapshot.ensures.value) (answer_ok c.args.building c.args.is_opening lines s rest says before now end read))
 
 pub returns-in-Ok-into_snapshot-clause-again : goal.returns-in-Ok-into_snapshot-clause-again
@@ -77,7 +81,8 @@ returns-in-Err-read_section-clause-lines g c = λ none lines s rest says.
     let before = text left c.args.lines.now in
     let now = text left c.read_section.new.lines in
     let end = c.read_section.new.section in
-    let read = subst (λ (start : Draft). ReadAs after before start (Err c.in-Err-read_section.fault) end now) c.in-Ok.ensures.value (c.in-Err-read_section.ensures.outcome none) in
+    let read = subst (λ (start : Draft). ReadAs after before start (Err c.in-Err-read_section.fault) end now) c.in-Ok.ensures.value
+    (c.in-Err-read_section.ensures.outcome none) in
     answer_err c.args.building c.args.is_opening lines s rest says before now c.in-Err-read_section.fault end read)
 
 pub returns-in-Err-read_section-clause-unfinished : goal.returns-in-Err-read_section-clause-unfinished
@@ -85,4 +90,6 @@ returns-in-Err-read_section-clause-unfinished g c = λ none is.
     (let left = g.S.Source.left in
     let before = text left c.args.lines.now in
     let behind = left c.read_section.new.lines.source.now in
-    ends_behind before c.args.building c.args.is_opening behind (subst (λ (start : Draft). EndsBehind after before start behind) c.in-Ok.ensures.value (c.in-Err-read_section.ensures.unfinished none (ap Err (same_error (Err c.in-Err-read_section.fault) c.in-Err-read_section.fault Read refl is)))))
+    ends_behind before c.args.building c.args.is_opening behind
+    (subst (λ (start : Draft). EndsBehind after before start behind) c.in-Ok.ensures.value
+    (c.in-Err-read_section.ensures.unfinished none (ap Err (same_error (Err c.in-Err-read_section.fault) c.in-Err-read_section.fault Read refl is)))))

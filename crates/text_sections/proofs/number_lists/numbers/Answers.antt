@@ -12,7 +12,8 @@ pub loop-k-preserved : goal.loop-k-preserved
 loop-k-preserved g c =
     let line = words c.args.lines.now in
     let inside : c.loop-k.k < length line = omega (arith, c.words-k-end.ensures) in
-    read_more line c.args.from c.args.low c.args.high c.loop-k.k c.in_ok-value.value c.args.out.now.items c.loop-k.out.items c.push.new.self.items inside c.loop-k.invariant
+    read_more line c.args.from c.args.low c.args.high c.loop-k.k c.in_ok-value.value c.args.out.now.items c.loop-k.out.items c.push.new.self.items inside
+    c.loop-k.invariant
     c.in_ok-value.ensures.value c.in_ok-push.ensures.items
 
 pub returns : goal.returns
@@ -26,5 +27,7 @@ returns-in_err-value g c =
     let line = words c.args.lines.now in
     let inside : c.loop-k.k < length line = omega (arith, c.words-k-end.ensures) in
     let same = err_from_is_err_and c.from_residual.result c.from_residual.ensures.1 in
-    appends_bad (numbers line c.args.from c.args.low c.args.high) c.args.out.now.items c.loop-k.out.items c.from_residual.result same.0 c.in_err-value.field-0.0 same.1 same.2
-    (read_bad line c.args.from c.args.low c.args.high c.loop-k.k c.args.out.now.items c.loop-k.out.items c.in_err-value.field-0.0 inside c.loop-k.invariant c.in_err-value.ensures.value)
+    appends_bad (numbers line c.args.from c.args.low c.args.high) c.args.out.now.items c.loop-k.out.items c.from_residual.result same.0
+    c.in_err-value.field-0.0 same.1 same.2
+    (read_bad line c.args.from c.args.low c.args.high c.loop-k.k c.args.out.now.items c.loop-k.out.items c.in_err-value.field-0.0 inside c.loop-k.invariant
+    c.in_err-value.ensures.value)

@@ -13,8 +13,10 @@ invariant-lines g l = record {
   same_failure : failure l.lines ≡ failure l.initial.lines;
   no_failure : 0 < l.counter → failure l.lines ≡ None;
   some_words : 0 < l.counter → 0 < length (words l.lines);
-  leads : failure l.initial.lines ≡ None → Leads g.T.Section.after (text g.S.Source.left l.initial.lines) l.initial.section l.section (text g.S.Source.left l.lines);
-  remains : failure l.initial.lines ≡ None → Remains g.T.Section.after (text g.S.Source.left l.initial.lines) l.initial.section l.section (text g.S.Source.left l.lines);
+  leads : failure l.initial.lines ≡ None
+      → Leads g.T.Section.after (text g.S.Source.left l.initial.lines) l.initial.section l.section (text g.S.Source.left l.lines);
+  remains : failure l.initial.lines ≡ None
+      → Remains g.T.Section.after (text g.S.Source.left l.initial.lines) l.initial.section l.section (text g.S.Source.left l.lines);
   risen : failure l.initial.lines ≡ None → Counted (text g.S.Source.left l.initial.lines) l.counter (text g.S.Source.left l.lines);
   gone : Gone g.T.Section.after l.initial.section l.section;
   behind : failure l.initial.lines ≡ None → StandsBehind (text g.S.Source.left l.initial.lines) (text g.S.Source.left l.lines);

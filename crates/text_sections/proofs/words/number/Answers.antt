@@ -17,7 +17,8 @@ use Rattle.text_sections.proofs.words.number.Goals.{In_ok-value, After-from_resi
 natural : (g : Over) (c : In_ok-value g) → IsNatural c.args.low c.args.high (word_at (words c.args.lines.now) c.args.k) c.in_ok-value.value
 natural g c =
     natural_value c.args.low c.args.high (word_at (words c.args.lines.now) c.args.k) c.in_ok-value.value _ _
-    (widened c.args.low c.from.result c.from.ensures (omega (arith, c.ranges.low.fits))) (widened c.args.high c.from-2.result c.from-2.ensures (omega (arith, c.ranges.high.fits))) c.in_ok-value.ensures
+    (widened c.args.low c.from.result c.from.ensures (omega (arith, c.ranges.low.fits)))
+    (widened c.args.high c.from-2.result c.from-2.ensures (omega (arith, c.ranges.high.fits))) c.in_ok-value.ensures
 
 pub overflow_cast-result : goal.overflow_cast-result
 overflow_cast-result g c =
@@ -36,7 +37,8 @@ value_in_err g c =
     let same = err_from_is_err_and c.from_residual.result c.from_residual.ensures.1 in
     same.1 ∙ ap Err same.2 ∙
     natural_error c.args.low c.args.high (word_at (words c.args.lines.now) c.args.k) c.in_err-value.field-0.0 _ _
-    (widened c.args.low c.from.result c.from.ensures (omega (arith, c.ranges.low.fits))) (widened c.args.high c.from-2.result c.from-2.ensures (omega (arith, c.ranges.high.fits))) c.in_err-value.ensures
+    (widened c.args.low c.from.result c.from.ensures (omega (arith, c.ranges.low.fits)))
+    (widened c.args.high c.from-2.result c.from-2.ensures (omega (arith, c.ranges.high.fits))) c.in_err-value.ensures
 
 pub returns-in_err-value-clause-value : goal.returns-in_err-value-clause-value
 returns-in_err-value-clause-value g c = value_in_err g c
@@ -52,9 +54,11 @@ returns-clause-written g c = λ n small is above below.
 pub returns-clause-within : goal.returns-clause-within
 returns-clause-within g c =
     let word = word_at (words c.args.lines.now) c.args.k in
-    subst (λ (answer : Judged ℕ). IfOk answer (λ n. (c.args.low ≤ n) × (n ≤ c.args.high))) (sym (returns-clause-value g c)) (is_within c.args.low c.args.high (digits_number word))
+    subst (λ (answer : Judged ℕ). IfOk answer (λ n. (c.args.low ≤ n) × (n ≤ c.args.high))) (sym (returns-clause-value g c))
+    (is_within c.args.low c.args.high (digits_number word))
 
 pub returns-in_err-value-clause-within : goal.returns-in_err-value-clause-within
 returns-in_err-value-clause-within g c =
     let word = word_at (words c.args.lines.now) c.args.k in
-    subst (λ (answer : Judged ℕ). IfOk answer (λ n. (c.args.low ≤ n) × (n ≤ c.args.high))) (sym (value_in_err g c)) (is_within c.args.low c.args.high (digits_number word))
+    subst (λ (answer : Judged ℕ). IfOk answer (λ n. (c.args.low ≤ n) × (n ≤ c.args.high))) (sym (value_in_err g c))
+    (is_within c.args.low c.args.high (digits_number word))

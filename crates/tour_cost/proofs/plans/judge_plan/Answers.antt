@@ -21,7 +21,8 @@ found c =
     let tours = c.tours-tours.ensures in
     let within = subst (λ (l : List (List Stop)). c.loop-car.car < length l) tours c.loop-car-test.true in
     let is = subst (λ (l : List (List Stop)). c.index-tours-car.result ≡ get_or l c.loop-car.car c.index-tours-car.result) tours c.index-tours-car.is in
-    bad_here c.args.snapshot.now (has c.loop-car.taken) c.loop-car.car c.args.plan.now c.index-tours-car.result c.in-Err.broken within is c.in-Err.ensures c.loop-car.invariant.clear
+    bad_here c.args.snapshot.now
+    (has c.loop-car.taken) c.loop-car.car c.args.plan.now c.index-tours-car.result c.in-Err.broken within is c.in-Err.ensures c.loop-car.invariant.clear
 
 pub returns-in-Err-clause-first : goal.returns-in-Err-clause-first
 returns-in-Err-clause-first c = found c
@@ -53,7 +54,8 @@ loop-car-preserved c =
       served = served_on taken new car plan tour within is new_is c.loop-car.invariant.served;
     }
 
-unserved : (c : goal.In-Some) → first_bad c.args.snapshot.now c.args.plan.now ≡ Some (record { car = length c.tours-tours.result.now; stop = c.in-Some.call; rule = Unserved })
+unserved : (c : goal.In-Some)
+    → first_bad c.args.snapshot.now c.args.plan.now ≡ Some (record { car = length c.tours-tours.result.now; stop = c.in-Some.call; rule = Unserved })
 unserved c =
     let s = c.args.snapshot.now in
     let taken = has c.loop-car.taken in

@@ -15,7 +15,8 @@ loop-call-init c =
     let left = ap (λ it. it.left) c.into_iter-call-iterator.ensures.into_iter_gives ∙ c.iter-call-items.ensures in
     record {
       below = subst (λ (set : ℕ). AreBelow (call_count s) (members 128 set)) (sym left) (members_below 128 c.args.calls (call_count s) c.requires);
-      any = members_any 128 c.args.calls (call_count s) test (most_calls_few s c.snapshot-accepted.ensures.accepted) c.requires ∙ sym (ap (λ (set : ℕ). list_any test (members 128 set)) left);
+      any = members_any 128 c.args.calls (call_count s) test (most_calls_few s c.snapshot-accepted.ensures.accepted) c.requires
+          ∙ sym (ap (λ (set : ℕ). list_any test (members 128 set)) left);
     }
 
 pub keeps_queue_and_way-requires : goal.keeps_queue_and_way-requires
@@ -23,14 +24,17 @@ keeps_queue_and_way-requires c = below_first (call_count c.args.layout.now.snaps
 
 pub returns-then-keeps_queue_and_way : goal.returns-then-keeps_queue_and_way
 returns-then-keeps_queue_and_way c =
-    first_passes (keeps_queue_and_way c.args.layout.now.snapshot c.args.missing c.args.sides c.args.floor) _ c.in-Some.call _ _ c.loop-call.invariant.any c.in-Some.ensures.steps (sym c.keeps_queue_and_way.ensures ∙ c.if-keeps_queue_and_way.true)
+    first_passes (keeps_queue_and_way c.args.layout.now.snapshot c.args.missing c.args.sides c.args.floor) _ c.in-Some.call _ _ c.loop-call.invariant.any
+    c.in-Some.ensures.steps (sym c.keeps_queue_and_way.ensures ∙ c.if-keeps_queue_and_way.true)
 
 pub loop-call-preserved : goal.loop-call-preserved
 loop-call-preserved c = record {
   below = below_rest (call_count c.args.layout.now.snapshot) c.in-Some.call _ _ c.loop-call.invariant.below c.in-Some.ensures.steps;
-  any = first_fails (keeps_queue_and_way c.args.layout.now.snapshot c.args.missing c.args.sides c.args.floor) _ c.in-Some.call _ _ c.loop-call.invariant.any c.in-Some.ensures.steps (sym c.keeps_queue_and_way.ensures ∙ c.if-keeps_queue_and_way.false);
+  any = first_fails (keeps_queue_and_way c.args.layout.now.snapshot c.args.missing c.args.sides c.args.floor) _ c.in-Some.call _ _ c.loop-call.invariant.any
+      c.in-Some.ensures.steps (sym c.keeps_queue_and_way.ensures ∙ c.if-keeps_queue_and_way.false);
 }
 
 pub returns : goal.returns
 returns c =
-    none_passes (keeps_queue_and_way c.args.layout.now.snapshot c.args.missing c.args.sides c.args.floor) _ _ c.loop-call.invariant.any c.in-None.ensures.steps.0
+    none_passes (keeps_queue_and_way c.args.layout.now.snapshot c.args.missing c.args.sides c.args.floor) _ _ c.loop-call.invariant.any
+    c.in-None.ensures.steps.0

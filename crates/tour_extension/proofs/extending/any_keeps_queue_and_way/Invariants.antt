@@ -9,5 +9,6 @@ use Rattle.tour_extension.proofs.extending.any_keeps_queue_and_way.Given as goal
 abbrev pub invariant-loop-call : goal.invariant-loop-call
 invariant-loop-call l = record {
   below : AreBelow (call_count l.layout.snapshot) (members 128 l.call-iterator.left);
-  any : any_below (call_count l.layout.snapshot) (λ j. has l.fn.calls j && keeps_queue_and_way l.layout.snapshot l.missing l.sides l.floor j) ≡ list_any (keeps_queue_and_way l.layout.snapshot l.missing l.sides l.floor) (members 128 l.call-iterator.left);
+  any : any_below (call_count l.layout.snapshot) (λ j. has l.fn.calls j && keeps_queue_and_way l.layout.snapshot l.missing l.sides l.floor j)
+      ≡ list_any (keeps_queue_and_way l.layout.snapshot l.missing l.sides l.floor) (members 128 l.call-iterator.left);
 }

@@ -31,7 +31,8 @@ overflow_add-persons c =
     let s = c.args.layout.now.snapshot in
     let step = sum_step (λ j. (call_of s j).persons) c.loop-call.persons _ c.in-Some.call _ _ c.loop-call.invariant.persons c.in-Some.ensures.steps in
     let few = calls_persons_few s c.args.calls c.snapshot.ensures.accepted in
-    let same = ap (λ (calls : List Call). (call_in calls c.in-Some.call).persons) (c.calls-all.ensures.value ∙ ap (λ (x : Snapshot). x.calls) c.snapshot.ensures.value) in
+    let same = ap (λ (calls : List Call). (call_in calls c.in-Some.call).persons)
+    (c.calls-all.ensures.value ∙ ap (λ (x : Snapshot). x.calls) c.snapshot.ensures.value) in
     omega (arith, step, few, same)
 
 pub returns-clause-few : goal.returns-clause-few

@@ -8,5 +8,6 @@ use Rattle.tour_extension.proofs.extending.persons_in.Given as goal
 abbrev pub invariant-loop-call : goal.invariant-loop-call
 invariant-loop-call l = record {
   below : AreBelow (call_count l.layout.snapshot) (members 128 l.call-iterator.left);
-  persons : l.persons + sum_by (λ j. (call_of l.layout.snapshot j).persons) (members 128 l.call-iterator.left) ≡ sum_where (call_count l.layout.snapshot) (has l.fn.calls) (λ j. (call_of l.layout.snapshot j).persons);
+  persons : l.persons + sum_by (λ j. (call_of l.layout.snapshot j).persons) (members 128 l.call-iterator.left)
+      ≡ sum_where (call_count l.layout.snapshot) (has l.fn.calls) (λ j. (call_of l.layout.snapshot j).persons);
 }

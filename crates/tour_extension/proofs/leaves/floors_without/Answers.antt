@@ -10,15 +10,20 @@ loop-floor-init c =
 
 pub any_starts_at-requires : goal.any_starts_at-requires
 any_starts_at-requires c =
-    first_below c.args.floors c.loop-floor.rest c.in-Some.floor (any_from c.args.layout.now.snapshot c.args.calls) _ _ c.loop-floor.invariant c.in-Some.ensures.steps
+    first_below c.args.floors c.loop-floor.rest c.in-Some.floor
+    (any_from c.args.layout.now.snapshot c.args.calls) _ _ c.loop-floor.invariant c.in-Some.ensures.steps
 
 pub loop-floor-preserved-then-any_starts_at : goal.loop-floor-preserved-then-any_starts_at
 loop-floor-preserved-then-any_starts_at c =
-    one_dropped c.args.floors c.loop-floor.rest c.without-rest.result c.in-Some.floor (any_from c.args.layout.now.snapshot c.args.calls) _ _ c.loop-floor.invariant c.in-Some.ensures.steps (sym c.any_starts_at.ensures ∙ c.if-any_starts_at.true) c.without-rest.ensures
+    one_dropped c.args.floors c.loop-floor.rest c.without-rest.result c.in-Some.floor
+    (any_from c.args.layout.now.snapshot c.args.calls) _ _ c.loop-floor.invariant c.in-Some.ensures.steps
+    (sym c.any_starts_at.ensures ∙ c.if-any_starts_at.true) c.without-rest.ensures
 
 pub loop-floor-preserved : goal.loop-floor-preserved
 loop-floor-preserved c =
-    one_stays c.args.floors c.loop-floor.rest c.in-Some.floor (any_from c.args.layout.now.snapshot c.args.calls) _ _ c.loop-floor.invariant c.in-Some.ensures.steps (sym c.any_starts_at.ensures ∙ c.if-any_starts_at.false)
+    one_stays c.args.floors c.loop-floor.rest c.in-Some.floor
+    (any_from c.args.layout.now.snapshot c.args.calls) _ _ c.loop-floor.invariant c.in-Some.ensures.steps
+    (sym c.any_starts_at.ensures ∙ c.if-any_starts_at.false)
 
 pub returns : goal.returns
 returns c =

@@ -6,4 +6,5 @@ use Rattle.tour_rules.proofs.judging.broken_at.Given as goal
 
 abbrev pub invariant-loop-rule : goal.invariant-loop-rule
 invariant-loop-rule l =
-    (p : Progress) → Tracks l.snapshot l.car l.place p → first_rule (breaks l.snapshot l.car (has l.taken) p l.stop) (drop l.rule-index l.rule-items) ≡ broken_at l.snapshot l.car (has l.taken) p l.stop
+    (p : Progress) → Tracks l.snapshot l.car l.place p
+    → first_rule (breaks l.snapshot l.car (has l.taken) p l.stop) (drop l.rule-index l.rule-items) ≡ broken_at l.snapshot l.car (has l.taken) p l.stop

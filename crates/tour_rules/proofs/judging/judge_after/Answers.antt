@@ -22,7 +22,11 @@ returns-in-Some c =
     let p = iv.0 in
     let st = c.stop-item.result in
     let found = sym (c.broken_at.ensures p iv.1) ∙ c.in-Some.is in
-    ap (first_broken_from s car taken (start_of s car) 1) (sym c.stops-stop-items.ensures) ∙ sym iv.2 ∙ judge_step s car taken p c.loop-stop.number c.stops-stop-items.result.now c.loop-stop.stop-index st c.loop-stop-test.true c.stop-item.is ∙ ap (λ (o : Option Rule). broken_or o c.loop-stop.number (first_broken_from s car taken (make_stop s car p st) (c.loop-stop.number + 1) (drop (c.loop-stop.stop-index + 1) c.stops-stop-items.result.now))) found
+    ap (first_broken_from s car taken (start_of s car) 1) (sym c.stops-stop-items.ensures) ∙ sym iv.2
+    ∙ judge_step s car taken p c.loop-stop.number c.stops-stop-items.result.now c.loop-stop.stop-index st c.loop-stop-test.true c.stop-item.is
+    ∙ ap (λ (o : Option Rule).
+    broken_or o c.loop-stop.number
+    (first_broken_from s car taken (make_stop s car p st) (c.loop-stop.number + 1) (drop (c.loop-stop.stop-index + 1) c.stops-stop-items.result.now))) found
 
 pub after_stop-place-requires : goal.after_stop-place-requires
 after_stop-place-requires c =
@@ -34,7 +38,9 @@ after_stop-place-requires c =
     omega (arith, floor, most)
 
 pub broken_at-requires-clause-boards : goal.broken_at-requires-clause-boards
-broken_at-requires-clause-boards c = listed_boards c.args.snapshot.now c.of_list-boards.result c.stop-item.result c.as_slice.result.now c.calls-accepted.ensures.accepted c.as_slice.ensures c.of_list-boards.ensures
+broken_at-requires-clause-boards c =
+    listed_boards c.args.snapshot.now c.of_list-boards.result c.stop-item.result c.as_slice.result.now c.calls-accepted.ensures.accepted c.as_slice.ensures
+    c.of_list-boards.ensures
 
 pub loop-stop-preserved : goal.loop-stop-preserved
 loop-stop-preserved c =
@@ -46,7 +52,17 @@ loop-stop-preserved c =
     let st = c.stop-item.result in
     let xs = c.stops-stop-items.result.now in
     let clear = sym (c.broken_at.ensures p iv.1) ∙ c.in-None.is in
-    let step = judge_step s car taken p c.loop-stop.number xs c.loop-stop.stop-index st c.loop-stop-test.true c.stop-item.is ∙ ap (λ (o : Option Rule). broken_or o c.loop-stop.number (first_broken_from s car taken (make_stop s car p st) (c.loop-stop.number + 1) (drop (c.loop-stop.stop-index + 1) xs))) clear in
+    let step = judge_step s car taken p c.loop-stop.number xs c.loop-stop.stop-index st c.loop-stop-test.true c.stop-item.is
+    ∙ ap (λ (o : Option Rule).
+    broken_or o c.loop-stop.number (first_broken_from s car taken (make_stop s car p st) (c.loop-stop.number + 1) (drop (c.loop-stop.stop-index + 1) xs)))
+    clear in
     let falls = stop_falls s car p st (stop_alone s car taken p st clear) in
-    let room = iv.3 in
-    (make_stop s car p st, c.after_stop-place.ensures.stops car p (boards_at s st) iv.1 (boards_set s c.of_list-boards.result st (listed_boards c.args.snapshot.now c.of_list-boards.result c.stop-item.result c.as_slice.result.now c.calls-accepted.ensures.accepted c.as_slice.ensures c.of_list-boards.ensures)), sym step ∙ iv.2, omega (arith, falls, room))
+    let room = iv.3 in (
+      make_stop s car p st,
+      c.after_stop-place.ensures.stops car p (boards_at s st) iv.1
+          (boards_set s c.of_list-boards.result st
+          (listed_boards c.args.snapshot.now c.of_list-boards.result c.stop-item.result c.as_slice.result.now c.calls-accepted.ensures.accepted
+          c.as_slice.ensures c.of_list-boards.ensures)),
+      sym step ∙ iv.2,
+      omega (arith, falls, room),
+    )

@@ -6,4 +6,5 @@ use Rattle.tour_rules.proofs.places.any_call_heads.Goals as goal
 
 pub returns-then-includes : goal.returns-then-includes
 returns-then-includes c =
-    sym (any_below-at (length c.args.calls.now) (call_heads c.args.calls.now c.args.set c.args.heading) c.loop-j.j (omega arith) (and_from _ _ (sym c.if-contains.ensures) (sym c.if-includes.ensures)))
+    sym (any_below-at (length c.args.calls.now) (call_heads c.args.calls.now c.args.set c.args.heading) c.loop-j.j (omega arith)
+    (and_from _ _ (sym c.if-contains.ensures) (sym c.if-includes.ensures)))

@@ -5,7 +5,8 @@ use Rattle.call_sets.specs.Counting.{has}
 use Rattle.call_sets.proofs.Bits.{with-here, with-others}
 use Rattle.tour_rules.specs.Places.{call_in}
 use Rattle.tour_rules.proofs.places.calls_bound_for.Goals as goal
-use Rattle.tour_rules.proofs.places.calls_bound_for.Goals.{then-contains+then-call-floor, else-contains, else-contains-via-then-contains+else-call-floor, else-contains-via-else-contains}
+use Rattle.tour_rules.proofs.places.calls_bound_for.Goals.{then-contains+then-call-floor, else-contains, else-contains-via-then-contains+else-call-floor}
+use Rattle.tour_rules.proofs.places.calls_bound_for.Goals.{else-contains-via-else-contains}
 
 gets_off_here : (a : Bool) (d f : ℕ) → true ≡ a → d ≡ f → (a && eqb d f) ≡ true
 gets_off_here a d f member same = grind (arith, nat_tests)
@@ -27,7 +28,8 @@ loop-j-preserved c =
           let here = with-here c.loop-j.bound w.with-bound.result j w.with-bound.ensures in
           let others = with-others c.loop-j.bound w.with-bound.result j w.with-bound.ensures in
           rw w.bound-is (record {
-            seen = below_more _ j (λ k lt. others k (λ (e : k ≡ j). omega arith) ∙ before.seen k lt) (here ∙ sym (gets_off_here member call.destination c.args.floor w.if-contains.ensures w.if-call-floor.true));
+            seen = below_more _ j (λ k lt. others k (λ (e : k ≡ j). omega arith) ∙ before.seen k lt)
+                (here ∙ sym (gets_off_here member call.destination c.args.floor w.if-contains.ensures w.if-call-floor.true));
             unseen = λ k le. others k (λ (e : k ≡ j). omega arith) ∙ before.unseen k (omega arith);
           }))
       | else-contains w ↦ rw w.bound-is (record {

@@ -7,4 +7,5 @@ pub returns-clause-bounded : goal.returns-clause-bounded
 returns-clause-bounded c =
     let b = c.args.building.now in
     let same : group_cost b c.args.group.now c.args.delivered ≡ c.args.group.now.persons * (c.travel_weight.result * c.saturating_sub-ride.result) = cc in
-    subst (λ (n : ℕ). n ≤ 100000000000000 * c.args.group.now.persons) same (group_cost-le b c.args.group.now c.args.delivered c.travel_weight.ensures.building c.requires.delivered)
+    subst (λ (n : ℕ). n ≤ 100000000000000 * c.args.group.now.persons) same
+    (group_cost-le b c.args.group.now c.args.delivered c.travel_weight.ensures.building c.requires.delivered)

@@ -7,4 +7,5 @@ use Rattle.tour_rules.proofs.rules.any_elsewhere.Goals as goal
 
 pub returns-then-call-floor : goal.returns-then-call-floor
 returns-then-call-floor c =
-    sym (any_below-at (length c.args.calls.now) (λ j. has c.args.boards j && not ((call_in c.args.calls.now j).origin == c.args.floor)) c.loop-j.j (omega arith) (and_from _ _ (sym c.if-contains.ensures) (ap not (ne_eqb _ _ c.if-call-floor.true))))
+    sym (any_below-at (length c.args.calls.now) (λ j. has c.args.boards j && not ((call_in c.args.calls.now j).origin == c.args.floor)) c.loop-j.j
+    (omega arith) (and_from _ _ (sym c.if-contains.ensures) (ap not (ne_eqb _ _ c.if-call-floor.true))))

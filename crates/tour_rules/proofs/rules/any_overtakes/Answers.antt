@@ -8,4 +8,7 @@ use Rattle.tour_rules.proofs.rules.any_overtakes.Goals as goal
 
 pub returns-then-overtakes : goal.returns-then-overtakes
 returns-then-overtakes c =
-    sym (any_below-at (length c.args.calls.now) (λ j. has c.args.boards j && any_below (length c.args.calls.now) (λ k. has c.args.boarded k && is_later_in_queue (call_in c.args.calls.now k) (call_in c.args.calls.now j))) c.loop-j.j (omega arith) (and_from _ _ (sym c.if-contains.ensures) (sym c.if-overtakes.ensures)))
+    sym (any_below-at (length c.args.calls.now)
+    (λ j. has c.args.boards j
+    && any_below (length c.args.calls.now) (λ k. has c.args.boarded k && is_later_in_queue (call_in c.args.calls.now k) (call_in c.args.calls.now j)))
+    c.loop-j.j (omega arith) (and_from _ _ (sym c.if-contains.ensures) (sym c.if-overtakes.ensures)))

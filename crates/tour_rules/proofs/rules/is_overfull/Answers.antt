@@ -10,4 +10,5 @@ returns c = λ p stop t same h.
     let s = c.args.snapshot.now in
     let stay = rw (← same) at (c.persons_carried-staying.ensures.value p t) in
     let on = c.persons_boarding-boarding.ensures.value (boards_at s stop) (boards_set s c.args.boards stop h) in
-    ap (λ (x : CarSpec). ltb x.capacity (c.persons_carried-staying.result + c.persons_boarding-boarding.result)) c.spec.ensures.value ∙ capacity_same s c.args.car c.args.place.now p c.args.boards stop c.persons_carried-staying.result c.persons_boarding-boarding.result t h stay on
+    ap (λ (x : CarSpec). ltb x.capacity (c.persons_carried-staying.result + c.persons_boarding-boarding.result)) c.spec.ensures.value
+    ∙ capacity_same s c.args.car c.args.place.now p c.args.boards stop c.persons_carried-staying.result c.persons_boarding-boarding.result t h stay on

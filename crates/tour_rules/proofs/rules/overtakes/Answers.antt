@@ -8,4 +8,5 @@ use Rattle.tour_rules.proofs.rules.overtakes.Goals as goal
 
 pub returns-then-is_later_in_queue : goal.returns-then-is_later_in_queue
 returns-then-is_later_in_queue c =
-    sym (any_below-at (length c.args.calls.now) (λ k. has c.args.boarded k && is_later_in_queue (call_in c.args.calls.now k) c.args.call.now) c.loop-k.k (omega arith) (and_from _ _ (sym c.if-contains.ensures) (sym c.if-is_later_in_queue.ensures)))
+    sym (any_below-at (length c.args.calls.now) (λ k. has c.args.boarded k && is_later_in_queue (call_in c.args.calls.now k) c.args.call.now) c.loop-k.k
+    (omega arith) (and_from _ _ (sym c.if-contains.ensures) (sym c.if-is_later_in_queue.ensures)))

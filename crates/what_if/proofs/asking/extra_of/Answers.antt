@@ -7,4 +7,5 @@ pub returns-clause-told : goal.returns-clause-told
 returns-clause-told g c =
     let s = c.args.snapshot.now in
     let takes : takes_asked s c.args.car ≡ true = search rules in
-    extra-told s c.args.limits.rounds c.args.limits.most_tours c.args.before c.in_ok-after.after c.args.car c.extra_between.result takes c.requires.before c.in_ok-after.ensures c.extra_between.ensures.told
+    extra-told s c.args.limits.rounds c.args.limits.most_tours c.args.before c.in_ok-after.after c.args.car c.extra_between.result takes c.requires.before
+    c.in_ok-after.ensures c.extra_between.ensures.told

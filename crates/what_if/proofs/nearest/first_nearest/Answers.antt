@@ -15,8 +15,10 @@ loop-car-preserved c =
     let so_far = c.loop-car.invariant in
     let Is = IsFirstLeast (takes_asked s) (distance_key s) (car + 1) in
     elim c.if-is_next_nearest.branch [
-      | then-is_next_nearest w ↦ subst Is (sym w.nearest-is) (first-taken (takes_asked s) (distance_key s) car best (sym c.is_next_nearest.ensures ∙ w.if-is_next_nearest.true) so_far)
-      | else-is_next_nearest w ↦ subst Is (sym w.nearest-is) (first-kept (takes_asked s) (distance_key s) car best (sym c.is_next_nearest.ensures ∙ w.if-is_next_nearest.false) so_far)
+      | then-is_next_nearest w ↦
+          subst Is (sym w.nearest-is) (first-taken (takes_asked s) (distance_key s) car best (sym c.is_next_nearest.ensures ∙ w.if-is_next_nearest.true) so_far)
+      | else-is_next_nearest w ↦
+          subst Is (sym w.nearest-is) (first-kept (takes_asked s) (distance_key s) car best (sym c.is_next_nearest.ensures ∙ w.if-is_next_nearest.false) so_far)
     ]
 
 pub returns-clause-first : goal.returns-clause-first

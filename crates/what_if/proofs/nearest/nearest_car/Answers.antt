@@ -8,7 +8,8 @@ use Rattle.what_if.proofs.nearest.nearest_car.Goals as goal
 pub unreachable-requires : goal.unreachable-requires
 unreachable-requires c =
     let s = c.args.snapshot.now in
-    some-takes s c.requires c.first_nearest.ensures.accepted (subst (IsFirstLeast (takes_asked s) (distance_key s) (car_count s)) c.in-None.is c.first_nearest.ensures.first)
+    some-takes s c.requires c.first_nearest.ensures.accepted
+    (subst (IsFirstLeast (takes_asked s) (distance_key s) (car_count s)) c.in-None.is c.first_nearest.ensures.first)
 
 pub returns : goal.returns
 returns c =

@@ -21,7 +21,8 @@ loop-car-preserved c =
     let cars = ap (λ (xs : List CarSpec). length xs) c.cars.ensures.value ∙ ap (λ (b : Building). length b.cars) c.building.ensures.value in
     let count = c.building.ensures.accepted.states in
     let below : car < length states = omega (arith, cars, count, c.loop-car-test.true) in
-    c.in_ok-push.ensures.items ∙ ap (λ (xs : List CarState). xs ++ c.car.result ∷ []) c.loop-car.invariant ∙ ap (λ (x : CarState). take car states ++ x ∷ []) c.car.ensures.value ∙ sym (take_more states car no_state below)
+    c.in_ok-push.ensures.items ∙ ap (λ (xs : List CarState). xs ++ c.car.result ∷ []) c.loop-car.invariant
+    ∙ ap (λ (x : CarState). take car states ++ x ∷ []) c.car.ensures.value ∙ sym (take_more states car no_state below)
 
 pub returns : goal.returns
 returns c =

@@ -18,6 +18,10 @@ pub returns-clause-right : goal.returns-clause-right
 returns-clause-right g c =
     let worked = on_ok _ _ _ c.in_ok-worked.was c.work_with-worked.ensures.done in
     let Right : Done g.row.J-Answer.Denot → Type 0 = λ d. (d.job < c.in_ok-line.line.count) × g.J.Jobs.is_right c.args.jobs.now d.job d.answer in
-    let From : Vec g.row.J-Answer.Denot Global → Type 0 = λ v. (k : ℕ) (a : g.row.J-Answer.Denot) → slice_get v.items k ≡ Some a → Contains c.work_with-worked.new.worker.done.items (record { job = k; answer = a }) in
-    let Goal : Vec g.row.J-Answer.Denot Global → Type 0 = λ v. (k : ℕ) (a : g.row.J-Answer.Denot) → slice_get v.items k ≡ Some a → g.J.Jobs.is_right c.args.jobs.now k a in
-    IfOk-weaker c.in_order.result From Goal (λ v from k a at. (All-contains Right c.work_with-worked.new.worker.done.items (record { job = k; answer = a }) worked.right (from k a at)).1) c.in_order.ensures.from
+    let From : Vec g.row.J-Answer.Denot Global → Type 0 = λ v. (k : ℕ) (a : g.row.J-Answer.Denot) → slice_get v.items k ≡ Some a
+    → Contains c.work_with-worked.new.worker.done.items (record { job = k; answer = a }) in
+    let Goal : Vec g.row.J-Answer.Denot Global → Type 0 = λ v. (k : ℕ) (a : g.row.J-Answer.Denot) → slice_get v.items k ≡ Some a
+    → g.J.Jobs.is_right c.args.jobs.now k a in
+    IfOk-weaker c.in_order.result From Goal
+    (λ v from k a at. (All-contains Right c.work_with-worked.new.worker.done.items (record { job = k; answer = a }) worked.right (from k a at)).1)
+    c.in_order.ensures.from

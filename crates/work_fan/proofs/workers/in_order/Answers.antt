@@ -25,10 +25,14 @@ pub returns-clause-count : goal.returns-clause-count
 unfolding Taken
 returns-clause-count g c =
     let Goal : Vec g.row.A.Denot Global → Type 0 = λ v. length v.items ≡ c.args.count in
-    IfOk-weaker c.taken_out.result (Taken g c) Goal (λ v taken. taken_count c.place_all.new.places.items v.items (each g c) taken ∙ places_count g c) c.taken_out.ensures
+    IfOk-weaker c.taken_out.result (Taken g c) Goal
+    (λ v taken. taken_count c.place_all.new.places.items v.items (each g c) taken ∙ places_count g c) c.taken_out.ensures
 
 pub returns-clause-from : goal.returns-clause-from
 unfolding Taken
 returns-clause-from g c =
-    let Goal : Vec g.row.A.Denot Global → Type 0 = λ v. (k : ℕ) (a : g.row.A.Denot) → slice_get v.items k ≡ Some a → Contains c.args.done.items (record { job = k; answer = a }) in
-    IfOk-weaker c.taken_out.result (Taken g c) Goal (λ v taken k a at. c.place_all.ensures.from (all_empty g c) k a (taken_from c.place_all.new.places.items v.items (each g c) taken k a at)) c.taken_out.ensures
+    let Goal : Vec g.row.A.Denot Global → Type 0 = λ v. (k : ℕ) (a : g.row.A.Denot) → slice_get v.items k ≡ Some a
+    → Contains c.args.done.items (record { job = k; answer = a }) in
+    IfOk-weaker c.taken_out.result (Taken g c) Goal
+    (λ v taken k a at. c.place_all.ensures.from (all_empty g c) k a (taken_from c.place_all.new.places.items v.items (each g c) taken k a at))
+    c.taken_out.ensures

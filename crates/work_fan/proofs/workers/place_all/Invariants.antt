@@ -13,7 +13,8 @@ invariant-loop-job g l =
       left : (e : Done g.row.A.Denot) → Contains l.done.items e → Contains l.fn.done.items e;
       range : All (λ (d : Done g.row.A.Denot). d.job < length l.places.items) l.done.items;
       each : (k : ℕ) → 0 < times k (jobs_of l.fn.done.items) → 0 < times k (jobs_of l.done.items) + filled k l.places.items;
-      from : l.fn.places.items ≡ replicate (length l.fn.places.items) None → (k : ℕ) (a : g.row.A.Denot) → slice_index_or l.places.items k None ≡ Some a → Contains l.fn.done.items (record { job = k; answer = a });
+      from : l.fn.places.items ≡ replicate (length l.fn.places.items) None → (k : ℕ) (a : g.row.A.Denot) → slice_index_or l.places.items k None ≡ Some a
+          → Contains l.fn.done.items (record { job = k; answer = a });
     }
 
 abbrev pub decreases-loop-job : goal.decreases-loop-job

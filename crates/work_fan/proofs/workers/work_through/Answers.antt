@@ -25,11 +25,13 @@ loop-job-preserved g c =
       allowance = c.in-Some.ensures.kept.1 ∙ kept.allowance;
       below = All-same (λ n. n < count) c.draw.new.seat.drawn (old ++ number.0 ∷ []) number.1 (All-push (λ n. n < count) old number.0 kept.below number.2.0);
       jobs = jobs_of_push done c.push.new.self.items old c.draw.new.seat.drawn d number.0 c.in_ok-push.ensures.items number.1 number.2.1 kept.jobs;
-      right = All-same Right c.push.new.self.items (done ++ d ∷ []) c.in_ok-push.ensures.items (All-push Right done d kept.right (job, c.in_ok-answer.ensures.answer));
+      right = All-same Right c.push.new.self.items (done ++ d ∷ []) c.in_ok-push.ensures.items
+          (All-push Right done d kept.right (job, c.in_ok-answer.ensures.answer));
       desk = c.work.ensures.desk;
     }
 
 pub returns-clause-done : goal.returns-clause-done
 returns-clause-done g c =
     let number = c.in_default.ensures.number in
-    works_end (g.J.Jobs.is_right c.args.jobs.now) c.args.line.now.count number.0 c.loop-job.worker.seat.drawn c.draw.new.seat.drawn c.loop-job.worker.done.items number.1 (omega (arith, number.2)) c.loop-job.invariant.jobs c.loop-job.invariant.right
+    works_end (g.J.Jobs.is_right c.args.jobs.now) c.args.line.now.count number.0 c.loop-job.worker.seat.drawn c.draw.new.seat.drawn
+    c.loop-job.worker.done.items number.1 (omega (arith, number.2)) c.loop-job.invariant.jobs c.loop-job.invariant.right

@@ -25,6 +25,9 @@ returns-then-is_err-clause-tested c =
 
 pub returns-clause-nodes : goal.returns-clause-nodes
 returns-clause-nodes c s ok at all =
-    let both = on_ok c.split.result (AreNodes c.args.node.now c.split.new.first c.split.new.second) (sym c.is_err.ensures.value ∙ c.if-is_err.false) c.split.ensures.nodes s ok at in
+    let both = on_ok c.split.result (AreNodes c.args.node.now c.split.new.first c.split.new.second)
+    (sym c.is_err.ensures.value ∙ c.if-is_err.false) c.split.ensures.nodes s ok at in
     let whole : reverse c.push-2.new.self.items ≡ c.split.new.first ∷ c.split.new.second ∷ c.args.self.now = grind (arith, common_steps) in
-    subst (All (IsNodeOf s)) (sym whole) (All-cons (IsNodeOf s) c.split.new.first (c.split.new.second ∷ c.args.self.now) both.0 (All-cons (IsNodeOf s) c.split.new.second c.args.self.now both.1 all))
+    subst (All (IsNodeOf s)) (sym whole)
+    (All-cons (IsNodeOf s) c.split.new.first (c.split.new.second ∷ c.args.self.now) both.0
+    (All-cons (IsNodeOf s) c.split.new.second c.args.self.now both.1 all))

@@ -13,4 +13,5 @@ run_day-requires-clause-few g c =
 
 pub returns-clause-answer : goal.returns-clause-answer
 returns-clause-answer g c =
-    log-in-place (g.P.Planner.right c.args.self.now.planner.now) c.args.self.now.banks.now c.args.k c.index-self-k.result c.as_slice.result.now c.run_day.result c.as_slice.ensures.value c.run_day.ensures
+    log-in-place (g.P.Planner.right c.args.self.now.planner.now) c.args.self.now.banks.now c.args.k c.index-self-k.result c.as_slice.result.now
+    c.run_day.result c.as_slice.ensures.value c.run_day.ensures

@@ -30,4 +30,5 @@ returns-else-high-ne0-clause-member c =
 
 pub returns-else-high-ne0-clause-least : goal.returns-else-high-ne0-clause-least
 returns-else-high-ne0-clause-least c =
-    empty_is_zero c.args.self (none_in_both c.args.self c.halves-low.result.0 c.halves-low.result.1 (omega arith) (omega arith) c.halves-low.ensures.low c.halves-low.ensures.high)
+    empty_is_zero c.args.self
+    (none_in_both c.args.self c.halves-low.result.0 c.halves-low.result.1 (omega arith) (omega arith) c.halves-low.ensures.low c.halves-low.ensures.high)

@@ -9,9 +9,11 @@ returns-in_err-car-clause-steps c =
 
 pub returns-clause-steps : goal.returns-clause-steps
 returns-clause-steps c =
-    members-least 16 c.args.self.now.left c.without-self.result c.in_ok-car.car c.in_ok-car.ensures.member.1 c.in_ok-car.ensures.member.0 c.in_ok-car.ensures.least c.without-self.ensures
+    members-least 16 c.args.self.now.left c.without-self.result c.in_ok-car.car c.in_ok-car.ensures.member.1 c.in_ok-car.ensures.member.0
+    c.in_ok-car.ensures.least c.without-self.ensures
 
 pub returns-clause-goes : goal.returns-clause-goes
 returns-clause-goes c =
-    let e = members-least 16 c.args.self.now.left c.without-self.result c.in_ok-car.car c.in_ok-car.ensures.member.1 c.in_ok-car.ensures.member.0 c.in_ok-car.ensures.least c.without-self.ensures in
+    let e = members-least 16 c.args.self.now.left c.without-self.result c.in_ok-car.car c.in_ok-car.ensures.member.1 c.in_ok-car.ensures.member.0
+    c.in_ok-car.ensures.least c.without-self.ensures in
     record { on = λ _. (tt, tt, omega (arith, ap length e)); keeps = tt; rests = λ _. tt }

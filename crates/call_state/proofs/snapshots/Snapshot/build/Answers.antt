@@ -11,7 +11,9 @@ returns-in-Some-clause-refused c = λ good.
     cc
 
 pub of_accepted-requires : goal.of_accepted-requires
-of_accepted-requires c = faultless-IsAccepted (snapshot_of c.args.parts) c.version-version.ensures.building c.requires (sym c.first_fault.ensures ∙ c.in_default.is)
+of_accepted-requires c =
+    faultless-IsAccepted (snapshot_of c.args.parts) c.version-version.ensures.building c.requires (sym c.first_fault.ensures ∙ c.in_default.is)
 
 pub returns-clause-accepted : goal.returns-clause-accepted
-returns-clause-accepted c = faultless-IsAccepted (snapshot_of c.args.parts) c.version-version.ensures.building c.requires (sym c.first_fault.ensures ∙ c.in_default.is)
+returns-clause-accepted c =
+    faultless-IsAccepted (snapshot_of c.args.parts) c.version-version.ensures.building c.requires (sym c.first_fault.ensures ∙ c.in_default.is)

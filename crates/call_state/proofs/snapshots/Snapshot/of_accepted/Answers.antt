@@ -13,5 +13,8 @@ of_calls-requires c =
 
 pub invariant_of-result : goal.invariant_of-result
 invariant_of-result c =
-    let f : List Call → List ℕ = map (λ x. x.id) in
-    (c.requires, c.in_ok-ids.ensures ∙ ap f c.deref.ensures.value, subst (λ (calls : List Call). ArePossible c.args.parts.building calls c.in_ok-possible.possible.items) c.deref-2.ensures.value c.in_ok-possible.ensures)
+    let f : List Call → List ℕ = map (λ x. x.id) in (
+      c.requires,
+      c.in_ok-ids.ensures ∙ ap f c.deref.ensures.value,
+      subst (λ (calls : List Call). ArePossible c.args.parts.building calls c.in_ok-possible.possible.items) c.deref-2.ensures.value c.in_ok-possible.ensures,
+    )

@@ -8,13 +8,15 @@ use Rattle.call_state.proofs.snapshots.SnapshotParts.first_aboard_fault.Goals as
 pub overflow_cast-result : goal.overflow_cast-result
 overflow_cast-result c =
     let s = snapshot_of c.args.self.now in
-    let few = groups-few s.building s.moment s.states s.aboard c.loop-k.k c.cars.ensures.building (omega arith) c.requires.group_cars c.loop-k.invariant.clear in
+    let few = groups-few s.building s.moment s.states s.aboard c.loop-k.k c.cars.ensures.building
+    (omega arith) c.requires.group_cars c.loop-k.invariant.clear in
     omega (arith, few)
 
 pub overflow_add-result : goal.overflow_add-result
 overflow_add-result c =
     let s = snapshot_of c.args.self.now in
-    let few = groups-few s.building s.moment s.states s.aboard c.loop-k.k c.cars.ensures.building (omega arith) c.requires.group_cars c.loop-k.invariant.clear in
+    let few = groups-few s.building s.moment s.states s.aboard c.loop-k.k c.cars.ensures.building
+    (omega arith) c.requires.group_cars c.loop-k.invariant.clear in
     let high = c.cars.ensures.building.cars_high in
     let most = most_cars-le s.building.version in
     let long = ap length c.cars.ensures.value in
@@ -29,4 +31,5 @@ loop-k-preserved c = record {
 pub returns-clause-few : goal.returns-clause-few
 returns-clause-few c =
     let s = snapshot_of c.args.self.now in
-    groups-few s.building s.moment s.states s.aboard (length s.aboard) c.cars.ensures.building (omega arith) c.requires.group_cars (λ k below. c.loop-k.invariant.clear k (omega arith))
+    groups-few s.building s.moment s.states s.aboard (length s.aboard) c.cars.ensures.building (omega arith) c.requires.group_cars
+    (λ k below. c.loop-k.invariant.clear k (omega arith))

@@ -9,6 +9,7 @@ abbrev pub invariant-loop-j : goal.invariant-loop-j
 invariant-loop-j l =
     let s = snapshot_of l.self in
     record {
-      same : first_of_calls s ≡ first_in (fault_of_call s.building s.moment s.aboard) (take l.j s.calls) (drop l.j s.calls) (1 + length s.states + length s.aboard + l.j);
+      same : first_of_calls s
+          ≡ first_in (fault_of_call s.building s.moment s.aboard) (take l.j s.calls) (drop l.j s.calls) (1 + length s.states + length s.aboard + l.j);
       few : l.j ≤ most_calls s.building.version;
     }

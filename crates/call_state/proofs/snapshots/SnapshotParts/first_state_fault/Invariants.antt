@@ -8,4 +8,5 @@ use Rattle.call_state.proofs.snapshots.SnapshotParts.first_state_fault.Given as 
 abbrev pub invariant-loop-car : goal.invariant-loop-car
 invariant-loop-car l =
     let s = snapshot_of l.self in
-    first_of_states s ≡ first_in (λ (before : List CarState) state. fault_of_state s.building s.moment (length before) state) (take l.car s.states) (drop l.car s.states) (1 + l.car)
+    first_of_states s ≡ first_in (λ (before : List CarState) state. fault_of_state s.building s.moment (length before) state) (take l.car s.states)
+    (drop l.car s.states) (1 + l.car)

@@ -11,8 +11,10 @@ invariant_of-result c =
     let moments = c.in_ok-moments.moments in
     let persons_room : length persons.items ≡ 64 = ap length c.in_ok-persons.ensures.items ∙ length-replicate {A = ℕ} 64 0 in
     let moments_room : length moments.items ≡ 64 = ap length c.in_ok-moments.ensures.items ∙ length-replicate {A = ℕ} 64 0 in
-    let all_persons = table_written persons.len persons.items c.as_mut_slice.result.now c.lay_out_riders.new.persons (persons_to s.aboard c.args.car) persons.ok.0 persons_room c.lay_out_riders.ensures.persons_size c.lay_out_riders.ensures.persons in
-    let all_moments = table_written moments.len moments.items c.as_mut_slice-2.result.now c.lay_out_riders.new.moments (moments_to s.aboard c.args.car) moments.ok.0 moments_room c.lay_out_riders.ensures.moments_size c.lay_out_riders.ensures.moments in (
+    let all_persons = table_written persons.len persons.items c.as_mut_slice.result.now c.lay_out_riders.new.persons
+    (persons_to s.aboard c.args.car) persons.ok.0 persons_room c.lay_out_riders.ensures.persons_size c.lay_out_riders.ensures.persons in
+    let all_moments = table_written moments.len moments.items c.as_mut_slice-2.result.now c.lay_out_riders.new.moments
+    (moments_to s.aboard c.args.car) moments.ok.0 moments_room c.lay_out_riders.ensures.moments_size c.lay_out_riders.ensures.moments in (
       c.calls-calls.ensures.accepted,
       c.in_ok-starting.ensures,
       c.in_ok-ending.ensures,

@@ -9,8 +9,10 @@ invariant_of-self c =
     let f = c.self.inside in
     let s = f.snapshot.now in
     let old = c.self.invariant in
-    let all_persons = table_written f.persons.len f.persons.items c.as_mut_slice.result.now c.lay_out_riders.new.persons (persons_to s.aboard c.args.car) f.persons.ok.0 old.5.persons_size c.lay_out_riders.ensures.persons_size c.lay_out_riders.ensures.persons in
-    let all_moments = table_written f.moments.len f.moments.items c.as_mut_slice-2.result.now c.lay_out_riders.new.moments (moments_to s.aboard c.args.car) f.moments.ok.0 old.5.moments_size c.lay_out_riders.ensures.moments_size c.lay_out_riders.ensures.moments in (
+    let all_persons = table_written f.persons.len f.persons.items c.as_mut_slice.result.now c.lay_out_riders.new.persons
+    (persons_to s.aboard c.args.car) f.persons.ok.0 old.5.persons_size c.lay_out_riders.ensures.persons_size c.lay_out_riders.ensures.persons in
+    let all_moments = table_written f.moments.len f.moments.items c.as_mut_slice-2.result.now c.lay_out_riders.new.moments
+    (moments_to s.aboard c.args.car) f.moments.ok.0 old.5.moments_size c.lay_out_riders.ensures.moments_size c.lay_out_riders.ensures.moments in (
       old.0,
       old.1,
       old.2,

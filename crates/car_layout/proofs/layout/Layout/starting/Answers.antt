@@ -7,4 +7,6 @@ use Rattle.car_layout.proofs.layout.Layout.starting.Goals as goal
 pub returns : goal.returns
 returns c = λ j.
     let f = c.self.inside in
-    subst (λ (l : LaidOut). has c.index.result.now j ≡ starts_at l.snapshot c.args.floor j) c.self.view_is (table_at 64 (starts_at f.snapshot.now) f.starting.items c.args.floor j c.index.result.now c.self.invariant.1 (omega (arith, c.requires)) c.index.ensures)
+    subst (λ (l : LaidOut). has c.index.result.now j ≡ starts_at l.snapshot c.args.floor j) c.self.view_is
+    (table_at 64 (starts_at f.snapshot.now) f.starting.items c.args.floor j c.index.result.now c.self.invariant.1
+    (omega (arith, c.requires)) c.index.ensures)

@@ -6,8 +6,11 @@ use Rattle.cert_checker.proofs.checker.Checker.feed.Goals as goal
 pub returns-in_default-clause-seen : goal.returns-in_default-clause-seen
 returns-in_default-clause-seen g c stated fed lt seen =
     let s = c.args.snapshot.now in
-    let before = subst (StandsAfter s stated fed) c.in_default.is seen.1 in
-    (seen.0, subst (StandsAfter s stated (fed ++ c.args.twigs.now)) (sym c.in_default.is) (found_stays s stated fed c.args.twigs.now c.in_default.field-0 before))
+    let before = subst (StandsAfter s stated fed) c.in_default.is seen.1 in (
+      seen.0,
+      subst (StandsAfter s stated (fed ++ c.args.twigs.now)) (sym c.in_default.is)
+          (found_stays s stated fed c.args.twigs.now c.in_default.field-0 before),
+    )
 
 pub returns-clause-seen : goal.returns-clause-seen
 returns-clause-seen g c stated fed lt seen =

@@ -13,4 +13,7 @@ ok_then (Err x) P Q on h = tt
 pub returns-in-Leaf : goal.returns-in-Leaf
 returns-in-Leaf c =
     let places = c.args.places.now in
-    ok_then c.add.result ((left : List Node) → PlacesTwig c.args.number c.args.node (Tip c.in-Leaf.leaf) left c.args.self.now left c.add.new.self) (PlacesTwig c.args.number c.args.node c.args.twig.now places c.args.self.now places c.add.new.self) (λ h. subst (λ (twig : Twig). PlacesTwig c.args.number c.args.node twig places c.args.self.now places c.add.new.self) (sym c.in-Leaf.is) (h places)) c.add.ensures
+    ok_then c.add.result ((left : List Node) → PlacesTwig c.args.number c.args.node (Tip c.in-Leaf.leaf) left c.args.self.now left c.add.new.self)
+    (PlacesTwig c.args.number c.args.node c.args.twig.now places c.args.self.now places c.add.new.self)
+    (λ h. subst (λ (twig : Twig). PlacesTwig c.args.number c.args.node twig places c.args.self.now places c.add.new.self) (sym c.in-Leaf.is) (h places))
+    c.add.ensures

@@ -13,4 +13,5 @@ returns-in-Certificate g c =
     let at = piece_standing c.args.self.now in
     let line = words c.args.lines.now in
     let word = sym c.in_ok-any_word.ensures ∙ ap (λ (w : LineWord). Ok w) c.in-Certificate.is in
-    gives_bad (entry_in at line) (Err c.from.result) c.from.result OutOfOrder refl c.from.ensures (ap (λ (j : Judged LineWord). j >>= λ w. judged_word w at line) word)
+    gives_bad (entry_in at line) (Err c.from.result) c.from.result OutOfOrder refl c.from.ensures
+    (ap (λ (j : Judged LineWord). j >>= λ w. judged_word w at line) word)

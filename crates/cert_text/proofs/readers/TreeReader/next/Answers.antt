@@ -7,7 +7,8 @@ use Rattle.cert_text.proofs.readers.TreeReader.next.Goals as goal
 pub returns-in-Split-clause-twig : goal.returns-in-Split-clause-twig
 returns-in-Split-clause-twig g c = λ none.
     (let inside = c.self.inside in
-    next_split c.args.snapshot.now inside.places inside.claims inside.begun c.args.self.now c.self.view_is (text g.S.Source.left c.args.lines.now) c.in-Split.call c.in-Split.part
+    next_split c.args.snapshot.now inside.places inside.claims inside.begun c.args.self.now c.self.view_is
+    (text g.S.Source.left c.args.lines.now) c.in-Split.call c.in-Split.part
     (sym c.replace.ensures.value ∙ c.in-Split.is))
 
 pub returns-in-Split-clause-fault : goal.returns-in-Split-clause-fault
@@ -16,7 +17,8 @@ returns-in-Split-clause-fault g c = λ none. no_fault (failure c.args.lines.now)
 pub returns-in-End-clause-twig : goal.returns-in-End-clause-twig
 returns-in-End-clause-twig g c = λ none.
     (let inside = c.self.inside in
-    next_end c.args.snapshot.now inside.places inside.claims inside.begun c.args.self.now c.self.view_is (text g.S.Source.left c.args.lines.now) c.replace.new.dest
+    next_end c.args.snapshot.now inside.places inside.claims inside.begun c.args.self.now c.self.view_is
+    (text g.S.Source.left c.args.lines.now) c.replace.new.dest
     (sym c.replace.ensures.value ∙ c.in-End.is) c.replace.ensures.after)
 
 pub returns-in-End-clause-fault : goal.returns-in-End-clause-fault

@@ -28,7 +28,8 @@ take-requires-clause-feasible g c =
     let planned = c.in_ok-planned.planned in
     let told = answered g.F.Fn c.args.plan.now c.snapshot.result c.plan.result planned c.in_ok-planned.was c.plan.ensures in
     let right_plan = c.requires.sound c.snapshot.result.now planned.stated planned.proof.items told in
-    subst (λ (w : World). IsFeasiblePlan w.snapshot w.plan) (sym c.set_plan.ensures) (subst (λ (s : Snapshot). IsFeasiblePlan s planned.stated.plan) c.snapshot.ensures.value right_plan.feasible)
+    subst (λ (w : World). IsFeasiblePlan w.snapshot w.plan) (sym c.set_plan.ensures)
+    (subst (λ (s : Snapshot). IsFeasiblePlan s planned.stated.plan) c.snapshot.ensures.value right_plan.feasible)
 
 pub returns-in-Ok-clause-row : goal.returns-in-Ok-clause-row
 returns-in-Ok-clause-row g c =
@@ -36,6 +37,10 @@ returns-in-Ok-clause-row g c =
     let there = c.snapshot.ensures.value ∙ sym c.snapshot-2.ensures.value in
     let s = c.snapshot-2.result.now in
     let events = c.args.events.now in
-    taken-row (right_by (FnReturnsAt g.F.Fn c.args.plan.now)) c.args.self.now (row_as_said c.args.row.now) c.take.new.self c.args.out.now.items c.add_accepted.new.out.items (accepted_text s c.number.result events planned.stated planned.proof.items) s c.number.result events
-    c.set_plan.new.self.plan planned.stated planned.proof.items c.requires.taken c.in-Ok.ensures.taken (ap (λ (w : World). w.plan) c.set_plan.ensures) (c.snapshot-2.ensures.value ∙ c.requires.world) c.number.ensures c.requires.events refl c.in_ok-add_accepted.ensures.lines
-    (subst (λ (s : Snapshot). right_by (FnReturnsAt g.F.Fn c.args.plan.now) s planned.stated planned.proof.items) there (answered g.F.Fn c.args.plan.now c.snapshot.result c.plan.result planned c.in_ok-planned.was c.plan.ensures))
+    taken-row (right_by (FnReturnsAt g.F.Fn c.args.plan.now)) c.args.self.now
+    (row_as_said c.args.row.now) c.take.new.self c.args.out.now.items c.add_accepted.new.out.items
+    (accepted_text s c.number.result events planned.stated planned.proof.items) s c.number.result events
+    c.set_plan.new.self.plan planned.stated planned.proof.items c.requires.taken c.in-Ok.ensures.taken (ap (λ (w : World). w.plan) c.set_plan.ensures)
+    (c.snapshot-2.ensures.value ∙ c.requires.world) c.number.ensures c.requires.events refl c.in_ok-add_accepted.ensures.lines
+    (subst (λ (s : Snapshot). right_by (FnReturnsAt g.F.Fn c.args.plan.now) s planned.stated planned.proof.items) there
+    (answered g.F.Fn c.args.plan.now c.snapshot.result c.plan.result planned c.in_ok-planned.was c.plan.ensures))

@@ -21,7 +21,8 @@ world_of_row-requires-clause-fresh c =
     let day = c.args.self.now in
     let row = row_as_said c.args.row.now in
     let next = new-call day row (subst IsStanding c.self.view_is c.self.invariant) c.requires.good in
-    subst (λ (w : World). IsNewCall (advanced w row.time).snapshot (call_of_row c.number.result row)) (sym (ap (λ (d : Day). d.world) c.self.view_is)) (subst (λ (n : ℕ). IsNewCall (advanced day.world row.time).snapshot (call_of_row n row)) (sym c.number.ensures) next)
+    subst (λ (w : World). IsNewCall (advanced w row.time).snapshot (call_of_row c.number.result row)) (sym (ap (λ (d : Day). d.world) c.self.view_is))
+    (subst (λ (n : ℕ). IsNewCall (advanced day.world row.time).snapshot (call_of_row n row)) (sym c.number.ensures) next)
 
 pub returns : goal.returns
 returns c =
@@ -29,4 +30,5 @@ returns c =
     let row = row_as_said c.args.row.now in
     let events = c.world_of_row.new.events.items in
     let answer = c.world_of_row.result in
-    subst (λ (w : World). IfOk answer (IsBrought w (row_number day) row events)) (ap (λ (d : Day). d.world) c.self.view_is) (subst (λ (n : ℕ). IfOk answer (IsBrought c.self.inside.world n row events)) c.number.ensures c.world_of_row.ensures)
+    subst (λ (w : World). IfOk answer (IsBrought w (row_number day) row events)) (ap (λ (d : Day). d.world) c.self.view_is)
+    (subst (λ (n : ℕ). IfOk answer (IsBrought c.self.inside.world n row events)) c.number.ensures c.world_of_row.ensures)

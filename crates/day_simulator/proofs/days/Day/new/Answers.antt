@@ -15,4 +15,6 @@ invariant_of-result c =
     let same = c.in_ok-world.ensures.world in
     let accepted = subst (λ (w : World). IsAccepted w.snapshot) same c.snapshot.ensures.accepted in
     let feasible = subst (λ (w : World). IsFeasiblePlan w.snapshot w.plan) same c.in_ok-world.ensures.feasible in
-    subst (λ (w : World). IsStanding (record { world = w; refused = 0; unsolved = 0; calls = day_calls c.new.result.items })) (sym same) (subst (λ (xs : List LoggedCall). IsStanding (record { world = opening_world s; refused = 0; unsolved = 0; calls = day_calls xs })) (sym c.new.ensures.items) (opening-stands s accepted c.requires feasible))
+    subst (λ (w : World). IsStanding (record { world = w; refused = 0; unsolved = 0; calls = day_calls c.new.result.items })) (sym same)
+    (subst (λ (xs : List LoggedCall). IsStanding (record { world = opening_world s; refused = 0; unsolved = 0; calls = day_calls xs }))
+    (sym c.new.ensures.items) (opening-stands s accepted c.requires feasible))

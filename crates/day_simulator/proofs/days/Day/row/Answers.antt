@@ -6,4 +6,6 @@ use Rattle.day_simulator.proofs.days.Day.row.Goals as goal
 
 pub returns-clause-number : goal.returns-clause-number
 returns-clause-number g c =
-    done-numbered (right_by (FnReturnsAt g.F.Fn c.args.plan.now)) c.args.self.now (row_of_line c.args.bytes.now) c.any_row-answer.new.self c.args.out.now.items c.any_row-answer.new.out.items c.any_row-answer.result c.any_row-answer.ensures.row
+    done-numbered (right_by (FnReturnsAt g.F.Fn c.args.plan.now)) c.args.self.now
+    (row_of_line c.args.bytes.now) c.any_row-answer.new.self c.args.out.now.items c.any_row-answer.new.out.items c.any_row-answer.result
+    c.any_row-answer.ensures.row

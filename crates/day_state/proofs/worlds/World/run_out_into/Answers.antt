@@ -15,4 +15,6 @@ loop-car-preserved c =
     let tour_is = tour-is w.plan c.tours-tours.result.now car tour tours below c.index-tours-car.is in
     let all = length c.stops-stops.result.now in
     let stops = take_all all tour (let long = ap length c.stops-stops.ensures in omega (arith, long)) ∙ tour_is in
-    events-here w car s (tour_of w.plan) (take all tour) c.args.events.now.items c.loop-car.events.items c.ride_along.new.events.items c.snapshot-snapshot.ensures.value stops c.loop-car.invariant c.in_ok-ride_along.ensures.events
+    events-here w car s (tour_of w.plan)
+    (take all tour) c.args.events.now.items c.loop-car.events.items c.ride_along.new.events.items c.snapshot-snapshot.ensures.value stops
+    c.loop-car.invariant c.in_ok-ride_along.ensures.events

@@ -16,7 +16,8 @@ returns c =
     let tour = c.args.column.now.tour in
     let low = c.reduced_cost.ensures.low in
     let high = c.reduced_cost.ensures.high in
-    let same : to_z w128 (of_z w128 c.reduced_cost.result) ≡ c.reduced_cost.result = near_is c.reduced_cost.result (record { low = omega (arith, ints, low); high = omega (arith, ints, high) }) in
+    let same : to_z w128 (of_z w128 c.reduced_cost.result) ≡ c.reduced_cost.result =
+    near_is c.reduced_cost.result (record { low = omega (arith, ints, low); high = omega (arith, ints, high) }) in
     let calls = calls-le s c.calls.ensures.accepted in
     let served : calls_served s tour ≤ call_count s = count-le (call_count s) (is_boarded_in tour) in
     let most : c.cost-cost.result ≤ 2400000000000000 * calls_served s tour + 6400000000000000 = c.cost-cost.ensures.per_call in

@@ -15,5 +15,6 @@ decreases-visit_after l = 2 * l.depth + 2
 abbrev pub invariant-visit-loop : goal.invariant-visit-loop
 invariant-visit-loop l = record {
   same : l.prefix ≡ l.initial.prefix;
-  next : (m : Move) → l.next ≡ Some m → (boards_allowed (has l.asked.allowed) m ≡ true) × IsLawful l.initial.prefix.snapshot l.initial.prefix.car (l.initial.prefix.moves ++ m ∷ []);
+  next : (m : Move) → l.next ≡ Some m → (boards_allowed (has l.asked.allowed) m ≡ true)
+      × IsLawful l.initial.prefix.snapshot l.initial.prefix.car (l.initial.prefix.moves ++ m ∷ []);
 }

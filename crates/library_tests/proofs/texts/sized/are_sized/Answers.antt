@@ -11,7 +11,9 @@ pub loop-entry-preserved : goal.loop-entry-preserved
 loop-entry-preserved c =
     let worth = (get_or c.args.worths.now c.loop-entry.entry-index (record { car = 0; worth = pos 0; claim = 0 })).worth in
     let stored : to_z w128 (of_z w128 worth) ≡ worth = search rules in
-    All-more HasWorthSize c.args.worths.now c.loop-entry.entry-index (record { car = 0; worth = pos 0; claim = 0 }) c.loop-entry-test.true c.loop-entry.invariant (subst IsWorthSize stored (c.is_sized.ensures c.if-not-is_sized.false))
+    All-more HasWorthSize c.args.worths.now c.loop-entry.entry-index
+    (record { car = 0; worth = pos 0; claim = 0 }) c.loop-entry-test.true c.loop-entry.invariant
+    (subst IsWorthSize stored (c.is_sized.ensures c.if-not-is_sized.false))
 
 pub returns : goal.returns
 returns c e =

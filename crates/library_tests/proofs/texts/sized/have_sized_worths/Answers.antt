@@ -7,7 +7,8 @@ use Rattle.library_tests.proofs.texts.sized.have_sized_worths.Goals as goal
 
 pub loop-twig-preserved : goal.loop-twig-preserved
 loop-twig-preserved c =
-    All-more HasWorthSizes c.args.twigs.now c.loop-twig.twig-index c.twig-item.result c.loop-twig-test.true c.loop-twig.invariant (subst HasWorthSizes c.twig-item.is (c.has_sized_worths.ensures c.if-not-has_sized_worths.false))
+    All-more HasWorthSizes c.args.twigs.now c.loop-twig.twig-index c.twig-item.result c.loop-twig-test.true c.loop-twig.invariant
+    (subst HasWorthSizes c.twig-item.is (c.has_sized_worths.ensures c.if-not-has_sized_worths.false))
 
 pub returns : goal.returns
 returns c e =

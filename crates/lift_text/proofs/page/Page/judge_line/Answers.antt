@@ -20,8 +20,10 @@ returns-clause-judged c =
     let short : length text ≤ count = omega (arith, length-take count window) in
     let inside = rw value at c.judge-judgement.ensures.inside in
     let same = parts_of-take count window spans (within_le (length text) count spans short inside) in
-    let judged = subst (λ words. Judged text judgement words) same (subst (λ bytes. Judged (take count bytes) judgement (parts_of (take count bytes) spans)) value c.judge-judgement.ensures.judged) in
+    let judged = subst (λ words. Judged text judgement words) same
+    (subst (λ bytes. Judged (take count bytes) judgement (parts_of (take count bytes) spans)) value c.judge-judgement.ensures.judged) in
     let none = on_err_more judgement _ (parts_of window spans ≡ []) c.judge-judgement.ensures.err (ap (parts_of window)) in
-    let step = subst (λ r. JudgedAs page.line text r (parts_of window spans)) (sym c.step_of.ensures.value) (judged_as page.line text judgement (parts_of window spans) judged none) in
+    let step = subst (λ r. JudgedAs page.line text r (parts_of window spans)) (sym c.step_of.ensures.value)
+    (judged_as page.line text judgement (parts_of window spans) judged none) in
     subst (λ (p : PageState). JudgedAs p.line (take count p.current) c.step_of.result (parts_of window spans)) c.self.view_is
     (subst (λ t. JudgedAs page.line t c.step_of.result (parts_of window spans)) (sym (take-take count page.size window within)) step)

@@ -13,7 +13,9 @@ returns-in-Ok-Line-clause-ok g c =
     let page = c.advance.new.self in
     let before = text_at c.args.self.now (g.S.Source.left c.args.source.now) in
     let found = subst (λ f. Advanced f before page.current (text_at page left)) c.in-Ok-Line.field-0-is c.in-Ok-Line.ensures.ok in
-    let read = read_found before page.line (limit_of page) (prepend_known page.unread left) page.current c.in-Ok-Line.line c.in-Ok-Line.field-0-1 c.judge_line.result c.judge_line.new.self.words found c.judge_line.ensures.judged in
+    let read = read_found before page.line (limit_of page)
+    (prepend_known page.unread left) page.current c.in-Ok-Line.line c.in-Ok-Line.field-0-1 c.judge_line.result c.judge_line.new.self.words found
+    c.judge_line.ensures.judged in
     subst (λ (p : PageState). ReadLine before c.judge_line.result c.judge_line.new.self.words (text_at p left)) (sym c.judge_line.ensures.same) read
 
 pub returns-in-Ok-Long-clause-shows : goal.returns-in-Ok-Long-clause-shows

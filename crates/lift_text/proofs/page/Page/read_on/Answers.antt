@@ -3,7 +3,8 @@ use Rattle.std.proofs.lemmas.Result.{err_from_is_err_and}
 use Rattle.std.specs.Io.KnownBytes.{prepend_known}
 use Rattle.lift_text.specs.Page.{PageState, ReadLine, limit_of, text_at}
 use Rattle.lift_text.specs.declared.page.Step.TheVariants.{WithWords, Blank}
-use Rattle.lift_text.proofs.CrossLemmas.{crossed_none, crossed_cleared, crossed_more, crossed_ok, crossed_err, feeds_read, continues_same, continues_more, next_words, answer_behind}
+use Rattle.lift_text.proofs.CrossLemmas.{crossed_none, crossed_cleared, crossed_more, crossed_ok, crossed_err, feeds_read, continues_same, continues_more}
+use Rattle.lift_text.proofs.CrossLemmas.{next_words, answer_behind}
 use Rattle.lift_text.proofs.EndLemmas.{answer_whole}
 use Rattle.lift_text.specs.Lines.{pieces_of}
 use Rattle.lift_text.specs.Reading.{HasWholeAnswer}
@@ -23,18 +24,21 @@ lines-init g c = record {
 pub returns-in_err-read_line-clause-taken : goal.returns-in_err-read_line-clause-taken
 returns-in_err-read_line-clause-taken g c =
     let left = g.S.Source.left in
-    let cleared = crossed_cleared c.args.self.now c.lines.self c.clear.new.self (left c.args.source.now) (left c.lines.source) c.clear.ensures c.lines.invariant.crossed in
+    let cleared = crossed_cleared c.args.self.now c.lines.self c.clear.new.self (left c.args.source.now)
+    (left c.lines.source) c.clear.ensures c.lines.invariant.crossed in
     let read = c.in_err-read_line.ensures in
     let same = err_from_is_err_and c.from_residual.result c.from_residual.ensures.1 in
     rw (same.1, same.2)
-    (crossed_err c.in_err-read_line.field-0.0 c.args.self.now c.clear.new.self c.read_line.new.self _ _ (left c.read_line.new.source) read.taken.0 cleared read.taken.1 (λ was. (read.stays_ended was).0) read.at_end read.shows)
+    (crossed_err c.in_err-read_line.field-0.0 c.args.self.now c.clear.new.self c.read_line.new.self _ _
+    (left c.read_line.new.source) read.taken.0 cleared read.taken.1 (λ was. (read.stays_ended was).0) read.at_end read.shows)
 
 pub returns-in-WithWords-clause-next : goal.returns-in-WithWords-clause-next
 returns-in-WithWords-clause-next g c =
     let read = rw c.in-WithWords.is at c.in_ok-read_line.ensures in
     let page = c.read_line.new.self in
     let left = g.S.Source.left in
-    let same = subst (λ (p : PageState). ReadLine (text_at p (left c.lines.source)) (Ok WithWords) page.words (text_at page (left c.read_line.new.source))) c.clear.ensures read.ok in
+    let same = subst (λ (p : PageState). ReadLine (text_at p (left c.lines.source)) (Ok WithWords) page.words (text_at page (left c.read_line.new.source)))
+    c.clear.ensures read.ok in
     next_words _ _ page.line (limit_of page) (prepend_known page.unread (left c.read_line.new.source)) page.words c.lines.invariant.continues same
 
 pub returns-in-WithWords-clause-taken : goal.returns-in-WithWords-clause-taken
@@ -55,7 +59,8 @@ lines-preserved g c =
     let cleared = crossed_cleared c.args.self.now c.lines.self c.clear.new.self _ _ c.clear.ensures c.lines.invariant.crossed in
     let page = c.read_line.new.self in
     let left = g.S.Source.left in
-    let same = subst (λ (p : PageState). ReadLine (text_at p (left c.lines.source)) (Ok Blank) page.words (text_at page (left c.read_line.new.source))) c.clear.ensures read.ok in
+    let same = subst (λ (p : PageState). ReadLine (text_at p (left c.lines.source)) (Ok Blank) page.words (text_at page (left c.read_line.new.source)))
+    c.clear.ensures read.ok in
     record {
       continues = continues_more _ _ _ page.words c.lines.invariant.continues same;
       failure = search rules;

@@ -19,9 +19,13 @@ returns-in-Ok-Whole-clause-skipped g c =
     let window = c.skip_line.new.self in
     let after = left c.skip_line.new.source in
     let start = page.window.unread in
-    let skipped = subst (λ f. SkippedIn f (prepend_known start before) (page.window.quota + length start) window.unread after window.quota) c.in-Ok-Whole.field-0-is c.in-Ok-Whole.ensures.ok in
+    let skipped = subst
+    (λ f. SkippedIn f (prepend_known start before) (page.window.quota + length start) window.unread after window.quota) c.in-Ok-Whole.field-0-is
+    c.in-Ok-Whole.ensures.ok in
     let passed = skipped_text page.line (page.window.quota + length start) window.quota (prepend_known start before) window.unread after skipped in
-    subst (λ (p : PageState). SkippedLine (text_at p before) (Ok Long) (state (page.line + 1) (window.quota + length (drop page.size window.unread)) (prepend_known (drop page.size window.unread) after))) c.self.view_is
+    subst (λ (p : PageState).
+    SkippedLine (text_at p before) (Ok Long)
+    (state (page.line + 1) (window.quota + length (drop page.size window.unread)) (prepend_known (drop page.size window.unread) after))) c.self.view_is
     (subst (λ n. SkippedLine (state page.line (page.window.quota + length (drop n start)) (prepend_known (drop n start) before)) (Ok Long)
     (state (page.line + 1) (window.quota + length (drop n window.unread)) (prepend_known (drop n window.unread) after))) (sym zero) passed)
 
@@ -37,7 +41,8 @@ returns-in-Ok-Cut-clause-skipped g c =
     let skipped = subst (λ f. SkippedIn f (prepend_known start before) limit window.unread after window.quota) c.in-Ok-Cut.field-0-is c.in-Ok-Cut.ensures.ok in
     let cut = cut_text page.line limit window.quota (prepend_known start before) window.unread after None skipped in
     subst (λ (p : PageState). SkippedLine (text_at p before) (Err TooLong) None) c.self.view_is
-    (subst (λ n. SkippedLine (state page.line (page.window.quota + length (drop n start)) (prepend_known (drop n start) before)) (Err TooLong) None) (sym zero) cut)
+    (subst (λ n. SkippedLine (state page.line (page.window.quota + length (drop n start)) (prepend_known (drop n start) before)) (Err TooLong) None)
+    (sym zero) cut)
 
 pub returns-in-Err-clause-raw : goal.returns-in-Err-clause-raw
 returns-in-Err-clause-raw g c =

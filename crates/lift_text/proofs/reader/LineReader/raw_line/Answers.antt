@@ -10,4 +10,5 @@ returns-clause-shows g c =
     let page = c.self.inside.page in
     let left = g.S.Source.left in
     subst (λ r. failure r ≡ None → RawShows (text left r) c.raw_line.result c.raw_line.new.self.line (left c.raw_line.new.source)) c.self.view_is
-    (λ none. raw_shows page c.raw_line.new.self read.taken.0 (left c.self.inside.source.now) (left c.raw_line.new.source) c.raw_line.result read.taken.1.given (read.next none) read.line_feed read.line read.at_end read.end)
+    (λ none. raw_shows page c.raw_line.new.self read.taken.0 (left c.self.inside.source.now) (left c.raw_line.new.source) c.raw_line.result read.taken.1.given
+    (read.next none) read.line_feed read.line read.at_end read.end)

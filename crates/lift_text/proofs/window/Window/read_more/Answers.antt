@@ -17,6 +17,7 @@ returns-clause-ok g c =
     let unread = slice_range-written bytes into _ _ start end count c.self.inside.bytes.len (omega arith) (omega arith) bound (omega arith) in (
       take count into,
       length-take-le count into bound,
-      unread ∙ ap (λ l. slice_range l start end ++ take count into) c.deref_mut.ensures.value ∙ ap (λ (w : WindowState). w.unread ++ take count into) c.self.view_is,
+      unread ∙ ap (λ l. slice_range l start end ++ take count into) c.deref_mut.ensures.value
+          ∙ ap (λ (w : WindowState). w.unread ++ take count into) c.self.view_is,
       c.in_ok-count.ensures.given,
     )

@@ -1,4 +1,5 @@
-use Rattle.std.proofs.Common.{◌≢◌, ◌+◌, ◌<◌, ◌++◌, inl, inr, ℕ, [], ◌∷◌, length, drop, get_or, arith, ap, sym, subst, ◌∙◌, length-append, refl, rules, append_assoc, append-nil}
+use Rattle.std.proofs.Common.{◌≢◌, ◌+◌, ◌<◌, ◌++◌, inl, inr, ℕ, [], ◌∷◌, length, drop, get_or, arith, ap, sym, subst, ◌∙◌, length-append, refl, rules}
+use Rattle.std.proofs.Common.{append_assoc, append-nil}
 use Rattle.std.proofs.Math.Seq.{drop-length}
 use Rattle.std.specs.Io.KnownBytes.{prepend_known}
 use Rattle.std.proofs.lemmas.List.{get_or_default}
@@ -20,7 +21,8 @@ returns-then-place-len-clause-ok g c =
     let left = g.S.Source.left c.skip.source in
     let place = c.line_feed_from-place in
     let inside : place.result < length c.skip.self.unread = omega arith in
-    let whole = skipped_line before left front.0 c.skip.self.unread place.result c.skip.self.quota limit front.1 inside place.ensures.none (place.ensures.found inside) front.2 front.3 in
+    let whole = skipped_line before left front.0 c.skip.self.unread place.result c.skip.self.quota limit front.1 inside place.ensures.none
+    (place.ensures.found inside) front.2 front.3 in
     subst (λ unread. SkippedIn Whole before limit unread left c.consume.new.self.quota) (sym c.consume.ensures.unread)
     (subst (λ quota. SkippedIn Whole before limit (drop (place.result + 1) c.skip.self.unread) left quota) (sym c.consume.ensures.quota) whole)
 
@@ -32,7 +34,9 @@ skip-preserved g c =
     let more = filled.more refl in
     let empty = c.consume-in-skip.ensures.unread ∙ ap (λ n. drop n unread) c.len-len.ensures ∙ drop-length unread in
     let same = more.2 ∙ ap (λ l. l ++ more.0) empty in
-    let none = no_line_feed-append front.0 unread front.1 (subst (λ n. (k : ℕ) → k < n → get_or unread k 0 ≢ 10) (all_searched _ _ _ c.if-place-len.false c.line_feed_from-place.ensures.within c.len-len.ensures) c.line_feed_from-place.ensures.none) in
+    let none = no_line_feed-append front.0 unread front.1
+    (subst (λ n. (k : ℕ) → k < n → get_or unread k 0 ≢ 10)
+    (all_searched _ _ _ c.if-place-len.false c.line_feed_from-place.ensures.within c.len-len.ensures) c.line_feed_from-place.ensures.none) in
     record {
       some = omega (arith, ap length same, more.1);
       front = (
@@ -44,9 +48,18 @@ skip-preserved g c =
       taken = (
         c.skip.invariant.taken.0 ++ more.0,
         given_more _ _ _ c.skip.invariant.taken.0 more.0 c.skip.invariant.taken.1 more.3,
-        omega (arith, c.skip.invariant.taken.2, filled.quota, c.consume-in-skip.ensures.quota, ap length same, length-append c.skip.invariant.taken.0 more.0, ap length empty),
+        omega (
+          arith,
+          c.skip.invariant.taken.2,
+          filled.quota,
+          c.consume-in-skip.ensures.quota,
+          ap length same,
+          length-append c.skip.invariant.taken.0 more.0,
+          ap length empty,
+        ),
       );
-      joined = sym (append_assoc c.args.self.now.unread c.skip.invariant.taken.0 more.0) ∙ ap (λ l. l ++ more.0) c.skip.invariant.joined ∙ ap (λ l. (front.0 ++ unread) ++ l) (sym same);
+      joined = sym (append_assoc c.args.self.now.unread c.skip.invariant.taken.0 more.0) ∙ ap (λ l. l ++ more.0) c.skip.invariant.joined
+          ∙ ap (λ l. (front.0 ++ unread) ++ l) (sym same);
       at_end = filled.at_end;
       stays = λ was. (let before = c.skip.invariant.stays was in
           let kept = filled.stays_ended (c.consume-in-skip.ensures.ended ∙ before.0) in
@@ -73,7 +86,9 @@ returns-in_err-fill-clause-taken g c =
     let filled = c.in_err-fill.ensures in
     let empty = c.consume-in-skip.ensures.unread ∙ ap (λ n. drop n unread) c.len-len.ensures ∙ drop-length unread in
     let kept = filled.kept (λ is. cc) ∙ empty in
-    let none = no_line_feed-append front.0 unread front.1 (subst (λ n. (k : ℕ) → k < n → get_or unread k 0 ≢ 10) (all_searched _ _ _ c.if-place-len.false c.line_feed_from-place.ensures.within c.len-len.ensures) c.line_feed_from-place.ensures.none) in
+    let none = no_line_feed-append front.0 unread front.1
+    (subst (λ n. (k : ℕ) → k < n → get_or unread k 0 ≢ 10)
+    (all_searched _ _ _ c.if-place-len.false c.line_feed_from-place.ensures.within c.len-len.ensures) c.line_feed_from-place.ensures.none) in
     let same = err_from_is_err_and c.from_residual.result c.from_residual.ensures.1 in
     rw same.1 (
       taken.0,
@@ -95,7 +110,9 @@ returns-in-End-clause-ok g c =
     let left = g.S.Source.left c.fill.new.source in
     let empty = c.consume-in-skip.ensures.unread ∙ ap (λ n. drop n unread) c.len-len.ensures ∙ drop-length unread in
     let same = filled.kept (λ is. cc) ∙ empty in
-    let none = no_line_feed-append front.0 unread front.1 (subst (λ n. (k : ℕ) → k < n → get_or unread k 0 ≢ 10) (all_searched _ _ _ c.if-place-len.false c.line_feed_from-place.ensures.within c.len-len.ensures) c.line_feed_from-place.ensures.none) in
+    let none = no_line_feed-append front.0 unread front.1
+    (subst (λ n. (k : ℕ) → k < n → get_or unread k 0 ≢ 10)
+    (all_searched _ _ _ c.if-place-len.false c.line_feed_from-place.ensures.within c.len-len.ensures) c.line_feed_from-place.ensures.none) in
     let known = front.2 ∙ ap (prepend_known (front.0 ++ unread)) (sym filled.ok.0) in
     let size = length-append front.0 unread in
     let whole = skipped_end before left (front.0 ++ unread) c.fill.new.self.quota limit none (omega (arith, c.skip.invariant.some)) known filled.ok.1
@@ -112,7 +129,9 @@ returns-in-Limit-clause-ok g c =
     let left = g.S.Source.left c.fill.new.source in
     let empty = c.consume-in-skip.ensures.unread ∙ ap (λ n. drop n unread) c.len-len.ensures ∙ drop-length unread in
     let same = filled.kept (λ is. cc) ∙ empty in
-    let none = no_line_feed-append front.0 unread front.1 (subst (λ n. (k : ℕ) → k < n → get_or unread k 0 ≢ 10) (all_searched _ _ _ c.if-place-len.false c.line_feed_from-place.ensures.within c.len-len.ensures) c.line_feed_from-place.ensures.none) in
+    let none = no_line_feed-append front.0 unread front.1
+    (subst (λ n. (k : ℕ) → k < n → get_or unread k 0 ≢ 10)
+    (all_searched _ _ _ c.if-place-len.false c.line_feed_from-place.ensures.within c.len-len.ensures) c.line_feed_from-place.ensures.none) in
     let size = length-append front.0 unread in
     skipped_cut before left (front.0 ++ unread) filled.ok.0 c.fill.new.self.quota limit none (front.2 ∙ ap (prepend_known (front.0 ++ unread)) filled.ok.1)
     (omega (arith, front.3, filled.quota, filled.limit refl, c.consume-in-skip.ensures.quota, ap length empty, ap length same)) []
@@ -150,7 +169,8 @@ returns-then-place-len-clause-line_feed g c =
     let front = c.skip.invariant.front in
     let place = c.line_feed_from-place in
     let inside : place.result < length c.skip.self.unread = omega arith in
-    λ _. inl (has_in_known _ (g.S.Source.left c.skip.source) front.0 c.skip.self.unread front.2 (place.result, inside, get_or_default c.skip.self.unread place.result 10 0 inside ∙ place.ensures.found inside))
+    λ _. inl (has_in_known _ (g.S.Source.left c.skip.source) front.0 c.skip.self.unread front.2
+    (place.result, inside, get_or_default c.skip.self.unread place.result 10 0 inside ∙ place.ensures.found inside))
 
 pub returns-in-End-clause-line_feed : goal.returns-in-End-clause-line_feed
 returns-in-End-clause-line_feed g c =

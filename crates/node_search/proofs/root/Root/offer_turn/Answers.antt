@@ -12,11 +12,13 @@ offer_tours-requires-clause-none g c κs within =
     let cars : c.as_slice-cars.result.now ≡ c.requires.one.turn.cars = search rules in
     let at : c.index-branches-0.result.spent ≡ first_spent 0 c.requires.one.turn.cars = search rules in
     let none : is_some c.index-branches-0.result.spent ≡ false = search rules in
-    subst (λ (ts : List TurnOf). (k : ℕ) → k < length ts → (get_or ts k no_turn).priced.spent ≡ false) (sym cars) (none-spent 0 c.requires.one.turn.cars (none_of (first_spent 0 c.requires.one.turn.cars) (ap is_some (sym at) ∙ none)))
+    subst (λ (ts : List TurnOf). (k : ℕ) → k < length ts → (get_or ts k no_turn).priced.spent ≡ false) (sym cars)
+    (none-spent 0 c.requires.one.turn.cars (none_of (first_spent 0 c.requires.one.turn.cars) (ap is_some (sym at) ∙ none)))
 
 pub returns-in_ok-offer_tours-clause-root : goal.returns-in_ok-offer_tours-clause-root
 returns-in_ok-offer_tours-clause-root g c =
-    root-cheaper (g.P.Pricer.snapshot c.args.pricer.now) c.args.most_tours c.args.self.now c.offer_tours.new.self c.requires.root c.in_ok-offer_tours.ensures.best c.in_ok-offer_tours.ensures.pool c.in_ok-offer_tours.ensures.cheaper
+    root-cheaper (g.P.Pricer.snapshot c.args.pricer.now) c.args.most_tours c.args.self.now c.offer_tours.new.self c.requires.root
+    c.in_ok-offer_tours.ensures.best c.in_ok-offer_tours.ensures.pool c.in_ok-offer_tours.ensures.cheaper
 
 pub offer_tours-requires-clause-best : goal.offer_tours-requires-clause-best
 offer_tours-requires-clause-best g c κs within = c.requires.root.best

@@ -10,7 +10,10 @@ returns-clause-answers g c =
     let s = g.P.Pricer.snapshot c.args.pricer.now in
     let prices : c.deref.result.now ≡ c.args.self.now.prices.items = search rules in
     let node : (get_or c.branches.result.now 0 c.index-branches-0.result).node ≡ root_of s = search rules in
-    subst (λ (n : Node). IfOk c.price_turn.result (λ cars. AreAnswersIn s c.args.most_tours n c.args.self.now.prices.items cars.items)) node (subst (λ (ps : List ℤ). IfOk c.price_turn.result (λ cars. AreAnswersIn s c.args.most_tours (get_or c.branches.result.now 0 c.index-branches-0.result).node ps cars.items)) prices c.price_turn.ensures.answers)
+    subst (λ (n : Node). IfOk c.price_turn.result (λ cars. AreAnswersIn s c.args.most_tours n c.args.self.now.prices.items cars.items)) node
+    (subst (λ (ps : List ℤ).
+    IfOk c.price_turn.result (λ cars. AreAnswersIn s c.args.most_tours (get_or c.branches.result.now 0 c.index-branches-0.result).node ps cars.items))
+    prices c.price_turn.ensures.answers)
 
 pub price_turn-requires-clause-accepted : goal.price_turn-requires-clause-accepted
 price_turn-requires-clause-accepted g c κs within = c.requires.accepted

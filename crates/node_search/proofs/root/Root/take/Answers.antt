@@ -14,7 +14,8 @@ returns-clause-root g c =
     let new = c.push_turn.new.self in
     let next = c.in_ok-next.next.items in
     let taken = subst (λ (cars : List TurnOf). HasTakenIn s c.args.most_tours old mid next cars) c.deref.ensures.value c.in_ok-next.ensures in
-    let step = taken_step s c.args.most_tours old mid new next c.args.cars.items taken c.push_turn.ensures.tree c.push_turn.ensures.best c.push_turn.ensures.step c.in_ok-push_turn.ensures.prices c.in_ok-push_turn.ensures.turns in
+    let step = taken_step s c.args.most_tours old mid new next c.args.cars.items taken c.push_turn.ensures.tree c.push_turn.ensures.best
+    c.push_turn.ensures.step c.in_ok-push_turn.ensures.prices c.in_ok-push_turn.ensures.turns in
     root-step s c.args.most_tours (cars-le s c.requires.accepted) old new c.args.cars.items c.requires.root c.requires.turns c.requires.answers step
 
 pub returns-clause-turned : goal.returns-clause-turned
@@ -25,8 +26,10 @@ returns-clause-turned g c =
     let new = c.push_turn.new.self in
     let next = c.in_ok-next.next.items in
     let taken = subst (λ (cars : List TurnOf). HasTakenIn s c.args.most_tours old mid next cars) c.deref.ensures.value c.in_ok-next.ensures in
-    let step = taken_step s c.args.most_tours old mid new next c.args.cars.items taken c.push_turn.ensures.tree c.push_turn.ensures.best c.push_turn.ensures.step c.in_ok-push_turn.ensures.prices c.in_ok-push_turn.ensures.turns in
-    has_turned s c.args.most_tours old new c.args.cars.items c.requires.root c.requires.answers step.tree step.turns (taken_cheaper old mid new c.push_turn.ensures.best taken.cheaper)
+    let step = taken_step s c.args.most_tours old mid new next c.args.cars.items taken c.push_turn.ensures.tree c.push_turn.ensures.best
+    c.push_turn.ensures.step c.in_ok-push_turn.ensures.prices c.in_ok-push_turn.ensures.turns in
+    has_turned s c.args.most_tours old new c.args.cars.items c.requires.root c.requires.answers step.tree step.turns
+    (taken_cheaper old mid new c.push_turn.ensures.best taken.cheaper)
 
 pub returns-clause-turns : goal.returns-clause-turns
 returns-clause-turns g c =
@@ -36,7 +39,8 @@ returns-clause-turns g c =
     let new = c.push_turn.new.self in
     let next = c.in_ok-next.next.items in
     let taken = subst (λ (cars : List TurnOf). HasTakenIn s c.args.most_tours old mid next cars) c.deref.ensures.value c.in_ok-next.ensures in
-    let step = taken_step s c.args.most_tours old mid new next c.args.cars.items taken c.push_turn.ensures.tree c.push_turn.ensures.best c.push_turn.ensures.step c.in_ok-push_turn.ensures.prices c.in_ok-push_turn.ensures.turns in
+    let step = taken_step s c.args.most_tours old mid new next c.args.cars.items taken c.push_turn.ensures.tree c.push_turn.ensures.best
+    c.push_turn.ensures.step c.in_ok-push_turn.ensures.prices c.in_ok-push_turn.ensures.turns in
     step.turns
 
 pub returns-clause-tree : goal.returns-clause-tree
@@ -47,5 +51,6 @@ returns-clause-tree g c =
     let new = c.push_turn.new.self in
     let next = c.in_ok-next.next.items in
     let taken = subst (λ (cars : List TurnOf). HasTakenIn s c.args.most_tours old mid next cars) c.deref.ensures.value c.in_ok-next.ensures in
-    let step = taken_step s c.args.most_tours old mid new next c.args.cars.items taken c.push_turn.ensures.tree c.push_turn.ensures.best c.push_turn.ensures.step c.in_ok-push_turn.ensures.prices c.in_ok-push_turn.ensures.turns in
+    let step = taken_step s c.args.most_tours old mid new next c.args.cars.items taken c.push_turn.ensures.tree c.push_turn.ensures.best
+    c.push_turn.ensures.step c.in_ok-push_turn.ensures.prices c.in_ok-push_turn.ensures.turns in
     step.tree

@@ -21,7 +21,8 @@ use Rattle.node_search.proofs.root.Root.take_in.Goals as goal
 pub put_tours-requires-clause-tours : goal.put_tours-requires-clause-tours
 put_tours-requires-clause-tours g c =
     let s = g.P.Pricer.snapshot c.args.pricer.now in
-    feasible_tours s c.args.self.now.best.pool.snapshot c.args.most_tours (root_of s) c.args.self.now.prices.items c.args.cars.now c.requires.root.best.snapshot c.requires.answers
+    feasible_tours s c.args.self.now.best.pool.snapshot c.args.most_tours
+    (root_of s) c.args.self.now.prices.items c.args.cars.now c.requires.root.best.snapshot c.requires.answers
 
 pub note-requires-clause-place : goal.note-requires-clause-place
 note-requires-clause-place g c =
@@ -59,7 +60,8 @@ pub put_tours-requires-clause-count : goal.put_tours-requires-clause-count
 put_tours-requires-clause-count g c = c.requires.answers.count ∙ ap car_count (sym c.requires.root.best.snapshot)
 
 pub select-requires-clause-best : goal.select-requires-clause-best
-select-requires-clause-best g c = subst (λ (x : Snapshot). IsBest x c.put_tours.new.self) (sym c.in_ok-put_tours.ensures.best.snapshot) c.in_ok-put_tours.ensures.best
+select-requires-clause-best g c =
+    subst (λ (x : Snapshot). IsBest x c.put_tours.new.self) (sym c.in_ok-put_tours.ensures.best.snapshot) c.in_ok-put_tours.ensures.best
 
 pub select-requires-clause-prices : goal.select-requires-clause-prices
 select-requires-clause-prices g c =
@@ -100,7 +102,8 @@ returns g c =
     let first = c.requires.root.step in
     let small = c.requires.root.small in
     let whole = stored old.step (omega (arith, ints, first)) (omega (arith, ints, small)) in
-    let step : c.step_after-step.result ≡ pos (most / (length old.turns.items + 1)) = c.step_after-step.ensures.value most (whole ∙ c.requires.root.step) ∙ ap (λ (n : ℕ). pos (most / (n + 1))) count in
+    let step : c.step_after-step.result ≡ pos (most / (length old.turns.items + 1)) = c.step_after-step.ensures.value most (whole ∙ c.requires.root.step)
+    ∙ ap (λ (n : ℕ). pos (most / (n + 1))) count in
     let low = c.step_after-step.ensures.low in
     let high = c.step_after-step.ensures.high in
     let again = stored c.step_after-step.result (omega (arith, ints, low)) (omega (arith, ints, high)) in
@@ -114,8 +117,13 @@ returns g c =
       best = subst (λ (x : Snapshot). IsBest x c.select.new.self) same c.in_ok-select.ensures.best;
       pool = kept ∙ c.in_ok-put_tours.ensures.pool;
       pools = c.put_tours.ensures.cars ∙ ap car_count c.requires.root.best.snapshot;
-      cheapest = λ enough plan made. subst (λ (x : Snapshot). c.select.new.self.cost ≤ plan_cost_of x plan) same (c.in_ok-select.ensures.least (subst (λ (x : Snapshot). 34 ^ car_count x ≤ c.args.most_tours) (sym same) enough) plan (subst (λ (p : TourPool). IsMadeOf p plan) kept made));
+      cheapest = λ enough plan made.
+          subst (λ (x : Snapshot). c.select.new.self.cost ≤ plan_cost_of x plan) same
+          (c.in_ok-select.ensures.least (subst (λ (x : Snapshot). 34 ^ car_count x ≤ c.args.most_tours) (sym same) enough) plan
+          (subst (λ (p : TourPool). IsMadeOf p plan) kept made));
       cheaper = omega (arith, cheaper, cost);
       count = c.in_ok-next.ensures.count ∙ ap length prices;
-      each = λ j lt. c.in_ok-next.ensures.each j (subst (λ (ps : List ℤ). j < length ps) (sym prices) lt) ∙ ap (λ (ps : List ℤ). moved_price ps (to_z w128 (of_z w128 c.step_after-step.result)) cars j) prices ∙ ap (λ (z : ℤ). moved_price old.prices.items z cars j) (again ∙ step);
+      each = λ j lt. c.in_ok-next.ensures.each j (subst (λ (ps : List ℤ). j < length ps) (sym prices) lt)
+          ∙ ap (λ (ps : List ℤ). moved_price ps (to_z w128 (of_z w128 c.step_after-step.result)) cars j) prices
+          ∙ ap (λ (z : ℤ). moved_price old.prices.items z cars j) (again ∙ step);
     }

@@ -3,7 +3,8 @@ use Rattle.node_search.proofs.root.Root.turn.Goals as goal
 
 pub returns-clause-first : goal.returns-clause-first
 returns-clause-first g c =
-    has_one_turn (g.P.Pricer.snapshot c.args.pricer.now) c.args.most_tours c.args.self.now c.take.new.self c.in_ok-cars.cars.items c.requires.root c.in_ok-cars.ensures.answers c.in_ok-take.ensures.tree c.in_ok-take.ensures.turns
+    has_one_turn (g.P.Pricer.snapshot c.args.pricer.now) c.args.most_tours c.args.self.now c.take.new.self c.in_ok-cars.cars.items c.requires.root
+    c.in_ok-cars.ensures.answers c.in_ok-take.ensures.tree c.in_ok-take.ensures.turns
 
 pub price-requires-clause-accepted : goal.price-requires-clause-accepted
 price-requires-clause-accepted g c κs within = c.requires.accepted
@@ -39,7 +40,9 @@ pub returns-clause-turned : goal.returns-clause-turned
 returns-clause-turned g c = c.in_ok-take.ensures.turned
 
 pub returns-clause-turns : goal.returns-clause-turns
-returns-clause-turns g c = turns_more (g.P.Pricer.snapshot c.args.pricer.now) c.args.most_tours c.args.self.now c.take.new.self c.in_ok-cars.cars.items c.requires.root c.in_ok-cars.ensures.answers c.in_ok-take.ensures.tree c.in_ok-take.ensures.turns
+returns-clause-turns g c =
+    turns_more (g.P.Pricer.snapshot c.args.pricer.now) c.args.most_tours c.args.self.now c.take.new.self c.in_ok-cars.cars.items c.requires.root
+    c.in_ok-cars.ensures.answers c.in_ok-take.ensures.tree c.in_ok-take.ensures.turns
 
 pub returns-clause-desks : goal.returns-clause-desks
 returns-clause-desks g c = c.price.ensures.desks

@@ -12,7 +12,11 @@ returns-in_ok-turn_until-clause-due g c =
     let s = g.P.Pricer.snapshot c.args.pricer.now in
     let calls : c.len-calls.result ≡ call_count s = (let all = root_calls s c.args.most_tours c.args.self.now c.requires.root in search (rules, all)) in
     let node : (get_or c.branches.result.now 0 c.index-branches-0.result).node ≡ root_of s = search rules in
-    due_many s c.args.rounds _ c.turn_until.new.self c.in_ok-turn_until.ensures.enough (search rules) c.requires.rounds (λ single. choice_many c.len-calls.result (get_or c.branches.result.now 0 c.index-branches-0.result).node c.first_choice.result c.first_choice.ensures.call c.first_choice.ensures.part (search rules) (subst (λ (n : ℕ). AreSingle n (get_or c.branches.result.now 0 c.index-branches-0.result).node) (sym calls) (subst (AreSingle (call_count s)) (sym node) single)))
+    due_many s c.args.rounds _ c.turn_until.new.self c.in_ok-turn_until.ensures.enough (search rules) c.requires.rounds
+    (λ single. choice_many c.len-calls.result
+    (get_or c.branches.result.now 0 c.index-branches-0.result).node c.first_choice.result c.first_choice.ensures.call c.first_choice.ensures.part
+    (search rules) (subst (λ (n : ℕ). AreSingle n (get_or c.branches.result.now 0 c.index-branches-0.result).node) (sym calls)
+    (subst (AreSingle (call_count s)) (sym node) single)))
 
 pub turn_once-requires-clause-single : goal.turn_once-requires-clause-single
 turn_once-requires-clause-single g c κs within =

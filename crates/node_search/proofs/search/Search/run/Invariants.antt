@@ -10,7 +10,8 @@ invariant-loop-self g l =
       searching : IsSearching (g.P.Pricer.snapshot l.pricer) l.most_tours l.self;
       cheaper : l.self.best.cost ≤ l.fn.self.best.cost;
       few : l.self.done ≤ l.rounds;
-      sums : (z : ℤ) → AllInTree (IsAtLeast z) (g.P.Pricer.snapshot l.pricer) l.fn.self.tree.branches → AllInTree (IsAtLeast z) (g.P.Pricer.snapshot l.pricer) l.self.tree.branches;
+      sums : (z : ℤ) → AllInTree (IsAtLeast z) (g.P.Pricer.snapshot l.pricer) l.fn.self.tree.branches
+          → AllInTree (IsAtLeast z) (g.P.Pricer.snapshot l.pricer) l.self.tree.branches;
       desks : Serving (g.P.Pricer.owns l.pricer) l.desks;
     }
 

@@ -9,7 +9,8 @@ use Rattle.node_search.proofs.search.Search.settle.Goals as goal
 pub put_tours-requires-clause-tours : goal.put_tours-requires-clause-tours
 put_tours-requires-clause-tours g c =
     let pool = c.args.self.now.best.pool in
-    feasible_tours (g.P.Pricer.snapshot c.args.pricer.now) pool.snapshot c.args.most_tours (at_place c.args.self.now.tree.branches c.args.place).node c.args.prices.now c.args.cars.now c.requires.way.best.snapshot c.requires.pricing.answers
+    feasible_tours (g.P.Pricer.snapshot c.args.pricer.now) pool.snapshot c.args.most_tours
+    (at_place c.args.self.now.tree.branches c.args.place).node c.args.prices.now c.args.cars.now c.requires.way.best.snapshot c.requires.pricing.answers
 
 pub settle_open-requires-clause-way : goal.settle_open-requires-clause-way
 settle_open-requires-clause-way g c κs within =

@@ -23,7 +23,8 @@ settle-requires-clause-pricing g c κs within =
     let below : k < length chosen = omega arith in
     let next : c.loop-index.index ≡ k + 1 = omega arith in
     let at : slice_get chosen k ≡ Some it = slice_get_read chosen (length chosen) k it refl below c.index-chosen-index.is in
-    let so_far : HasTakenFrom s c.args.most_tours chosen (k + 1) c.args.self.now mid = subst (λ (n : ℕ). HasTakenFrom s c.args.most_tours chosen n c.args.self.now mid) next c.loop-index.invariant in
+    let so_far : HasTakenFrom s c.args.most_tours chosen (k + 1) c.args.self.now mid =
+    subst (λ (n : ℕ). HasTakenFrom s c.args.most_tours chosen n c.args.self.now mid) next c.loop-index.invariant in
     let is = next_pricing s c.args.most_tours chosen answers c.args.self.now c.requires.priced k it at mid so_far in
     let width : (k * c.args.cars + c.args.cars) - k * c.args.cars ≡ c.args.cars = omega arith in
     let prices : c.deref.result.now ≡ it.prices.items = c.deref.ensures.value in
@@ -41,8 +42,10 @@ loop-index-preserved g c =
     let below : k < length chosen = omega arith in
     let next : c.loop-index.index ≡ k + 1 = omega arith in
     let at : slice_get chosen k ≡ Some it = slice_get_read chosen (length chosen) k it refl below c.index-chosen-index.is in
-    let so_far : HasTakenFrom s c.args.most_tours chosen (k + 1) c.args.self.now mid = subst (λ (n : ℕ). HasTakenFrom s c.args.most_tours chosen n c.args.self.now mid) next c.loop-index.invariant in
-    taken_more s c.args.most_tours chosen c.args.answers.now c.args.self.now c.requires.priced k it at mid so_far c.settle.new.self c.in_ok-settle.ensures.way c.in_ok-settle.ensures.settled
+    let so_far : HasTakenFrom s c.args.most_tours chosen (k + 1) c.args.self.now mid =
+    subst (λ (n : ℕ). HasTakenFrom s c.args.most_tours chosen n c.args.self.now mid) next c.loop-index.invariant in
+    taken_more s c.args.most_tours chosen c.args.answers.now c.args.self.now c.requires.priced k it at mid so_far c.settle.new.self c.in_ok-settle.ensures.way
+    c.in_ok-settle.ensures.settled
 
 pub returns-clause-way : goal.returns-clause-way
 returns-clause-way g c =

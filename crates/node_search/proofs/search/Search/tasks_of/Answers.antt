@@ -17,12 +17,19 @@ loop-index-preserved c =
     let x = c.args.self.now in
     let chosen = c.args.chosen.now in
     let it = c.index-chosen-index.result in
-    let at : slice_get chosen c.loop-index.index ≡ Some it = slice_get_read chosen (length chosen) c.loop-index.index it refl c.loop-index-test.true c.index-chosen-index.is in
-    let within : it.place < length x.tree.branches = subst (λ (d : Chosen). d.place < length x.tree.branches) (sym c.index-chosen-index.is) (c.requires c.loop-index.index it c.loop-index-test.true) in
+    let at : slice_get chosen c.loop-index.index ≡ Some it =
+    slice_get_read chosen (length chosen) c.loop-index.index it refl c.loop-index-test.true c.index-chosen-index.is in
+    let within : it.place < length x.tree.branches =
+    subst (λ (d : Chosen). d.place < length x.tree.branches) (sym c.index-chosen-index.is) (c.requires c.loop-index.index it c.loop-index-test.true) in
     let tree : c.branches.result.now ≡ x.tree.branches = c.branches.ensures in
-    let there : c.index-branches-place.result ≡ at_place x.tree.branches it.place = get_or_read x.tree.branches it.place c.index-branches-place.result within (c.index-branches-place.is ∙ ap (λ (t : List Branch). get_or t it.place c.index-branches-place.result) tree) no_branch in
-    let node : (get_or c.branches.result.now it.place c.index-branches-place.result).node ≡ (at_place x.tree.branches it.place).node = ap (λ (b : Branch). b.node) (sym c.index-branches-place.is ∙ there) in
-    subst (AreTasksTo x chosen (c.loop-index.index + 1)) (sym {A = List Task} c.in_ok-push.ensures.items) (tasks_more x chosen c.loop-index.index c.loop-index.tasks.items it _ c.loop-index.invariant at (record { node = node; prices = c.deref.ensures.value }))
+    let there : c.index-branches-place.result ≡ at_place x.tree.branches it.place =
+    get_or_read x.tree.branches it.place c.index-branches-place.result within
+    (c.index-branches-place.is ∙ ap (λ (t : List Branch). get_or t it.place c.index-branches-place.result) tree) no_branch in
+    let node : (get_or c.branches.result.now it.place c.index-branches-place.result).node ≡ (at_place x.tree.branches it.place).node =
+    ap (λ (b : Branch). b.node) (sym c.index-branches-place.is ∙ there) in
+    subst (AreTasksTo x chosen (c.loop-index.index + 1)) (sym {A = List Task} c.in_ok-push.ensures.items)
+    (tasks_more x chosen c.loop-index.index c.loop-index.tasks.items it _ c.loop-index.invariant at
+    (record { node = node; prices = c.deref.ensures.value }))
 
 pub returns : goal.returns
 returns c =

@@ -25,7 +25,8 @@ pub overflow_sub-result : goal.overflow_sub-result
 overflow_sub-result c =
     let l = c.requires in
     let fits = (board_persons c.args.layout.now.snapshot c.args.layout.now.car c.args.self.now l.0 l.1 c.args.call l.2 l.3).1 in
-    let same = ap (λ (calls : List Call). (call_in calls c.args.call).persons) (c.calls.ensures.value ∙ ap (λ (s : Snapshot). s.calls) c.snapshot.ensures.value) in
+    let same = ap (λ (calls : List Call). (call_in calls c.args.call).persons)
+    (c.calls.ensures.value ∙ ap (λ (s : Snapshot). s.calls) c.snapshot.ensures.value) in
     omega (arith, fits, same)
 
 pub earlier-requires : goal.earlier-requires

@@ -52,7 +52,8 @@ pub returns : goal.returns
 returns c = λ x y t h.
     let s = c.args.layout.now.snapshot in
     let car = c.args.layout.now.car in
-    tracks_leave s car c.args.self.now _ x y c.args.floor c.args.persons_off t h (c.requires.off x t) refl (c.with_stop.ensures.tracks s car (reached s car x) t.place c.ending-ending.ensures) (record {
+    tracks_leave s car c.args.self.now _ x y c.args.floor c.args.persons_off t h (c.requires.off x t) refl
+    (c.with_stop.ensures.tracks s car (reached s car x) t.place c.ending-ending.ensures) (record {
       ended = refl;
       useful = c.is_useful_at.ensures;
       last = refl;

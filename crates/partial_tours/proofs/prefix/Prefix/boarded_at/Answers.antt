@@ -16,7 +16,9 @@ returns-clause-value c = λ x h.
     let below = subst (λ (p : PartialTour). c.args.call < call_count p.snapshot) (sym c.self.view_is) c.requires.call in
     let first = subst (λ (p : PartialTour). (reached p.snapshot p.car old.0).boarded c.args.call ≡ true) (sym c.self.view_is) old.2 in
     let boarded = subst (λ (y : Course). (reached f.layout.snapshot f.layout.car y).boarded c.args.call ≡ true) (some_same (sym old.1 ∙ h)) first in
-    subst (λ (p : PartialTour). c.index.result.now ≡ (reached p.snapshot p.car x).boarded_at c.args.call) c.self.view_is (moment_noted f.layout.snapshot f.layout.car f.moves.items f.steps.items f.moments.items x c.args.call c.index.result.now c.self.invariant.0.accepted c.self.invariant.3 (ap course c.self.view_is ∙ h) below boarded c.index.ensures)
+    subst (λ (p : PartialTour). c.index.result.now ≡ (reached p.snapshot p.car x).boarded_at c.args.call) c.self.view_is
+    (moment_noted f.layout.snapshot f.layout.car f.moves.items f.steps.items f.moments.items x c.args.call c.index.result.now c.self.invariant.0.accepted
+    c.self.invariant.3 (ap course c.self.view_is ∙ h) below boarded c.index.ensures)
 
 pub returns-clause-early : goal.returns-clause-early
 returns-clause-early c =
@@ -27,6 +29,8 @@ returns-clause-early c =
     let below = subst (λ (p : PartialTour). c.args.call < call_count p.snapshot) (sym c.self.view_is) c.requires.call in
     let boarded = subst (λ (p : PartialTour). (reached p.snapshot p.car old.0).boarded c.args.call ≡ true) (sym c.self.view_is) old.2 in
     let lawful = ap course c.self.view_is ∙ old.1 in
-    let noted = moment_noted s car f.moves.items f.steps.items f.moments.items old.0 c.args.call c.index.result.now c.self.invariant.0.accepted c.self.invariant.3 lawful below boarded c.index.ensures in
-    let early = boarded_early s car old.0 c.args.call c.self.invariant.0.accepted c.self.invariant.0.car (course_early s car f.moves.items old.0 c.self.invariant.0.accepted c.self.invariant.0.car lawful) boarded in
+    let noted = moment_noted s car f.moves.items f.steps.items f.moments.items old.0 c.args.call c.index.result.now c.self.invariant.0.accepted
+    c.self.invariant.3 lawful below boarded c.index.ensures in
+    let early = boarded_early s car old.0 c.args.call c.self.invariant.0.accepted c.self.invariant.0.car
+    (course_early s car f.moves.items old.0 c.self.invariant.0.accepted c.self.invariant.0.car lawful) boarded in
     omega (arith, noted, early)

@@ -16,4 +16,5 @@ returns c = λ x h.
     let carried = (riders_carried s car place (reached s car x) stands.tracks.place).groups c.args.group c.requires in
     let aboard = c.aboard.ensures.value ∙ ap (λ (u : Snapshot). u.aboard) (c.snapshot.ensures.value ∙ ap (λ (p : PartialTour). p.snapshot) c.self.view_is) in
     let same = c.car.ensures.value ∙ ap (λ (p : PartialTour). p.car) c.self.view_is in
-    c.is_carried.ensures ∙ ap (λ (groups : List Aboard). group_carried groups c.car.result place.visited c.args.group) aboard ∙ ap (λ (n : ℕ). group_carried s.aboard n place.visited c.args.group) same ∙ sym carried
+    c.is_carried.ensures ∙ ap (λ (groups : List Aboard). group_carried groups c.car.result place.visited c.args.group) aboard
+    ∙ ap (λ (n : ℕ). group_carried s.aboard n place.visited c.args.group) same ∙ sym carried

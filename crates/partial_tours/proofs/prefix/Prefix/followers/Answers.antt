@@ -7,7 +7,8 @@ use Rattle.partial_tours.proofs.prefix.Prefix.followers.Goals as goal
 
 pub returns-clause-value : goal.returns-clause-value
 returns-clause-value c = λ x there.
-    let tracks = subst (λ (p : PartialTour). TracksCourse p.snapshot p.car c.last_step.result.now.point x) (sym c.self.view_is) (c.last_step.ensures.stands x there).tracks in
+    let tracks = subst (λ (p : PartialTour). TracksCourse p.snapshot p.car c.last_step.result.now.point x) (sym c.self.view_is)
+    (c.last_step.ensures.stands x there).tracks in
     subst (λ (p : PartialTour). AreFollowers p.snapshot p.car x (has c.args.allowed) c.followers_at.result) c.self.view_is (c.followers_at.ensures x tracks)
 
 pub returns-clause-course : goal.returns-clause-course

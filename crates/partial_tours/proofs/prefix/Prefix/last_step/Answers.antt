@@ -14,11 +14,13 @@ stands c x h =
     let s = f.layout.snapshot in
     let car = f.layout.car in
     let step = c.index.result.now in
-    let at : step ≡ get_or f.steps.items (length f.moves.items) step = c.index.ensures ∙ ap (λ (n : ℕ). get_or f.steps.items n step) (c.len.ensures ∙ f.moves.ok.0) in
+    let at : step ≡ get_or f.steps.items (length f.moves.items) step = c.index.ensures
+    ∙ ap (λ (n : ℕ). get_or f.steps.items n step) (c.len.ensures ∙ f.moves.ok.0) in
     let lawful = ap course c.self.view_is ∙ h in
     let last = stands_last s car f.moves.items f.steps.items f.moments.items step x c.self.invariant.0 c.self.invariant.3 at lawful in
     let few = moves_few s car f.moves.items c.self.invariant.0.accepted c.self.invariant.0.car c.self.invariant.0.lawful in
-    let early = opened_early s car x c.self.invariant.0.accepted c.self.invariant.0.car (course_early s car f.moves.items x c.self.invariant.0.accepted c.self.invariant.0.car lawful) in
+    let early = opened_early s car x c.self.invariant.0.accepted c.self.invariant.0.car
+    (course_early s car f.moves.items x c.self.invariant.0.accepted c.self.invariant.0.car lawful) in
     let opened = last.tallies.counts.opened in
     let floor = last.tallies.floor in
     let same = last.tracks.place.floor in

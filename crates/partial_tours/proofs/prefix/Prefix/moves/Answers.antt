@@ -7,4 +7,5 @@ use Rattle.partial_tours.proofs.prefix.Prefix.moves.Goals as goal
 pub returns-clause-short : goal.returns-clause-short
 returns-clause-short c =
     let p = c.self.inside in
-    subst (λ (q : PartialTour). length q.moves ≤ most_moves q.snapshot q.car) c.self.view_is (moves_short p.layout.snapshot p.layout.car p.moves.items c.self.invariant.0.lawful)
+    subst (λ (q : PartialTour). length q.moves ≤ most_moves q.snapshot q.car) c.self.view_is
+    (moves_short p.layout.snapshot p.layout.car p.moves.items c.self.invariant.0.lawful)

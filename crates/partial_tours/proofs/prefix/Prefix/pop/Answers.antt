@@ -25,8 +25,10 @@ invariant_of-self-2 c =
     let more = c.self.invariant.2 in
     let same = c.pop.ensures.capacity in
     let same_steps = c.pop-2.ensures.capacity in (
-      subst (λ (ms : List Move). IsPrefix s f.layout.car ms c.pop-2.new.self.items) moves (subst (λ (ps : List Step). IsPrefix s f.layout.car (take n f.moves.items) ps) steps fewer),
+      subst (λ (ms : List Move). IsPrefix s f.layout.car ms c.pop-2.new.self.items) moves
+          (subst (λ (ps : List Step). IsPrefix s f.layout.car (take n f.moves.items) ps) steps fewer),
       omega (arith, room, same),
       omega (arith, more, same_steps),
-      subst (λ (ms : List Move). IsTallied s f.layout.car ms c.pop-2.new.self.items f.moments.items) moves (subst (λ (ps : List Step). IsTallied s f.layout.car (take n f.moves.items) ps f.moments.items) steps undone),
+      subst (λ (ms : List Move). IsTallied s f.layout.car ms c.pop-2.new.self.items f.moments.items) moves
+          (subst (λ (ps : List Step). IsTallied s f.layout.car (take n f.moves.items) ps f.moments.items) steps undone),
     )

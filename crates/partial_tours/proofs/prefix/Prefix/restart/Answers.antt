@@ -18,8 +18,10 @@ invariant_of-self c =
     let cleared = c.clear.ensures.capacity in
     let also = c.clear-2.ensures.capacity in
     let pushed = c.push_reserved.ensures.capacity in (
-      IsPrefix-new new.snapshot new.car _ _ _ c.start.result accepted car c.start.ensures.point c.clear.ensures.items c.clear-2.ensures.items c.push_reserved.ensures.items,
+      IsPrefix-new new.snapshot new.car _ _ _ c.start.result accepted car c.start.ensures.point c.clear.ensures.items c.clear-2.ensures.items
+          c.push_reserved.ensures.items,
       omega (arith, room, cleared),
       omega (arith, more, also, pushed),
-      IsTallied-again new.snapshot new.car _ _ _ c.start.result _ c.start.ensures.tally c.clear.ensures.items c.clear-2.ensures.items c.push_reserved.ensures.items c.self.invariant.3.room c.self.invariant.3.low,
+      IsTallied-again new.snapshot new.car _ _ _ c.start.result _ c.start.ensures.tally c.clear.ensures.items c.clear-2.ensures.items
+          c.push_reserved.ensures.items c.self.invariant.3.room c.self.invariant.3.low,
     )

@@ -5,7 +5,8 @@ use Rattle.partial_tours.proofs.steps.Step.after.Goals as goal
 
 pub returns-in-Board : goal.returns-in-Board
 returns-in-Board c = λ x y count t tally noted few h.
-    c.after_board.ensures c.args.moments.now x y count t tally noted few (ap (move_on c.args.layout.now.snapshot c.args.layout.now.car x) (sym c.in-Board.is) ∙ h)
+    c.after_board.ensures c.args.moments.now x y count t tally noted few
+    (ap (move_on c.args.layout.now.snapshot c.args.layout.now.car x) (sym c.in-Board.is) ∙ h)
 
 pub returns-in-Leave : goal.returns-in-Leave
 returns-in-Leave c = λ x y count t tally noted few h.

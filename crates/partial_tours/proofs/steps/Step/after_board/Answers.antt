@@ -9,5 +9,8 @@ after_board-requires-2-clause-call c =
 pub returns : goal.returns
 returns c = λ moments x y count t tally noted few h.
     let s = c.args.layout.now.snapshot in
-    let car = c.args.layout.now.car in
-    (c.after_board.ensures x y t h, tally_board s car count c.args.self.now.tally c.after_board-2.result x y c.args.call tally few h c.after_board-2.ensures.counts c.after_board-2.ensures.opened c.after_board-2.ensures.later c.after_board-2.ensures.late)
+    let car = c.args.layout.now.car in (
+      c.after_board.ensures x y t h,
+      tally_board s car count c.args.self.now.tally c.after_board-2.result x y c.args.call tally few h c.after_board-2.ensures.counts
+          c.after_board-2.ensures.opened c.after_board-2.ensures.later c.after_board-2.ensures.late,
+    )

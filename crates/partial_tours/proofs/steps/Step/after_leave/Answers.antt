@@ -34,7 +34,8 @@ leaving_at-leaving-requires-clause-late c =
 pub after_leave-requires-2-clause-small : goal.after_leave-requires-2-clause-small
 after_leave-requires-2-clause-small c =
     let l = c.requires.lawful in
-    tally_small c.args.layout.now.snapshot c.args.layout.now.car l.2 c.args.self.now.tally l.0 c.snapshot-accepted.ensures.accepted c.car-car.ensures.car l.4 (let few = l.6 in omega (arith, few))
+    tally_small c.args.layout.now.snapshot c.args.layout.now.car l.2 c.args.self.now.tally l.0 c.snapshot-accepted.ensures.accepted c.car-car.ensures.car l.4
+    (let few = l.6 in omega (arith, few))
 
 pub returns : goal.returns
 returns c = λ x y count t tally noted few h.
@@ -47,8 +48,13 @@ returns c = λ x y count t tally noted few h.
     let same = c.after_leave-2.ensures.opened in
     let leaves = c.after_leave-2.ensures.leaves in
     let cost = c.leaving_at-leaving.ensures.cost p t.place kept boarded ∙ ap (λ (n : ℕ). leaving_cost s p c.args.floor n) (sym same) in
-    let counts = counts_leave s car p c.args.floor c.args.self.now.tally c.after_leave-2.result c.leaving_at-leaving.result.persons c.leaving_at-leaving.result.cost kept tally.counts opened (c.leaving_at-leaving.ensures.persons p t.place) (omega (arith, leaves, same)) cost c.after_leave-2.ensures.settled in
+    let counts = counts_leave s car p c.args.floor c.args.self.now.tally c.after_leave-2.result c.leaving_at-leaving.result.persons
+    c.leaving_at-leaving.result.cost kept tally.counts opened (c.leaving_at-leaving.ensures.persons p t.place)
+    (omega (arith, leaves, same)) cost c.after_leave-2.ensures.settled in
     let timely = c.after_leave-2.ensures.leaves in
     let late = c.after_leave-2.ensures.late in
-    let later = c.opened_at-opened.ensures.late in
-    (c.after_leave.ensures x y t h, tally_leave s car count c.args.self.now.tally c.after_leave-2.result x y c.args.floor c.snapshot-accepted.ensures.accepted c.car-car.ensures.car tally few h counts (omega (arith, timely, same)) (omega (arith, late, later)))
+    let later = c.opened_at-opened.ensures.late in (
+      c.after_leave.ensures x y t h,
+      tally_leave s car count c.args.self.now.tally c.after_leave-2.result x y c.args.floor c.snapshot-accepted.ensures.accepted c.car-car.ensures.car tally
+          few h counts (omega (arith, timely, same)) (omega (arith, late, later)),
+    )

@@ -16,7 +16,8 @@ loop-call-preserved c = λ rate.
     let within : n < length c.loop-call.next = search rules in
     let in_from : n < length c.args.from.now = search rules in
     let fits : SFits w64 part = search rules in
-    let price : c.index-from-call.result ≡ price_at c.args.from.now n = get_or_read c.args.from.now n c.index-from-call.result in_from c.index-from-call.is (pos 0) in
+    let price : c.index-from-call.result ≡ price_at c.args.from.now n =
+    get_or_read c.args.from.now n c.index-from-call.result in_from c.index-from-call.is (pos 0) in
     let moved = c.moved_along.ensures (search rules) (search rules) in
     let kept = subst (λ (z : ℤ). FollowsPart z c.index-from-call.result c.moved_along.result) (to_z-of_z w64 part fits) moved in
     let here = subst (λ (z : ℤ). FollowsPart part z c.moved_along.result) price kept in

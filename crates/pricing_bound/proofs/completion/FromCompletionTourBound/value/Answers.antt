@@ -9,4 +9,5 @@ returns-clause-lower g c = λ x there.
     let bound = c.args.self.now.bound.now in
     let value = to_z w128 (of_z w128 c.value.result) in
     let same : value ≡ c.value.result = search rules in
-    at_lower (g.B.CompletionBound.aim bound) (g.B.CompletionBound.bound bound) value x (g.met.B.CompletionBound.lower bound) (same ∙ c.value.ensures.value x there)
+    at_lower (g.B.CompletionBound.aim bound) (g.B.CompletionBound.bound bound) value x (g.met.B.CompletionBound.lower bound)
+    (same ∙ c.value.ensures.value x there)

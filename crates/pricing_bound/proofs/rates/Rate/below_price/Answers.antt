@@ -17,4 +17,5 @@ returns c = λ k before.
     let term = to_z w128 (of_z w128 (to_z w128 (of_z w128 c.scaled.result) -ℤ to_z w128 (of_z w128 c.args.price))) in
     let small = c.requires.ride in
     let is = term_found c.scaled.result c.args.price rate.ride c.scaled.ensures (omega (arith, small)) c.requires.price in
-    below_at rate c.args.price term c.depth_of.result k c.requires.ordered is (not_from_zero term c.if-term-ge0.false) c.depth_of.ensures.deep (subst (λ (pace : ℕ). k < rate.released + c.depth_of.result / pace) c.max.ensures before)
+    below_at rate c.args.price term c.depth_of.result k c.requires.ordered is (not_from_zero term c.if-term-ge0.false) c.depth_of.ensures.deep
+    (subst (λ (pace : ℕ). k < rate.released + c.depth_of.result / pace) c.max.ensures before)

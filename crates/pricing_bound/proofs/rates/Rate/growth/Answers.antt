@@ -2,7 +2,8 @@ use Rattle.pricing_bound.proofs.RateLemmas.{late_even, late_next, early_next}
 use Rattle.pricing_bound.proofs.rates.Rate.growth.Goals as goal
 
 pub returns-then-moment-self-clause-even : goal.returns-then-moment-self-clause-even
-returns-then-moment-self-clause-even c = λ k later most. let rate = c.args.self.now in late_even rate.wait rate.over rate.released rate.late c.args.moment k c.requires.ordered c.if-moment-self.true later
+returns-then-moment-self-clause-even c = λ k later most. let rate = c.args.self.now in
+    late_even rate.wait rate.over rate.released rate.late c.args.moment k c.requires.ordered c.if-moment-self.true later
 
 pub returns-then-moment-self-clause-slope : goal.returns-then-moment-self-clause-slope
 returns-then-moment-self-clause-slope c =

@@ -26,10 +26,14 @@ returns-clause-value c =
     let delivered = c.arrival_from-delivered.result in
     let lt = subst (λ (r : Rated). j < call_count r.snapshot) (sym c.self.view_is) c.requires.call in
     let rate = rate_read s c.self.inside.rates.items j c.index-rate.result.now c.self.invariant.1 lt c.index-rate.ensures in
-    let there = c.arrival_from-delivered.ensures.value ∙ ap (λ (to : ℕ). c.args.opened + time_between s.building.travel c.args.floor to) (rate.to ∙ sym (destination_of-call s j lt)) in
+    let there = c.arrival_from-delivered.ensures.value
+    ∙ ap (λ (to : ℕ). c.args.opened + time_between s.building.travel c.args.floor to) (rate.to ∙ sym (destination_of-call s j lt)) in
     let travel = c.index-rate.result.now.travel in
-    let cost = ap (λ (ms : ℕ). c.wait_cost.result + travel * ms) c.saturating_sub.ensures ∙ ap (λ (wait : ℕ). wait + travel * (delivered - boarded)) c.wait_cost.ensures.value ∙ rate.cost boarded delivered ∙ ap (λ (d : ℕ). cost_of_rider s j boarded d) there in
-    cost ∙ ap (λ (r : Rated). cost_of_rider r.snapshot j boarded (c.args.opened + time_between r.snapshot.building.travel c.args.floor (destination_of r.snapshot j))) c.self.view_is
+    let cost = ap (λ (ms : ℕ). c.wait_cost.result + travel * ms) c.saturating_sub.ensures
+    ∙ ap (λ (wait : ℕ). wait + travel * (delivered - boarded)) c.wait_cost.ensures.value ∙ rate.cost boarded delivered
+    ∙ ap (λ (d : ℕ). cost_of_rider s j boarded d) there in
+    cost ∙ ap (λ (r : Rated).
+    cost_of_rider r.snapshot j boarded (c.args.opened + time_between r.snapshot.building.travel c.args.floor (destination_of r.snapshot j))) c.self.view_is
 
 pub arrival_from-delivered-requires-clause-from : goal.arrival_from-delivered-requires-clause-from
 arrival_from-delivered-requires-clause-from c = subst (λ (r : Rated). c.args.floor < floor_count r.snapshot.building) (sym c.self.view_is) c.requires.floor

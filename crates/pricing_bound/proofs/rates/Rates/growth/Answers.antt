@@ -11,7 +11,8 @@ returns-clause-even c = λ k later most.
     let j = c.args.call in
     let lt = subst (λ (r : Rated). j < call_count r.snapshot) (sym c.self.view_is) c.requires in
     let rate = rate_read s c.self.inside.rates.items j c.index.result.now c.self.invariant.1 lt c.index.ensures in
-    subst (λ (r : Rated). cost_if_alone r.snapshot j k ≡ cost_if_alone r.snapshot j c.args.moment + c.growth.result.slope * (k - c.args.moment)) c.self.view_is (alone_even s j c.index.result.now c.args.moment k c.growth.result.slope rate (c.growth.ensures.even k later most))
+    subst (λ (r : Rated). cost_if_alone r.snapshot j k ≡ cost_if_alone r.snapshot j c.args.moment + c.growth.result.slope * (k - c.args.moment)) c.self.view_is
+    (alone_even s j c.index.result.now c.args.moment k c.growth.result.slope rate (c.growth.ensures.even k later most))
 
 pub returns-clause-slope : goal.returns-clause-slope
 returns-clause-slope c =
@@ -19,4 +20,5 @@ returns-clause-slope c =
     let j = c.args.call in
     let lt = subst (λ (r : Rated). j < call_count r.snapshot) (sym c.self.view_is) c.requires in
     let rate = rate_read s c.self.inside.rates.items j c.index.result.now c.self.invariant.1 lt c.index.ensures in
-    subst (λ (r : Rated). c.growth.result.slope ≡ rise_at r.snapshot c.args.moment j) c.self.view_is (alone_rise s j c.index.result.now c.args.moment c.growth.result.slope rate c.growth.ensures.slope)
+    subst (λ (r : Rated). c.growth.result.slope ≡ rise_at r.snapshot c.args.moment j) c.self.view_is
+    (alone_rise s j c.index.result.now c.args.moment c.growth.result.slope rate c.growth.ensures.slope)

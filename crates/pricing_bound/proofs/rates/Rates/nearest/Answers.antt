@@ -12,4 +12,5 @@ returns-clause-nearest c =
     let near = c.self.invariant.5 in
     let size = near.size in
     let read = c.index.ensures ∙ get_or_default c.self.inside.nearest.items c.args.floor c.index.result.now 0 (omega (arith, inside, floors, size)) in
-    subst (λ (r : Rated). IsNearest r.snapshot.building.travel c.args.floor c.index.result.now) c.self.view_is (subst (IsNearest s.building.travel c.args.floor) (sym read) (near.each c.args.floor (omega (arith, inside, floors))))
+    subst (λ (r : Rated). IsNearest r.snapshot.building.travel c.args.floor c.index.result.now) c.self.view_is
+    (subst (IsNearest s.building.travel c.args.floor) (sym read) (near.each c.args.floor (omega (arith, inside, floors))))

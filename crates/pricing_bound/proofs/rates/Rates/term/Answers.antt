@@ -19,8 +19,10 @@ returns-clause-value c =
     let wait_small = c.wait_cost.ensures.small in
     let ride_small = rate.ride in
     let alone = ap (λ (x : ℕ). x + c.index-rate.result.now.ride) c.wait_cost.ensures.value ∙ rate.alone c.args.moment in
-    let found = term_found c.scaled.result c.index-rate.result.now.price (c.wait_cost.result + c.index-rate.result.now.ride) c.scaled.ensures (omega (arith, wait_small, ride_small)) rate.price in
-    found ∙ ap (λ (n : ℕ). scaled n -ℤ c.index-rate.result.now.price) alone ∙ ap (λ (z : ℤ). scaled (cost_if_alone s j c.args.moment) -ℤ z) price ∙ ap (λ (r : Rated). scaled (cost_if_alone r.snapshot j c.args.moment) -ℤ price_at r.prices j) c.self.view_is
+    let found = term_found c.scaled.result c.index-rate.result.now.price (c.wait_cost.result + c.index-rate.result.now.ride) c.scaled.ensures
+    (omega (arith, wait_small, ride_small)) rate.price in
+    found ∙ ap (λ (n : ℕ). scaled n -ℤ c.index-rate.result.now.price) alone ∙ ap (λ (z : ℤ). scaled (cost_if_alone s j c.args.moment) -ℤ z) price
+    ∙ ap (λ (r : Rated). scaled (cost_if_alone r.snapshot j c.args.moment) -ℤ price_at r.prices j) c.self.view_is
 
 pub returns-clause-high : goal.returns-clause-high
 returns-clause-high c =
@@ -30,5 +32,6 @@ returns-clause-high c =
     let wait_small = c.wait_cost.ensures.small in
     let ride_small = rate.ride in
     let price_low = rate.price.0 in
-    let found = term_found c.scaled.result c.index-rate.result.now.price (c.wait_cost.result + c.index-rate.result.now.ride) c.scaled.ensures (omega (arith, wait_small, ride_small)) rate.price in
+    let found = term_found c.scaled.result c.index-rate.result.now.price (c.wait_cost.result + c.index-rate.result.now.ride) c.scaled.ensures
+    (omega (arith, wait_small, ride_small)) rate.price in
     omega (arith, ints, found, wait_small, ride_small, price_low)

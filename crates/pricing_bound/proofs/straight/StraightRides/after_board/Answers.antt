@@ -21,7 +21,8 @@ board_adds-more-requires-clause-call c =
     let t = c.args.prefix.now in
     let to = with_move t (Board c.args.call) in
     let led = is_some_has (course to) c.requires.leads.lawful in
-    let step = step_of a (StandFor a c.args.sums.now) to (Board c.args.call) led.0 (aims_on a t (Board c.args.call) c.requires.for_it) (last_of a (StandFor a c.args.sums.now) t (Board c.args.call) c.requires.leads) led.1 in
+    let step = step_of a (StandFor a c.args.sums.now) to (Board c.args.call) led.0 (aims_on a t (Board c.args.call) c.requires.for_it)
+    (last_of a (StandFor a c.args.sums.now) t (Board c.args.call) c.requires.leads) led.1 in
     board_call a.snapshot a.car c.requires.leads.before c.args.call led.0 step.leads
 
 pub board_adds-more-requires-clause-early : goal.board_adds-more-requires-clause-early
@@ -43,7 +44,8 @@ price-requires c =
     let t = c.args.prefix.now in
     let to = with_move t (Board c.args.call) in
     let led = is_some_has (course to) c.requires.leads.lawful in
-    let step = step_of a (StandFor a c.args.sums.now) to (Board c.args.call) led.0 (aims_on a t (Board c.args.call) c.requires.for_it) (last_of a (StandFor a c.args.sums.now) t (Board c.args.call) c.requires.leads) led.1 in
+    let step = step_of a (StandFor a c.args.sums.now) to (Board c.args.call) led.0 (aims_on a t (Board c.args.call) c.requires.for_it)
+    (last_of a (StandFor a c.args.sums.now) t (Board c.args.call) c.requires.leads) led.1 in
     board_call a.snapshot a.car c.requires.leads.before c.args.call led.0 step.leads
 
 pub waiting_without-waiting-requires-clause-call : goal.waiting_without-waiting-requires-clause-call
@@ -53,7 +55,8 @@ waiting_without-waiting-requires-clause-call c =
     let t = c.args.prefix.now in
     let to = with_move t (Board c.args.call) in
     let led = is_some_has (course to) c.requires.leads.lawful in
-    let step = step_of a (StandFor a c.args.sums.now) to (Board c.args.call) led.0 (aims_on a t (Board c.args.call) c.requires.for_it) (last_of a (StandFor a c.args.sums.now) t (Board c.args.call) c.requires.leads) led.1 in
+    let step = step_of a (StandFor a c.args.sums.now) to (Board c.args.call) led.0 (aims_on a t (Board c.args.call) c.requires.for_it)
+    (last_of a (StandFor a c.args.sums.now) t (Board c.args.call) c.requires.leads) led.1 in
     board_call a.snapshot a.car c.requires.leads.before c.args.call led.0 step.leads
 
 pub waiting_without-waiting-requires-clause-early : goal.waiting_without-waiting-requires-clause-early
@@ -82,5 +85,13 @@ returns c = λ y e.
     let settled = c.settled.ensures.value x.before x.leads in
     let bounded = c.settled.ensures.bounded in
     let waits = c.with_board.ensures.waiting in
-    let paid = c.with_board.ensures.paid ∙ ap (λ (z : ℤ). c.args.sums.now.paid +ℤ z) (stored_price c.price.result c.price.ensures.range ∙ c.price.ensures.value) in
-    board_sums a (with_move t (Board c.args.call)) c.args.sums.now c.with_board.result c.args.call y c.board_adds-more.result (aims_on a t (Board c.args.call) c.requires.for_it) (last_of a (StandFor a c.args.sums.now) t (Board c.args.call) x) c.snapshot-accepted.ensures.accepted car c.snapshot-accepted.ensures.prices e (omega (arith, settled, bounded)) c.board_adds-more.ensures.more (c.with_board.ensures.bound ∙ ap (λ (z : ℤ). c.args.sums.now.bound +ℤ z) (stored_term c.board_adds-more.result c.board_adds-more.ensures.low c.board_adds-more.ensures.high)) paid (λ k. ap (λ (w : Waiting). has w.counted k) waits ∙ c.waiting_without-waiting.ensures.counted k) (subst (AreEven a) (sym waits) c.waiting_without-waiting.ensures.are) (ap (λ (w : Waiting). w.moment) waits ∙ c.waiting_without-waiting.ensures.moment)
+    let paid = c.with_board.ensures.paid
+    ∙ ap (λ (z : ℤ). c.args.sums.now.paid +ℤ z) (stored_price c.price.result c.price.ensures.range ∙ c.price.ensures.value) in
+    board_sums a (with_move t (Board c.args.call)) c.args.sums.now c.with_board.result c.args.call y c.board_adds-more.result
+    (aims_on a t (Board c.args.call) c.requires.for_it)
+    (last_of a (StandFor a c.args.sums.now) t (Board c.args.call) x) c.snapshot-accepted.ensures.accepted car c.snapshot-accepted.ensures.prices e
+    (omega (arith, settled, bounded)) c.board_adds-more.ensures.more
+    (c.with_board.ensures.bound
+    ∙ ap (λ (z : ℤ). c.args.sums.now.bound +ℤ z) (stored_term c.board_adds-more.result c.board_adds-more.ensures.low c.board_adds-more.ensures.high)) paid
+    (λ k. ap (λ (w : Waiting). has w.counted k) waits ∙ c.waiting_without-waiting.ensures.counted k)
+    (subst (AreEven a) (sym waits) c.waiting_without-waiting.ensures.are) (ap (λ (w : Waiting). w.moment) waits ∙ c.waiting_without-waiting.ensures.moment)

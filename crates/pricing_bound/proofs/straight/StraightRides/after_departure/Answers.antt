@@ -45,7 +45,8 @@ cost_of_carried-carried-requires-clause-floor c =
     let aims = aims_on a t (Leave c.args.floor) c.requires.for_it in
     let last = last_of a (AreDeparting a c.args.departing.now) t (Leave c.args.floor) c.requires.leads in
     let step = step_of a (AreDeparting a c.args.departing.now) to (Leave c.args.floor) led.0 aims last led.1 in
-    stands_in a.snapshot a.car (reached a.snapshot a.car c.requires.leads.before) c.args.floor (leave_leads_to a.snapshot a.car c.requires.leads.before c.args.floor led.0 step.leads).1
+    stands_in a.snapshot a.car (reached a.snapshot a.car c.requires.leads.before) c.args.floor
+    (leave_leads_to a.snapshot a.car c.requires.leads.before c.args.floor led.0 step.leads).1
 
 pub cost_of_carried-carried-requires-clause-leads : goal.cost_of_carried-carried-requires-clause-leads
 cost_of_carried-carried-requires-clause-leads c = (c.requires.leads.before, c.requires.leads.leads)
@@ -62,7 +63,8 @@ cost_of_carried-carried-requires-clause-late c =
     let step = step_of a (AreDeparting a c.args.departing.now) to (Leave c.args.floor) led.0 aims last led.1 in
     let here = subst (λ (n : ℕ). n < car_count t.snapshot) c.car-car.ensures.value c.car-car.ensures.car in
     let car = aimed_at a t (λ s c. c < car_count s) c.requires.for_it here in
-    let late = left_after_now a.snapshot a.car to.moves c.requires.leads.before c.args.floor led.0 c.snapshot-accepted.ensures.accepted car step.whole step.leads in
+    let late = left_after_now a.snapshot a.car to.moves c.requires.leads.before c.args.floor led.0 c.snapshot-accepted.ensures.accepted car step.whole
+    step.leads in
     let opened = aimed_at a to (λ s c'. c.opened_after-opened.result ≡ (reached s c' led.0).opened) aims (c.opened_after-opened.ensures.value led.0 led.1) in
     let opening = ap (λ (k : ℕ). (spec_of a.snapshot k).opening) c.requires.for_it.car in
     omega (arith, late, opened, opening)
@@ -83,4 +85,11 @@ returns c = λ y e.
     let waiting = adds_of a opened c.args.departing.now.waiting.counted c.waiting_later-waiting.result later.are later.moment later.counted in
     let waits = c.sums_of.ensures.waiting in
     let same = stored_paid c.args.departing.now.paid x.stands_before.paid_small in
-    leave_sums a (with_move t (Leave c.args.floor)) c.args.departing.now c.sums_of.result c.args.floor y c.settled.result c.cost_of_carried-carried.result opened c.waiting_later-waiting.result.sum aims last c.snapshot-accepted.ensures.accepted car c.snapshot-accepted.ensures.prices e (omega (arith, small)) (c.opened_after-opened.ensures.value y e) (c.settled.ensures.value x.before x.leads) (c.cost_of_carried-carried.ensures.cost x.before x.leads) waiting (c.sums_of.ensures.bound ∙ ap (λ (z : ℤ). ((scaled c.settled.result +ℤ scaled c.cost_of_carried-carried.result) -ℤ z) +ℤ c.waiting_later-waiting.result.sum) same) (c.sums_of.ensures.paid ∙ same) (λ k. ap (λ (w : Waiting). has w.counted k) waits ∙ c.waiting_later-waiting.ensures.counted k) (subst (AreEven a) (sym waits) c.waiting_later-waiting.ensures.are) (ap (λ (w : Waiting). w.moment) waits ∙ c.waiting_later-waiting.ensures.moment)
+    leave_sums a (with_move t (Leave c.args.floor)) c.args.departing.now c.sums_of.result c.args.floor y c.settled.result c.cost_of_carried-carried.result
+    opened c.waiting_later-waiting.result.sum aims last c.snapshot-accepted.ensures.accepted car c.snapshot-accepted.ensures.prices e
+    (omega (arith, small)) (c.opened_after-opened.ensures.value y e) (c.settled.ensures.value x.before x.leads)
+    (c.cost_of_carried-carried.ensures.cost x.before x.leads) waiting
+    (c.sums_of.ensures.bound
+    ∙ ap (λ (z : ℤ). ((scaled c.settled.result +ℤ scaled c.cost_of_carried-carried.result) -ℤ z) +ℤ c.waiting_later-waiting.result.sum) same)
+    (c.sums_of.ensures.paid ∙ same) (λ k. ap (λ (w : Waiting). has w.counted k) waits ∙ c.waiting_later-waiting.ensures.counted k)
+    (subst (AreEven a) (sym waits) c.waiting_later-waiting.ensures.are) (ap (λ (w : Waiting). w.moment) waits ∙ c.waiting_later-waiting.ensures.moment)

@@ -12,4 +12,12 @@ after_departure-requires-clause-leads c =
     let x = c.requires.leads in
     let here = subst (λ (n : ℕ). n < car_count t.snapshot) c.car-car.ensures.value c.car-car.ensures.car in
     let car = aimed_at a t (λ s c. c < car_count s) c.requires.for_it here in
-    record { before = x.before; leads = x.leads; stands_before = stands_departs_there a t c.args.sums.now x.before c.requires.for_it c.snapshot-accepted.ensures.accepted car x.leads x.stands_before; lawful = x.lawful; may = x.may }
+    record {
+      before = x.before;
+      leads = x.leads;
+      stands_before =
+          stands_departs_there a t c.args.sums.now x.before c.requires.for_it c.snapshot-accepted.ensures.accepted car x.leads x.stands_before;
+      lawful =
+          x.lawful;
+      may = x.may;
+    }

@@ -26,7 +26,9 @@ loop-call-init c =
       slope = omega (arith, all, moved);
       few = members_few 128 c.into_iter-call-iterator.result.left;
       gentle = omega arith;
-      even = λ j h none. not_left j (c.into_iter-call-iterator.result.left) (let near = c.requires.within j h in omega (arith, near, high)) (ap (λ (set : ℕ). has set j) left ∙ h) none;
+      even = λ j h none.
+          not_left j (c.into_iter-call-iterator.result.left) (let near = c.requires.within j h in omega (arith, near, high))
+          (ap (λ (set : ℕ). has set j) left ∙ h) none;
     }
 
 pub growth-requires : goal.growth-requires
@@ -43,7 +45,8 @@ loop-call-preserved c =
     let one = c.in-Some.call in
     let with = c.with-growth.ensures in
     let own = c.growth.ensures in
-    let taken = one_taken _ _ one 128 16000 c.loop-call.growth.slope c.growth.result.slope c.loop-call.invariant.few c.in-Some.ensures.steps c.loop-call.invariant.gentle own.gentle in
+    let taken = one_taken _ _ one 128 16000 c.loop-call.growth.slope c.growth.result.slope c.loop-call.invariant.few c.in-Some.ensures.steps
+    c.loop-call.invariant.gentle own.gentle in
     let step = sum_step (rise_at s c.args.moment) c.loop-call.growth.slope _ one _ _ c.loop-call.invariant.slope c.in-Some.ensures.steps in
     let gentle = taken.1 in
     let sum = with.slope in
@@ -54,7 +57,10 @@ loop-call-preserved c =
       slope = omega (arith, step, sum, rise);
       few = taken.0;
       gentle = omega (arith, gentle, sum);
-      even = even_step a c.args.moment one _ _ c.args.calls c.loop-call.growth.until c.growth.result.until c.with-growth.result.until c.in-Some.ensures.steps c.loop-call.invariant.even (λ k later most. own.even k later most ∙ ap (λ (r : ℕ). cost_if_alone s one c.args.moment + r * (k - c.args.moment)) own.slope) with.first with.second;
+      even = even_step a c.args.moment one _ _ c.args.calls c.loop-call.growth.until c.growth.result.until c.with-growth.result.until c.in-Some.ensures.steps
+          c.loop-call.invariant.even
+          (λ k later most. own.even k later most ∙ ap (λ (r : ℕ). cost_if_alone s one c.args.moment + r * (k - c.args.moment)) own.slope) with.first
+          with.second;
     }
 
 pub returns-clause-even : goal.returns-clause-even

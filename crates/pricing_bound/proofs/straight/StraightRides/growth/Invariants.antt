@@ -13,8 +13,10 @@ abbrev pub invariant-loop-call : goal.invariant-loop-call
 invariant-loop-call l = record {
   below : AreBelow (call_count l.self.rates.now.snapshot) (members 128 l.call-iterator.left);
   within : AllPass (has l.fn.calls) (members 128 l.call-iterator.left);
-  slope : l.growth.slope + sum_by (rise_at l.self.rates.now.snapshot l.moment) (members 128 l.call-iterator.left) ≡ sum_where (call_count l.self.rates.now.snapshot) (has l.fn.calls) (rise_at l.self.rates.now.snapshot l.moment);
+  slope : l.growth.slope + sum_by (rise_at l.self.rates.now.snapshot l.moment) (members 128 l.call-iterator.left)
+      ≡ sum_where (call_count l.self.rates.now.snapshot) (has l.fn.calls) (rise_at l.self.rates.now.snapshot l.moment);
   few : length (members 128 l.call-iterator.left) ≤ 128;
   gentle : l.growth.slope ≤ 16000 * (128 - length (members 128 l.call-iterator.left));
-  even : (j : ℕ) → has l.fn.calls j ≡ true → is_among j (members 128 l.call-iterator.left) ≡ false → IsEven (aim_at l.self.rates.now l.self.car l.self.allowed l.self.required) l.moment l.growth.until j;
+  even : (j : ℕ) → has l.fn.calls j ≡ true → is_among j (members 128 l.call-iterator.left) ≡ false
+      → IsEven (aim_at l.self.rates.now l.self.car l.self.allowed l.self.required) l.moment l.growth.until j;
 }

@@ -11,4 +11,5 @@ loop-call-init c =
     let a = aim_at it.rates.now it.car it.allowed it.required in
     let w = c.args.waiting.now in
     let left = ap (λ it. it.left) c.into_iter-call-iterator.ensures.into_iter_gives ∙ c.iter-call-items.ensures in
-    subst (λ (set : ℕ). AreSifted a w c.args.due (members 128 set) w) (sym left) (none_sifted a w c.args.due c.requires.are (most_calls_few it.rates.now.snapshot c.snapshot-accepted.ensures.accepted) c.requires.due)
+    subst (λ (set : ℕ). AreSifted a w c.args.due (members 128 set) w) (sym left)
+    (none_sifted a w c.args.due c.requires.are (most_calls_few it.rates.now.snapshot c.snapshot-accepted.ensures.accepted) c.requires.due)

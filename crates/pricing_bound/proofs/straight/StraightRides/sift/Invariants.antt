@@ -5,4 +5,5 @@ use Rattle.pricing_bound.proofs.SteadyLemmas.{AreSifted}
 use Rattle.pricing_bound.proofs.straight.StraightRides.sift.Given as goal
 
 abbrev pub invariant-loop-call : goal.invariant-loop-call
-invariant-loop-call l = AreSifted (aim_at l.self.rates.now l.self.car l.self.allowed l.self.required) l.initial.waiting l.fn.due (members 128 l.call-iterator.left) l.waiting
+invariant-loop-call l =
+    AreSifted (aim_at l.self.rates.now l.self.car l.self.allowed l.self.required) l.initial.waiting l.fn.due (members 128 l.call-iterator.left) l.waiting

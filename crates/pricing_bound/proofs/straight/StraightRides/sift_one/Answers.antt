@@ -20,7 +20,9 @@ returns-then-term-ge0-clause-counted c =
     let it = c.args.self.now in
     let a = aim_at it.rates.now it.car it.allowed it.required in
     let is = stored_term c.term-term.result c.term-term.ensures.low c.term-term.ensures.high in
-    one_goes a c.args.waiting.now c.args.call c.without.result.counted (ap (λ (z : ℤ). int_lt z (pos 0)) (sym (is ∙ c.term-term.ensures.value)) ∙ not_below (to_z w128 (of_z w128 c.term-term.result)) c.if-term-ge0.true) c.without.ensures.counted
+    one_goes a c.args.waiting.now c.args.call c.without.result.counted
+    (ap (λ (z : ℤ). int_lt z (pos 0)) (sym (is ∙ c.term-term.ensures.value)) ∙ not_below (to_z w128 (of_z w128 c.term-term.result)) c.if-term-ge0.true)
+    c.without.ensures.counted
   where
     not_below : (z : ℤ) → le_z (pos 0) z ≡ true → int_lt z (pos 0) ≡ false
     not_below z h = grind (arith, ints, h)
@@ -32,14 +34,16 @@ returns-then-term-ge0-clause-are c =
     let known = c.snapshot-accepted.ensures in
     let less = c.without.ensures in
     let is = stored_term c.term-term.result c.term-term.ensures.low c.term-term.ensures.high in
-    even_less a c.args.call c.args.waiting.now c.without.result _ _ c.requires.are c.requires.call known.accepted known.prices c.requires.early (is ∙ c.term-term.ensures.value) c.growth-slope.ensures.slope less.counted less.sum less.moment less.slope less.told
+    even_less a c.args.call c.args.waiting.now c.without.result _ _ c.requires.are c.requires.call known.accepted known.prices c.requires.early
+    (is ∙ c.term-term.ensures.value) c.growth-slope.ensures.slope less.counted less.sum less.moment less.slope less.told
 
 pub returns-else-term-ge0-clause-counted : goal.returns-else-term-ge0-clause-counted
 returns-else-term-ge0-clause-counted c =
     let it = c.args.self.now in
     let a = aim_at it.rates.now it.car it.allowed it.required in
     let is = stored_term c.term-term.result c.term-term.ensures.low c.term-term.ensures.high in
-    one_stays a c.args.waiting.now c.args.call (ap (λ (z : ℤ). int_lt z (pos 0)) (sym (is ∙ c.term-term.ensures.value)) ∙ below (to_z w128 (of_z w128 c.term-term.result)) c.if-term-ge0.false)
+    one_stays a c.args.waiting.now c.args.call
+    (ap (λ (z : ℤ). int_lt z (pos 0)) (sym (is ∙ c.term-term.ensures.value)) ∙ below (to_z w128 (of_z w128 c.term-term.result)) c.if-term-ge0.false)
   where
     below : (z : ℤ) → le_z (pos 0) z ≡ false → int_lt z (pos 0) ≡ true
     below z h = grind (arith, ints, h)

@@ -15,7 +15,8 @@ loop-call-init c =
     let it = c.args.self.now in
     let a = aim_at it.rates.now it.car it.allowed it.required in
     let left = ap (λ it. it.left) c.into_iter-call-iterator.ensures.into_iter_gives ∙ c.iter-call-items.ensures in
-    none_so_far c.args.calls c.into_iter-call-iterator.result.left (call_count it.rates.now.snapshot) (term_at a c.args.moment) _ (most_calls_few it.rates.now.snapshot c.snapshot-accepted.ensures.accepted) c.requires.within left refl
+    none_so_far c.args.calls c.into_iter-call-iterator.result.left (call_count it.rates.now.snapshot) (term_at a c.args.moment) _
+    (most_calls_few it.rates.now.snapshot c.snapshot-accepted.ensures.accepted) c.requires.within left refl
 
 pub loop-call-preserved : goal.loop-call-preserved
 loop-call-preserved c =
@@ -30,5 +31,7 @@ loop-call-preserved c =
     let term_high = c.term-sum.ensures.high in
     let is = c.term-sum.ensures.value in
     let term = stored c.term-sum.result (omega (arith, ints, term_low)) (omega (arith, ints, term_high)) in
-    let sum = ap (λ (z : ℤ). to_z w128 (of_z w128 (so_sum +ℤ z))) term ∙ stored (so_sum +ℤ c.term-sum.result) (omega (arith, ints, low, term_low)) (omega (arith, ints, high, term_high)) ∙ ap (λ (z : ℤ). so_sum +ℤ z) is in
-    one_added c.args.calls (call_count it.rates.now.snapshot) c.in-Some.call (term_at a c.args.moment) _ _ so_sum _ so_far c.in-Some.ensures.steps sum (omega (arith, ints, term_low, is)) (omega (arith, ints, term_high, is))
+    let sum = ap (λ (z : ℤ). to_z w128 (of_z w128 (so_sum +ℤ z))) term
+    ∙ stored (so_sum +ℤ c.term-sum.result) (omega (arith, ints, low, term_low)) (omega (arith, ints, high, term_high)) ∙ ap (λ (z : ℤ). so_sum +ℤ z) is in
+    one_added c.args.calls (call_count it.rates.now.snapshot) c.in-Some.call (term_at a c.args.moment) _ _ so_sum _ so_far c.in-Some.ensures.steps sum
+    (omega (arith, ints, term_low, is)) (omega (arith, ints, term_high, is))

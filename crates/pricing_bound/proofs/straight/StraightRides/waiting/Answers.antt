@@ -10,4 +10,13 @@ sifted-requires-clause-are c =
     let high = terms.high in
     let is = stored c.terms.result (omega (arith, ints, low)) (omega (arith, ints, high)) in
     let growth = c.growth.ensures in
-    record { calls = c.requires.within; sum = is ∙ terms.sum; low = omega (arith, ints, is, low); high = omega (arith, ints, is, high); slope = growth.slope; gentle = growth.gentle; even = growth.even }
+    record {
+      calls = c.requires.within;
+      sum = is
+          ∙ terms.sum;
+      low = omega (arith, ints, is, low);
+      high = omega (arith, ints, is, high);
+      slope = growth.slope;
+      gentle = growth.gentle;
+      even = growth.even;
+    }

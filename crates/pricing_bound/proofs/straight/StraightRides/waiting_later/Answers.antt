@@ -8,4 +8,5 @@ sifted-requires-clause-are c =
     let a = aim_at it.rates.now it.car it.allowed it.required in
     let known = c.snapshot-accepted.ensures in
     let later = c.later.ensures in
-    even_on a c.args.moment c.args.waiting.now c.later.result c.requires.are c.requires.later c.if-moment-waiting.true known.accepted known.prices c.requires.early later.counted later.sum later.moment later.growth
+    even_on a c.args.moment c.args.waiting.now c.later.result c.requires.are c.requires.later c.if-moment-waiting.true known.accepted known.prices
+    c.requires.early later.counted later.sum later.moment later.growth

@@ -17,4 +17,5 @@ returns-clause-are c =
     let known = c.snapshot-accepted.ensures in
     let less = c.without.ensures in
     let is = stored_term c.term-term.result c.term-term.ensures.low c.term-term.ensures.high in
-    even_less a c.args.call c.args.waiting.now c.without.result _ _ c.requires.are (sym c.if-not-contains.ensures) known.accepted known.prices c.requires.early (is ∙ c.term-term.ensures.value) c.growth-slope.ensures.slope less.counted less.sum less.moment less.slope less.told
+    even_less a c.args.call c.args.waiting.now c.without.result _ _ c.requires.are (sym c.if-not-contains.ensures) known.accepted known.prices c.requires.early
+    (is ∙ c.term-term.ensures.value) c.growth-slope.ensures.slope less.counted less.sum less.moment less.slope less.told

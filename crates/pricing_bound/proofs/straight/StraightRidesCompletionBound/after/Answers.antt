@@ -14,4 +14,5 @@ returns-in-End c = λ y e.
     let a = aim_at it.rates.now it.car it.allowed it.required in
     let t = c.args.prefix.now in
     let next = subst (λ (m : Move). IsNextMove a (StandFor a c.args.sums.now) t m) c.in-End.is c.requires.leads in
-    end_sums a (with_move t End) c.args.sums.now y (aims_on a t End c.requires.for_it) (last_of a (StandFor a c.args.sums.now) t End next) (subst (λ (m : Move). course (with_move t m) ≡ Some y) c.in-End.is e)
+    end_sums a (with_move t End) c.args.sums.now y (aims_on a t End c.requires.for_it) (last_of a (StandFor a c.args.sums.now) t End next)
+    (subst (λ (m : Move). course (with_move t m) ≡ Some y) c.in-End.is e)

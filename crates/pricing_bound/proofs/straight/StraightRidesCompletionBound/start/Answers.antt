@@ -24,7 +24,13 @@ returns c = λ x e.
     let low = c.groups_part-groups.ensures.low in
     let high = c.groups_part-groups.ensures.high in
     let known = c.waiting.ensures in
-    let waiting = adds_of a (reached t.snapshot t.car x).opened calls c.waiting.result known.are (known.moment ∙ opened) (λ k. known.counted k ∙ ap (λ (m : ℕ). has calls k && counts_at a m k) opened) in
+    let waiting = adds_of a (reached t.snapshot t.car x).opened calls c.waiting.result known.are (known.moment ∙ opened)
+    (λ k. known.counted k ∙ ap (λ (m : ℕ). has calls k && counts_at a m k) opened) in
     let waits = c.sums_at_start.ensures.waiting in
-    let bound = c.sums_at_start.ensures.bound ∙ ap (λ (z : ℤ). z +ℤ c.waiting.result.sum) (stored c.groups_part-groups.result (omega (arith, ints, low)) (omega (arith, ints, high))) in
-    start_sums a t c.sums_at_start.result x calls c.groups_part-groups.result c.waiting.result.sum c.requires.for_it c.requires.empty c.snapshot.ensures.accepted car c.snapshot.ensures.prices e (c.groups_part-groups.ensures.sum x e) waiting (λ k. c.intersection-calls.ensures k ∙ ap (λ (b : Bool). has it.allowed k && b) (c.calls.ensures k)) bound c.sums_at_start.ensures.paid (λ k. ap (λ (w : Waiting). has w.counted k) waits ∙ c.waiting.ensures.counted k ∙ ap (λ (m : ℕ). has calls k && counts_at a m k) opened) (subst (AreEven a) (sym waits) c.waiting.ensures.are) (ap (λ (w : Waiting). w.moment) waits ∙ c.waiting.ensures.moment ∙ opened)
+    let bound = c.sums_at_start.ensures.bound
+    ∙ ap (λ (z : ℤ). z +ℤ c.waiting.result.sum) (stored c.groups_part-groups.result (omega (arith, ints, low)) (omega (arith, ints, high))) in
+    start_sums a t c.sums_at_start.result x calls c.groups_part-groups.result c.waiting.result.sum c.requires.for_it c.requires.empty
+    c.snapshot.ensures.accepted car c.snapshot.ensures.prices e (c.groups_part-groups.ensures.sum x e) waiting
+    (λ k. c.intersection-calls.ensures k ∙ ap (λ (b : Bool). has it.allowed k && b) (c.calls.ensures k)) bound c.sums_at_start.ensures.paid
+    (λ k. ap (λ (w : Waiting). has w.counted k) waits ∙ c.waiting.ensures.counted k ∙ ap (λ (m : ℕ). has calls k && counts_at a m k) opened)
+    (subst (AreEven a) (sym waits) c.waiting.ensures.are) (ap (λ (w : Waiting). w.moment) waits ∙ c.waiting.ensures.moment ∙ opened)

@@ -20,4 +20,6 @@ returns-clause-value c = λ x e.
     let stand = one_course (course t) at.end x (StandFor a sums) at.leads e at.stands_there in
     let bounded = c.settled.ensures.bounded in
     let is = c.scaled.ensures in
-    tour_worth a t sums x c.settled.result _ c.requires.for_it e ended stand (c.settled.ensures.value x e) (stored_less c.scaled.result sums.paid (omega (arith, ints, is)) (omega (arith, ints, is, bounded)) at.stands_there.paid_small ∙ ap (λ (z : ℤ). z -ℤ sums.paid) is)
+    tour_worth a t sums x c.settled.result _ c.requires.for_it e ended stand (c.settled.ensures.value x e)
+    (stored_less c.scaled.result sums.paid (omega (arith, ints, is)) (omega (arith, ints, is, bounded)) at.stands_there.paid_small
+    ∙ ap (λ (z : ℤ). z -ℤ sums.paid) is)

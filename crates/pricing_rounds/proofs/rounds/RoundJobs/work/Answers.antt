@@ -11,13 +11,15 @@ use Rattle.pricing_rounds.proofs.rounds.RoundJobs.work.Goals as goal
 
 module _ (g : _) (c : goal.After-price-arg-2-1 g) where
   -- the task of the pricing that is drawn is one of the round's
-  is_task : IsTaskOf (g.P.Pricer.snapshot c.args.self.now.pricer.now) (slice_index_or c.args.self.now.tasks.now (slice_index c.args.self.now.order.now c.args.k / c.args.self.now.cars) c.index-self-pricing.result)
+  is_task : IsTaskOf (g.P.Pricer.snapshot c.args.self.now.pricer.now)
+      (slice_index_or c.args.self.now.tasks.now (slice_index c.args.self.now.order.now c.args.k / c.args.self.now.cars) c.index-self-pricing.result)
   is_task =
       let it = c.args.self.now in
       let pricing = slice_index it.order.now c.args.k in
       let there : c.args.k < length it.order.now = omega (arith, c.requires.job, it.is_round.drawn) in
       let below : pricing < length it.tasks.now * it.cars = it.is_round.below c.args.k 0 there in
-      it.is_round.each (pricing / it.cars) _ (slice_get-get_or it.tasks.now (pricing / it.cars) c.index-self-pricing.result (task-lt (length it.tasks.now) it.cars pricing below))
+      it.is_round.each (pricing / it.cars) _
+      (slice_get-get_or it.tasks.now (pricing / it.cars) c.index-self-pricing.result (task-lt (length it.tasks.now) it.cars pricing below))
 
 pub price-priced-requires-clause-node : goal.price-priced-requires-clause-node
 price-priced-requires-clause-node g c = (is_task g c).node
@@ -34,7 +36,8 @@ returns-clause-answer g c task at =
     let here : Task = slice_index_or it.tasks.now (pricing / it.cars) c.index-self-pricing.result in
     let told = c.price-priced.ensures in
     let p : Pricing = record { car = car; node = here.node.now; prices = here.prices.now; answer = c.price-priced.result } in
-    let answer : IsAnswerIn s it.most_tours here.node.now (price_at here.prices.now) car (record { priced = c.price-priced.result; tour = c.in_ok-tour.tour }) = record {
+    let answer : IsAnswerIn s it.most_tours here.node.now (price_at here.prices.now) car
+    (record { priced = c.price-priced.result; tour = c.in_ok-tour.tour }) = record {
       worth = told.worth;
       size = told.size;
       least = told.least;
@@ -42,4 +45,6 @@ returns-clause-answer g c task at =
       many = λ e. (told.spent e).1;
       within = c.in_ok-tour.ensures.within p told.held;
     } in
-    subst (λ (t : Task). IsAnswerIn s it.most_tours t.node.now (price_at t.prices.now) car (record { priced = c.price-priced.result; tour = c.in_ok-tour.tour })) (get_or_from_slice_get it.tasks.now (pricing / it.cars) task c.index-self-pricing.result at) answer
+    subst (λ (t : Task).
+    IsAnswerIn s it.most_tours t.node.now (price_at t.prices.now) car (record { priced = c.price-priced.result; tour = c.in_ok-tour.tour }))
+    (get_or_from_slice_get it.tasks.now (pricing / it.cars) task c.index-self-pricing.result at) answer

@@ -35,7 +35,8 @@ least_worth-least-requires-clause-for_it c =
     let t = c.restart.new.self in
     let s = c.args.self.now.snapshot.now in
     let b = c.new-rides.result in
-    let rates : b.rates.now ≡ record { snapshot = c.args.desk.now.rates.snapshot; prices = c.args.prices.now } = c.new-rides.ensures.rates ∙ c.lay_out.ensures in
+    let rates : b.rates.now ≡ record { snapshot = c.args.desk.now.rates.snapshot; prices = c.args.prices.now } = c.new-rides.ensures.rates
+    ∙ c.lay_out.ensures in
     let of_rates : b.rates.now.snapshot ≡ s = ap (λ (r : Rated). r.snapshot) rates ∙ c.requires.own.rates_are in
     let of_prefix : t.snapshot ≡ s = ap (λ (q : PartialTour). q.snapshot) c.restart.ensures ∙ c.requires.own.prefix_is in
     let of_car : t.car ≡ c.args.car = ap (λ (q : PartialTour). q.car) c.restart.ensures in
@@ -52,7 +53,8 @@ new-walk_bound-requires-clause-worth c = subst (λ (r : Rated). ArePrices r) c.l
 pub new-walk_bound-requires-clause-within : goal.new-walk_bound-requires-clause-within
 new-walk_bound-requires-clause-within c = λ j allowed.
     let s = c.args.self.now.snapshot.now in
-    let demand = demands_too s c.args.car (allows c.args.node.now c.args.car) (requires_of c.args.node.now c.args.car) (has c.allowed.result) (has c.required.result) c.allowed.ensures c.required.ensures (node_holds s c.args.node.now c.args.car c.requires.node) in
+    let demand = demands_too s c.args.car (allows c.args.node.now c.args.car) (requires_of c.args.node.now c.args.car) (has c.allowed.result)
+    (has c.required.result) c.allowed.ensures c.required.ensures (node_holds s c.args.node.now c.args.car c.requires.node) in
     ltb-true j (call_count s) (and_parts (nat_lt j (call_count s)) _ (demand.possible j allowed)).0
 
 pub search-requires-clause-accepted : goal.search-requires-clause-accepted
@@ -64,15 +66,18 @@ search-requires-clause-aim c =
     let t = c.restart.new.self in
     let of_prefix : t.snapshot ≡ c.args.self.now.snapshot.now = ap (λ (q : PartialTour). q.snapshot) c.restart.ensures ∙ c.requires.own.prefix_is in
     let of_car : t.car ≡ c.args.car = ap (λ (q : PartialTour). q.car) c.restart.ensures in
-    aim_here (aim_of c.new-walk_bound.result) t (record { allowed = c.allowed.result; required = c.required.result }) c.args.self.now.snapshot.now c.args.car (price_at c.args.prices.now) c.new-walk_bound.ensures of_prefix of_car
+    aim_here (aim_of c.new-walk_bound.result) t (record { allowed = c.allowed.result; required = c.required.result }) c.args.self.now.snapshot.now c.args.car
+    (price_at c.args.prices.now) c.new-walk_bound.ensures of_prefix of_car
 
 pub search-requires-clause-same : goal.search-requires-clause-same
 search-requires-clause-same c =
     let b = c.new-rides.result in
-    let rates : b.rates.now ≡ record { snapshot = c.args.desk.now.rates.snapshot; prices = c.args.prices.now } = c.new-rides.ensures.rates ∙ c.lay_out.ensures in
+    let rates : b.rates.now ≡ record { snapshot = c.args.desk.now.rates.snapshot; prices = c.args.prices.now } = c.new-rides.ensures.rates
+    ∙ c.lay_out.ensures in
     let of_rates : b.rates.now.snapshot ≡ c.args.self.now.snapshot.now = ap (λ (r : Rated). r.snapshot) rates ∙ c.requires.own.rates_are in
     let prices : price_at b.rates.now.prices ≡ price_at c.args.prices.now = ap (λ (r : Rated). price_at r.prices) rates in
-    aims_same (aim_of_rates b.rates.now b.car b.allowed b.required) _ of_rates c.new-rides.ensures.car prices (ap has c.new-rides.ensures.allowed) (ap has c.new-rides.ensures.required) ∙ sym c.new-walk_bound.ensures
+    aims_same (aim_of_rates b.rates.now b.car b.allowed b.required) _ of_rates c.new-rides.ensures.car prices (ap has c.new-rides.ensures.allowed)
+    (ap has c.new-rides.ensures.required) ∙ sym c.new-walk_bound.ensures
 
 pub search-requires-clause-demands : goal.search-requires-clause-demands
 search-requires-clause-demands c =
@@ -80,8 +85,10 @@ search-requires-clause-demands c =
     let s = c.args.self.now.snapshot.now in
     let same : t.snapshot ≡ s = ap (λ (q : PartialTour). q.snapshot) c.restart.ensures ∙ c.requires.own.prefix_is in
     let car : t.car ≡ c.args.car = ap (λ (q : PartialTour). q.car) c.restart.ensures in
-    let here = demands_too s c.args.car (allows c.args.node.now c.args.car) (requires_of c.args.node.now c.args.car) (has c.allowed.result) (has c.required.result) c.allowed.ensures c.required.ensures (node_holds s c.args.node.now c.args.car c.requires.node) in
-    subst (λ (v : Snapshot). IsDemand v t.car (has c.allowed.result) (has c.required.result)) (sym same) (subst (λ (n : ℕ). IsDemand s n (has c.allowed.result) (has c.required.result)) (sym car) here)
+    let here = demands_too s c.args.car (allows c.args.node.now c.args.car) (requires_of c.args.node.now c.args.car) (has c.allowed.result)
+    (has c.required.result) c.allowed.ensures c.required.ensures (node_holds s c.args.node.now c.args.car c.requires.node) in
+    subst (λ (v : Snapshot). IsDemand v t.car (has c.allowed.result) (has c.required.result)) (sym same)
+    (subst (λ (n : ℕ). IsDemand s n (has c.allowed.result) (has c.required.result)) (sym car) here)
 
 pub search-requires-clause-least : goal.search-requires-clause-least
 search-requires-clause-least c =
@@ -106,7 +113,8 @@ returns-clause-priced c =
     let is = c.new-walk_bound.ensures in
     let b = c.new-rides.result in
     let dive = aim_of_rates b.rates.now b.car b.allowed b.required in
-    let rates : b.rates.now ≡ record { snapshot = c.args.desk.now.rates.snapshot; prices = c.args.prices.now } = c.new-rides.ensures.rates ∙ c.lay_out.ensures in
+    let rates : b.rates.now ≡ record { snapshot = c.args.desk.now.rates.snapshot; prices = c.args.prices.now } = c.new-rides.ensures.rates
+    ∙ c.lay_out.ensures in
     let of_rates : b.rates.now.snapshot ≡ s = ap (λ (r : Rated). r.snapshot) rates ∙ c.requires.own.rates_are in
     let of_prefix : t.snapshot ≡ s = ap (λ (q : PartialTour). q.snapshot) c.restart.ensures ∙ c.requires.own.prefix_is in
     let of_car : t.car ≡ c.args.car = ap (λ (q : PartialTour). q.car) c.restart.ensures in
@@ -116,10 +124,14 @@ returns-clause-priced c =
     let least = to_z w128 (of_z w128 c.least_worth-least.result) in
     let same : least ≡ c.least_worth-least.result = search rules in
     let here = aim_here a t demand s c.args.car (price_at c.args.prices.now) is of_prefix of_car in
-    let there = aims_same a (node_aim s node c.args.car c.args.prices.now) (ap (λ (x : Aim). x.snapshot) is) (ap (λ (x : Aim). x.car) is) (ap (λ (x : Aim). x.price) is) (ap (λ (x : Aim). x.allowed) is ∙ allowed) (ap (λ (x : Aim). x.required) is ∙ required) in
-    let dives = aims_same dive (node_aim s node c.args.car c.args.prices.now) of_rates c.new-rides.ensures.car prices (ap has c.new-rides.ensures.allowed ∙ allowed) (ap has c.new-rides.ensures.required ∙ required) in
+    let there = aims_same a (node_aim s node c.args.car c.args.prices.now) (ap (λ (x : Aim). x.snapshot) is) (ap (λ (x : Aim). x.car) is)
+    (ap (λ (x : Aim). x.price) is) (ap (λ (x : Aim). x.allowed) is ∙ allowed) (ap (λ (x : Aim). x.required) is ∙ required) in
+    let dives = aims_same dive (node_aim s node c.args.car c.args.prices.now) of_rates c.new-rides.ensures.car prices
+    (ap has c.new-rides.ensures.allowed ∙ allowed) (ap has c.new-rides.ensures.required ∙ required) in
     let least_is = same ∙ c.least_worth-least.ensures.bound ∙ bound_of_node dive t s node c.args.car c.args.prices.now dives of_prefix of_car in
-    priced s node c.args.car c.args.prices.now least c.args.limit c.search.new.progress.found c.search.result least_is (told_of_node a demand t s node c.args.car c.args.prices.now least c.args.limit c.search.new.progress.found c.search.result here there c.search.ensures.searched)
+    priced s node c.args.car c.args.prices.now least c.args.limit c.search.new.progress.found c.search.result least_is
+    (told_of_node a demand t s node c.args.car c.args.prices.now least c.args.limit c.search.new.progress.found c.search.result here there
+    c.search.ensures.searched)
 
 pub returns-clause-own : goal.returns-clause-own
 returns-clause-own c = record {

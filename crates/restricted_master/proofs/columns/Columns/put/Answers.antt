@@ -11,13 +11,17 @@ returns-clause-value c =
     let x = c.args.column in
     let kept = c.retain.new.self.items in
     let others : kept ≡ filter (λ (other : Column). not (same_tour other.tour x.tour)) c.args.self.now =
-    filter_same _ (λ (other : Column). not (same_tour other.tour x.tour)) _ (λ y b f' k. search rules) _ _ c.retain.ensures.filtered ∙ ap (filter (λ (other : Column). not (same_tour other.tour x.tour))) c.self.view_is
+    filter_same _ (λ (other : Column). not (same_tour other.tour x.tour)) _ (λ y b f' k. search rules) _ _ c.retain.ensures.filtered
+    ∙ ap (filter (λ (other : Column). not (same_tour other.tour x.tour))) c.self.view_is
     in
     let few = c.self.invariant in
     let bound = c.retain.ensures.bound in
     let long = c.len.ensures in
     let pushed : c.if-len-eq-MOST_TOURS.self-inside.items.items ++ x ∷ [] ≡ newest 32 (kept ++ x ∷ []) = elim c.if-len-eq-MOST_TOURS.branch [
-      | then-len-eq-MOST_TOURS w ↦ ap (λ (l : List Column). l ++ x ∷ []) (ap (λ v. v.items.items) w.self-inside-is ∙ w.remove.ensures.items) ∙ sym (newest_full kept x (omega (arith, w.if-len-eq-MOST_TOURS.true, c.len.ensures)))
-      | else-len-eq-MOST_TOURS w ↦ (let full = w.if-len-eq-MOST_TOURS.false in ap (λ v. v.items.items ++ x ∷ []) w.self-inside-is ∙ sym (newest_room kept x (omega (arith, few, bound, full, long))))
+      | then-len-eq-MOST_TOURS w ↦ ap (λ (l : List Column). l ++ x ∷ []) (ap (λ v. v.items.items) w.self-inside-is ∙ w.remove.ensures.items)
+          ∙ sym (newest_full kept x (omega (arith, w.if-len-eq-MOST_TOURS.true, c.len.ensures)))
+      | else-len-eq-MOST_TOURS w ↦
+          (let full = w.if-len-eq-MOST_TOURS.false in
+          ap (λ v. v.items.items ++ x ∷ []) w.self-inside-is ∙ sym (newest_room kept x (omega (arith, few, bound, full, long))))
     ] in
     c.push_reserved.ensures.items ∙ pushed ∙ ap (λ (l : List Column). newest 32 (l ++ x ∷ [])) others

@@ -11,5 +11,6 @@ use Rattle.restricted_master.proofs.pools.Pool.plan_of.Given as goal
 abbrev pub invariant-loop-car : goal.invariant-loop-car
 invariant-loop-car l = record {
   counted : length l.plan ≡ l.car;
-  tours : (c : ℕ) (d : CarColumns) → c < l.car → tour_of l.plan c ≡ tour_at (tours_of_car l.self c) (candidate_at (get_or l.choices c d).candidates.items (picks l.picked c)).item;
+  tours : (c : ℕ) (d : CarColumns) → c < l.car
+      → tour_of l.plan c ≡ tour_at (tours_of_car l.self c) (candidate_at (get_or l.choices c d).candidates.items (picks l.picked c)).item;
 }

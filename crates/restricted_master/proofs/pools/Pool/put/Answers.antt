@@ -13,12 +13,17 @@ is_put : (c : goal.After-self-1) → c.put.new.self ≡ with_column (columns_of 
 is_put c =
     let cars = c.self.invariant.cars in
     let car = is_car c in
-    c.put.ensures.value ∙ ap (λ l. with_column l c.new-column.result) (get_or_read c.self.inside.cars.items c.args.car c.index_mut-columns.result.now (omega (arith, cars, car)) c.index_mut-columns.ensures.value [])
+    c.put.ensures.value
+    ∙ ap (λ l. with_column l c.new-column.result)
+    (get_or_read c.self.inside.cars.items c.args.car c.index_mut-columns.result.now (omega (arith, cars, car)) c.index_mut-columns.ensures.value [])
 
 pub invariant_of-self : goal.invariant_of-self
 invariant_of-self c =
-    columns-put c.self.inside.snapshot.now c.self.inside.cars.items c.args.car c.put.new.self c.new-column.result c.self.invariant (is_car c) c.new-column.ensures.column (is_put c) c.put.ensures.few
+    columns-put c.self.inside.snapshot.now c.self.inside.cars.items c.args.car c.put.new.self c.new-column.result c.self.invariant
+    (is_car c) c.new-column.ensures.column (is_put c) c.put.ensures.few
 
 pub returns : goal.returns
 returns c =
-    pool-put c.self.inside.snapshot.now c.self.inside.cars.items c.args.car c.put.new.self c.new-column.result c.self.invariant (is_car c) c.new-column.ensures.column (is_put c) ∙ ap (λ (p : TourPool). with_tour_of_car p c.args.car c.new-column.result.tour) c.self.view_is ∙ ap (with_tour_of_car c.args.self.now c.args.car) c.new-column.ensures.tour
+    pool-put c.self.inside.snapshot.now c.self.inside.cars.items c.args.car c.put.new.self c.new-column.result c.self.invariant
+    (is_car c) c.new-column.ensures.column (is_put c) ∙ ap (λ (p : TourPool). with_tour_of_car p c.args.car c.new-column.result.tour) c.self.view_is
+    ∙ ap (with_tour_of_car c.args.self.now c.args.car) c.new-column.ensures.tour

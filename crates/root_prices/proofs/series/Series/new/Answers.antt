@@ -15,4 +15,5 @@ returns-clause-series c most_tours =
     let prices : c.in_ok-prices.prices.items ≡ c.args.sheet.prices = search rules in
     let kept : to_z w128 (of_z w128 step) ≡ step = stored step (omega (arith, ints, value)) (omega (arith, ints, high)) in
     let read = c.deref.ensures.value ∙ prices in
-    new_series c.args.snapshot.now most_tours c.args.sheet _ c.requires.start c.requires.sheet c.in_ok-pool.ensures.plan refl c.new.ensures.items prices (kept ∙ value ∙ ap (λ (ps : List ℤ). pos (greatest_price ps)) read) (subst (λ (z : ℤ). z ≤ℤ pos (10 ^ 24)) (sym kept) high)
+    new_series c.args.snapshot.now most_tours c.args.sheet _ c.requires.start c.requires.sheet c.in_ok-pool.ensures.plan refl c.new.ensures.items prices
+    (kept ∙ value ∙ ap (λ (ps : List ℤ). pos (greatest_price ps)) read) (subst (λ (z : ℤ). z ≤ℤ pos (10 ^ 24)) (sym kept) high)

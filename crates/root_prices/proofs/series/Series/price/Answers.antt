@@ -8,7 +8,9 @@ pub returns-clause-answers : goal.returns-clause-answers
 returns-clause-answers g c =
     let s = g.P.Pricer.snapshot c.args.pricer.now in
     let prices : c.as_slice-prices.result.now ≡ c.args.self.now.prices.items = search rules in
-    subst (λ (n : Node). IfOk c.price_turn.result (λ cars. AreAnswersIn s c.args.most_tours n c.args.self.now.prices.items cars.items)) c.requires.node (subst (λ (ps : List ℤ). IfOk c.price_turn.result (λ cars. AreAnswersIn s c.args.most_tours c.args.node.now ps cars.items)) prices c.price_turn.ensures.answers)
+    subst (λ (n : Node). IfOk c.price_turn.result (λ cars. AreAnswersIn s c.args.most_tours n c.args.self.now.prices.items cars.items)) c.requires.node
+    (subst (λ (ps : List ℤ). IfOk c.price_turn.result (λ cars. AreAnswersIn s c.args.most_tours c.args.node.now ps cars.items)) prices
+    c.price_turn.ensures.answers)
 
 pub price_turn-requires-clause-accepted : goal.price_turn-requires-clause-accepted
 price_turn-requires-clause-accepted g c κs within = c.requires.accepted

@@ -7,7 +7,8 @@ use Rattle.root_prices.proofs.series.Series.run.Given as goal
 abbrev pub invariant-loop-turn : goal.invariant-loop-turn
 invariant-loop-turn g l =
     record {
-      series : (first : PriceSheet) → IsSeries (g.P.Pricer.snapshot l.pricer) l.most_tours first l.initial.self → IsSeries (g.P.Pricer.snapshot l.pricer) l.most_tours first l.self;
+      series : (first : PriceSheet) → IsSeries (g.P.Pricer.snapshot l.pricer) l.most_tours first l.initial.self
+          → IsSeries (g.P.Pricer.snapshot l.pricer) l.most_tours first l.self;
       turns : length l.self.turns.items ≡ l._turn;
       start : l.self.start.now ≡ l.initial.self.start.now;
       desks : Serving (g.P.Pricer.owns l.pricer) l.desks;

@@ -11,4 +11,5 @@ returns c =
     let new = c.push_turn.new.self in
     let next = c.in_ok-next.next.items in
     let taken = subst (λ (cars : List TurnOf). HasTakenIn old mid next cars) c.deref.ensures.value c.in_ok-next.ensures in
-    taken_of old mid new next c.args.cars.items taken c.push_turn.ensures.start c.push_turn.ensures.pool c.push_turn.ensures.sheet c.push_turn.ensures.step c.in_ok-push_turn.ensures.prices c.in_ok-push_turn.ensures.turns
+    taken_of old mid new next c.args.cars.items taken c.push_turn.ensures.start c.push_turn.ensures.pool c.push_turn.ensures.sheet c.push_turn.ensures.step
+    c.in_ok-push_turn.ensures.prices c.in_ok-push_turn.ensures.turns

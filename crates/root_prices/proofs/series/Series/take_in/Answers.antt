@@ -57,5 +57,8 @@ returns c =
       pools = c.put_turn.ensures.cars;
       sheet = c.in_ok-improve.ensures ∙ ap (λ (ps : List ℤ). better_of old.sheet (sheet_of_turn ps cars)) c.deref.ensures.value;
       count = c.in_ok-next.ensures.count ∙ ap length prices;
-      each = λ most at j lt. c.in_ok-next.ensures.each j (subst (λ (ps : List ℤ). j < length ps) (sym prices) lt) ∙ ap (λ (ps : List ℤ). moved_price ps (to_z w128 (of_z w128 c.step_after-step.result)) cars j) prices ∙ ap (λ (z : ℤ). moved_price old.prices.items z cars j) (again ∙ c.step_after-step.ensures.value most (whole ∙ at) ∙ ap (λ (n : ℕ). pos (most / (n + 1))) count);
+      each = λ most at j lt. c.in_ok-next.ensures.each j (subst (λ (ps : List ℤ). j < length ps) (sym prices) lt)
+          ∙ ap (λ (ps : List ℤ). moved_price ps (to_z w128 (of_z w128 c.step_after-step.result)) cars j) prices
+          ∙ ap (λ (z : ℤ). moved_price old.prices.items z cars j)
+          (again ∙ c.step_after-step.ensures.value most (whole ∙ at) ∙ ap (λ (n : ℕ). pos (most / (n + 1))) count);
     }

@@ -3,15 +3,18 @@ use Rattle.root_prices.proofs.series.Series.turn.Goals as goal
 
 pub take-requires : goal.take-requires
 take-requires g c =
-    can_take (g.P.Pricer.snapshot c.args.pricer.now) c.args.most_tours c.requires.series.0 c.args.self.now c.in_ok-cars.cars.items c.requires.accepted c.requires.series.1 c.in_ok-cars.ensures.answers
+    can_take (g.P.Pricer.snapshot c.args.pricer.now) c.args.most_tours c.requires.series.0 c.args.self.now c.in_ok-cars.cars.items c.requires.accepted
+    c.requires.series.1 c.in_ok-cars.ensures.answers
 
 pub returns-clause-series : goal.returns-clause-series
 returns-clause-series g c first is =
-    series_step (g.P.Pricer.snapshot c.args.pricer.now) c.args.most_tours first c.args.self.now c.take.new.self c.in_ok-cars.cars.items is c.requires.few c.in_ok-cars.ensures.answers c.in_ok-take.ensures
+    series_step (g.P.Pricer.snapshot c.args.pricer.now) c.args.most_tours first c.args.self.now c.take.new.self c.in_ok-cars.cars.items is c.requires.few
+    c.in_ok-cars.ensures.answers c.in_ok-take.ensures
 
 pub returns-clause-turns : goal.returns-clause-turns
 returns-clause-turns g c =
-    series_count (g.P.Pricer.snapshot c.args.pricer.now) c.args.most_tours c.requires.series.0 c.args.self.now c.take.new.self c.in_ok-cars.cars.items c.requires.series.1 c.requires.few c.in_ok-cars.ensures.answers c.in_ok-take.ensures
+    series_count (g.P.Pricer.snapshot c.args.pricer.now) c.args.most_tours c.requires.series.0 c.args.self.now c.take.new.self c.in_ok-cars.cars.items
+    c.requires.series.1 c.requires.few c.in_ok-cars.ensures.answers c.in_ok-take.ensures
 
 pub returns-clause-start : goal.returns-clause-start
 returns-clause-start g c = c.in_ok-take.ensures.start

@@ -32,7 +32,8 @@ price-requires c =
     let t = c.args.prefix.now in
     let led = is_some_has (course (with_move t (Board c.args.call))) c.requires.leads.lawful in
     let there = next_leads a (AreRouteSums a c.args.sums.now) t (Board c.args.call) led.0 c.requires.for_it c.requires.leads led.1 in
-    subst (λ (s : Snapshot). c.args.call < call_count s) (sym c.requires.for_it.snapshot) (board_call t.snapshot t.car c.requires.leads.before c.args.call led.0 there)
+    subst (λ (s : Snapshot). c.args.call < call_count s) (sym c.requires.for_it.snapshot)
+    (board_call t.snapshot t.car c.requires.leads.before c.args.call led.0 there)
 
 pub value_at-next-requires-clause-same : goal.value_at-next-requires-clause-same
 value_at-next-requires-clause-same c = c.requires.for_it.snapshot
@@ -46,8 +47,16 @@ value_at-next-requires-clause-stands c =
     let t = c.args.prefix.now in
     let x = c.requires.leads in
     let led = is_some_has (course (with_move t (Board c.args.call))) x.lawful in
-    let there = next_leads a (AreRouteSums a c.args.sums.now) t (Board c.args.call) led.0 c.requires.for_it x led.1 in
-    (reached t.snapshot t.car led.0, record { there = x.before; leads = x.leads; stands = c.with_board-stand.ensures.stands x.before led.0 _ x.leads (c.stand_at.ensures.stands x.before x.leads) (c.stand_at.ensures.opened x.before x.leads) refl c.with_board-stand.ensures.opened there })
+    let there = next_leads a (AreRouteSums a c.args.sums.now) t (Board c.args.call) led.0 c.requires.for_it x led.1 in (
+      reached t.snapshot t.car led.0,
+      record {
+        there = x.before;
+        leads = x.leads;
+        stands =
+            c.with_board-stand.ensures.stands x.before led.0 _ x.leads (c.stand_at.ensures.stands x.before x.leads)
+            (c.stand_at.ensures.opened x.before x.leads) refl c.with_board-stand.ensures.opened there;
+      },
+    )
 
 pub with_price-paid-requires-clause-paid : goal.with_price-paid-requires-clause-paid
 with_price-paid-requires-clause-paid c =
@@ -65,7 +74,8 @@ value_at-next-requires-clause-paid c =
     let x = c.requires.leads in
     let old = c.args.sums.now in
     let led = is_some_has (course (with_move t (Board c.args.call))) x.lawful in
-    let is = c.with_price-paid.ensures ∙ ap (λ (z : ℤ). z +ℤ to_z w128 (of_z w128 c.price.result)) (stored_paid old.paid x.stands_before.paid_size) ∙ ap (λ (z : ℤ). old.paid +ℤ z) (stored_price c.price.result c.price.ensures.range ∙ c.price.ensures.value) in
+    let is = c.with_price-paid.ensures ∙ ap (λ (z : ℤ). z +ℤ to_z w128 (of_z w128 c.price.result)) (stored_paid old.paid x.stands_before.paid_size)
+    ∙ ap (λ (z : ℤ). old.paid +ℤ z) (stored_price c.price.result c.price.ensures.range ∙ c.price.ensures.value) in
     let small = board_size a t c.args.call led.0 old c.with_price-paid.result c.calls-calls.ensures.accepted it.known it.worth c.requires.for_it x led.1 is in
     subst IsPriceSum (sym (stored_paid c.with_price-paid.result small)) small
 
@@ -82,16 +92,22 @@ returns c = λ y e.
     let old = c.args.sums.now in
     let accepted = c.calls-calls.ensures.accepted in
     let there = next_leads a (AreRouteSums a old) t (Board j) y c.requires.for_it x e in
-    let is = c.with_price-paid.ensures ∙ ap (λ (z : ℤ). z +ℤ to_z w128 (of_z w128 c.price.result)) (stored_paid old.paid x.stands_before.paid_size) ∙ ap (λ (z : ℤ). old.paid +ℤ z) (stored_price c.price.result c.price.ensures.range ∙ c.price.ensures.value) in
+    let is = c.with_price-paid.ensures ∙ ap (λ (z : ℤ). z +ℤ to_z w128 (of_z w128 c.price.result)) (stored_paid old.paid x.stands_before.paid_size)
+    ∙ ap (λ (z : ℤ). old.paid +ℤ z) (stored_price c.price.result c.price.ensures.range ∙ c.price.ensures.value) in
     let small = board_size a t j y old c.with_price-paid.result accepted it.known it.worth c.requires.for_it x e is in
     let paid = stored_paid c.with_price-paid.result small ∙ is in
     let q = reached t.snapshot t.car y in
     let next = c.value_at-next.result in
-    let stand = c.with_board-stand.ensures.stands x.before y _ x.leads (c.stand_at.ensures.stands x.before x.leads) (c.stand_at.ensures.opened x.before x.leads) refl c.with_board-stand.ensures.opened there in
+    let stand = c.with_board-stand.ensures.stands x.before y _ x.leads (c.stand_at.ensures.stands x.before x.leads)
+    (c.stand_at.ensures.opened x.before x.leads) refl c.with_board-stand.ensures.opened there in
     let pays = board_paid_there a t j y old (to_z w128 (of_z w128 c.with_price-paid.result)) accepted it.known c.requires.for_it x e paid in
     let start = board_starts a t j y old accepted it.known c.requires.for_it x e in
     let AreIdle : ℕ → Progress → Type 0 = λ waiting p. AreIdleBut t.snapshot t.car a.price a.allowed a.required (is_after (Some j)) p waiting in
     let idle = λ (can : CanEnd a.snapshot a.car y). subst (AreIdle old.waiting) start (board_idle a t j y old accepted it.known c.requires.for_it x e can) in
-    let lower = λ (can : CanEnd a.snapshot a.car y). subst (λ (p : Progress). next.value ≤ℤ bound_from t.snapshot t.car a.price a.allowed a.required (is_after (Some j)) p) (sym start) (c.value_at-next.ensures.value x.before q x.leads stand pays (idle can)) in
-    let still_idle = λ (can : CanEnd a.snapshot a.car y). subst (AreIdle next.waiting) (sym start) (c.value_at-next.ensures.idle x.before q x.leads stand (idle can)) in
-    board_keeps a t j y old _ accepted it.known it.worth c.requires.for_it x e paid (stored_size next.value c.value_at-next.ensures.size) (λ can. stored_low next.value _ c.value_at-next.ensures.size (lower can)) still_idle c.value_at-next.ensures.within
+    let lower = λ (can : CanEnd a.snapshot a.car y).
+    subst (λ (p : Progress). next.value ≤ℤ bound_from t.snapshot t.car a.price a.allowed a.required (is_after (Some j)) p) (sym start)
+    (c.value_at-next.ensures.value x.before q x.leads stand pays (idle can)) in
+    let still_idle = λ (can : CanEnd a.snapshot a.car y).
+    subst (AreIdle next.waiting) (sym start) (c.value_at-next.ensures.idle x.before q x.leads stand (idle can)) in
+    board_keeps a t j y old _ accepted it.known it.worth c.requires.for_it x e paid (stored_size next.value c.value_at-next.ensures.size)
+    (λ can. stored_low next.value _ c.value_at-next.ensures.size (lower can)) still_idle c.value_at-next.ensures.within

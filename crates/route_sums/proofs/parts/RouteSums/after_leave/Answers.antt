@@ -16,7 +16,8 @@ halted-stand-requires-clause-to c =
     let t = c.args.prefix.now in
     let led = is_some_has (course (with_move t (Leave c.args.floor))) c.requires.leads.lawful in
     let there = next_leads a (AreRouteSums a c.args.sums.now) t (Leave c.args.floor) led.0 c.requires.for_it c.requires.leads led.1 in
-    stands_in t.snapshot t.car (reached t.snapshot t.car c.requires.leads.before) c.args.floor (leave_leads_to t.snapshot t.car c.requires.leads.before c.args.floor led.0 there).1
+    stands_in t.snapshot t.car (reached t.snapshot t.car c.requires.leads.before) c.args.floor
+    (leave_leads_to t.snapshot t.car c.requires.leads.before c.args.floor led.0 there).1
 
 pub halted-stand-requires-clause-stands : goal.halted-stand-requires-clause-stands
 halted-stand-requires-clause-stands c =
@@ -34,8 +35,10 @@ pub value_at-next-requires-clause-stands : goal.value_at-next-requires-clause-st
 value_at-next-requires-clause-stands c =
     let t = c.args.prefix.now in
     let x = c.requires.leads in
-    let p = reached t.snapshot t.car x.before in
-    (halted t.snapshot t.car p c.args.floor, record { there = x.before; leads = x.leads; stands = c.halted-stand.ensures.stands x.before p x.leads (c.stand_at.ensures.stands x.before x.leads) })
+    let p = reached t.snapshot t.car x.before in (
+      halted t.snapshot t.car p c.args.floor,
+      record { there = x.before; leads = x.leads; stands = c.halted-stand.ensures.stands x.before p x.leads (c.stand_at.ensures.stands x.before x.leads) },
+    )
 
 pub value_at-next-requires-clause-paid : goal.value_at-next-requires-clause-paid
 value_at-next-requires-clause-paid c =
@@ -58,4 +61,7 @@ returns c = λ y e.
     let stand = c.halted-stand.ensures.stands x.before p x.leads (c.stand_at.ensures.stands x.before x.leads) in
     let paid = same ∙ leave_paid a t c.args.floor y old c.requires.for_it x e in
     let idle = leave_idle a t c.args.floor y old c.calls-calls.ensures.accepted it.known c.requires.for_it x e in
-    leave_keeps a t c.args.floor y old _ c.requires.for_it x e same (stored_size next.value c.value_at-next.ensures.size) (λ can. stored_low next.value _ c.value_at-next.ensures.size (c.value_at-next.ensures.value x.before (halted t.snapshot t.car p c.args.floor) x.leads stand paid (idle can))) (λ can. c.value_at-next.ensures.idle x.before (halted t.snapshot t.car p c.args.floor) x.leads stand (idle can)) c.value_at-next.ensures.within
+    leave_keeps a t c.args.floor y old _ c.requires.for_it x e same (stored_size next.value c.value_at-next.ensures.size)
+    (λ can. stored_low next.value _ c.value_at-next.ensures.size
+    (c.value_at-next.ensures.value x.before (halted t.snapshot t.car p c.args.floor) x.leads stand paid (idle can)))
+    (λ can. c.value_at-next.ensures.idle x.before (halted t.snapshot t.car p c.args.floor) x.leads stand (idle can)) c.value_at-next.ensures.within

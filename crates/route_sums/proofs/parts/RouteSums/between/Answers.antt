@@ -17,4 +17,6 @@ below-below_low-requires c =
 pub returns : goal.returns
 returns c = λ j.
     let it = c.args.self.now in
-    between_is it.snapshot.now it.rates.now.upward it.rates.now.below c.args.calls c.args.low c.args.high c.below-below_low.result c.below-below_high.result c.intersection.result c.minus.result j it.laid.origins c.requires.within c.requires.low c.requires.high c.below-below_low.ensures c.below-below_high.ensures (c.intersection.ensures j) (c.minus.ensures j)
+    between_is it.snapshot.now it.rates.now.upward it.rates.now.below c.args.calls c.args.low c.args.high c.below-below_low.result c.below-below_high.result
+    c.intersection.result c.minus.result j it.laid.origins c.requires.within c.requires.low c.requires.high c.below-below_low.ensures
+    c.below-below_high.ensures (c.intersection.ensures j) (c.minus.ensures j)

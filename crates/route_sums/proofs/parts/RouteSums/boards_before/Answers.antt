@@ -6,7 +6,8 @@ use Rattle.route_bound.specs.ForcedRoute.{is_before}
 use Rattle.route_sums.proofs.parts.RouteSums.boards_before.Goals as goal
 
 pub calls_before-requires-clause-within : goal.calls_before-requires-clause-within
-calls_before-requires-clause-within c = λ j e. c.requires.within j (and_parts (has c.args.rest j) (has c.args.way.now.along j) (sym (c.intersection.ensures j) ∙ e)).0
+calls_before-requires-clause-within c =
+    λ j e. c.requires.within j (and_parts (has c.args.rest j) (has c.args.way.now.along j) (sym (c.intersection.ensures j) ∙ e)).0
 
 and_grouped : (a b d : Bool) → ((a && b) && d) ≡ (a && (b && d))
 and_grouped true b d = refl

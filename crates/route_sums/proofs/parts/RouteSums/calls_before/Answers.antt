@@ -13,4 +13,5 @@ returns-then-upward c = λ j.
 pub returns-else-upward : goal.returns-else-upward
 returns-else-upward c = λ j.
     let g = (call_of c.args.self.now.snapshot.now j).origin in
-    c.between-else-upward.ensures j ∙ ap (λ (b : Bool). has c.args.calls j && b) (before_down c.args.from c.args.to g) ∙ ap (λ (b : Bool). has c.args.calls j && is_before b c.args.from c.args.to g) (sym c.if-upward.false)
+    c.between-else-upward.ensures j ∙ ap (λ (b : Bool). has c.args.calls j && b) (before_down c.args.from c.args.to g)
+    ∙ ap (λ (b : Bool). has c.args.calls j && is_before b c.args.from c.args.to g) (sym c.if-upward.false)

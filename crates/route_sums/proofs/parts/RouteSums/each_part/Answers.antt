@@ -21,7 +21,8 @@ pub rate-requires : goal.rate-requires
 rate-requires c = below_first (call_count c.args.self.now.snapshot.now) c.in-Some.call _ _ c.loop-call.invariant.sum.below c.in-Some.ensures.steps
 
 pub part-added-requires-clause-call : goal.part-added-requires-clause-call
-part-added-requires-clause-call c = below_first (call_count c.args.self.now.snapshot.now) c.in-Some.call _ _ c.loop-call.invariant.sum.below c.in-Some.ensures.steps
+part-added-requires-clause-call c =
+    below_first (call_count c.args.self.now.snapshot.now) c.in-Some.call _ _ c.loop-call.invariant.sum.below c.in-Some.ensures.steps
 
 pub loop-call-init : goal.loop-call-init
 loop-call-init c =
@@ -47,13 +48,19 @@ loop-call-preserved c =
     let few = so_far.few in
     let term_low = c.part-added.ensures.low in
     let term_high = c.part-added.ensures.high in
-    let origin = ap (λ (g : ℕ). part_if_boarded s it.car (price_at it.prices.now) (has it.required) c.in-Some.call (soonest s it.car c.args.stand.now g)) c.rate.ensures.origin in
-    let is = c.part-added.ensures.value ∙ ap (part_if_boarded s it.car (price_at it.prices.now) (has it.required) c.in-Some.call) (c.next_open-boarded.ensures.value it.car c.ready-ready.ensures.value) ∙ origin in
+    let origin = ap (λ (g : ℕ). part_if_boarded s it.car (price_at it.prices.now) (has it.required) c.in-Some.call (soonest s it.car c.args.stand.now g))
+    c.rate.ensures.origin in
+    let is = c.part-added.ensures.value
+    ∙ ap (part_if_boarded s it.car (price_at it.prices.now) (has it.required) c.in-Some.call)
+    (c.next_open-boarded.ensures.value it.car c.ready-ready.ensures.value) ∙ origin in
     let term = stored c.part-added.result (omega (arith, ints, term_low)) (omega (arith, ints, term_high)) in
-    let sum = ap (λ (z : ℤ). to_z w128 (of_z w128 (so_sum +ℤ z))) term ∙ stored (so_sum +ℤ c.part-added.result) (omega (arith, ints, low, term_low)) (omega (arith, ints, high, term_high)) ∙ ap (λ (z : ℤ). so_sum +ℤ z) is in
+    let sum = ap (λ (z : ℤ). to_z w128 (of_z w128 (so_sum +ℤ z))) term
+    ∙ stored (so_sum +ℤ c.part-added.result) (omega (arith, ints, low, term_low)) (omega (arith, ints, high, term_high)) ∙ ap (λ (z : ℤ). so_sum +ℤ z) is in
     record {
-      sum = one_added c.args.calls (call_count s) c.in-Some.call f _ _ so_sum _ so_far c.in-Some.ensures.steps sum (omega (arith, ints, term_low, is)) (omega (arith, ints, term_high, is));
-      waiting = one_filtered (call_count s) c.args.calls c.in-Some.call _ _ (λ j. adds (f j)) _ _ _ c.loop-call.invariant.waiting c.in-Some.ensures.steps (ap not (c.adds.ensures ∙ ap adds (term ∙ is))) c.without_if-waiting.ensures;
+      sum = one_added c.args.calls (call_count s) c.in-Some.call f _ _ so_sum _ so_far c.in-Some.ensures.steps sum (omega (arith, ints, term_low, is))
+          (omega (arith, ints, term_high, is));
+      waiting = one_filtered (call_count s) c.args.calls c.in-Some.call _ _ (λ j. adds (f j)) _ _ _ c.loop-call.invariant.waiting c.in-Some.ensures.steps
+          (ap not (c.adds.ensures ∙ ap adds (term ∙ is))) c.without_if-waiting.ensures;
     }
 
 pub returns-clause-sum : goal.returns-clause-sum
@@ -76,7 +83,11 @@ returns-clause-low c =
     let s = it.snapshot.now in
     let f = λ (j : ℕ). part_if_boarded s it.car (price_at it.prices.now) (has it.required) j (soonest s it.car c.args.stand.now (call_of s j).origin) in
     let all = (all_added c.args.calls (call_count s) f _ _ c.loop-call.invariant.sum c.in-None.ensures.steps.0).0 in
-    let low = parts_low (call_count s) (has c.args.calls) f (λ j lt. part_size s it.car (price_at it.prices.now) (has it.required) j (soonest s it.car c.args.stand.now (call_of s j).origin) c.calls-calls.ensures.accepted lt (soonest_small s it.car c.args.stand.now (call_of s j).origin c.calls-calls.ensures.accepted it.known c.requires.from (c.calls-calls.ensures.accepted.calls j lt).origin) (ride_short s it.car j c.calls-calls.ensures.accepted it.known lt) (it.worth j)) in
+    let low = parts_low (call_count s) (has c.args.calls) f
+    (λ j lt. part_size s it.car (price_at it.prices.now) (has it.required) j
+    (soonest s it.car c.args.stand.now (call_of s j).origin) c.calls-calls.ensures.accepted lt
+    (soonest_small s it.car c.args.stand.now (call_of s j).origin c.calls-calls.ensures.accepted it.known c.requires.from
+    (c.calls-calls.ensures.accepted.calls j lt).origin) (ride_short s it.car j c.calls-calls.ensures.accepted it.known lt) (it.worth j)) in
     omega (arith, ints, all, low)
 
 pub returns-clause-high : goal.returns-clause-high
@@ -85,5 +96,9 @@ returns-clause-high c =
     let s = it.snapshot.now in
     let f = λ (j : ℕ). part_if_boarded s it.car (price_at it.prices.now) (has it.required) j (soonest s it.car c.args.stand.now (call_of s j).origin) in
     let all = (all_added c.args.calls (call_count s) f _ _ c.loop-call.invariant.sum c.in-None.ensures.steps.0).0 in
-    let high = parts_high (call_count s) (has c.args.calls) f (λ j lt. part_size s it.car (price_at it.prices.now) (has it.required) j (soonest s it.car c.args.stand.now (call_of s j).origin) c.calls-calls.ensures.accepted lt (soonest_small s it.car c.args.stand.now (call_of s j).origin c.calls-calls.ensures.accepted it.known c.requires.from (c.calls-calls.ensures.accepted.calls j lt).origin) (ride_short s it.car j c.calls-calls.ensures.accepted it.known lt) (it.worth j)) in
+    let high = parts_high (call_count s) (has c.args.calls) f
+    (λ j lt. part_size s it.car (price_at it.prices.now) (has it.required) j
+    (soonest s it.car c.args.stand.now (call_of s j).origin) c.calls-calls.ensures.accepted lt
+    (soonest_small s it.car c.args.stand.now (call_of s j).origin c.calls-calls.ensures.accepted it.known c.requires.from
+    (c.calls-calls.ensures.accepted.calls j lt).origin) (ride_short s it.car j c.calls-calls.ensures.accepted it.known lt) (it.worth j)) in
     omega (arith, ints, all, high)

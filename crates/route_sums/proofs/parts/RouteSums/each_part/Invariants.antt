@@ -11,6 +11,10 @@ use Rattle.route_sums.proofs.parts.RouteSums.each_part.Given as goal
 
 abbrev pub invariant-loop-call : goal.invariant-loop-call
 invariant-loop-call l = record {
-  sum : AreSoFar l.fn.calls (call_count l.self.snapshot.now) (λ j. part_if_boarded l.self.snapshot.now l.self.car (price_at l.self.prices.now) (has l.self.required) j (soonest l.self.snapshot.now l.self.car l.stand (call_of l.self.snapshot.now j).origin)) (members 128 l.call-iterator.left) l.sum;
-  waiting : IsFiltered (call_count l.self.snapshot.now) l.fn.calls (λ j. adds (part_if_boarded l.self.snapshot.now l.self.car (price_at l.self.prices.now) (has l.self.required) j (soonest l.self.snapshot.now l.self.car l.stand (call_of l.self.snapshot.now j).origin))) (members 128 l.call-iterator.left) l.waiting;
+  sum : AreSoFar l.fn.calls (call_count l.self.snapshot.now)
+      (λ j. part_if_boarded l.self.snapshot.now l.self.car (price_at l.self.prices.now) (has l.self.required) j
+      (soonest l.self.snapshot.now l.self.car l.stand (call_of l.self.snapshot.now j).origin)) (members 128 l.call-iterator.left) l.sum;
+  waiting : IsFiltered (call_count l.self.snapshot.now) l.fn.calls
+      (λ j. adds (part_if_boarded l.self.snapshot.now l.self.car (price_at l.self.prices.now) (has l.self.required) j
+      (soonest l.self.snapshot.now l.self.car l.stand (call_of l.self.snapshot.now j).origin))) (members 128 l.call-iterator.left) l.waiting;
 }

@@ -24,5 +24,8 @@ returns-clause-value c =
     let rate = c.rate-rate.result.now in
     let cost = cost_if_boarded it.snapshot.now it.car c.args.call c.args.boarded in
     let term = scaled cost -ℤ price_at it.prices.now c.args.call in
-    let is = stored_term c.term.result c.term.ensures.low c.term.ensures.high ∙ c.term.ensures.value ∙ ap (λ (n : ℕ). scaled n -ℤ rate.price) (c.rate-rate.ensures.cost c.args.boarded) ∙ ap (λ (z : ℤ). scaled cost -ℤ z) c.rate-rate.ensures.worth in
-    stored_term c.counted.result c.counted.ensures.low c.counted.ensures.high ∙ c.counted.ensures.value ∙ ap (λ (z : ℤ). cond rate.is_required z (cond (int_lt z (pos 0)) z (pos 0))) is ∙ ap (λ (b : Bool). cond b term (cond (int_lt term (pos 0)) term (pos 0))) c.rate-rate.ensures.binds
+    let is = stored_term c.term.result c.term.ensures.low c.term.ensures.high ∙ c.term.ensures.value
+    ∙ ap (λ (n : ℕ). scaled n -ℤ rate.price) (c.rate-rate.ensures.cost c.args.boarded) ∙ ap (λ (z : ℤ). scaled cost -ℤ z) c.rate-rate.ensures.worth in
+    stored_term c.counted.result c.counted.ensures.low c.counted.ensures.high ∙ c.counted.ensures.value
+    ∙ ap (λ (z : ℤ). cond rate.is_required z (cond (int_lt z (pos 0)) z (pos 0))) is
+    ∙ ap (λ (b : Bool). cond b term (cond (int_lt term (pos 0)) term (pos 0))) c.rate-rate.ensures.binds

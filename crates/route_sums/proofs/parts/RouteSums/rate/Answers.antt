@@ -11,4 +11,5 @@ pub returns : goal.returns
 returns c =
     let it = c.args.self.now in
     let j = c.args.call in
-    subst (IsCallRate it.snapshot.now it.car j (price_at it.prices.now j) (has it.required j)) (sym c.rate.ensures) (it.laid.rates.each j c.rate.result.now c.requires)
+    subst (IsCallRate it.snapshot.now it.car j (price_at it.prices.now j) (has it.required j)) (sym c.rate.ensures)
+    (it.laid.rates.each j c.rate.result.now c.requires)

@@ -10,13 +10,16 @@ pub returns-then-has_leg : goal.returns-then-has_leg
 returns-then-has_leg c = λ x p e h.
     let it = c.args.self.now in
     let t = c.args.prefix.now in
-    let same = starts_at t.snapshot it.snapshot.now t.car it.car p _ c.requires.same c.requires.car (sym (c.has_leg.ensures p h.place.begun) ∙ c.if-has_leg.true) in
+    let same = starts_at t.snapshot it.snapshot.now t.car it.car p _ c.requires.same c.requires.car
+    (sym (c.has_leg.ensures p h.place.begun) ∙ c.if-has_leg.true) in
     subst (λ (q : Progress). IsStand t.snapshot t.car c.args.newest (reached t.snapshot t.car x) c.args.at.now q) (sym same) h
 
 pub returns-else-has_leg : goal.returns-else-has_leg
 returns-else-has_leg c = λ x p e h.
     let it = c.args.self.now in
     let t = c.args.prefix.now in
-    let same = starts_at t.snapshot it.snapshot.now t.car it.car p _ c.requires.same c.requires.car (sym (c.has_leg.ensures p h.place.begun) ∙ c.if-has_leg.false) in
-    let there = subst (λ (f : ℕ). IsStand t.snapshot t.car c.args.newest (reached t.snapshot t.car x) c.halted.result (halted t.snapshot t.car p f)) h.place.floor (c.halted.ensures.stands x p e h) in
+    let same = starts_at t.snapshot it.snapshot.now t.car it.car p _ c.requires.same c.requires.car
+    (sym (c.has_leg.ensures p h.place.begun) ∙ c.if-has_leg.false) in
+    let there = subst (λ (f : ℕ). IsStand t.snapshot t.car c.args.newest (reached t.snapshot t.car x) c.halted.result (halted t.snapshot t.car p f))
+    h.place.floor (c.halted.ensures.stands x p e h) in
     subst (λ (q : Progress). IsStand t.snapshot t.car c.args.newest (reached t.snapshot t.car x) c.halted.result q) (sym same) there

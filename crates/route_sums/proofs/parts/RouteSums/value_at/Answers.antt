@@ -21,7 +21,9 @@ returns-clause-value c = λ x p e h pays idle.
     let high = c.found_from-found.ensures.high in
     let added = stored found.added (omega (arith, ints, low)) (omega (arith, ints, high)) in
     let paid = stored_paid c.args.paid c.requires.paid in
-    let is = stored_bound c.value_of.result c.value_of.ensures.size ∙ c.value_of.ensures.value ∙ ap (λ (z : ℤ). (scaled found.settled +ℤ z) -ℤ to_z w128 (of_z w128 c.args.paid)) added ∙ ap (λ (z : ℤ). (scaled found.settled +ℤ found.added) -ℤ z) paid in
+    let is = stored_bound c.value_of.result c.value_of.ensures.size ∙ c.value_of.ensures.value
+    ∙ ap (λ (z : ℤ). (scaled found.settled +ℤ z) -ℤ to_z w128 (of_z w128 c.args.paid)) added
+    ∙ ap (λ (z : ℤ). (scaled found.settled +ℤ found.added) -ℤ z) paid in
     let lower = c.found_from-found.ensures.lower x p c.args.paid e h pays idle in
     subst (λ (z : ℤ). z ≤ℤ bound_from t.snapshot t.car (price_at it.prices.now) (has it.allowed) (has it.required) (is_after c.args.last) p) (sym is) lower
 

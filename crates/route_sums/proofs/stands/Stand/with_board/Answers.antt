@@ -20,7 +20,8 @@ returns-clause-stands c = λ x y new e h same is_call is_moment leads.
     let car : c.car.result ≡ t.car = c.car.ensures.value ∙ ap (λ (l : LaidOut). l.car) c.layout-layout.ensures in
     let calls = c.calls.ensures.value ∙ ap (λ (u : Snapshot). u.calls) snap in
     let spec = c.spec.ensures.value ∙ ap (λ (n : ℕ). spec_of c.snapshot-snapshot.result.now n) car ∙ ap (λ (u : Snapshot). spec_of u t.car) snap in
-    let time = ap (λ (z : CarSpec). z.boarding * (call_in c.calls.result.now j).persons) spec ∙ ap (λ (xs : List Call). (spec_of s t.car).boarding * (call_in xs j).persons) calls in
+    let time = ap (λ (z : CarSpec). z.boarding * (call_in c.calls.result.now j).persons) spec
+    ∙ ap (λ (xs : List Call). (spec_of s t.car).boarding * (call_in xs j).persons) calls in
     let cut = c.min.ensures in
     board_stands s t.car x y j new c.args.self.now _ (course_standing s t.car t.moves x accepted known e) leads is_call (is_moment ∙ same) h (record {
       begun = refl;

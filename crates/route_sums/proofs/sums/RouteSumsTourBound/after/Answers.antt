@@ -33,4 +33,6 @@ returns-in-End c = λ y e.
     let next = subst (λ (m : Move). IsNextMove a (AreRouteSums a sums) t m) c.in-End.is c.requires.leads in
     let same = stored_paid sums.paid next.stands_before.paid_size in
     let bounded = c.settled.ensures.bounded in
-    end_keeps a t y sums _ c.settled.result c.requires.for_it next (subst (λ (m : Move). course (with_move t m) ≡ Some y) c.in-End.is e) (c.settled.ensures.value next.before next.leads) (omega (arith, bounded)) same (stored_bound c.value_of.result c.value_of.ensures.size ∙ c.value_of.ensures.value ∙ ap (λ (z : ℤ). scaled c.settled.result -ℤ z) same) refl
+    end_keeps a t y sums _ c.settled.result c.requires.for_it next (subst (λ (m : Move). course (with_move t m) ≡ Some y) c.in-End.is e)
+    (c.settled.ensures.value next.before next.leads) (omega (arith, bounded)) same
+    (stored_bound c.value_of.result c.value_of.ensures.size ∙ c.value_of.ensures.value ∙ ap (λ (z : ℤ). scaled c.settled.result -ℤ z) same) refl

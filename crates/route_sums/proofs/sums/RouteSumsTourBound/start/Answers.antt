@@ -18,8 +18,10 @@ value_at-first-requires-clause-stands c =
     let t = c.args.prefix.now in
     let x = course_start t.snapshot t.car in
     let leads = start_leads t c.requires.empty in
-    let p = reached t.snapshot t.car x in
-    (route_start t.snapshot t.car p, record { there = x; leads = leads; stands = c.route_start-start.ensures x p leads (c.stand_at-stand.ensures.stands x leads) })
+    let p = reached t.snapshot t.car x in (
+      route_start t.snapshot t.car p,
+      record { there = x; leads = leads; stands = c.route_start-start.ensures x p leads (c.stand_at-stand.ensures.stands x leads) },
+    )
 
 pub route_start-start-requires-clause-same : goal.route_start-start-requires-clause-same
 route_start-start-requires-clause-same c = c.requires.for_it.snapshot
@@ -45,4 +47,5 @@ returns c = λ x e.
     let stand = c.route_start-start.ensures x p e (c.stand_at-stand.ensures.stands x e) in
     let idle = all_idle t.snapshot t.car a.price a.required (is_after None) q it.allowed in
     let low = c.value_at-first.ensures.value x q e stand (start_paid t x a.price c.requires.empty e ∙ sym (route_boarded t.snapshot t.car p a.price)) idle in
-    start_keeps a t x _ c.requires.for_it c.requires.empty e refl (stored_size first.value c.value_at-first.ensures.size) (stored_low first.value _ c.value_at-first.ensures.size low) (c.value_at-first.ensures.idle x q e stand idle) c.value_at-first.ensures.within
+    start_keeps a t x _ c.requires.for_it c.requires.empty e refl (stored_size first.value c.value_at-first.ensures.size)
+    (stored_low first.value _ c.value_at-first.ensures.size low) (c.value_at-first.ensures.idle x q e stand idle) c.value_at-first.ensures.within

@@ -31,4 +31,5 @@ returns-clause-value c = λ x e.
     let stand = one_course (course t) at.end x (AreRouteSums a sums) at.leads e at.stands_there in
     let settled = aimed_at a t (λ s k. c.settled.result ≡ settled_of s k x) c.requires.for_it (c.settled.ensures.value x e) in
     let same = stored_paid sums.paid stand.paid_size in
-    stored_bound c.value_of.result c.value_of.ensures.size ∙ c.value_of.ensures.value ∙ ap (λ (z : ℤ). scaled c.settled.result -ℤ z) same ∙ tour_is a t.moves x c.settled.result sums.paid (aimed_course a t t.moves c.requires.for_it ∙ e) ended settled stand.paid
+    stored_bound c.value_of.result c.value_of.ensures.size ∙ c.value_of.ensures.value ∙ ap (λ (z : ℤ). scaled c.settled.result -ℤ z) same
+    ∙ tour_is a t.moves x c.settled.result sums.paid (aimed_course a t t.moves c.requires.for_it ∙ e) ended settled stand.paid

@@ -10,4 +10,5 @@ returns-in-None c =
     let least = to_z-of_z w128 c.min.result (record { sfits = c.min.type_inv }) in
     let own = to_z-of_z w128 c.bound.result (record { sfits = c.bound.type_inv }) in
     let other = to_z-of_z w128 c.args.bound c.ranges.bound in
-    least ∙ c.min.ensures.value ∙ ap (λ (z : ℤ). int_min z (to_z w128 (of_z w128 c.args.bound))) own ∙ ap (int_min c.bound.result) other ∙ lesser_at_leaf b.split b.sheet c.bound.result c.args.bound c.in-None.is c.bound.ensures
+    least ∙ c.min.ensures.value ∙ ap (λ (z : ℤ). int_min z (to_z w128 (of_z w128 c.args.bound))) own ∙ ap (int_min c.bound.result) other
+    ∙ lesser_at_leaf b.split b.sheet c.bound.result c.args.bound c.in-None.is c.bound.ensures

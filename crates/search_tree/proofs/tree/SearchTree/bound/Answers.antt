@@ -11,15 +11,19 @@ pub loop-place-init : goal.loop-place-init
 loop-place-init g c =
     let tree = c.self.inside.branches in
     let ok = tree.ok.0 in
-    to_z-of_z w128 c.from-least.result (record { sfits = c.from-least.type_inv }) ∙ c.from-least.ensures ∙ least_none c.args.cost tree.items c.len-place.result (omega (arith, ok, c.len-place.ensures))
+    to_z-of_z w128 c.from-least.result (record { sfits = c.from-least.type_inv }) ∙ c.from-least.ensures
+    ∙ least_none c.args.cost tree.items c.len-place.result (omega (arith, ok, c.len-place.ensures))
 
 pub loop-place-preserved : goal.loop-place-preserved
 loop-place-preserved g c =
     let tree = c.self.inside.branches in
     let ok = tree.ok.0 in
-    to_z-of_z w128 c.least_with-least.result (record { sfits = c.least_with-least.type_inv }) ∙ c.least_with-least.ensures ∙ least_more c.args.cost tree.items c.loop-place.place c.index.result.now _ c.loop-place-test.true (omega (arith, ok, c.len-place.ensures)) c.index.ensures c.loop-place.invariant
+    to_z-of_z w128 c.least_with-least.result (record { sfits = c.least_with-least.type_inv }) ∙ c.least_with-least.ensures
+    ∙ least_more c.args.cost tree.items c.loop-place.place c.index.result.now _ c.loop-place-test.true
+    (omega (arith, ok, c.len-place.ensures)) c.index.ensures c.loop-place.invariant
 
 pub returns : goal.returns
 returns g c =
     let none : c.loop-place.place ≡ 0 = omega arith in
-    c.loop-place.invariant ∙ ap (λ (k : ℕ). least_bound c.args.cost (map twig_of (drop k c.self.inside.branches.items))) none ∙ ap (λ (tree : TreeNodes _). least_bound c.args.cost (map twig_of tree.branches)) c.self.view_is
+    c.loop-place.invariant ∙ ap (λ (k : ℕ). least_bound c.args.cost (map twig_of (drop k c.self.inside.branches.items))) none
+    ∙ ap (λ (tree : TreeNodes _). least_bound c.args.cost (map twig_of tree.branches)) c.self.view_is

@@ -7,4 +7,5 @@ use Rattle.snapshot_text.proofs.drafts.Draft.take_group.Goals as goal
 pub add_indexed-requires : goal.add_indexed-requires
 add_indexed-requires g c =
     let none = sym c.indexed_aboard_fault-fault.ensures ∙ c.in_default.is in
-    new_id (λ (x : Aboard). x.id) c.self.inside.aboard.items c.self.inside.group_ids c.in_ok-group.group.id c.self.invariant.2 (rw (sym c.deref-2.ensures.value) (cond-none _ _ _ none).0)
+    new_id (λ (x : Aboard). x.id) c.self.inside.aboard.items c.self.inside.group_ids c.in_ok-group.group.id c.self.invariant.2
+    (rw (sym c.deref-2.ensures.value) (cond-none _ _ _ none).0)

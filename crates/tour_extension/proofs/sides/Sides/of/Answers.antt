@@ -10,6 +10,9 @@ returns c = λ s car q stop at.
     let f = c.args.point.now.place.floor in
     let p = make_stop s car q stop in
     record {
-      above = above_told s p f c.above-above.result c.any_floor.result at.floor (λ g. c.above-above.ensures g ∙ ap (λ (b : Bool). b && ltb f g) (at.bound_for g)) c.any_floor.ensures.some c.any_floor.ensures.none;
-      below = below_told s p f c.intersection-below.result c.any_floor-2.result at.floor (λ g. c.intersection-below.ensures g ∙ ap (λ (b : Bool). b && has c.lowest.result g) (at.bound_for g) ∙ ap (λ (b : Bool). any_goes_to s p g && b) (c.lowest.ensures.each g)) c.any_floor-2.ensures.some c.any_floor-2.ensures.none;
+      above = above_told s p f c.above-above.result c.any_floor.result at.floor
+          (λ g. c.above-above.ensures g ∙ ap (λ (b : Bool). b && ltb f g) (at.bound_for g)) c.any_floor.ensures.some c.any_floor.ensures.none;
+      below = below_told s p f c.intersection-below.result c.any_floor-2.result at.floor
+          (λ g. c.intersection-below.ensures g ∙ ap (λ (b : Bool). b && has c.lowest.result g) (at.bound_for g)
+          ∙ ap (λ (b : Bool). any_goes_to s p g && b) (c.lowest.ensures.each g)) c.any_floor-2.ensures.some c.any_floor-2.ensures.none;
     }
