@@ -126,7 +126,7 @@ groups_gone s c visited g f h =
     by_floor a b false e = and_right (a && not b) false refl
 
 -- else all get off that go there
-off_there : (s : Snapshot) (c visited g k : ℕ) → has visited g ≡ false → is_group_off s c visited g k ≡ is_group_to s.aboard c g k
+pub off_there : (s : Snapshot) (c visited g k : ℕ) → has visited g ≡ false → is_group_off s c visited g k ≡ is_group_to s.aboard c g k
 off_there s c visited g k h =
     by_floor (eqb (group_of s k).car c) (has visited (group_of s k).destination) ((group_of s k).destination == g)
     (λ e. ap (has visited) (eqb-true (group_of s k).destination g e) ∙ h)

@@ -114,7 +114,7 @@ impl Point {
 }
 
 /// The car with one call more at its stop.
-fn with_board(place: &CarPlace, call: u32) -> CarPlace
+pub fn with_board(place: &CarPlace, call: u32) -> CarPlace
     requires { call < MOST_CALLS }
     ensures boarded { (j : ℕ) → has result.boarded j ≡ (has place.now.boarded j || (j == call)) }
     ensures carried { (j : ℕ) → has result.carried j ≡ (has place.now.carried j || (j == call)) }
@@ -132,7 +132,7 @@ fn with_board(place: &CarPlace, call: u32) -> CarPlace
 }
 
 /// The car after a stop where nobody boards and these calls get off if they are carried.
-fn with_stop(place: &CarPlace, floor: u32, ending: CallSet) -> CarPlace
+pub fn with_stop(place: &CarPlace, floor: u32, ending: CallSet) -> CarPlace
     requires { floor < 64 }
     ensures tracks { (s : Snapshot) (c : ℕ) (p : Progress) → Tracks s c place.now p
         → ((j : ℕ) → has ending j ≡ ends_at s floor j)

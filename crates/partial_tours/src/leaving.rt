@@ -12,21 +12,27 @@ ghost use Rattle.tour_rules.specs.Leaving.{cost_of_group as cost_of_group_lem};
 use call_sets::{CallSet, FloorSet};
 use call_state::Snapshot;
 use car_layout::Layout;
-use elevator_model::MOMENT_LIMIT;
+use elevator_model::{MOMENT_LIMIT, MOST_GROUPS_COST};
 use tour_rules::places::CarPlace;
 use tour_rules::riding;
 
-/// The most persons who get off at a stop: 128 calls of 8 and 64 who were aboard.
-pub(crate) const MOST_LEAVING: u64 = 1_088;
+/// The most persons of calls who get off at a stop: 128 calls of 8.
+pub const MOST_CALLERS_LEAVING: u64 = 1_024;
 
-/// They cost at most this, in cost units: 128 times `MOST_CALL_COST` and `MOST_GROUPS_COST` are less.
-pub(crate) const MOST_LEAVING_COST: u64 = 400_000_000_000_000_000;
+/// They cost at most this, in cost units: 128 times `MOST_CALL_COST` is less.
+pub const MOST_CALLERS_COST: u64 = 310_000_000_000_000_000;
+
+/// The most persons who get off at a stop: those of calls, and 64 who were aboard.
+pub const MOST_LEAVING: u64 = 1_088;
+
+/// They cost at most this, in cost units: `MOST_CALLERS_COST` and `MOST_GROUPS_COST` are less.
+pub const MOST_LEAVING_COST: u64 = 400_000_000_000_000_000;
 
 /// Those who get off at a stop: how many persons, and what they cost, in cost units.
 #[derive(Clone, Copy)]
-pub(crate) struct Leaving {
-    pub(crate) persons: u64,
-    pub(crate) cost: u64,
+pub struct Leaving {
+    pub persons: u64,
+    pub cost: u64,
 }
 
 /// The calls of a set that get off where the doors are open at this moment. `moments` has those at which
@@ -40,8 +46,8 @@ fn calls_leaving(snapshot: &Snapshot, calls: CallSet, opened: u64, moments: &[u6
         ≡ sum_where (call_count snapshot.now) (has calls) (λ j. (call_of snapshot.now j).persons) }
     ensures cost { result.cost ≡ sum_where (call_count snapshot.now) (has calls)
         (λ j. cost_of_call_lem snapshot.now j (slice_index moments.now j) opened) }
-    ensures few { result.persons ≤ 1024 }
-    ensures small { result.cost ≤ 310000000000000000 }
+    ensures few { result.persons ≤ MOST_CALLERS_LEAVING }
+    ensures small { result.cost ≤ MOST_CALLERS_COST }
 {
     let building = snapshot.building();
     let all = snapshot.calls();
@@ -71,7 +77,7 @@ fn groups_leaving(layout: &Layout, visited: FloorSet, floor: u32, opened: u64) -
         (is_group_off layout.now.snapshot layout.now.car visited floor)
         (λ k. cost_of_group_lem layout.now.snapshot k opened) }
     ensures few { result.persons ≤ 64 }
-    ensures small { result.cost ≤ 6400000000000000 }
+    ensures small { result.cost ≤ MOST_GROUPS_COST }
 {
     if visited.contains(floor) {
         return Leaving {

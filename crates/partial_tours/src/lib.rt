@@ -24,6 +24,7 @@
 //!   below 10^10; all are kept along the moves.
 //! - `Prefix::restart`: the empty partial tour of another car, without memory. `tour_of`: the stops that a
 //!   list of moves makes.
+//! - `with_board`, `with_stop`: where a car is after one board more, and after a stop where nobody boards.
 //!
 //! `proofs/Ordered.antt` says that the lawful moves come in order, so that the next one is the following one;
 //! `proofs/Listed.antt` and `proofs/Search.antt` what a depth-first walk from move to move lists;
@@ -38,8 +39,12 @@ mod prefix;
 mod steps;
 mod tally;
 
+pub use advancing::{with_board, with_stop};
 pub use call_sets::CallSet;
 pub use elevator_model::{Boards, Move, Stop, Tour};
 pub use following::{Followers, after_last, calls_with_room};
+pub use leaving::{
+    Leaving, MOST_CALLERS_COST, MOST_CALLERS_LEAVING, MOST_LEAVING, MOST_LEAVING_COST,
+};
 pub use points::Point;
 pub use prefix::{Moves, Prefix, next_moves, tour_of};

@@ -1,6 +1,6 @@
 -- Who gets off at a stop, and what they cost at least.
 use Rattle.std.proofs.Common.{◌≡◌, ◌==◌, ℕ, zero, suc, ◌+◌, ◌-◌, ◌*◌, ◌<◌, ◌≤◌, Bool, true, false, cond, ◌&&◌, not, eqb, length, refl, sym, ap, ◌∙◌, arith}
-use Rattle.std.proofs.lemmas.Bool.{and_parts, and_right, both_ways, eqb-true}
+use Rattle.std.proofs.lemmas.Bool.{and_parts}
 use Rattle.std.proofs.Math.Nat.{mul-le-mul_left}
 use Rattle.call_sets.specs.Counting.{has, sum_where}
 use Rattle.call_sets.proofs.Sums.{sum_below-le, sum_where-same}
@@ -12,20 +12,10 @@ use Rattle.tour_rules.specs.Leaving.{AreCarried, IsKept, cost_of_call, cost_of_g
 use Rattle.tour_rules.proofs.GettingOff.{off-call, off-group}
 use Rattle.tour_rules.proofs.RiderSums.{sum_riders}
 use Rattle.tour_rules.proofs.Settled.{cost_of_rider-call, cost_of_rider-group}
+use Rattle.partial_tours.proofs.Departing.{off_there}
 use Rattle.pricing_bound.specs.Costs.{rider-later}
 
 -- ---- groups
-
-off_there : (s : Snapshot) (c visited g k : ℕ) → has visited g ≡ false → is_group_off s c visited g k ≡ is_group_to s.aboard c g k
-off_there s c visited g k h =
-    by_floor (eqb (group_of s k).car c) (has visited (group_of s k).destination) ((group_of s k).destination == g)
-    (λ e. ap (has visited) (eqb-true (group_of s k).destination g e) ∙ h)
-  where
-    by_floor : (a b d : Bool) → (d ≡ true → b ≡ false) → ((a && not b) && d) ≡ (a && d)
-    by_floor a true true e = absurd (both_ways true (e refl) refl)
-    by_floor true false true e = refl
-    by_floor false false true e = refl
-    by_floor a b false e = and_right (a && not b) false refl ∙ sym (and_right a false refl)
 
 one_ride : (p tw o b d : ℕ) → o ≤ d + b → tw * (p * o) ≤ p * (tw * d) + tw * (p * b)
 one_ride p tw o b d le = let all = mul-le-mul_left (p * tw) le in omega (arith, all)

@@ -4,25 +4,20 @@ ghost use Rattle.std.specs.Prelude.{◌≡◌, ℕ, ◌+◌, ◌<◌, ◌≤◌,
 ghost use Rattle.call_sets.specs.Counting.{has};
 ghost use Rattle.elevator_model.specs.Building.{floor_count};
 ghost use Rattle.elevator_model.specs.Partial.{Course, move_on};
-ghost use Rattle.elevator_model.specs.Snapshot.{IsAccepted, Snapshot as SnapshotValue, call_count};
-ghost use Rattle.elevator_model.specs.Snapshot.{car_count, spec_of};
-ghost use Rattle.elevator_model.specs.Tours.{Progress, make_stop};
+ghost use Rattle.elevator_model.specs.Snapshot.{IsAccepted, call_count, car_count, spec_of};
+ghost use Rattle.elevator_model.specs.Tours.{Progress};
 ghost use Rattle.elevator_model.specs.declared.Move.{Move};
-ghost use Rattle.car_layout.specs.Layouts.{ends_at};
 ghost use Rattle.route_bound.specs.ForcedRoute.{halted as halted_lem, next_open as next_open_lem};
-ghost use Rattle.partial_tours.specs.Courses.{empty_stop, reached};
+ghost use Rattle.partial_tours.specs.Courses.{reached};
 ghost use Rattle.partial_tours.specs.PartialTour.{course};
-ghost use Rattle.tour_rules.specs.Places.{Tracks};
 ghost use Rattle.route_sums.specs.declared.stands.Newest.{Newest as NewestValue};
 ghost use Rattle.route_sums.specs.Stands.{IsStand, StandsFor, boarding_moment, is_known, soonest};
 
 use crate::leaving::leaving_at;
-use crate::stands::{LATEST, LATEST_OPEN, MOST_SETTLED, Newest, Stand};
-use call_sets::CallSet;
+use crate::stands::{LATEST, LATEST_OPEN, LATEST_READY, MOST_SETTLED, Newest, Stand};
 use call_state::Snapshot;
-use elevator_model::MOMENT_LIMIT;
-use partial_tours::Prefix;
-use tour_rules::places::CarPlace;
+use elevator_model::{LATEST_MOMENT, MOMENT_LIMIT};
+use partial_tours::{Prefix, with_board, with_stop};
 use tour_rules::riding;
 
 /// The moment in ms at which a call boarded, or boards next.
@@ -54,7 +49,7 @@ pub(crate) fn stand_at(prefix: &Prefix) -> Stand
         (reached prefix.now.snapshot prefix.now.car x) }
     ensures opened { (x : Course) → course prefix.now ≡ Some x
         → result.opened ≡ (reached prefix.now.snapshot prefix.now.car x).opened }
-    ensures early { result.opened < 10000000000 }
+    ensures early { result.opened < LATEST_MOMENT }
     ensures begun { (x : Course) → course prefix.now ≡ Some x
         → result.place.begun ≡ (reached prefix.now.snapshot prefix.now.car x).begun }
 {
@@ -71,36 +66,19 @@ pub(crate) fn stand_at(prefix: &Prefix) -> Stand
     }
 }
 
-/// The car after a stop where nobody boards and these calls get off if they are carried.
-fn with_stop(place: &CarPlace, floor: u32, ending: CallSet) -> CarPlace
-    requires { floor < 64 }
-    ensures tracks { (s : SnapshotValue) (c : ℕ) (p : Progress) → Tracks s c place.now p
-        → ((j : ℕ) → has ending j ≡ ends_at s floor j)
-        → Tracks s c result (make_stop s c p (empty_stop floor)) }
-    ensures floor { result.floor ≡ floor }
-{
-    CarPlace {
-        begun: true,
-        floor,
-        boarded: place.boarded,
-        carried: place.carried.minus(ending),
-        visited: place.visited.with(floor),
-    }
-}
-
 impl Stand {
     /// The moment at which the doors could be open at a next stop, if there were no way to it.
     pub(crate) fn ready(&self, snapshot: &Snapshot, car: u32) -> u64
         requires { car < car_count snapshot.now }
         ensures value { result ≡ self.now.leaves + (spec_of snapshot.now car).opening }
-        ensures early { result ≤ 99000060000 }
+        ensures early { result ≤ LATEST_READY }
     {
         self.leaves + riding::opening_of(snapshot, car)
     }
 
     /// The earliest moment at which the doors can be open at a floor, from when the car is ready.
     pub(crate) fn next_open(&self, snapshot: &Snapshot, ready: u64, floor: u32) -> u64
-        requires ready { ready ≤ 99000060000 }
+        requires ready { ready ≤ LATEST_READY }
         requires from { self.now.place.floor < floor_count snapshot.now.building }
         requires to { floor < floor_count snapshot.now.building }
         ensures value { (car : ℕ) → ready ≡ self.now.leaves + (spec_of snapshot.now car).opening
@@ -167,13 +145,7 @@ impl Stand {
         let boarding = &snapshot.calls()[call as usize];
         let time = snapshot.spec(layout.car()).boarding * boarding.persons as u64;
         Stand {
-            place: CarPlace {
-                begun: self.place.begun,
-                floor: self.place.floor,
-                boarded: self.place.boarded.with(call),
-                carried: self.place.carried.with(call),
-                visited: self.place.visited,
-            },
+            place: with_board(&self.place, call),
             bound_for: self.bound_for.with(boarding.destination),
             opened: self.opened,
             leaves: (self.leaves + time).min(LATEST),

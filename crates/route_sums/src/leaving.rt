@@ -18,16 +18,11 @@ use crate::stands::{Newest, Stand};
 use call_sets::{CallSet, FloorSet};
 use call_state::Snapshot;
 use car_layout::Layout;
-use elevator_model::MOMENT_LIMIT;
-use partial_tours::Prefix;
+use elevator_model::{MOMENT_LIMIT, MOST_GROUPS_COST};
+use partial_tours::{
+    Leaving, MOST_CALLERS_COST, MOST_CALLERS_LEAVING, MOST_LEAVING, MOST_LEAVING_COST, Prefix,
+};
 use tour_rules::riding;
-
-/// Those who get off at a stop: how many persons, and what they cost, in cost units.
-#[derive(Clone, Copy)]
-pub(crate) struct Leaving {
-    pub(crate) persons: u64,
-    pub(crate) cost: u64,
-}
 
 /// The calls of a set that get off where the doors are open at this moment.
 fn calls_leaving(
@@ -48,8 +43,8 @@ fn calls_leaving(
         ≡ sum_where (call_count snapshot.now) (has calls)
         (λ j. cost_of_call_lem snapshot.now j
         (boarding_moment newest (reached prefix.now.snapshot prefix.now.car x) j) opened) }
-    ensures few { result.persons ≤ 1024 }
-    ensures small { result.cost ≤ 310000000000000000 }
+    ensures few { result.persons ≤ MOST_CALLERS_LEAVING }
+    ensures small { result.cost ≤ MOST_CALLERS_COST }
 {
     let building = snapshot.building();
     let all = snapshot.calls();
@@ -78,7 +73,7 @@ fn groups_leaving(layout: &Layout, visited: FloorSet, floor: u32, opened: u64) -
         (is_group_off layout.now.snapshot layout.now.car visited floor)
         (λ k. cost_of_group_lem layout.now.snapshot k opened) }
     ensures few { result.persons ≤ 64 }
-    ensures small { result.cost ≤ 6400000000000000 }
+    ensures small { result.cost ≤ MOST_GROUPS_COST }
 {
     if visited.contains(floor) {
         return Leaving {
@@ -114,8 +109,8 @@ pub(crate) fn leaving_at(
         → IsStand prefix.now.snapshot prefix.now.car newest
         (reached prefix.now.snapshot prefix.now.car x) stand.now p
         → opened ≤ m → result.cost ≤ leaving_cost prefix.now.snapshot p floor m }
-    ensures few { result.persons ≤ 1088 }
-    ensures small { result.cost ≤ 400000000000000000 }
+    ensures few { result.persons ≤ MOST_LEAVING }
+    ensures small { result.cost ≤ MOST_LEAVING_COST }
 {
     let layout = prefix.layout();
     let snapshot = layout.snapshot();

@@ -108,7 +108,7 @@ fn enough_of(released: u64, wait: u64, ride: u64, price: i128, is_required: bool
     requires wait { wait ≤ 8000 }
     requires ride { ride ≤ 1600000000000 }
     requires price { IsPrice price }
-    ensures { (k : ℕ) → k ≤ 99100000000 → result ≤ k → (is_required ≡ false)
+    ensures { (k : ℕ) → k ≤ LATEST_OPEN → result ≤ k → (is_required ≡ false)
         × (pos 0 ≤ℤ (scaled_lem (wait * (k - released) + ride) -ℤ price)) }
 {
     if is_required || wait == 0 {

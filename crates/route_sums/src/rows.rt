@@ -12,6 +12,7 @@ ghost use Rattle.route_sums.specs.Rows.{no_rate, no_term, row_at, row_part};
 
 use crate::origins::with_if;
 use crate::rates::CallRate;
+use crate::stands::LATEST;
 use call_sets::CallSet;
 use call_state::Snapshot;
 use elevator_model::MOST_CALLS;
@@ -31,7 +32,7 @@ impl RowTerm {
     /// What the call adds where the car leaves at this moment.
     fn at(&self, leaves: u64) -> i64
         requires size { IsTermSize self.now }
-        requires early { leaves ≤ 99000000000 }
+        requires early { leaves ≤ LATEST }
         ensures value { result ≡ row_at self.now leaves }
         ensures least { neg_ℤ (pos (3 * 10 ^ 16)) ≤ℤ result }
         ensures most { result ≤ℤ pos (10 ^ 18) }
@@ -191,7 +192,7 @@ impl RowSum {
 /// What the calls of a set add by a row where the car leaves at this moment.
 pub(crate) fn row_sum(row: &[RowTerm], leaves: u64, calls: CallSet) -> RowSum
     requires few { length row.now ≤ MOST_CALLS }
-    requires early { leaves ≤ 99000000000 }
+    requires early { leaves ≤ LATEST }
     requires within { (j : ℕ) → has calls j ≡ true → j < length row.now }
     requires sizes { (j : ℕ) → has calls j ≡ true → IsTermSize (slice_index_or row.now j no_term) }
     ensures added { result.added ≡ int_sum_where (length row.now) (has calls) (row_part row.now leaves) }

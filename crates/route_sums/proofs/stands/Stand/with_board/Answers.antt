@@ -24,12 +24,12 @@ returns-clause-stands c = λ x y new e h same is_call is_moment leads.
     ∙ ap (λ (xs : List Call). (spec_of s t.car).boarding * (call_in xs j).persons) calls in
     let cut = c.min.ensures in
     board_stands s t.car x y j new c.args.self.now _ (course_standing s t.car t.moves x accepted known e) leads is_call (is_moment ∙ same) h (record {
-      begun = refl;
-      floor = refl;
-      visited = refl;
-      boarded = c.with.ensures;
-      carried = c.with-2.ensures;
-      bound_for = λ f. c.with-3.ensures f ∙ ap (λ (xs : List Call). has c.args.self.now.bound_for f || eqb f (call_in xs j).destination) calls;
+      begun = c.with_board.ensures.begun;
+      floor = c.with_board.ensures.floor;
+      visited = c.with_board.ensures.visited;
+      boarded = c.with_board.ensures.boarded;
+      carried = c.with_board.ensures.carried;
+      bound_for = λ f. c.with.ensures f ∙ ap (λ (xs : List Call). has c.args.self.now.bound_for f || eqb f (call_in xs j).destination) calls;
       opened = refl;
       leaves = omega (arith, cut, time);
       settled = refl;
